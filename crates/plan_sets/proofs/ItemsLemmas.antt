@@ -1,0 +1,135 @@
+-- Steps of a range, and what a list of items holds.
+use Rattle.std.proofs.Common.{◌≡◌, ◌≢◌, ℕ, ◌+◌, ◌-◌, ◌%◌, ◌<◌, ◌≤◌, Bool, true, false, ◌&&◌, ◌||◌, ◌==◌, nat_le, nat_lt, nat_eq, refl, ap, sym, ◌∙◌, arith, inl, inr, eqb, List, [], ◌∷◌, ◌++◌, length, take, drop, take-append-drop, Option, Some, None, Ok, Err, ◌⊎◌}
+use Rattle.std.specs.List.{list_any}
+use Rattle.plan_sets.specs.declared.item.Item.{Item}
+use Rattle.plan_sets.specs.declared.item.Item.TheVariants.{One, Onward, Range}
+use Rattle.plan_sets.specs.declared.item.SetFault.{SetFault}
+use Rattle.plan_sets.specs.declared.item.SetFault.TheVariants.{NoItem, OutOfRange, Backwards, ZeroStep}
+use Rattle.plan_sets.specs.Values.{Values, has_value, values_where}
+use Rattle.plan_sets.specs.Items.{belongs, is_within, is_held, item_fault, fault_or, first_fault, items_fault, held_values, values_or_fault, set_reading}
+use Rattle.plan_sets.proofs.ValuesLemmas.{is_among, has_value-values_where, base-values_where, same_values}
+use Rattle.std.proofs.lemmas.Bool.{cases_eq, cases_Bool, eq-eqb, ne_eqb}
+use Rattle.std.proofs.lemmas.Bool.Decides.{nat_tests}
+
+-- v is one of the first `count` numbers from `first` on, and a step
+abbrev pub is_step_before : ℕ → ℕ → ℕ → ℕ → Bool
+is_step_before first count step v = nat_le first v && (nat_lt v (first + count) && ((v - first) % step == 0))
+
+-- the next number is a step
+pub step_added : (first offset step v : ℕ) (old : Bool) → offset % step ≡ 0 → (nat_eq v (first + offset) || (old || is_step_before first offset step v)) ≡ (old || is_step_before first (offset + 1) step v)
+step_added first offset step v old is =
+    elim (cases_eq v (first + offset)) [
+      | inl same ↦
+          let place : first + offset - first ≡ offset = omega arith in
+          let test : ((v - first) % step == 0) ≡ true = rw (same, place) (eq-eqb _ _ is) in
+          rw test (grind (arith, nat_tests))
+      | inr apart ↦ grind (arith, nat_tests)
+    ]
+
+-- the next number is none
+pub step_passed : (first offset step v : ℕ) (old : Bool) → (offset % step ≡ 0 → ⊥) → (old || is_step_before first offset step v) ≡ (old || is_step_before first (offset + 1) step v)
+step_passed first offset step v old isnt =
+    elim (cases_eq v (first + offset)) [
+      | inl same ↦
+          let place : first + offset - first ≡ offset = omega arith in
+          let test : ((v - first) % step == 0) ≡ false = rw (same, place) (ne_eqb _ _ isnt) in
+          rw test (grind (arith, nat_tests))
+      | inr apart ↦ grind (arith, nat_tests)
+    ]
+
+or_assoc : (a b c : Bool) → ((a || b) || c) ≡ (a || (b || c))
+or_assoc true b c = refl
+or_assoc false b c = refl
+
+both_within : (w a b : Bool) → ((w && a) || (w && b)) ≡ (w && (a || b))
+both_within true a b = refl
+both_within false a b = refl
+
+fault_or-None : (fault : Option SetFault) → fault_or fault None ≡ fault
+fault_or-None None = refl
+fault_or-None (Some fault) = refl
+
+cases_fault : (fault : Option SetFault) → (fault ≡ None) ⊎ ((f : SetFault) × (fault ≡ Some f))
+cases_fault None = inl refl
+cases_fault (Some fault) = inr (fault, refl)
+
+among_within : (lo hi v : ℕ) (b : Bool) → lo ≤ hi → (is_among lo (hi + 1 - lo) v && b) ≡ (is_within lo hi v && b)
+among_within lo hi v b limits =
+    let same : is_among lo (hi + 1 - lo) v ≡ is_within lo hi v = grind (arith, nat_tests) in
+    ap (λ t. t && b) same
+
+-- one value more, where the item is faultless
+pub one_added : (lo hi a v : ℕ) (old : Bool) → item_fault lo hi (One a) ≡ None → (nat_eq v a || old) ≡ (old || (is_within lo hi v && belongs (One a) v))
+one_added lo hi a v old faultless =
+    elim (cases_Bool (is_within lo hi a)) [
+      | inl within ↦ elim (cases_eq v a) [
+        | inl same ↦ rw same (grind (arith, nat_tests))
+        | inr apart ↦ grind (arith, nat_tests)
+      ]
+      | inr outside ↦ let bad : Some OutOfRange ≡ None = rw outside at faultless in cc
+    ]
+
+-- what a list of items holds with one item more at its end
+pub any_belongs-push : (items : List Item) (item : Item) (v : ℕ) → list_any (λ i. belongs i v) (items ++ item ∷ []) ≡ (list_any (λ i. belongs i v) items || belongs item v)
+any_belongs-push [] item v = grind (arith, nat_tests)
+any_belongs-push (i ∷ items) item v = rw (any_belongs-push items item v) (sym (or_assoc (belongs i v) (list_any (λ j. belongs j v) items) (belongs item v)))
+
+pub is_held-push : (items : List Item) (item : Item) (lo hi v : ℕ) → (is_held items lo hi v || (is_within lo hi v && belongs item v)) ≡ is_held (items ++ item ∷ []) lo hi v
+is_held-push items item lo hi v = rw (any_belongs-push items item v) (both_within (is_within lo hi v) (list_any (λ i. belongs i v) items) (belongs item v))
+
+-- the first fault of a list with one item more
+pub first_fault-push : (lo hi : ℕ) (items : List Item) (item : Item) → first_fault lo hi items ≡ None → first_fault lo hi (items ++ item ∷ []) ≡ item_fault lo hi item
+first_fault-push lo hi [] item none = fault_or-None (item_fault lo hi item)
+first_fault-push lo hi (i ∷ items) item none =
+    elim (cases_fault (item_fault lo hi i)) [
+      | inl here ↦
+          let later : first_fault lo hi items ≡ None = rw here at none in
+          rw here (first_fault-push lo hi items item later)
+      | inr there ↦ let bad : Some there.0 ≡ None = rw there.1 at none in cc
+    ]
+
+-- a fault stays the first, whatever follows
+pub first_fault-append : (lo hi : ℕ) (items more : List Item) (fault : SetFault) → first_fault lo hi items ≡ Some fault → first_fault lo hi (items ++ more) ≡ Some fault
+first_fault-append lo hi [] more fault is = cc
+first_fault-append lo hi (i ∷ items) more fault is =
+    elim (cases_fault (item_fault lo hi i)) [
+      | inl here ↦
+          let later : first_fault lo hi items ≡ Some fault = rw here at is in
+          rw here (first_fault-append lo hi items more fault later)
+      | inr there ↦
+          let same : Some there.0 ≡ Some fault = rw there.1 at is in
+          rw there.1 same
+    ]
+
+-- a list that is not empty has the fault of its items
+pub items_fault-filled : (lo hi : ℕ) (items : List Item) → 0 < length items → items_fault lo hi items ≡ first_fault lo hi items
+items_fault-filled lo hi [] filled = absurd (omega arith)
+items_fault-filled lo hi (i ∷ items) filled = refl
+
+-- the reading of a list in which the items are faultless up to a faulty one
+pub set_reading-fault : (lo hi : ℕ) (items : List Item) (k : ℕ) (item : Item) (fault : SetFault) → k < length items → take (k + 1) items ≡ take k items ++ item ∷ [] → first_fault lo hi (take k items) ≡ None → item_fault lo hi item ≡ Some fault → set_reading items lo hi ≡ Err fault
+unfolding set_reading
+set_reading-fault lo hi items k item fault below more none is =
+    let whole : take (k + 1) items ++ drop (k + 1) items ≡ items = take-append-drop (k + 1) items in
+    let front : first_fault lo hi (take (k + 1) items) ≡ Some fault = ap (first_fault lo hi) more ∙ first_fault-push lo hi (take k items) item none ∙ is in
+    let all : first_fault lo hi items ≡ Some fault = ap (first_fault lo hi) (sym whole) ∙ first_fault-append lo hi (take (k + 1) items) (drop (k + 1) items) fault front in
+    ap (values_or_fault (held_values items lo hi)) (items_fault-filled lo hi items (omega arith) ∙ all)
+
+-- the reading of a list in which every item is faultless
+pub set_reading-values : (lo hi : ℕ) (items : List Item) (s : Values) → 0 < length items → lo ≤ hi → first_fault lo hi items ≡ None → s.base ≡ lo → ((v : ℕ) → has_value s v ≡ is_held items lo hi v) → set_reading items lo hi ≡ Ok s
+unfolding set_reading
+set_reading-values lo hi items s filled limits none base held =
+    let same : held_values items lo hi ≡ s =
+    same_values (held_values items lo hi) s (base-values_where lo (hi + 1 - lo) (λ v. list_any (λ i. belongs i v) items) ∙ sym base)
+    (λ v. has_value-values_where lo (hi + 1 - lo) (λ u. list_any (λ i. belongs i u) items) v ∙ among_within lo hi v (list_any (λ i. belongs i v) items) limits ∙ sym (held v)) in
+    ap (values_or_fault (held_values items lo hi)) (items_fault-filled lo hi items filled ∙ none) ∙ ap Ok same
+
+-- an empty list has nothing to read
+pub set_reading-empty : (lo hi : ℕ) (items : List Item) → length items ≡ 0 → set_reading items lo hi ≡ Err NoItem
+unfolding set_reading
+set_reading-empty lo hi [] empty = refl
+set_reading-empty lo hi (i ∷ items) empty = absurd (omega arith)
+
+-- no item holds nothing
+pub nothing_held : (lo hi v : ℕ) → is_held [] lo hi v ≡ false
+nothing_held lo hi v = grind (arith, nat_tests)

@@ -1,0 +1,47 @@
+-- What contracts see of a value set: where it begins, and its members.
+use Rattle.std.specs.Prelude.{◌≡◌, ◌≢◌, ℕ, ◌+◌, ◌-◌, ◌<◌, ◌≤◌, Bool, true, false, ◌&&◌, nat_le, nat_lt, nat_eq, List, ◌∷◌, Option, Some, None, filter, IsTrue, refl}
+use Rattle.std.specs.List.{range_with_len, list_any}
+use Rattle.std.specs.Ordering.{nat_cmp}
+use Rattle.std.specs.FinSet as set
+use Rattle.std.specs.Coded.{Coded, code_by, coded×, coded_ℕ}
+
+-- a set of numbers that are at least the base
+pub record Values : Type 0 where
+  pub base : ℕ
+  pub members : set.FinSet nat_cmp
+
+-- such a set is stored as the pair of its parts
+abbrev pub values_code : Coded Values
+values_code =
+    code_by (ℕ × set.FinSet nat_cmp) (coded× coded_ℕ (set.code coded_ℕ)) (λ s. (s.base, s.members))
+    (λ p. record { base = p.0; members = p.1 }) (λ _. refl)
+
+-- the base, then the members in ascending order
+abbrev pub listing : Values → List ℕ
+listing s = s.base ∷ set.items s.members
+
+-- v is a member
+abbrev pub has_value : Values → ℕ → Bool
+has_value s v = set.contains s.members v
+
+-- the set with that base and no member
+abbrev pub no_values : ℕ → Values
+no_values lo = record { base = lo; members = set.empty }
+
+-- the set with one value more
+abbrev pub with_value : Values → ℕ → Values
+with_value s v = record { base = s.base; members = set.insert s.members v }
+
+-- the numbers from lo on, `count` of them, that pass a test
+unfoldable pub values_where : ℕ → ℕ → (ℕ → Bool) → Values
+values_where lo count test =
+    record { base = lo; members = set.from_list (filter test (range_with_len lo count)) }
+
+-- no member lies from v to w, w excluded
+abbrev pub NoValueBetween : Values → ℕ → ℕ → Type 0
+NoValueBetween s v w = (u : ℕ) → v ≤ u → u < w → has_value s u ≡ false
+
+-- the answer is the least member that is at least v, and None where no member is
+abbrev pub IsLeastFrom : Values → ℕ → Option ℕ → Type 0
+IsLeastFrom s v None = (u : ℕ) → v ≤ u → has_value s u ≡ false
+IsLeastFrom s v (Some w) = (v ≤ w) × (has_value s w ≡ true) × NoValueBetween s v w

@@ -1,0 +1,165 @@
+//! Items of a field, and the set of the values that a list of them holds.
+
+ghost use Rattle.std.specs.Prelude.{◌≡◌, ℕ, ◌+◌, ◌≤◌, ◌<◌, ◌&&◌, ◌||◌, None};
+ghost use Rattle.plan_sets.specs.Values.{has_value};
+ghost use Rattle.plan_sets.specs.Items.{belongs, is_step, item_fault, is_within, set_reading};
+
+use crate::value_set::ValueSet;
+use thiserror::Error;
+
+/// One element of a field, by the numbers in it.
+#[derive(Clone, Copy, Debug, PartialEq, Eq)]
+pub enum Item {
+    /// That value alone.
+    One(u16),
+    /// Every value from the first number on, by steps of the second.
+    Onward(u16, u16),
+    /// Every value from the first number to the second, by steps of the third.
+    Range(u16, u16, u16),
+}
+
+/// Why a list of items is no set.
+#[derive(Clone, Copy, Debug, PartialEq, Eq, Error)]
+pub enum SetFault {
+    /// The list is empty.
+    #[error("NoItem")]
+    NoItem,
+    /// A value lies outside the limits of the field.
+    #[error("OutOfRange")]
+    OutOfRange,
+    /// A range ends before it begins.
+    #[error("Backwards")]
+    Backwards,
+    /// A step is 0.
+    #[error("ZeroStep")]
+    ZeroStep,
+}
+
+impl Item {
+    // What is wrong with the item, where the field's values lie from `lo` to `hi`.
+    fn fault(self, lo: u16, hi: u16) -> Option<SetFault>
+        ensures { result ≡ item_fault lo hi self }
+    {
+        let (first, last, step) = match self {
+            Item::One(value) => (value, value, 1),
+            Item::Onward(first, step) => (first, first, step),
+            Item::Range(first, last, step) => (first, last, step),
+        };
+        if first < lo || first > hi || last < lo || last > hi {
+            Some(SetFault::OutOfRange)
+        } else if last < first {
+            Some(SetFault::Backwards)
+        } else if step == 0 {
+            Some(SetFault::ZeroStep)
+        } else {
+            None
+        }
+    }
+
+    // Adds the item's values up to `hi` to a set.
+    fn add_to(self, values: &mut ValueSet, lo: u16, hi: u16)
+        requires limits { lo ≤ hi }
+        requires span { hi < lo + 256 }
+        requires starts { values.old.base ≡ lo }
+        requires faultless { item_fault lo hi self ≡ None }
+        ensures base { values.new.base ≡ lo }
+        ensures added { (v : ℕ) → has_value values.new v ≡ (has_value values.old v || (is_within lo hi v && belongs self v)) }
+    {
+        match self {
+            Item::One(value) => values.insert(value),
+            Item::Onward(first, step) => add_steps(values, first, hi, step),
+            Item::Range(first, last, step) => add_steps(values, first, last, step),
+        }
+    }
+}
+
+// Adds every `step`th value from `first` to `last`.
+fn add_steps(values: &mut ValueSet, first: u16, last: u16, step: u16)
+    requires from { values.old.base ≤ first }
+    requires forwards { first ≤ last }
+    requires to { last < values.old.base + 256 }
+    requires moves { 0 < step }
+    ensures base { values.new.base ≡ values.old.base }
+    ensures added { (v : ℕ) → has_value values.new v ≡ (has_value values.old v || is_step first last step v) }
+{
+    for offset in 0..last - first + 1 {
+        if offset % step == 0 {
+            values.insert(first + offset);
+        }
+    }
+}
+
+/// The set of the values from `lo` to `hi` that belong to one of the items, with base `lo`.
+///
+/// The first faulty item decides the fault: an empty list is `NoItem`; a number outside `lo` to `hi` is `OutOfRange`, else
+/// a range that ends before it begins is `Backwards`, else a step of 0 is `ZeroStep`.
+pub fn set_of(items: &[Item], lo: u16, hi: u16) -> Result<ValueSet, SetFault>
+    requires base { lo ≤ 65280 }
+    requires limits { lo ≤ hi }
+    requires span { hi < lo + 256 }
+    ensures { result ≡ set_reading items.now lo hi }
+{
+    if items.is_empty() {
+        return Err(SetFault::NoItem);
+    }
+    let mut values = ValueSet::empty(lo);
+    for item in items {
+        if let Some(fault) = item.fault(lo, hi) {
+            return Err(fault);
+        }
+        item.add_to(&mut values, lo, hi);
+    }
+    Ok(values)
+}
+
+#[cfg(test)]
+mod tests {
+    use super::*;
+
+    #[test]
+    fn faults_of_items(rt: HostRuntime) {
+        let none: [Item; 0] = [];
+        assert_eq!(rt; set_of(&none, 0, 59).err(), Some(SetFault::NoItem));
+        let backwards = [Item::Range(9, 3, 0)];
+        assert_eq!(rt; set_of(&backwards, 0, 59).err(), Some(SetFault::Backwards));
+        let zero_step = [Item::Onward(55, 0), Item::One(99)];
+        assert_eq!(rt; set_of(&zero_step, 0, 59).err(), Some(SetFault::ZeroStep));
+        let out_of_range = [Item::One(7), Item::Range(3, 60, 0)];
+        assert_eq!(rt;
+            set_of(&out_of_range, 0, 59).err(),
+            Some(SetFault::OutOfRange)
+        );
+        let below = [Item::Range(0, 12, 1)];
+        assert_eq!(rt; set_of(&below, 1, 12).err(), Some(SetFault::OutOfRange));
+    }
+
+    #[test]
+    fn values_of_items(rt: HostRuntime) {
+        let odd_days = [Item::Onward(1, 2)];
+        let days = set_of(&odd_days, 1, 31).expect(&rt, "a set");
+        assert_eq!(rt; days.first_from(30), Some(31));
+        assert_eq!(rt; days.first_from(32), None);
+        let quarters = [Item::Range(0, 59, 25), Item::One(59)];
+        let minutes = set_of(&quarters, 0, 59).expect(&rt, "a set");
+        for (from, want) in [(0, 0), (1, 25), (26, 50), (51, 59), (59, 59)] {
+            assert_eq!(rt; minutes.first_from(from), Some(want), "from {from}");
+        }
+        assert_eq!(rt; minutes.first_from(60), None);
+        assert!(rt; !minutes.contains(24) && minutes.contains(25) && !minutes.contains(300));
+        assert!(rt; !minutes.is_empty());
+    }
+
+    #[test]
+    fn faults_print_their_names(rt: HostRuntime) -> Result<(), std::test::Fail> {
+        let faults = [
+            (SetFault::NoItem, "NoItem"),
+            (SetFault::OutOfRange, "OutOfRange"),
+            (SetFault::Backwards, "Backwards"),
+            (SetFault::ZeroStep, "ZeroStep"),
+        ];
+        for (fault, name) in faults {
+            assert_eq!(rt; format!(in rt.alloc(); "{fault}")?.as_str(), name);
+        }
+        Ok(())
+    }
+}
