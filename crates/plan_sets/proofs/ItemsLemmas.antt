@@ -1,11 +1,11 @@
 -- Steps of a range, and what a list of items holds.
-use Rattle.std.proofs.Common.{◌≡◌, ◌≢◌, ℕ, ◌+◌, ◌-◌, ◌%◌, ◌<◌, ◌≤◌, Bool, true, false, ◌&&◌, ◌||◌, ◌==◌, nat_le, nat_lt, nat_eq, refl, ap, sym, ◌∙◌, arith, inl, inr, eqb, List, [], ◌∷◌, ◌++◌, length, take, drop, take-append-drop, Option, Some, None, Ok, Err, ◌⊎◌}
+use Rattle.std.proofs.Common.{◌≡◌, ℕ, ◌+◌, ◌-◌, ◌%◌, ◌<◌, ◌≤◌, Bool, true, false, ◌&&◌, ◌||◌, ◌==◌, nat_le, nat_lt, nat_eq, refl, ap, sym, ◌∙◌, arith, inl, inr, List, [], ◌∷◌, ◌++◌, length, take, drop, take-append-drop, Option, Some, None, Ok, Err, ◌⊎◌}
 use Rattle.std.specs.List.{list_any}
 use Rattle.plan_sets.specs.declared.item.Item.{Item}
-use Rattle.plan_sets.specs.declared.item.Item.TheVariants.{One, Onward, Range}
+use Rattle.plan_sets.specs.declared.item.Item.TheVariants.{One}
 use Rattle.plan_sets.specs.declared.item.SetFault.{SetFault}
-use Rattle.plan_sets.specs.declared.item.SetFault.TheVariants.{NoItem, OutOfRange, Backwards, ZeroStep}
-use Rattle.plan_sets.specs.Values.{Values, has_value, values_where}
+use Rattle.plan_sets.specs.declared.item.SetFault.TheVariants.{NoItem, OutOfRange}
+use Rattle.plan_sets.specs.Values.{Values, has_value}
 use Rattle.plan_sets.specs.Items.{belongs, is_within, is_held, item_fault, fault_or, first_fault, items_fault, held_values, values_or_fault, set_reading}
 use Rattle.plan_sets.proofs.ValuesLemmas.{is_among, has_value-values_where, base-values_where, same_values}
 use Rattle.std.proofs.lemmas.Bool.{cases_eq, cases_Bool, eq-eqb, ne_eqb}

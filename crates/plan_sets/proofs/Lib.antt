@@ -1,3 +1,7 @@
+pub mod CivilLemmas
+mod CivilRows
 pub mod ItemsLemmas
+pub mod MomentLemmas
+mod MomentRows
 pub mod ValuesEquality
 pub mod ValuesLemmas

@@ -1,5 +1,5 @@
 -- When two sets are equal, by their listings and by their marks.
-use Rattle.std.proofs.Common.{◌≡◌, ℕ, ◌+◌, ◌-◌, ◌<◌, ◌≤◌, Bool, true, false, ◌&&◌, ◌==◌, List, [], ◌∷◌, zero, suc, refl, ap, subst, sym, ◌∙◌, arith, inl, inr, get_or, length, Decides}
+use Rattle.std.proofs.Common.{◌≡◌, ℕ, ◌+◌, ◌-◌, ◌<◌, Bool, true, false, ◌&&◌, ◌==◌, List, [], ◌∷◌, suc, refl, ap, sym, ◌∙◌, arith, inl, inr, get_or, length, Decides}
 use mathlib.Core.Bool.{beq}
 use Rattle.std.specs.List.{list_any}
 use Rattle.std.specs.Ordering.{nat_cmp, eq_by_cmp}
@@ -11,7 +11,7 @@ use Rattle.std.proofs.lemmas.List.{get_or_past}
 use Rattle.plan_sets.specs.declared.value_set.ValueSet.TheInside.{Inside}
 use Rattle.plan_sets.specs.contracts.value_set.ValueSet.{the_view}
 use Rattle.plan_sets.specs.Values.{Values, has_value, listing}
-use Rattle.plan_sets.proofs.ValuesLemmas.{is_among, has_value_of_view, base_of_view, same_values}
+use Rattle.plan_sets.proofs.ValuesLemmas.{is_among, has_value_of_view, same_values}
 
 -- the lists of two equal listings have the same heads and the same tails
 heads : (x y : ℕ) (xs ys : List ℕ) → x ∷ xs ≡ y ∷ ys → x ≡ y

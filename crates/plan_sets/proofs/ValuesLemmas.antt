@@ -1,5 +1,5 @@
 -- Which numbers are members of a set that is given by a test.
-use Rattle.std.proofs.Common.{◌≡◌, ℕ, ◌+◌, ◌-◌, ◌<◌, ◌≤◌, Bool, true, false, ◌&&◌, ◌||◌, cond, List, [], ◌∷◌, zero, suc, nat_le, nat_lt, nat_eq, filter, refl, ap, subst, sym, ◌∙◌, arith, inl, inr, add-zero, add-suc, get_or, length, ◌≢◌, get_or-set_same, get_or-set_other}
+use Rattle.std.proofs.Common.{◌≡◌, ℕ, ◌+◌, ◌-◌, ◌<◌, ◌≤◌, Bool, true, false, ◌&&◌, ◌||◌, cond, List, [], ◌∷◌, zero, suc, nat_le, nat_lt, nat_eq, filter, refl, ap, sym, ◌∙◌, arith, inl, inr, get_or, length, ◌≢◌, get_or-set_same, get_or-set_other}
 use mathlib.Core.Bool.{beq}
 use Rattle.std.proofs.lemmas.List.{get_or_past}
 use lib.ListN.{set as put}

@@ -1,2 +1,4 @@
-pub mod Values
+pub mod Civil
 pub mod Items
+pub mod Moment
+pub mod Values

@@ -2,8 +2,12 @@
 //! takes memory.
 #![tactic(auto)]
 
-pub mod item;
-pub mod value_set;
+mod civil;
+mod item;
+mod moment;
+mod value_set;
 
+pub use civil::{Civil, END_SECOND, FIRST_YEAR, LAST_YEAR, SECONDS_A_DAY, civil_of, second_of};
 pub use item::{Item, SetFault, set_of};
+pub use moment::{MomentFault, moment_text, read_moment};
 pub use value_set::ValueSet;

@@ -1,4 +1,4 @@
-use Rattle.std.proofs.Common.{◌≡◌, ◌+◌, ◌||◌, nat_eq, ap, ◌∙◌}
+use Rattle.std.proofs.Common.{◌+◌, ◌||◌, nat_eq, ap, ◌∙◌}
 use Rattle.plan_sets.specs.Values.{Values, has_value}
 use Rattle.plan_sets.proofs.ValuesLemmas.{has_value-with_value}
 use Rattle.plan_sets.proofs.ItemsLemmas.{step_added, step_passed}

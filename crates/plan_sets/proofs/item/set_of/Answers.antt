@@ -1,9 +1,8 @@
-use Rattle.std.proofs.Common.{◌≡◌, ℕ, ◌<◌, ◌≤◌, ◌||◌, ◌&&◌, length, None, Some, ap, sym, ◌∙◌, arith, take, get_or, refl, take_all}
+use Rattle.std.proofs.Common.{◌≡◌, ◌<◌, ◌||◌, ◌&&◌, length, ap, sym, ◌∙◌, arith, take, get_or, refl, take_all}
 use Rattle.std.proofs.lemmas.List.{take_more}
-use Rattle.std.proofs.lemmas.Bool.{eqb-true, eqb-false, and_right}
+use Rattle.std.proofs.lemmas.Bool.{eqb-true, eqb-false}
 use Rattle.plan_sets.specs.Values.{Values, has_value}
 use Rattle.plan_sets.specs.Items.{belongs, first_fault, is_held, is_within}
-use Rattle.plan_sets.specs.declared.item.Item.{Item}
 use Rattle.plan_sets.specs.declared.item.Item.TheVariants.{One}
 use Rattle.plan_sets.proofs.ValuesLemmas.{has_value-no_values}
 use Rattle.plan_sets.proofs.ItemsLemmas.{set_reading-empty, set_reading-fault, set_reading-values, is_held-push, first_fault-push, nothing_held}

@@ -1,4 +1,4 @@
-use Rattle.std.proofs.Common.{◌≡◌, ℕ, ◌<◌, ◌≤◌, ◌+◌, true, arith}
+use Rattle.std.proofs.Common.{arith}
 use Rattle.plan_sets.proofs.ValuesLemmas.{value_marked, no_value_before, no_value_from}
 use Rattle.plan_sets.proofs.value_set.ValueSet.first_from.Goals as goal
 

@@ -1,4 +1,4 @@
-use Rattle.std.proofs.Common.{◌≡◌, false, ap, sym, ◌∙◌, not}
+use Rattle.std.proofs.Common.{ap, sym, ◌∙◌, not}
 use Rattle.std.proofs.lemmas.Bool.{not-true}
 use Rattle.plan_sets.specs.Values.{Values}
 use Rattle.plan_sets.proofs.ValuesLemmas.{view_unmarked, unmarked_view}

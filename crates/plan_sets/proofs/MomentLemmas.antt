@@ -1,0 +1,63 @@
+-- What a text of a moment's form says, and that it says one thing alone.
+use Rattle.std.proofs.Common.{◌≡◌, ℕ, ◌+◌, ◌/◌, ◌%◌, ◌<◌, ◌≤◌, List, [], ◌∷◌, get_or, ap, arith, pos, refl, subst, sym, ◌∙◌}
+use Rattle.jiff_core.proofs.CalendarLemmas.{days_in_month_bounds}
+use Rattle.plan_sets.specs.declared.civil.TheConstants.{END_SECOND}
+use Rattle.plan_sets.specs.Civil.{civil_fields}
+use Rattle.plan_sets.specs.Moment.{moment_text_of, number_of, two_digits, written_of, written_text, IsInCalendar, Says, Written}
+use Rattle.plan_sets.proofs.CivilLemmas.{second_number-civil, IsCivilOf-civil_fields, IsInRange-year, Shows-civil_fields}
+
+-- two bytes that are the digits of a number
+pub record AreDigits (tens ones n : ℕ) : Type 0 where
+  pub small : n < 100
+  pub tens_is : tens ≡ 48 + n / 10
+  pub ones_is : ones ≡ 48 + n % 10
+
+pub AreDigits-two_digits : (tens ones n : ℕ) → (n < 100) × (tens ∷ ones ∷ [] ≡ two_digits n) → AreDigits tens ones n
+AreDigits-two_digits tens ones n (small, same) = record {
+  small = small;
+  tens_is = ap (λ (l : List ℕ). get_or l 0 0) same;
+  ones_is = ap (λ (l : List ℕ). get_or l 1 0) same;
+}
+
+same_written : (v w : Written) → v.year ≡ w.year → v.month ≡ w.month → v.day ≡ w.day → v.hour ≡ w.hour → v.minute ≡ w.minute → v.second ≡ w.second → v ≡ w
+same_written v w year month day hour minute second =
+    let same : ◌≡◌ {A = Written} (record { year = v.year; month = v.month; day = v.day; hour = v.hour; minute = v.minute; second = v.second }) w = rw (year, month, day, hour, minute, second) refl in
+    same
+
+same_number : (a b : ℕ) → 48 + a / 10 ≡ 48 + b / 10 → 48 + a % 10 ≡ 48 + b % 10 → a ≡ b
+same_number a b tens ones = omega arith
+
+-- a text says one thing alone
+pub Says-unique : (text : List ℕ) (v w : Written) → Says text v → Says text w → v ≡ w
+Says-unique text v w p q =
+    let e : written_text v ≡ written_text w = sym p.text_is ∙ q.text_is in
+    let at : (k : ℕ) → get_or (written_text v) k 0 ≡ get_or (written_text w) k 0 = λ k. ap (λ (l : List ℕ). get_or l k 0) e in
+    let century = same_number (v.year / 100) (w.year / 100) (at 0) (at 1) in
+    let rest = same_number (v.year % 100) (w.year % 100) (at 2) (at 3) in
+    same_written v w (omega arith) (same_number _ _ (at 5) (at 6)) (same_number _ _ (at 8) (at 9)) (same_number _ _ (at 11) (at 12)) (same_number _ _ (at 14) (at 15)) (same_number _ _ (at 17) (at 18))
+
+-- the text of a second says its fields
+pub Says-moment_text_of : (text : List ℕ) (n : ℕ) → n ≤ END_SECOND → text ≡ moment_text_of n → Says text (written_of (civil_fields n))
+unfolding moment_text_of
+Says-moment_text_of text n h e =
+    let c = civil_fields n in
+    let is = IsCivilOf-civil_fields n h in
+    let years = IsInRange-year n c is h in
+    let days = days_in_month_bounds (pos c.year) c.month in
+    record { room = omega arith; text_is = e }
+
+-- so a text of a second that says a date and time says one that exists, with that number
+pub Says-second : (text : List ℕ) (n : ℕ) (w : Written) → n ≤ END_SECOND → text ≡ moment_text_of n → Says text w → IsInCalendar w × (number_of w ≡ pos n)
+Says-second text n w h e says =
+    let is = IsCivilOf-civil_fields n h in
+    let same : w ≡ written_of (civil_fields n) = Says-unique text w (written_of (civil_fields n)) says (Says-moment_text_of text n h e) in
+    let P : Written → Type 0 = λ v. IsInCalendar v × (number_of v ≡ pos n) in
+    subst P (sym same) ((is.date, is.time), second_number-civil n (civil_fields n) is)
+
+-- and a text that says a date and time with the number of a second is its text
+pub moment_text_of-number : (text : List ℕ) (n : ℕ) (w : Written) → n ≤ END_SECOND → Says text w → IsInCalendar w → pos n ≡ number_of w → text ≡ moment_text_of n
+unfolding moment_text_of
+moment_text_of-number text n w h says exists e =
+    let shows = Shows-civil_fields n w.year w.month w.day w.hour w.minute w.second h exists e in
+    let same : written_of (civil_fields n) ≡ w = same_written (written_of (civil_fields n)) w shows.0 shows.1 shows.2 shows.3 shows.4 shows.5 in
+    says.text_is ∙ ap written_text (sym same)

@@ -1,0 +1,42 @@
+-- The number of a date and time in the planner's years is one of its seconds.
+use Rattle.std.proofs.Common.{◌∙◌, ◌<ℤ◌, ◌≤ℤ◌, arith, of_z, pos, refl, to_z, unsigned_abs, w64}
+use Rattle.jiff_core.proofs.SignedLemmas.{signed_arith}
+use Rattle.plan_sets.specs.declared.civil.TheConstants.{END_SECOND}
+use Rattle.plan_sets.specs.Civil.{IsDateTime}
+use Rattle.plan_sets.proofs.CivilLemmas.{second_number-bounds, IsCast, IsCast-second, Shows-civil_fields}
+use Rattle.plan_sets.proofs.civil.second_of.Goals as goal
+use Rattle.plan_sets.proofs.civil.second_of.Goals.{In_ok-number}
+
+exists : (c : In_ok-number) → IsDateTime c.args.year c.args.month c.args.day c.args.hour c.args.minute c.args.second
+exists c = c.in_ok-number.ensures.some.0 refl
+
+-- the number is not negative, and lies before the end
+bounds : (c : In_ok-number) → (pos 0 ≤ℤ c.in_ok-number.number) × (c.in_ok-number.number <ℤ pos END_SECOND)
+bounds c =
+    rw c.in_ok-number.ensures.number (second_number-bounds _ _ _ _ _ _ ((omega arith, omega arith), exists c))
+
+-- so that the cast keeps it
+cast : (c : In_ok-number) → IsCast c.in_ok-number.number (unsigned_abs (to_z w64 (of_z w64 c.in_ok-number.number)))
+cast c =
+    let b = bounds c in
+    IsCast-second c.in_ok-number.number b.0 (omega (arith, signed_arith))
+
+pub overflow_cast-result : goal.overflow_cast-result
+overflow_cast-result c =
+    let k = cast c in
+    let b = bounds c in
+    rw k.back (omega (arith, signed_arith))
+
+pub returns-clause-range : goal.returns-clause-range
+returns-clause-range c =
+    let k = cast c in
+    let b = bounds c in
+    omega (arith, signed_arith)
+
+pub returns-clause-number : goal.returns-clause-number
+returns-clause-number c = (cast c).same ∙ c.in_ok-number.ensures.number
+
+pub returns-clause-fields : goal.returns-clause-fields
+returns-clause-fields c =
+    let k = cast c in
+    Shows-civil_fields _ _ _ _ _ _ _ k.fits (exists c) (k.same ∙ c.in_ok-number.ensures.number)

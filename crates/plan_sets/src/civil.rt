@@ -1,0 +1,145 @@
+//! Civil fields: the date, weekday and time of day of a second.
+ghost use Rattle.std.specs.Prelude.{◌≡◌, ◌+◌, ◌/◌, ◌%◌, ◌<◌, ◌≤◌, ◌↔◌, pos, IsSome, IfSome};
+ghost use Rattle.std.specs.Int.{IsInRange};
+ghost use Rattle.jiff_core.specs.Calendar.{IsCivilDate, IsEpochDay, days_from_civil};
+ghost use Rattle.jiff_core.specs.Date.{epoch_day};
+ghost use Rattle.plan_sets.specs.Civil.{civil_fields, second_number, seconds_of_day, IsCivilOf, IsDateTime, IsDateTimeInYears, IsTimeOfDay, Shows};
+
+use jiff::civil;
+use jiff_core::civil::Date;
+
+/// The first year that the planner knows: second 0 is its first second.
+pub const FIRST_YEAR: u16 = 1970;
+
+/// The last year that the planner knows.
+pub const LAST_YEAR: u16 = 2199;
+
+/// The second of 2200-01-01T00:00:00Z, the first after `LAST_YEAR`.
+pub const END_SECOND: u64 = 7_258_118_400;
+
+/// How many seconds a day has; no leap seconds are counted.
+pub const SECONDS_A_DAY: u64 = 86_400;
+
+/// The civil fields of a second, in UTC.
+#[derive(Clone, Copy, Debug, PartialEq, Eq)]
+pub struct Civil {
+    /// The year, from 1970 to 2199.
+    pub year: u16,
+    /// The month, from 1 to 12.
+    pub month: u8,
+    /// The day of the month, from 1.
+    pub day: u8,
+    /// The day of the week, from 0 for Monday to 6 for Sunday.
+    pub weekday: u8,
+    /// The hour, from 0 to 23.
+    pub hour: u8,
+    /// The minute, from 0 to 59.
+    pub minute: u8,
+    /// The second, from 0 to 59.
+    pub second: u8,
+}
+
+/// The civil fields of a second before `END_SECOND`, counted from 1970-01-01T00:00:00Z.
+pub fn civil_of(second: u64) -> Civil
+    requires { second < END_SECOND }
+    // The fields as one value, which computes.
+    ensures fields { result ≡ civil_fields second }
+
+    // What they are: the date with the second's day number, its weekday, and the time of day.
+    ensures date { IsCivilDate (pos result.year) result.month result.day }
+    ensures day_number { days_from_civil (pos result.year) result.month result.day
+        ≡ pos (second / SECONDS_A_DAY) }
+    ensures weekday { result.weekday ≡ (second / SECONDS_A_DAY + 3) % 7 }
+    ensures time_of_day { seconds_of_day result.hour result.minute result.second
+        ≡ second % SECONDS_A_DAY }
+
+    // The ranges that `date` leaves open.
+    ensures years { IsInRange FIRST_YEAR LAST_YEAR result.year }
+    ensures week { result.weekday < 7 }
+    ensures time { IsTimeOfDay result.hour result.minute result.second }
+{
+    fields_of(second)
+}
+
+/// The same, with `END_SECOND` itself, which is in the year after `LAST_YEAR`.
+pub(crate) fn fields_of(second: u64) -> Civil
+    requires { second ≤ END_SECOND }
+    ensures fields { result ≡ civil_fields second }
+    ensures civil { IsCivilOf second result }
+    ensures years { IsInRange FIRST_YEAR (LAST_YEAR + 1) result.year }
+{
+    let days = second / SECONDS_A_DAY;
+    let time = second % SECONDS_A_DAY;
+    let date = date_of_day(days);
+    Civil {
+        year: date.year as u16,
+        month: date.month,
+        day: date.day,
+        weekday: ((days + 3) % 7) as u8,
+        hour: (time / 3_600) as u8,
+        minute: (time / 60 % 60) as u8,
+        second: (time % 60) as u8,
+    }
+}
+
+/// The date with that day number, which counts from 0 for 1970-01-01.
+fn date_of_day(day: u64) -> Date
+    requires { day ≤ END_SECOND / SECONDS_A_DAY }
+    ensures { epoch_day result ≡ pos day }
+{
+    let epoch = civil::date(1970, 1, 1).to_plain();
+    epoch.checked_add(day as i64).unwrap()
+}
+
+/// The second of a date and time of day: `None` where the calendar has no such date, a day no such
+/// time, or the year is outside `FIRST_YEAR` to `LAST_YEAR`.
+pub fn second_of(year: u16, month: u8, day: u8, hour: u8, minute: u8, second: u8) -> Option<u64>
+    ensures some { IsSome result ↔ IsDateTimeInYears year month day hour minute second }
+    ensures range { IfSome result (λ n. n < END_SECOND) }
+    ensures fields { IfSome result
+        (λ n. Shows (civil_fields n) year month day hour minute second) }
+    ensures number { IfSome result (λ n. pos n ≡ second_number year month day hour minute second) }
+{
+    if year < FIRST_YEAR || year > LAST_YEAR {
+        return None;
+    }
+    let number = second_from_epoch(year, month, day, hour, minute, second)?;
+    Some(number as u64)
+}
+
+/// The seconds from 1970-01-01T00:00:00Z to a date and time of any year up to 9999, negative before
+/// it: `None` where the calendar has no such date, or a day no such time.
+pub(crate) fn second_from_epoch(
+    year: u16,
+    month: u8,
+    day: u8,
+    hour: u8,
+    minute: u8,
+    second: u8,
+) -> Option<i64>
+    ensures some { IsSome result ↔ IsDateTime year month day hour minute second }
+    ensures number { IfSome result (λ n. n ≡ second_number year month day hour minute second) }
+{
+    if hour >= 24 || minute >= 60 || second >= 60 {
+        return None;
+    }
+    let days = day_number(year, month, day)?;
+    let time = (u32::from(hour) * 60 + u32::from(minute)) * 60 + u32::from(second);
+    Some(i64::from(days) * SECONDS_A_DAY as i64 + i64::from(time))
+}
+
+/// The day number of a date of any year up to 9999: `None` where the calendar has no such date.
+fn day_number(year: u16, month: u8, day: u8) -> Option<i32>
+    ensures some { IsSome result ↔ IsCivilDate (pos year) month day }
+    ensures number { IfSome result (λ n. n ≡ days_from_civil (pos year) month day) }
+    ensures range { IfSome result IsEpochDay }
+{
+    let year = i16::try_from(year).ok()?;
+    let month = i8::try_from(month).ok()?;
+    let day = i8::try_from(day).ok()?;
+    let date = civil::Date::new(year, month, day).ok()?;
+    Some(date.to_plain().to_unix_epoch_day())
+}
+
+#[cfg(test)]
+mod tests;

@@ -1,0 +1,124 @@
+//! Moments as text, as `2024-01-01T04:30:00Z`.
+ghost use Rattle.std.specs.Prelude.{◌≡◌, ◌≢◌, ℕ, ◌<◌, ◌≤◌, ◌↔◌, ◌∷◌, [], IsSome, IfSome, IfNone, IfOk, IfErr, Ok};
+ghost use Rattle.plan_sets.specs.Moment.{moment_text_of, number_of, two_digits, written_fields, HasFault, IsInCalendar, Says, Written};
+
+use crate::civil::{END_SECOND, fields_of, second_from_epoch};
+use thiserror::Error;
+
+/// What is wrong with the text of a moment: the first of these that holds.
+#[derive(Clone, Copy, Debug, PartialEq, Eq, Error)]
+pub enum MomentFault {
+    /// The text is not `YYYY-MM-DDTHH:MM:SSZ`, 20 bytes with decimal digits.
+    #[error("BadForm")]
+    BadForm,
+    /// The calendar of the years 0000 to 9999 has no such date, or a day no such time.
+    #[error("NoSuchDate")]
+    NoSuchDate,
+    /// The moment comes before 1970, or after 2200-01-01T00:00:00Z.
+    #[error("OutOfYears")]
+    OutOfYears,
+}
+
+/// The numbers that a text of a moment's form says.
+#[derive(Clone, Copy)]
+struct Fields {
+    year: u16,
+    month: u8,
+    day: u8,
+    hour: u8,
+    minute: u8,
+    second: u8,
+}
+
+impl Fields {
+    /// The numbers of a text of the form `YYYY-MM-DDTHH:MM:SSZ`.
+    fn read(text: &[u8]) -> Option<Fields>
+        ensures some { IfSome result (λ f. Says text.now (written_fields f)) }
+        ensures none { IfNone result ((w : Written) → ¬ (Says text.now w)) }
+    {
+        let [c1, c2, y1, y2, b'-', m1, m2, b'-', d1, d2, time @ ..] = text else {
+            return None;
+        };
+        let [b'T', h1, h2, b':', n1, n2, b':', s1, s2, b'Z'] = time else {
+            return None;
+        };
+        Some(Fields {
+            year: u16::from(number(*c1, *c2)?) * 100 + u16::from(number(*y1, *y2)?),
+            month: number(*m1, *m2)?,
+            day: number(*d1, *d2)?,
+            hour: number(*h1, *h2)?,
+            minute: number(*n1, *n2)?,
+            second: number(*s1, *s2)?,
+        })
+    }
+
+    /// The seconds from 1970-01-01T00:00:00Z, if there is such a date and time.
+    fn second(self) -> Option<i64>
+        ensures some { IsSome result ↔ IsInCalendar (written_fields self) }
+        ensures number { IfSome result (λ n. n ≡ number_of (written_fields self)) }
+    {
+        second_from_epoch(
+            self.year,
+            self.month,
+            self.day,
+            self.hour,
+            self.minute,
+            self.second,
+        )
+    }
+}
+
+/// The number that two decimal digits write.
+fn number(tens: u8, ones: u8) -> Option<u8>
+    ensures value { IfSome result (λ n. (n < 100) × (tens ∷ ones ∷ [] ≡ two_digits n)) }
+    ensures none { IfNone result ((n : ℕ) → n < 100 → tens ∷ ones ∷ [] ≢ two_digits n) }
+{
+    if tens.is_ascii_digit() && ones.is_ascii_digit() {
+        Some((tens - b'0') * 10 + (ones - b'0'))
+    } else {
+        None
+    }
+}
+
+/// The second of a moment up to `END_SECOND`, from its text.
+pub fn read_moment(text: &str) -> Result<u64, MomentFault>
+    ensures ok { IfOk result (λ n. (n ≤ END_SECOND) × (text.now ≡ moment_text_of n)) }
+    ensures accepted { (n : ℕ) → n ≤ END_SECOND → text.now ≡ moment_text_of n → result ≡ Ok n }
+    ensures fault { IfErr result (HasFault text.now) }
+{
+    let fields = Fields::read(text.as_bytes()).ok_or(MomentFault::BadForm)?;
+    let number = fields.second().ok_or(MomentFault::NoSuchDate)?;
+    if number < 0 || number > END_SECOND as i64 {
+        return Err(MomentFault::OutOfYears);
+    }
+    Ok(number as u64)
+}
+
+/// The two decimal digits of a number below 100.
+fn digits(number: u8) -> [u8; 2]
+    requires { number < 100 }
+    ensures { result ≡ two_digits number }
+{
+    [b'0' + number / 10, b'0' + number % 10]
+}
+
+/// The text of the moment of a second up to `END_SECOND`.
+pub fn moment_text(second: u64) -> [u8; 20]
+    requires { second ≤ END_SECOND }
+    ensures { result ≡ moment_text_of second }
+{
+    let fields = fields_of(second);
+    let [c1, c2] = digits((fields.year / 100) as u8);
+    let [y1, y2] = digits((fields.year % 100) as u8);
+    let [m1, m2] = digits(fields.month);
+    let [d1, d2] = digits(fields.day);
+    let [h1, h2] = digits(fields.hour);
+    let [n1, n2] = digits(fields.minute);
+    let [s1, s2] = digits(fields.second);
+    [
+        c1, c2, y1, y2, b'-', m1, m2, b'-', d1, d2, b'T', h1, h2, b':', n1, n2, b':', s1, s2, b'Z',
+    ]
+}
+
+#[cfg(test)]
+mod tests;
