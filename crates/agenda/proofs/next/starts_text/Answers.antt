@@ -1,0 +1,28 @@
+use Rattle.std.proofs.Common.{◌≡◌, ◌∙◌, ◌++◌, ◌∷◌, [], ap, ◌+◌, arith, append_assoc}
+use Rattle.std.proofs.lemmas.List.{length_push}
+use Rattle.plan_sets.specs.Moment.{moment_text_of}
+use Rattle.agenda.proofs.NextLemmas.{listed_push, lists_all, lists_fewer}
+use Rattle.agenda.proofs.next.starts_text.Goals as goal
+
+pub returns-in_default : goal.returns-in_default
+returns-in_default c =
+    let (moments, listed, many) = c.loop-listed.invariant in
+    lists_fewer c.args.rule.now c.args.after c.loop-listed.latest c.args.count c.loop-listed.text.items c.extend_from_slice.new.self.items moments listed (omega arith) c.in_ok-extend_from_slice.ensures.items
+
+pub loop-listed-preserved : goal.loop-listed-preserved
+loop-listed-preserved c =
+    let (moments, listed, many) = c.loop-listed.invariant in
+    let n = c.in-Some.moment in
+    let text = c.loop-listed.text.items in
+    let line : c.push.new.self.items ≡ text ++ (moment_text_of n ++ 10 ∷ []) =
+    c.in_ok-push.ensures.items ∙ ap (λ l. l ++ 10 ∷ []) (c.in_ok-extend_from_slice-2.ensures.items ∙ ap (λ l. text ++ l) c.moment_text.ensures)
+    ∙ append_assoc text (moment_text_of n) (10 ∷ []) in (
+      moments ++ n ∷ [],
+      listed_push c.args.rule.now c.args.after c.loop-listed.latest n text c.push.new.self.items moments listed c.in-Some.ensures.later c.in-Some.ensures.start line,
+      length_push moments n ∙ ap (λ k. k + 1) many,
+    )
+
+pub returns : goal.returns
+returns c =
+    let (moments, listed, many) = c.loop-listed.invariant in
+    lists_all c.args.rule.now c.args.after c.loop-listed.latest c.args.count c.loop-listed.text.items moments listed (omega arith)

@@ -1,0 +1,8 @@
+use Rattle.std.proofs.Common.{◌≡◌, ℕ, List, length}
+use Rattle.agenda.proofs.NextLemmas.{IsListed}
+use Rattle.agenda.proofs.next.starts_text.Given as goal
+
+-- as many starts are listed as the loop has turned
+abbrev pub invariant-loop-listed : goal.invariant-loop-listed
+invariant-loop-listed l =
+    (moments : List ℕ) × IsListed l.rule l.fn.after l.latest l.text.items moments × (length moments ≡ l._listed)

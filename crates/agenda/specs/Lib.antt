@@ -1,0 +1,4 @@
+pub mod Faults
+pub mod Next
+pub mod Output
+pub mod Words

@@ -1,0 +1,5 @@
+pub mod TextLemmas
+pub mod StepsLemmas
+pub mod WeekDaysLemmas
+mod CronRows
+pub mod TextFaults

@@ -1,0 +1,5 @@
+pub mod Text
+pub mod Steps
+pub mod Cron
+pub mod Match
+pub mod Equal

@@ -1,0 +1,64 @@
+//! The parts of a text: its words, what stands around a mark, and the number that it writes.
+
+ghost use Rattle.std.specs.Prelude.{◌≡◌, ◌==◌, IfOk, map};
+ghost use Rattle.std.specs.Option.{option_map};
+ghost use Rattle.plan_rules.specs.Text.{is_blank, words, begins_with, cut_at, number_of};
+
+use std::alloc::{AllocError, Global};
+
+/// How many digits a number has at most.
+const MOST_DIGITS: usize = 4;
+
+// Whether a byte is a space or a tab.
+fn is_blank(byte: u8) -> bool
+    ensures { result ≡ is_blank byte }
+{
+    byte == b' ' || byte == b'\t'
+}
+
+/// The words of a text: what stands between its blanks.
+pub fn words(alloc: Global, text: &[u8]) -> Result<Vec<&[u8]>, AllocError>
+    ensures { IfOk result (λ found. map (λ word. word.now) found.items ≡ words text.now) }
+{
+    text.split(|byte| is_blank(*byte))
+        .filter(|word| !word.is_empty())
+        .collect(alloc)
+}
+
+/// Whether the first byte of a text is that byte.
+pub fn begins_with(text: &[u8], byte: u8) -> bool
+    ensures { result ≡ begins_with (λ b. b == byte) text.now }
+{
+    matches!(text, [first, ..] if *first == byte)
+}
+
+/// What stands before and after the first place of a mark, or `None` where the mark isn't there.
+pub fn cut<'a>(text: &'a [u8], mark: &[u8]) -> Option<(&'a [u8], &'a [u8])>
+    ensures { option_map (λ parts. (parts.0.now, parts.1.now)) result ≡ cut_at mark.now text.now }
+{
+    for at in 0..text.len() {
+        let rest = &text[at..];
+        if rest.starts_with(mark) {
+            return Some((&text[..at], &rest[mark.len()..]));
+        }
+    }
+    None
+}
+
+/// The number that 1 to 4 decimal digits write, or `None` where the text is anything else.
+#[tactic(auto, unfolding(crate::specs::Text::number_of))]
+pub fn number(text: &[u8]) -> Option<u16>
+    ensures { result ≡ number_of text.now }
+{
+    if text.is_empty() || text.len() > MOST_DIGITS {
+        return None;
+    }
+    let mut value = 0;
+    for byte in text {
+        if !byte.is_ascii_digit() {
+            return None;
+        }
+        value = value * 10 + u16::from(*byte - b'0');
+    }
+    Some(value)
+}

@@ -1,0 +1,49 @@
+//! A text that is kept as it was handed in.
+ghost use Rattle.std.specs.Prelude.{◌≡◌, string_bytes};
+
+use std::marker::Model;
+
+/// A text, in UTF-8, which is lent as it was handed in.
+#[derive(Debug, Drop)]
+pub struct Text {
+    kept: String,
+}
+
+impl Model for Text {
+    ghost use Rattle.std.specs.Prelude.{List, ℕ, string_bytes};
+
+    ghost Value = { List ℕ };
+
+    ghost view = { λ text. string_bytes text.kept };
+}
+
+impl Text {
+    /// Keeps the text.
+    pub fn new(text: String) -> Text
+        ensures { result ≡ string_bytes text }
+    {
+        Text { kept: text }
+    }
+
+    /// The text, lent.
+    pub fn as_str(&self) -> &str
+        ensures { result.now ≡ self.now }
+    {
+        self.kept.as_str()
+    }
+}
+
+#[cfg(test)]
+mod tests {
+    use super::*;
+    use std::test::Fail;
+
+    #[test]
+    fn lends_what_it_keeps(rt: HostRuntime) -> Result<(), Fail> {
+        for written in ["", "30 4 1,15 * 5", "à 12 h"] {
+            let text = Text::new(String::from_str(rt.alloc(), written)?);
+            assert_eq!(rt; text.as_str(), written);
+        }
+        Ok(())
+    }
+}
