@@ -1,4 +1,4 @@
 pub mod NextLemmas
 pub mod OutputLemmas
 pub mod RefusalLemmas
-mod Rows
+mod WordsRows

@@ -1,7 +1,7 @@
 //! The words of the command line.
-ghost use Rattle.std.specs.Prelude.{◌≡◌, IfOk, false, map, string_bytes};
+ghost use Rattle.std.specs.Prelude.{◌≡◌, [], ◌∷◌, IfOk, false, map, string_bytes};
 ghost use Rattle.clap.specs.Words.{app_of, first_of, found_of, kind_of, one_of, rows_of, rule_of};
-ghost use Rattle.clap.specs.Words.{subcommand_rows_of};
+ghost use Rattle.clap.specs.Words.{items_of, subcommand_rows_of};
 ghost use Rattle.clap.specs.declared.builder.command.Command.TheViews.{out-Command};
 ghost use Rattle.agenda.specs.Words.{Gives, IsAnswerTo, after_option, agenda, asked_by, asked_by_next};
 ghost use Rattle.agenda.specs.Words.{count_option, cron_option};
@@ -123,6 +123,7 @@ fn cron_option<'a>(alloc: Global) -> Arg<'a>
 /// `--name VALUE`.
 fn option_named<'a>(alloc: Global, name: &'a str, value: &'a str) -> Arg<'a>
     ensures rule { rule_of result ≡ option_named name.entry.now }
+    ensures shown { items_of result.val_names ≡ value.entry ∷ [] }
     ensures local { result.global ≡ false }
 {
     Arg::new(alloc, name).long(name).value_name(value)

@@ -1,12 +1,10 @@
 -- The computed civil fields are the ones of the calendar, and no others are.
-use Rattle.std.proofs.Common.{◌≡◌, ℕ, zero, suc, ◌+◌, ◌-◌, ◌/◌, ◌%◌, ◌<◌, ◌≤◌, Bool, true, false, nat_lt, ltb, inl, inr, Some, Result, Ok, Err, refl, sym, ap, ◌∙◌, arith, rules, FitsSigned, of_z, to_z, to_z-of_z, w64, ℤ, pos, negsuc, ◌<ℤ◌, ◌≤ℤ◌, unsigned_abs}
+use Rattle.std.proofs.Common.{◌≡◌, ℕ, zero, suc, ◌+◌, ◌-◌, ◌/◌, ◌%◌, ◌<◌, ◌≤◌, Bool, true, false, nat_lt, ltb, inl, inr, refl, sym, ◌∙◌, arith, rules, FitsSigned, of_z, to_z, to_z-of_z, w64, ℤ, pos, negsuc, ◌<ℤ◌, ◌≤ℤ◌, unsigned_abs}
 use Rattle.std.specs.Int.{IsInRange}
 use Rattle.std.proofs.lemmas.Bool.{cases_lt}
-use Rattle.std.specs.Result.{result_ok}
 use Rattle.std.proofs.lemmas.Int.{by_lt_z}
-use Rattle.std.proofs.lemmas.Option.{none-some, same_Some}
 use Rattle.std.proofs.lemmas.Bool.Decides.{Decides-ltb, not_from_Decides}
-use Rattle.jiff_core.specs.Calendar.{day_count, day_of_year, days_from_civil, days_in_month, days_in_year, days_of_months, IsCivilDate}
+use Rattle.jiff_core.specs.Calendar.{day_count, day_of_year, days_from_civil, days_in_month, days_in_year, days_of_months, IsCivilDate, IsDate}
 use Rattle.jiff_core.specs.Date.{epoch_day, IsYmd}
 use Rattle.jiff_core.specs.declared.civil.date.Date.{Date}
 use Rattle.jiff_core.proofs.SignedLemmas.{signed_arith}
@@ -250,10 +248,10 @@ pub IsCivilDate-date : (date : Date) (year month day : ℕ) → IsYmd (pos year)
 IsCivilDate-date date year month day (same_year, same_month, same_day) =
     same_civil_date _ _ _ _ _ _ same_year (omega (arith, signed_arith)) (omega (arith, signed_arith)) (date.year_in, date.month_in, date.day_in)
 
--- what `ok` kept was the value of an `Ok`
-pub Ok-from_result_ok : {T E : Type 0} → (r : Result T E) (x : T) → Some x ≡ result_ok r → r ≡ Ok x
-Ok-from_result_ok (Ok y) x e = ap (λ v. Ok v) (same_Some _ _ (sym e))
-Ok-from_result_ok (Err y) x e = absurd (none-some x (sym e))
+-- and what the calendar has, the constructor of dates takes
+pub IsDate-civil : (y m d : ℤ) (year month day : ℕ) → y ≡ pos year → m ≡ pos month → d ≡ pos day → IsCivilDate (pos year) month day → IsDate y m d
+IsDate-civil y m d year month day same_year same_month same_day h =
+    rw (same_year, same_month, same_day) (h.0, (omega (arith, signed_arith), omega (arith, signed_arith)), (omega (arith, signed_arith), omega (arith, signed_arith)))
 
 -- a second is the number of its fields
 pub second_number-civil : (n : ℕ) (c : Civil) → IsCivilOf n c → second_number c.year c.month c.day c.hour c.minute c.second ≡ pos n

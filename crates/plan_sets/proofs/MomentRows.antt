@@ -1,9 +1,12 @@
--- Known moments, as theorems of the definition of their text.
-use Rattle.std.proofs.Common.{◌≡◌, refl}
+-- Known moments, and texts that are none, as theorems of the definitions.
+use Rattle.std.proofs.Common.{◌≡◌, ℕ, ◌<◌, List, ap, arith, get_or, inl, inr, length, refl, rules}
 use Rattle.std.specs.Prelude.{codes}
-use Rattle.plan_sets.specs.declared.civil.TheConstants.{END_SECOND}
+use Rattle.jiff_core.proofs.SignedLemmas.{signed_arith}
+use Rattle.plan_sets.specs.declared.civil.TheConstants.{END_SECOND, FIRST_YEAR}
+use Rattle.plan_sets.specs.declared.moment.MomentFault.TheVariants.{BadForm, NoSuchDate, OutOfYears}
 use Rattle.plan_sets.specs.Civil.{civil_fields, month_and_day, year_and_day}
-use Rattle.plan_sets.specs.Moment.{moment_text_of}
+use Rattle.plan_sets.specs.Moment.{moment_text_of, HasFault, IsInCalendar, Says, Written}
+use Rattle.plan_sets.proofs.CivilLemmas.{days_from_civil-before_year, days_from_civil-end, days_from_civil-first}
 
 the_epoch : moment_text_of 0 ≡ codes "1970-01-01T00:00:00Z"
 unfolding moment_text_of civil_fields year_and_day month_and_day
@@ -16,3 +19,47 @@ with_a_time = refl
 the_end : moment_text_of END_SECOND ≡ codes "2200-01-01T00:00:00Z"
 unfolding moment_text_of civil_fields year_and_day month_and_day
 the_end = refl
+
+-- one digit for the month is no form of a moment
+short_month : HasFault (codes "2024-1-1T00:00:00Z") BadForm
+short_month = λ w says. absurd (omega (arith, ap length says.text_is))
+
+small_t : HasFault (codes "2024-01-01t00:00:00Z") BadForm
+small_t = λ w says. absurd (omega (arith, ap (λ (l : List ℕ). get_or l 10 0) says.text_is))
+
+thirtieth_of_february : HasFault (codes "2024-02-30T00:00:00Z") NoSuchDate
+thirtieth_of_february =
+    let w : Written = record { year = 2024; month = 2; day = 30; hour = 0; minute = 0; second = 0 } in
+    (w, record { room = search rules; text_is = refl }, λ h. absurd (omega (arith, h.0.2.1)))
+
+-- the year 0 has a leap day, and no thirtieth
+thirtieth_of_february_0 : HasFault (codes "0000-02-30T00:00:00Z") NoSuchDate
+thirtieth_of_february_0 =
+    let w : Written = record { year = 0; month = 2; day = 30; hour = 0; minute = 0; second = 0 } in
+    (w, record { room = search rules; text_is = refl }, λ h. absurd (omega (arith, h.0.2.1)))
+
+hour_24 : HasFault (codes "2024-01-01T24:00:00Z") NoSuchDate
+hour_24 =
+    let w : Written = record { year = 2024; month = 1; day = 1; hour = 24; minute = 0; second = 0 } in
+    (w, record { room = search rules; text_is = refl }, λ h. absurd (omega (arith, h.1)))
+
+-- whatever comes before 1970 is out of the planner's years
+before_the_years : (text : List ℕ) (w : Written) → Says text w → IsInCalendar w → w.year < FIRST_YEAR → HasFault text OutOfYears
+before_the_years text w says exists early =
+    let before = days_from_civil-before_year w.year w.month w.day FIRST_YEAR exists.0 early in
+    (w, says, exists, inl (omega (arith, signed_arith, days_from_civil-first)))
+
+year_0 : HasFault (codes "0000-01-01T00:00:00Z") OutOfYears
+year_0 =
+    let w : Written = record { year = 0; month = 1; day = 1; hour = 0; minute = 0; second = 0 } in
+    before_the_years _ w (record { room = search rules; text_is = refl }) (search rules) (omega arith)
+
+second_before_1970 : HasFault (codes "1969-12-31T23:59:59Z") OutOfYears
+second_before_1970 =
+    let w : Written = record { year = 1969; month = 12; day = 31; hour = 23; minute = 59; second = 59 } in
+    before_the_years _ w (record { room = search rules; text_is = refl }) (search rules) (omega arith)
+
+second_past_the_end : HasFault (codes "2200-01-01T00:00:01Z") OutOfYears
+second_past_the_end =
+    let w : Written = record { year = 2200; month = 1; day = 1; hour = 0; minute = 0; second = 1 } in
+    (w, record { room = search rules; text_is = refl }, search rules, inr (omega (arith, signed_arith, days_from_civil-end)))

@@ -1,4 +1,5 @@
--- Civil fields of a second, by jiff's calendar: the proleptic Gregorian one of ISO 8601, in UTC, with no leap seconds.
+-- Civil fields of a second in UTC, by jiff's calendar, which is the proleptic Gregorian one of
+-- ISO 8601, and with no leap seconds.
 use Rattle.std.specs.Prelude.{◌≡◌, ℕ, zero, suc, ◌+◌, ◌-◌, ◌*◌, ◌/◌, ◌%◌, ◌<◌, true, false, nat_lt, ℤ, pos, ◌+ℤ◌, ◌*ℤ◌}
 use Rattle.std.specs.Int.{IsInRange}
 use Rattle.jiff_core.specs.Calendar.{IsCivilDate, days_from_civil, days_in_month, days_in_year}
@@ -13,7 +14,8 @@ IsTimeOfDay hour minute second = (hour < 24) × (minute < 60) × (second < 60)
 abbrev pub seconds_of_day : ℕ → ℕ → ℕ → ℕ
 seconds_of_day hour minute second = (hour * 60 + minute) * 60 + second
 
--- the fields are those of second n (POSIX, "Seconds Since the Epoch"; the date is the one that has this day number)
+-- the fields are those of second n: the date is the one with the day number of n, and the rest is
+-- the time of that day (POSIX, "Seconds Since the Epoch"; weekdays from Monday, own)
 pub record IsCivilOf (n : ℕ) (c : Civil) : Type 0 where
   pub date : IsCivilDate (pos c.year) c.month c.day
   pub day_number : days_from_civil (pos c.year) c.month c.day ≡ pos (n / SECONDS_A_DAY)
@@ -21,7 +23,8 @@ pub record IsCivilOf (n : ℕ) (c : Civil) : Type 0 where
   pub time : IsTimeOfDay c.hour c.minute c.second
   pub time_of_day : seconds_of_day c.hour c.minute c.second ≡ n % SECONDS_A_DAY
 
--- the year, and the day in it counted from 0, of the day that comes `day` days after 1 January of `year`: a year at a time, through at most `most` years
+-- the year, and the day in it counted from 0, of the day that comes `day` days after 1 January of
+-- `year`: a year at a time, through at most `most` years
 unfoldable pub year_and_day : ℕ → ℕ → ℕ → ℕ × ℕ
 year_and_day zero year day = (year, day)
 year_and_day (suc most) year day =
@@ -30,7 +33,8 @@ year_and_day (suc most) year day =
       | false ↦ year_and_day most (suc year) (day - days_in_year (pos year))
     ]
 
--- the month, and the day in it counted from 1, of the day that comes `day` days after the first of `month`: a month at a time, through at most `most` months
+-- the month, and the day in it counted from 1, of the day that comes `day` days after the first of
+-- `month`: a month at a time, through at most `most` months
 unfoldable pub month_and_day : ℕ → ℤ → ℕ → ℕ → ℕ × ℕ
 month_and_day zero year month day = (month, day + 1)
 month_and_day (suc most) year month day =
@@ -39,7 +43,8 @@ month_and_day (suc most) year month day =
       | false ↦ month_and_day most year (suc month) (day - days_in_month year month)
     ]
 
--- the fields of a second, computed: whole years from 1970, then whole months, then the days left
+-- the fields of a second, computed: whole years from 1970, then whole months, then the days left.
+-- `IsCivilOf` says what they are, and that this computes them is proved
 unfoldable pub civil_fields : ℕ → Civil
 civil_fields n =
     let days = n / SECONDS_A_DAY in

@@ -36,6 +36,7 @@ impl Fields {
         ensures some { IfSome result (λ f. Says text.now (written_fields f)) }
         ensures none { IfNone result ((w : Written) → ¬ (Says text.now w)) }
     {
+        // Two bytes each of century, year, month and day, then of hour, minute and second.
         let [c1, c2, y1, y2, b'-', m1, m2, b'-', d1, d2, time @ ..] = text else {
             return None;
         };
