@@ -1,4 +1,6 @@
 pub mod NextLemmas
 pub mod OutputLemmas
 pub mod RefusalLemmas
+pub mod ScriptLemmas
+mod ScriptRows
 mod WordsRows

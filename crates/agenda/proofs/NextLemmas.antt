@@ -1,59 +1,51 @@
 -- Starts that are listed one after another.
-use Rattle.std.proofs.Common.{◌≡◌, ℕ, ◌<◌, true, false, List, [], ◌∷◌, ◌++◌, length, nat_lt, codes, refl, ap, sym, ◌∙◌, subst, arith, append_assoc, append-nil}
+use Rattle.std.proofs.Common.{◌≡◌, ℕ, ◌+◌, ◌<◌, true, false, List, [], ◌∷◌, ◌++◌, length, take, nat_lt, codes, refl, ap, sym, ◌∙◌, subst, arith, append_assoc, append-nil, take_all}
 use Rattle.std.proofs.Common.{Result, Ok, Err, IsErrAnd, IfErr}
-use Rattle.agenda.specs.declared.faults.RunFault.{RunFault}
 use Rattle.std.specs.List.{flat_map}
 use Rattle.std.proofs.lemmas.Bool.{lt-ltb, le-ltb}
+use Rattle.std.proofs.Math.Seq.{take-append_seam}
+use Rattle.plan_sets.specs.declared.civil.TheConstants.{END_SECOND}
 use Rattle.plan_rules.specs.declared.rule.Rule.{Rule}
-use Rattle.agenda.specs.Next.{is_start, AreLaterStarts, moment_line, starts_text, ListsStarts}
+use Rattle.plan_next.specs.Starts.{NoneIn, IsLeastIn, is_start, starts}
+use Rattle.plan_next.proofs.PassingLemmas.{passing-least, passing-none}
+use Rattle.agenda.specs.declared.faults.RunFault.{RunFault}
+use Rattle.agenda.specs.Next.{moment_line, starts_text, next_text}
 
--- the last of some moments, or the one before them
-abbrev pub latest_of : ℕ → List ℕ → ℕ
-latest_of before [] = before
-latest_of before (n ∷ later) = latest_of n later
-
--- what was listed so far
+-- some starts were listed, and those after the latest are left
 pub record IsListed (rule : Rule) (after latest : ℕ) (text moments : List ℕ) : Type 0 where
-  pub later : AreLaterStarts rule after moments
-  pub latest_is : latest_of after moments ≡ latest
+  pub cut : starts rule (after + 1) END_SECOND ≡ moments ++ starts rule (latest + 1) END_SECOND
   pub lines : text ≡ flat_map moment_line moments
 
-later_push : (rule : Rule) (after : ℕ) (moments : List ℕ) (n : ℕ) → AreLaterStarts rule after moments → latest_of after moments < n → is_start rule n ≡ true → AreLaterStarts rule after (moments ++ n ∷ [])
-later_push rule after [] n starts below is = (below, is, tt)
-later_push rule after (m ∷ moments) n starts below is = (starts.0, starts.1, later_push rule m moments n starts.2 below is)
-
-latest_push : (after : ℕ) (moments : List ℕ) (n : ℕ) → latest_of after (moments ++ n ∷ []) ≡ n
-latest_push after [] n = refl
-latest_push after (m ∷ moments) n = latest_push m moments n
+pub listed_none : (rule : Rule) (after : ℕ) (text : List ℕ) → text ≡ [] → IsListed rule after after text []
+listed_none rule after text is = record { cut = refl; lines = is }
 
 lines_push : (moments : List ℕ) (n : ℕ) → flat_map moment_line (moments ++ n ∷ []) ≡ flat_map moment_line moments ++ moment_line n
 lines_push [] n = append-nil (moment_line n)
 lines_push (m ∷ moments) n = ap (λ l. moment_line m ++ l) (lines_push moments n) ∙ sym (append_assoc (moment_line m) (flat_map moment_line moments) (moment_line n))
 
 -- one more start
-pub listed_push : (rule : Rule) (after latest n : ℕ) (text new moments : List ℕ) → IsListed rule after latest text moments → latest < n → is_start rule n ≡ true → new ≡ text ++ moment_line n → IsListed rule after n new (moments ++ n ∷ [])
-listed_push rule after latest n text new moments so_far below is line =
-    let before : latest_of after moments ≡ latest = so_far.latest_is in
-    let later : latest_of after moments < n = omega arith in
-    record {
-      later = later_push rule after moments n so_far.later later is;
-      latest_is = latest_push after moments n;
-      lines = line ∙ ap (λ l. l ++ moment_line n) so_far.lines ∙ sym (lines_push moments n);
-    }
+pub listed_push : (rule : Rule) (after latest n : ℕ) (text new moments : List ℕ) → IsListed rule after latest text moments → IsLeastIn (is_start rule) (latest + 1) END_SECOND n → new ≡ text ++ moment_line n → IsListed rule after n new (moments ++ n ∷ [])
+listed_push rule after latest n text new moments so_far least line = record {
+  cut = so_far.cut ∙ ap (λ l. moments ++ l) (passing-least (is_start rule) (latest + 1) END_SECOND n least) ∙ sym (append_assoc moments (n ∷ []) (starts rule (n + 1) END_SECOND));
+  lines = line ∙ ap (λ l. l ++ moment_line n) so_far.lines ∙ sym (lines_push moments n);
+}
 
 -- as many as were asked for
-pub lists_all : (rule : Rule) (after latest count : ℕ) (text moments : List ℕ) → IsListed rule after latest text moments → length moments ≡ count → ListsStarts rule after count text
+pub lists_all : (rule : Rule) (after latest count : ℕ) (text moments : List ℕ) → IsListed rule after latest text moments → length moments ≡ count → text ≡ next_text rule after count
 unfolding starts_text
 lists_all rule after latest count text moments so_far all =
     let full : nat_lt (length moments) count ≡ false = le-ltb _ _ (omega arith) in
-    (moments, so_far.later, omega arith, so_far.lines ∙ sym (rw full (append-nil (flat_map moment_line moments))))
+    let first : take count (starts rule (after + 1) END_SECOND) ≡ moments = ap (take count) so_far.cut ∙ (rw (← all) (take-append_seam moments (starts rule (latest + 1) END_SECOND))) in
+    so_far.lines ∙ sym (rw (first, full) (append-nil (flat_map moment_line moments)))
 
 -- fewer, with the line `none`
-pub lists_fewer : (rule : Rule) (after latest count : ℕ) (text new moments : List ℕ) → IsListed rule after latest text moments → length moments < count → new ≡ text ++ codes "none\n" → ListsStarts rule after count new
+pub lists_fewer : (rule : Rule) (after latest count : ℕ) (text new moments : List ℕ) → IsListed rule after latest text moments → length moments < count → NoneIn (is_start rule) (latest + 1) END_SECOND → new ≡ text ++ codes "none\n" → new ≡ next_text rule after count
 unfolding starts_text
-lists_fewer rule after latest count text new moments so_far few line =
+lists_fewer rule after latest count text new moments so_far few none line =
     let short : nat_lt (length moments) count ≡ true = lt-ltb _ _ few in
-    (moments, so_far.later, omega arith, line ∙ ap (λ l. l ++ codes "none\n") so_far.lines ∙ sym (rw short refl))
+    let all : starts rule (after + 1) END_SECOND ≡ moments = so_far.cut ∙ ap (λ l. moments ++ l) (passing-none (is_start rule) (latest + 1) END_SECOND none) ∙ append-nil moments in
+    let first : take count (starts rule (after + 1) END_SECOND) ≡ moments = ap (take count) all ∙ take_all count moments (omega arith) in
+    line ∙ ap (λ l. l ++ codes "none\n") so_far.lines ∙ sym (rw (first, short) refl)
 
 -- a fault that is known decides what is said of any
 pub refused_as : (result : Result (Unit {0}) RunFault) (fault : RunFault) (P : RunFault → Type 0) → IsErrAnd result (λ e. e ≡ fault) → P fault → IfErr result P

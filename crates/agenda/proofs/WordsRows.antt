@@ -1,9 +1,9 @@
 -- Worked rows of the command line, by the definition of what its words ask for.
-use Rattle.std.proofs.Common.{◌≡◌, List, ℕ, [], ◌∷◌, false, None, Ok, Err, codes, refl}
+use Rattle.std.proofs.Common.{◌≡◌, List, ℕ, [], ◌∷◌, false, None, Some, Ok, Err, codes, refl}
 use Rattle.std.specs.Str.{bytes_eq}
 use Rattle.clap.specs.Lexer.{long_of, short_of}
 use Rattle.clap.proofs.OnLiterals.{clap_on_literals}
-use Rattle.agenda.specs.declared.words.Ask.TheVariants.{Next}
+use Rattle.agenda.specs.declared.words.Ask.TheVariants.{Next, Steps}
 use Rattle.agenda.specs.Words.{asked_by, is_usage, wants_help}
 
 abbrev moment : List ℕ
@@ -16,22 +16,22 @@ abbrev next_with : List (List ℕ) → List (List ℕ)
 next_with words = codes "agenda" ∷ codes "next" ∷ codes "--after" ∷ moment ∷ words
 
 -- both values and the number
-four_starts : asked_by (next_with (codes "--count" ∷ codes "4" ∷ codes "--cron" ∷ rule ∷ [])) ≡ Ok (Next moment 4 rule)
+four_starts : asked_by (next_with (codes "--count" ∷ codes "4" ∷ codes "--cron" ∷ rule ∷ [])) ≡ Ok (Next moment 4 (Some rule) None)
 unfolding asked_by clap_on_literals
 four_starts = refl
 
 -- without `--count` one start is wanted
-one_start_by_default : asked_by (next_with (codes "--cron" ∷ rule ∷ [])) ≡ Ok (Next moment 1 rule)
+one_start_by_default : asked_by (next_with (codes "--cron" ∷ rule ∷ [])) ≡ Ok (Next moment 1 (Some rule) None)
 unfolding asked_by clap_on_literals
 one_start_by_default = refl
 
 -- none may be wanted
-no_start : asked_by (next_with (codes "--count" ∷ codes "0" ∷ codes "--cron" ∷ rule ∷ [])) ≡ Ok (Next moment 0 rule)
+no_start : asked_by (next_with (codes "--count" ∷ codes "0" ∷ codes "--cron" ∷ rule ∷ [])) ≡ Ok (Next moment 0 (Some rule) None)
 unfolding asked_by clap_on_literals
 no_start = refl
 
 -- the most that 32 bits hold
-most_starts : asked_by (next_with (codes "--count=4294967295" ∷ codes "--cron" ∷ rule ∷ [])) ≡ Ok (Next moment 4294967295 rule)
+most_starts : asked_by (next_with (codes "--count=4294967295" ∷ codes "--cron" ∷ rule ∷ [])) ≡ Ok (Next moment 4294967295 (Some rule) None)
 unfolding asked_by clap_on_literals
 most_starts = refl
 
@@ -73,6 +73,36 @@ record IsPlainWord (word : List ℕ) : Type 0 where
 
 -- any two plain words are taken
 any_moment_and_rule : (name after cron : List ℕ) → IsPlainWord after → IsPlainWord cron
-    → asked_by (name ∷ codes "next" ∷ codes "--after" ∷ after ∷ codes "--cron" ∷ cron ∷ []) ≡ Ok (Next after 1 cron)
+    → asked_by (name ∷ codes "next" ∷ codes "--after" ∷ after ∷ codes "--cron" ∷ cron ∷ []) ≡ Ok (Next after 1 (Some cron) None)
 unfolding asked_by clap_on_literals
 any_moment_and_rule name after cron a c = rw (a.trailing, a.long, a.short, c.trailing, c.long, c.short) refl
+
+-- a calendar event
+an_event_is_given : asked_by (next_with (codes "--calendar" ∷ codes "daily" ∷ [])) ≡ Ok (Next moment 1 None (Some (codes "daily")))
+unfolding asked_by clap_on_literals
+an_event_is_given = refl
+
+-- both
+two_rules_are_given : asked_by (next_with (codes "--calendar" ∷ codes "daily" ∷ codes "--cron" ∷ rule ∷ [])) ≡ Err is_usage
+unfolding asked_by clap_on_literals
+two_rules_are_given = refl
+
+-- a script's path
+a_script_is_given : asked_by (codes "agenda" ∷ codes "steps" ∷ codes "a/b c" ∷ []) ≡ Ok (Steps (codes "a/b c"))
+unfolding asked_by clap_on_literals
+a_script_is_given = refl
+
+-- no path
+no_script_is_given : asked_by (codes "agenda" ∷ codes "steps" ∷ []) ≡ Err is_usage
+unfolding asked_by clap_on_literals
+no_script_is_given = refl
+
+-- two paths
+two_scripts_are_given : asked_by (codes "agenda" ∷ codes "steps" ∷ codes "a" ∷ codes "b" ∷ []) ≡ Err is_usage
+unfolding asked_by clap_on_literals
+two_scripts_are_given = refl
+
+-- another subcommand
+plan_is_no_subcommand : asked_by (codes "agenda" ∷ codes "plan" ∷ []) ≡ Err is_usage
+unfolding asked_by clap_on_literals
+plan_is_no_subcommand = refl

@@ -11,7 +11,7 @@ use Rattle.clap.specs.declared.builder.value_parser.ValueParser.TheVariants as p
 use Rattle.clap.specs.declared.error.kind.ErrorKind.{ErrorKind}
 use Rattle.clap.specs.declared.error.kind.ErrorKind.TheVariants.{DisplayHelp, OutOfMemory}
 use Rattle.agenda.specs.declared.words.Ask.{Ask}
-use Rattle.agenda.specs.declared.words.Ask.TheVariants.{Next}
+use Rattle.agenda.specs.declared.words.Ask.TheVariants.{Next, Steps}
 use Rattle.agenda.specs.declared.words.UsageFault.{UsageFault}
 use Rattle.agenda.specs.declared.words.UsageFault.TheVariants.{NoMemory, Usage, Help}
 
@@ -32,20 +32,33 @@ count_option = record (option_named (codes "count")) {
   defaults = codes "1" ∷ [];
 }
 
--- own: `--cron TEXT`
+-- own: `--cron TEXT`, which clap doesn't ask for: that a rule is there is tested after the parse
 abbrev pub cron_option : Rule
 cron_option = option_named (codes "cron")
 
--- own: `next --after T [--count N] --cron TEXT`
-abbrev pub next : App
-next = with_rule (with_rule (with_rule (new_app (codes "next")) after_option) count_option) cron_option
+-- own: `--calendar TEXT`, likewise
+abbrev pub calendar_option : Rule
+calendar_option = option_named (codes "calendar")
 
--- own: `agenda next ..`, with no subcommand `help`
+-- own: `next --after T [--count N] (--cron TEXT or --calendar TEXT)`
+abbrev pub next : App
+next =
+    with_rule (with_rule (with_rule (with_rule (new_app (codes "next")) after_option) count_option) cron_option) calendar_option
+
+-- own: `FILE`, which has to be there
+abbrev pub file_argument : Rule
+file_argument = record (new_rule (codes "file")) { value_names = 1; required = true }
+
+-- own: `steps FILE`
+abbrev pub steps : App
+steps = with_rule (new_app (codes "steps")) file_argument
+
+-- own: `agenda next ..` or `agenda steps ..`, with no subcommand `help`, so that each fault of clap has one answer
 abbrev pub agenda : App
-agenda = with_subcommand (on_top (λ s. record s {
+agenda = with_subcommand (with_subcommand (on_top (λ s. record s {
   subcommand_required = true;
   disable_help_subcommand = true;
-}) (new_app (codes "agenda"))) next.top
+}) (new_app (codes "agenda"))) next.top) steps.top
 
 -- ---- what they ask for
 
@@ -73,19 +86,32 @@ number_of text = if accepts false (parser.Unsigned 0 4294967295) text
 abbrev pub number_in : Option (List ℕ) → Option ℕ
 number_in text = option_and_then number_of text
 
+-- own: exactly one of a cron rule and a calendar event has to be there
+abbrev pub next_of_one_rule : List ℕ → ℕ → Option (List ℕ) → Option (List ℕ) → Result Ask Refusal
+next_of_one_rule after count (Some cron) None = Ok (Next after count (Some cron) None)
+next_of_one_rule after count None (Some calendar) = Ok (Next after count None (Some calendar))
+next_of_one_rule after count (Some cron) (Some calendar) = Err is_usage
+next_of_one_rule after count None None = Err is_usage
+
 -- own: the values that `next` was given
 abbrev pub asked_by_next : List Row → Result Ask Refusal
 asked_by_next rows = do
   after ← wanted (first_of (codes "after") rows)
   count ← wanted (number_in (one_of (codes "count") rows))
-  cron ← wanted (first_of (codes "cron") rows)
-  Ok (Next after count cron)
+  next_of_one_rule after count (first_of (codes "cron") rows) (first_of (codes "calendar") rows)
+
+-- own: the file that `steps` was given
+abbrev pub asked_by_steps : List Row → Result Ask Refusal
+asked_by_steps rows = do
+  file ← wanted (first_of (codes "file") rows)
+  Ok (Steps file)
 
 -- own: by the name of the subcommand that was met, and what it was given
 abbrev pub asked_by_subcommand : Option (List ℕ × List Row) → Result Ask Refusal
 asked_by_subcommand None = Err is_usage
 asked_by_subcommand (Some met) =
-    if bytes_eq met.0 (codes "next") then asked_by_next met.1 else Err is_usage
+    if bytes_eq met.0 (codes "next") then asked_by_next met.1
+    else (if bytes_eq met.0 (codes "steps") then asked_by_steps met.1 else Err is_usage)
 
 -- own: a call for help is answered, and each other fault is usage
 abbrev pub refusal_of : ErrorKind → Refusal

@@ -4,7 +4,8 @@ ghost use Rattle.std.specs.Prelude.{◌≡◌};
 ghost use Rattle.agenda.specs.Faults.{status_of, run_status};
 
 use crate::output::WriteFault;
-use plan_rules::{RuleCause, RuleFault};
+use crate::script::{ScriptCause, ScriptFault};
+use plan_rules::{RuleCause, RuleFault, Text};
 use plan_sets::MomentFault;
 use std::alloc::{AllocError, AllocFailed};
 use std::io::Write;
@@ -22,6 +23,9 @@ pub enum RunFault {
     /// 3: the text of `next` is no rule.
     #[error("{0}")]
     Rule(RuleFault),
+    /// 10: the script was refused.
+    #[error("{0}")]
+    Script(ScriptFault),
     /// 11: the writer failed.
     #[error("Device")]
     Device,
@@ -75,23 +79,40 @@ impl From<RuleFault> for RunFault {
     }
 }
 
+// A want of memory inside a fault of a script is a want of memory.
+impl From<ScriptFault> for RunFault {
+    ghost use Rattle.std.specs.Prelude.{◌≡◌};
+    ghost use Rattle.agenda.specs.Faults.{fault_of_script};
+
+    ghost from_gives = { λ fault answer. answer ≡ fault_of_script fault };
+
+    fn from(fault: ScriptFault) -> RunFault {
+        match fault.cause {
+            ScriptCause::NoMemory => RunFault::NoMemory,
+            _ => RunFault::Script(fault),
+        }
+    }
+}
+
 /// Why the program ends with a status other than 0, but for usage.
-#[derive(Clone, Copy, Debug, PartialEq, Eq)]
+#[derive(Debug, Drop)]
 pub enum Failure {
     /// The text of `--after` is no moment.
     After(MomentFault),
     /// The command was not done.
     Run(RunFault),
+    /// The file with this path can't be opened or read.
+    File(Text),
 }
 
 // The status where input, a size, a count or a limit was refused.
 const REFUSED: u8 = 1;
 
-// The status where memory was refused, or a device failed.
+// The status where memory was refused, or a device or a file failed.
 const FAILED: u8 = 3;
 
 /// Writes the line of a failure, and answers the status with which the program ends: 1 where input or a count was refused,
-/// 3 where memory was refused or a device failed. A fault of this writer is passed over. Takes no memory.
+/// 3 where memory was refused, or a device or a file failed. A fault of this writer is passed over. Takes no memory.
 pub fn fault_line<W: Write>(failure: &Failure, out: &mut W) -> u8
     ensures { result ≡ status_of failure.now }
 {
@@ -101,6 +122,10 @@ pub fn fault_line<W: Write>(failure: &Failure, out: &mut W) -> u8
             REFUSED
         }
         Failure::Run(fault) => run_line(fault, out),
+        Failure::File(path) => {
+            let _ = writeln!(out, "agenda: {}: Device", path.as_str());
+            FAILED
+        }
     }
 }
 
@@ -116,7 +141,11 @@ fn run_line<W: Write>(fault: &RunFault, out: &mut W) -> u8
             let _ = writeln!(out, "agenda: rule: part {part}: {cause}");
             REFUSED
         }
-        RunFault::Rule(_) | RunFault::NoMemory => {
+        RunFault::Script(ScriptFault { line, cause }) if *cause != ScriptCause::NoMemory => {
+            let _ = writeln!(out, "agenda: script: line {line}: {cause}");
+            REFUSED
+        }
+        RunFault::Rule(_) | RunFault::Script(_) | RunFault::NoMemory => {
             let _ = writeln!(out, "agenda: NoMemory");
             FAILED
         }

@@ -3,9 +3,9 @@ ghost use Rattle.std.specs.Prelude.{◌≡◌, [], ◌∷◌, IfOk, false, map, 
 ghost use Rattle.clap.specs.Words.{app_of, first_of, found_of, kind_of, one_of, rows_of, rule_of};
 ghost use Rattle.clap.specs.Words.{items_of, subcommand_rows_of};
 ghost use Rattle.clap.specs.declared.builder.command.Command.TheViews.{out-Command};
-ghost use Rattle.agenda.specs.Words.{Gives, IsAnswerTo, after_option, agenda, asked_by, asked_by_next};
-ghost use Rattle.agenda.specs.Words.{count_option, cron_option};
-ghost use Rattle.agenda.specs.Words.{asked_by_subcommand, next, number_in, option_named, wanted};
+ghost use Rattle.agenda.specs.Words.{Gives, IsAnswerTo, after_option, agenda, asked_by, asked_by_next, asked_by_steps};
+ghost use Rattle.agenda.specs.Words.{calendar_option, count_option, cron_option};
+ghost use Rattle.agenda.specs.Words.{asked_by_subcommand, file_argument, next, number_in, option_named, steps, wanted};
 
 use clap::error::ErrorKind;
 use clap::{Arg, ArgMatches, Command, value_parser};
@@ -13,7 +13,10 @@ use plan_rules::Text;
 use std::alloc::{AllocError, Global};
 use thiserror::Error;
 
-const NEXT_USAGE: &str = "agenda next --after <T> [--count <N>] --cron <TEXT>";
+const NEXT_USAGE: &str =
+    "agenda next --after <T> [--count <N>] (--cron <TEXT> | --calendar <TEXT>)";
+
+const ONE_RULE: &str = "exactly one of --cron and --calendar\n";
 
 const NO_SUBCOMMAND: &str =
     "error: a subcommand is missing\n\nFor more information, try '--help'.\n";
@@ -29,8 +32,15 @@ pub enum Ask {
         after: Text,
         /// How many starts.
         count: u32,
-        /// The text of a cron rule.
-        cron: Text,
+        /// The text of a cron rule, where the rule is one.
+        cron: Option<Text>,
+        /// The text of a calendar event, where the rule is one. Exactly one of the two is there.
+        calendar: Option<Text>,
+    },
+    /// The replies to the steps of a script.
+    Steps {
+        /// The path of the script.
+        file: Text,
     },
 }
 
@@ -79,7 +89,8 @@ fn agenda_command<'a>(alloc: Global) -> Result<Command<'a>, AllocError>
         .about("When jobs start, by the rules of cron and of systemd timers")
         .subcommand_required(true)
         .disable_help_subcommand(true)
-        .subcommand(next_command(alloc)?)
+        .subcommand(next_command(alloc)?)?
+        .subcommand(steps_command(alloc)?)
 }
 
 fn next_command<'a>(alloc: Global) -> Result<Command<'a>, AllocError>
@@ -91,7 +102,27 @@ fn next_command<'a>(alloc: Global) -> Result<Command<'a>, AllocError>
         .override_usage(NEXT_USAGE)
         .arg(after_option(alloc))?
         .arg(count_option(alloc))?
-        .arg(cron_option(alloc))
+        .arg(cron_option(alloc))?
+        .arg(calendar_option(alloc))
+}
+
+fn steps_command<'a>(alloc: Global) -> Result<Command<'a>, AllocError>
+    ensures app { IfOk result (λ command. app_of command ≡ steps) }
+    ensures local { IfOk result (λ command. (out-Command command).has_globals ≡ false) }
+{
+    Command::new(alloc, "steps")
+        .about("Prints what a mailbox replies to the steps of a script")
+        .arg(file_argument(alloc))
+}
+
+fn file_argument<'a>(alloc: Global) -> Arg<'a>
+    ensures rule { rule_of result ≡ file_argument }
+    ensures local { result.global ≡ false }
+{
+    Arg::new(alloc, "file")
+        .value_name("FILE")
+        .required(true)
+        .help("The script: a line that makes the mailbox, and a line for each step")
 }
 
 fn after_option<'a>(alloc: Global) -> Arg<'a>
@@ -120,6 +151,15 @@ fn cron_option<'a>(alloc: Global) -> Arg<'a>
     option_named(alloc, "cron", "TEXT").help("The rule: five fields, as in crontab(5)")
 }
 
+fn calendar_option<'a>(alloc: Global) -> Arg<'a>
+    ensures rule { rule_of result ≡ calendar_option }
+    ensures local { result.global ≡ false }
+{
+    option_named(alloc, "calendar", "TEXT").help(
+        "The rule: a calendar event, as in systemd.time(7)",
+    )
+}
+
 /// `--name VALUE`.
 fn option_named<'a>(alloc: Global, name: &'a str, value: &'a str) -> Arg<'a>
     ensures rule { rule_of result ≡ option_named name.entry.now }
@@ -133,10 +173,20 @@ fn option_named<'a>(alloc: Global, name: &'a str, value: &'a str) -> Arg<'a>
 fn asked_by_subcommand(alloc: Global, matches: &ArgMatches<'_>) -> Result<Ask, UsageFault>
     ensures { Gives result (asked_by_subcommand (subcommand_rows_of matches.now)) }
 {
-    match matches.subcommand_matches("next") {
-        Some(given) => asked_by_next(alloc, given),
+    if let Some(given) = matches.subcommand_matches("next") {
+        return asked_by_next(alloc, given);
+    }
+    match matches.subcommand_matches("steps") {
+        Some(given) => asked_by_steps(alloc, given),
         None => Err(UsageFault::Usage(text(alloc, NO_SUBCOMMAND)?)),
     }
+}
+
+fn asked_by_steps(alloc: Global, given: &ArgMatches<'_>) -> Result<Ask, UsageFault>
+    ensures { Gives result (asked_by_steps (rows_of (found_of given.now))) }
+{
+    let file = text_of(alloc, given, "file")?;
+    Ok(Ask::Steps { file })
 }
 
 fn asked_by_next(alloc: Global, given: &ArgMatches<'_>) -> Result<Ask, UsageFault>
@@ -144,11 +194,40 @@ fn asked_by_next(alloc: Global, given: &ArgMatches<'_>) -> Result<Ask, UsageFaul
 {
     let after = text_of(alloc, given, "after")?;
     let count = number_of(alloc, given, "count")?;
-    let cron = text_of(alloc, given, "cron")?;
-    Ok(Ask::Next { after, count, cron })
+    let cron = text_if_given(alloc, given, "cron")?;
+    let calendar = text_if_given(alloc, given, "calendar")?;
+    match (cron, calendar) {
+        (Some(cron), None) => Ok(Ask::Next {
+            after,
+            count,
+            cron: Some(cron),
+            calendar: None,
+        }),
+        (None, Some(calendar)) => Ok(Ask::Next {
+            after,
+            count,
+            cron: None,
+            calendar: Some(calendar),
+        }),
+        _ => Err(UsageFault::Usage(text(alloc, ONE_RULE)?)),
+    }
 }
 
-/// The value of an option that has to be there.
+/// The value of an option that may be missing.
+fn text_if_given(
+    alloc: Global,
+    given: &ArgMatches<'_>,
+    option: &str,
+) -> Result<Option<Text>, AllocError>
+    ensures { IfOk result (λ value. first_of option.now (rows_of (found_of given.now)) ≡ value) }
+{
+    match given.get_str(option) {
+        Some(value) => Ok(Some(text(alloc, value)?)),
+        None => Ok(None),
+    }
+}
+
+/// The value of an option or an argument that has to be there.
 fn text_of(alloc: Global, given: &ArgMatches<'_>, option: &str) -> Result<Text, UsageFault>
     ensures { Gives result (wanted (first_of option.now (rows_of (found_of given.now)))) }
 {

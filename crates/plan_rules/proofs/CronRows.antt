@@ -7,7 +7,7 @@ use Rattle.plan_sets.specs.Items.{set_reading, held_values}
 use Rattle.plan_sets.proofs.ValuesLemmas.{has_value-values_where}
 use Rattle.plan_rules.specs.declared.fault.RuleCause.TheVariants.{WrongParts, BadNumber, BadName, Values, UnknownWord}
 use Rattle.plan_rules.specs.declared.rule.Rule.{Rule}
-use Rattle.plan_rules.specs.declared.rule.Rule.TheVariants.{Cron}
+use Rattle.plan_rules.specs.declared.rule.Rule.TheVariants.{Cron, Never}
 use Rattle.plan_rules.specs.Text.{words, cut_at, number_of}
 use Rattle.plan_rules.specs.Steps.{Reading, refused}
 use Rattle.plan_rules.specs.Cron.{cron_reading, rule_reading, five_fields, field_reading, items_reading, item_reading, side_reading, value_reading, step_reading, week_days_of}
@@ -68,7 +68,7 @@ refusals : map cron_reading
     ∷ codes "0 5/ * * *"
     ∷ codes "* * * * 6-0"
     ∷ codes "*/0 * * * *"
-    ∷ codes " @daily"
+    ∷ codes " @dayly"
     ∷ codes "0 0 * x"
     ∷ codes " "
     ∷ [])
@@ -113,7 +113,7 @@ unfolding words cut_at number_of set_reading rule_reading five_fields field_read
 first_faults = refl
 
 -- civil fields of a minute of 2024
-at_minute : ℕ → ℕ → ℕ → ℕ → ℕ → Civil
+unfoldable pub at_minute : ℕ → ℕ → ℕ → ℕ → ℕ → Civil
 at_minute month day weekday hour minute = record {
   year = 2024;
   month = month;
@@ -152,3 +152,44 @@ step_past_the_end = simp has_value-values_where
 every_25_minutes : map (λ (minute : ℕ). match_reading (cron_reading (codes "*/25 * * * *")) (at_minute 1 1 0 0 minute)) (0 ∷ 24 ∷ 25 ∷ 50 ∷ 59 ∷ []) ≡ true ∷ false ∷ true ∷ true ∷ false ∷ []
 unfolding words cut_at number_of set_reading rule_reading five_fields field_reading items_reading item_reading side_reading value_reading step_reading week_days_of at_minute
 every_25_minutes = simp has_value-values_where
+
+-- names, in any case of their letters, with a step of hours: Friday the 1st of March at 9 and 17, not at 10, not on Saturday
+-- the 2nd, and not on Thursday the 29th of February
+named_months_and_days : map (λ (at : ℕ × ℕ × ℕ × ℕ). match_reading (cron_reading (codes "0 9-17/4 * jan,Mar MON-fri")) (at_minute at.0 at.1 at.2 at.3 0)) ((3, 1, 4, 9) ∷ (3, 1, 4, 17) ∷ (3, 1, 4, 10) ∷ (3, 2, 5, 9) ∷ (2, 29, 3, 9) ∷ []) ≡ true ∷ true ∷ false ∷ false ∷ false ∷ []
+unfolding words cut_at number_of set_reading rule_reading five_fields field_reading items_reading item_reading side_reading value_reading step_reading week_days_of at_minute
+named_months_and_days = simp has_value-values_where
+
+-- names stand in fields 4 and 5 alone, never as a step, and a range of names may run backwards
+refused_names : map cron_reading
+    (codes "jan * * * *"
+    ∷ codes "* * mon * *"
+    ∷ codes "* * * mon *"
+    ∷ codes "* * * */jan *"
+    ∷ codes "0 0 * * sat-sun"
+    ∷ codes "* * * * sunday"
+    ∷ codes "@Daily"
+    ∷ codes "@daily x"
+    ∷ [])
+    ≡ refused 1 BadName
+    ∷ refused 3 BadName
+    ∷ refused 4 BadName
+    ∷ refused 4 BadNumber
+    ∷ refused 5 (Values Backwards)
+    ∷ refused 5 BadName
+    ∷ refused 0 UnknownWord
+    ∷ refused 0 UnknownWord
+    ∷ []
+unfolding words cut_at number_of set_reading rule_reading five_fields field_reading items_reading item_reading side_reading value_reading step_reading
+refused_names = refl
+
+-- each word of the table is its five fields, and `@reboot` never starts a job
+at_words_are_fields : map cron_reading
+    (codes "@yearly" ∷ codes "@annually" ∷ codes "@monthly" ∷ codes " @weekly" ∷ codes "@daily " ∷ codes "@midnight" ∷ codes "@hourly" ∷ [])
+    ≡ map cron_reading
+    (codes "0 0 1 1 *" ∷ codes "0 0 1 1 *" ∷ codes "0 0 1 * *" ∷ codes "0 0 * * 0" ∷ codes "0 0 * * *" ∷ codes "0 0 * * *" ∷ codes "0 * * * *" ∷ [])
+unfolding words rule_reading
+at_words_are_fields = refl
+
+reboot_never_starts : cron_reading (codes "@reboot") ≡ Ok Never
+unfolding words rule_reading
+reboot_never_starts = refl

@@ -6,55 +6,79 @@ use Rattle.std.specs.Char.{is_ascii_alphabetic}
 use Rattle.plan_sets.specs.declared.item.SetFault.{SetFault}
 use Rattle.plan_sets.specs.Values.{Values as SetOfValues}
 use Rattle.plan_rules.specs.declared.fault.RuleFault.{RuleFault}
-use Rattle.plan_rules.specs.declared.fault.RuleCause.{RuleCause}
-use Rattle.plan_rules.specs.declared.fault.RuleCause.TheVariants.{NoMemory, BadNumber, BadName}
+use Rattle.plan_rules.specs.declared.fault.RuleCause.TheVariants.{NoMemory, BadName}
 use Rattle.plan_rules.specs.declared.field.Field.{Field}
 use Rattle.plan_rules.specs.declared.field.Field.TheVariants.{Minute, Hour, MonthDay, Month, WeekDay}
 use Rattle.plan_rules.specs.declared.field.Side.{Side}
 use Rattle.plan_rules.specs.declared.field.Side.TheVariants.{Star, Value, Between}
 use Rattle.plan_rules.specs.Text.{words, begins_with, cut_at, number_of, pieces}
 use Rattle.plan_rules.specs.Steps.{Reading, ◌>>=◌, each, Gives}
-use Rattle.plan_rules.specs.Cron.{part_of, named_value, value_reading, step_reading, span_reading, side_reading, item_of, cut_item_reading, item_reading, items_reading, in_field, field_reading, five_fields, at_reading, rule_reading, cron_reading}
+use Rattle.plan_rules.specs.Cron.{part_of, named_value, value_reading, step_reading, side_reading, item_of, item_reading, items_reading, field_reading, five_fields, at_reading, rule_reading, cron_reading, at_word, found_reading}
+use Rattle.plan_rules.specs.Elements.{number_reading, span_by, side_by, cut_item_by, set_in_part, values_by}
+use Rattle.plan_sets.specs.declared.item.Item.{Item}
 
 -- a reading whose fault, if it has one, is the text's
 abbrev pub IsTextFault : {A : Type 0} → Reading A → Type 0
 IsTextFault (Ok x) = Unit {0}
 IsTextFault (Err fault) = fault.cause ≢ NoMemory
 
-steps : {A B : Type 0} (r : Reading A) (next : A → Reading B) → IsTextFault r → ((x : A) → IsTextFault (next x)) → IsTextFault (r >>= next)
+pub steps : {A B : Type 0} (r : Reading A) (next : A → Reading B) → IsTextFault r → ((x : A) → IsTextFault (next x)) → IsTextFault (r >>= next)
 steps (Ok x) next first later = later x
 steps (Err fault) next first later = first
 
-elements : {A B : Type 0} (f : A → Reading B) → ((x : A) → IsTextFault (f x)) → (xs : List A) → IsTextFault (each f xs)
+pub elements : {A B : Type 0} (f : A → Reading B) → ((x : A) → IsTextFault (f x)) → (xs : List A) → IsTextFault (each f xs)
 elements f one [] = tt
 elements f one (x ∷ xs) = steps (f x) _ (one x) (λ y. steps (each f xs) _ (elements f one xs) (λ ys. tt))
 
-choice : {A : Type 0} (b : Bool) (x y : Reading A) → IsTextFault x → IsTextFault y → IsTextFault (cond b x y)
+pub choice : {A : Type 0} (b : Bool) (x y : Reading A) → IsTextFault x → IsTextFault y → IsTextFault (cond b x y)
 choice true x y first second = first
 choice false x y first second = second
 
-or_fault : {A : Type 0} (o : Option A) (part : ℕ) (cause : RuleCause) → cause ≢ NoMemory → IsTextFault (ok_or o (record { part = part; cause = cause }))
-or_fault None part cause other = other
-or_fault (Some x) part cause other = tt
+pub or_fault : {A : Type 0} (o : Option A) (fault : RuleFault) → fault.cause ≢ NoMemory → IsTextFault (ok_or o fault)
+or_fault None fault other = other
+or_fault (Some x) fault other = tt
+
+-- a number
+pub number : (part : ℕ) (text : List ℕ) → IsTextFault (number_reading part text)
+number part text = choice (eqb (length text) 0) _ _ (λ e. cc) (or_fault (number_of text) _ (λ e. cc))
+
+span : (value : List ℕ → Reading ℕ) → ((t : List ℕ) → IsTextFault (value t)) → (text : List ℕ) (cut : Option (List ℕ × List ℕ)) → IsTextFault (span_by value text cut)
+span value own text None = steps (value text) _ (own text) (λ a. tt)
+span value own text (Some ends) =
+    steps (value ends.0) _ (own ends.0) (λ a. steps (value ends.1) _ (own ends.1) (λ b. tt))
+
+-- what stands before a step, by how a value is read
+pub side_of : (value : List ℕ → Reading ℕ) → ((t : List ℕ) → IsTextFault (value t)) → (mark text : List ℕ) → IsTextFault (side_by value mark text)
+side_of value own mark text = choice (bytes_eq text (codes "*")) _ _ tt (span value own text (cut_at mark text))
+
+-- an element, by how its two sides are read and what they mean
+pub cut_item : (side : List ℕ → Reading Side) (step : List ℕ → Reading ℕ) (meaning : Side → Option ℕ → Reading Item) → ((t : List ℕ) → IsTextFault (side t)) → ((t : List ℕ) → IsTextFault (step t)) → ((s : Side) (n : Option ℕ) → IsTextFault (meaning s n)) → (text : List ℕ) (cut : Option (List ℕ × List ℕ)) → IsTextFault (cut_item_by side step meaning text cut)
+cut_item side step meaning own_side own_step own text None = steps (side text) _ (own_side text) (λ left. own left None)
+cut_item side step meaning own_side own_step own text (Some cut) =
+    steps (side cut.0) _ (own_side cut.0)
+    (λ left. steps (step cut.1) _ (own_step cut.1) (λ n. own left (Some n)))
+
+set_form : (part : ℕ) (r : Result SetOfValues SetFault) → IsTextFault (set_in_part part r)
+set_form part (Ok s) = tt
+set_form part (Err fault) = λ e. cc
+
+-- the values of a list
+pub list_values : (part : ℕ) (set : List Item → Result SetOfValues SetFault) (forms : Reading (List Item)) → IsTextFault forms → IsTextFault (values_by part set forms)
+list_values part set forms own = steps forms _ own (λ xs. set_form part (set xs))
 
 value : (field : Field) (text : List ℕ) → IsTextFault (value_reading field text)
 unfolding value_reading
 value field text =
     choice (eqb (length text) 0) _ _ (λ e. cc)
-    (choice (begins_with is_ascii_alphabetic text) _ _ (or_fault (named_value field text) (part_of field) BadName (λ e. cc)) (or_fault (number_of text) (part_of field) BadNumber (λ e. cc)))
+    (choice (begins_with is_ascii_alphabetic text) _ _ (or_fault (named_value field text) (record { part = part_of field; cause = BadName }) (λ e. cc)) (or_fault (number_of text) _ (λ e. cc)))
 
 step : (field : Field) (text : List ℕ) → IsTextFault (step_reading field text)
 unfolding step_reading
-step field text = choice (eqb (length text) 0) _ _ (λ e. cc) (or_fault (number_of text) (part_of field) BadNumber (λ e. cc))
-
-span : (field : Field) (text : List ℕ) (cut : Option (List ℕ × List ℕ)) → IsTextFault (span_reading field text cut)
-span field text None = steps (value_reading field text) _ (value field text) (λ a. tt)
-span field text (Some ends) =
-    steps (value_reading field ends.0) _ (value field ends.0) (λ a. steps (value_reading field ends.1) _ (value field ends.1) (λ b. tt))
+step field text = number (part_of field) text
 
 side : (field : Field) (text : List ℕ) → IsTextFault (side_reading field text)
 unfolding side_reading
-side field text = choice (bytes_eq text (codes "*")) _ _ tt (span field text (cut_at (codes "-") text))
+side field text = side_of (value_reading field) (value field) (codes "-") text
 
 item_form : (field : Field) (left : Side) (n : Option ℕ) → IsTextFault (item_of field left n)
 item_form field Star None = tt
@@ -64,27 +88,18 @@ item_form field (Value a) (Some n) = λ e. cc
 item_form field (Between a b) None = tt
 item_form field (Between a b) (Some n) = tt
 
-cut_item : (field : Field) (text : List ℕ) (cut : Option (List ℕ × List ℕ)) → IsTextFault (cut_item_reading field text cut)
-cut_item field text None = steps (side_reading field text) _ (side field text) (λ left. item_form field left None)
-cut_item field text (Some cut) =
-    steps (side_reading field cut.0) _ (side field cut.0)
-    (λ left. steps (step_reading field cut.1) _ (step field cut.1) (λ n. item_form field left (Some n)))
-
 item : (field : Field) (text : List ℕ) → IsTextFault (item_reading field text)
 unfolding item_reading
-item field text = cut_item field text (cut_at (codes "/") text)
+item field text =
+    cut_item (side_reading field) (step_reading field) (item_of field) (side field) (step field) (item_form field) text (cut_at (codes "/") text)
 
 items : (field : Field) (text : List ℕ) → IsTextFault (items_reading field text)
 unfolding items_reading
 items field text = elements (item_reading field) (item field) (pieces 44 text)
 
-set_form : (field : Field) (r : Result SetOfValues SetFault) → IsTextFault (in_field field r)
-set_form field (Ok s) = tt
-set_form field (Err fault) = λ e. cc
-
 field_values : (field : Field) (text : List ℕ) → IsTextFault (field_reading field text)
 unfolding field_reading
-field_values field text = steps (items_reading field text) _ (items field text) (λ xs. set_form field _)
+field_values field text = list_values (part_of field) _ (items_reading field text) (items field text)
 
 fields : (texts : List (List ℕ)) → IsTextFault (five_fields texts)
 unfolding five_fields
@@ -101,16 +116,21 @@ fields (a ∷ b ∷ c ∷ d ∷ e ∷ []) =
     (λ months. steps (field_reading WeekDay e) _ (field_values WeekDay e) (λ week_days. tt)))))
 fields (a ∷ b ∷ c ∷ d ∷ e ∷ f ∷ more) = λ e. cc
 
-at_word : (texts : List (List ℕ)) → IsTextFault (at_reading texts)
-at_word [] = λ e. cc
-at_word (word ∷ []) = λ e. cc
-at_word (word ∷ more ∷ others) = λ e. cc
+found : (word : Option (Option (List ℕ))) → IsTextFault (found_reading word)
+found None = λ e. cc
+found (Some None) = tt
+found (Some (Some text)) = fields (words text)
+
+at_words : (texts : List (List ℕ)) → IsTextFault (at_reading texts)
+at_words [] = λ e. cc
+at_words (word ∷ []) = found (at_word word)
+at_words (word ∷ more ∷ others) = λ e. cc
 
 rule : (texts : List (List ℕ)) → IsTextFault (rule_reading texts)
 unfolding rule_reading
 rule [] = λ e. cc
 rule (first ∷ others) =
-    choice (begins_with (λ b. eqb b 64) first) _ _ (at_word (first ∷ others)) (fields (first ∷ others))
+    choice (begins_with (λ b. eqb b 64) first) _ _ (at_words (first ∷ others)) (fields (first ∷ others))
 
 -- the fault of a cron text is the text's
 pub cron : (text : List ℕ) → IsTextFault (cron_reading text)

@@ -1,22 +1,22 @@
 -- The meaning of a cron text (crontab(5)): a rule, or the first fault with its part.
-use Rattle.std.specs.Prelude.{ℕ, ◌+◌, Bool, not, ◌&&◌, ◌||◌, ◌==◌, if◌then◌else◌, List, [], ◌∷◌, length, find, position, codes, Option, Some, None, Result, Ok, Err, ok_or}
+use Rattle.std.specs.Prelude.{ℕ, ◌+◌, Bool, not, ◌&&◌, ◌||◌, ◌==◌, if◌then◌else◌, List, [], ◌∷◌, length, find, position, codes, Option, Some, None, Ok, ok_or}
 use Rattle.std.specs.Char.{is_ascii_alphabetic}
 use Rattle.std.specs.Option.{option_map}
 use Rattle.std.specs.Str.{byte, bytes_eq, str_eq_ignore_ascii_case}
 use Rattle.plan_sets.specs.declared.item.Item.{Item}
 use Rattle.plan_sets.specs.declared.item.Item.TheVariants.{One, Range}
-use Rattle.plan_sets.specs.declared.item.SetFault.{SetFault}
 use Rattle.plan_sets.specs.Values.{Values as SetOfValues, has_value, values_where}
 use Rattle.plan_sets.specs.Items.{set_reading}
-use Rattle.plan_rules.specs.declared.fault.RuleCause.TheVariants.{WrongParts, BadNumber, BadName, Values, UnknownWord}
+use Rattle.plan_rules.specs.declared.fault.RuleCause.TheVariants.{WrongParts, BadNumber, BadName, UnknownWord}
 use Rattle.plan_rules.specs.declared.field.Field.{Field}
 use Rattle.plan_rules.specs.declared.field.Field.TheVariants.{Minute, Hour, MonthDay, Month, WeekDay}
 use Rattle.plan_rules.specs.declared.field.Side.{Side}
 use Rattle.plan_rules.specs.declared.field.Side.TheVariants.{Star, Value, Between}
 use Rattle.plan_rules.specs.declared.rule.Rule.{Rule}
-use Rattle.plan_rules.specs.declared.rule.Rule.TheVariants.{Cron}
+use Rattle.plan_rules.specs.declared.rule.Rule.TheVariants.{Cron, Never}
 use Rattle.plan_rules.specs.Text.{words, pieces, begins_with, cut_at, number_of}
 use Rattle.plan_rules.specs.Steps.{Reading, refused, ◌>>=◌, each}
+use Rattle.plan_rules.specs.Elements.{number_reading, side_by, cut_item_by, values_by}
 
 -- the place of a field in the text, from 1 (crontab(5), fields)
 abbrev pub part_of : Field → ℕ
@@ -42,9 +42,14 @@ highest MonthDay = 31
 highest Month = 12
 highest WeekDay = 7
 
--- the names of a field's values, from its least value on (crontab(5), names); none are read yet
+-- the names of a field's values, from its least value on (crontab(5), names)
 abbrev pub names_of : Field → List (List ℕ)
-names_of field = []
+names_of Month =
+    codes "jan" ∷ codes "feb" ∷ codes "mar" ∷ codes "apr" ∷ codes "may" ∷ codes "jun" ∷ codes "jul" ∷ codes "aug"
+    ∷ codes "sep" ∷ codes "oct" ∷ codes "nov" ∷ codes "dec" ∷ []
+names_of WeekDay =
+    codes "sun" ∷ codes "mon" ∷ codes "tue" ∷ codes "wed" ∷ codes "thu" ∷ codes "fri" ∷ codes "sat" ∷ []
+names_of other = []
 
 -- the value that a name stands for, in any case of its letters (crontab(5), names)
 abbrev pub named_value : Field → List ℕ → Option ℕ
@@ -59,26 +64,13 @@ value_reading field text =
     then ok_or (named_value field text) (record { part = part_of field; cause = BadName })
     else ok_or (number_of text) (record { part = part_of field; cause = BadNumber }))
 
--- a step, the number after `/` (crontab(5), steps; own: which fault it is)
+-- a step, the number after `/` (crontab(5), steps)
 unfoldable pub step_reading : Field → List ℕ → Reading ℕ
-step_reading field text =
-    if length text == 0 then refused (part_of field) WrongParts
-    else ok_or (number_of text) (record { part = part_of field; cause = BadNumber })
-
--- one value, or the two values around the range mark (crontab(5), ranges): the first of the two decides first (own)
-abbrev pub span_reading : Field → List ℕ → Option (List ℕ × List ℕ) → Reading Side
-span_reading field text None = do
-  value ← value_reading field text
-  Ok (Value value)
-span_reading field text (Some ends) = do
-  first ← value_reading field (ends.0)
-  last ← value_reading field (ends.1)
-  Ok (Between first last)
+step_reading field text = number_reading (part_of field) text
 
 -- what stands before a step: `*`, one value, or two values around the first `-` (crontab(5), ranges)
 unfoldable pub side_reading : Field → List ℕ → Reading Side
-side_reading field text =
-    if bytes_eq text (codes "*") then Ok Star else span_reading field text (cut_at (codes "-") text)
+side_reading field text = side_by (value_reading field) (codes "-") text
 
 -- the item that an element means, by what stands before its step and its step, if it has one (crontab(5), ranges and
 -- steps); a step after one value is refused (own)
@@ -90,35 +82,19 @@ item_of field (Value value) (Some step) = refused (part_of field) WrongParts
 item_of field (Between first last) None = Ok (Range first last 1)
 item_of field (Between first last) (Some step) = Ok (Range first last step)
 
--- an element, cut at its first `/` or not cut: what stands before the step is read first, then the step, and only then
--- it is seen whether a step may stand there (own)
-abbrev pub cut_item_reading : Field → List ℕ → Option (List ℕ × List ℕ) → Reading Item
-cut_item_reading field text None = do
-  side ← side_reading field text
-  item_of field side None
-cut_item_reading field text (Some cut) = do
-  side ← side_reading field (cut.0)
-  step ← step_reading field (cut.1)
-  item_of field side (Some step)
-
 -- an element of a field (crontab(5), ranges and steps)
 unfoldable pub item_reading : Field → List ℕ → Reading Item
-item_reading field text = cut_item_reading field text (cut_at (codes "/") text)
+item_reading field text =
+    cut_item_by (side_reading field) (step_reading field) (item_of field) text (cut_at (codes "/") text)
 
 -- the items of a field, by its elements between commas (crontab(5), lists)
 unfoldable pub items_reading : Field → List ℕ → Reading (List Item)
 items_reading field text = each (item_reading field) (pieces (byte ",") text)
 
--- a set of a field's values, or its fault as a fault of the field
-abbrev pub in_field : Field → Result SetOfValues SetFault → Reading SetOfValues
-in_field field (Ok values) = Ok values
-in_field field (Err fault) = refused (part_of field) (Values fault)
-
--- the values of a field: the forms of all elements are looked at before the values (own)
+-- the values of a field (crontab(5), fields)
 unfoldable pub field_reading : Field → List ℕ → Reading SetOfValues
-field_reading field text = do
-  items ← items_reading field text
-  in_field field (set_reading items (lowest field) (highest field))
+field_reading field text =
+    values_by (part_of field) (λ items. set_reading items (lowest field) (highest field)) (items_reading field text)
 
 -- whether a day of the week, from 0, Sunday, is among the written days, where 7 is Sunday too (crontab(5), fields)
 abbrev pub has_week_day : SetOfValues → ℕ → Bool
@@ -153,18 +129,33 @@ five_fields (minute ∷ hour ∷ month_day ∷ month ∷ week_day ∷ []) = do
       }))
 five_fields other = refused 0 WrongParts
 
--- the words that begin with `@`, each with the five fields that it stands for (crontab(5), extensions); none are read yet
-abbrev pub at_words : List (List ℕ × List ℕ)
-at_words = []
+-- the words that begin with `@`, each with the five fields that it stands for (crontab(5), extensions); `@reboot` stands
+-- for none
+abbrev pub at_words : List (List ℕ × Option (List ℕ))
+at_words =
+    (codes "@yearly", Some (codes "0 0 1 1 *"))
+    ∷ (codes "@annually", Some (codes "0 0 1 1 *"))
+    ∷ (codes "@monthly", Some (codes "0 0 1 * *"))
+    ∷ (codes "@weekly", Some (codes "0 0 * * 0"))
+    ∷ (codes "@daily", Some (codes "0 0 * * *"))
+    ∷ (codes "@midnight", Some (codes "0 0 * * *"))
+    ∷ (codes "@hourly", Some (codes "0 * * * *"))
+    ∷ (codes "@reboot", None)
+    ∷ []
 
--- the rule of a word that was looked up
-abbrev pub found_reading : Option (List ℕ) → Reading Rule
+-- what a word that begins with `@` stands for; None where it isn't in the table, which is in lower case (own)
+abbrev pub at_word : List ℕ → Option (Option (List ℕ))
+at_word word = option_map (λ known. known.1) (find (λ known. bytes_eq known.0 word) at_words)
+
+-- the rule of a word that was looked up; without fields it is the rule that never starts a job (own)
+abbrev pub found_reading : Option (Option (List ℕ)) → Reading Rule
 found_reading None = refused 0 UnknownWord
-found_reading (Some fields) = five_fields (words fields)
+found_reading (Some None) = Ok Never
+found_reading (Some (Some fields)) = five_fields (words fields)
 
--- a text that begins with `@` is one word of the table, in lower case (own)
+-- a text that begins with `@` is one word of the table
 abbrev pub at_reading : List (List ℕ) → Reading Rule
-at_reading (word ∷ []) = found_reading (option_map (λ known. known.1) (find (λ known. bytes_eq known.0 word) at_words))
+at_reading (word ∷ []) = found_reading (at_word word)
 at_reading other = refused 0 UnknownWord
 
 -- the words of a rule: an at-word, or five fields

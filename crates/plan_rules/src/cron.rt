@@ -1,8 +1,9 @@
 //! Cron rules, and how their texts are read (crontab(5)).
 
-ghost use Rattle.std.specs.Prelude.{◌≡◌, IfErr, map};
+ghost use Rattle.std.specs.Prelude.{◌≡◌, ◌↔◌, IfErr, map};
+ghost use Rattle.std.specs.Option.{option_map};
 ghost use Rattle.plan_rules.specs.Steps.{Gives};
-ghost use Rattle.plan_rules.specs.Cron.{has_week_day, week_days_of, five_fields, rule_reading, cron_reading};
+ghost use Rattle.plan_rules.specs.Cron.{has_week_day, week_days_of, five_fields, at_words, at_word, found_reading, rule_reading, cron_reading};
 
 use crate::fault::{RuleCause, RuleFault};
 use crate::field::{Field, is_restricted};
@@ -10,6 +11,31 @@ use crate::parts::{begins_with, words};
 use crate::rule::Rule;
 use plan_sets::{Civil, ValueSet};
 use std::alloc::Global;
+
+// The words that begin with `@`, each with the five fields that it stands for (crontab(5), extensions). `@reboot` stands for
+// none.
+static AT_WORDS: [(&str, Option<&str>); 8] = [
+    ("@yearly", Some("0 0 1 1 *")),
+    ("@annually", Some("0 0 1 1 *")),
+    ("@monthly", Some("0 0 1 * *")),
+    ("@weekly", Some("0 0 * * 0")),
+    ("@daily", Some("0 0 * * *")),
+    ("@midnight", Some("0 0 * * *")),
+    ("@hourly", Some("0 * * * *")),
+    ("@reboot", None),
+];
+
+/// The fault of a text that has another number of parts than a rule.
+pub const WRONG_PARTS: RuleFault = RuleFault {
+    part: 0,
+    cause: RuleCause::WrongParts,
+};
+
+// The fault of a text that begins with `@` and is no word of the table.
+const UNKNOWN_WORD: RuleFault = RuleFault {
+    part: 0,
+    cause: RuleCause::UnknownWord,
+};
 
 /// A cron rule: the values that its five fields admit, and which of its day fields are restricted (crontab(5)).
 #[derive(Debug, Drop, PartialEq, Eq)]
@@ -30,14 +56,19 @@ pub struct CronRule {
     pub week_days_restricted: bool,
 }
 
-/// The rule that a text means: five fields between blanks (crontab(5)).
+/// The rule that a text means: five fields with blanks between and around them, or one of the words `@yearly`, `@annually`,
+/// `@monthly`, `@weekly`, `@daily`, `@midnight`, `@hourly` and `@reboot` (crontab(5)). Months and days of the week may be named.
 ///
-/// Faults: 1 `NoMemory` of part 0, else the first fault of the text, its part the field's number from 1. A text with
-/// another number of fields is `WrongParts` of part 0, and one that begins with `@` is `UnknownWord` of part 0. In a
-/// field the first element that is faulty in its form decides: in it the first value, then the second, then the step, then
-/// that a step follows one value. `WrongParts` is an empty value or step, or a step after one value; `BadName` a value that
-/// begins with a letter; `BadNumber` any other value or step that is not 1 to 4 digits. `Values` holds the fault of the
-/// field's items as `plan_sets::set_of` finds it.
+/// The fault is the first of these, with its part: `UnknownWord`, part 0, where the text begins with `@` and is no such word;
+/// `WrongParts`, part 0, where it hasn't five fields; then those of the fields, from left to right, with the field's number
+/// from 1.
+///
+/// In a field the first element whose form is faulty decides, and in it the first value, then the second, then the step, then
+/// that a step may not follow one value. `WrongParts` is an empty value or step, and a step after one value; `BadName` is a
+/// value that begins with a letter and is no name of the field; `BadNumber` is any other value, or a step, that isn't 1 to 4
+/// digits. Where all forms are right, `Values` holds what `plan_sets::set_of` finds wrong with the field's items.
+///
+/// `NoMemory`, part 0, can come before a fault that isn't found yet.
 pub fn cron_rule(alloc: Global, text: &str) -> Result<Rule, RuleFault>
     ensures meaning { Gives result (cron_reading text.now) }
     ensures memory { IfErr result (λ fault. fault.cause ≡ RuleCause.NoMemory → fault.part ≡ 0) }
@@ -46,36 +77,61 @@ pub fn cron_rule(alloc: Global, text: &str) -> Result<Rule, RuleFault>
     rule_of(alloc, words.as_slice())
 }
 
-// The rule of a text's words: no word that begins with `@` is read yet.
+// The rule of a text's words.
 #[tactic(auto, unfolding(crate::specs::Cron::rule_reading))]
 fn rule_of(alloc: Global, words: &[&[u8]]) -> Result<Rule, RuleFault>
     ensures { Gives result (rule_reading (map (λ word. word.now) words.now)) }
 {
     let [first, ..] = words else {
-        return Err(RuleFault {
-            part: 0,
-            cause: RuleCause::WrongParts,
-        });
+        return Err(WRONG_PARTS);
     };
-    if begins_with(first, b'@') {
-        return Err(RuleFault {
-            part: 0,
-            cause: RuleCause::UnknownWord,
-        });
+    if !begins_with(first, b'@') {
+        return five_fields(alloc, words);
     }
-    five_fields(alloc, words)
+    if words.len() > 1 {
+        return Err(UNKNOWN_WORD);
+    }
+    at_rule(alloc, first)
 }
 
-// The rule of five fields.
+// The table of the words that begin with `@`.
+fn at_words() -> &'static [(&'static str, Option<&'static str>)]
+    ensures { map (λ row. (row.0.now, option_map (λ text. text.now) row.1)) result.now ≡ at_words }
+{
+    &AT_WORDS
+}
+
+// What a word that begins with `@` stands for, or `None` where it isn't in the table.
+fn at_word(word: &[u8]) -> Option<Option<&'static str>>
+    ensures { option_map (λ fields. option_map (λ text. text.now) fields) result ≡ at_word word.now }
+{
+    let (_, fields) = at_words()
+        .iter()
+        .find(|(known, _)| known.as_bytes() == word)?;
+    Some(*fields)
+}
+
+/// The rule of a word that begins with `@` (crontab(5), extensions). Faults as of `cron_rule`.
+pub fn at_rule(alloc: Global, word: &[u8]) -> Result<Rule, RuleFault>
+    ensures { Gives result (found_reading (at_word word.now)) }
+{
+    let Some(fields) = at_word(word) else {
+        return Err(UNKNOWN_WORD);
+    };
+    let Some(fields) = fields else {
+        return Ok(Rule::Never);
+    };
+    let fields = words(alloc, fields.as_bytes())?;
+    five_fields(alloc, fields.as_slice())
+}
+
+/// The rule of five fields. Faults as of `cron_rule`.
 #[tactic(auto, unfolding(crate::specs::Cron::five_fields))]
-fn five_fields(alloc: Global, fields: &[&[u8]]) -> Result<Rule, RuleFault>
+pub fn five_fields(alloc: Global, fields: &[&[u8]]) -> Result<Rule, RuleFault>
     ensures { Gives result (five_fields (map (λ field. field.now) fields.now)) }
 {
     let [minute, hour, month_day, month, week_day] = fields else {
-        return Err(RuleFault {
-            part: 0,
-            cause: RuleCause::WrongParts,
-        });
+        return Err(WRONG_PARTS);
     };
     Ok(Rule::Cron(CronRule {
         minutes: Field::Minute.values(alloc, minute)?,
@@ -109,11 +165,45 @@ fn has_week_day(written: &ValueSet, day: u16) -> bool
 }
 
 impl CronRule {
-    ghost use Rattle.plan_rules.specs.Match.{day_matches, cron_matches};
+    ghost use Rattle.std.specs.Prelude.{IsTrue};
+    ghost use Rattle.plan_sets.specs.Values.{has_value};
+    ghost use Rattle.plan_rules.specs.Match.{cron_matches, day_matches, days_admit, HasTimeOfDay};
+
+    /// The minutes of an hour, 0 to 59.
+    pub fn minutes(&self) -> &ValueSet
+        ensures { result.now ≡ self.now.minutes }
+    {
+        &self.minutes
+    }
+
+    /// The hours of a day, 0 to 23.
+    pub fn hours(&self) -> &ValueSet
+        ensures { result.now ≡ self.now.hours }
+    {
+        &self.hours
+    }
+
+    /// The months, 1 to 12.
+    pub fn months(&self) -> &ValueSet
+        ensures { result.now ≡ self.now.months }
+    {
+        &self.months
+    }
+
+    /// Whether the rule admits the day that these civil fields show: its year, month, day and weekday alone are looked at.
+    pub fn day_matches(&self, civil: &Civil) -> bool
+        ensures value { result ≡ day_matches self.now civil.now }
+        // The rule matches exactly where the day does, hour and minute are among its values, and the second is 0.
+        ensures rule { IsTrue (cron_matches self.now civil.now)
+            ↔ (IsTrue result × HasTimeOfDay self.now civil.now) }
+        ensures month { IsTrue result → IsTrue (has_value self.now.months civil.now.month) }
+    {
+        self.months.contains(u16::from(civil.month)) && self.days_admit(civil)
+    }
 
     // Whether the day fields admit the day: one of them where both are restricted, else both.
-    fn day_matches(&self, civil: &Civil) -> bool
-        ensures { result ≡ day_matches self.now civil.now }
+    fn days_admit(&self, civil: &Civil) -> bool
+        ensures { result ≡ days_admit self.now civil.now }
     {
         let month_day = self.month_days.contains(u16::from(civil.day));
         let week_day = self.week_days.contains((u16::from(civil.weekday) + 1) % 7);
@@ -131,7 +221,6 @@ impl CronRule {
         civil.second == 0
             && self.minutes.contains(u16::from(civil.minute))
             && self.hours.contains(u16::from(civil.hour))
-            && self.months.contains(u16::from(civil.month))
             && self.day_matches(civil)
     }
 }

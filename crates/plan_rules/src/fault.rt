@@ -22,9 +22,18 @@ pub enum RuleCause {
     /// 5: the values of a part are no set.
     #[error("{0}")]
     Values(SetFault),
+    /// 6: a second, or its step, is written with a fraction.
+    #[error("Fraction")]
+    Fraction,
+    /// 7: the time zone isn't UTC.
+    #[error("Zone")]
+    Zone,
     /// 8: a word that stands for a whole rule isn't known.
     #[error("UnknownWord")]
     UnknownWord,
+    /// 9: the text holds a specifier, which begins with `%`.
+    #[error("Specifier")]
+    Specifier,
 }
 
 /// The first fault of a rule's text.

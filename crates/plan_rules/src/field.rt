@@ -1,14 +1,22 @@
 //! The five fields of a cron rule: their limits, and the values that a field's text admits.
 
-ghost use Rattle.std.specs.Prelude.{◌≡◌, Bool, IsTrue};
+ghost use Rattle.std.specs.Prelude.{◌≡◌, Bool, IsTrue, map};
 ghost use Rattle.std.specs.Str.{bytes_eq};
 ghost use Rattle.plan_rules.specs.Steps.{Gives, GivesBy};
-ghost use Rattle.plan_rules.specs.Cron.{part_of, lowest, highest, named_value, value_reading, step_reading, side_reading, item_of, item_reading, items_reading, field_reading, is_restricted};
+ghost use Rattle.plan_rules.specs.Cron.{part_of, lowest, highest, names_of, named_value, value_reading, step_reading, side_reading, item_of, item_reading, items_reading, field_reading, is_restricted};
 
 use crate::fault::{RuleCause, RuleFault};
-use crate::parts::{begins_with, cut, number};
+use crate::parts::{begins_with, cut, number, number_in};
 use plan_sets::{Item, ValueSet, set_of};
 use std::alloc::Global;
+
+// The names of the months, from 1 on (crontab(5), names).
+const MONTHS: [&str; 12] = [
+    "jan", "feb", "mar", "apr", "may", "jun", "jul", "aug", "sep", "oct", "nov", "dec",
+];
+
+// The names of the days of a week, from 0 on (crontab(5), names).
+const WEEK_DAYS: [&str; 7] = ["sun", "mon", "tue", "wed", "thu", "fri", "sat"];
 
 /// A field of a cron rule.
 #[derive(Clone, Copy)]
@@ -68,11 +76,26 @@ impl Field {
         }
     }
 
-    // The value that a name of the field stands for. No names are read yet.
-    fn named_value(self, _name: &[u8]) -> Option<u16>
-        ensures { result ≡ named_value self _name.now }
+    // The names of the field's values, from its least value on.
+    fn names(self) -> &'static [&'static str]
+        ensures { map (λ name. name.now) result.now ≡ names_of self }
     {
-        None
+        match self {
+            Field::Month => &MONTHS,
+            Field::WeekDay => &WEEK_DAYS,
+            Field::Minute | Field::Hour | Field::MonthDay => &[],
+        }
+    }
+
+    // The value that a name of the field stands for, in any case of its letters.
+    fn named_value(self, name: &[u8]) -> Option<u16>
+        ensures { result ≡ named_value self name.now }
+    {
+        let place = self
+            .names()
+            .iter()
+            .position(|known| name.eq_ignore_ascii_case(known.as_bytes()))?;
+        Some(self.lowest() + place as u16)
     }
 
     // A fault of this field.
@@ -105,10 +128,7 @@ impl Field {
     fn step(self, text: &[u8]) -> Result<u16, RuleFault>
         ensures { result ≡ step_reading self text.now }
     {
-        if text.is_empty() {
-            return Err(self.fault(RuleCause::WrongParts));
-        }
-        number(text).ok_or(self.fault(RuleCause::BadNumber))
+        number_in(self.part(), text)
     }
 
     // What stands before the step of an element.

@@ -1,16 +1,19 @@
 //! The parts of a text: its words, what stands around a mark, and the number that it writes.
 
 ghost use Rattle.std.specs.Prelude.{◌≡◌, ◌==◌, IfOk, map};
+ghost use Rattle.std.specs.Char.{is_ascii_alphabetic};
 ghost use Rattle.std.specs.Option.{option_map};
-ghost use Rattle.plan_rules.specs.Text.{is_blank, words, begins_with, cut_at, number_of};
+ghost use Rattle.plan_rules.specs.Elements.{number_reading};
+ghost use Rattle.plan_rules.specs.Text.{is_blank, words, pieces, begins_with, cut_at, number_of};
 
+use crate::fault::{RuleCause, RuleFault};
 use std::alloc::{AllocError, Global};
 
 /// How many digits a number has at most.
 const MOST_DIGITS: usize = 4;
 
-// Whether a byte is a space or a tab.
-fn is_blank(byte: u8) -> bool
+/// Whether a byte is a space or a tab.
+pub fn is_blank(byte: u8) -> bool
     ensures { result ≡ is_blank byte }
 {
     byte == b' ' || byte == b'\t'
@@ -30,6 +33,20 @@ pub fn begins_with(text: &[u8], byte: u8) -> bool
     ensures { result ≡ begins_with (λ b. b == byte) text.now }
 {
     matches!(text, [first, ..] if *first == byte)
+}
+
+/// Whether a text begins with an ASCII letter.
+pub fn begins_with_letter(text: &[u8]) -> bool
+    ensures { result ≡ begins_with is_ascii_alphabetic text.now }
+{
+    matches!(text, [first, ..] if first.is_ascii_alphabetic())
+}
+
+/// The pieces of a text around a byte: n places of that byte give n + 1 pieces.
+pub fn pieces(alloc: Global, text: &[u8], mark: u8) -> Result<Vec<&[u8]>, AllocError>
+    ensures { IfOk result (λ found. map (λ piece. piece.now) found.items ≡ pieces mark text.now) }
+{
+    text.split(|byte| *byte == mark).collect(alloc)
 }
 
 /// What stands before and after the first place of a mark, or `None` where the mark isn't there.
@@ -61,4 +78,20 @@ pub fn number(text: &[u8]) -> Option<u16>
         value = value * 10 + u16::from(*byte - b'0');
     }
     Some(value)
+}
+
+/// The number that a part of a rule's text writes: `WrongParts` where the text is empty, else `BadNumber` where it is none.
+pub fn number_in(part: u8, text: &[u8]) -> Result<u16, RuleFault>
+    ensures { result ≡ number_reading part text.now }
+{
+    if text.is_empty() {
+        return Err(RuleFault {
+            part,
+            cause: RuleCause::WrongParts,
+        });
+    }
+    number(text).ok_or(RuleFault {
+        part,
+        cause: RuleCause::BadNumber,
+    })
 }

@@ -1,9 +1,10 @@
 //! The rule by which a job starts.
 
 ghost use Rattle.std.specs.Prelude.{◌≡◌, Bool};
-ghost use Rattle.plan_rules.specs.Match.{cron_matches, rule_matches};
+ghost use Rattle.plan_rules.specs.Match.{rule_matches, cron_matches};
 
 use crate::cron::CronRule;
+use crate::events::Events;
 use plan_sets::Civil;
 
 /// When a job starts.
@@ -11,6 +12,10 @@ use plan_sets::Civil;
 pub enum Rule {
     /// By the five fields of a crontab (crontab(5)).
     Cron(CronRule),
+    /// By a list of calendar events, any of which may match (systemd.timer(5)).
+    Events(Events),
+    /// Never, as `@reboot` in a crontab: it has no start in any span.
+    Never,
 }
 
 /// Equal are rules of one kind with equal parts.
@@ -28,6 +33,9 @@ impl PartialEq for Rule {
     {
         match (self, other) {
             (Rule::Cron(first), Rule::Cron(second)) => first == second,
+            (Rule::Events(first), Rule::Events(second)) => first == second,
+            (Rule::Never, Rule::Never) => true,
+            _ => false,
         }
     }
 }
@@ -39,12 +47,14 @@ impl Eq for Rule {
 }
 
 impl Rule {
-    /// Whether a job with this rule starts at the second that has these civil fields.
+    /// Whether a job with this rule starts at the second that has these civil fields. `Never` starts at none.
     pub fn matches(&self, civil: &Civil) -> bool
         ensures { result ≡ rule_matches self.now civil.now }
     {
         match self {
             Rule::Cron(rule) => rule.matches(civil),
+            Rule::Events(events) => events.matches(civil),
+            Rule::Never => false,
         }
     }
 }

@@ -6,6 +6,10 @@ use Rattle.jiff_core.specs.Calendar.{IsCivilDate, days_from_civil, days_in_month
 use Rattle.plan_sets.specs.declared.civil.Civil.{Civil}
 use Rattle.plan_sets.specs.declared.civil.TheConstants.{FIRST_YEAR, LAST_YEAR, SECONDS_A_DAY}
 
+-- how many days the month of that year has, in the calendar that the civil fields are read by
+abbrev pub length_of_month : ℕ → ℕ → ℕ
+length_of_month year month = days_in_month (pos year) month
+
 -- a time of day (ISO 8601, with no leap second and no 24:00:00)
 abbrev pub IsTimeOfDay : ℕ → ℕ → ℕ → Type 0
 IsTimeOfDay hour minute second = (hour < 24) × (minute < 60) × (second < 60)

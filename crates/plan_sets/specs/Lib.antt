@@ -1,4 +1,5 @@
 pub mod Civil
 pub mod Items
 pub mod Moment
+pub mod Months
 pub mod Values

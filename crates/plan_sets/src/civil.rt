@@ -3,10 +3,10 @@ ghost use Rattle.std.specs.Prelude.{◌≡◌, ◌+◌, ◌/◌, ◌%◌, ◌<�
 ghost use Rattle.std.specs.Int.{IsInRange};
 ghost use Rattle.jiff_core.specs.Calendar.{IsCivilDate, IsEpochDay, days_from_civil};
 ghost use Rattle.jiff_core.specs.Date.{epoch_day};
-ghost use Rattle.plan_sets.specs.Civil.{civil_fields, second_number, seconds_of_day, IsCivilOf, IsDateTime, IsDateTimeInYears, IsTimeOfDay, Shows};
+ghost use Rattle.plan_sets.specs.Civil.{civil_fields, second_number, seconds_of_day, length_of_month, IsCivilOf, IsDateTime, IsDateTimeInYears, IsTimeOfDay, Shows};
 
 use jiff::civil;
-use jiff_core::civil::Date;
+use jiff_core::civil::{Date, days_in_month};
 
 /// The first year that the planner knows: second 0 is its first second.
 pub const FIRST_YEAR: u16 = 1970;
@@ -139,6 +139,15 @@ fn day_number(year: u16, month: u8, day: u8) -> Option<i32>
     let day = i8::try_from(day).ok()?;
     let date = civil::Date::new(year, month, day).ok()?;
     Some(date.to_plain().to_unix_epoch_day())
+}
+
+/// How many days a month, from 1 to 12, of a year from `FIRST_YEAR` to `LAST_YEAR` has: 28 to 31.
+pub fn month_length(year: u16, month: u8) -> u8
+    requires year { IsInRange FIRST_YEAR LAST_YEAR year }
+    requires month { IsInRange 1 12 month }
+    ensures { result ≡ length_of_month year month }
+{
+    days_in_month(year as i16, month)
 }
 
 #[cfg(test)]

@@ -7,7 +7,9 @@ mod item;
 mod moment;
 mod value_set;
 
-pub use civil::{Civil, END_SECOND, FIRST_YEAR, LAST_YEAR, SECONDS_A_DAY, civil_of, second_of};
+pub use civil::{
+    Civil, END_SECOND, FIRST_YEAR, LAST_YEAR, SECONDS_A_DAY, civil_of, month_length, second_of,
+};
 pub use item::{Item, SetFault, set_of};
 pub use moment::{MomentFault, moment_text, read_moment};
 pub use value_set::ValueSet;

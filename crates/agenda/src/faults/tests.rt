@@ -7,6 +7,10 @@ fn rule(part: u8, cause: RuleCause) -> Failure {
     Failure::Run(RunFault::Rule(RuleFault { part, cause }))
 }
 
+fn script(line: u32, cause: ScriptCause) -> Failure {
+    Failure::Run(RunFault::Script(ScriptFault { line, cause }))
+}
+
 #[test]
 fn lines_and_statuses(rt: HostRuntime) {
     let rows = [
@@ -46,6 +50,17 @@ fn lines_and_statuses(rt: HostRuntime) {
             1,
         ),
         (rule(0, RuleCause::NoMemory), "agenda: NoMemory\n", 3),
+        (
+            script(0, ScriptCause::TooLarge),
+            "agenda: script: line 0: TooLarge\n",
+            1,
+        ),
+        (
+            script(10_002, ScriptCause::TooManySteps),
+            "agenda: script: line 10002: TooManySteps\n",
+            1,
+        ),
+        (script(0, ScriptCause::NoMemory), "agenda: NoMemory\n", 3),
         (Failure::Run(RunFault::NoMemory), "agenda: NoMemory\n", 3),
         (Failure::Run(RunFault::Device), "agenda: Device\n", 3),
     ];
@@ -54,6 +69,21 @@ fn lines_and_statuses(rt: HostRuntime) {
         assert_eq!(rt; fault_line(&failure, &mut out), status, "{line}");
         assert_eq!(rt; out.bytes(), line.as_bytes());
     }
+}
+
+#[test]
+fn a_file_that_failed_is_named(rt: HostRuntime) -> Result<(), Fail> {
+    for (path, line) in [
+        ("steps.txt", "agenda: steps.txt: Device\n"),
+        ("a/b c", "agenda: a/b c: Device\n"),
+        ("", "agenda: : Device\n"),
+    ] {
+        let failure = Failure::File(Text::new(String::from_str(rt.alloc(), path)?));
+        let mut out = LimitedWriter::new(128, 128, End::Error, false);
+        assert_eq!(rt; fault_line(&failure, &mut out), 3, "{path}");
+        assert_eq!(rt; out.bytes(), line.as_bytes());
+    }
+    Ok(())
 }
 
 #[test]
@@ -72,6 +102,13 @@ fn faults_print_their_names(rt: HostRuntime) -> Result<(), Fail> {
         (RunFault::NoMemory, "NoMemory"),
         (RunFault::BadCount, "BadCount"),
         (RunFault::Rule(wrong_parts), "WrongParts"),
+        (
+            RunFault::Script(ScriptFault {
+                line: 2,
+                cause: ScriptCause::BadLine,
+            }),
+            "BadLine",
+        ),
         (RunFault::Device, "Device"),
     ];
     for (fault, name) in rows {

@@ -1,8 +1,9 @@
 use super::*;
 use crate::output::tests::{End, LimitedWriter};
 use plan_rules::RuleCause;
-use plan_sets::SetFault;
+use plan_sets::{END_SECOND, SetFault, read_moment};
 use std::process::Abort;
+use std::test::Fail;
 
 // 2024-01-01T00:00:00Z, a Monday.
 const NEW_YEAR: u64 = 1_704_067_200;
@@ -90,4 +91,130 @@ fn a_writer_that_fails_has_the_first_bytes(rt: HostRuntime) {
     let done = run_next(rt.alloc(), Asked::Cron("0 0 * * *"), NEW_YEAR, 1, &mut out);
     assert_eq!(rt; done, Err(RunFault::Device));
     assert_eq!(rt; out.bytes(), b"2024-01-02".as_slice());
+}
+
+#[test]
+fn starts_by_the_calendar(rt: HostRuntime) -> Result<(), Fail> {
+    let rows = [
+        (
+            "0 0 29 2 *",
+            "2096-02-29T00:00:00Z",
+            1,
+            "2104-02-29T00:00:00Z\n",
+        ),
+        ("0 0 31 2 *", "2024-01-01T00:00:00Z", 1, "none\n"),
+        (
+            "* * * * *",
+            "2199-12-31T23:58:59Z",
+            2,
+            "2199-12-31T23:59:00Z\nnone\n",
+        ),
+        (
+            "0 0 29 2 *",
+            "2188-02-29T00:00:00Z",
+            3,
+            "2192-02-29T00:00:00Z\n2196-02-29T00:00:00Z\nnone\n",
+        ),
+    ];
+    for (rule, after, count, text) in rows {
+        let mut out = Vec::new(rt.alloc());
+        let done = run_next(
+            rt.alloc(),
+            Asked::Cron(rule),
+            read_moment(after)?,
+            count,
+            &mut out,
+        );
+        assert_eq!(rt; done, Ok(()), "{rule}");
+        assert_eq!(rt; out.as_slice(), text.as_bytes(), "{rule}");
+    }
+    Ok(())
+}
+
+#[test]
+fn starts_of_a_calendar_event(rt: HostRuntime) -> Result<(), Fail> {
+    let alloc = rt.alloc();
+    let after = read_moment("2024-01-01T00:00:00Z")?;
+    let rows = [
+        ("*-02~03", "2024-02-27T00:00:00Z\n2025-02-26T00:00:00Z\n"),
+        ("weekly", "2024-01-08T00:00:00Z\n2024-01-15T00:00:00Z\n"),
+        ("2024-3-1 4:5", "2024-03-01T04:05:00Z\nnone\n"),
+    ];
+    for (text, lines) in rows {
+        let mut out = Vec::new(alloc);
+        run_next(alloc, Asked::Event(text), after, 2, &mut out)?;
+        assert!(rt; out.as_slice() == lines.as_bytes(), "{text}");
+    }
+    Ok(())
+}
+
+#[test]
+fn a_calendar_event_that_is_refused(rt: HostRuntime) {
+    let alloc = rt.alloc();
+    let mut out = Vec::new(alloc);
+    let fault = RuleFault {
+        part: 4,
+        cause: RuleCause::Values(SetFault::Backwards),
+    };
+    let answer = run_next(alloc, Asked::Event("*-*-9..3"), 0, 1, &mut out);
+    assert_eq!(rt; answer, Err(RunFault::Rule(fault)));
+    assert!(rt; out.is_empty());
+}
+
+#[test]
+fn rules_of_every_form(rt: HostRuntime) -> Result<(), Fail> {
+    let rows = [
+        (
+            Asked::Cron("0 9-17/4 * jan,Mar MON-fri"),
+            "2024-01-31T17:00:00Z",
+            "2024-03-01T09:00:00Z\n",
+        ),
+        (Asked::Cron("@reboot"), "2024-01-01T00:00:00Z", "none\n"),
+        (
+            Asked::Event("Mon *-05~07/1"),
+            "2024-01-01T00:00:00Z",
+            "2024-05-27T00:00:00Z\n",
+        ),
+        (
+            Asked::Event("2199-12-31 23:59:59"),
+            "2199-12-31T23:59:58Z",
+            "2199-12-31T23:59:59Z\n",
+        ),
+        (
+            Asked::Event("2199-12-31 23:59:59"),
+            "2199-12-31T23:59:59Z",
+            "none\n",
+        ),
+        (
+            Asked::Event("Sat,Mon..Tue 10-1..7/3 8..9:0/30:15"),
+            "2024-10-01T09:30:15Z",
+            "2024-10-07T08:00:15Z\n",
+        ),
+        (
+            Asked::Event("Wed, 17:48 UTC"),
+            "2024-01-01T00:00:00Z",
+            "2024-01-03T17:48:00Z\n",
+        ),
+        (
+            Asked::Event("99-2-3 4:5"),
+            "1970-01-01T00:00:00Z",
+            "1999-02-03T04:05:00Z\n",
+        ),
+        (
+            Asked::Event("quarterly"),
+            "2024-02-01T00:00:00Z",
+            "2024-04-01T00:00:00Z\n",
+        ),
+        (
+            Asked::Event("*-*~1..3/2 12:00"),
+            "2024-02-27T12:00:00Z",
+            "2024-02-29T12:00:00Z\n",
+        ),
+    ];
+    for (asked, after, text) in rows {
+        let mut out = Vec::new(rt.alloc());
+        run_next(rt.alloc(), asked, read_moment(after)?, 1, &mut out)?;
+        assert!(rt; out.as_slice() == text.as_bytes(), "{asked:?}");
+    }
+    Ok(())
 }

@@ -21,12 +21,84 @@ fn read(alloc: Global, words: &[&str]) -> Result<Ask, UsageFault> {
 
 fn asks(rt: &(impl Abort + AllocGlobal), words: &[&str], moment: &str, starts: u32, rule: &str) {
     match read(rt.alloc(), words) {
-        Ok(Ask::Next { after, count, cron }) => {
+        Ok(
+            Ask::Next {
+                after,
+                count,
+                cron,
+                calendar,
+            },
+        ) => {
             assert_eq!(rt; after.as_str(), moment);
             assert_eq!(rt; count, starts);
-            assert_eq!(rt; cron.as_str(), rule);
+            assert!(rt;
+                matches!(&cron, Some(text) if text.as_str() == rule),
+                "{words:?}"
+            );
+            assert!(rt; calendar.is_none());
         }
-        Err(fault) => panic!(rt; "{fault:?}"),
+        other => panic!(rt; "{words:?} gives {other:?}"),
+    }
+}
+
+#[test]
+fn asks_for_the_next_starts_of_a_calendar_event(rt: HostRuntime) {
+    match read(
+        rt.alloc(),
+        &["next", "--calendar", "*-02~03", "--after", MOMENT],
+    ) {
+        Ok(
+            Ask::Next {
+                after,
+                count,
+                cron,
+                calendar,
+            },
+        ) => {
+            assert_eq!(&rt; after.as_str(), MOMENT);
+            assert_eq!(&rt; count, 1);
+            assert!(&rt; matches!(&calendar, Some(text) if text.as_str() == "*-02~03"));
+            assert!(&rt; cron.is_none());
+        }
+        other => panic!(&rt; "gives {other:?}"),
+    }
+}
+
+#[test]
+fn exactly_one_rule_is_asked_about(rt: HostRuntime) {
+    let rows: [&[&str]; 2] = [
+        &["next", "--after", MOMENT],
+        &[
+            "next",
+            "--after",
+            MOMENT,
+            "--cron",
+            RULE,
+            "--calendar",
+            "daily",
+        ],
+    ];
+    for words in rows {
+        match read(rt.alloc(), words) {
+            Err(UsageFault::Usage(text)) => {
+                assert_eq!(rt; text.as_str(), "exactly one of --cron and --calendar\n");
+            }
+            other => panic!(rt; "{words:?} gives {other:?}"),
+        }
+    }
+}
+
+#[test]
+fn asks_for_the_replies_to_a_script(rt: HostRuntime) {
+    for path in ["script", "", "a b/c", "skript-ä", "-"] {
+        match read(rt.alloc(), &["steps", path]) {
+            Ok(Ask::Steps { file }) => assert_eq!(rt; file.as_str(), path),
+            other => panic!(&rt; "{path} gives {other:?}"),
+        }
+    }
+    match read(rt.alloc(), &["steps", "--", "--help"]) {
+        Ok(Ask::Steps { file }) => assert_eq!(rt; file.as_str(), "--help"),
+        other => panic!(&rt; "gives {other:?}"),
     }
 }
 
@@ -76,21 +148,13 @@ fn is_usage(rt: HostRuntime) {
         &[],
         &["help"],
         &["plan", "--since", MOMENT, "--upto", MOMENT],
-        &["steps", "script"],
+        &["plan"],
+        &["steps"],
+        &["steps", "script", "another"],
+        &["steps", "--after", MOMENT],
         &["next"],
-        &["next", "--after", MOMENT],
         &["next", "--cron", RULE],
         &["next", "--after", MOMENT, "--cron"],
-        &["next", "--after", MOMENT, "--calendar", "daily"],
-        &[
-            "next",
-            "--after",
-            MOMENT,
-            "--cron",
-            RULE,
-            "--calendar",
-            "daily",
-        ],
         &["next", "--after", MOMENT, "--cron", RULE, "--count", "x"],
         &["next", "--after", MOMENT, "--cron", RULE, "--count", "-1"],
         &[
@@ -117,11 +181,13 @@ fn is_usage(rt: HostRuntime) {
 
 #[test]
 fn is_help(rt: HostRuntime) {
-    let rows: [&[&str]; 4] = [
+    let rows: [&[&str]; 6] = [
         &["--help"],
         &["-h"],
         &["next", "--help"],
         &["next", "--after", MOMENT, "-h"],
+        &["steps", "--help"],
+        &["steps", "script", "-h"],
     ];
     for words in rows {
         match read(rt.alloc(), words) {
@@ -135,19 +201,29 @@ fn is_help(rt: HostRuntime) {
 }
 
 #[test]
-fn help_names_the_options(rt: HostRuntime) -> Result<(), Fail> {
-    let Err(fault) = read(rt.alloc(), &["next", "--help"]) else {
-        return Err("no help".into());
-    };
-    let text = format!(in rt.alloc(); "{fault}")?;
-    for option in [
-        "--after <T>",
-        "--count <N>",
-        "[default: 1]",
-        "--cron <TEXT>",
-        "--help",
-    ] {
-        assert!(rt; text.as_str().contains(option), "{option} in {text}");
+fn help_names_what_may_be_given(rt: HostRuntime) -> Result<(), Fail> {
+    let rows: [(&[&str], &[&str]); 3] = [
+        (&["--help"], &["next", "steps", "--help"]),
+        (
+            &["next", "--help"],
+            &[
+                "--after <T>",
+                "--count <N>",
+                "[default: 1]",
+                "--cron <TEXT>",
+                "--help",
+            ],
+        ),
+        (&["steps", "--help"], &["<FILE>", "--help"]),
+    ];
+    for (words, parts) in rows {
+        let Err(fault) = read(rt.alloc(), words) else {
+            return Err("no help".into());
+        };
+        let text = format!(in rt.alloc(); "{fault}")?;
+        for part in parts {
+            assert!(rt; text.as_str().contains(*part), "{part} in {text}");
+        }
     }
     Ok(())
 }

@@ -1,5 +1,5 @@
 use super::cron_rule;
-use crate::{RuleCause, RuleFault};
+use crate::{Rule, RuleCause, RuleFault};
 use plan_sets::{Civil, SetFault};
 use std::test::Fail;
 
@@ -108,7 +108,17 @@ fn refused_texts(rt: HostRuntime) {
         ("0 0 * foo *", 4, RuleCause::BadName),
         ("1,,2 * * * *", 1, RuleCause::WrongParts),
         ("12345 * * * *", 1, RuleCause::BadNumber),
-        ("@daily", 0, RuleCause::UnknownWord),
+        ("0 0 * * sat-sun", 5, RuleCause::Values(SetFault::Backwards)),
+        ("0 0 * */jan *", 4, RuleCause::BadNumber),
+        ("0 0 * mon *", 4, RuleCause::BadName),
+        ("0 0 jan * *", 3, RuleCause::BadName),
+        ("sun 0 * * *", 1, RuleCause::BadName),
+        ("0 0 * * \u{17f}un", 5, RuleCause::BadNumber),
+        ("0 0 * * s\u{fa}n", 5, RuleCause::BadName),
+        ("0 0 * \u{212a}an *", 4, RuleCause::BadNumber),
+        ("@Daily", 0, RuleCause::UnknownWord),
+        ("@every", 0, RuleCause::UnknownWord),
+        ("@daily\r", 0, RuleCause::UnknownWord),
         (" @daily x", 0, RuleCause::UnknownWord),
         ("@", 0, RuleCause::UnknownWord),
         ("0 0 * *", 0, RuleCause::WrongParts),
@@ -176,6 +186,88 @@ fn equal_rules(rt: HostRuntime) -> Result<(), Fail> {
         "0 0 1-31 * 0",
     ] {
         assert!(rt; rule != cron_rule(alloc, text)?, "{text}");
+    }
+    Ok(())
+}
+
+#[test]
+fn names_with_a_stepped_hour_range(rt: HostRuntime) -> Result<(), Fail> {
+    let rule = cron_rule(rt.alloc(), "0 9-17/4 * jan,Mar MON-fri")?;
+    let march = Civil {
+        month: 3,
+        ..january(1, 9, 0)
+    };
+    let rows = [
+        (
+            Civil {
+                weekday: 4,
+                ..march
+            },
+            true,
+        ),
+        (
+            Civil {
+                weekday: 4,
+                hour: 17,
+                ..march
+            },
+            true,
+        ),
+        (
+            Civil {
+                weekday: 4,
+                hour: 10,
+                ..march
+            },
+            false,
+        ),
+        (
+            Civil {
+                weekday: 4,
+                month: 2,
+                ..march
+            },
+            false,
+        ),
+        (
+            Civil {
+                weekday: 5,
+                day: 2,
+                ..march
+            },
+            false,
+        ),
+        (january(31, 17, 0), true),
+        (january(28, 17, 0), false),
+    ];
+    for (civil, starts) in rows {
+        assert_eq!(rt; rule.matches(&civil), starts, "{civil:?}");
+    }
+    Ok(())
+}
+
+#[test]
+fn at_words(rt: HostRuntime) -> Result<(), Fail> {
+    let alloc = rt.alloc();
+    let rows = [
+        ("@yearly", "0 0 1 1 *"),
+        ("@annually", "0 0 1 1 *"),
+        ("@monthly", "0 0 1 * *"),
+        ("\t@weekly ", "0 0 * * 0"),
+        ("@daily", "0 0 * * *"),
+        ("@midnight", "0 0 * * *"),
+        ("@hourly", "0 * * * *"),
+    ];
+    for (word, fields) in rows {
+        assert!(rt;
+            cron_rule(alloc, word)? == cron_rule(alloc, fields)?,
+            "{word}"
+        );
+    }
+    let never = cron_rule(alloc, "@reboot")?;
+    assert!(rt; never == Rule::Never && never != cron_rule(alloc, "* * * * *")?);
+    for hour in 0..24 {
+        assert!(rt; !never.matches(&january(1, hour, 0)));
     }
     Ok(())
 }

@@ -54,3 +54,31 @@ fn no_second_has_these_fields(rt: HostRuntime) {
         );
     }
 }
+
+#[test]
+fn lengths_of_months(rt: HostRuntime) {
+    for (year, month, days) in [
+        (2023, 1, 31),
+        (2023, 2, 28),
+        (2023, 3, 31),
+        (2023, 4, 30),
+        (2023, 5, 31),
+        (2023, 6, 30),
+        (2023, 7, 31),
+        (2023, 8, 31),
+        (2023, 9, 30),
+        (2023, 10, 31),
+        (2023, 11, 30),
+        (2023, 12, 31),
+        (1970, 2, 28),
+        (1972, 2, 29),
+        (2000, 2, 29),
+        (2024, 2, 29),
+        (2100, 2, 28),
+        (2196, 2, 29),
+        (2199, 12, 31),
+    ] {
+        assert!(rt; 1970 <= year && year <= 2199 && 1 <= month && month <= 12);
+        assert_eq!(rt; month_length(year, month), days, "of {year}-{month}");
+    }
+}

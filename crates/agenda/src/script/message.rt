@@ -1,0 +1,35 @@
+//! The messages of a script.
+
+use std::marker::Model;
+
+/// A message: the bytes of a text, lent from the script in which it stands.
+#[derive(Debug, Drop)]
+pub struct Message<'a> {
+    text: &'a [u8],
+}
+
+impl<'a> Model for Message<'a> {
+    ghost use Rattle.std.specs.Prelude.{List, ℕ};
+
+    ghost Value = { List ℕ };
+
+    ghost view = { λ message. message.text.now };
+}
+
+impl<'a> Message<'a> {
+    ghost use Rattle.std.specs.Prelude.{◌≡◌};
+
+    /// The message with these bytes.
+    pub fn new(text: &'a [u8]) -> Message<'a>
+        ensures { result ≡ text.entry.now }
+    {
+        Message { text }
+    }
+
+    /// Its bytes.
+    pub fn as_bytes(&self) -> &[u8]
+        ensures { result.now ≡ self.now }
+    {
+        self.text
+    }
+}

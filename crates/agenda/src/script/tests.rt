@@ -1,0 +1,223 @@
+use super::*;
+use crate::output::tests::{End, LimitedWriter};
+use std::process::Abort;
+use std::test::Fail;
+
+const TWELVE_STEPS: &str =
+    "mailbox 2 2\nsend 0 a\nsend 0 b\nsend 0 c\nsend 1 d\ntake\ntake\nclose 0\nsend 0 e\ntake\ntake\nclose 1\ntake\n";
+
+const TWELVE_REPLIES: &str =
+    "sent\nsent\nfull c\nsent\ntook 0 a\ntook 1 d\nshut\nclosed e\ntook 0 b\nnothing\nshut\nended\n";
+
+fn replies(rt: &(impl Abort + AllocGlobal), script: &[u8], text: &[u8]) {
+    let mut out = Vec::new(rt.alloc());
+    let done = run_script(rt.alloc(), script, &mut out);
+    assert_eq!(rt; done, Ok(()), "{script:?}");
+    assert_eq!(rt; out.as_slice(), text, "{script:?}");
+}
+
+fn refuses(rt: &(impl Abort + AllocGlobal), script: &[u8], line: u32, cause: ScriptCause) {
+    let mut out = Vec::new(rt.alloc());
+    let done = run_script(rt.alloc(), script, &mut out);
+    let fault = RunFault::Script(ScriptFault { line, cause });
+    assert_eq!(rt; done, Err(fault), "{line}");
+    assert!(rt; out.is_empty(), "nothing is written");
+}
+
+#[test]
+fn twelve_steps_on_two_senders(rt: HostRuntime) {
+    replies(&rt, TWELVE_STEPS.as_bytes(), TWELVE_REPLIES.as_bytes());
+}
+
+#[test]
+fn each_form_of_a_line(rt: HostRuntime) {
+    let rows: [(&[u8], &[u8]); 12] = [
+        (b"mailbox 1 1", b""),
+        (b"mailbox 1 1\n", b""),
+        (b"mailbox 8 1024\n", b""),
+        (b"mailbox 0001 0002\ntake", b"nothing\n"),
+        (
+            b"mailbox 2 1\nclose 5\nclose 1\nclose 1\nsend 7 x\ntake\n",
+            b"unknown\nshut\nalready shut\nno sender x\nnothing\n",
+        ),
+        (b"mailbox 1 1\nsend 0  a\ntake\n", b"sent\ntook 0  a\n"),
+        (b"mailbox 1 1\nsend 0   \ntake\n", b"sent\ntook 0   \n"),
+        (
+            b"mailbox 1 1\nsend 0 a b  c \ntake\n",
+            b"sent\ntook 0 a b  c \n",
+        ),
+        (b"mailbox 1 1\nsend 0 a\r\ntake", b"sent\ntook 0 a\r\n"),
+        (b"mailbox 1 1\nsend 0 a\0b\ntake", b"sent\ntook 0 a\0b\n"),
+        (b"mailbox 1 1\nsend 9999 \tx\n", b"no sender \tx\n"),
+        (
+            b"mailbox 2 1\nsend 0001 \xc3\xa0\ntake\nsend 1 take\nsend 1 close 0\n",
+            b"sent\ntook 1 \xc3\xa0\nsent\nfull close 0\n",
+        ),
+    ];
+    for (script, text) in rows {
+        replies(&rt, script, text);
+    }
+}
+
+#[test]
+fn a_bad_first_line(rt: HostRuntime) {
+    let rows: [&[u8]; 16] = [
+        b"",
+        b"\n",
+        b"\nmailbox 1 1\n",
+        b"take\n",
+        b"mailbox\n",
+        b"mailbox \n",
+        b"mailbox 1\n",
+        b"mailbox 1 \n",
+        b"mailbox 1 1 \n",
+        b"mailbox 1 1 1\n",
+        b"mailbox  1 1\n",
+        b"mailbox 1  1\n",
+        b" mailbox 1 1\n",
+        b"Mailbox 1 1\n",
+        b"mailbox 1 1\r\ntake\r\n",
+        b"mailbox 1 00001\n",
+    ];
+    for script in rows {
+        refuses(&rt, script, 1, ScriptCause::BadLine);
+    }
+}
+
+#[test]
+fn a_bad_size_comes_before_a_bad_step(rt: HostRuntime) {
+    let rows: [&[u8]; 6] = [
+        b"mailbox 9 1\n",
+        b"mailbox 0 1",
+        b"mailbox 1 0\n",
+        b"mailbox 1 1025\n",
+        b"mailbox 9999 9999\n",
+        b"mailbox 9 1\nsend 0\n",
+    ];
+    for script in rows {
+        refuses(&rt, script, 1, ScriptCause::BadSize);
+    }
+}
+
+#[test]
+fn a_bad_step(rt: HostRuntime) {
+    let rows: [&[u8]; 20] = [
+        b"mailbox 1 1\nsend 0\n",
+        b"mailbox 1 1\nsend 0 \n",
+        b"mailbox 1 1\nsend\n",
+        b"mailbox 1 1\nsend  0 a\n",
+        b"mailbox 1 1\nsend x a\n",
+        b"mailbox 1 1\nsend 00000 a\n",
+        b"mailbox 1 1\nsend -1 a\n",
+        b"mailbox 1 1\nsend\t0 a\n",
+        b"mailbox 1 1\nSend 0 a\n",
+        b"mailbox 1 1\ntake \n",
+        b"mailbox 1 1\ntake 0\n",
+        b"mailbox 1 1\ntake\r\n",
+        b"mailbox 1 1\n take\n",
+        b"mailbox 1 1\nclose\n",
+        b"mailbox 1 1\nclose \n",
+        b"mailbox 1 1\nclose 0 \n",
+        b"mailbox 1 1\nclose 12345\n",
+        b"mailbox 1 1\nclose  0\n",
+        b"mailbox 1 1\n\ntake\n",
+        b"mailbox 1 1\nmailbox 1 1\n",
+    ];
+    for script in rows {
+        refuses(&rt, script, 2, ScriptCause::BadLine);
+    }
+    refuses(&rt, b"mailbox 1 1\ntake\ntake\n\n", 4, ScriptCause::BadLine);
+}
+
+#[test]
+fn bytes_that_are_no_text(rt: HostRuntime) {
+    let rows: [&[u8]; 3] = [
+        b"\xff",
+        b"mailbox 9 1\nsend 0 \xc3\n",
+        b"mailbox 1 1\nsend 0 \xed\xa0\x80\n",
+    ];
+    for script in rows {
+        refuses(&rt, script, 0, ScriptCause::NotUtf8);
+    }
+}
+
+/// A script of a mailbox and as many lines as are wanted, all alike.
+fn many(alloc: Global, count: usize, line: &[u8]) -> Result<Vec<u8>, Fail> {
+    let mut script = Vec::from_slice(alloc, b"mailbox 1 1\n")?;
+    for _ in 0..count {
+        script.extend_from_slice(line)?;
+    }
+    Ok(script)
+}
+
+#[test]
+fn ten_thousand_steps_and_one_more(rt: HostRuntime) -> Result<(), Fail> {
+    let mut script = many(rt.alloc(), 10_000, b"take\n")?;
+    let mut text = Vec::new(rt.alloc());
+    for _ in 0..10_000 {
+        text.extend_from_slice(b"nothing\n")?;
+    }
+    replies(&rt, script.as_slice(), text.as_slice());
+    script.extend_from_slice(b"take\n")?;
+    refuses(&rt, script.as_slice(), 10_002, ScriptCause::TooManySteps);
+    let mut bad = many(rt.alloc(), 10_000, b"take\n")?;
+    bad.extend_from_slice(b"give\n")?;
+    refuses(&rt, bad.as_slice(), 10_002, ScriptCause::TooManySteps);
+    let mut earlier = many(rt.alloc(), 9_999, b"take\n")?;
+    earlier.extend_from_slice(b"give\ntake\n")?;
+    refuses(&rt, earlier.as_slice(), 10_001, ScriptCause::BadLine);
+    Ok(())
+}
+
+#[test]
+fn a_script_of_the_most_bytes_and_one_more(rt: HostRuntime) -> Result<(), Fail> {
+    let mut script = Vec::from_slice(rt.alloc(), b"mailbox 1 1\nclose 0\nsend 0 ")?;
+    let mut text = Vec::from_slice(rt.alloc(), b"shut\nclosed ")?;
+    let message = MOST_BYTES - script.len();
+    for _ in 0..message {
+        script.push(b'x')?;
+        text.push(b'x')?;
+    }
+    text.push(b'\n')?;
+    replies(&rt, script.as_slice(), text.as_slice());
+    script.push(b'\xff')?;
+    refuses(&rt, script.as_slice(), 0, ScriptCause::TooLarge);
+    Ok(())
+}
+
+#[test]
+fn a_writer_that_fails_has_the_first_bytes(rt: HostRuntime) {
+    for (room, end) in [
+        (0, End::Error),
+        (10, End::Error),
+        (11, End::TakesNothing),
+        (80, End::TakesNothing),
+    ] {
+        let mut out = LimitedWriter::new(room, 3, end, false);
+        let done = run_script(rt.alloc(), TWELVE_STEPS.as_bytes(), &mut out);
+        assert_eq!(rt; done, Err(RunFault::Device), "{room}");
+        assert_eq!(rt; out.bytes(), &TWELVE_REPLIES.as_bytes()[..room]);
+    }
+    let mut out = LimitedWriter::new(128, 128, End::Error, true);
+    let done = run_script(rt.alloc(), TWELVE_STEPS.as_bytes(), &mut out);
+    assert_eq!(rt; done, Err(RunFault::Device), "the flush fails");
+    assert_eq!(rt; out.bytes(), TWELVE_REPLIES.as_bytes());
+}
+
+#[test]
+fn faults_show_their_names(rt: HostRuntime) -> Result<(), Fail> {
+    let rows = [
+        (ScriptCause::NoMemory, "NoMemory"),
+        (ScriptCause::NotUtf8, "NotUtf8"),
+        (ScriptCause::TooLarge, "TooLarge"),
+        (ScriptCause::BadLine, "BadLine"),
+        (ScriptCause::BadSize, "BadSize"),
+        (ScriptCause::TooManySteps, "TooManySteps"),
+    ];
+    for (cause, name) in rows {
+        assert_eq!(rt; format!(in rt.alloc(); "{cause}")?.as_str(), name);
+        let fault = ScriptFault { line: 1, cause };
+        assert_eq!(rt; format!(in rt.alloc(); "{fault}")?.as_str(), name);
+    }
+    Ok(())
+}

@@ -1,0 +1,74 @@
+-- What a mailbox replies, by cases.
+use Rattle.std.proofs.Common.{◌≡◌, ℕ, zero, suc, ◌<◌, Bool, true, false, not, ◌||◌, cond, eqb, ltb, List, [], ◌∷◌, length, map, replicate, None, Some, find, refl, subst, sym, ap, ◌∙◌}
+use Rattle.std.specs.List.{list_any, list_all, slice_get, AllPass}
+use Rattle.std.proofs.lemmas.List.{length-map, length-replicate}
+use Rattle.std.proofs.lemmas.Bool.{cond-true, cond-false, lt-ltb, ne_eqb, or_parts, not-true}
+use Rattle.std.proofs.lemmas.List.Elements.{All-head, All-tail}
+use Rattle.plan_mailbox.specs.declared.replies.Reply.TheVariants.{Sent, Full, Closed, NoSender, Took}
+use Rattle.plan_mailbox.specs.Mailbox.{Mailbox, senders_of, waiting_at, is_shut_at, send_reply, next_of, take_reply, IsNew, new_mailbox}
+use Rattle.plan_mailbox.specs.declared.lanes.Lane.{Lane}
+use Rattle.plan_mailbox.specs.Lanes.{queue_at, queues_of}
+use Rattle.plan_mailbox.specs.Turn.{in_turn, line_of}
+use Rattle.plan_mailbox.specs.Reply.{taking}
+use Rattle.plan_mailbox.proofs.Lines.{next-found, next-none}
+
+-- a message is sent where nothing refuses it
+pub send_reply-sent : {M : Type 0} (b : Mailbox M) (s : ℕ) (m : M) → s < senders_of b → is_shut_at b s ≡ false → (length (waiting_at b s) ≡ b.room → ⊥) → send_reply b s m ≡ Sent
+send_reply-sent b s m known open' fits =
+    let room = cond (eqb (length (waiting_at b s)) b.room) (Full m) Sent in
+    cond-true (ltb s (senders_of b)) (cond (is_shut_at b s) (Closed m) room) (NoSender m) (lt-ltb s (senders_of b) known)
+    ∙ cond-false (is_shut_at b s) (Closed m) room open' ∙ cond-false (eqb (length (waiting_at b s)) b.room) (Full m) Sent (ne_eqb (length (waiting_at b s)) b.room fits)
+
+-- marks none of which is set
+pub none_marked : (marks : List Bool) → list_any (λ x. x) marks ≡ false → marks ≡ replicate (length marks) false
+none_marked [] none = refl
+none_marked (x ∷ marks) none =
+    let parts = or_parts x (list_any (λ y. y) marks) none in
+    ap (λ y. y ∷ marks) parts.0 ∙ ap (λ ys. false ∷ ys) (none_marked marks parts.1)
+
+pub none_marked-replicate : (n : ℕ) → list_any (λ x. x) (replicate n false) ≡ false
+none_marked-replicate zero = refl
+none_marked-replicate (suc n) = none_marked-replicate n
+
+pub none_marked-pass : (marks : List Bool) → AllPass not marks → list_any (λ x. x) marks ≡ false
+none_marked-pass [] pass = refl
+none_marked-pass (x ∷ marks) pass =
+    let here = not-true x (All-head (λ y. not y ≡ true) x marks pass) in
+    ap (λ y. y || list_any (λ z. z) marks) here ∙ none_marked-pass marks (All-tail (λ y. not y ≡ true) x marks pass)
+
+-- who is next in line, by a search through the queues
+pub next-found-in : {M : Type 0} (lanes seen : List (Lane M)) (turn s : ℕ) (m : M) (rest : List M) → seen ≡ lanes → queue_at lanes s ≡ m ∷ rest
+    → Some s ≡ find (λ t. ltb 0 (length (queue_at seen t))) (in_turn (length seen) turn) → slice_get (line_of (queue_at lanes) (in_turn (length (queues_of lanes)) turn)) 0 ≡ Some (s, m)
+next-found-in lanes seen turn s m rest same waits e =
+    next-found (queue_at lanes) (in_turn (length (queues_of lanes)) turn) s m rest waits
+    (sym (e ∙ ap (λ ls. find (λ t. ltb 0 (length (queue_at ls t))) (in_turn (length ls) turn)) same ∙ ap (λ n. find (λ t. ltb 0 (length (queue_at lanes t))) (in_turn n turn)) (sym (length-map lanes (λ l. l.queue.items)))))
+
+pub next-none-in : {M : Type 0} (lanes seen : List (Lane M)) (turn : ℕ) → seen ≡ lanes
+    → None ≡ find (λ t. ltb 0 (length (queue_at seen t))) (in_turn (length seen) turn) → slice_get (line_of (queue_at lanes) (in_turn (length (queues_of lanes)) turn)) 0 ≡ None
+next-none-in lanes seen turn same e =
+    next-none (queue_at lanes) (in_turn (length (queues_of lanes)) turn)
+    (sym (e ∙ ap (λ ls. find (λ t. ltb 0 (length (queue_at ls t))) (in_turn (length ls) turn)) same ∙ ap (λ n. find (λ t. ltb 0 (length (queue_at lanes t))) (in_turn n turn)) (sym (length-map lanes (λ l. l.queue.items)))))
+
+-- where none waits, the reply is by whether all are shut
+pub take_reply-none : {M : Type 0} (b : Mailbox M) (all : Bool) → next_of b ≡ None → list_all (λ x. x) b.shut ≡ all → take_reply b ≡ taking None all
+take_reply-none b all none shut = ap (λ next. taking next (list_all (λ x. x) b.shut)) none ∙ ap (taking None) shut
+
+pub take_reply-found : {M : Type 0} (b : Mailbox M) (s : ℕ) (m : M) → next_of b ≡ Some (s, m) → take_reply b ≡ Took s m
+take_reply-found b s m found = ap (λ next. taking next (list_all (λ x. x) b.shut)) found
+
+-- whether some mark is set, of marks that a function gives
+pub list_any-map : {A : Type 0} (f : A → Bool) (xs : List A) → list_any (λ x. x) (map f xs) ≡ list_any f xs
+list_any-map f [] = refl
+list_any-map f (x ∷ xs) = ap (λ b. f x || b) (list_any-map f xs)
+
+-- a mailbox whose parts are those of a new one
+pub IsNew-from : {M : Type 0} (b : Mailbox M) → b.waiting ≡ replicate (senders_of b) [] → b.shut ≡ replicate (senders_of b) false → b.turn ≡ 0 → b.has_sent ≡ false → IsNew b
+IsNew-from b waiting shut turn sent =
+    let n = senders_of b in
+    ap (λ ws. record b { waiting = ws }) waiting ∙ ap (λ marks. record b { waiting = replicate n []; shut = marks }) shut
+    ∙ ap (λ t. record b { waiting = replicate n []; shut = replicate n false; turn = t }) turn
+    ∙ ap (λ s. record b { waiting = replicate n []; shut = replicate n false; turn = 0; has_sent = s }) sent
+
+-- a new mailbox is new
+pub IsNew-at : {M : Type 0} (b : Mailbox M) (senders room : ℕ) → b ≡ new_mailbox senders room → IsNew b
+IsNew-at {M} b senders room e = subst (λ x. IsNew x) (sym e) (ap (λ n. new_mailbox {M = M} n room) (sym (length-replicate senders [])))

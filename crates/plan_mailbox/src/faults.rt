@@ -1,0 +1,24 @@
+ghost use Rattle.std.specs.Prelude.{◌≡◌};
+ghost use Rattle.plan_mailbox.specs.declared.faults.NewFault.TheVariants.{NoMemory};
+
+use std::alloc::AllocError;
+use thiserror::Error;
+
+/// Why no mailbox was made.
+#[derive(Clone, Copy, Debug, PartialEq, Eq, Error)]
+pub enum NewFault {
+    /// Memory was refused.
+    #[error("NoMemory")]
+    NoMemory,
+    /// The number of senders isn't 1 to 8, or the room isn't 1 to 1,024.
+    #[error("BadSize")]
+    BadSize,
+}
+
+impl From<AllocError> for NewFault {
+    ghost from_gives = { λ _ fault. fault ≡ NoMemory };
+
+    fn from(_refused: AllocError) -> Self {
+        NewFault::NoMemory
+    }
+}

@@ -1,0 +1,70 @@
+-- What a pattern of a rule admits are the starts of the rule.
+use Rattle.std.proofs.Common.{◌≡◌, ℕ, ◌*◌, ◌/◌, ◌%◌, ◌<◌, Bool, true, ◌&&◌, nat_lt, Bor, refl, ◌∙◌, arith}
+use Rattle.std.proofs.lemmas.Bool.{lt-ltb}
+use Rattle.plan_sets.specs.Civil.{civil_fields}
+use Rattle.plan_sets.specs.declared.civil.Civil.{Civil}
+use Rattle.plan_sets.specs.declared.civil.TheConstants.{END_SECOND, SECONDS_A_DAY}
+use Rattle.plan_sets.proofs.MonthLemmas.{SameDate, SameDate-day, IsTime-civil_fields}
+use Rattle.plan_rules.specs.declared.cron.CronRule.{CronRule}
+use Rattle.plan_rules.specs.declared.rule.Rule.TheVariants as rule
+use Rattle.plan_next.specs.declared.search.Pattern.{Pattern}
+use Rattle.plan_next.specs.declared.search.Pattern.TheVariants.{Cron, Event}
+use Rattle.plan_rules.specs.declared.event.Calendar.{Calendar}
+use Rattle.plan_rules.specs.EventMatch.{event_matches, some_event_matches}
+use Rattle.plan_sets.specs.Values.{Values as SetOfValues, has_value}
+use Rattle.plan_rules.specs.declared.event.DayCount.{DayCount}
+use Rattle.plan_rules.specs.declared.event.DayCount.TheVariants.{FromStart, FromEnd}
+use Rattle.plan_rules.specs.EventMatch.{month_day_matches, weekday_matches}
+use Rattle.std.proofs.Common.{Option, None, Some}
+use Rattle.plan_next.specs.Starts.{is_start}
+use Rattle.plan_next.specs.Search.{admits_date, admits_day, admits_hour, admits_minute, admits_moment, admits_second}
+
+-- the date and each field of the time of day are admitted
+abbrev pub admits_fields : Pattern → Civil → Bool
+admits_fields pattern c =
+    admits_date pattern c && (admits_hour pattern c.hour && (admits_minute pattern c.minute && admits_second pattern c.second))
+
+month_day-same : (count : DayCount) (days : SetOfValues) (a b : Civil) → SameDate a b → month_day_matches count days a ≡ month_day_matches count days b
+month_day-same FromStart days a b same = rw same.day refl
+month_day-same FromEnd days a b same = rw (same.year, same.month, same.day) refl
+
+weekday-same : (weekdays : Option SetOfValues) (a b : Civil) → SameDate a b → weekday_matches weekdays a ≡ weekday_matches weekdays b
+weekday-same None a b same = refl
+weekday-same (Some weekdays) a b same = rw same.weekday refl
+
+-- a date is admitted by its year, month, day and weekday alone
+admits_date-same : (pattern : Pattern) (a b : Civil) → SameDate a b → admits_date pattern a ≡ admits_date pattern b
+admits_date-same (Cron rule) a b same = rw (same.month, same.day, same.weekday) refl
+admits_date-same (Event event) a b same =
+    let e = event.now in
+    let day = month_day-same e.day_count e.days a b same in
+    let weekday = weekday-same e.weekdays a b same in
+    λ i. has_value e.years (same.year i) && (has_value e.months (same.month i) && (day i && weekday i))
+
+pub admits_moment-fields : (pattern : Pattern) (n : ℕ) → admits_moment pattern n ≡ admits_fields pattern (civil_fields n)
+admits_moment-fields pattern n =
+    let c = civil_fields n in
+    let time = n % SECONDS_A_DAY in
+    let is = IsTime-civil_fields n in
+    let midnight : n / SECONDS_A_DAY * SECONDS_A_DAY / SECONDS_A_DAY ≡ n / SECONDS_A_DAY = omega arith in
+    let date : admits_day pattern (n / SECONDS_A_DAY) ≡ admits_date pattern c = admits_date-same pattern _ _ (SameDate-day (n / SECONDS_A_DAY * SECONDS_A_DAY) n midnight) in
+    let minute : time % 3600 / 60 ≡ c.minute = omega arith in
+    let second : time % 3600 % 60 ≡ c.second = omega arith in
+    let hour : time / 3600 ≡ c.hour = omega arith in
+    rw (date, hour, minute, second) refl
+
+-- a cron rule looks at them in the other order
+turned : (date hour minute second : Bool) → (date && (hour && (minute && second))) ≡ (second && (minute && (hour && date)))
+turned date hour minute second = grind arith
+
+-- the seconds that a cron rule's pattern admits are its starts
+pub is_start-cron : (cron : Bor CronRule) (n : ℕ) → n < END_SECOND → admits_moment (Cron cron) n ≡ is_start (rule.Cron cron.now) n
+is_start-cron cron n before =
+    let known : nat_lt n END_SECOND ≡ true = lt-ltb _ _ before in
+    let c = civil_fields n in
+    let pattern = Cron cron in
+    rw known (admits_moment-fields pattern n ∙ turned (admits_date pattern c) (admits_hour pattern c.hour) (admits_minute pattern c.minute) (admits_second pattern c.second))
+
+-- the seconds that an event's pattern admits are those whose fields it matches
+pub event_matches-moment : (event : Bor Calendar) (n : ℕ) → admits_moment (Event event) n ≡ event_matches event.now (civil_fields n)
+event_matches-moment event n = admits_moment-fields (Event event) n

@@ -1,0 +1,13 @@
+use Rattle.std.proofs.Common.{◌+◌, rules}
+use Rattle.plan_sets.specs.declared.civil.TheConstants.{END_SECOND}
+use Rattle.plan_next.specs.Starts.{is_start}
+use Rattle.plan_next.proofs.PassingLemmas.{passing-first}
+use Rattle.plan_next.proofs.next.next_start.Goals as goal
+
+-- a moment that can't be counted further lies past the end
+pub returns-clause-least : goal.returns-clause-least
+returns-clause-least c = search rules
+
+pub returns-clause-first : goal.returns-clause-first
+returns-clause-first c =
+    passing-first (is_start c.args.rule.now) (c.args.after + 1) END_SECOND c.next_from.result (returns-clause-least c)

@@ -1,0 +1,29 @@
+-- Pieces of a rule's starts.
+use Rattle.std.specs.Prelude.{ℕ, ◌+◌, ◌-◌, nat_le, if◌then◌else◌, length, slice_index, refl}
+use Rattle.std.specs.Coded.{Coded, code_by, coded×, coded_ℕ}
+use Rattle.plan_rules.specs.declared.rule.Rule.{Rule}
+use Rattle.plan_rules.specs.contracts.rule.Rule.{the_row as rule_row}
+use Rattle.plan_next.specs.Starts.{starts}
+
+-- what contracts see of a piece: a rule and a part of time; the starts follow from these
+pub record Part : Type 0 where
+  pub rule : Rule
+  pub since : ℕ
+  pub upto : ℕ
+
+-- a part is stored as the triple of its fields
+abbrev pub part_code : Coded Part
+part_code =
+    code_by (Rule × (ℕ × ℕ)) (coded× rule_row.coded (coded× coded_ℕ coded_ℕ)) (λ p. (p.rule, (p.since, p.upto)))
+    (λ t. record { rule = t.0; since = t.1.0; upto = t.1.1 }) (λ _. refl)
+
+-- where a piece ends (own): at the end of the part if that has at most `most` starts, else just after the last of the first
+-- `most` of them
+abbrev pub piece_end : Rule → (since upto most : ℕ) → ℕ
+piece_end rule since upto most =
+    let all = starts rule since upto in
+    if nat_le (length all) most then upto else slice_index all (most - 1) + 1
+
+-- the piece of a rule
+abbrev pub piece_of : Rule → (since upto most : ℕ) → Part
+piece_of rule since upto most = record { rule = rule; since = since; upto = piece_end rule since upto most }

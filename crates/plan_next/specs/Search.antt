@@ -1,0 +1,61 @@
+-- What a pattern admits (own): each field by itself, and the fields that the search puts together.
+use Rattle.std.specs.Prelude.{ℕ, ◌+◌, ◌*◌, ◌/◌, ◌%◌, Bool, true, ◌&&◌, ◌==◌}
+use Rattle.plan_sets.specs.Values.{has_value}
+use Rattle.plan_sets.specs.Civil.{civil_fields}
+use Rattle.plan_sets.specs.declared.civil.Civil.{Civil}
+use Rattle.plan_sets.specs.declared.civil.TheConstants.{SECONDS_A_DAY}
+use Rattle.plan_rules.specs.Match.{day_matches}
+use Rattle.plan_next.specs.declared.search.Pattern.{Pattern}
+use Rattle.plan_next.specs.declared.search.Pattern.TheVariants.{Cron, Event}
+use Rattle.plan_rules.specs.EventMatch.{event_day_matches}
+
+-- the years; a cron rule has every year
+abbrev pub admits_year : Pattern → ℕ → Bool
+admits_year (Cron rule) year = true
+admits_year (Event event) year = has_value event.now.years year
+
+-- the months of a year, from 1
+abbrev pub admits_month : Pattern → ℕ → Bool
+admits_month (Cron rule) month = has_value rule.now.months month
+admits_month (Event event) month = has_value event.now.months month
+
+-- the date of civil fields, of which the pattern looks at year, month, day and weekday
+abbrev pub admits_date : Pattern → Civil → Bool
+admits_date (Cron rule) civil = day_matches rule.now civil
+admits_date (Event event) civil = event_day_matches event.now civil
+
+-- the hours of a day
+abbrev pub admits_hour : Pattern → ℕ → Bool
+admits_hour (Cron rule) hour = has_value rule.now.hours hour
+admits_hour (Event event) hour = has_value event.now.hours hour
+
+-- the minutes of an hour
+abbrev pub admits_minute : Pattern → ℕ → Bool
+admits_minute (Cron rule) minute = has_value rule.now.minutes minute
+admits_minute (Event event) minute = has_value event.now.minutes minute
+
+-- the seconds of a minute; a cron rule's job starts at second 0
+abbrev pub admits_second : Pattern → ℕ → Bool
+admits_second (Cron rule) second = second == 0
+admits_second (Event event) second = has_value event.now.seconds second
+
+-- the year and the month of a month, counted from January of the year 0
+abbrev pub admits_month_number : Pattern → ℕ → Bool
+admits_month_number pattern month = admits_year pattern (month / 12) && admits_month pattern (month % 12 + 1)
+
+-- the date of a day, by its day number
+abbrev pub admits_day : Pattern → ℕ → Bool
+admits_day pattern day = admits_date pattern (civil_fields (day * SECONDS_A_DAY))
+
+-- the minute and the second of a second of an hour
+abbrev pub admits_in_hour : Pattern → ℕ → Bool
+admits_in_hour pattern second = admits_minute pattern (second / 60) && admits_second pattern (second % 60)
+
+-- the hour, the minute and the second of a time of day in seconds
+abbrev pub admits_time : Pattern → ℕ → Bool
+admits_time pattern time = admits_hour pattern (time / 3600) && admits_in_hour pattern (time % 3600)
+
+-- the date and the time of day of a second
+abbrev pub admits_moment : Pattern → ℕ → Bool
+admits_moment pattern second =
+    admits_day pattern (second / SECONDS_A_DAY) && admits_time pattern (second % SECONDS_A_DAY)

@@ -1,0 +1,158 @@
+//! Pieces: all starts of a rule in a part of time.
+
+ghost use Rattle.std.specs.Prelude.{◌≡◌, ◌<◌, ◌≤◌, IfOk, take};
+ghost use Rattle.std.specs.Arc.{arc_value};
+ghost use Rattle.plan_next.specs.Starts.{is_start, starts, IsFirstIn};
+ghost use Rattle.plan_next.specs.Piece.{piece_end, piece_of};
+
+use crate::next::next_from;
+use plan_rules::Rule;
+use plan_sets::END_SECOND;
+use std::alloc::{AllocError, AllocFailed, Global};
+use std::marker::Model;
+use std::sync::Arc;
+use thiserror::Error;
+
+/// Memory was refused.
+#[derive(Clone, Copy, Debug, PartialEq, Eq, Error)]
+#[error("NoMemory")]
+pub struct NoMemory;
+
+impl From<AllocError> for NoMemory {
+    fn from(_refused: AllocError) -> NoMemory {
+        NoMemory
+    }
+}
+
+impl<T: Drop> From<AllocFailed<T>> for NoMemory {
+    fn from(_refused: AllocFailed<T>) -> NoMemory {
+        NoMemory
+    }
+}
+
+/// A rule, a part of time and the rule's starts in it: all of them, ascending.
+#[derive(Debug, Drop)]
+pub struct Piece {
+    rule: Arc<Rule>,
+    since: u64,
+    upto: u64,
+    starts: Vec<u64>,
+}
+
+impl Model for Piece {
+    ghost use Rattle.std.specs.Prelude.{◌≡◌};
+    ghost use Rattle.plan_next.specs.Starts.{starts as starts_of};
+    ghost use Rattle.plan_next.specs.Piece.{Part, part_code};
+
+    ghost Value = { Part };
+
+    ghost coded = { part_code };
+
+    ghost view = { λ p. record { rule = p.rule.value; since = p.since; upto = p.upto } };
+
+    ghost invariant = { λ p. p.starts.items ≡ starts_of p.rule.value p.since p.upto };
+}
+
+impl Piece {
+    /// The rule.
+    pub fn rule(&self) -> &Arc<Rule>
+        ensures { arc_value result.now ≡ self.now.rule }
+    {
+        &self.rule
+    }
+
+    /// The second with which the part begins.
+    pub fn since(&self) -> u64
+        ensures { result ≡ self.now.since }
+    {
+        self.since
+    }
+
+    /// The second before which the part ends.
+    pub fn upto(&self) -> u64
+        ensures { result ≡ self.now.upto }
+    {
+        self.upto
+    }
+
+    /// The starts of the rule in the part, ascending.
+    pub fn starts(&self) -> &[u64]
+        ensures { result.now ≡ starts self.now.rule self.now.since self.now.upto }
+    {
+        &self.starts
+    }
+}
+
+/// The piece of a rule that begins at `since`: the whole part up to `upto` where that has at most `most` starts, else the
+/// part up to the last of its first `most` starts and with it.
+///
+/// `NoMemory` where memory was refused.
+pub fn next_piece(
+    alloc: Global,
+    rule: &Arc<Rule>,
+    since: u64,
+    upto: u64,
+    most: usize,
+) -> Result<Piece, NoMemory>
+    requires part { since ≤ upto }
+    requires years { upto ≤ END_SECOND }
+    requires room { 1 ≤ most }
+
+    ensures piece { IfOk result (λ piece. piece ≡ piece_of (arc_value rule.now) since upto most) }
+    ensures first { IfOk result
+        (λ piece. starts (arc_value rule.now) since piece.upto
+        ≡ take most (starts (arc_value rule.now) since upto)) }
+
+    // A caller that goes on from where the piece ends comes to `upto`.
+    ensures within { IfOk result (λ piece. piece.upto ≤ upto) }
+    ensures moves { IfOk result (λ piece. since < upto → since < piece.upto) }
+{
+    let rule = Arc::try_clone(rule)?;
+    let (starts, upto) = first_starts(alloc, &rule, since, upto, most)?;
+    Ok(Piece {
+        rule,
+        since,
+        upto,
+        starts,
+    })
+}
+
+// The first starts of a part, at most `most`, and the second before which they are all.
+fn first_starts(
+    alloc: Global,
+    rule: &Rule,
+    since: u64,
+    upto: u64,
+    most: usize,
+) -> Result<(Vec<u64>, u64), NoMemory>
+    requires part { since ≤ upto }
+    requires years { upto ≤ END_SECOND }
+    requires room { 1 ≤ most }
+    ensures end { IfOk result (λ found. found.1 ≡ piece_end rule.now since upto most) }
+    ensures all { IfOk result (λ found. found.0.items ≡ starts rule.now since found.1) }
+    ensures first { IfOk result (λ found. found.0.items ≡ take most (starts rule.now since upto)) }
+    ensures within { IfOk result (λ found. found.1 ≤ upto) }
+    ensures moves { IfOk result (λ found. since < upto → since < found.1) }
+{
+    let mut found = Vec::new(alloc);
+    let mut reached = since;
+    while let Some(start) = next_before(rule, reached, upto) {
+        if found.len() == most {
+            return Ok((found, reached));
+        }
+        found.push(start)?;
+        reached = start + 1;
+    }
+    Ok((found, upto))
+}
+
+// The first start of a rule from `since` on, before `upto`.
+fn next_before(rule: &Rule, since: u64, upto: u64) -> Option<u64>
+    requires { upto ≤ END_SECOND }
+    ensures { IsFirstIn (is_start rule.now) since upto result }
+{
+    next_from(rule, since).filter(|start| *start < upto)
+}
+
+#[cfg(test)]
+mod tests;

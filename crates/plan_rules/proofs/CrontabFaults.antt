@@ -1,0 +1,130 @@
+-- Which faults a crontab has: a want of memory is of line 0, and it never stands inside a rule's fault.
+use Rattle.std.proofs.Common.{◌≡◌, ◌≢◌, ℕ, ◌+◌, ◌≤◌, Bool, true, false, cond, eqb, nat_lt, List, [], ◌∷◌, length, Option, Some, None, Result, Ok, Err, IfErr, refl, ap, sym, inl, inr}
+use Rattle.std.proofs.lemmas.Bool.{cases_eq, le-ltb}
+use Rattle.std.proofs.lemmas.Str.{IsUtf8-from_is_utf8, is_utf8-from_IsUtf8}
+use Rattle.std.specs.List.{enumerate_from, list_any}
+use Rattle.std.specs.Str.{IsUtf8, is_utf8}
+use Rattle.plan_rules.specs.declared.crontabs.Kind.{Kind}
+use Rattle.plan_rules.specs.declared.crontabs.Kind.TheVariants.{User, System}
+use Rattle.plan_rules.specs.declared.lines.TheConstants.{MOST_BYTES}
+use Rattle.plan_rules.specs.declared.fault.RuleFault.{RuleFault}
+use Rattle.plan_rules.specs.declared.fault.RuleCause.{RuleCause}
+use Rattle.plan_rules.specs.declared.fault.RuleCause.TheVariants as cause
+use Rattle.plan_rules.specs.declared.line_fault.LineCause.{LineCause}
+use Rattle.plan_rules.specs.declared.line_fault.LineCause.TheVariants.{NoMemory, NotUtf8, TooLarge, Rule, BadSetting}
+use Rattle.plan_rules.specs.declared.line_fault.LineFault.{LineFault}
+use Rattle.plan_rules.specs.Steps.{Reading, ◌>>=◌, each, GivesUnless}
+use Rattle.plan_rules.specs.Lines.{lines, after_blanks, cut_word, LineReading, TextReading, IsOwnCause, cause_by_cause, in_line, on_line, fault_on_line, want_of_memory}
+use Rattle.plan_rules.specs.Job.{JobParts}
+use Rattle.plan_rules.specs.Crontab.{rule_in_front, command_reading, user_and_command, what_reading, job_reading, begins_setting, entry_reading, line_reading, numbered_reading, jobs_reading, crontab_reading}
+
+-- what is true of each fault
+abbrev pub IsOwnFault : LineFault → Type 0
+IsOwnFault fault = (fault.cause ≡ NoMemory → fault.line ≡ 0) × IsOwnCause fault.cause
+
+pub steps : {A B E : Type 0} (P : E → Type 0) (r : Result A E) (next : A → Result B E) → IfErr r P → ((x : A) → IfErr (next x) P) → IfErr (r >>= next) P
+steps P (Ok x) next first later = later x
+steps P (Err fault) next first later = first
+
+pub elements : {A B E : Type 0} (P : E → Type 0) (f : A → Result B E) → ((x : A) → IfErr (f x) P) → (xs : List A) → IfErr (each f xs) P
+elements P f one [] = tt
+elements P f one (x ∷ xs) = steps P (f x) _ (one x) (λ y. steps P (each f xs) _ (elements P f one xs) (λ ys. tt))
+
+pub choice : {A E : Type 0} (P : E → Type 0) (b : Bool) (x y : Result A E) → IfErr x P → IfErr y P → IfErr (cond b x y) P
+choice P true x y first second = first
+choice P false x y first second = second
+
+-- ---- the cause of a line
+
+rule_cause : (c : RuleCause) (fault : RuleFault) → fault.cause ≡ c → IsOwnCause (cause_by_cause c fault)
+rule_cause cause.NoMemory fault is = tt
+rule_cause c fault is = λ none. cc
+
+pub rule_in : {A : Type 0} (r : Reading A) → IfErr (in_line r) IsOwnCause
+rule_in (Ok x) = tt
+rule_in (Err fault) = rule_cause fault.cause fault refl
+
+command : (text : List ℕ) → IfErr (command_reading text) IsOwnCause
+command text = choice IsOwnCause (eqb (length text) 0) _ _ tt tt
+
+user : (cut : Option (List ℕ × List ℕ)) → IfErr (user_and_command cut) IsOwnCause
+user None = tt
+user (Some cut) = steps IsOwnCause (command_reading (after_blanks cut.1)) _ (command (after_blanks cut.1)) (λ c. tt)
+
+what : (kind : Kind) (text : List ℕ) → IfErr (what_reading kind text) IsOwnCause
+unfolding what_reading
+what User text = command (after_blanks text)
+what System text = user (cut_word text)
+
+job : (kind : Kind) (number : ℕ) (text : List ℕ) → IfErr (job_reading kind number text) IsOwnCause
+unfolding job_reading
+job kind number text =
+    steps IsOwnCause (in_line (rule_in_front text)) _ (rule_in (rule_in_front text))
+    (λ front. steps IsOwnCause (what_reading kind front.1) _ (what kind front.1) (λ c. tt))
+
+entry : (kind : Kind) (number : ℕ) (text : List ℕ) → IfErr (entry_reading kind number text) IsOwnCause
+entry kind number [] = tt
+entry kind number (first ∷ rest) =
+    choice IsOwnCause (eqb first 35) _ _ tt
+    (choice IsOwnCause (begins_setting first) _ _
+    (choice IsOwnCause (list_any (λ b. eqb b 61) (first ∷ rest)) (Ok None) (Err BadSetting) tt tt)
+    (steps IsOwnCause (job_reading kind number (first ∷ rest)) _ (job kind number (first ∷ rest)) (λ j. tt)))
+
+line : (kind : Kind) (number : ℕ) (text : List ℕ) → IfErr (line_reading kind number text) IsOwnCause
+unfolding line_reading
+line kind number text = entry kind number (after_blanks text)
+
+-- ---- the fault of a text
+
+fault_of : (number : ℕ) (c : LineCause) → IsOwnCause c → IsOwnFault (fault_on_line number c)
+fault_of number NoMemory own = (λ is. refl, tt)
+fault_of number (Rule fault) own = (λ is. cc, own)
+fault_of number c own = (λ is. cc, tt)
+
+pub on : {A : Type 0} (number : ℕ) (r : LineReading A) → IfErr r IsOwnCause → IfErr (on_line number r) IsOwnFault
+on number (Ok x) own = tt
+on number (Err c) own = fault_of number c own
+
+pub jobs : (kind : Kind) (texts : List (List ℕ)) → IfErr (jobs_reading kind texts) IsOwnFault
+unfolding jobs_reading
+jobs kind texts =
+    steps IsOwnFault (each (numbered_reading kind) (enumerate_from 0 texts)) _
+    (elements IsOwnFault (numbered_reading kind) (λ text. on (text.0 + 1) (line_reading kind (text.0 + 1) text.1) (line kind (text.0 + 1) text.1)) (enumerate_from 0 texts))
+    (λ found. tt)
+
+-- each fault of a crontab's meaning
+pub crontab : (kind : Kind) (bytes : List ℕ) → IfErr (crontab_reading kind bytes) IsOwnFault
+crontab kind bytes =
+    choice IsOwnFault (nat_lt MOST_BYTES (length bytes)) _ _ (on {A = List JobParts} 0 (Err TooLarge) tt)
+    (choice IsOwnFault (is_utf8 bytes) _ _ (jobs kind (lines bytes)) (on {A = List JobParts} 0 (Err NotUtf8) tt))
+
+-- ---- so each fault that a call answers
+
+unless_memory : (number : ℕ) (c : LineCause) → ((record { line = number; cause = c }) ≢ want_of_memory → IsOwnFault (record { line = number; cause = c })) → IsOwnFault (record { line = number; cause = c })
+unless_memory number NoMemory other =
+    elim (cases_eq number 0) [
+      | inl none ↦ (λ is. none, tt)
+      | inr some ↦ other (λ same. some (ap (λ (f : LineFault). f.line) same))
+    ]
+unless_memory number c other = other (λ same. cc (ap (λ (f : LineFault). f.cause) same))
+
+pub answered : {A B : Type 0} (view : A → B) (answer : Result A LineFault) (reading : TextReading B) → GivesUnless want_of_memory view answer reading → IfErr reading IsOwnFault → IfErr answer IsOwnFault
+answered view (Ok x) reading gives own = tt
+answered view (Err fault) reading gives own =
+    unless_memory fault.line fault.cause (λ other. at_fault reading (gives other) own)
+  where
+    at_fault : {C : Type 0} (r : TextReading C) → r ≡ Err fault → IfErr r IsOwnFault → IsOwnFault fault
+    at_fault (Ok x) is own = absurd cc
+    at_fault (Err e) is own = let same : e ≡ fault = cc in rw (sym same) own
+
+-- ---- the bytes of a crontab
+
+pub not_utf8 : (b : Bool) (bytes : List ℕ) → is_utf8 bytes ≡ b → (IsUtf8 bytes → ⊥) → b ≡ false
+not_utf8 true bytes is other = absurd (other (IsUtf8-from_is_utf8 bytes is))
+not_utf8 false bytes is other = refl
+
+pub crontab_of_text : (kind : Kind) (bytes : List ℕ) → length bytes ≤ MOST_BYTES → IsUtf8 bytes → crontab_reading kind bytes ≡ jobs_reading kind (lines bytes)
+crontab_of_text kind bytes few utf8 = rw (le-ltb MOST_BYTES (length bytes) few, is_utf8-from_IsUtf8 bytes utf8) refl
+
+pub crontab_of_no_text : (kind : Kind) (bytes : List ℕ) → length bytes ≤ MOST_BYTES → (IsUtf8 bytes → ⊥) → crontab_reading kind bytes ≡ Err (fault_on_line 0 NotUtf8)
+crontab_of_no_text kind bytes few other = rw (le-ltb MOST_BYTES (length bytes) few, not_utf8 (is_utf8 bytes) bytes refl other) refl

@@ -1,0 +1,68 @@
+-- Jobs by their names: the entries of a map, whose keys are the names of its values.
+use Rattle.std.proofs.Common.{◌≡◌, ℕ, ◌+◌, Bool, false, cond, not, nat_lt, List, [], ◌∷◌, ◌++◌, map, Option, Some, None, is_some, String, Global, string_bytes, position, refl, ap, sym, ◌∙◌, true≢false, subst}
+use Rattle.std.proofs.lemmas.List.{map-append, length-map}
+use Rattle.std.specs.List.{prefix_len, IsDistinct, AllByRecursion}
+use Rattle.std.specs.Map.{keys_of, values_of}
+use Rattle.std.specs.Str.{bytes_eq}
+use Rattle.std.specs.String.{string_eq}
+use Rattle.indexmap.specs.IndexMap.{IndexMap, insert_entry}
+use Rattle.indexmap.proofs.CallerLemmas.{insert_entry-new}
+use Rattle.indexmap.proofs.MapLemmas.{some_index}
+use Rattle.plan_rules.specs.Job.{JobParts}
+use Rattle.plan_rules.specs.Jobs.{number_of, HaveDistinctNames}
+
+prefix_len-map : {A B : Type 0} (p : B → Bool) (f : A → B) (xs : List A) → prefix_len p (map f xs) ≡ prefix_len (λ x. p (f x)) xs
+prefix_len-map p f [] = refl
+prefix_len-map p f (x ∷ xs) = ap (λ n. cond (p (f x)) (1 + n) 0) (prefix_len-map p f xs)
+
+position-map : {A B : Type 0} (p : B → Bool) (f : A → B) (xs : List A) → position p (map f xs) ≡ position (λ x. p (f x)) xs
+position-map p f xs =
+    let first = prefix_len-map (λ y. not (p y)) f xs in
+    let all = length-map xs f in
+    λ i. cond (nat_lt (first i) (all i)) (Some (first i)) None
+
+-- the keys are the names of the values
+abbrev pub KeysAreNames : List (String Global × JobParts) → Type 0
+KeysAreNames es = map (λ key. string_bytes key) (keys_of es) ≡ map (λ job. job.name) (values_of es)
+
+-- so the place of a key is the number of a job
+pub number_of-keys : (name : List ℕ) (es : List (String Global × JobParts)) → KeysAreNames es → position (λ key. bytes_eq name (string_bytes key)) (keys_of es) ≡ number_of name (values_of es)
+number_of-keys name es same =
+    sym (position-map (bytes_eq name) (λ key. string_bytes key) (keys_of es))
+    ∙ ap (position (bytes_eq name)) same
+    ∙ position-map (bytes_eq name) (λ job. job.name) (values_of es)
+
+apart : {A B : Type 0} (e : B → B → Bool) (f : A → B) (x : A) (xs : List A) → AllByRecursion (λ y. e (f x) (f y) ≡ false) xs → AllByRecursion (λ y. e (f x) y ≡ false) (map f xs)
+apart e f x [] h = tt
+apart e f x (y ∷ ys) h = (h.0, apart e f x ys h.1)
+
+IsDistinct-map : {A B : Type 0} (e : B → B → Bool) (f : A → B) (xs : List A) → IsDistinct (λ x y. e (f x) (f y)) xs → IsDistinct e (map f xs)
+unfolding IsDistinct
+IsDistinct-map e f [] h = tt
+IsDistinct-map e f (x ∷ xs) h = (apart e f x xs h.0, IsDistinct-map e f xs h.1)
+
+-- and the names are distinct, as the keys are
+pub HaveDistinctNames-keys : (es : List (String Global × JobParts)) → KeysAreNames es → IsDistinct string_eq (keys_of es) → HaveDistinctNames (values_of es)
+HaveDistinctNames-keys es same distinct =
+    let P : List (List ℕ) → Type 0 = IsDistinct bytes_eq in
+    subst P same (IsDistinct-map bytes_eq (λ key. string_bytes key) (keys_of es) distinct)
+
+none_there : {A : Type 0} (o : Option A) → is_some o ≡ false → o ≡ None
+none_there None h = refl
+none_there (Some x) h = absurd (true≢false h)
+
+-- a job whose name no job has goes last
+pub insert_entry-job : {S : Type 0} (m : IndexMap (String Global) JobParts S) (key : String Global) (job : JobParts) → KeysAreNames m.entries → string_bytes key ≡ job.name → is_some (number_of job.name (values_of m.entries)) ≡ false → insert_entry string_eq m.entries key job ≡ m.entries ++ (key, job) ∷ []
+insert_entry-job m key job same named absent =
+    insert_entry-new string_eq m key job
+    (none_there _ (sym (some_index (string_eq key) m.entries) ∙ ap is_some (number_of-keys (string_bytes key) m.entries same)
+    ∙ ap (λ name. is_some (number_of name (values_of m.entries))) named ∙ absent))
+
+-- and then the keys still are the names
+pub KeysAreNames-push : (es : List (String Global × JobParts)) (key : String Global) (job : JobParts) → KeysAreNames es → string_bytes key ≡ job.name → KeysAreNames (es ++ (key, job) ∷ [])
+KeysAreNames-push es key job same named =
+    ap (map (λ k. string_bytes k)) (map-append (λ e. e.0) es ((key, job) ∷ []))
+    ∙ map-append (λ k. string_bytes k) (keys_of es) (key ∷ [])
+    ∙ (λ i. same i ++ named i ∷ [])
+    ∙ sym (map-append (λ j. j.name) (values_of es) (job ∷ []))
+    ∙ ap (map (λ j. j.name)) (sym (map-append (λ e. e.1) es ((key, job) ∷ [])))

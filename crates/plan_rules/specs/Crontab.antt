@@ -1,0 +1,120 @@
+-- The meaning of a crontab (crontab(5)): the jobs of its lines, or its first fault with its line.
+use Rattle.std.specs.Prelude.{ℕ, ◌+◌, Bool, ◌||◌, ◌==◌, nat_lt, if◌then◌else◌, List, [], ◌∷◌, ◌++◌, length, codes, Option, Some, None, Ok, Err, ok_or}
+use Rattle.std.specs.Char.{is_ascii_alphabetic}
+use Rattle.std.specs.Fmt.{decimal}
+use Rattle.std.specs.List.{list_any, filter_map, enumerate_from}
+use Rattle.std.specs.Str.{byte, is_utf8}
+use Rattle.plan_rules.specs.declared.crontabs.Kind.{Kind}
+use Rattle.plan_rules.specs.declared.crontabs.Kind.TheVariants.{User, System}
+use Rattle.plan_rules.specs.declared.lines.TheConstants.{MOST_BYTES}
+use Rattle.plan_rules.specs.declared.fault.RuleCause.TheVariants.{WrongParts}
+use Rattle.plan_rules.specs.declared.line_fault.LineCause.TheVariants.{TooLarge, NotUtf8, BadSetting, NoCommand}
+use Rattle.plan_rules.specs.declared.rule.Rule.{Rule}
+use Rattle.plan_rules.specs.Text.{begins_with}
+use Rattle.plan_rules.specs.Steps.{Reading, ◌>>=◌, each}
+use Rattle.plan_rules.specs.Cron.{five_fields, at_word, found_reading}
+use Rattle.plan_rules.specs.Lines.{lines, after_blanks, cut_word, LineReading, TextReading, in_line, on_line}
+use Rattle.plan_rules.specs.Job.{JobParts}
+
+-- ---- the rule in front of a line
+
+-- the next word of a line and what follows it; without one the line has too few parts (crontab(5), fields)
+abbrev pub next_part : List ℕ → Reading (List ℕ × List ℕ)
+next_part text = ok_or (cut_word text) (record { part = 0; cause = WrongParts })
+
+-- the rule of five fields and what follows them; there are five before the first is read (own)
+unfoldable pub fields_in_front : List ℕ → Reading (Rule × List ℕ)
+fields_in_front text = do
+  minute ← next_part text
+  hour ← next_part (minute.1)
+  month_day ← next_part (hour.1)
+  month ← next_part (month_day.1)
+  week_day ← next_part (month.1)
+  rule ← five_fields (minute.0 ∷ hour.0 ∷ month_day.0 ∷ month.0 ∷ week_day.0 ∷ [])
+  Ok (rule, week_day.1)
+
+-- the rule of a word that begins with `@`, and what follows it (crontab(5), extensions)
+unfoldable pub at_word_in_front : List ℕ → Reading (Rule × List ℕ)
+at_word_in_front text = do
+  word ← next_part text
+  rule ← found_reading (at_word (word.0))
+  Ok (rule, word.1)
+
+-- the rule in front of a line without blanks in front, and what follows it
+abbrev pub rule_in_front : List ℕ → Reading (Rule × List ℕ)
+rule_in_front text =
+    if begins_with (λ b. b == byte "@") text then at_word_in_front text else fields_in_front text
+
+-- ---- what a line's job runs
+
+-- a command is kept as it is written; none is a fault (own)
+abbrev pub command_reading : List ℕ → LineReading (List ℕ)
+command_reading command = if length command == 0 then Err NoCommand else Ok command
+
+-- a user, one space and the command; no user is no command (own)
+abbrev pub user_and_command : Option (List ℕ × List ℕ) → LineReading (List ℕ)
+user_and_command None = Err NoCommand
+user_and_command (Some cut) = do
+  command ← command_reading (after_blanks (cut.1))
+  Ok (cut.0 ++ byte " " ∷ command)
+
+-- what the job of a line runs, by what follows its rule; in the system's crontab a user comes first (crontab(5), the note
+-- on the system crontab)
+unfoldable pub what_reading : Kind → List ℕ → LineReading (List ℕ)
+what_reading User text = command_reading (after_blanks text)
+what_reading System text = user_and_command (cut_word text)
+
+-- ---- a line
+
+-- the name of a line's job (own)
+abbrev pub job_name : Kind → ℕ → List ℕ
+job_name User number = codes "cron:" ++ decimal number
+job_name System number = codes "system:" ++ decimal number
+
+-- the job of a line without blanks in front: its rule is read first (own)
+unfoldable pub job_reading : Kind → ℕ → List ℕ → LineReading JobParts
+job_reading kind number text = do
+  front ← in_line (rule_in_front text)
+  what ← what_reading kind (front.1)
+  Ok (record { name = job_name kind number; what = what; rule = front.0 })
+
+-- the first characters of a setting: a letter, `_`, or a quote (own)
+abbrev pub begins_setting : ℕ → Bool
+begins_setting b = is_ascii_alphabetic b || ((b == byte "_") || ((b == byte "\"") || (b == byte "'")))
+
+-- a setting holds `=` and gives no job (crontab(5), environment settings)
+abbrev pub setting_reading : List ℕ → LineReading (Option JobParts)
+setting_reading text = if list_any (λ b. b == byte "=") text then Ok None else Err BadSetting
+
+-- a line without blanks in front, by its first character: it may be empty, a comment or a setting, and else it is a job
+-- (crontab(5))
+abbrev pub entry_reading : Kind → ℕ → List ℕ → LineReading (Option JobParts)
+entry_reading kind number [] = Ok None
+entry_reading kind number (first ∷ rest) =
+    if first == byte "#" then Ok None
+    else (if begins_setting first then setting_reading (first ∷ rest)
+    else (do
+      job ← job_reading kind number (first ∷ rest)
+      Ok (Some job)))
+
+-- a line; blanks in front of it are ignored (crontab(5))
+unfoldable pub line_reading : Kind → ℕ → List ℕ → LineReading (Option JobParts)
+line_reading kind number line = entry_reading kind number (after_blanks line)
+
+-- ---- a crontab
+
+-- the reading of the line at a place, from 0: its number counts from 1 (own)
+abbrev pub numbered_reading : Kind → ℕ × List ℕ → TextReading (Option JobParts)
+numbered_reading kind line = on_line (line.0 + 1) (line_reading kind (line.0 + 1) (line.1))
+
+-- the jobs of the lines in order; the first faulty line decides
+unfoldable pub jobs_reading : Kind → List (List ℕ) → TextReading (List JobParts)
+jobs_reading kind lines = do
+  found ← each (numbered_reading kind) (enumerate_from 0 lines)
+  Ok (filter_map (λ job. job) found)
+
+-- the meaning of a crontab: its size is looked at first, then its bytes, then its lines (own)
+abbrev pub crontab_reading : Kind → List ℕ → TextReading (List JobParts)
+crontab_reading kind bytes =
+    if nat_lt MOST_BYTES (length bytes) then on_line 0 (Err TooLarge)
+    else (if is_utf8 bytes then jobs_reading kind (lines bytes) else on_line 0 (Err NotUtf8))

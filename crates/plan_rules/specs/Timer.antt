@@ -1,0 +1,182 @@
+-- The meaning of a timer file (systemd.timer(5), systemd.syntax(7)): its job, or its first fault with its line.
+use Rattle.std.specs.Prelude.{ℕ, ◌-◌, Bool, false, ◌&&◌, ◌||◌, ◌==◌, nat_le, nat_lt, nat_eq, if◌then◌else◌, List, [], ◌∷◌, ◌++◌, length, take, map, codes, Option, Some, None, Ok, Err, unwrap_or}
+use Rattle.std.specs.Char.{is_ascii_alphabetic, is_ascii_digit}
+use Rattle.std.specs.List.{list_any, list_all, slice_index, slice_range, ends_with, position_or_len, before_first, after_first, enumerate_from}
+use Rattle.std.specs.Option.{option_map_or}
+use Rattle.std.specs.Str.{byte, bytes_eq, is_utf8}
+use Rattle.plan_rules.specs.declared.lines.TheConstants.{MOST_BYTES}
+use Rattle.plan_rules.specs.declared.event.Calendar.{Calendar}
+use Rattle.plan_rules.specs.declared.line_fault.LineCause.TheVariants.{TooLarge, NotUtf8, BadTimerName, NoTimerSection, TooManyLines}
+use Rattle.plan_rules.specs.declared.rule.Rule.TheVariants.{Events}
+use Rattle.plan_rules.specs.declared.timers.Key.{Key}
+use Rattle.plan_rules.specs.declared.timers.Key.TheVariants.{OnCalendar, Monotonic, UnitName, OtherKey}
+use Rattle.plan_rules.specs.declared.timers.TheConstants.{MOST_EVENTS}
+use Rattle.plan_rules.specs.Text.{begins_with}
+use Rattle.plan_rules.specs.Steps.{◌>>=◌, each}
+use Rattle.plan_rules.specs.Event.{event_reading}
+use Rattle.plan_rules.specs.Lines.{TextReading, in_line, on_line}
+use Rattle.plan_rules.specs.Job.{JobParts}
+use Rattle.plan_rules.specs.WholeLines.{whole_lines, trimmed}
+
+-- ---- the name
+
+-- the characters of a timer's name: letters, digits and `:`, `-`, `_`, `.`, `\` (own)
+abbrev pub is_name_byte : ℕ → Bool
+is_name_byte b =
+    is_ascii_alphabetic b
+    || (is_ascii_digit b
+    || ((b == byte ":") || ((b == byte "-") || ((b == byte "_") || ((b == byte ".") || (b == byte "\\"))))))
+
+-- a timer's name has 7 to 255 bytes and ends in `.timer` (own)
+unfoldable pub is_timer_name : List ℕ → Bool
+is_timer_name name =
+    nat_le 7 (length name)
+    && (nat_le (length name) 255 && (ends_with nat_eq name (codes ".timer") && list_all is_name_byte name))
+
+-- the service of a timer's name: its last `.timer` is replaced by `.service` (systemd.timer(5), `Unit=`)
+abbrev pub service_name : List ℕ → List ℕ
+service_name name = take (length name - 6) name ++ codes ".service"
+
+-- ---- a whole line, without blanks at its ends
+
+-- the name of the section that a line begins, between `[` and `]` (systemd.syntax(7))
+unfoldable pub section_name : List ℕ → Option (List ℕ)
+section_name text =
+    if begins_with (λ b. b == byte "[") text && (slice_index text (length text - 1) == byte "]")
+    then Some (slice_range text 1 (length text - 1))
+    else None
+
+-- names of sections are compared exactly (systemd.syntax(7))
+abbrev pub is_timer : List ℕ → Bool
+is_timer section = bytes_eq section (codes "Timer")
+
+-- the key and the value of a setting, around the first `=`, without blanks at their ends (systemd.syntax(7))
+unfoldable pub setting_of : List ℕ → Option (List ℕ × List ℕ)
+setting_of text =
+    let is_equals : ℕ → Bool = λ b. b == byte "=" in
+    if nat_lt (position_or_len is_equals text) (length text)
+    then Some (trimmed (before_first is_equals text), trimmed (after_first is_equals text))
+    else None
+
+-- ---- what a setting of the `[Timer]` section does
+
+-- the keys of monotonic timers (systemd.timer(5))
+abbrev pub monotonic_keys : List (List ℕ)
+monotonic_keys =
+    codes "OnActiveSec" ∷ codes "OnBootSec" ∷ codes "OnStartupSec" ∷ codes "OnUnitActiveSec"
+    ∷ codes "OnUnitInactiveSec" ∷ []
+
+-- keys are compared exactly (systemd.syntax(7))
+unfoldable pub key_of : List ℕ → Key
+key_of text =
+    if bytes_eq text (codes "OnCalendar") then OnCalendar
+    else (if list_any (bytes_eq text) monotonic_keys then Monotonic
+    else (if bytes_eq text (codes "Unit") then UnitName else OtherKey))
+
+-- a line empties the list of events, adds an event to it, names the unit that is started, or does nothing
+pub data Effect : Type 0 where
+  Reset : Effect
+  Event : (text : List ℕ) → Effect
+  Starts : (unit : List ℕ) → Effect
+  Nothing : Effect
+
+-- an empty value of a key of time empties the list, an empty unit counts for nothing, and monotonic times are passed over
+-- (systemd.timer(5); own for the last two)
+abbrev pub effect_of : Key → List ℕ → Effect
+effect_of OnCalendar value = if length value == 0 then Reset else Event value
+effect_of Monotonic value = if length value == 0 then Reset else Nothing
+effect_of UnitName value = if length value == 0 then Nothing else Starts value
+effect_of OtherKey value = Nothing
+
+-- ---- what the lines do
+
+-- whether the lines after a line stand in a `[Timer]` section; several of them count as one (systemd.syntax(7))
+abbrev pub inside_after : Bool → Option (List ℕ) → Bool
+inside_after inside section = option_map_or is_timer section inside
+
+-- what a line does, by the section that it begins or its setting: only settings in a `[Timer]` section do anything
+abbrev pub line_effect : Bool → Option (List ℕ) → Option (List ℕ × List ℕ) → Effect
+line_effect inside (Some section) setting = Nothing
+line_effect inside None None = Nothing
+line_effect inside None (Some setting) = if inside then effect_of (key_of (setting.0)) (setting.1) else Nothing
+
+-- what the lines do in turn, each with its number
+abbrev pub effects_from : Bool → List (ℕ × List ℕ) → List (ℕ × Effect)
+effects_from inside [] = []
+effects_from inside (line ∷ more) =
+    (line.0, line_effect inside (section_name (line.1)) (setting_of (line.1)))
+    ∷ effects_from (inside_after inside (section_name (line.1))) more
+
+-- whether one of the lines begins a `[Timer]` section
+abbrev pub has_timer : List (ℕ × List ℕ) → Bool
+has_timer lines = list_any (λ line. inside_after false (section_name (line.1))) lines
+
+-- ---- the events, and the unit that is started
+
+-- a list with one more in front of its first list
+abbrev pub onto_group : ℕ × List ℕ → List (List (ℕ × List ℕ)) → List (List (ℕ × List ℕ))
+onto_group event [] = (event ∷ []) ∷ []
+onto_group event (group ∷ more) = (event ∷ group) ∷ more
+
+-- the texts of events in the order of their lines, cut wherever the list is emptied
+abbrev pub groups : List (ℕ × Effect) → List (List (ℕ × List ℕ))
+groups [] = [] ∷ []
+groups ((number, Reset) ∷ more) = [] ∷ groups more
+groups ((number, Event text) ∷ more) = onto_group (number, text) (groups more)
+groups ((number, Starts unit) ∷ more) = groups more
+groups ((number, Nothing) ∷ more) = groups more
+
+-- an event at a place of its group: where the list holds 64 already, that is a fault before the text is read (own)
+abbrev pub event_at : ℕ × (ℕ × List ℕ) → TextReading Calendar
+event_at (place, (number, text)) =
+    on_line number (if nat_lt place MOST_EVENTS then in_line (event_reading text) else Err TooManyLines)
+
+-- the events of a group
+abbrev pub group_reading : List (ℕ × List ℕ) → TextReading (List Calendar)
+group_reading group = each event_at (enumerate_from 0 group)
+
+-- the last of some lists
+abbrev pub last_group : List (List Calendar) → List Calendar
+last_group [] = []
+last_group (group ∷ []) = group
+last_group (group ∷ next ∷ more) = last_group (next ∷ more)
+
+-- the events after the last reset (systemd.timer(5), `OnCalendar=`); a fault counts even where a later line empties the list
+-- (own)
+abbrev pub events_reading : List (ℕ × Effect) → TextReading (List Calendar)
+events_reading effects = do
+  found ← each group_reading (groups effects)
+  Ok (last_group found)
+
+-- the first unit that is named (own)
+abbrev pub first_unit : List (ℕ × Effect) → Option (List ℕ)
+first_unit [] = None
+first_unit ((number, Reset) ∷ more) = first_unit more
+first_unit ((number, Event text) ∷ more) = first_unit more
+first_unit ((number, Starts unit) ∷ more) = Some unit
+first_unit ((number, Nothing) ∷ more) = first_unit more
+
+-- ---- a timer file
+
+-- the job of a timer with a `[Timer]` section, by its name, the unit that it names, and its events (systemd.timer(5))
+abbrev pub job_with : Bool → List ℕ → Option (List ℕ) → List Calendar → TextReading JobParts
+job_with found name unit events =
+    if found
+    then Ok (record { name = name; what = unwrap_or unit (service_name name); rule = Events events })
+    else on_line 0 (Err NoTimerSection)
+
+-- the job of a timer's whole lines, without blanks at their ends; that a `[Timer]` section is missing comes last (own)
+abbrev pub timer_of_lines : List ℕ → List (ℕ × List ℕ) → TextReading JobParts
+timer_of_lines name lines = do
+  events ← events_reading (effects_from false lines)
+  job_with (has_timer lines) name (first_unit (effects_from false lines)) events
+
+-- the meaning of a timer file: its name is looked at first, then its size, then its bytes, then its lines (own)
+abbrev pub timer_reading : List ℕ → List ℕ → TextReading JobParts
+timer_reading name bytes =
+    if is_timer_name name
+    then (if nat_lt MOST_BYTES (length bytes) then on_line 0 (Err TooLarge)
+    else (if is_utf8 bytes
+    then timer_of_lines name (map (λ line. (line.0, trimmed (line.1))) (whole_lines bytes))
+    else on_line 0 (Err NotUtf8)))
+    else on_line 0 (Err BadTimerName)

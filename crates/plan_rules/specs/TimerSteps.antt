@@ -1,0 +1,53 @@
+-- What is held while the whole lines of a timer file are read, and what the meaning of the file is from there.
+use Rattle.std.specs.Prelude.{ℕ, Bool, false, ◌||◌, nat_lt, if◌then◌else◌, List, [], ◌∷◌, ◌++◌, length, Option, Some, Ok, Err, unwrap_or, string_bytes}
+use Rattle.std.specs.Option.{option_map}
+use Rattle.plan_rules.specs.declared.event.Calendar.{Calendar}
+use Rattle.plan_rules.specs.declared.line_fault.LineCause.TheVariants.{TooManyLines}
+use Rattle.plan_rules.specs.declared.timers.Settings.{Settings}
+use Rattle.plan_rules.specs.declared.timers.TheConstants.{MOST_EVENTS}
+use Rattle.plan_rules.specs.Steps.{◌>>=◌}
+use Rattle.plan_rules.specs.Event.{event_reading}
+use Rattle.plan_rules.specs.Lines.{LineReading, in_line}
+use Rattle.plan_rules.specs.Timer.{Effect, Reset, Event, Starts, Nothing, inside_after, line_effect, section_name, setting_of}
+
+-- whether the next line stands in a `[Timer]` section, whether there was one, the list of events, and the unit that was named
+pub record Draft : Type 0 where
+  pub inside : Bool
+  pub found : Bool
+  pub events : List Calendar
+  pub unit : Option (List ℕ)
+
+-- what the settings hold
+abbrev pub draft_of : Settings → Draft
+draft_of settings = record {
+  inside = settings.inside;
+  found = settings.found;
+  events = settings.events;
+  unit = option_map (λ unit. string_bytes unit) settings.unit;
+}
+
+-- one event more at the end of a list that holds fewer than 64 (own)
+abbrev pub after_event : Draft → List ℕ → LineReading Draft
+after_event draft text =
+    if nat_lt (length draft.events) MOST_EVENTS
+    then (in_line (event_reading text) >>= λ event. Ok (record draft { events = draft.events ++ event ∷ [] }))
+    else Err TooManyLines
+
+-- what a line does; the unit that is named first counts
+abbrev pub after_effect : Draft → Effect → LineReading Draft
+after_effect draft Reset = Ok (record draft { events = [] })
+after_effect draft (Event text) = after_event draft text
+after_effect draft (Starts unit) = Ok (record draft { unit = Some (unwrap_or draft.unit unit) })
+after_effect draft Nothing = Ok draft
+
+-- the section that a line begins
+abbrev pub after_section : Draft → Option (List ℕ) → Draft
+after_section draft section = record draft {
+  inside = inside_after draft.inside section;
+  found = draft.found || inside_after false section;
+}
+
+-- a whole line
+abbrev pub after_line : Draft → List ℕ → LineReading Draft
+after_line draft text =
+    after_effect (after_section draft (section_name text)) (line_effect draft.inside (section_name text) (setting_of text))

@@ -1,0 +1,192 @@
+//! The jobs of a plan, by their names and in the order of their addition.
+
+ghost use Rattle.std.specs.Prelude.{◌≡◌, ◌↔◌, ◌≤◌, ◌++◌, [], ◌∷◌, length, slice_get, IsTrue, IsNone, IsSome, IfOk, IfErr, OnOk, OnErr};
+ghost use Rattle.std.specs.Option.{option_copied};
+ghost use Rattle.plan_rules.specs.Jobs.{number_of, HaveDistinctNames, job_of};
+
+use crate::job::Job;
+use indexmap::IndexMap;
+use std::alloc::{AllocFailed, Global};
+use std::marker::Model;
+use thiserror::Error;
+
+/// How many jobs there are at most.
+pub const MOST_JOBS: usize = 1_000;
+
+/// Why a job was not added. The job comes back.
+#[derive(Debug, Drop, Error)]
+pub enum AddFault {
+    /// 1: memory was refused.
+    #[error("NoMemory")]
+    NoMemory(Job),
+    /// 2: a job with this name is there.
+    #[error("SameName")]
+    SameName(Job),
+    /// 3: 1,000 jobs are there.
+    #[error("Full")]
+    Full(Job),
+}
+
+/// Jobs in the order of their addition, no two with the same name. A job's number is its place, from 0.
+#[derive(Drop)]
+pub struct Jobs {
+    by_name: IndexMap<String, Job>,
+}
+
+impl Model for Jobs {
+    ghost use Rattle.std.specs.Prelude.{List, ◌≡◌, ◌≤◌, map, string_bytes};
+    ghost use Rattle.indexmap.specs.IndexMap.{keys, values, index_map_len};
+    ghost use Rattle.std.specs.Coded.{coded_list};
+    ghost use Rattle.plan_rules.specs.Job.{JobParts, job_code};
+
+    ghost Value = { List JobParts };
+
+    ghost coded = { coded_list job_code };
+
+    ghost use Rattle.plan_rules.specs.declared.jobs.TheConstants.{MOST_JOBS};
+
+    ghost view = { λ jobs. values jobs.by_name };
+
+    ghost invariant = { λ jobs.
+        (map (λ key. string_bytes key) (keys jobs.by_name) ≡ map (λ job. job.name) (values jobs.by_name))
+        × (index_map_len jobs.by_name ≤ MOST_JOBS) };
+}
+
+impl Jobs {
+    /// No jobs. This takes no memory; `add` takes what it needs from `alloc`.
+    pub fn new(alloc: Global) -> Jobs
+        ensures { result ≡ [] }
+    {
+        Jobs {
+            by_name: IndexMap::new(alloc),
+        }
+    }
+
+    /// How many jobs there are, at most 1,000.
+    pub fn len(&self) -> usize
+        ensures len { result ≡ length self.now }
+        ensures few { length self.now ≤ MOST_JOBS }
+        ensures distinct { HaveDistinctNames self.now }
+    {
+        self.by_name.len()
+    }
+
+    /// Whether there are no jobs.
+    pub fn is_empty(&self) -> bool
+        ensures { IsTrue result ↔ (self.now ≡ []) }
+    {
+        self.by_name.is_empty()
+    }
+
+    /// The job with a number, from 0.
+    pub fn get(&self, number: usize) -> Option<&Job>
+        ensures { option_copied result ≡ slice_get self.now number }
+    {
+        let (_, job) = self.by_name.get_index(number)?;
+        Some(job)
+    }
+
+    /// The number of the job with a name, from 0.
+    pub fn number_of(&self, name: &str) -> Option<usize>
+        ensures { result ≡ number_of name.now self.now }
+    {
+        self.by_name.get_index_of(name)
+    }
+
+    /// Adds a job behind the others, and answers its number.
+    ///
+    /// Faults, in this order: `SameName` where a job with its name is there, `Full` where 1,000 jobs are, `NoMemory`. The
+    /// job then comes back, and the jobs stay as they were.
+    pub fn add(&mut self, job: Job) -> Result<usize, AddFault>
+        ensures number { IfOk result (λ number. number ≡ length self.old) }
+        ensures added { OnOk result (self.new ≡ self.old ++ job ∷ []) }
+        ensures same_name { (result ≡ Err (AddFault.SameName job)) ↔ IsSome (number_of job.name self.old) }
+        ensures full { (result ≡ Err (AddFault.Full job))
+            ↔ (IsNone (number_of job.name self.old) × (length self.old ≡ MOST_JOBS)) }
+        ensures handed_back { IfErr result (λ fault. job_of fault ≡ job) }
+        ensures unchanged { OnErr result (self.new ≡ self.old) }
+    {
+        if self.number_of(job.name()).is_some() {
+            return Err(AddFault::SameName(job));
+        }
+        let number = self.len();
+        if number == MOST_JOBS {
+            return Err(AddFault::Full(job));
+        }
+        let Ok(name) = String::from_str(*self.by_name.allocator(), job.name()) else {
+            return Err(AddFault::NoMemory(job));
+        };
+        match self.by_name.insert(name, job) {
+            Ok(_) => Ok(number),
+            Err(AllocFailed { value: (_, job) }) => Err(AddFault::NoMemory(job)),
+        }
+    }
+}
+
+#[cfg(test)]
+mod tests {
+    use super::*;
+    use crate::cron::cron_rule;
+    use std::sync::Arc;
+    use std::test::Fail;
+
+    // A job of this name that starts at midnight.
+    fn job(alloc: Global, name: &str, what: &str) -> Result<Job, Fail> {
+        let rule = Arc::new(alloc, cron_rule(alloc, "0 0 * * *")?)?;
+        let name = String::from_str(alloc, name)?;
+        Ok(Job::new(name, String::from_str(alloc, what)?, rule))
+    }
+
+    #[test]
+    fn a_name_that_is_there_is_refused(rt: HostRuntime) -> Result<(), Fail> {
+        let mut jobs = Jobs::new(rt.alloc());
+        assert!(rt; jobs.is_empty());
+        assert_eq!(rt; jobs.add(job(rt.alloc(), "two.timer", "two.service")?)?, 0);
+        let refused = jobs.add(job(rt.alloc(), "two.timer", "other")?);
+        assert!(rt; matches!(&refused, Err(AddFault::SameName(job)) if job.what() == "other"));
+        assert_eq!(rt; jobs.len(), 1);
+        assert!(rt; !jobs.is_empty());
+        assert_eq!(rt; jobs.number_of("two.timer"), Some(0));
+        assert_eq!(rt; jobs.number_of("two"), None);
+        assert!(rt; jobs.get(1).is_none());
+        assert_eq!(rt; jobs.add(job(rt.alloc(), "cron:1", "b")?)?, 1);
+        assert_eq!(rt; jobs.number_of("cron:1"), Some(1));
+        let names = [jobs.get(0), jobs.get(1)];
+        for (job, name) in names.iter().zip(["two.timer", "cron:1"]) {
+            assert!(rt; matches!(job, Some(job) if job.name() == name), "{name}");
+        }
+        Ok(())
+    }
+
+    #[test]
+    fn a_thousand_jobs_are_all(rt: HostRuntime) -> Result<(), Fail> {
+        let alloc = rt.alloc();
+        let mut jobs = Jobs::new(alloc);
+        for number in 0..MOST_JOBS {
+            let name = format!(in alloc; "cron:{number}")?;
+            assert_eq!(rt; jobs.add(job(alloc, name.as_str(), "x")?)?, number);
+        }
+        let more = jobs.add(job(alloc, "cron:1000", "more")?);
+        assert!(rt; matches!(&more, Err(AddFault::Full(job)) if job.what() == "more"));
+        let again = jobs.add(job(alloc, "cron:0", "again")?);
+        assert!(rt; matches!(&again, Err(AddFault::SameName(job)) if job.what() == "again"));
+        assert_eq!(rt; jobs.len(), MOST_JOBS);
+        assert_eq!(rt; jobs.number_of("cron:999"), Some(999));
+        assert_eq!(rt; jobs.number_of("cron:1000"), None);
+        Ok(())
+    }
+
+    #[test]
+    fn names_of_faults(rt: HostRuntime) -> Result<(), Fail> {
+        let alloc = rt.alloc();
+        let rows = [
+            (AddFault::NoMemory(job(alloc, "a", "b")?), "NoMemory"),
+            (AddFault::SameName(job(alloc, "a", "b")?), "SameName"),
+            (AddFault::Full(job(alloc, "a", "b")?), "Full"),
+        ];
+        for (fault, name) in rows {
+            assert_eq!(rt; format!(in alloc; "{fault}")?.as_str(), name);
+        }
+        Ok(())
+    }
+}

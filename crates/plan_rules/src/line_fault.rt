@@ -1,0 +1,130 @@
+//! Why a text of lines is refused: its first bad line, and what is wrong with it.
+
+use crate::fault::{RuleCause, RuleFault};
+use std::alloc::{AllocError, AllocFailed};
+use thiserror::Error;
+
+/// What is wrong with a line.
+#[derive(Clone, Copy, Debug, PartialEq, Eq, Error)]
+pub enum LineCause {
+    /// 1: memory was refused; its line is 0.
+    #[error("NoMemory")]
+    NoMemory,
+    /// 2: the bytes are no UTF-8; its line is 0.
+    #[error("NotUtf8")]
+    NotUtf8,
+    /// 3: there are more than 1,048,576 bytes; its line is 0.
+    #[error("TooLarge")]
+    TooLarge,
+    /// 4: a setting holds no `=`.
+    #[error("BadSetting")]
+    BadSetting,
+    /// 5: the rule of a job is none. Its cause is never `NoMemory`.
+    #[error("{0}")]
+    Rule(RuleFault),
+    /// 6: a job has no command, or no user and command.
+    #[error("NoCommand")]
+    NoCommand,
+    /// 7: the name of a timer file is none; its line is 0.
+    #[error("BadTimerName")]
+    BadTimerName,
+    /// 8: a timer file has no `[Timer]` section; its line is 0.
+    #[error("NoTimerSection")]
+    NoTimerSection,
+    /// 9: the list of a timer's events would hold more than 64.
+    #[error("TooManyLines")]
+    TooManyLines,
+}
+
+/// The first fault of a text of lines.
+#[derive(Clone, Copy, Debug, PartialEq, Eq, Error)]
+#[error("{cause}")]
+pub struct LineFault {
+    /// The line, from 1; 0 is the whole text.
+    pub line: u32,
+    /// What is wrong with it.
+    pub cause: LineCause,
+}
+
+impl LineCause {
+    ghost use Rattle.std.specs.Prelude.{◌≡◌};
+    ghost use Rattle.plan_rules.specs.Lines.{fault_on_line};
+
+    // The fault of a line, from 1, or of the whole text, 0. A want of memory is the whole text's.
+    pub(crate) fn on_line(self, line: u32) -> LineFault
+        ensures { result ≡ fault_on_line line self }
+    {
+        match self {
+            LineCause::NoMemory => LineFault {
+                line: 0,
+                cause: self,
+            },
+            _ => LineFault { line, cause: self },
+        }
+    }
+}
+
+impl From<AllocError> for LineCause {
+    ghost use Rattle.std.specs.Prelude.{◌≡◌};
+    ghost use Rattle.plan_rules.specs.declared.line_fault.LineCause.TheVariants.{NoMemory};
+
+    ghost from_gives = { λ _ cause. cause ≡ NoMemory };
+
+    fn from(_refused: AllocError) -> LineCause {
+        LineCause::NoMemory
+    }
+}
+
+impl<T: Drop> From<AllocFailed<T>> for LineCause {
+    ghost use Rattle.std.specs.Prelude.{◌≡◌};
+    ghost use Rattle.plan_rules.specs.declared.line_fault.LineCause.TheVariants.{NoMemory};
+
+    ghost from_gives = { λ _ cause. cause ≡ NoMemory };
+
+    fn from(_refused: AllocFailed<T>) -> LineCause {
+        LineCause::NoMemory
+    }
+}
+
+// A want of memory inside a rule's fault is a want of memory.
+impl From<RuleFault> for LineCause {
+    ghost use Rattle.std.specs.Prelude.{◌≡◌};
+    ghost use Rattle.plan_rules.specs.Lines.{cause_of_rule};
+
+    ghost from_gives = { λ fault cause. cause ≡ cause_of_rule fault };
+
+    fn from(fault: RuleFault) -> LineCause {
+        match fault.cause {
+            RuleCause::NoMemory => LineCause::NoMemory,
+            _ => LineCause::Rule(fault),
+        }
+    }
+}
+
+impl From<AllocError> for LineFault {
+    ghost use Rattle.std.specs.Prelude.{◌≡◌};
+    ghost use Rattle.plan_rules.specs.Lines.{want_of_memory};
+
+    ghost from_gives = { λ _ fault. fault ≡ want_of_memory };
+
+    fn from(_refused: AllocError) -> LineFault {
+        LineFault {
+            line: 0,
+            cause: LineCause::NoMemory,
+        }
+    }
+}
+
+impl<T: Drop> From<AllocFailed<T>> for LineFault {
+    ghost use Rattle.std.specs.Prelude.{◌≡◌};
+    ghost use Rattle.plan_rules.specs.Lines.{want_of_memory};
+
+    ghost from_gives = { λ _ fault. fault ≡ want_of_memory };
+
+    fn from(_refused: AllocFailed<T>) -> LineFault {
+        LineFault {
+            line: 0,
+            cause: LineCause::NoMemory,
+        }
+    }
+}

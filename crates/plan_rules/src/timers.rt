@@ -1,0 +1,256 @@
+//! Timer files, and the job of each (systemd.timer(5), systemd.syntax(7)).
+
+ghost use Rattle.std.specs.Prelude.{◌≡◌, Bool, true, false, [], IfErr, IfOk, map, string_bytes};
+ghost use Rattle.std.specs.List.{list_all};
+ghost use Rattle.std.specs.Option.{option_map};
+ghost use Rattle.plan_rules.specs.Steps.{GivesUnless};
+ghost use Rattle.plan_rules.specs.Lines.{want_of_memory, IsOwnCause};
+ghost use Rattle.plan_rules.specs.WholeLines.{trimmed};
+ghost use Rattle.plan_rules.specs.Timer.{is_name_byte, is_timer_name, service_name, section_name, setting_of, key_of, timer_of_lines, timer_reading, job_with};
+
+use crate::event::calendar_event;
+use crate::events::Events;
+use crate::job::Job;
+use crate::line_fault::{LineCause, LineFault};
+use crate::lines::MOST_BYTES;
+use crate::rule::Rule;
+use crate::whole_lines::{WholeLine, trimmed, whole_lines};
+use std::alloc::{AllocError, Global};
+use std::sync::Arc;
+
+/// How many bytes the name of a timer has at least.
+const LEAST_NAME: usize = 7;
+
+/// How many bytes the name of a timer has at most.
+const MOST_NAME: usize = 255;
+
+/// How many events the list of a timer holds at most.
+pub const MOST_EVENTS: usize = 64;
+
+/// What a setting of the `[Timer]` section is about.
+#[derive(Clone, Copy)]
+pub enum Key {
+    /// `OnCalendar`: a calendar event.
+    OnCalendar,
+    /// `OnBootSec` and the like: a time after some other event.
+    Monotonic,
+    /// `Unit`: the unit that is started.
+    UnitName,
+    /// Anything else.
+    OtherKey,
+}
+
+/// The job of a timer file, which has the file's name (systemd.timer(5)).
+///
+/// Its rule is the list of the events of `OnCalendar=` in its `[Timer]` sections, which each setting of time with an empty
+/// value empties; it starts the unit that `Unit=` names first, else the service of the timer's name.
+///
+/// Faults, in this order: `BadTimerName` where the name hasn't 7 to 255 bytes, doesn't end in `.timer` or holds another
+/// character than letters, digits, `:`, `-`, `_`, `.` and `\`; `TooLarge` for more than 1,048,576 bytes; `NotUtf8`; then those
+/// of the first bad line, which for a joined line is the number of its first: `TooManyLines` where the list would hold more
+/// than 64 events, `Rule` for the fault of an event, even if a later line empties the list; last `NoTimerSection`. Those that
+/// are of no line are of line 0, and so is `NoMemory`.
+pub fn timer(alloc: Global, name: &str, bytes: &[u8]) -> Result<Job, LineFault>
+    ensures meaning { GivesUnless want_of_memory (λ job. job) result (timer_reading name.now bytes.now) }
+    ensures memory { IfErr result (λ fault. fault.cause ≡ LineCause.NoMemory → fault.line ≡ 0) }
+    ensures own_cause { IfErr result (λ fault. IsOwnCause fault.cause) }
+{
+    if !is_timer_name(name.as_bytes()) {
+        return Err(LineCause::BadTimerName.on_line(0));
+    }
+    if bytes.len() > MOST_BYTES {
+        return Err(LineCause::TooLarge.on_line(0));
+    }
+    let Ok(text) = str::from_utf8(bytes) else {
+        return Err(LineCause::NotUtf8.on_line(0));
+    };
+    let lines = whole_lines(alloc, text)?;
+    timer_of_lines(alloc, name, lines.as_slice())
+}
+
+// Whether a file with this name is a timer file.
+#[tactic(auto, unfolding(crate::specs::Timer::is_timer_name))]
+fn is_timer_name(name: &[u8]) -> bool
+    ensures { result ≡ is_timer_name name.now }
+{
+    if name.len() < LEAST_NAME || name.len() > MOST_NAME {
+        return false;
+    }
+    name.ends_with(b".timer") && are_name_bytes(name)
+}
+
+// Whether all these bytes may stand in the name of a timer.
+fn are_name_bytes(name: &[u8]) -> bool
+    ensures { result ≡ list_all is_name_byte name.now }
+{
+    name.iter().all(|byte| is_name_byte(*byte))
+}
+
+// Whether a byte may stand in the name of a timer.
+fn is_name_byte(byte: u8) -> bool
+    ensures { result ≡ is_name_byte byte }
+{
+    byte.is_ascii_alphabetic()
+        || byte.is_ascii_digit()
+        || matches!(byte, b':' | b'-' | b'_' | b'.' | b'\\')
+}
+
+// The job of the whole lines of a timer file.
+fn timer_of_lines(alloc: Global, name: &str, lines: &[WholeLine]) -> Result<Job, LineFault>
+    requires { is_timer_name name.now ≡ true }
+    ensures { GivesUnless want_of_memory (λ job. job) result
+        (timer_of_lines name.now (map (λ line. (line.number, trimmed (string_bytes line.text))) lines.now)) }
+{
+    let mut settings = Settings::new(alloc);
+    for line in lines {
+        if let Err(cause) = settings.read(alloc, trimmed(line.text.as_str())) {
+            return Err(cause.on_line(line.number));
+        }
+    }
+    settings.into_job(alloc, name)
+}
+
+// The name of the section that a line begins.
+#[tactic(auto, unfolding(crate::specs::Timer::section_name))]
+fn section_name(text: &[u8]) -> Option<&[u8]>
+    ensures { option_map (λ name. name.now) result ≡ section_name text.now }
+{
+    let [b'[', .., b']'] = text else {
+        return None;
+    };
+    Some(&text[1..text.len() - 1])
+}
+
+// The key and the value of a setting.
+#[tactic(auto, unfolding(crate::specs::Timer::setting_of))]
+fn setting_of(text: &str) -> Option<(&str, &str)>
+    ensures { option_map (λ setting. (setting.0.now, setting.1.now)) result ≡ setting_of text.now }
+{
+    let (key, value) = text.split_once('=')?;
+    Some((trimmed(key), trimmed(value)))
+}
+
+// What a setting with this key is about.
+#[tactic(auto, unfolding(crate::specs::Timer::key_of))]
+fn key_of(key: &str) -> Key
+    ensures { result ≡ key_of key.now }
+{
+    match key {
+        "OnCalendar" => Key::OnCalendar,
+        "OnActiveSec" | "OnBootSec" | "OnStartupSec" | "OnUnitActiveSec" | "OnUnitInactiveSec" => {
+            Key::Monotonic
+        }
+        "Unit" => Key::UnitName,
+        _ => Key::OtherKey,
+    }
+}
+
+// The name of the service that a timer starts if it names no unit.
+fn service_name(alloc: Global, name: &str) -> Result<String, AllocError>
+    requires { is_timer_name name.now ≡ true }
+    ensures { IfOk result (λ service. string_bytes service ≡ service_name name.now) }
+{
+    let stem = &name[..name.len() - 6];
+    format!(in alloc; "{stem}.service")
+}
+
+// What was read of the settings of a timer file.
+#[derive(Drop)]
+struct Settings {
+    inside: bool,
+    found: bool,
+    events: Events,
+    unit: Option<String>,
+}
+
+impl Settings {
+    ghost use Rattle.plan_rules.specs.Timer.{effect_of};
+    ghost use Rattle.plan_rules.specs.TimerSteps.{draft_of, after_event, after_effect, after_line};
+
+    // Before the first line.
+    fn new(alloc: Global) -> Settings
+        ensures { draft_of result ≡ record { inside = false; found = false; events = []; unit = None } }
+    {
+        Settings {
+            inside: false,
+            found: false,
+            events: Events::new(alloc),
+            unit: None,
+        }
+    }
+
+    // Reads a whole line, without blanks at its ends.
+    fn read(&mut self, alloc: Global, text: &str) -> Result<(), LineCause>
+        ensures { GivesUnless LineCause.NoMemory (λ _. draft_of self.new) result (after_line (draft_of self.old) text.now) }
+    {
+        if let Some(section) = section_name(text.as_bytes()) {
+            self.inside = section == b"Timer".as_slice();
+            self.found |= self.inside;
+            return Ok(());
+        }
+        if !self.inside {
+            return Ok(());
+        }
+        let Some((key, value)) = setting_of(text) else {
+            return Ok(());
+        };
+        self.set(alloc, key_of(key), value)
+    }
+
+    // Does what a setting of the `[Timer]` section says.
+    fn set(&mut self, alloc: Global, key: Key, value: &str) -> Result<(), LineCause>
+        ensures { GivesUnless LineCause.NoMemory (λ _. draft_of self.new) result
+            (after_effect (draft_of self.old) (effect_of key value.now)) }
+    {
+        match key {
+            Key::OnCalendar | Key::Monotonic if value.is_empty() => {
+                self.events.clear();
+                Ok(())
+            }
+            Key::OnCalendar => self.add_event(alloc, value),
+            Key::UnitName if !value.is_empty() && self.unit.is_none() => {
+                self.unit = Some(String::from_str(alloc, value)?);
+                Ok(())
+            }
+            _ => Ok(()),
+        }
+    }
+
+    // Adds an event to the list.
+    fn add_event(&mut self, alloc: Global, text: &str) -> Result<(), LineCause>
+        ensures { GivesUnless LineCause.NoMemory (λ _. draft_of self.new) result (after_event (draft_of self.old) text.now) }
+    {
+        if self.events.len() >= MOST_EVENTS {
+            return Err(LineCause::TooManyLines);
+        }
+        let event = calendar_event(alloc, text)?;
+        self.events.push(event)?;
+        Ok(())
+    }
+
+    // The job of the timer file with this name, once all its lines are read.
+    fn into_job(self, alloc: Global, name: &str) -> Result<Job, LineFault>
+        requires { is_timer_name name.now ≡ true }
+        ensures { GivesUnless want_of_memory (λ job. job) result
+            (job_with self.found name.now (option_map (λ unit. string_bytes unit) self.unit) self.events) }
+    {
+        let Settings {
+            inside: _,
+            found,
+            events,
+            unit,
+        } = self;
+        if !found {
+            return Err(LineCause::NoTimerSection.on_line(0));
+        }
+        let what = match unit {
+            Some(unit) => unit,
+            None => service_name(alloc, name)?,
+        };
+        let name = String::from_str(alloc, name)?;
+        Ok(Job::new(name, what, Arc::new(alloc, Rule::Events(events))?))
+    }
+}
+
+#[cfg(test)]
+mod tests;
