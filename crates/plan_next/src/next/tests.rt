@@ -1,5 +1,5 @@
 use super::*;
-use plan_rules::cron_rule;
+use plan_rules::{cron_rule, timer};
 use plan_sets::read_moment;
 use std::alloc::Global;
 use std::test::Fail;
@@ -85,5 +85,21 @@ fn from_a_second_on_and_after_it(rt: HostRuntime) -> Result<(), Fail> {
     assert_eq!(rt; next_from(&rule, END_SECOND), None);
     assert_eq!(rt; next_from(&rule, u64::MAX), None);
     assert_eq!(rt; next_start(&rule, u64::MAX), None);
+    Ok(())
+}
+
+#[test]
+fn the_next_starts_of_a_timer_with_two_events(rt: HostRuntime) -> Result<(), Fail> {
+    let file = b"[Timer]\nOnCalendar=Fri 12:00\nOnCalendar=*-*-3 06:00\n";
+    let job = timer(rt.alloc(), "two.timer", file)?;
+    let rows = [
+        (YEAR_2024, "2024-01-03T06:00:00Z"),
+        ("2024-01-03T06:00:00Z", "2024-01-05T12:00:00Z"),
+        ("2024-02-02T12:00:00Z", "2024-02-03T06:00:00Z"),
+    ];
+    for (after, start) in rows {
+        let found = next_start(job.rule(), read_moment(after)?);
+        assert_eq!(rt; found, Some(read_moment(start)?), "after {after}");
+    }
     Ok(())
 }
