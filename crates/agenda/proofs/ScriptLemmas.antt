@@ -11,7 +11,7 @@ use Rattle.plan_mailbox.specs.declared.replies.Step.{Step}
 use Rattle.plan_rules.specs.Steps.{each}
 use Rattle.plan_rules.proofs.StepsLemmas.{each-push, each-fault}
 use Rattle.agenda.specs.declared.script.fault.ScriptFault.{ScriptFault}
-use Rattle.agenda.specs.declared.script.TheConstants.{MOST_BYTES}
+use Rattle.plan_rules.specs.declared.lines.TheConstants.{MOST_BYTES}
 use Rattle.agenda.specs.declared.script.fault.ScriptCause.TheVariants.{NotUtf8}
 use Rattle.agenda.specs.Script.{fault_on, lines_reading, numbered_step, script_reading, step_on, steps_reading}
 

@@ -17,7 +17,8 @@ use Rattle.plan_mailbox.specs.Reply.{RepliesInTurn}
 use Rattle.plan_rules.specs.Lines.{lines}
 use Rattle.plan_rules.specs.Steps.{◌>>=◌, each}
 use Rattle.plan_rules.specs.Text.{cut_at, number_of}
-use Rattle.agenda.specs.declared.script.TheConstants.{MOST_BYTES, MOST_STEPS}
+use Rattle.agenda.specs.declared.script.TheConstants.{MOST_STEPS}
+use Rattle.plan_rules.specs.declared.lines.TheConstants.{MOST_BYTES}
 use Rattle.agenda.specs.declared.script.fault.ScriptCause.{ScriptCause}
 use Rattle.agenda.specs.declared.script.fault.ScriptCause.TheVariants.{NoMemory, NotUtf8, TooLarge, BadLine, BadSize, TooManySteps}
 use Rattle.agenda.specs.declared.script.fault.ScriptFault.{ScriptFault}

@@ -10,8 +10,9 @@ mod words;
 use faults::{Failure, RunFault, fault_line};
 use next::{Asked, run_next};
 use plan_rules::Text;
+use plan_rules::lines::MOST_BYTES;
 use plan_sets::read_moment;
-use script::{MOST_BYTES, run_script};
+use script::run_script;
 use std::fs::File;
 use std::io::Read;
 use std::process::ExitCode;
@@ -100,7 +101,7 @@ fn steps_of_file(rt: &HostRuntime, file: Text) -> Result<(), Failure> {
     }
 }
 
-// What a file holds, up to one byte more than is read of any.
+// What a file holds, up to one byte more than a script may have.
 fn read_file(rt: &HostRuntime, path: &str) -> io::Result<Vec<u8>> {
     let mut bytes = Vec::new(rt.alloc());
     File::open(rt, path)?

@@ -17,9 +17,6 @@ use replies::replies_text;
 use std::alloc::Global;
 use std::io::Write;
 
-/// How many bytes a script has at most.
-pub const MOST_BYTES: usize = 1_048_576;
-
 /// How many steps a script has at most.
 pub const MOST_STEPS: u32 = 10_000;
 

@@ -51,10 +51,10 @@ pub enum UsageFault {
     #[error("NoMemory")]
     NoMemory,
     /// The words are no use of the program. The text is for standard error.
-    #[error("{}", .0.as_str())]
+    #[error("Usage")]
     Usage(Text),
     /// The words ask for help. The text is for standard output.
-    #[error("{}", .0.as_str())]
+    #[error("Help")]
     Help(Text),
 }
 
@@ -247,7 +247,7 @@ fn number_of(alloc: Global, given: &ArgMatches<'_>, option: &str) -> Result<u32,
     }
 }
 
-/// The text of usage where an option is missing that `clap` doesn't ask for.
+/// The text of usage where a value isn't there. No words lead here: `clap` asks for the value, or knows its default.
 fn missing(alloc: Global, option: &str) -> Result<Text, AllocError> {
     let text = format!(in alloc; "error: the option '--{option}' is missing\n\n{TRY_HELP}\n")?;
     Ok(Text::new(text))

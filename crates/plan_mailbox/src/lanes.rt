@@ -34,7 +34,7 @@ pub(crate) fn all_shut<M>(lanes: &[Lane<M>]) -> bool
     lanes.iter().all(|lane| lane.is_shut)
 }
 
-/// Whether a sender is shut.
+/// Whether any sender is shut.
 pub(crate) fn any_shut<M>(lanes: &[Lane<M>]) -> bool
     ensures { result ≡ list_any (λ lane. lane.is_shut) lanes.now }
 {

@@ -1,5 +1,5 @@
 -- The civil fields that a calendar event matches (systemd.time(7), calendar events).
-use Rattle.std.specs.Prelude.{ℕ, ◌+◌, ◌-◌, Bool, true, ◌&&◌, List, Option, Some, None}
+use Rattle.std.specs.Prelude.{ℕ, ◌+◌, ◌-◌, Bool, true, ◌&&◌, IsTrue, List, Option, Some, None}
 use Rattle.std.specs.List.{list_any}
 use Rattle.plan_sets.specs.declared.civil.TheConstants.{FIRST_YEAR, LAST_YEAR}
 use Rattle.plan_sets.specs.declared.civil.Civil.{Civil}
@@ -43,6 +43,13 @@ event_matches event civil =
     event_day_matches event civil
     && (has_value event.hours civil.hour
     && (has_value event.minutes civil.minute && has_value event.seconds civil.second))
+
+-- the time of day of a start
+abbrev pub HasEventTime : Calendar → Civil → Type 0
+HasEventTime event civil =
+    IsTrue (has_value event.hours civil.hour)
+    × IsTrue (has_value event.minutes civil.minute)
+    × IsTrue (has_value event.seconds civil.second)
 
 -- some event of a list matches (systemd.timer(5), `OnCalendar=`)
 abbrev pub some_event_matches : List Calendar → Civil → Bool

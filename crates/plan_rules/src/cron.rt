@@ -25,7 +25,7 @@ static AT_WORDS: [(&str, Option<&str>); 8] = [
     ("@reboot", None),
 ];
 
-/// The fault of a text that has another number of parts than a rule.
+/// The fault of a text that hasn't five fields.
 pub const WRONG_PARTS: RuleFault = RuleFault {
     part: 0,
     cause: RuleCause::WrongParts,

@@ -52,16 +52,20 @@ pub struct Calendar {
 }
 
 /// The calendar event that a text means (systemd.time(7)): weekdays, a date, a time of day and the zone `UTC`, each of
-/// which may be missing, or one word as `daily`.
+/// which may be missing; or one of the words `minutely`, `hourly`, `daily`, `weekly`, `monthly`, `quarterly`, `semiannually`,
+/// `yearly` and `annually`.
 ///
-/// Faults: 1 `NoMemory` of part 0, else the first fault of the text, looked for in this order. `Specifier` of part 0: a
-/// `%` anywhere. `WrongParts` of part 0: no word. `Zone` of part 8: a last word of several that begins with a letter and
-/// isn't `UTC`. `UnknownWord` of part 0: one word of letters alone that is neither in the table nor a weekday.
-/// `WrongParts` of part 0: any other shape. Then the weekdays, part 1, and the year, month, day, hour, minute and second,
-/// parts 2 to 7. In each the first element that is faulty in its form decides: `WrongParts` is an empty name, value or
-/// step, or a step after `*` in days from the month's end; `BadName` an unknown weekday; `Fraction` a second or its step
-/// with a `.` in it; `BadNumber` any other value or step that is not 1 to 4 digits. Only then `Values` holds the fault of
-/// the items, as `plan_sets::set_of` finds it; a range of days from the month's end may run either way.
+/// The fault is the first of these, with its part. `Specifier`, part 0: a `%` anywhere. `WrongParts`, part 0: no word.
+/// `Zone`, part 8: a last word of several that begins with a letter and isn't `UTC`. `UnknownWord`, part 0: one word of
+/// letters alone that is neither one of those words nor a weekday. `WrongParts`, part 0: any other shape. Then those of the
+/// weekdays, part 1, and of the year, month, day, hour, minute and second, parts 2 to 7.
+///
+/// In each part the first element that is faulty in its form decides: `WrongParts` is an empty name, value or step, or a
+/// step after `*` in days from the month's end; `BadName` is an unknown weekday; `Fraction` is a second or its step with a
+/// `.` in it; `BadNumber` is any other value or step that isn't 1 to 4 digits. Only then `Values` holds the fault of the
+/// items, as `plan_sets::set_of` finds it; but a range of days from the month's end may run either way.
+///
+/// `NoMemory`, part 0, can come before a fault that isn't found yet.
 pub fn calendar_event(alloc: Global, text: &str) -> Result<Calendar, RuleFault>
     ensures meaning { Gives result (event_reading text.now) }
     ensures memory { IfErr result (λ fault. fault.cause ≡ RuleCause.NoMemory → fault.part ≡ 0) }
@@ -178,7 +182,7 @@ fn expression(word: &[u8]) -> Option<&'static [u8]>
 fn is_unknown_word(word: &[u8]) -> bool
     ensures { result ≡ is_unknown_word word.now }
 {
-    is_of_letters(word) && !weekday_of(word).is_some()
+    is_of_letters(word) && weekday_of(word).is_none()
 }
 
 // Whether a word is made of ASCII letters alone.
@@ -236,9 +240,9 @@ fn day_component(count: DayCount) -> Component
 }
 
 impl Calendar {
-    ghost use Rattle.std.specs.Prelude.{◌≡◌, true};
+    ghost use Rattle.std.specs.Prelude.{◌≡◌, ◌↔◌, IsTrue};
     ghost use Rattle.plan_sets.specs.Values.{has_value};
-    ghost use Rattle.plan_rules.specs.EventMatch.{month_day_matches, weekday_matches, event_day_matches, event_matches};
+    ghost use Rattle.plan_rules.specs.EventMatch.{month_day_matches, weekday_matches, event_day_matches, event_matches, HasEventTime};
 
     /// The years, 1970 to 2199.
     pub fn years(&self) -> &ValueSet
@@ -278,8 +282,11 @@ impl Calendar {
     /// Whether the event admits the day of these civil fields: their year, month, day and weekday, whatever the time of day.
     pub fn day_matches(&self, civil: &Civil) -> bool
         ensures value { result ≡ event_day_matches self.now civil.now }
-        ensures month { result ≡ true → has_value self.now.months civil.now.month ≡ true }
-        ensures year { result ≡ true → has_value self.now.years civil.now.year ≡ true }
+        // The event matches exactly where the day does, and hour, minute and second are among its values.
+        ensures rule { IsTrue (event_matches self.now civil.now)
+            ↔ (IsTrue result × HasEventTime self.now civil.now) }
+        ensures month { IsTrue result → IsTrue (has_value self.now.months civil.now.month) }
+        ensures year { IsTrue result → IsTrue (has_value self.now.years civil.now.year) }
     {
         self.years.contains(civil.year)
             && self.months.contains(u16::from(civil.month))

@@ -16,7 +16,7 @@ pub enum RuleCause {
     /// 3: a value or a step is no number of 1 to 4 digits.
     #[error("BadNumber")]
     BadNumber,
-    /// 4: a value begins with a letter and is no name of its field.
+    /// 4: a name isn't known where it stands. In a field of a crontab a value that begins with a letter is a name.
     #[error("BadName")]
     BadName,
     /// 5: the values of a part are no set.
@@ -90,7 +90,10 @@ mod tests {
             (RuleCause::Values(SetFault::OutOfRange), "OutOfRange"),
             (RuleCause::Values(SetFault::Backwards), "Backwards"),
             (RuleCause::Values(SetFault::ZeroStep), "ZeroStep"),
+            (RuleCause::Fraction, "Fraction"),
+            (RuleCause::Zone, "Zone"),
             (RuleCause::UnknownWord, "UnknownWord"),
+            (RuleCause::Specifier, "Specifier"),
         ];
         for (cause, name) in rows {
             assert_eq!(rt; format!(in rt.alloc(); "{cause}")?.as_str(), name);

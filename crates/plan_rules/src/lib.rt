@@ -1,4 +1,5 @@
-//! The rules by which jobs start, read from the texts of crontab(5) and of systemd.time(7).
+//! The rules by which jobs start, and the jobs that have them: cron rules and crontabs (crontab(5)), calendar events
+//! (systemd.time(7)), timer files (systemd.timer(5), systemd.syntax(7)), and the list of jobs by their names.
 #![tactic(auto)]
 
 mod component;

@@ -19,13 +19,13 @@ pub enum LineCause {
     /// 4: a setting holds no `=`.
     #[error("BadSetting")]
     BadSetting,
-    /// 5: the rule of a job is none. Its cause is never `NoMemory`.
+    /// 5: a cron rule or a calendar event is refused, with its fault, whose cause is never `NoMemory`.
     #[error("{0}")]
     Rule(RuleFault),
     /// 6: a job has no command, or no user and command.
     #[error("NoCommand")]
     NoCommand,
-    /// 7: the name of a timer file is none; its line is 0.
+    /// 7: the file's name is no name of a timer; its line is 0.
     #[error("BadTimerName")]
     BadTimerName,
     /// 8: a timer file has no `[Timer]` section; its line is 0.

@@ -157,9 +157,12 @@ fn service_name(alloc: Global, name: &str) -> Result<String, AllocError>
 // What was read of the settings of a timer file.
 #[derive(Drop)]
 struct Settings {
+    // Whether the next line stands in a `[Timer]` section.
     inside: bool,
+    // Whether there was a `[Timer]` section.
     found: bool,
     events: Events,
+    // The unit that was named first.
     unit: Option<String>,
 }
 

@@ -15,12 +15,13 @@ use std::alloc::{AllocError, Global};
 pub struct WholeLine {
     /// The number of its first line, from 1.
     pub number: u32,
-    /// What it says, without the backslashes that joined it.
+    /// What it says, with a space for each backslash that joined it.
     pub text: String,
 }
 
-/// The whole lines of a text of at most 1,048,576 bytes. Comments, which begin with `#` or `;`, are skipped, and a line that
-/// ends in an odd number of backslashes is joined with the next line that isn't skipped, its last backslash read as a space.
+/// The whole lines of a text of at most 1,048,576 bytes. One carriage return at a line's end and the blanks in front of it
+/// aren't part of it; blanks at its end stay. Comments, which begin with `#` or `;`, are skipped, and a line that ends in an
+/// odd number of backslashes is joined with the next line that isn't skipped, its last backslash read as a space.
 #[tactic(auto, unfolding(crate::specs::WholeLines::whole_lines))]
 pub fn whole_lines(alloc: Global, text: &str) -> Result<Vec<WholeLine>, AllocError>
     requires { length text.now ≤ MOST_BYTES }

@@ -6,9 +6,6 @@ ghost use Rattle.plan_sets.specs.Values.{Values, no_values, with_value, has_valu
 
 use std::marker::Model;
 
-/// How many numbers a set spans.
-const SPAN: usize = 256;
-
 /// A set of numbers from a base `lo` to `lo + 255`.
 #[derive(Debug, Drop)]
 pub struct ValueSet {

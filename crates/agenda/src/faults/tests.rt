@@ -49,6 +49,37 @@ fn lines_and_statuses(rt: HostRuntime) {
             "agenda: rule: part 5: BadName\n",
             1,
         ),
+        (
+            rule(1, RuleCause::WrongParts),
+            "agenda: rule: part 1: WrongParts\n",
+            1,
+        ),
+        (
+            rule(7, RuleCause::Fraction),
+            "agenda: rule: part 7: Fraction\n",
+            1,
+        ),
+        (rule(8, RuleCause::Zone), "agenda: rule: part 8: Zone\n", 1),
+        (
+            rule(4, RuleCause::Values(SetFault::Backwards)),
+            "agenda: rule: part 4: Backwards\n",
+            1,
+        ),
+        (
+            rule(0, RuleCause::Specifier),
+            "agenda: rule: part 0: Specifier\n",
+            1,
+        ),
+        (
+            rule(2, RuleCause::BadNumber),
+            "agenda: rule: part 2: BadNumber\n",
+            1,
+        ),
+        (
+            rule(3, RuleCause::Values(SetFault::ZeroStep)),
+            "agenda: rule: part 3: ZeroStep\n",
+            1,
+        ),
         (rule(0, RuleCause::NoMemory), "agenda: NoMemory\n", 3),
         (
             script(0, ScriptCause::TooLarge),
@@ -58,6 +89,21 @@ fn lines_and_statuses(rt: HostRuntime) {
         (
             script(10_002, ScriptCause::TooManySteps),
             "agenda: script: line 10002: TooManySteps\n",
+            1,
+        ),
+        (
+            script(0, ScriptCause::NotUtf8),
+            "agenda: script: line 0: NotUtf8\n",
+            1,
+        ),
+        (
+            script(1, ScriptCause::BadSize),
+            "agenda: script: line 1: BadSize\n",
+            1,
+        ),
+        (
+            script(2, ScriptCause::BadLine),
+            "agenda: script: line 2: BadLine\n",
             1,
         ),
         (script(0, ScriptCause::NoMemory), "agenda: NoMemory\n", 3),

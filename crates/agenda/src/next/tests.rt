@@ -134,15 +134,31 @@ fn starts_by_the_calendar(rt: HostRuntime) -> Result<(), Fail> {
 #[test]
 fn starts_of_a_calendar_event(rt: HostRuntime) -> Result<(), Fail> {
     let alloc = rt.alloc();
-    let after = read_moment("2024-01-01T00:00:00Z")?;
     let rows = [
-        ("*-02~03", "2024-02-27T00:00:00Z\n2025-02-26T00:00:00Z\n"),
-        ("weekly", "2024-01-08T00:00:00Z\n2024-01-15T00:00:00Z\n"),
-        ("2024-3-1 4:5", "2024-03-01T04:05:00Z\nnone\n"),
+        (
+            "*-02~03",
+            "2024-01-01T00:00:00Z",
+            "2024-02-27T00:00:00Z\n2025-02-26T00:00:00Z\n",
+        ),
+        (
+            "weekly",
+            "2024-01-01T00:00:00Z",
+            "2024-01-08T00:00:00Z\n2024-01-15T00:00:00Z\n",
+        ),
+        (
+            "2024-3-1 4:5",
+            "2024-01-01T00:00:00Z",
+            "2024-03-01T04:05:00Z\nnone\n",
+        ),
+        (
+            "*-*~1..3/2 12:00",
+            "2024-02-01T00:00:00Z",
+            "2024-02-27T12:00:00Z\n2024-02-29T12:00:00Z\n",
+        ),
     ];
-    for (text, lines) in rows {
+    for (text, after, lines) in rows {
         let mut out = Vec::new(alloc);
-        run_next(alloc, Asked::Event(text), after, 2, &mut out)?;
+        run_next(alloc, Asked::Event(text), read_moment(after)?, 2, &mut out)?;
         assert!(rt; out.as_slice() == lines.as_bytes(), "{text}");
     }
     Ok(())
@@ -204,11 +220,6 @@ fn rules_of_every_form(rt: HostRuntime) -> Result<(), Fail> {
             Asked::Event("quarterly"),
             "2024-02-01T00:00:00Z",
             "2024-04-01T00:00:00Z\n",
-        ),
-        (
-            Asked::Event("*-*~1..3/2 12:00"),
-            "2024-02-27T12:00:00Z",
-            "2024-02-29T12:00:00Z\n",
         ),
     ];
     for (asked, after, text) in rows {

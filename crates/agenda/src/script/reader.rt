@@ -7,11 +7,11 @@ ghost use Rattle.plan_rules.specs.Steps.{GivesUnless};
 ghost use Rattle.agenda.specs.Script.{lines_reading, mailbox_line, meaning_of, memory_refused, script_reading, send_of, size_reading};
 ghost use Rattle.agenda.specs.Script.{sizes_in, sizes_of, step_of, step_on, steps_reading};
 
+use super::MOST_STEPS;
 use super::fault::{ScriptCause, ScriptFault};
 use super::message::Message;
-use super::{MOST_BYTES, MOST_STEPS};
 use plan_mailbox::{Core, Step};
-use plan_rules::lines::lines;
+use plan_rules::lines::{MOST_BYTES, lines};
 use plan_rules::{cut, number};
 use std::alloc::Global;
 

@@ -211,19 +211,33 @@ fn help_names_what_may_be_given(rt: HostRuntime) -> Result<(), Fail> {
                 "--count <N>",
                 "[default: 1]",
                 "--cron <TEXT>",
+                "--calendar <TEXT>",
                 "--help",
             ],
         ),
         (&["steps", "--help"], &["<FILE>", "--help"]),
     ];
     for (words, parts) in rows {
-        let Err(fault) = read(rt.alloc(), words) else {
+        let Err(UsageFault::Help(text)) = read(rt.alloc(), words) else {
             return Err("no help".into());
         };
-        let text = format!(in rt.alloc(); "{fault}")?;
         for part in parts {
             assert!(rt; text.as_str().contains(*part), "{part} in {text}");
         }
+    }
+    Ok(())
+}
+
+#[test]
+fn faults_print_their_names(rt: HostRuntime) -> Result<(), Fail> {
+    let alloc = rt.alloc();
+    let rows = [
+        (UsageFault::NoMemory, "NoMemory"),
+        (UsageFault::Usage(text(alloc, "words")?), "Usage"),
+        (UsageFault::Help(text(alloc, "words")?), "Help"),
+    ];
+    for (fault, name) in rows {
+        assert_eq!(rt; format!(in alloc; "{fault}")?.as_str(), name);
     }
     Ok(())
 }

@@ -138,6 +138,7 @@ fn refused_lines(rt: HostRuntime) {
         ("0 0 * * x", rule_fault(5, RuleCause::BadName)),
         ("0 0 * foo * x", rule_fault(4, RuleCause::BadName)),
         ("1,,2 * * * * x", rule_fault(1, RuleCause::WrongParts)),
+        ("1, * * * * x", rule_fault(1, RuleCause::WrongParts)),
         ("12345 * * * * x", rule_fault(1, RuleCause::BadNumber)),
         ("\0 * * * * x", rule_fault(1, RuleCause::BadNumber)),
         ("é * * * * x", rule_fault(1, RuleCause::BadNumber)),
@@ -230,15 +231,17 @@ fn refused_bytes(rt: HostRuntime) -> Result<(), Fail> {
     }
     let mut blanks = vec![in alloc; b' '; 1_048_576]?;
     assert_eq!(rt; crontab(alloc, blanks.as_slice(), Kind::User)?.len(), 0);
-    blanks.push(0xff)?;
     let too_large = LineFault {
         line: 0,
         cause: LineCause::TooLarge,
     };
-    assert_eq!(rt;
-        crontab(alloc, blanks.as_slice(), Kind::User).err(),
-        Some(too_large)
-    );
+    for byte in [b' ', 0xff] {
+        blanks.push(byte)?;
+        assert_eq!(rt;
+            crontab(alloc, blanks.as_slice(), Kind::User).err(),
+            Some(too_large)
+        );
+    }
     Ok(())
 }
 
@@ -250,7 +253,9 @@ fn the_largest_crontabs(rt: HostRuntime) -> Result<(), Fail> {
         field.push_str(",1")?;
     }
     field.push_str(" * * * * x")?;
-    assert_eq!(rt; crontab(alloc, field.as_bytes(), Kind::User)?.len(), 1);
+    let jobs = crontab(alloc, field.as_bytes(), Kind::User)?;
+    assert_eq!(rt; jobs.len(), 1);
+    assert!(rt; **jobs[0].rule() == cron_rule(alloc, "1 * * * *")?);
 
     let mut lines = String::new(alloc);
     for _ in 0..87_381 {

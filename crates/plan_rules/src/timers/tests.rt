@@ -353,6 +353,7 @@ fn two_events_of_one_timer(rt: HostRuntime) -> Result<(), Fail> {
     let file = b"[Timer]\nOnCalendar=Fri 12:00\nOnCalendar=*-*-3 06:00\n";
     let job = timer(rt.alloc(), "two.timer", file)?;
     assert_eq!(rt; job.what(), "two.service");
+    assert!(rt; matches!(&**job.rule(), Rule::Events(events) if events.len() == 2));
     for (day, hour, starts) in [(3, 6, true), (5, 12, true), (5, 6, false)] {
         assert_eq!(rt; job.rule().matches(&january(day, hour)), starts);
     }
