@@ -1,19 +1,18 @@
 -- The first start of a list of events is the earliest of theirs.
-use Rattle.std.proofs.Common.{◌≡◌, ℕ, ◌+◌, zero, suc, length, ◌<◌, ◌≤◌, Bool, true, false, ◌||◌, ◌&&◌, List, [], ◌∷◌, ◌++◌, Option, None, Some, Bor, take, inl, inr, refl, ap, sym, ◌∙◌, arith}
-use Rattle.std.specs.Prelude.{min, slice_get}
+use Rattle.std.proofs.Common.{◌≡◌, ℕ, ◌+◌, zero, suc, length, ◌≤◌, Bool, true, false, ◌||◌, List, [], ◌∷◌, ◌++◌, Option, None, Some, Bor, take, refl, ap, sym, ◌∙◌, arith}
+use Rattle.std.specs.Prelude.{slice_get, unwrap_or}
+use Rattle.std.specs.Option.{option_or}
 use Rattle.std.proofs.lemmas.List.{take_more}
 use Rattle.std.proofs.lemmas.List.Folds.{list_any-append}
 use Rattle.std.proofs.lemmas.Option.{slice_get_within, get_or_from_slice_get}
-use Rattle.plan_sets.specs.declared.civil.TheConstants.{END_SECOND}
 use Rattle.plan_next.specs.declared.search.Pattern.TheVariants.{Event}
 use Rattle.plan_next.specs.Search.{admits_moment}
 use Rattle.plan_next.proofs.PassingLemmas.{IsFirstIn-same}
 use Rattle.plan_next.proofs.StartsLemmas.{event_matches-moment}
-use Rattle.std.proofs.lemmas.Bool.{cases_lt, lt-ltb}
 use Rattle.plan_sets.specs.Civil.{civil_fields}
 use Rattle.plan_rules.specs.declared.event.Calendar.{Calendar}
 use Rattle.plan_rules.specs.EventMatch.{event_matches, some_event_matches}
-use Rattle.plan_next.specs.Starts.{NoneIn, IsLeastIn, IsFirstIn, earlier_of}
+use Rattle.plan_next.specs.Starts.{IsFirstIn}
 
 either : (ℕ → Bool) → (ℕ → Bool) → ℕ → Bool
 either p q n = p n || q n
@@ -28,22 +27,24 @@ or_right : (a b : Bool) → b ≡ true → (a || b) ≡ true
 or_right true b h = refl
 or_right false b h = h
 
--- the earlier of two first answers is the first of both tests
-pub IsFirstIn-earlier : (p q : ℕ → Bool) (a b : ℕ) (first second : Option ℕ) → IsFirstIn p a b first → IsFirstIn q a b second → IsFirstIn (λ n. p n || q n) a b (earlier_of first second)
-IsFirstIn-earlier p q a b None None h k = λ n low high. or_false (p n) (q n) (h n low high) (k n low high)
-IsFirstIn-earlier p q a b None (Some m) h (low, high, is, none) =
+-- where the second answer is searched up to the first one, it is the first of both tests where there is one
+pub IsFirstIn-narrowed : (p q : ℕ → Bool) (a b : ℕ) (first second : Option ℕ) → IsFirstIn p a b first → IsFirstIn q a (unwrap_or first b) second → IsFirstIn (λ n. p n || q n) a b (option_or second first)
+IsFirstIn-narrowed p q a b None None h k = λ n low high. or_false (p n) (q n) (h n low high) (k n low high)
+IsFirstIn-narrowed p q a b None (Some m) h (low, high, is, none) =
     (low, high, or_right (p m) (q m) is, λ n from to. or_false (p n) (q n) (h n from (omega arith)) (none n from to))
-IsFirstIn-earlier p q a b (Some m) None (low, high, is, none) k =
-    (low, high, or_left (p m) (q m) is, λ n from to. or_false (p n) (q n) (none n from to) (k n from (omega arith)))
-IsFirstIn-earlier p q a b (Some m) (Some k) (low, high, is, none) (low₂, high₂, is₂, none₂) =
-    elim (cases_lt m k) [
-      | inl lt ↦
-          let same : min m k ≡ m = omega arith in
-          rw same (low, high, or_left (p m) (q m) is, λ n from to. or_false (p n) (q n) (none n from to) (none₂ n from (omega arith)))
-      | inr ge ↦
-          let same : min m k ≡ k = omega arith in
-          rw same (low₂, high₂, or_right (p k) (q k) is₂, λ n from to. or_false (p n) (q n) (none n from (omega arith)) (none₂ n from to))
-    ]
+IsFirstIn-narrowed p q a b (Some m) None (low, high, is, none) k =
+    (low, high, or_left (p m) (q m) is, λ n from to. or_false (p n) (q n) (none n from to) (k n from to))
+IsFirstIn-narrowed p q a b (Some m) (Some k) (low, high, is, none) (low₂, high₂, is₂, none₂) =
+    (low₂, omega arith, or_right (p k) (q k) is₂, λ n from to. or_false (p n) (q n) (none n from (omega arith)) (none₂ n from to))
+
+-- the part that is left for the next event
+pub record IsLeft (a b before : ℕ) : Type 0 where
+  pub from : a ≤ before
+  pub to : before ≤ b
+
+pub IsLeft-first : (p : ℕ → Bool) (a b : ℕ) (first : Option ℕ) → a ≤ b → IsFirstIn p a b first → IsLeft a b (unwrap_or first b)
+IsLeft-first p a b None le none = record { from = le; to = omega arith }
+IsLeft-first p a b (Some m) le (low, high, is, none) = record { from = low; to = omega arith }
 
 -- some event of the list matches the fields of second n
 abbrev pub matched_by : List Calendar → ℕ → Bool
@@ -58,10 +59,10 @@ or_none true = refl
 or_none false = refl
 
 -- one more event
-pub more_events : (events : List Calendar) (i since : ℕ) (event : Bor Calendar) (first found : Option ℕ) → slice_get events i ≡ Some event.now → IsFirstIn (matched_by (take i events)) since END_SECOND first → IsFirstIn (admits_moment (Event event)) since END_SECOND found → IsFirstIn (matched_by (take (i + 1) events)) since END_SECOND (earlier_of first found)
-more_events events i since event first found is so_far next =
-    let both = IsFirstIn-earlier (matched_by (take i events)) (admits_moment (Event event)) since END_SECOND first found so_far next in
-    IsFirstIn-same (λ n. matched_by (take i events) n || admits_moment (Event event) n) (matched_by (take (i + 1) events)) since END_SECOND (earlier_of first found)
+pub more_events : (events : List Calendar) (i since end : ℕ) (event : Bor Calendar) (first found : Option ℕ) → slice_get events i ≡ Some event.now → IsFirstIn (matched_by (take i events)) since end first → IsFirstIn (admits_moment (Event event)) since (unwrap_or first end) found → IsFirstIn (matched_by (take (i + 1) events)) since end (option_or found first)
+more_events events i since end event first found is so_far next =
+    let both = IsFirstIn-narrowed (matched_by (take i events)) (admits_moment (Event event)) since end first found so_far next in
+    IsFirstIn-same (λ n. matched_by (take i events) n || admits_moment (Event event) n) (matched_by (take (i + 1) events)) since end (option_or found first)
     (λ n h. sym (ap (λ xs. matched_by xs n) (one_more events i event.now is)
     ∙ list_any-append (λ e. event_matches e (civil_fields n)) (take i events) (event.now ∷ [])
     ∙ ap (λ b. matched_by (take i events) n || b) (or_none (event_matches event.now (civil_fields n)) ∙ sym (event_matches-moment event n))))

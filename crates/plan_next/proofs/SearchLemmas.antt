@@ -1,18 +1,18 @@
 -- What is searched part by part is searched as a whole.
 use Rattle.std.proofs.Common.{◌≡◌, ℕ, ◌+◌, ◌-◌, ◌*◌, ◌/◌, ◌%◌, ◌<◌, ◌≤◌, Bool, true, false, ◌&&◌, inl, inr, refl, sym, ◌∙◌, subst, arith}
 use Rattle.std.specs.Prelude.{max}
-use Rattle.std.proofs.lemmas.Bool.{cases_lt, cases_Bool, true≢false, cases_order, and_left, and_right, false≢true}
+use Rattle.std.proofs.lemmas.Bool.{cases_lt, cases_Bool, true≢false, false≢true}
 use Rattle.std.specs.Int.{IsInRange}
-use Rattle.plan_sets.specs.Civil.{civil_fields, IsCivilOf}
+use Rattle.plan_sets.specs.Civil.{civil_fields}
 use Rattle.plan_sets.specs.Months.{month_number, IsFirstDay}
 use Rattle.plan_sets.specs.declared.civil.Civil.{Civil}
-use Rattle.plan_sets.specs.declared.civil.TheConstants.{SECONDS_A_DAY, END_SECOND, FIRST_YEAR, LAST_YEAR}
+use Rattle.plan_sets.specs.declared.civil.TheConstants.{SECONDS_A_DAY}
 use Rattle.plan_sets.proofs.CivilLemmas.{IsCivilOf-civil_fields}
 use Rattle.plan_sets.proofs.MonthLemmas.{ComesBefore, ComesBefore-first_day, IsInRange-month_number, month_number-mono}
 use Rattle.plan_next.specs.declared.search.Pattern.{Pattern}
 use Rattle.plan_next.specs.declared.search.Pattern.TheVariants.{Cron, Event}
 use Rattle.plan_next.specs.declared.search.TheConstants.{END_DAY, END_MONTH, FIRST_MONTH}
-use Rattle.plan_next.specs.Starts.{NoneIn, IsLeastIn, IsFirstIn}
+use Rattle.plan_next.specs.Starts.{NoneIn, IsLeastIn}
 use Rattle.plan_next.specs.Search.{admits_date, admits_day, admits_month, admits_month_number, admits_year}
 use Rattle.plan_sets.specs.Values.{has_value}
 
@@ -80,51 +80,60 @@ pub record IsSearched (pattern : Pattern) (from month : ℕ) : Type 0 where
   pub none : (day : ℕ) → from ≤ day → day < END_DAY → month_of_day day < month → admits_day pattern day ≡ false
 
 -- a month was found, which begins at the day `first` and before which no further month is admitted
-pub record IsNextMonth (pattern : Pattern) (from month next first end : ℕ) : Type 0 where
+pub record IsNextMonth (pattern : Pattern) (from month next first : ℕ) : Type 0 where
   pub searched : IsSearched pattern from month
   pub least : IsLeastIn (admits_month_number pattern) month END_MONTH next
   pub first_day : IsFirstDay next first
-  pub end_day : IsFirstDay (next + 1) end
 
-none_earlier : (pattern : Pattern) (from month next first end day : ℕ) → IsNextMonth pattern from month next first end → from ≤ day → day < END_DAY → month_of_day day < next → admits_day pattern day ≡ false
-none_earlier pattern from month next first end day found low high lt =
+none_earlier : (pattern : Pattern) (from month next first day : ℕ) → IsNextMonth pattern from month next first → from ≤ day → day < END_DAY → month_of_day day < next → admits_day pattern day ≡ false
+none_earlier pattern from month next first day found low high lt =
     elim (cases_lt (month_of_day day) month) [
       | inl before ↦ found.searched.none day low high before
       | inr after ↦ no_day_of_month pattern day high (found.least.3 (month_of_day day) after lt)
     ]
 
--- no day up to some day of the found month is admitted, where none from its first day on is
-none_until : (pattern : Pattern) (from month next first end start until day : ℕ) → IsNextMonth pattern from month next first end → start ≡ max from first → until ≤ end → until ≤ END_DAY → NoneIn (admits_day pattern) start until → from ≤ day → day < until → admits_day pattern day ≡ false
-none_until pattern from month next first end start until day found begins ends known none low high =
+-- no day before the found month is admitted
+pub none_before : (pattern : Pattern) (from month next first end : ℕ) → IsNextMonth pattern from month next first → end ≤ first → end ≤ END_DAY → NoneIn (admits_day pattern) from end
+none_before pattern from month next first end found begins known day low high =
     let in_years : next < END_MONTH = found.least.1 in
     let at_first = ComesBefore-day next first day (omega arith) found.first_day (omega arith) in
-    let at_end = ComesBefore-day (next + 1) end day (omega arith) found.end_day (omega arith) in
     elim (cases_lt (month_of_day day) next) [
-      | inl before ↦ none_earlier pattern from month next first end day found low (omega arith) before
+      | inl before ↦ none_earlier pattern from month next first day found low (omega arith) before
+      | inr after ↦ absurd (omega (arith, at_first.from after))
+    ]
+
+-- no day up to some day of the found month is admitted, where none from its first day on is
+none_until : (pattern : Pattern) (from month next first end start until day : ℕ) → IsNextMonth pattern from month next first → IsFirstDay (next + 1) end → start ≡ max from first → until ≤ end → until ≤ END_DAY → NoneIn (admits_day pattern) start until → from ≤ day → day < until → admits_day pattern day ≡ false
+none_until pattern from month next first end start until day found end_day begins ends known none low high =
+    let in_years : next < END_MONTH = found.least.1 in
+    let at_first = ComesBefore-day next first day (omega arith) found.first_day (omega arith) in
+    let at_end = ComesBefore-day (next + 1) end day (omega arith) end_day (omega arith) in
+    elim (cases_lt (month_of_day day) next) [
+      | inl before ↦ none_earlier pattern from month next first day found low (omega arith) before
       | inr after ↦ elim (cases_lt next (month_of_day day)) [
         | inl later ↦ absurd (omega (arith, at_end.from (omega arith)))
         | inr here ↦ none day (omega (arith, at_first.from after)) high
       ]
     ]
 
-pub day_found : (pattern : Pattern) (from month next first end start day : ℕ) → IsNextMonth pattern from month next first end → start ≡ max from first → end ≤ END_DAY → IsLeastIn (admits_day pattern) start end day → IsLeastIn (admits_day pattern) from END_DAY day
-day_found pattern from month next first end start day found begins ends (low, high, is, none) = (
+pub day_found : (pattern : Pattern) (from month next first end start day : ℕ) → IsNextMonth pattern from month next first → IsFirstDay (next + 1) end → start ≡ max from first → end ≤ END_DAY → IsLeastIn (admits_day pattern) start end day → IsLeastIn (admits_day pattern) from END_DAY day
+day_found pattern from month next first end start day found end_day begins ends (low, high, is, none) = (
   omega arith,
   omega arith,
   is,
-  λ earlier from_low until. none_until pattern from month next first end start day earlier found begins (omega arith) (omega arith) none from_low until,
+  λ earlier from_low until. none_until pattern from month next first end start day earlier found end_day begins (omega arith) (omega arith) none from_low until,
 )
 
-pub month_passed : (pattern : Pattern) (from month next first end start : ℕ) → IsNextMonth pattern from month next first end → start ≡ max from first → end ≤ END_DAY → NoneIn (admits_day pattern) start end → IsSearched pattern from (next + 1)
-month_passed pattern from month next first end start found begins ends none =
+pub month_passed : (pattern : Pattern) (from month next first end start : ℕ) → IsNextMonth pattern from month next first → IsFirstDay (next + 1) end → start ≡ max from first → end ≤ END_DAY → NoneIn (admits_day pattern) start end → IsSearched pattern from (next + 1)
+month_passed pattern from month next first end start found end_day begins ends none =
     let low : month ≤ next = found.least.0 in
     let high : next < END_MONTH = found.least.1 in
     let known = found.searched.known in
     record {
       known = (omega arith, omega arith);
       none = λ day from_low until lt.
-          let at_end = ComesBefore-day (next + 1) end day (omega arith) found.end_day until in
-          none_until pattern from month next first end start end day found begins (omega arith) ends none from_low (at_end.before lt);
+          let at_end = ComesBefore-day (next + 1) end day (omega arith) end_day until in
+          none_until pattern from month next first end start end day found end_day begins (omega arith) ends none from_low (at_end.before lt);
     }
 
 months_in_years : (day : ℕ) → day < END_DAY → IsInRange FIRST_MONTH END_MONTH (month_of_day day) × (month_of_day day < END_MONTH)
@@ -141,9 +150,10 @@ search_begins pattern from month h is = record {
       absurd (omega arith);
 }
 
-pub no_day_left : (pattern : Pattern) (from month : ℕ) → IsSearched pattern from month → NoneIn (admits_month_number pattern) month END_MONTH → NoneIn (admits_day pattern) from END_DAY
-no_day_left pattern from month searched none day low high =
+pub no_day_left : (pattern : Pattern) (from month end : ℕ) → IsSearched pattern from month → NoneIn (admits_month_number pattern) month END_MONTH → end ≤ END_DAY → NoneIn (admits_day pattern) from end
+no_day_left pattern from month end searched none known day low high =
+    let in_years : day < END_DAY = omega arith in
     elim (cases_lt (month_of_day day) month) [
-      | inl before ↦ searched.none day low high before
-      | inr after ↦ no_day_of_month pattern day high (none (month_of_day day) after (months_in_years day high).1)
+      | inl before ↦ searched.none day low in_years before
+      | inr after ↦ no_day_of_month pattern day in_years (none (month_of_day day) after (months_in_years day in_years).1)
     ]

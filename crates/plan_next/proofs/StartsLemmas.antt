@@ -10,7 +10,7 @@ use Rattle.plan_rules.specs.declared.rule.Rule.TheVariants as rule
 use Rattle.plan_next.specs.declared.search.Pattern.{Pattern}
 use Rattle.plan_next.specs.declared.search.Pattern.TheVariants.{Cron, Event}
 use Rattle.plan_rules.specs.declared.event.Calendar.{Calendar}
-use Rattle.plan_rules.specs.EventMatch.{event_matches, some_event_matches}
+use Rattle.plan_rules.specs.EventMatch.{event_matches}
 use Rattle.plan_sets.specs.Values.{Values as SetOfValues, has_value}
 use Rattle.plan_rules.specs.declared.event.DayCount.{DayCount}
 use Rattle.plan_rules.specs.declared.event.DayCount.TheVariants.{FromStart, FromEnd}

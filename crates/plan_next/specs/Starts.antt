@@ -1,5 +1,5 @@
 -- The starts of a rule, and the first of them.
-use Rattle.std.specs.Prelude.{◌≡◌, ℕ, ◌-◌, ◌<◌, ◌≤◌, Bool, true, false, ◌&&◌, nat_lt, List, filter, Option, Some, None, ◌+◌, min}
+use Rattle.std.specs.Prelude.{◌≡◌, ℕ, ◌-◌, ◌<◌, ◌≤◌, Bool, true, false, ◌&&◌, nat_lt, List, filter, Option, Some, None}
 use Rattle.std.specs.List.{range_with_len}
 use Rattle.plan_sets.specs.declared.civil.TheConstants.{END_SECOND}
 use Rattle.plan_sets.specs.Civil.{civil_fields}
@@ -18,12 +18,6 @@ IsLeastIn test a b n = (a ≤ n) × (n < b) × (test n ≡ true) × NoneIn test 
 abbrev pub IsFirstIn : (ℕ → Bool) → (a b : ℕ) → Option ℕ → Type 0
 IsFirstIn test a b None = NoneIn test a b
 IsFirstIn test a b (Some n) = IsLeastIn test a b n
-
--- the earlier of two answers
-abbrev pub earlier_of : Option ℕ → Option ℕ → Option ℕ
-earlier_of None second = second
-earlier_of (Some first) None = Some first
-earlier_of (Some first) (Some second) = Some (min first second)
 
 -- the numbers from a on, b excluded, that pass the test, ascending
 unfoldable pub passing : (ℕ → Bool) → (a b : ℕ) → List ℕ

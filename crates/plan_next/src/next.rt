@@ -1,7 +1,7 @@
 //! The next start of a rule.
 
-ghost use Rattle.std.specs.Prelude.{◌≡◌, ◌+◌, ◌<◌, slice_get};
-ghost use Rattle.plan_next.specs.Starts.{is_start, starts, earlier_of, IsFirstIn};
+ghost use Rattle.std.specs.Prelude.{◌≡◌, ◌+◌, ◌≤◌, slice_get};
+ghost use Rattle.plan_next.specs.Starts.{is_start, starts, IsFirstIn};
 
 use crate::search::Pattern;
 use plan_rules::{CronRule, Events, Rule};
@@ -22,54 +22,48 @@ pub fn next_from(rule: &Rule, since: u64) -> Option<u64>
     ensures first { result ≡ slice_get (starts rule.now since END_SECOND) 0 }
     ensures least { IsFirstIn (is_start rule.now) since END_SECOND result }
 {
-    first_start(rule, since)
+    first_start(rule, since, END_SECOND)
 }
 
-// The first start of a rule from `since` on, by the kind of the rule.
-fn first_start(rule: &Rule, since: u64) -> Option<u64>
-    ensures { IsFirstIn (is_start rule.now) since END_SECOND result }
+/// The first start of a rule from `since` on, before `end`.
+pub(crate) fn first_start(rule: &Rule, since: u64, end: u64) -> Option<u64>
+    requires { end ≤ END_SECOND }
+    ensures { IsFirstIn (is_start rule.now) since end result }
 {
-    if since >= END_SECOND {
+    if since >= end {
         return None;
     }
     match rule {
-        Rule::Cron(rule) => first_of_cron(rule, since),
+        Rule::Cron(rule) => first_of_cron(rule, since, end),
         Rule::Never => None,
-        Rule::Events(events) => first_of_events(events, since),
+        Rule::Events(events) => first_of_events(events, since, end),
     }
 }
 
-// The first start of a cron rule from `since` on.
-fn first_of_cron(rule: &CronRule, since: u64) -> Option<u64>
-    requires { since < END_SECOND }
-    ensures { IsFirstIn (is_start (Rule.Cron rule.now)) since END_SECOND result }
+// The first start of a cron rule from `since` on, before `end`.
+fn first_of_cron(rule: &CronRule, since: u64, end: u64) -> Option<u64>
+    requires part { since ≤ end }
+    requires years { end ≤ END_SECOND }
+    ensures { IsFirstIn (is_start (Rule.Cron rule.now)) since end result }
 {
-    Pattern::Cron(rule).first_moment(since)
+    Pattern::Cron(rule).first_moment(since, end)
 }
 
-// The first start of a list of events from `since` on: the earliest of theirs.
-fn first_of_events(events: &Events, since: u64) -> Option<u64>
-    requires { since < END_SECOND }
-    ensures { IsFirstIn (is_start (Rule.Events events.now)) since END_SECOND result }
+// The first start of a list of events from `since` on, before `end`: each event is searched up to the first start of those
+// before it.
+fn first_of_events(events: &Events, since: u64, end: u64) -> Option<u64>
+    requires part { since ≤ end }
+    requires years { end ≤ END_SECOND }
+    ensures { IsFirstIn (is_start (Rule.Events events.now)) since end result }
 {
     let mut first = None;
     for i in 0..events.len() {
         if let Some(event) = events.get(i) {
-            first = earlier(first, Pattern::Event(event).first_moment(since));
+            let before = first.unwrap_or(end);
+            first = Pattern::Event(event).first_moment(since, before).or(first);
         }
     }
     first
-}
-
-// The lesser of two seconds, where there are two.
-fn earlier(first: Option<u64>, second: Option<u64>) -> Option<u64>
-    ensures { result ≡ earlier_of first second }
-{
-    match (first, second) {
-        (Some(first), Some(second)) => Some(first.min(second)),
-        (Some(first), None) => Some(first),
-        (None, second) => second,
-    }
 }
 
 #[cfg(test)]

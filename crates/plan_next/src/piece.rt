@@ -2,10 +2,10 @@
 
 ghost use Rattle.std.specs.Prelude.{◌≡◌, ◌<◌, ◌≤◌, IfOk, take};
 ghost use Rattle.std.specs.Arc.{arc_value};
-ghost use Rattle.plan_next.specs.Starts.{is_start, starts, IsFirstIn};
+ghost use Rattle.plan_next.specs.Starts.{starts};
 ghost use Rattle.plan_next.specs.Piece.{piece_end, piece_of};
 
-use crate::next::next_from;
+use crate::next::first_start;
 use plan_rules::Rule;
 use plan_sets::END_SECOND;
 use std::alloc::{AllocError, AllocFailed, Global};
@@ -136,7 +136,7 @@ fn first_starts(
 {
     let mut found = Vec::new(alloc);
     let mut reached = since;
-    while let Some(start) = next_before(rule, reached, upto) {
+    while let Some(start) = first_start(rule, reached, upto) {
         if found.len() == most {
             return Ok((found, reached));
         }
@@ -144,14 +144,6 @@ fn first_starts(
         reached = start + 1;
     }
     Ok((found, upto))
-}
-
-// The first start of a rule from `since` on, before `upto`.
-fn next_before(rule: &Rule, since: u64, upto: u64) -> Option<u64>
-    requires { upto ≤ END_SECOND }
-    ensures { IsFirstIn (is_start rule.now) since upto result }
-{
-    next_from(rule, since).filter(|start| *start < upto)
 }
 
 #[cfg(test)]

@@ -1,7 +1,7 @@
 //! The search for the least second that a pattern admits: the least year, month, day, hour, minute and second in turn, and
 //! one field back where a field has none left.
 
-ghost use Rattle.std.specs.Prelude.{◌≡◌, ◌+◌, ◌/◌, ◌<◌, ◌≤◌, ◌==◌};
+ghost use Rattle.std.specs.Prelude.{◌≡◌, ◌+◌, ◌*◌, ◌/◌, ◌<◌, ◌≤◌, ◌==◌};
 ghost use Rattle.std.specs.Int.{IsInRange};
 ghost use Rattle.plan_sets.specs.Values.{has_value};
 ghost use Rattle.plan_sets.specs.Months.{month_number, IsFirstDay};
@@ -12,10 +12,9 @@ use plan_sets::{
     Civil, END_SECOND, FIRST_YEAR, LAST_YEAR, SECONDS_A_DAY, ValueSet, civil_of, second_of,
 };
 
-// Months are counted from January of the year 0.
 const MONTHS_A_YEAR: u16 = 12;
 
-// January of the first year.
+// January of the first year. Months are counted from January of the year 0.
 const FIRST_MONTH: u16 = FIRST_YEAR * MONTHS_A_YEAR;
 
 // The month after the last year.
@@ -44,10 +43,24 @@ pub(crate) enum Pattern<'a> {
 impl Pattern<'_> {
     ghost use Rattle.plan_next.specs.Search.{admits_year, admits_month, admits_date, admits_hour, admits_minute, admits_second, admits_month_number, admits_day, admits_in_hour, admits_time, admits_moment};
 
-    /// The first admitted second from `from` on.
-    pub(crate) fn first_moment(self, from: u64) -> Option<u64>
-        requires { from < END_SECOND }
-        ensures { IsFirstIn (admits_moment self.entry) from END_SECOND result }
+    /// The first admitted second from `from` on, before `end`.
+    pub(crate) fn first_moment(self, from: u64, end: u64) -> Option<u64>
+        requires part { from ≤ end }
+        requires years { end ≤ END_SECOND }
+        ensures { IsFirstIn (admits_moment self.entry) from end result }
+    {
+        if from == end {
+            return None;
+        }
+        self.first_of_days(from, end.div_ceil(SECONDS_A_DAY))
+            .filter(|moment| *moment < end)
+    }
+
+    // The first admitted second from `from` on, before the day `end`.
+    fn first_of_days(self, from: u64, end: u64) -> Option<u64>
+        requires part { from < end * SECONDS_A_DAY }
+        requires years { end ≤ END_DAY }
+        ensures { IsFirstIn (admits_moment self.entry) from (end * SECONDS_A_DAY) result }
     {
         let today = from / SECONDS_A_DAY;
         if self.admits_date(&civil_of(today * SECONDS_A_DAY))
@@ -56,23 +69,27 @@ impl Pattern<'_> {
             return Some(today * SECONDS_A_DAY + u64::from(time));
         }
         let time = self.first_time(0)?;
-        let day = self.first_day(today + 1)?;
+        let day = self.first_day(today + 1, end)?;
         Some(day * SECONDS_A_DAY + u64::from(time))
     }
 
-    // The first admitted day from `from` on, by day numbers.
-    fn first_day(self, from: u64) -> Option<u64>
-        requires { from ≤ END_DAY }
-        ensures { IsFirstIn (admits_day self.entry) from END_DAY result }
+    // The first admitted day from `from` on, before `end`, by day numbers.
+    fn first_day(self, from: u64, end: u64) -> Option<u64>
+        requires part { from ≤ end }
+        requires years { end ≤ END_DAY }
+        ensures { IsFirstIn (admits_day self.entry) from end result }
     {
-        if from == END_DAY {
+        if from == end {
             return None;
         }
         let mut month = month_of(&civil_of(from * SECONDS_A_DAY));
         while let Some(next) = self.first_month(month) {
-            let start = from.max(first_day_of(next));
-            if let Some(day) = self.first_day_between(start, first_day_of(next + 1)) {
-                return Some(day);
+            let first = first_day_of(next);
+            if first >= end {
+                return None;
+            }
+            if let Some(day) = self.first_day_between(from.max(first), first_day_of(next + 1)) {
+                return (day < end).then_some(day);
             }
             month = next + 1;
         }

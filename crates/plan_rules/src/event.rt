@@ -104,12 +104,14 @@ fn without_zone<'w, 't>(words: &'w [&'t [u8]]) -> Result<&'w [&'t [u8]], RuleFau
     ensures { GivesBy (λ left. map (λ word. word.now) left.now) result
         (zone_dropped (map (λ word. word.now) words.now)) }
 {
-    let count = words.len();
-    if count < 2 || !begins_with_letter(words[count - 1]) {
+    let [before @ .., zone] = words else {
+        return Ok(words);
+    };
+    if before.is_empty() || !begins_with_letter(zone) {
         return Ok(words);
     }
-    if is_utc(words[count - 1]) {
-        return Ok(&words[..count - 1]);
+    if is_utc(zone) {
+        return Ok(before);
     }
     Err(RuleFault {
         part: 8,

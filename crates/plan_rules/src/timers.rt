@@ -18,6 +18,9 @@ use crate::whole_lines::{WholeLine, trimmed, whole_lines};
 use std::alloc::{AllocError, Global};
 use std::sync::Arc;
 
+/// What the name of a timer ends in.
+const ENDING: &str = ".timer";
+
 /// How many bytes the name of a timer has at least.
 const LEAST_NAME: usize = 7;
 
@@ -76,7 +79,7 @@ fn is_timer_name(name: &[u8]) -> bool
     if name.len() < LEAST_NAME || name.len() > MOST_NAME {
         return false;
     }
-    name.ends_with(b".timer") && are_name_bytes(name)
+    name.ends_with(ENDING.as_bytes()) && are_name_bytes(name)
 }
 
 // Whether all these bytes may stand in the name of a timer.
@@ -115,10 +118,10 @@ fn timer_of_lines(alloc: Global, name: &str, lines: &[WholeLine]) -> Result<Job,
 fn section_name(text: &[u8]) -> Option<&[u8]>
     ensures { option_map (λ name. name.now) result ≡ section_name text.now }
 {
-    let [b'[', .., b']'] = text else {
-        return None;
-    };
-    Some(&text[1..text.len() - 1])
+    match text {
+        [b'[', name @ .., b']'] => Some(name),
+        _ => None,
+    }
 }
 
 // The key and the value of a setting.
@@ -150,7 +153,7 @@ fn service_name(alloc: Global, name: &str) -> Result<String, AllocError>
     requires { is_timer_name name.now ≡ true }
     ensures { IfOk result (λ service. string_bytes service ≡ service_name name.now) }
 {
-    let stem = &name[..name.len() - 6];
+    let stem = &name[..name.len() - ENDING.len()];
     format!(in alloc; "{stem}.service")
 }
 

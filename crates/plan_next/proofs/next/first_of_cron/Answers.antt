@@ -1,5 +1,5 @@
+use Rattle.std.proofs.Common.{arith}
 use Rattle.plan_rules.specs.declared.rule.Rule.TheVariants as rule
-use Rattle.plan_sets.specs.declared.civil.TheConstants.{END_SECOND}
 use Rattle.plan_next.specs.declared.search.Pattern.TheVariants.{Cron}
 use Rattle.plan_next.specs.Starts.{is_start}
 use Rattle.plan_next.specs.Search.{admits_moment}
@@ -9,4 +9,4 @@ use Rattle.plan_next.proofs.next.first_of_cron.Goals as goal
 
 pub returns : goal.returns
 returns c =
-    IsFirstIn-same (admits_moment (Cron c.args.rule)) (is_start (rule.Cron c.args.rule.now)) c.args.since END_SECOND c.first_moment.result (is_start-cron c.args.rule) c.first_moment.ensures
+    IsFirstIn-same (admits_moment (Cron c.args.rule)) (is_start (rule.Cron c.args.rule.now)) c.args.since c.args.end c.first_moment.result (λ n h. is_start-cron c.args.rule n (omega arith)) c.first_moment.ensures
