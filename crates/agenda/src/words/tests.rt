@@ -222,7 +222,7 @@ fn help_names_what_may_be_given(rt: HostRuntime) -> Result<(), Fail> {
             return Err("no help".into());
         };
         for part in parts {
-            assert!(rt; text.as_str().contains(*part), "{part} in {text}");
+            assert!(rt; text.as_str().contains(*part), "{part} in {text:?}");
         }
     }
     Ok(())
