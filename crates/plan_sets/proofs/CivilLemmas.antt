@@ -1,200 +1,21 @@
--- The computed civil fields are the ones of the calendar, and no others are.
-use Rattle.std.proofs.Common.{◌≡◌, ℕ, zero, suc, ◌+◌, ◌-◌, ◌/◌, ◌%◌, ◌<◌, ◌≤◌, Bool, true, false, nat_lt, ltb, inl, inr, refl, sym, ◌∙◌, arith, rules, FitsSigned, of_z, to_z, to_z-of_z, w64, ℤ, pos, negsuc, ◌<ℤ◌, ◌≤ℤ◌, unsigned_abs}
-use Rattle.std.specs.Int.{IsInRange}
-use Rattle.std.proofs.lemmas.Bool.{cases_lt}
+-- What jiff gives is the civil fields, and their numbers fit where they are cast.
+use Rattle.std.proofs.Common.{◌≡◌, ℕ, ◌+◌, ◌/◌, ◌%◌, ◌≤◌, refl, arith, FitsSigned, of_z, to_z, to_z-of_z, w64, ℤ, pos, negsuc, ◌<ℤ◌, ◌≤ℤ◌, unsigned_abs}
 use Rattle.std.proofs.lemmas.Int.{by_lt_z}
-use Rattle.std.proofs.lemmas.Bool.Decides.{Decides-ltb, not_from_Decides}
-use Rattle.jiff_core.specs.Calendar.{day_count, day_of_year, days_from_civil, days_in_month, days_in_year, days_of_months, IsCivilDate, IsDate}
+use Rattle.jiff_core.specs.Calendar.{IsCivilDate, IsDate}
 use Rattle.jiff_core.specs.Date.{epoch_day, IsYmd}
 use Rattle.jiff_core.specs.declared.civil.date.Date.{Date}
 use Rattle.jiff_core.proofs.SignedLemmas.{signed_arith}
-use Rattle.jiff_core.proofs.MarchLemmas.{day_count-early}
-use Rattle.jiff_core.proofs.CalendarLemmas.{day_count_bounds, day_count-day_of_year, day_count-epoch, day_count-later_year, day_count-lt_year, day_count-next_year, days_from_civil-day_count, days_in_year_bounds, days_of_months-zero, days_of_months_all, days_of_months_more}
-use Rattle.jiff_core.proofs.DateLemmas.{epoch_day_injective}
-use Rattle.plan_sets.specs.declared.civil.Civil.{Civil}
-use Rattle.plan_sets.specs.declared.civil.TheConstants.{END_SECOND, FIRST_YEAR, LAST_YEAR, SECONDS_A_DAY}
-use Rattle.plan_sets.specs.Civil.{civil_fields, month_and_day, second_number, seconds_of_day, year_and_day, IsCivilOf, IsDateTime, IsDateTimeInYears, Shows}
-
--- a year and a day in it are those of the day `day` days after 1 January of `year`
-record IsInYear (year day : ℕ) (found : ℕ × ℕ) : Type 0 where
-  from : year ≤ found.0
-  within : found.1 < days_in_year (pos found.0)
-  count : day_count (pos found.0) 1 1 + found.1 ≡ day_count (pos year) 1 1 + day
-
-day_count-suc_year : (year : ℕ) → day_count (pos (suc year)) 1 1 ≡ day_count (pos year) 1 1 + days_in_year (pos year)
-day_count-suc_year year = day_count-next_year (pos year) (pos (suc year)) (omega (arith, signed_arith)) (omega (arith, signed_arith))
-
-IsInYear-later : (year day : ℕ) (found : ℕ × ℕ) → days_in_year (pos year) ≤ day → IsInYear (suc year) (day - days_in_year (pos year)) found → IsInYear year day found
-IsInYear-later year day found le later = record {
-  from = omega arith;
-  within = later.within;
-  count = omega (arith, day_count-suc_year year);
-}
-
--- a year has at least one day, so that `day` years are enough
-year_and_day-is : (most year day : ℕ) → day ≤ most → IsInYear year day (year_and_day most year day)
-unfolding year_and_day
-year_and_day-is zero year day h = record {
-  from = omega arith;
-  within = omega (arith, days_in_year_bounds (pos year));
-  count = refl;
-}
-year_and_day-is (suc most) year day h =
-    let len = days_in_year (pos year) in
-    let step : (b : Bool) → nat_lt day len ≡ b → IsInYear year day (elim b [ true ↦ (year, day) | false ↦ year_and_day most (suc year) (day - len) ]) = λ b. elim b as (λ v. nat_lt day len ≡ v → IsInYear year day (elim v [ true ↦ (year, day) | false ↦ year_and_day most (suc year) (day - len) ])) [
-      | true ↦ λ e. record { from = omega arith; within = (Decides-ltb day len).0 e; count = refl }
-      | false ↦ λ e. let le : len ≤ day = omega (arith, not_from_Decides (ltb day len) (Decides-ltb day len) e) in
-          IsInYear-later year day _ le (year_and_day-is most (suc year) (day - len) (omega (arith, days_in_year_bounds (pos year))))
-    ] in
-    step (nat_lt day len) refl
-
--- a month and a day in it are those of the day of the year that is `day`, counted from 0
-record IsInMonth (year : ℤ) (day : ℕ) (found : ℕ × ℕ) : Type 0 where
-  month_in : IsInRange 1 12 found.0
-  day_in : IsInRange 1 (days_in_month year found.0) found.1
-  count : day_of_year year found.0 found.1 ≡ day + 1
-
-month_and_day-is : (most : ℕ) (year : ℤ) (month day before whole : ℕ) → 1 ≤ month → month + most ≡ 12 → before ≡ days_of_months year (month - 1) → before + day ≡ whole → whole < days_in_year year → IsInMonth year whole (month_and_day most year month day)
-unfolding month_and_day
-month_and_day-is zero year month day before whole low sum start place within =
-    let last : month ≡ 12 = omega arith in
-    let len = days_of_months_more year month low in
-    let all : days_of_months year month ≡ days_in_year year = rw last (days_of_months_all year) in
-    record { month_in = omega arith; day_in = omega arith; count = omega arith }
-month_and_day-is (suc most) year month day before whole low sum start place within =
-    let len = days_in_month year month in
-    let more = days_of_months_more year month low in
-    let back : suc month - 1 ≡ month = omega arith in
-    let step : (b : Bool) → nat_lt day len ≡ b → IsInMonth year whole (elim b [ true ↦ (month, day + 1) | false ↦ month_and_day most year (suc month) (day - len) ]) = λ b. elim b as (λ v. nat_lt day len ≡ v → IsInMonth year whole (elim v [ true ↦ (month, day + 1) | false ↦ month_and_day most year (suc month) (day - len) ])) [
-      | true ↦ λ e. let lt = (Decides-ltb day len).0 e in record { month_in = omega arith; day_in = omega arith; count = omega arith }
-      | false ↦ λ e. let le : len ≤ day = omega (arith, not_from_Decides (ltb day len) (Decides-ltb day len) e) in
-          month_and_day-is most year (suc month) (day - len) (days_of_months year month) whole (omega arith) (omega arith) (rw back refl) (omega arith) within
-    ] in
-    step (nat_lt day len) refl
-
--- a date before a year has a smaller day number than the year's first day
-pub days_from_civil-before_year : (year month day later : ℕ) → IsCivilDate (pos year) month day → year < later → days_from_civil (pos year) month day <ℤ days_from_civil (pos later) 1 1
-days_from_civil-before_year year month day later date lt =
-    omega (arith, signed_arith, days_from_civil-day_count, day_count-lt_year (pos year) month day (pos later) 1 1 date (omega arith) (omega (arith, signed_arith)))
-
-first_of_later_year : (first year : ℕ) → first ≤ year → day_count (pos first) 1 1 ≤ day_count (pos year) 1 1
-first_of_later_year first year le =
-    elim (cases_lt first year) [
-      | inl lt ↦ omega (arith, day_count-later_year (pos first) (pos year) (omega (arith, signed_arith)) (omega (arith, signed_arith)))
-      | inr ge ↦ let same : first ≡ year = omega arith in rw same (omega arith)
-    ]
-
--- and one from a year on has none smaller
-pub days_from_civil-from_year : (first year month day : ℕ) → IsCivilDate (pos year) month day → first ≤ year → days_from_civil (pos first) 1 1 ≤ℤ days_from_civil (pos year) month day
-days_from_civil-from_year first year month day date le =
-    omega (arith, signed_arith, days_from_civil-day_count, first_of_later_year first year le, day_count-day_of_year (pos year) month day date.2.0)
-
--- the first and the last second begin years
-pub days_from_civil-first : days_from_civil (pos FIRST_YEAR) 1 1 ≡ pos 0
-days_from_civil-first = omega (arith, signed_arith, days_from_civil-day_count, day_count-epoch)
-
-pub days_from_civil-end : days_from_civil (pos (LAST_YEAR + 1)) 1 1 ≡ pos (END_SECOND / SECONDS_A_DAY)
-days_from_civil-end =
-    let count = day_count-early (pos (LAST_YEAR + 1)) (LAST_YEAR + 10000) 1 1 refl (omega arith) (omega arith) (omega arith) in
-    omega (arith, signed_arith, days_from_civil-day_count)
-
--- the planner's years hold the days of its seconds, and the end's day is in the next
-days_before_end : (n : ℕ) → n ≤ END_SECOND → n / SECONDS_A_DAY ≤ END_SECOND / SECONDS_A_DAY
-days_before_end n h = omega arith
-
-IsInYear-le_end : (n : ℕ) (found : ℕ × ℕ) → n ≤ END_SECOND → IsInYear FIRST_YEAR (n / SECONDS_A_DAY) found → found.0 ≤ LAST_YEAR + 1
-IsInYear-le_end n found h in_year =
-    elim (cases_lt (LAST_YEAR + 1) found.0) [
-      | inl lt ↦
-          let later = day_count-later_year (pos (LAST_YEAR + 1)) (pos found.0) (omega (arith, signed_arith)) (omega (arith, signed_arith)) in
-          let longer = days_in_year_bounds (pos (LAST_YEAR + 1)) in
-          absurd (omega (arith, signed_arith, days_from_civil-day_count, days_from_civil-end, days_from_civil-first, days_before_end n h, in_year.count))
-      | inr le ↦ le
-    ]
-
--- the computed fields are those of the calendar
-pub IsCivilOf-civil_fields : (n : ℕ) → n ≤ END_SECOND → IsCivilOf n (civil_fields n)
-unfolding civil_fields
-IsCivilOf-civil_fields n h =
-    let days = n / SECONDS_A_DAY in
-    let found = year_and_day days FIRST_YEAR days in
-    let in_year : IsInYear FIRST_YEAR days found = year_and_day-is days FIRST_YEAR days (omega arith) in
-    let zeroth = days_of_months-zero (pos found.0) in
-    let placed = month_and_day 11 (pos found.0) 1 found.1 in
-    let in_month : IsInMonth (pos found.0) found.1 placed = month_and_day-is 11 (pos found.0) 1 found.1 0 found.1 (omega arith) (omega arith) (sym zeroth) (omega arith) in_year.within in
-    let known = IsInYear-le_end n found h in_year in
-    record {
-      date = ((omega (arith, signed_arith), omega (arith, signed_arith)), in_month.month_in, in_month.day_in);
-      day_number = omega (arith, signed_arith, days_from_civil-day_count, days_from_civil-first, day_count-day_of_year (pos found.0) placed.0 placed.1 in_month.day_in.0, in_month.count, in_year.count);
-      weekday = refl;
-      time = omega arith;
-      time_of_day = omega arith;
-    }
-
-as_date : (year month day : ℕ) → IsCivilDate (pos year) month day → Date
-as_date year month day date = record {
-  year = pos year;
-  month = month;
-  day = day;
-  year_in = date.0;
-  month_in = date.1;
-  day_in = date.2;
-}
-
--- two dates with one day number are one date
-pub same_date : (y m d y₂ m₂ d₂ : ℕ) → IsCivilDate (pos y) m d → IsCivilDate (pos y₂) m₂ d₂ → days_from_civil (pos y) m d ≡ days_from_civil (pos y₂) m₂ d₂ → (y ≡ y₂) × (m ≡ m₂) × (d ≡ d₂)
-unfolding as_date
-same_date y m d y₂ m₂ d₂ date date₂ e =
-    let same = epoch_day_injective (as_date y m d date) (as_date y₂ m₂ d₂ date₂) e in
-    (omega (arith, signed_arith, same.0), same.1, same.2)
-
--- only one value has the fields of a second
-pub IsCivilOf-unique : (n : ℕ) (a b : Civil) → IsCivilOf n a → IsCivilOf n b → a ≡ b
-IsCivilOf-unique n a b p q =
-    let date = same_date _ _ _ _ _ _ p.date q.date (p.day_number ∙ sym q.day_number) in
-    let weekday : a.weekday ≡ b.weekday = p.weekday ∙ sym q.weekday in
-    let hour : a.hour ≡ b.hour = omega arith in
-    let minute : a.minute ≡ b.minute = omega arith in
-    let second : a.second ≡ b.second = omega arith in
-    let same : ◌≡◌ {A = Civil} (record { year = a.year; month = a.month; day = a.day; weekday = a.weekday; hour = a.hour; minute = a.minute; second = a.second }) b = rw (date.0, date.1, date.2, weekday, hour, minute, second) refl in
-    same
-
--- the fields of a second from the epoch to a date and time are these
-pub Shows-civil_fields : (n year month day hour minute second : ℕ) → n ≤ END_SECOND → IsDateTime year month day hour minute second → pos n ≡ second_number year month day hour minute second → Shows (civil_fields n) year month day hour minute second
-Shows-civil_fields n year month day hour minute second h is e =
-    let c = IsCivilOf-civil_fields n h in
-    let days : days_from_civil (pos year) month day ≡ pos (n / SECONDS_A_DAY) = omega (arith, signed_arith) in
-    let date = same_date _ _ _ _ _ _ c.date is.0 (c.day_number ∙ sym days) in
-    let time : seconds_of_day hour minute second ≡ n % SECONDS_A_DAY = omega (arith, signed_arith) in
-    (date.0, date.1, date.2, omega arith, omega arith, omega arith)
+use Rattle.jiff_core.proofs.CalendarLemmas.{day_count_bounds, day_count-lt_year, days_from_civil-day_count}
+use Rattle.plan_sets.specs.Limits.{end_second, first_year, last_year, seconds_a_day}
+use Rattle.plan_sets.specs.Civil.{second_number, IsCivilOf, IsDateTime, IsDateTimeInYears}
+use Rattle.plan_sets.specs.CivilLaws.{days_from_civil-before_year, days_from_civil-end, days_from_civil-first, days_from_civil-from_year}
 
 -- a date and time in the planner's years is one of its seconds
-pub second_number-bounds : (year month day hour minute second : ℕ) → IsDateTimeInYears year month day hour minute second → (pos 0 ≤ℤ second_number year month day hour minute second) × (second_number year month day hour minute second <ℤ pos END_SECOND)
+pub second_number-bounds : (year month day hour minute second : ℕ) → IsDateTimeInYears year month day hour minute second → (pos 0 ≤ℤ second_number year month day hour minute second) × (second_number year month day hour minute second <ℤ pos end_second)
 second_number-bounds year month day hour minute second h =
-    let low = days_from_civil-from_year FIRST_YEAR year month day h.1.0 h.0.0 in
-    let high = days_from_civil-before_year year month day (LAST_YEAR + 1) h.1.0 (omega arith) in
+    let low = days_from_civil-from_year first_year year month day h.1.0 h.0.0 in
+    let high = days_from_civil-before_year year month day (last_year + 1) h.1.0 (omega arith) in
     omega (arith, signed_arith, days_from_civil-first, days_from_civil-end)
-
--- and each of its seconds is in those years, but for the end
-pub IsInRange-year : (n : ℕ) (c : Civil) → IsCivilOf n c → n ≤ END_SECOND → IsInRange FIRST_YEAR (LAST_YEAR + 1) c.year × (n < END_SECOND → c.year ≤ LAST_YEAR)
-IsInRange-year n c h le =
-    let low : FIRST_YEAR ≤ c.year = elim (cases_lt c.year FIRST_YEAR) [
-      | inl lt ↦ absurd (omega (arith, signed_arith, h.day_number, days_from_civil-first, days_from_civil-before_year c.year c.month c.day FIRST_YEAR h.date lt))
-      | inr ge ↦ ge
-    ] in
-    let high : c.year ≤ LAST_YEAR + 1 = elim (cases_lt (LAST_YEAR + 1) c.year) [
-      | inl lt ↦
-          let end : IsCivilDate (pos (LAST_YEAR + 1)) 1 1 = search rules in
-          let before = days_from_civil-before_year (LAST_YEAR + 1) 1 1 c.year end lt in
-          let from = days_from_civil-from_year c.year c.year c.month c.day h.date (omega arith) in
-          absurd (omega (arith, signed_arith, h.day_number, days_from_civil-end, days_before_end n le))
-      | inr ge ↦ ge
-    ] in
-    let before_end : n < END_SECOND → c.year ≤ LAST_YEAR = λ lt. elim (cases_lt LAST_YEAR c.year) [
-      | inl late ↦ absurd (omega (arith, signed_arith, h.day_number, days_from_civil-end, days_from_civil-from_year (LAST_YEAR + 1) c.year c.month c.day h.date (omega arith)))
-      | inr ge ↦ ge
-    ] in
-    ((low, high), before_end)
 
 -- 1970-01-01 has the day number 0
 pub epoch_day-epoch : (d : Date) → IsYmd (pos 1970) (pos 1) (pos 1) d → epoch_day d ≡ pos 0
@@ -206,8 +27,8 @@ epoch_day-epoch d (year, month, day) =
 -- a date from the epoch on has no negative year
 pub year-from_epoch : (d : Date) (n : ℕ) → epoch_day d ≡ pos n → pos 0 ≤ℤ d.year
 year-from_epoch d n e =
-    by_lt_z d.year (pos FIRST_YEAR)
-    (λ lt. absurd (omega (arith, signed_arith, days_from_civil-day_count, days_from_civil-first, day_count-lt_year d.year d.month d.day (pos FIRST_YEAR) 1 1 (d.year_in, d.month_in, d.day_in) (omega arith) lt)))
+    by_lt_z d.year (pos first_year)
+    (λ lt. absurd (omega (arith, signed_arith, days_from_civil-day_count, days_from_civil-first, day_count-lt_year d.year d.month d.day (pos first_year) 1 1 (d.year_in, d.month_in, d.day_in) (omega arith) lt)))
     (λ le. omega (arith, signed_arith))
 
 pos-unsigned_abs : (z : ℤ) → pos 0 ≤ℤ z → pos (unsigned_abs z) ≡ z
@@ -218,9 +39,9 @@ pos-unsigned_abs (negsuc n) low = absurd (omega (arith, signed_arith))
 pub record IsCast (z : ℤ) (n : ℕ) : Type 0 where
   pub back : to_z w64 (of_z w64 z) ≡ z
   pub same : pos n ≡ z
-  pub fits : n ≤ END_SECOND
+  pub fits : n ≤ end_second
 
-pub IsCast-second : (z : ℤ) → pos 0 ≤ℤ z → z ≤ℤ pos END_SECOND → IsCast z (unsigned_abs (to_z w64 (of_z w64 z)))
+pub IsCast-second : (z : ℤ) → pos 0 ≤ℤ z → z ≤ℤ pos end_second → IsCast z (unsigned_abs (to_z w64 (of_z w64 z)))
 IsCast-second z low high =
     let within : FitsSigned w64 z = omega (arith, signed_arith) in
     let back : to_z w64 (of_z w64 z) ≡ z = to_z-of_z within in
@@ -228,9 +49,9 @@ IsCast-second z low high =
     record { back = back; same = rw back same; fits = rw back (omega (arith, signed_arith)) }
 
 -- the date with a second's day number gives its fields
-pub IsCivilOf-date : (n : ℕ) (d : Date) → epoch_day d ≡ pos (n / SECONDS_A_DAY) → IsCivilOf n (record { year = unsigned_abs d.year; month = d.month; day = d.day; weekday = (n / SECONDS_A_DAY + 3) % 7; hour = n % SECONDS_A_DAY / 3600; minute = n % SECONDS_A_DAY / 60 % 60; second = n % SECONDS_A_DAY % 60 })
+pub IsCivilOf-date : (n : ℕ) (d : Date) → epoch_day d ≡ pos (n / seconds_a_day) → IsCivilOf n (record { year = unsigned_abs d.year; month = d.month; day = d.day; weekday = (n / seconds_a_day + 3) % 7; hour = n % seconds_a_day / 3600; minute = n % seconds_a_day / 60 % 60; second = n % seconds_a_day % 60 })
 IsCivilOf-date n d e =
-    let low = year-from_epoch d (n / SECONDS_A_DAY) e in
+    let low = year-from_epoch d (n / seconds_a_day) e in
     let year = pos-unsigned_abs d.year low in
     record {
       date = rw year (d.year_in, d.month_in, d.day_in);
@@ -252,10 +73,6 @@ IsCivilDate-date date year month day (same_year, same_month, same_day) =
 pub IsDate-civil : (y m d : ℤ) (year month day : ℕ) → y ≡ pos year → m ≡ pos month → d ≡ pos day → IsCivilDate (pos year) month day → IsDate y m d
 IsDate-civil y m d year month day same_year same_month same_day h =
     rw (same_year, same_month, same_day) (h.0, (omega (arith, signed_arith), omega (arith, signed_arith)), (omega (arith, signed_arith), omega (arith, signed_arith)))
-
--- a second is the number of its fields
-pub second_number-civil : (n : ℕ) (c : Civil) → IsCivilOf n c → second_number c.year c.month c.day c.hour c.minute c.second ≡ pos n
-second_number-civil n c h = rw h.day_number (omega (arith, signed_arith, h.time_of_day))
 
 -- the number of any date and time fits 64 bits
 pub second_number-fits : (year month day hour minute second : ℕ) → IsDateTime year month day hour minute second → FitsSigned w64 (second_number year month day hour minute second)

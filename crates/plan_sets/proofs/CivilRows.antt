@@ -1,6 +1,6 @@
 -- Known seconds, as theorems of the definition of the civil fields.
 use Rattle.std.proofs.Common.{◌≡◌, refl}
-use Rattle.plan_sets.specs.declared.civil.TheConstants.{END_SECOND}
+use Rattle.plan_sets.specs.Limits.{end_second}
 use Rattle.plan_sets.specs.Civil.{civil_fields, month_and_day, year_and_day}
 
 -- the first second is a Thursday's
@@ -24,6 +24,6 @@ unfolding civil_fields year_and_day month_and_day
 after_february_2100 = refl
 
 -- the second after the last year begins the year 2200
-the_end : civil_fields END_SECOND ≡ record { year = 2200; month = 1; day = 1; weekday = 2; hour = 0; minute = 0; second = 0 }
+the_end : civil_fields end_second ≡ record { year = 2200; month = 1; day = 1; weekday = 2; hour = 0; minute = 0; second = 0 }
 unfolding civil_fields year_and_day month_and_day
 the_end = refl

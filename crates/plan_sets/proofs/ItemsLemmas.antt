@@ -5,9 +5,9 @@ use Rattle.plan_sets.specs.declared.item.Item.{Item}
 use Rattle.plan_sets.specs.declared.item.Item.TheVariants.{One}
 use Rattle.plan_sets.specs.declared.item.SetFault.{SetFault}
 use Rattle.plan_sets.specs.declared.item.SetFault.TheVariants.{NoItem, OutOfRange}
-use Rattle.plan_sets.specs.Values.{Values, has_value}
+use Rattle.plan_sets.specs.Values.{Values, has_value, is_among}
 use Rattle.plan_sets.specs.Items.{belongs, is_within, is_held, item_fault, fault_or, first_fault, items_fault, held_values, values_or_fault, set_reading}
-use Rattle.plan_sets.proofs.ValuesLemmas.{is_among, has_value-values_where, base-values_where, same_values}
+use Rattle.plan_sets.specs.ValuesLaws.{has_value-values_where, base-values_where, same_values}
 use Rattle.std.proofs.lemmas.Bool.{cases_eq, cases_Bool, eq-eqb, ne_eqb}
 use Rattle.std.proofs.lemmas.Bool.Decides.{nat_tests}
 

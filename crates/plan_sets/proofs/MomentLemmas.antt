@@ -1,10 +1,10 @@
 -- What a text of a moment's form says, and that it says one thing alone.
 use Rattle.std.proofs.Common.{◌≡◌, ℕ, ◌+◌, ◌/◌, ◌%◌, ◌<◌, ◌≤◌, List, [], ◌∷◌, get_or, ap, arith, pos, refl, subst, sym, ◌∙◌}
 use Rattle.jiff_core.proofs.CalendarLemmas.{days_in_month_bounds}
-use Rattle.plan_sets.specs.declared.civil.TheConstants.{END_SECOND}
+use Rattle.plan_sets.specs.Limits.{end_second}
 use Rattle.plan_sets.specs.Civil.{civil_fields}
 use Rattle.plan_sets.specs.Moment.{moment_text_of, number_of, two_digits, written_of, written_text, IsInCalendar, Says, Written}
-use Rattle.plan_sets.proofs.CivilLemmas.{second_number-civil, IsCivilOf-civil_fields, IsInRange-year, Shows-civil_fields}
+use Rattle.plan_sets.specs.CivilLaws.{second_number-civil, IsCivilOf-civil_fields, IsInRange-year, Shows-civil_fields}
 
 -- two bytes that are the digits of a number
 pub record AreDigits (tens ones n : ℕ) : Type 0 where
@@ -37,7 +37,7 @@ Says-unique text v w p q =
     same_written v w (omega arith) (same_number _ _ (at 5) (at 6)) (same_number _ _ (at 8) (at 9)) (same_number _ _ (at 11) (at 12)) (same_number _ _ (at 14) (at 15)) (same_number _ _ (at 17) (at 18))
 
 -- the text of a second says its fields
-pub Says-moment_text_of : (text : List ℕ) (n : ℕ) → n ≤ END_SECOND → text ≡ moment_text_of n → Says text (written_of (civil_fields n))
+pub Says-moment_text_of : (text : List ℕ) (n : ℕ) → n ≤ end_second → text ≡ moment_text_of n → Says text (written_of (civil_fields n))
 unfolding moment_text_of
 Says-moment_text_of text n h e =
     let c = civil_fields n in
@@ -47,7 +47,7 @@ Says-moment_text_of text n h e =
     record { room = omega arith; text_is = e }
 
 -- so a text of a second that says a date and time says one that exists, with that number
-pub Says-second : (text : List ℕ) (n : ℕ) (w : Written) → n ≤ END_SECOND → text ≡ moment_text_of n → Says text w → IsInCalendar w × (number_of w ≡ pos n)
+pub Says-second : (text : List ℕ) (n : ℕ) (w : Written) → n ≤ end_second → text ≡ moment_text_of n → Says text w → IsInCalendar w × (number_of w ≡ pos n)
 Says-second text n w h e says =
     let is = IsCivilOf-civil_fields n h in
     let same : w ≡ written_of (civil_fields n) = Says-unique text w (written_of (civil_fields n)) says (Says-moment_text_of text n h e) in
@@ -55,7 +55,7 @@ Says-second text n w h e says =
     subst P (sym same) ((is.date, is.time), second_number-civil n (civil_fields n) is)
 
 -- and a text that says a date and time with the number of a second is its text
-pub moment_text_of-number : (text : List ℕ) (n : ℕ) (w : Written) → n ≤ END_SECOND → Says text w → IsInCalendar w → pos n ≡ number_of w → text ≡ moment_text_of n
+pub moment_text_of-number : (text : List ℕ) (n : ℕ) (w : Written) → n ≤ end_second → Says text w → IsInCalendar w → pos n ≡ number_of w → text ≡ moment_text_of n
 unfolding moment_text_of
 moment_text_of-number text n w h says exists e =
     let shows = Shows-civil_fields n w.year w.month w.day w.hour w.minute w.second h exists e in

@@ -2,11 +2,11 @@
 use Rattle.std.proofs.Common.{◌≡◌, ℕ, ◌<◌, List, ap, arith, get_or, inl, inr, length, refl, rules}
 use Rattle.std.specs.Prelude.{codes}
 use Rattle.jiff_core.proofs.SignedLemmas.{signed_arith}
-use Rattle.plan_sets.specs.declared.civil.TheConstants.{END_SECOND, FIRST_YEAR}
+use Rattle.plan_sets.specs.Limits.{end_second, first_year}
 use Rattle.plan_sets.specs.declared.moment.MomentFault.TheVariants.{BadForm, NoSuchDate, OutOfYears}
 use Rattle.plan_sets.specs.Civil.{civil_fields, month_and_day, year_and_day}
 use Rattle.plan_sets.specs.Moment.{moment_text_of, HasFault, IsInCalendar, Says, Written}
-use Rattle.plan_sets.proofs.CivilLemmas.{days_from_civil-before_year, days_from_civil-end, days_from_civil-first}
+use Rattle.plan_sets.specs.CivilLaws.{days_from_civil-before_year, days_from_civil-end, days_from_civil-first}
 
 the_epoch : moment_text_of 0 ≡ codes "1970-01-01T00:00:00Z"
 unfolding moment_text_of civil_fields year_and_day month_and_day
@@ -16,7 +16,7 @@ with_a_time : moment_text_of 1_700_000_000 ≡ codes "2023-11-14T22:13:20Z"
 unfolding moment_text_of civil_fields year_and_day month_and_day
 with_a_time = refl
 
-the_end : moment_text_of END_SECOND ≡ codes "2200-01-01T00:00:00Z"
+the_end : moment_text_of end_second ≡ codes "2200-01-01T00:00:00Z"
 unfolding moment_text_of civil_fields year_and_day month_and_day
 the_end = refl
 
@@ -44,9 +44,9 @@ hour_24 =
     (w, record { room = search rules; text_is = refl }, λ h. absurd (omega (arith, h.1)))
 
 -- whatever comes before 1970 is out of the planner's years
-before_the_years : (text : List ℕ) (w : Written) → Says text w → IsInCalendar w → w.year < FIRST_YEAR → HasFault text OutOfYears
+before_the_years : (text : List ℕ) (w : Written) → Says text w → IsInCalendar w → w.year < first_year → HasFault text OutOfYears
 before_the_years text w says exists early =
-    let before = days_from_civil-before_year w.year w.month w.day FIRST_YEAR exists.0 early in
+    let before = days_from_civil-before_year w.year w.month w.day first_year exists.0 early in
     (w, says, exists, inl (omega (arith, signed_arith, days_from_civil-first)))
 
 year_0 : HasFault (codes "0000-01-01T00:00:00Z") OutOfYears

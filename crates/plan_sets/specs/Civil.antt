@@ -4,7 +4,7 @@ use Rattle.std.specs.Prelude.{◌≡◌, ℕ, zero, suc, ◌+◌, ◌-◌, ◌*�
 use Rattle.std.specs.Int.{IsInRange}
 use Rattle.jiff_core.specs.Calendar.{IsCivilDate, days_from_civil, days_in_month, days_in_year}
 use Rattle.plan_sets.specs.declared.civil.Civil.{Civil}
-use Rattle.plan_sets.specs.declared.civil.TheConstants.{FIRST_YEAR, LAST_YEAR, SECONDS_A_DAY}
+use Rattle.plan_sets.specs.Limits.{first_year, last_year, seconds_a_day}
 
 -- how many days the month of that year has, in the calendar that the civil fields are read by
 abbrev pub length_of_month : ℕ → ℕ → ℕ
@@ -22,10 +22,10 @@ seconds_of_day hour minute second = (hour * 60 + minute) * 60 + second
 -- the time of that day (POSIX, "Seconds Since the Epoch"; weekdays from Monday, own)
 pub record IsCivilOf (n : ℕ) (c : Civil) : Type 0 where
   pub date : IsCivilDate (pos c.year) c.month c.day
-  pub day_number : days_from_civil (pos c.year) c.month c.day ≡ pos (n / SECONDS_A_DAY)
-  pub weekday : c.weekday ≡ (n / SECONDS_A_DAY + 3) % 7
+  pub day_number : days_from_civil (pos c.year) c.month c.day ≡ pos (n / seconds_a_day)
+  pub weekday : c.weekday ≡ (n / seconds_a_day + 3) % 7
   pub time : IsTimeOfDay c.hour c.minute c.second
-  pub time_of_day : seconds_of_day c.hour c.minute c.second ≡ n % SECONDS_A_DAY
+  pub time_of_day : seconds_of_day c.hour c.minute c.second ≡ n % seconds_a_day
 
 -- the year, and the day in it counted from 0, of the day that comes `day` days after 1 January of
 -- `year`: a year at a time, through at most `most` years
@@ -51,9 +51,9 @@ month_and_day (suc most) year month day =
 -- `IsCivilOf` says what they are, and that this computes them is proved
 unfoldable pub civil_fields : ℕ → Civil
 civil_fields n =
-    let days = n / SECONDS_A_DAY in
-    let time = n % SECONDS_A_DAY in
-    let in_year = year_and_day days FIRST_YEAR days in
+    let days = n / seconds_a_day in
+    let time = n % seconds_a_day in
+    let in_year = year_and_day days first_year days in
     let in_month = month_and_day 11 (pos in_year.0) 1 in_year.1 in
     record {
       year = in_year.0;
@@ -73,15 +73,28 @@ IsDateTime year month day hour minute second =
 -- the same, in the planner's years (own)
 abbrev pub IsDateTimeInYears : ℕ → ℕ → ℕ → ℕ → ℕ → ℕ → Type 0
 IsDateTimeInYears year month day hour minute second =
-    IsInRange FIRST_YEAR LAST_YEAR year × IsDateTime year month day hour minute second
+    IsInRange first_year last_year year × IsDateTime year month day hour minute second
 
 -- the seconds from 1970-01-01T00:00:00Z to that date and time, negative before it
 abbrev pub second_number : ℕ → ℕ → ℕ → ℕ → ℕ → ℕ → ℤ
 second_number year month day hour minute second =
-    days_from_civil (pos year) month day *ℤ pos SECONDS_A_DAY +ℤ pos (seconds_of_day hour minute second)
+    days_from_civil (pos year) month day *ℤ pos seconds_a_day +ℤ pos (seconds_of_day hour minute second)
 
 -- the fields show this date and time
 abbrev pub Shows : Civil → ℕ → ℕ → ℕ → ℕ → ℕ → ℕ → Type 0
 Shows c year month day hour minute second =
     (c.year ≡ year) × (c.month ≡ month) × (c.day ≡ day)
     × (c.hour ≡ hour) × (c.minute ≡ minute) × (c.second ≡ second)
+
+-- the fields of a second's date
+pub record SameDate (a b : Civil) : Type 0 where
+  pub year : a.year ≡ b.year
+  pub month : a.month ≡ b.month
+  pub day : a.day ≡ b.day
+  pub weekday : a.weekday ≡ b.weekday
+
+-- the time of a second in its day
+pub record IsTime (n : ℕ) (c : Civil) : Type 0 where
+  pub hour : c.hour ≡ n % seconds_a_day / 3600
+  pub minute : c.minute ≡ n % seconds_a_day / 60 % 60
+  pub second : c.second ≡ n % seconds_a_day % 60

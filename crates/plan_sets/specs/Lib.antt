@@ -1,5 +1,10 @@
 pub mod Civil
+pub mod CivilLaws
 pub mod Items
+pub mod Limits
 pub mod Moment
 pub mod Months
+pub mod MonthsLaws
 pub mod Values
+pub mod ValuesLaws
+pub mod Words

@@ -1,7 +1,7 @@
 -- The text of a moment, and what is wrong with a text that is none.
 use Rattle.std.specs.Prelude.{◌≡◌, ℕ, ◌+◌, ◌/◌, ◌%◌, ◌<◌, List, [], ◌∷◌, ◌++◌, codes, ℤ, pos, ◌<ℤ◌, ◌⊎◌}
 use Rattle.plan_sets.specs.declared.civil.Civil.{Civil}
-use Rattle.plan_sets.specs.declared.civil.TheConstants.{END_SECOND}
+use Rattle.plan_sets.specs.Limits.{end_second}
 use Rattle.plan_sets.specs.declared.moment.Fields.{Fields}
 use Rattle.plan_sets.specs.declared.moment.MomentFault.{MomentFault}
 use Rattle.plan_sets.specs.declared.moment.MomentFault.TheVariants.{BadForm, NoSuchDate, OutOfYears}
@@ -78,7 +78,7 @@ number_of w = second_number w.year w.month w.day w.hour w.minute w.second
 
 -- the date and time come before 1970, or after 2200-01-01T00:00:00Z (own)
 abbrev pub IsOutOfYears : Written → Type 0
-IsOutOfYears w = (number_of w <ℤ pos 0) ⊎ (pos END_SECOND <ℤ number_of w)
+IsOutOfYears w = (number_of w <ℤ pos 0) ⊎ (pos end_second <ℤ number_of w)
 
 -- what is first wrong with a text: its form, then its date or time, then its year (own)
 abbrev pub HasFault : List ℕ → MomentFault → Type 0

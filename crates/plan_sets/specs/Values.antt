@@ -1,9 +1,10 @@
 -- What contracts see of a value set: where it begins, and its members.
-use Rattle.std.specs.Prelude.{◌≡◌, ℕ, ◌<◌, ◌≤◌, Bool, true, false, List, ◌∷◌, Option, Some, None, filter, refl}
+use Rattle.std.specs.Prelude.{◌≡◌, ℕ, ◌+◌, ◌-◌, ◌<◌, ◌≤◌, Bool, true, false, ◌&&◌, nat_le, nat_lt, List, ◌∷◌, Option, Some, None, filter, refl}
 use Rattle.std.specs.List.{range_with_len}
 use Rattle.std.specs.Ordering.{nat_cmp}
 use Rattle.std.specs.FinSet as set
 use Rattle.std.specs.Coded.{Coded, code_by, coded×, coded_ℕ}
+use Rattle.plan_sets.specs.Limits.{set_span}
 
 -- a set of numbers that are at least the base
 pub record Values : Type 0 where
@@ -32,10 +33,18 @@ no_values lo = record { base = lo; members = set.empty }
 abbrev pub with_value : Values → ℕ → Values
 with_value s v = record { base = s.base; members = set.insert s.members v }
 
+-- v is one of the numbers from lo on, `count` of them
+abbrev pub is_among : ℕ → ℕ → ℕ → Bool
+is_among lo count v = nat_le lo v && nat_lt v (lo + count)
+
 -- the numbers from lo on, `count` of them, that pass a test
 unfoldable pub values_where : ℕ → ℕ → (ℕ → Bool) → Values
 values_where lo count test =
     record { base = lo; members = set.from_list (filter test (range_with_len lo count)) }
+
+-- the numbers that a set has room for from lo on, as far as their distance from lo passes a test
+abbrev pub values_at : ℕ → (ℕ → Bool) → Values
+values_at lo test = values_where lo set_span (λ v. test (v - lo))
 
 -- no member lies from v to w, w excluded
 abbrev pub NoValueBetween : Values → ℕ → ℕ → Type 0

@@ -3,6 +3,7 @@ ghost use Rattle.std.specs.Prelude.{◌≡◌, ◌+◌, ◌/◌, ◌%◌, ◌<�
 ghost use Rattle.std.specs.Int.{IsInRange};
 ghost use Rattle.jiff_core.specs.Calendar.{IsCivilDate, IsEpochDay, days_from_civil};
 ghost use Rattle.jiff_core.specs.Date.{epoch_day};
+ghost use Rattle.plan_sets.specs.Limits.{first_year, last_year, end_second, seconds_a_day};
 ghost use Rattle.plan_sets.specs.Civil.{civil_fields, second_number, seconds_of_day, length_of_month, IsCivilOf, IsDateTime, IsDateTimeInYears, IsTimeOfDay, Shows};
 
 use jiff::civil;
@@ -41,20 +42,20 @@ pub struct Civil {
 
 /// The civil fields of a second before `END_SECOND`, counted from 1970-01-01T00:00:00Z.
 pub fn civil_of(second: u64) -> Civil
-    requires { second < END_SECOND }
+    requires { second < end_second }
     // The fields as one value, which computes.
     ensures fields { result ≡ civil_fields second }
 
     // What they are: the date with the second's day number, its weekday, and the time of day.
     ensures date { IsCivilDate (pos result.year) result.month result.day }
     ensures day_number { days_from_civil (pos result.year) result.month result.day
-        ≡ pos (second / SECONDS_A_DAY) }
-    ensures weekday { result.weekday ≡ (second / SECONDS_A_DAY + 3) % 7 }
+        ≡ pos (second / seconds_a_day) }
+    ensures weekday { result.weekday ≡ (second / seconds_a_day + 3) % 7 }
     ensures time_of_day { seconds_of_day result.hour result.minute result.second
-        ≡ second % SECONDS_A_DAY }
+        ≡ second % seconds_a_day }
 
     // The ranges that `date` leaves open.
-    ensures years { IsInRange FIRST_YEAR LAST_YEAR result.year }
+    ensures years { IsInRange first_year last_year result.year }
     ensures week { result.weekday < 7 }
     ensures time { IsTimeOfDay result.hour result.minute result.second }
 {
@@ -63,10 +64,10 @@ pub fn civil_of(second: u64) -> Civil
 
 /// The same, with `END_SECOND` itself, which is in the year after `LAST_YEAR`.
 pub(crate) fn fields_of(second: u64) -> Civil
-    requires { second ≤ END_SECOND }
+    requires { second ≤ end_second }
     ensures fields { result ≡ civil_fields second }
     ensures civil { IsCivilOf second result }
-    ensures years { IsInRange FIRST_YEAR (LAST_YEAR + 1) result.year }
+    ensures years { IsInRange first_year (last_year + 1) result.year }
 {
     let days = second / SECONDS_A_DAY;
     let time = second % SECONDS_A_DAY;
@@ -84,7 +85,7 @@ pub(crate) fn fields_of(second: u64) -> Civil
 
 /// The date with that day number, which counts from 0 for 1970-01-01.
 fn date_of_day(day: u64) -> Date
-    requires { day ≤ END_SECOND / SECONDS_A_DAY }
+    requires { day ≤ end_second / seconds_a_day }
     ensures { epoch_day result ≡ pos day }
 {
     let epoch = civil::date(1970, 1, 1).to_plain();
@@ -95,7 +96,7 @@ fn date_of_day(day: u64) -> Date
 /// time, or the year is outside `FIRST_YEAR` to `LAST_YEAR`.
 pub fn second_of(year: u16, month: u8, day: u8, hour: u8, minute: u8, second: u8) -> Option<u64>
     ensures some { IsSome result ↔ IsDateTimeInYears year month day hour minute second }
-    ensures range { IfSome result (λ n. n < END_SECOND) }
+    ensures range { IfSome result (λ n. n < end_second) }
     ensures fields { IfSome result
         (λ n. Shows (civil_fields n) year month day hour minute second) }
     ensures number { IfSome result (λ n. pos n ≡ second_number year month day hour minute second) }
@@ -143,7 +144,7 @@ fn day_number(year: u16, month: u8, day: u8) -> Option<i32>
 
 /// How many days a month, from 1 to 12, of a year from `FIRST_YEAR` to `LAST_YEAR` has: 28 to 31.
 pub fn month_length(year: u16, month: u8) -> u8
-    requires year { IsInRange FIRST_YEAR LAST_YEAR year }
+    requires year { IsInRange first_year last_year year }
     requires month { IsInRange 1 12 month }
     ensures { result ≡ length_of_month year month }
 {

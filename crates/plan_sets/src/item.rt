@@ -1,6 +1,7 @@
 //! Items of a field, and the set of the values that a list of them holds.
 
-ghost use Rattle.std.specs.Prelude.{◌≡◌, ℕ, ◌+◌, ◌≤◌, ◌<◌, ◌&&◌, ◌||◌, None};
+ghost use Rattle.std.specs.Prelude.{◌≡◌, ℕ, ◌+◌, ◌^◌, ◌≤◌, ◌<◌, ◌&&◌, ◌||◌, None};
+ghost use Rattle.plan_sets.specs.Limits.{set_span};
 ghost use Rattle.plan_sets.specs.Values.{has_value};
 ghost use Rattle.plan_sets.specs.Items.{belongs, is_step, item_fault, is_within, set_reading};
 
@@ -59,7 +60,7 @@ impl Item {
     // Adds the item's values up to `hi` to a set.
     fn add_to(self, values: &mut ValueSet, lo: u16, hi: u16)
         requires limits { lo ≤ hi }
-        requires span { hi < lo + 256 }
+        requires span { hi < lo + set_span }
         requires starts { values.old.base ≡ lo }
         requires faultless { item_fault lo hi self ≡ None }
         ensures base { values.new.base ≡ lo }
@@ -77,7 +78,7 @@ impl Item {
 fn add_steps(values: &mut ValueSet, first: u16, last: u16, step: u16)
     requires from { values.old.base ≤ first }
     requires forwards { first ≤ last }
-    requires to { last < values.old.base + 256 }
+    requires to { last < values.old.base + set_span }
     requires moves { 0 < step }
     ensures base { values.new.base ≡ values.old.base }
     ensures added { (v : ℕ) → has_value values.new v ≡ (has_value values.old v || is_step first last step v) }
@@ -94,9 +95,9 @@ fn add_steps(values: &mut ValueSet, first: u16, last: u16, step: u16)
 /// The first faulty item decides the fault: an empty list is `NoItem`; a number outside `lo` to `hi` is `OutOfRange`, else
 /// a range that ends before it begins is `Backwards`, else a step of 0 is `ZeroStep`.
 pub fn set_of(items: &[Item], lo: u16, hi: u16) -> Result<ValueSet, SetFault>
-    requires base { lo ≤ 65280 }
+    requires base { lo + set_span ≤ 2 ^ 16 }
     requires limits { lo ≤ hi }
-    requires span { hi < lo + 256 }
+    requires span { hi < lo + set_span }
     ensures { result ≡ set_reading items.now lo hi }
 {
     if items.is_empty() {
@@ -114,7 +115,7 @@ pub fn set_of(items: &[Item], lo: u16, hi: u16) -> Result<ValueSet, SetFault>
 
 #[cfg(test)]
 mod tests {
-    use super::*;
+    use crate::{Item, SetFault, set_of};
 
     #[test]
     fn faults_of_items(rt: HostRuntime) {

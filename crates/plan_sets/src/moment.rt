@@ -1,5 +1,6 @@
 //! Moments as text, as `2024-01-01T04:30:00Z`.
 ghost use Rattle.std.specs.Prelude.{◌≡◌, ◌≢◌, ℕ, ◌<◌, ◌≤◌, ◌↔◌, ◌∷◌, [], IsSome, IfSome, IfNone, IfOk, IfErr, Ok};
+ghost use Rattle.plan_sets.specs.Limits.{end_second};
 ghost use Rattle.plan_sets.specs.Moment.{moment_text_of, number_of, two_digits, written_fields, HasFault, IsInCalendar, Says, Written};
 
 use crate::civil::{END_SECOND, fields_of, second_from_epoch};
@@ -83,8 +84,8 @@ fn number(tens: u8, ones: u8) -> Option<u8>
 
 /// The second of a moment up to `END_SECOND`, from its text.
 pub fn read_moment(text: &str) -> Result<u64, MomentFault>
-    ensures ok { IfOk result (λ n. (n ≤ END_SECOND) × (text.now ≡ moment_text_of n)) }
-    ensures accepted { (n : ℕ) → n ≤ END_SECOND → text.now ≡ moment_text_of n → result ≡ Ok n }
+    ensures ok { IfOk result (λ n. (n ≤ end_second) × (text.now ≡ moment_text_of n)) }
+    ensures accepted { (n : ℕ) → n ≤ end_second → text.now ≡ moment_text_of n → result ≡ Ok n }
     ensures fault { IfErr result (HasFault text.now) }
 {
     let fields = Fields::read(text.as_bytes()).ok_or(MomentFault::BadForm)?;
@@ -105,7 +106,7 @@ fn digits(number: u8) -> [u8; 2]
 
 /// The text of the moment of a second up to `END_SECOND`.
 pub fn moment_text(second: u64) -> [u8; 20]
-    requires { second ≤ END_SECOND }
+    requires { second ≤ end_second }
     ensures { result ≡ moment_text_of second }
 {
     let fields = fields_of(second);

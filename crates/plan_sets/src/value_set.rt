@@ -1,29 +1,39 @@
 //! Sets of small numbers, as the values that a field of a rule admits.
 
-ghost use Rattle.std.specs.Prelude.{◌≡◌, ℕ, ◌+◌, ◌-◌, ◌<◌, ◌≤◌, ◌↔◌, IsTrue};
+ghost use Rattle.std.specs.Prelude.{◌≡◌, ℕ, ◌+◌, ◌-◌, ◌^◌, ◌<◌, ◌≤◌, ◌↔◌, IsTrue};
 ghost use Rattle.std.specs.FinSet as set;
+ghost use Rattle.plan_sets.specs.Limits.{set_span};
 ghost use Rattle.plan_sets.specs.Values.{Values, no_values, with_value, has_value, IsLeastFrom};
 
 use std::marker::Model;
+
+/// How many words hold the members of a set.
+const WORDS: usize = 2;
+
+/// How many numbers a word is for, one a bit.
+const WORD_BITS: u16 = 128;
 
 /// A set of numbers from a base `lo` to `lo + 255`.
 #[derive(Debug, Drop)]
 pub struct ValueSet {
     base: u16,
-    marks: [bool; 256],
+    /// A bit for each number from the base on, the lowest of the first word for the base itself: 1 for a member.
+    words: [u128; WORDS],
 }
 
 impl Model for ValueSet {
-    ghost use Rattle.std.specs.Prelude.{◌≡◌, ◌-◌, ◌≤◌, false, length, slice_index_or};
-    ghost use Rattle.plan_sets.specs.Values.{Values, values_code, values_where};
+    ghost use Rattle.std.specs.Prelude.{◌+◌, ◌^◌, ◌≤◌};
+    ghost use Rattle.plan_sets.specs.Limits.{set_span};
+    ghost use Rattle.plan_sets.specs.Values.{Values, values_code, values_at};
+    ghost use Rattle.plan_sets.specs.Words.{is_marked, AreWords};
 
     ghost Value = { Values };
 
     ghost coded = { values_code };
 
-    ghost view = { λ s. values_where s.base 256 (λ v. slice_index_or s.marks (v - s.base) false) };
+    ghost view = { λ s. values_at s.base (is_marked s.words) };
 
-    ghost invariant = { λ s. (s.base ≤ 65280) × (length s.marks ≡ 256) };
+    ghost invariant = { λ s. (s.base + set_span ≤ 2 ^ 16) × AreWords s.words };
 }
 
 // Equal are sets with the same base and the same members.
@@ -40,7 +50,7 @@ impl PartialEq for ValueSet {
     ghost laws = { Prim.search (comparing, rules) };
 
     fn eq(&self, other: &ValueSet) -> bool {
-        self.base == other.base && self.marks == other.marks
+        self.base == other.base && self.words == other.words
     }
 }
 
@@ -54,29 +64,36 @@ impl Eq for ValueSet {
 impl ValueSet {
     /// The empty set of the numbers from `lo` to `lo + 255`.
     pub fn empty(lo: u16) -> Self
-        requires { lo ≤ 65280 }
+        requires { lo + set_span ≤ 2 ^ 16 }
         ensures { result ≡ no_values lo }
     {
         ValueSet {
             base: lo,
-            marks: [false; 256],
+            words: [0; WORDS],
         }
     }
 
     /// Adds a value, which lies within the span of the set.
     pub fn insert(&mut self, v: u16)
         requires from { self.old.base ≤ v }
-        requires to { v < self.old.base + 256 }
+        requires to { v < self.old.base + set_span }
         ensures { self.new ≡ with_value self.old v }
     {
-        self.marks[(v - self.base) as usize] = true;
+        let offset = v - self.base;
+        self.words[usize::from(offset / WORD_BITS)] |= 1 << (offset % WORD_BITS);
     }
 
     /// Whether `v`, any number, is in the set.
     pub fn contains(&self, v: u16) -> bool
         ensures { result ≡ has_value self.now v }
     {
-        v >= self.base && v - self.base < 256 && self.marks[(v - self.base) as usize]
+        let Some(offset) = v.checked_sub(self.base) else {
+            return false;
+        };
+        let Some(word) = self.words.get(usize::from(offset / WORD_BITS)) else {
+            return false;
+        };
+        (word >> (offset % WORD_BITS)) & 1 == 1
     }
 
     /// The least value of the set that is at least `v`, any number; `None` where there is none.
@@ -84,8 +101,12 @@ impl ValueSet {
         ensures { IsLeastFrom self.now v result }
     {
         let start = v.saturating_sub(self.base);
-        for offset in start..256 {
-            if self.marks[offset as usize] {
+        for index in start / WORD_BITS..WORDS as u16 {
+            // The word's bits from the start on.
+            let passed = start.saturating_sub(index * WORD_BITS);
+            let rest = self.words[usize::from(index)] >> passed;
+            if rest != 0 {
+                let offset = index * WORD_BITS + passed + rest.trailing_zeros() as u16;
                 return Some(self.base + offset);
             }
         }
@@ -96,13 +117,13 @@ impl ValueSet {
     pub fn is_empty(&self) -> bool
         ensures { IsTrue result ↔ (self.now.members ≡ set.empty) }
     {
-        !self.marks.contains(&true)
+        self.words == [0; WORDS]
     }
 }
 
 #[cfg(test)]
 mod tests {
-    use super::*;
+    use crate::ValueSet;
 
     #[test]
     fn a_set_up_to_the_last_number(rt: HostRuntime) {
@@ -114,15 +135,48 @@ mod tests {
     }
 
     #[test]
+    fn members_at_the_ends_of_words(rt: HostRuntime) {
+        let mut set = ValueSet::empty(1_000);
+        set.insert(1_127);
+        set.insert(1_128);
+        set.insert(1_255);
+        set.insert(1_127);
+        for (from, want) in [
+            (0, Some(1_127)),
+            (1_127, Some(1_127)),
+            (1_128, Some(1_128)),
+            (1_129, Some(1_255)),
+            (1_255, Some(1_255)),
+            (1_256, None),
+            (65_535, None),
+        ] {
+            assert_eq!(rt; set.first_from(from), want, "from {from}");
+        }
+        for (value, want) in [
+            (0, false),
+            (1_126, false),
+            (1_127, true),
+            (1_128, true),
+            (1_129, false),
+            (1_255, true),
+            (1_256, false),
+            (65_535, false),
+        ] {
+            assert_eq!(rt; set.contains(value), want, "at {value}");
+        }
+        assert!(rt; !set.is_empty());
+    }
+
+    #[test]
     fn equal_sets(rt: HostRuntime) {
         let mut first = ValueSet::empty(1);
         let mut second = ValueSet::empty(1);
         let elsewhere = ValueSet::empty(0);
         assert!(rt; first == second);
         assert!(rt; first != elsewhere);
-        first.insert(31);
+        first.insert(200);
         assert!(rt; first != second);
-        second.insert(31);
+        second.insert(200);
         assert!(rt; first == second);
     }
 }

@@ -1,4 +1,12 @@
-use super::*;
+use crate::{
+    Civil, END_SECOND, FIRST_YEAR, LAST_YEAR, SECONDS_A_DAY, civil_of, month_length, second_of,
+};
+
+#[test]
+fn the_planners_years(rt: HostRuntime) {
+    assert_eq!(rt; (FIRST_YEAR, LAST_YEAR), (1970, 2199));
+    assert_eq!(rt; (SECONDS_A_DAY, END_SECOND), (86_400, 7_258_118_400));
+}
 
 #[test]
 fn fields_of_known_seconds(rt: HostRuntime) {

@@ -1,5 +1,5 @@
-use super::*;
-use MomentFault::{BadForm, NoSuchDate, OutOfYears};
+use crate::MomentFault::{BadForm, NoSuchDate, OutOfYears};
+use crate::{END_SECOND, moment_text, read_moment};
 
 #[test]
 fn known_moments(rt: HostRuntime) {

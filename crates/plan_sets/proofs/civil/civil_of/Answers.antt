@@ -1,6 +1,6 @@
 -- A second before the end lies in the planner's years.
 use Rattle.std.proofs.Common.{arith}
-use Rattle.plan_sets.proofs.CivilLemmas.{IsInRange-year}
+use Rattle.plan_sets.specs.CivilLaws.{IsInRange-year}
 use Rattle.plan_sets.proofs.civil.civil_of.Goals as goal
 
 pub returns-clause-years : goal.returns-clause-years

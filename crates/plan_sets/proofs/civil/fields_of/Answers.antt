@@ -1,13 +1,14 @@
 -- The date with the second's day number gives its fields.
 use Rattle.std.proofs.Common.{arith, ◌≡◌, ◌/◌, FitsSigned, of_z, to_z, to_z-of_z, w16}
 use Rattle.jiff_core.proofs.SignedLemmas.{signed_arith, signed_casts}
-use Rattle.plan_sets.specs.declared.civil.TheConstants.{SECONDS_A_DAY}
-use Rattle.plan_sets.proofs.CivilLemmas.{year-from_epoch, IsCivilOf-civil_fields, IsCivilOf-date, IsCivilOf-unique, IsInRange-year}
+use Rattle.plan_sets.specs.Limits.{seconds_a_day}
+use Rattle.plan_sets.specs.CivilLaws.{IsCivilOf-civil_fields, IsCivilOf-unique, IsInRange-year}
+use Rattle.plan_sets.proofs.CivilLemmas.{year-from_epoch, IsCivilOf-date}
 use Rattle.plan_sets.proofs.civil.fields_of.Goals as goal
 
 pub overflow_cast-result : goal.overflow_cast-result
 overflow_cast-result c =
-    let low = year-from_epoch c.date_of_day-date.result (c.args.second / SECONDS_A_DAY) c.date_of_day-date.ensures in
+    let low = year-from_epoch c.date_of_day-date.result (c.args.second / seconds_a_day) c.date_of_day-date.ensures in
     omega (arith, signed_casts)
 
 pub returns-clause-civil : goal.returns-clause-civil

@@ -1,9 +1,10 @@
 -- The number of a date and time in the planner's years is one of its seconds.
 use Rattle.std.proofs.Common.{◌∙◌, ◌<ℤ◌, ◌≤ℤ◌, arith, of_z, pos, refl, to_z, unsigned_abs, w64}
 use Rattle.jiff_core.proofs.SignedLemmas.{signed_arith}
-use Rattle.plan_sets.specs.declared.civil.TheConstants.{END_SECOND}
+use Rattle.plan_sets.specs.Limits.{end_second}
 use Rattle.plan_sets.specs.Civil.{IsDateTime}
-use Rattle.plan_sets.proofs.CivilLemmas.{second_number-bounds, IsCast, IsCast-second, Shows-civil_fields}
+use Rattle.plan_sets.specs.CivilLaws.{Shows-civil_fields}
+use Rattle.plan_sets.proofs.CivilLemmas.{second_number-bounds, IsCast, IsCast-second}
 use Rattle.plan_sets.proofs.civil.second_of.Goals as goal
 use Rattle.plan_sets.proofs.civil.second_of.Goals.{In_ok-number}
 
@@ -11,7 +12,7 @@ exists : (c : In_ok-number) → IsDateTime c.args.year c.args.month c.args.day c
 exists c = c.in_ok-number.ensures.some.0 refl
 
 -- the number is not negative, and lies before the end
-bounds : (c : In_ok-number) → (pos 0 ≤ℤ c.in_ok-number.number) × (c.in_ok-number.number <ℤ pos END_SECOND)
+bounds : (c : In_ok-number) → (pos 0 ≤ℤ c.in_ok-number.number) × (c.in_ok-number.number <ℤ pos end_second)
 bounds c =
     rw c.in_ok-number.ensures.number (second_number-bounds _ _ _ _ _ _ ((omega arith, omega arith), exists c))
 

@@ -1,6 +1,6 @@
 use Rattle.std.proofs.Common.{◌+◌, ◌||◌, nat_eq, ap, ◌∙◌}
 use Rattle.plan_sets.specs.Values.{Values, has_value}
-use Rattle.plan_sets.proofs.ValuesLemmas.{has_value-with_value}
+use Rattle.plan_sets.specs.ValuesLaws.{has_value-with_value}
 use Rattle.plan_sets.proofs.ItemsLemmas.{step_added, step_passed}
 use Rattle.plan_sets.proofs.item.add_steps.Goals as goal
 use Rattle.plan_sets.proofs.item.add_steps.Goals.{then-offset-step-eq0, else-offset-step-eq0}

@@ -4,7 +4,7 @@ use Rattle.std.proofs.lemmas.Bool.{eqb-true, eqb-false}
 use Rattle.plan_sets.specs.Values.{Values, has_value}
 use Rattle.plan_sets.specs.Items.{belongs, first_fault, is_held, is_within}
 use Rattle.plan_sets.specs.declared.item.Item.TheVariants.{One}
-use Rattle.plan_sets.proofs.ValuesLemmas.{has_value-no_values}
+use Rattle.plan_sets.specs.ValuesLaws.{has_value-no_values}
 use Rattle.plan_sets.proofs.ItemsLemmas.{set_reading-empty, set_reading-fault, set_reading-values, is_held-push, first_fault-push, nothing_held}
 use Rattle.plan_sets.proofs.item.set_of.Goals as goal
 

@@ -2,7 +2,7 @@ use Rattle.std.proofs.Common.{◌||◌, ◌&&◌, ap, ◌∙◌, sym}
 use Rattle.plan_sets.specs.declared.item.Item.{Item}
 use Rattle.plan_sets.specs.Values.{Values, has_value}
 use Rattle.plan_sets.specs.Items.{belongs, is_within}
-use Rattle.plan_sets.proofs.ValuesLemmas.{has_value-with_value}
+use Rattle.plan_sets.specs.ValuesLaws.{has_value-with_value}
 use Rattle.plan_sets.proofs.ItemsLemmas.{one_added}
 use Rattle.plan_sets.proofs.item.Item.add_to.Goals as goal
 

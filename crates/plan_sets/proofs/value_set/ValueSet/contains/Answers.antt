@@ -1,19 +1,32 @@
-use Rattle.std.proofs.Common.{◌≡◌, ◌-◌, true, false, ◌&&◌, ap, sym, ◌∙◌, arith, get_or}
-use Rattle.std.proofs.lemmas.Bool.Decides.{nat_tests}
-use Rattle.plan_sets.proofs.ValuesLemmas.{has_value_of_view, is_among}
+-- A value is a member where the bit with its distance from the base is 1.
+use Rattle.std.proofs.Common.{◌≡◌, ◌-◌, ◌/◌, ◌%◌, ◌≤◌, ℕ, false, ap, arith, get_or, length, sym, ◌∙◌, ◌==◌}
+use Rattle.std.proofs.lemmas.Nat.Bits.{shr_and_one}
+use Rattle.std.specs.Int.{bit_at}
+use Rattle.plan_sets.specs.Limits.{set_span}
+use Rattle.plan_sets.specs.Words.{is_marked, word_bits}
+use Rattle.plan_sets.proofs.ValuesLemmas.{has_value-below, has_value-from}
+use Rattle.plan_sets.proofs.WordsLemmas.{is_marked-past}
 use Rattle.plan_sets.proofs.value_set.ValueSet.contains.Goals as goal
-use Rattle.plan_sets.proofs.value_set.ValueSet.contains.Goals.{then-v-self, else-v-self}
 
-pub returns-then-v-self-lt256 : goal.returns-then-v-self-lt256
-returns-then-v-self-lt256 c =
+pub returns-in_default : goal.returns-in_default
+returns-in_default c =
     let fields = c.self.inside in
-    let among : is_among fields.base 256 c.args.v ≡ true =
-    elim c.if-v-self.branch [ then-v-self w ↦ grind (arith, nat_tests) | else-v-self w ↦ grind (arith, nat_tests) ] in
-    sym (has_value_of_view fields c.args.self.now c.self.view_is c.args.v ∙ ap (λ b. b && get_or fields.marks (c.args.v - fields.base) false) among)
+    sym (has_value-below fields.base (is_marked fields.words) c.args.self.now c.self.view_is c.args.v (omega (arith, c.in_default.ensures)))
 
-pub returns-else-v-self-lt256 : goal.returns-else-v-self-lt256
-returns-else-v-self-lt256 c =
+pub returns-in_default-get : goal.returns-in_default-get
+returns-in_default-get c =
     let fields = c.self.inside in
-    let apart : is_among fields.base 256 c.args.v ≡ false =
-    elim c.if-v-self.branch [ then-v-self w ↦ grind (arith, nat_tests) | else-v-self w ↦ grind (arith, nat_tests) ] in
-    c.if-v-self-lt256.false ∙ sym (has_value_of_view fields c.args.self.now c.self.view_is c.args.v ∙ ap (λ b. b && get_or fields.marks (c.args.v - fields.base) false) apart)
+    let past : (k : ℕ) → set_span ≤ k → is_marked fields.words k ≡ false = λ k from. is_marked-past fields.words k (omega arith) in
+    let beyond : length fields.words ≤ (c.args.v - fields.base) / word_bits = omega (arith, c.in-Some.ensures, c.in_default-get.ensures.lookup.3) in
+    sym (has_value-from fields.base (is_marked fields.words) c.args.self.now c.self.view_is c.args.v (omega (arith, c.in-Some.ensures)) past ∙ is_marked-past fields.words (c.args.v - fields.base) beyond)
+
+pub returns : goal.returns
+returns c =
+    let fields = c.self.inside in
+    let past : (k : ℕ) → set_span ≤ k → is_marked fields.words k ≡ false = λ k from. is_marked-past fields.words k (omega arith) in
+    let offset = c.in-Some.offset in
+    ap (λ b. b == 1) (shr_and_one c.in-Some-get.word.now (offset % word_bits))
+    ∙ ap (λ w. bit_at w (offset % word_bits) == 1) (c.in-Some-get.ensures.lookup.3.1 0)
+    ∙ ap (λ k. bit_at (get_or fields.words k 0) (offset % word_bits) == 1) c.from.ensures
+    ∙ ap (is_marked fields.words) c.in-Some.ensures.1
+    ∙ sym (has_value-from fields.base (is_marked fields.words) c.args.self.now c.self.view_is c.args.v (omega (arith, c.in-Some.ensures)) past)

@@ -1,17 +1,35 @@
-use Rattle.std.proofs.Common.{◌≡◌, arith}
-use Rattle.plan_sets.proofs.ValuesLemmas.{base_of_view, view_marked}
+-- The bit with the value's distance from the base is 1 now, and the others are what they were.
+use Rattle.std.proofs.Common.{◌-◌, ◌/◌, ◌<◌, arith, length}
+use Rattle.plan_sets.specs.Words.{is_marked, word_bits}
+use Rattle.plan_sets.proofs.ValuesLemmas.{base-values_at, values_at-with_value}
+use Rattle.plan_sets.proofs.WordsLemmas.{is_marked-more, marked_more, AreWords-more}
 use Rattle.plan_sets.proofs.value_set.ValueSet.insert.Goals as goal
 
-pub overflow_sub-self : goal.overflow_sub-self
-overflow_sub-self c =
-    let bases : c.args.self.now.base ≡ c.self.inside.base = base_of_view c.self.inside c.args.self.now c.self.view_is in
-    omega arith
+pub overflow_sub-offset : goal.overflow_sub-offset
+overflow_sub-offset c =
+    omega (arith, base-values_at c.self.inside.base (is_marked c.self.inside.words) c.args.self.now c.self.view_is)
 
-pub bounds-self-inside-v : goal.bounds-self-inside-v
-bounds-self-inside-v c =
-    let bases : c.args.self.now.base ≡ c.self.inside.base = base_of_view c.self.inside c.args.self.now c.self.view_is in
-    omega arith
+pub bounds-self-inside-from : goal.bounds-self-inside-from
+bounds-self-inside-from c =
+    omega (arith, base-values_at c.self.inside.base (is_marked c.self.inside.words) c.args.self.now c.self.view_is)
+
+pub bounds-self-inside-from-2 : goal.bounds-self-inside-from-2
+bounds-self-inside-from-2 c =
+    omega (arith, base-values_at c.self.inside.base (is_marked c.self.inside.words) c.args.self.now c.self.view_is)
+
+pub invariant_of-self : goal.invariant_of-self
+invariant_of-self c =
+    let fields = c.self.inside in
+    let bases = base-values_at fields.base (is_marked fields.words) c.args.self.now c.self.view_is in
+    let offset = c.args.v - fields.base in
+    let within : offset / word_bits < length fields.words = omega arith in
+    (c.self.invariant.0, rw c.from.ensures (AreWords-more fields.words offset within c.self.invariant.1))
 
 pub returns : goal.returns
 returns c =
-    view_marked c.self.inside c.args.self.now c.args.v c.self.view_is c.self.invariant.1 c.requires.from c.requires.to
+    let fields = c.self.inside in
+    let bases = base-values_at fields.base (is_marked fields.words) c.args.self.now c.self.view_is in
+    let offset = c.args.v - fields.base in
+    let within : offset / word_bits < length fields.words = omega arith in
+    rw c.from.ensures (values_at-with_value fields.base (is_marked fields.words) c.args.self.now c.self.view_is c.args.v (is_marked (marked_more fields.words offset)) (omega arith) (omega arith)
+    (λ k. is_marked-more fields.words offset k within))

@@ -1,0 +1,148 @@
+-- The bits of a row of words: one more, the first from a place on, and that they tell the words apart.
+use Rattle.std.proofs.Common.{◌≡◌, ℕ, ◌+◌, ◌-◌, ◌*◌, ◌/◌, ◌%◌, ◌^◌, ◌<◌, ◌≤◌, Decides, true, false, ◌||◌, ◌==◌, nat_eq, List, length, get_or, ap, sym, ◌∙◌, arith, inl, inr, bit_or, replicate, get_or-set_same, get_or-set_other}
+use lib.ListN.{set as put}
+use Rattle.std.specs.Cmp.Lexicographic.{pointwise, bytes_decides}
+use Rattle.std.specs.Int.{bit_at, trailing_zeros, w128}
+use Rattle.std.proofs.lemmas.Bool.{cases_eq, cases_lt}
+use Rattle.std.proofs.lemmas.Bool.Decides.{nat_tests}
+use Rattle.std.proofs.lemmas.List.{get_or-replicate, get_or_past, length-replicate}
+use Rattle.std.proofs.lemmas.Grind.{same_number_lists}
+use Rattle.std.proofs.lemmas.Nat.{or_lt, shr-shr, shr_le}
+use Rattle.std.proofs.lemmas.Nat.Bits.{bit_at-lt, bit_at-trailing_zeros, bit_at-zero, bit_at_above, bit_at_set_other, bit_at_set_same, same_from_bits_below}
+use Rattle.plan_sets.specs.Limits.{set_span}
+use Rattle.plan_sets.specs.Words.{is_marked, word_bits, word_count, AreWords}
+
+-- past the words no bit is 1
+pub is_marked-past : (words : List ℕ) (k : ℕ) → length words ≤ k / word_bits → is_marked words k ≡ false
+is_marked-past words k past =
+    ap (λ w. bit_at w (k % word_bits) == 1) (get_or_past words (k / word_bits) 0 past) ∙ ap (λ b. b == 1) (bit_at-zero (k % word_bits))
+
+-- the row with one bit more
+abbrev pub marked_more : List ℕ → ℕ → List ℕ
+marked_more words k =
+    put words (k / word_bits) (bit_or (get_or words (k / word_bits) 0) (1 * 2 ^ (k % word_bits) % 2 ^ word_bits))
+
+pub is_marked-more : (words : List ℕ) (k j : ℕ) → k / word_bits < length words → is_marked (marked_more words k) j ≡ (nat_eq j k || is_marked words j)
+is_marked-more words k j within =
+    let at = k / word_bits in
+    let bit = k % word_bits in
+    let word = get_or words at 0 in
+    let more = bit_or word (1 * 2 ^ bit % 2 ^ word_bits) in
+    elim (cases_eq (j / word_bits) at) [
+      | inl same ↦
+          let read : get_or (put words at more) (j / word_bits) 0 ≡ more = ap (λ i. get_or (put words at more) i 0) same ∙ get_or-set_same words at more 0 within in
+          let before : get_or words (j / word_bits) 0 ≡ word = ap (λ i. get_or words i 0) same in
+          elim (cases_eq (j % word_bits) bit) [
+            | inl here ↦
+                let one : bit_at more (j % word_bits) ≡ 1 = ap (bit_at more) here ∙ bit_at_set_same w128 word bit (omega arith) in
+                let this : nat_eq j k ≡ true = grind (arith, nat_tests) in
+                ap (λ w. bit_at w (j % word_bits) == 1) read ∙ ap (λ b. b == 1) one ∙ sym (ap (λ b. b || is_marked words j) this)
+            | inr apart ↦
+                let kept : bit_at more (j % word_bits) ≡ bit_at word (j % word_bits) = bit_at_set_other w128 word bit (omega arith) (j % word_bits) apart in
+                let other : nat_eq j k ≡ false = grind (arith, nat_tests) in
+                ap (λ w. bit_at w (j % word_bits) == 1) read ∙ ap (λ b. b == 1) kept ∙ ap (λ w. bit_at w (j % word_bits) == 1) (sym before)
+                ∙ sym (ap (λ b. b || is_marked words j) other)
+          ]
+      | inr elsewhere ↦
+          let other : nat_eq j k ≡ false = grind (arith, nat_tests) in
+          ap (λ w. bit_at w (j % word_bits) == 1) (get_or-set_other words at (j / word_bits) more 0 elsewhere)
+          ∙ sym (ap (λ b. b || is_marked words j) other)
+    ]
+
+-- the bits of a word that was shifted
+bit_at-shr : (n below i : ℕ) → bit_at (n / 2 ^ below) i ≡ bit_at n (below + i)
+bit_at-shr n below i = ap (λ x. x % 2) (shr-shr n below i)
+
+-- a word with nothing from a place on has no bit there
+pub none_in_word : (words : List ℕ) (k below j : ℕ) → get_or words k 0 / 2 ^ below ≡ 0 → j / word_bits ≡ k → below ≤ j % word_bits → is_marked words j ≡ false
+none_in_word words k below j none same from =
+    let i = j % word_bits in
+    let place : below + (i - below) ≡ i = omega arith in
+    let zero_there : bit_at (get_or words k 0) i ≡ 0 = ap (bit_at (get_or words k 0)) (sym place) ∙ sym (bit_at-shr (get_or words k 0) below (i - below)) ∙ ap (λ w. bit_at w (i - below)) none ∙ bit_at-zero (i - below) in
+    ap (λ a. bit_at (get_or words a 0) i == 1) same ∙ ap (λ b. b == 1) zero_there
+
+-- the first bit of a word from a place on
+pub record IsFirstBit (word below bit : ℕ) : Type 0 where
+  pub within : bit < word_bits
+  pub from : below ≤ bit
+  pub is_one : bit_at word bit ≡ 1
+  pub none : (i : ℕ) → below ≤ i → i < bit → bit_at word i ≡ 0
+
+pub IsFirstBit-trailing_zeros : (word below : ℕ) → word < 2 ^ word_bits → 0 < word / 2 ^ below → IsFirstBit word below (below + trailing_zeros w128 (word / 2 ^ below))
+IsFirstBit-trailing_zeros word below fits some =
+    let rest = word / 2 ^ below in
+    let t = trailing_zeros w128 rest in
+    let rest_fits : rest < 2 ^ word_bits = omega (arith, shr_le word below) in
+    let lowest = bit_at-trailing_zeros w128 rest some rest_fits in
+    let one : bit_at word (below + t) ≡ 1 = sym (bit_at-shr word below t) ∙ lowest.1 in
+    record {
+      within = elim (cases_lt (below + t) word_bits) [
+        | inl lt ↦ lt
+        | inr past ↦ absurd (omega (arith, one, bit_at_above word word_bits (below + t) fits past))
+      ];
+      from = omega arith;
+      is_one = one;
+      none = λ i low high.
+          let place : below + (i - below) ≡ i = omega arith in
+          ap (bit_at word) (sym place) ∙ sym (bit_at-shr word below (i - below)) ∙ lowest.2 (i - below) (omega arith);
+    }
+
+same_bit : (a b i : ℕ) → (bit_at a i == 1) ≡ (bit_at b i == 1) → bit_at a i ≡ bit_at b i
+same_bit a b i same = grind (arith, nat_tests, bit_at-lt a i, bit_at-lt b i)
+
+-- rows with the same bits are the same
+pub same_words : (xs ys : List ℕ) → length xs ≡ length ys → AreWords xs → AreWords ys → ((k : ℕ) → k < length xs * word_bits → is_marked xs k ≡ is_marked ys k) → xs ≡ ys
+same_words xs ys long fits_x fits_y each =
+    same_number_lists xs ys long (λ w within.
+    same_from_bits_below word_bits (get_or xs w 0) (get_or ys w 0) (fits_x w) (fits_y w) (λ i low.
+    let k = w * word_bits + i in
+    let word : k / word_bits ≡ w = omega arith in
+    let bit : k % word_bits ≡ i = omega arith in
+    same_bit (get_or xs w 0) (get_or ys w 0) i
+    (ap (λ p. bit_at (get_or xs p 0) i == 1) (sym word) ∙ ap (λ p. bit_at (get_or xs (k / word_bits) 0) p == 1) (sym bit)
+    ∙ each k (omega arith)
+    ∙ ap (λ p. bit_at (get_or ys (k / word_bits) 0) p == 1) bit ∙ ap (λ p. bit_at (get_or ys p 0) i == 1) word)))
+
+-- words that are 0
+abbrev pub zeros : ℕ → List ℕ
+zeros n = replicate n 0
+
+get_or-zeros : (n w : ℕ) → get_or (zeros n) w 0 ≡ 0
+get_or-zeros n w =
+    elim (cases_lt w n) [
+      | inl below ↦ get_or-replicate n w 0 0 below
+      | inr past ↦ get_or_past (zeros n) w 0 (omega (arith, length-replicate {A = ℕ} n 0))
+    ]
+
+pub AreWords-zeros : (n : ℕ) → AreWords (zeros n)
+AreWords-zeros n w = omega (arith, get_or-zeros n w)
+
+-- in them no bit is 1
+pub is_marked-zeros : (n k : ℕ) → is_marked (zeros n) k ≡ false
+is_marked-zeros n k =
+    ap (λ w. bit_at w (k % word_bits) == 1) (get_or-zeros n (k / word_bits)) ∙ ap (λ b. b == 1) (bit_at-zero (k % word_bits))
+
+-- one bit more leaves them words
+pub AreWords-more : (words : List ℕ) (k : ℕ) → k / word_bits < length words → AreWords words → AreWords (marked_more words k)
+AreWords-more words k within are w =
+    let at = k / word_bits in
+    let mask : 1 * 2 ^ (k % word_bits) % 2 ^ word_bits < 2 ^ word_bits = omega arith in
+    let more = bit_or (get_or words at 0) (1 * 2 ^ (k % word_bits) % 2 ^ word_bits) in
+    let fits : more < 2 ^ word_bits = or_lt word_bits _ _ (are at) mask in
+    elim (cases_eq w at) [
+      | inl same ↦
+          let read : get_or (put words at more) w 0 ≡ more = ap (λ i. get_or (put words at more) i 0) same ∙ get_or-set_same words at more 0 within in
+          omega (arith, read, fits)
+      | inr other ↦ omega (arith, get_or-set_other words at w more 0 other, are w)
+    ]
+
+-- the test of two rows of a set's words tells whether they have the same bits
+pub record SameBits (xs ys : List ℕ) : Type 0 where
+  pub each : (k : ℕ) → k < set_span → is_marked xs k ≡ is_marked ys k
+
+pub Decides-words : (xs ys : List ℕ) → length xs ≡ word_count → length ys ≡ word_count → AreWords xs → AreWords ys → Decides (pointwise ◌==◌ xs ys) (SameBits xs ys)
+Decides-words xs ys long_x long_y are_x are_y =
+    let d = bytes_decides xs ys in (
+      λ yes. let same : xs ≡ ys = d.0 yes in record { each = λ k _. ap (λ l. is_marked l k) same },
+      λ bits. d.1 (same_words xs ys (long_x ∙ sym long_y) are_x are_y (λ k low. bits.each k (omega arith))),
+    )

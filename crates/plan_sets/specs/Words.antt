@@ -1,0 +1,20 @@
+-- How a value set is kept: a bit for each number that it has room for, in words.
+use Rattle.std.specs.Prelude.{ℕ, ◌/◌, ◌%◌, ◌^◌, ◌<◌, Bool, ◌==◌, List, slice_index}
+use Rattle.std.specs.Int.{bit_at}
+use Rattle.plan_sets.specs.Limits.{set_span}
+
+-- how many numbers a word is for, one a bit
+abbrev pub word_bits : ℕ
+word_bits = 128
+
+-- how many words hold a set
+abbrev pub word_count : ℕ
+word_count = set_span / word_bits
+
+-- each of them is a word
+abbrev pub AreWords : List ℕ → Type 0
+AreWords words = (k : ℕ) → slice_index words k < 2 ^ word_bits
+
+-- the bit with the number k of a row of words is 1; the lowest bit of the first word has the number 0
+abbrev pub is_marked : List ℕ → ℕ → Bool
+is_marked words k = bit_at (slice_index words (k / word_bits)) (k % word_bits) == 1
