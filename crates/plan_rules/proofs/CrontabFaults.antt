@@ -1,26 +1,39 @@
 -- Which faults a crontab has: a want of memory is of line 0, and it never stands inside a rule's fault.
-use Rattle.std.proofs.Common.{◌≡◌, ◌≢◌, ℕ, ◌+◌, ◌≤◌, Bool, true, false, cond, eqb, nat_lt, List, [], ◌∷◌, length, Option, Some, None, Result, Ok, Err, IfErr, refl, ap, sym, inl, inr}
-use Rattle.std.proofs.lemmas.Bool.{cases_eq, le-ltb}
+use Rattle.std.proofs.Common.{◌≡◌, ◌≢◌, ℕ, ◌+◌, ◌≤◌, Bool, true, false, cond, eqb, nat_lt, List, [], ◌∷◌, length, Option, Some, None, Result, Ok, Err, IfErr, refl, ap, sym, ◌∙◌, inl, inr, subst, arith}
+use Rattle.std.proofs.lemmas.Bool.{cases_eq}
+use Rattle.std.proofs.lemmas.Bool.Decides.{nat_tests}
 use Rattle.std.proofs.lemmas.Str.{IsUtf8-from_is_utf8, is_utf8-from_IsUtf8}
 use Rattle.std.specs.List.{enumerate_from, list_any}
 use Rattle.std.specs.Str.{IsUtf8, is_utf8}
 use Rattle.plan_rules.specs.declared.crontabs.Kind.{Kind}
 use Rattle.plan_rules.specs.declared.crontabs.Kind.TheVariants.{User, System}
-use Rattle.plan_rules.specs.declared.lines.TheConstants.{MOST_BYTES}
-use Rattle.plan_rules.specs.declared.fault.RuleFault.{RuleFault}
-use Rattle.plan_rules.specs.declared.fault.RuleCause.{RuleCause}
-use Rattle.plan_rules.specs.declared.fault.RuleCause.TheVariants as cause
+use Rattle.plan_texts.specs.declared.fault.RuleFault.{RuleFault}
+use Rattle.plan_texts.specs.declared.fault.RuleCause.{RuleCause}
+use Rattle.plan_texts.specs.declared.fault.RuleCause.TheVariants as cause
 use Rattle.plan_rules.specs.declared.line_fault.LineCause.{LineCause}
-use Rattle.plan_rules.specs.declared.line_fault.LineCause.TheVariants.{NoMemory, NotUtf8, TooLarge, Rule, BadSetting}
+use Rattle.plan_rules.specs.declared.line_fault.LineCause.TheVariants.{NoMemory, NotUtf8, TooLarge, Rule, BadSetting, BadTimerName}
 use Rattle.plan_rules.specs.declared.line_fault.LineFault.{LineFault}
-use Rattle.plan_rules.specs.Steps.{Reading, ◌>>=◌, each, GivesUnless}
-use Rattle.plan_rules.specs.Lines.{lines, after_blanks, cut_word, LineReading, TextReading, IsOwnCause, cause_by_cause, in_line, on_line, fault_on_line, want_of_memory}
+use Rattle.plan_texts.specs.Steps.{Reading, ◌>>=◌, each, GivesUnless}
+use Rattle.plan_texts.specs.Lines.{is_too_large, lines, after_blanks, cut_word}
+use Rattle.plan_rules.specs.LineFaults.{LineReading, TextReading, IsOwnCause, cause_by_cause, in_line, on_line, fault_on_line, want_of_memory}
 use Rattle.plan_rules.specs.Job.{JobParts}
 use Rattle.plan_rules.specs.Crontab.{rule_in_front, command_reading, user_and_command, what_reading, job_reading, begins_setting, entry_reading, line_reading, numbered_reading, jobs_reading, crontab_reading}
 
+-- a cause that is found in the lines of a text
+abbrev pub IsLineCause : LineCause → Type 0
+IsLineCause (Rule fault) = fault.cause ≢ cause.NoMemory
+IsLineCause NotUtf8 = ⊥
+IsLineCause TooLarge = ⊥
+IsLineCause BadTimerName = ⊥
+IsLineCause other = Unit {0}
+
+pub own_cause : (c : LineCause) → IsLineCause c → IsOwnCause c
+own_cause (Rule fault) own = own
+own_cause other own = tt
+
 -- what is true of each fault
 abbrev pub IsOwnFault : LineFault → Type 0
-IsOwnFault fault = (fault.cause ≡ NoMemory → fault.line ≡ 0) × IsOwnCause fault.cause
+IsOwnFault fault = (fault.cause ≡ NoMemory → fault.line ≡ 0) × IsLineCause fault.cause
 
 pub steps : {A B E : Type 0} (P : E → Type 0) (r : Result A E) (next : A → Result B E) → IfErr r P → ((x : A) → IfErr (next x) P) → IfErr (r >>= next) P
 steps P (Ok x) next first later = later x
@@ -36,52 +49,51 @@ choice P false x y first second = second
 
 -- ---- the cause of a line
 
-rule_cause : (c : RuleCause) (fault : RuleFault) → fault.cause ≡ c → IsOwnCause (cause_by_cause c fault)
+rule_cause : (c : RuleCause) (fault : RuleFault) → fault.cause ≡ c → IsLineCause (cause_by_cause c fault)
 rule_cause cause.NoMemory fault is = tt
 rule_cause c fault is = λ none. cc
 
-pub rule_in : {A : Type 0} (r : Reading A) → IfErr (in_line r) IsOwnCause
+pub rule_in : {A : Type 0} (r : Reading A) → IfErr (in_line r) IsLineCause
 rule_in (Ok x) = tt
 rule_in (Err fault) = rule_cause fault.cause fault refl
 
-command : (text : List ℕ) → IfErr (command_reading text) IsOwnCause
-command text = choice IsOwnCause (eqb (length text) 0) _ _ tt tt
+command : (text : List ℕ) → IfErr (command_reading text) IsLineCause
+command text = choice IsLineCause (eqb (length text) 0) _ _ tt tt
 
-user : (cut : Option (List ℕ × List ℕ)) → IfErr (user_and_command cut) IsOwnCause
+user : (cut : Option (List ℕ × List ℕ)) → IfErr (user_and_command cut) IsLineCause
 user None = tt
-user (Some cut) = steps IsOwnCause (command_reading (after_blanks cut.1)) _ (command (after_blanks cut.1)) (λ c. tt)
+user (Some cut) = steps IsLineCause (command_reading (after_blanks cut.1)) _ (command (after_blanks cut.1)) (λ c. tt)
 
-what : (kind : Kind) (text : List ℕ) → IfErr (what_reading kind text) IsOwnCause
+what : (kind : Kind) (text : List ℕ) → IfErr (what_reading kind text) IsLineCause
 unfolding what_reading
 what User text = command (after_blanks text)
 what System text = user (cut_word text)
 
-job : (kind : Kind) (number : ℕ) (text : List ℕ) → IfErr (job_reading kind number text) IsOwnCause
+job : (kind : Kind) (number : ℕ) (text : List ℕ) → IfErr (job_reading kind number text) IsLineCause
 unfolding job_reading
 job kind number text =
-    steps IsOwnCause (in_line (rule_in_front text)) _ (rule_in (rule_in_front text))
-    (λ front. steps IsOwnCause (what_reading kind front.1) _ (what kind front.1) (λ c. tt))
+    steps IsLineCause (in_line (rule_in_front text)) _ (rule_in (rule_in_front text))
+    (λ front. steps IsLineCause (what_reading kind front.1) _ (what kind front.1) (λ c. tt))
 
-entry : (kind : Kind) (number : ℕ) (text : List ℕ) → IfErr (entry_reading kind number text) IsOwnCause
+entry : (kind : Kind) (number : ℕ) (text : List ℕ) → IfErr (entry_reading kind number text) IsLineCause
 entry kind number [] = tt
 entry kind number (first ∷ rest) =
-    choice IsOwnCause (eqb first 35) _ _ tt
-    (choice IsOwnCause (begins_setting first) _ _
-    (choice IsOwnCause (list_any (λ b. eqb b 61) (first ∷ rest)) (Ok None) (Err BadSetting) tt tt)
-    (steps IsOwnCause (job_reading kind number (first ∷ rest)) _ (job kind number (first ∷ rest)) (λ j. tt)))
+    choice IsLineCause (eqb first 35) _ _ tt
+    (choice IsLineCause (begins_setting first) _ _
+    (choice IsLineCause (list_any (λ b. eqb b 61) (first ∷ rest)) (Ok None) (Err BadSetting) tt tt)
+    (steps IsLineCause (job_reading kind number (first ∷ rest)) _ (job kind number (first ∷ rest)) (λ j. tt)))
 
-line : (kind : Kind) (number : ℕ) (text : List ℕ) → IfErr (line_reading kind number text) IsOwnCause
+line : (kind : Kind) (number : ℕ) (text : List ℕ) → IfErr (line_reading kind number text) IsLineCause
 unfolding line_reading
 line kind number text = entry kind number (after_blanks text)
 
 -- ---- the fault of a text
 
-fault_of : (number : ℕ) (c : LineCause) → IsOwnCause c → IsOwnFault (fault_on_line number c)
+fault_of : (number : ℕ) (c : LineCause) → IsLineCause c → IsOwnFault (fault_on_line number c)
 fault_of number NoMemory own = (λ is. refl, tt)
-fault_of number (Rule fault) own = (λ is. cc, own)
-fault_of number c own = (λ is. cc, tt)
+fault_of number c own = (λ is. cc, own)
 
-pub on : {A : Type 0} (number : ℕ) (r : LineReading A) → IfErr r IsOwnCause → IfErr (on_line number r) IsOwnFault
+pub on : {A : Type 0} (number : ℕ) (r : LineReading A) → IfErr r IsLineCause → IfErr (on_line number r) IsOwnFault
 on number (Ok x) own = tt
 on number (Err c) own = fault_of number c own
 
@@ -91,12 +103,6 @@ jobs kind texts =
     steps IsOwnFault (each (numbered_reading kind) (enumerate_from 0 texts)) _
     (elements IsOwnFault (numbered_reading kind) (λ text. on (text.0 + 1) (line_reading kind (text.0 + 1) text.1) (line kind (text.0 + 1) text.1)) (enumerate_from 0 texts))
     (λ found. tt)
-
--- each fault of a crontab's meaning
-pub crontab : (kind : Kind) (bytes : List ℕ) → IfErr (crontab_reading kind bytes) IsOwnFault
-crontab kind bytes =
-    choice IsOwnFault (nat_lt MOST_BYTES (length bytes)) _ _ (on {A = List JobParts} 0 (Err TooLarge) tt)
-    (choice IsOwnFault (is_utf8 bytes) _ _ (jobs kind (lines bytes)) (on {A = List JobParts} 0 (Err NotUtf8) tt))
 
 -- ---- so each fault that a call answers
 
@@ -117,14 +123,32 @@ answered view (Err fault) reading gives own =
     at_fault (Ok x) is own = absurd cc
     at_fault (Err e) is own = let same : e ≡ fault = cc in rw (sym same) own
 
+-- a fault of the whole text is none of them
+pub no_other : {A : Type 0} (answer : Result A LineFault) (fault : LineFault) → IfErr answer IsOwnFault → (IsLineCause fault.cause → ⊥) → answer ≢ Err fault
+no_other (Ok x) fault own none same = cc
+no_other (Err e) fault own none same = let is : e.cause ≡ fault.cause = cc in none (subst IsLineCause is own.1)
+
+-- nor is a want of memory
+pub no_memory : {A : Type 0} (answer : Result A LineFault) (memory fault : LineFault) → answer ≡ Err memory → memory ≡ want_of_memory → fault.cause ≢ NoMemory → answer ≢ Err fault
+no_memory answer memory fault gave is other same =
+    let here : memory ≡ fault = cc in
+    other (ap (λ (f : LineFault). f.cause) (sym here ∙ is))
+
 -- ---- the bytes of a crontab
+
+-- a text that isn't too large is small enough
+pub not_too_large : (bytes : List ℕ) → is_too_large bytes ≡ false → length bytes ≤ 1048576
+not_too_large bytes small = grind (arith, nat_tests)
+
+pub is_text : (bytes : List ℕ) → IsUtf8 bytes → is_utf8 bytes ≡ true
+is_text bytes utf8 = is_utf8-from_IsUtf8 bytes utf8
 
 pub not_utf8 : (b : Bool) (bytes : List ℕ) → is_utf8 bytes ≡ b → (IsUtf8 bytes → ⊥) → b ≡ false
 not_utf8 true bytes is other = absurd (other (IsUtf8-from_is_utf8 bytes is))
 not_utf8 false bytes is other = refl
 
-pub crontab_of_text : (kind : Kind) (bytes : List ℕ) → length bytes ≤ MOST_BYTES → IsUtf8 bytes → crontab_reading kind bytes ≡ jobs_reading kind (lines bytes)
-crontab_of_text kind bytes few utf8 = rw (le-ltb MOST_BYTES (length bytes) few, is_utf8-from_IsUtf8 bytes utf8) refl
+pub crontab_of_text : (kind : Kind) (bytes : List ℕ) → is_too_large bytes ≡ false → IsUtf8 bytes → crontab_reading kind bytes ≡ jobs_reading kind (lines bytes)
+crontab_of_text kind bytes few utf8 = rw (few, is_utf8-from_IsUtf8 bytes utf8) refl
 
-pub crontab_of_no_text : (kind : Kind) (bytes : List ℕ) → length bytes ≤ MOST_BYTES → (IsUtf8 bytes → ⊥) → crontab_reading kind bytes ≡ Err (fault_on_line 0 NotUtf8)
-crontab_of_no_text kind bytes few other = rw (le-ltb MOST_BYTES (length bytes) few, not_utf8 (is_utf8 bytes) bytes refl other) refl
+pub crontab_of_no_text : (kind : Kind) (bytes : List ℕ) → is_too_large bytes ≡ false → (IsUtf8 bytes → ⊥) → crontab_reading kind bytes ≡ Err (fault_on_line 0 NotUtf8)
+crontab_of_no_text kind bytes few other = rw (few, not_utf8 (is_utf8 bytes) bytes refl other) refl

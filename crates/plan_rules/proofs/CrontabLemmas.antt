@@ -4,8 +4,8 @@ use Rattle.std.proofs.lemmas.List.{take_more, take_all, get_or-map, length-map}
 use Rattle.std.proofs.lemmas.List.FromFn.{length-enumerate_from, get_or-enumerate_from}
 use Rattle.std.proofs.lemmas.List.Elements.{filter_map-append}
 use Rattle.std.specs.List.{enumerate_from, filter_map}
-use Rattle.plan_rules.specs.Steps.{each}
-use Rattle.plan_rules.proofs.StepsLemmas.{each-push, each-fault}
+use Rattle.plan_texts.specs.Steps.{each}
+use Rattle.plan_texts.specs.EachLaws.{each-push, each-fault}
 
 -- the lines that are lent, each with its place
 abbrev pub placed : {A : Type 0} → (A → List ℕ) → List A → List (ℕ × List ℕ)

@@ -4,19 +4,20 @@ use Rattle.std.specs.Fmt.{digits}
 use Rattle.std.specs.Str.{chars, is_utf8}
 use Rattle.plan_sets.specs.declared.item.SetFault.TheVariants.{OutOfRange, Backwards}
 use Rattle.plan_sets.specs.Items.{set_reading}
-use Rattle.plan_sets.proofs.ValuesLemmas.{has_value-values_where}
+use Rattle.plan_sets.specs.ValuesLaws.{has_value-values_where}
 use Rattle.plan_rules.specs.declared.crontabs.Kind.TheVariants.{User, System}
-use Rattle.plan_rules.specs.declared.fault.RuleCause.{RuleCause}
-use Rattle.plan_rules.specs.declared.fault.RuleCause.TheVariants.{WrongParts, BadNumber, BadName, Values, UnknownWord}
+use Rattle.plan_texts.specs.declared.fault.RuleCause.{RuleCause}
+use Rattle.plan_texts.specs.declared.fault.RuleCause.TheVariants.{WrongParts, BadNumber, BadName, Values, UnknownWord}
 use Rattle.plan_rules.specs.declared.line_fault.LineCause.{LineCause}
 use Rattle.plan_rules.specs.declared.line_fault.LineCause.TheVariants.{NotUtf8, TooLarge, BadSetting, Rule, NoCommand}
-use Rattle.plan_rules.specs.Text.{words, cut_at, number_of}
-use Rattle.plan_rules.specs.Cron.{rule_reading, five_fields, field_reading, items_reading, item_reading, side_reading, value_reading, step_reading, week_days_of}
-use Rattle.plan_rules.specs.Match.{rule_matches}
-use Rattle.plan_rules.specs.Lines.{lines, cut_word, TextReading}
+use Rattle.plan_texts.specs.Text.{words, cut_at, number_of}
+use Rattle.plan_grammar.specs.Cron.{rule_reading, five_fields, field_reading, items_reading, item_reading, side_reading, value_reading, step_reading, week_days_of}
+use Rattle.plan_match.specs.Match.{rule_matches}
+use Rattle.plan_texts.specs.Lines.{lines, cut_word}
+use Rattle.plan_rules.specs.LineFaults.{TextReading}
 use Rattle.plan_rules.specs.Job.{JobParts}
 use Rattle.plan_rules.specs.Crontab.{fields_in_front, at_word_in_front, what_reading, job_reading, line_reading, jobs_reading, crontab_reading}
-use Rattle.plan_rules.proofs.CronRows.{at_minute}
+use Rattle.plan_grammar.specs.Rows.{at_minute}
 
 -- a fault of a line
 on : ℕ → LineCause → TextReading (List JobParts)

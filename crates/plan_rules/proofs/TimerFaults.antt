@@ -1,24 +1,23 @@
 -- Which faults a timer file has, by its name, its bytes and its lines.
 use Rattle.std.proofs.Common.{◌≡◌, ℕ, ◌+◌, ◌-◌, ◌≤◌, Bool, true, false, ◌&&◌, cond, nat_lt, nat_le, nat_eq, List, [], ◌∷◌, length, drop, get_or, map, codes, Option, Err, IfErr, string_bytes, refl, ap, sym, ◌∙◌, true≢false, arith}
-use Rattle.std.proofs.lemmas.Bool.{le-ltb}
 use Rattle.std.proofs.lemmas.Bool.Decides.{nat_tests}
 use Rattle.std.proofs.lemmas.List.{get_or-drop}
 use Rattle.std.proofs.lemmas.Str.{is_utf8-from_IsUtf8, IsCharBoundary-before_ascii}
 use Rattle.std.specs.Cmp.Lexicographic.{bytes_decides}
 use Rattle.std.specs.List.{enumerate_from, ends_with}
 use Rattle.std.specs.Str.{IsUtf8, is_utf8, IsCharBoundary}
-use Rattle.plan_rules.specs.declared.lines.TheConstants.{MOST_BYTES}
-use Rattle.plan_rules.specs.declared.event.Calendar.{Calendar}
+use Rattle.plan_match.specs.declared.event.Calendar.{Calendar}
 use Rattle.plan_rules.specs.declared.line_fault.LineCause.TheVariants.{NotUtf8, NoTimerSection, TooManyLines}
-use Rattle.plan_rules.specs.declared.timers.TheConstants.{MOST_EVENTS}
-use Rattle.plan_rules.specs.declared.whole_lines.WholeLine.{WholeLine}
-use Rattle.plan_rules.specs.Steps.{each}
-use Rattle.plan_rules.specs.Event.{event_reading}
-use Rattle.plan_rules.specs.Lines.{IsOwnCause, in_line, fault_on_line}
+use Rattle.plan_rules.specs.Limits.{most_events}
+use Rattle.plan_texts.specs.declared.whole_lines.WholeLine.{WholeLine}
+use Rattle.plan_texts.specs.Steps.{each}
+use Rattle.plan_grammar.specs.Event.{event_reading}
+use Rattle.plan_rules.specs.LineFaults.{in_line, fault_on_line}
 use Rattle.plan_rules.specs.Job.{JobParts}
-use Rattle.plan_rules.specs.WholeLines.{whole_lines, whole_text, trimmed}
+use Rattle.plan_texts.specs.Lines.{is_too_large}
+use Rattle.plan_texts.specs.WholeLines.{whole_lines, whole_text, trimmed}
 use Rattle.plan_rules.specs.Timer.{Effect, is_timer_name, effects_from, has_timer, groups, event_at, group_reading, events_reading, first_unit, job_with, timer_of_lines, timer_reading}
-use Rattle.plan_rules.proofs.CrontabFaults.{IsOwnFault, steps, elements, choice, rule_in, on, not_utf8}
+use Rattle.plan_rules.proofs.CrontabFaults.{IsLineCause, IsOwnFault, steps, elements, choice, rule_in, on, not_utf8}
 
 -- ---- the name
 
@@ -55,8 +54,8 @@ boundary_of_name name is =
 
 event_fault : (event : ℕ × (ℕ × List ℕ)) → IfErr (event_at event) IsOwnFault
 event_fault event =
-    on event.1.0 (cond (nat_lt event.0 MOST_EVENTS) (in_line (event_reading event.1.1)) (Err TooManyLines))
-    (choice IsOwnCause (nat_lt event.0 MOST_EVENTS) (in_line (event_reading event.1.1)) (Err TooManyLines) (rule_in (event_reading event.1.1)) tt)
+    on event.1.0 (cond (nat_lt event.0 most_events) (in_line (event_reading event.1.1)) (Err TooManyLines))
+    (choice IsLineCause (nat_lt event.0 most_events) (in_line (event_reading event.1.1)) (Err TooManyLines) (rule_in (event_reading event.1.1)) tt)
 
 group_fault : (group : List (ℕ × List ℕ)) → IfErr (group_reading group) IsOwnFault
 group_fault group = elements IsOwnFault event_at event_fault (enumerate_from 0 group)
@@ -77,12 +76,12 @@ lines_fault name lines =
 
 -- ---- the bytes
 
-pub timer_of_text : (name bytes : List ℕ) → is_timer_name name ≡ true → length bytes ≤ MOST_BYTES → IsUtf8 bytes → timer_reading name bytes ≡ timer_of_lines name (map (λ line. (line.0, trimmed line.1)) (whole_lines bytes))
-timer_of_text name bytes named few utf8 = rw (named, le-ltb MOST_BYTES (length bytes) few, is_utf8-from_IsUtf8 bytes utf8) refl
+pub timer_of_text : (name bytes : List ℕ) → is_timer_name name ≡ true → is_too_large bytes ≡ false → IsUtf8 bytes → timer_reading name bytes ≡ timer_of_lines name (map (λ line. (line.0, trimmed line.1)) (whole_lines bytes))
+timer_of_text name bytes named few utf8 = rw (named, few, is_utf8-from_IsUtf8 bytes utf8) refl
 
-pub timer_of_no_text : (name bytes : List ℕ) → is_timer_name name ≡ true → length bytes ≤ MOST_BYTES → (IsUtf8 bytes → ⊥) → timer_reading name bytes ≡ Err (fault_on_line 0 NotUtf8)
+pub timer_of_no_text : (name bytes : List ℕ) → is_timer_name name ≡ true → is_too_large bytes ≡ false → (IsUtf8 bytes → ⊥) → timer_reading name bytes ≡ Err (fault_on_line 0 NotUtf8)
 timer_of_no_text name bytes named few other =
-    rw (named, le-ltb MOST_BYTES (length bytes) few, not_utf8 (is_utf8 bytes) bytes refl other) refl
+    rw (named, few, not_utf8 (is_utf8 bytes) bytes refl other) refl
 
 -- the whole lines that are held, without blanks at their ends
 pub trimmed_lines : (lines : List WholeLine) → map {B = ℕ × List ℕ} (λ line. (line.number, trimmed (string_bytes line.text))) lines ≡ map {B = ℕ × List ℕ} (λ line. (line.0, trimmed line.1)) (map whole_text lines)

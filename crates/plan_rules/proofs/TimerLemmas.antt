@@ -2,12 +2,12 @@
 use Rattle.std.proofs.Common.{◌≡◌, ℕ, ◌+◌, ◌<◌, ◌≤◌, Bool, true, false, ◌||◌, cond, nat_lt, List, [], ◌∷◌, ◌++◌, length, drop, get_or, map, Option, Some, None, Result, Ok, Err, unwrap_or, refl, ap, sym, ◌∙◌, append_assoc, append-nil, arith, length-append}
 use Rattle.std.proofs.lemmas.List.{drop_more, drop_all}
 use Rattle.std.specs.List.{enumerate_from}
-use Rattle.plan_rules.specs.declared.event.Calendar.{Calendar}
+use Rattle.plan_match.specs.declared.event.Calendar.{Calendar}
 use Rattle.plan_rules.specs.declared.line_fault.LineCause.TheVariants.{TooManyLines}
-use Rattle.plan_rules.specs.declared.timers.TheConstants.{MOST_EVENTS}
-use Rattle.plan_rules.specs.Steps.{◌>>=◌, each}
-use Rattle.plan_rules.specs.Event.{event_reading}
-use Rattle.plan_rules.specs.Lines.{LineReading, TextReading, in_line, on_line}
+use Rattle.plan_rules.specs.Limits.{most_events}
+use Rattle.plan_texts.specs.Steps.{◌>>=◌, each}
+use Rattle.plan_grammar.specs.Event.{event_reading}
+use Rattle.plan_rules.specs.LineFaults.{LineReading, TextReading, in_line, on_line}
 use Rattle.plan_rules.specs.Job.{JobParts}
 use Rattle.plan_rules.specs.Timer.{Effect, Reset, Event, Starts, Nothing, section_name, setting_of, inside_after, line_effect, effects_from, has_timer, onto_group, groups, event_at, group_reading, last_group, first_unit, job_with, timer_of_lines}
 use Rattle.plan_rules.specs.TimerSteps.{Draft, after_effect, after_section, after_line}
@@ -130,7 +130,7 @@ effect_step name number (Event text) draft more =
     ap (λ r. r >>= λ events. job_with (draft.found || has_timer more) name (unit_from draft.unit ((number, Event text) ∷ effects_from draft.inside more)) events) (from_groups-event draft.events (number, text) (groups effects))
     ∙ ap (λ unit. (event_at (length draft.events, (number, text)) >>= λ event. from_groups (draft.events ++ event ∷ []) (groups (effects_from draft.inside more))) >>= λ events. job_with (draft.found || has_timer more) name unit events) (past_event draft.unit number text effects)
     ∙ then_then (event_at (length draft.events, (number, text))) (λ event. from_groups (draft.events ++ event ∷ []) (groups effects)) (λ events. job_with found name (unit_from draft.unit effects) events)
-    ∙ event_read number draft (nat_lt (length draft.events) MOST_EVENTS) (in_line (event_reading text)) (λ next. rest_reading name next more)
+    ∙ event_read number draft (nat_lt (length draft.events) most_events) (in_line (event_reading text)) (λ next. rest_reading name next more)
 effect_step name number (Starts unit) draft more =
     ap (λ u. from_groups draft.events (groups (effects_from draft.inside more)) >>= λ events. job_with (draft.found || has_timer more) name u events) (at_unit draft.unit number unit (effects_from draft.inside more))
 effect_step name number Nothing draft more =

@@ -5,18 +5,19 @@ use Rattle.std.specs.Str.{chars, is_utf8}
 use Rattle.plan_sets.specs.declared.civil.Civil.{Civil}
 use Rattle.plan_sets.specs.declared.item.SetFault.TheVariants.{OutOfRange}
 use Rattle.plan_sets.specs.Items.{set_reading}
-use Rattle.plan_sets.proofs.ValuesLemmas.{has_value-values_where}
-use Rattle.plan_rules.specs.declared.fault.RuleCause.TheVariants.{WrongParts, Values, UnknownWord, Specifier}
+use Rattle.plan_sets.specs.ValuesLaws.{has_value-values_where}
+use Rattle.plan_texts.specs.declared.fault.RuleCause.TheVariants.{WrongParts, Values, UnknownWord, Specifier}
 use Rattle.plan_rules.specs.declared.line_fault.LineCause.TheVariants.{Rule, BadTimerName, NoTimerSection, TooManyLines}
-use Rattle.plan_rules.specs.declared.rule.Rule.TheVariants.{Events}
-use Rattle.plan_rules.specs.Text.{words, cut_at, number_of}
-use Rattle.plan_rules.specs.Steps.{◌>>=◌, each}
-use Rattle.plan_rules.specs.Shape.{date_reading, time_reading, dated, shape_reading}
-use Rattle.plan_rules.specs.Event.{component_number, component_value, component_side, component_item, component_items, places_reading, component_reading, weekday_of, weekday_reading, weekday_item, weekday_items, weekdays_reading, event_of, spelled_out, zone_dropped, expression_of, zoneless, words_reading, event_reading}
-use Rattle.plan_rules.specs.Match.{rule_matches}
-use Rattle.plan_rules.specs.Lines.{lines, TextReading, in_line, on_line}
+use Rattle.plan_match.specs.declared.rule.Rule.TheVariants.{Events}
+use Rattle.plan_texts.specs.Text.{words, cut_at, number_of}
+use Rattle.plan_texts.specs.Steps.{◌>>=◌, each}
+use Rattle.plan_grammar.specs.Shape.{date_reading, time_reading, dated, shape_reading}
+use Rattle.plan_grammar.specs.Event.{component_number, component_value, component_side, component_item, component_items, places_reading, component_reading, weekday_of, weekday_reading, weekday_item, weekday_items, weekdays_reading, event_of, spelled_out, zone_dropped, expression_of, zoneless, words_reading, event_reading}
+use Rattle.plan_match.specs.Match.{rule_matches}
+use Rattle.plan_texts.specs.Lines.{lines}
+use Rattle.plan_rules.specs.LineFaults.{TextReading, in_line, on_line}
 use Rattle.plan_rules.specs.Job.{JobParts}
-use Rattle.plan_rules.specs.WholeLines.{whole_lines}
+use Rattle.plan_texts.specs.WholeLines.{whole_lines}
 use Rattle.plan_rules.specs.Timer.{is_timer_name, section_name, setting_of, key_of, timer_of_lines, timer_reading}
 
 -- the whole lines of some files: comments inside joined lines, an even and an odd number of backslashes, a backslash before a

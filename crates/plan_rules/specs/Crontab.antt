@@ -1,19 +1,19 @@
 -- The meaning of a crontab (crontab(5)): the jobs of its lines, or its first fault with its line.
-use Rattle.std.specs.Prelude.{ℕ, ◌+◌, Bool, ◌||◌, ◌==◌, nat_lt, if◌then◌else◌, List, [], ◌∷◌, ◌++◌, length, codes, Option, Some, None, Ok, Err, ok_or}
+use Rattle.std.specs.Prelude.{ℕ, ◌+◌, Bool, ◌||◌, ◌==◌, if◌then◌else◌, List, [], ◌∷◌, ◌++◌, length, codes, Option, Some, None, Ok, Err, ok_or}
 use Rattle.std.specs.Char.{is_ascii_alphabetic}
 use Rattle.std.specs.Fmt.{decimal}
 use Rattle.std.specs.List.{list_any, filter_map, enumerate_from}
 use Rattle.std.specs.Str.{byte, is_utf8}
 use Rattle.plan_rules.specs.declared.crontabs.Kind.{Kind}
 use Rattle.plan_rules.specs.declared.crontabs.Kind.TheVariants.{User, System}
-use Rattle.plan_rules.specs.declared.lines.TheConstants.{MOST_BYTES}
-use Rattle.plan_rules.specs.declared.fault.RuleCause.TheVariants.{WrongParts}
+use Rattle.plan_texts.specs.declared.fault.RuleCause.TheVariants.{WrongParts}
 use Rattle.plan_rules.specs.declared.line_fault.LineCause.TheVariants.{TooLarge, NotUtf8, BadSetting, NoCommand}
-use Rattle.plan_rules.specs.declared.rule.Rule.{Rule}
-use Rattle.plan_rules.specs.Text.{begins_with}
-use Rattle.plan_rules.specs.Steps.{Reading, ◌>>=◌, each}
-use Rattle.plan_rules.specs.Cron.{five_fields, at_word, found_reading}
-use Rattle.plan_rules.specs.Lines.{lines, after_blanks, cut_word, LineReading, TextReading, in_line, on_line}
+use Rattle.plan_match.specs.declared.rule.Rule.{Rule}
+use Rattle.plan_texts.specs.Text.{begins_with}
+use Rattle.plan_texts.specs.Steps.{Reading, ◌>>=◌, each}
+use Rattle.plan_grammar.specs.Cron.{five_fields, at_word, found_reading}
+use Rattle.plan_texts.specs.Lines.{is_too_large, lines, after_blanks, cut_word}
+use Rattle.plan_rules.specs.LineFaults.{LineReading, TextReading, in_line, on_line}
 use Rattle.plan_rules.specs.Job.{JobParts}
 
 -- ---- the rule in front of a line
@@ -116,5 +116,5 @@ jobs_reading kind lines = do
 -- the meaning of a crontab: its size is looked at first, then its bytes, then its lines (own)
 abbrev pub crontab_reading : Kind → List ℕ → TextReading (List JobParts)
 crontab_reading kind bytes =
-    if nat_lt MOST_BYTES (length bytes) then on_line 0 (Err TooLarge)
+    if is_too_large bytes then on_line 0 (Err TooLarge)
     else (if is_utf8 bytes then jobs_reading kind (lines bytes) else on_line 0 (Err NotUtf8))

@@ -1,8 +1,8 @@
 -- What contracts see of a job.
 use Rattle.std.specs.Prelude.{ℕ, List, refl}
 use Rattle.std.specs.Coded.{Coded, code_by, coded×, coded_list, coded_ℕ}
-use Rattle.plan_rules.specs.contracts.rule.Rule.{the_row}
-use Rattle.plan_rules.specs.declared.rule.Rule.{Rule}
+use Rattle.plan_match.specs.contracts.rule.Rule.{the_row}
+use Rattle.plan_match.specs.declared.rule.Rule.{Rule}
 
 -- a job: its name, what it runs, and the rule by which it starts (own)
 pub record JobParts : Type 0 where

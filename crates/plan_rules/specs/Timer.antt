@@ -4,19 +4,19 @@ use Rattle.std.specs.Char.{is_ascii_alphabetic, is_ascii_digit}
 use Rattle.std.specs.List.{list_any, list_all, slice_index, slice_range, ends_with, position_or_len, before_first, after_first, enumerate_from}
 use Rattle.std.specs.Option.{option_map_or}
 use Rattle.std.specs.Str.{byte, bytes_eq, is_utf8}
-use Rattle.plan_rules.specs.declared.lines.TheConstants.{MOST_BYTES}
-use Rattle.plan_rules.specs.declared.event.Calendar.{Calendar}
+use Rattle.plan_match.specs.declared.event.Calendar.{Calendar}
 use Rattle.plan_rules.specs.declared.line_fault.LineCause.TheVariants.{TooLarge, NotUtf8, BadTimerName, NoTimerSection, TooManyLines}
-use Rattle.plan_rules.specs.declared.rule.Rule.TheVariants.{Events}
+use Rattle.plan_match.specs.declared.rule.Rule.TheVariants.{Events}
 use Rattle.plan_rules.specs.declared.timers.Key.{Key}
 use Rattle.plan_rules.specs.declared.timers.Key.TheVariants.{OnCalendar, Monotonic, UnitName, OtherKey}
-use Rattle.plan_rules.specs.declared.timers.TheConstants.{MOST_EVENTS}
-use Rattle.plan_rules.specs.Text.{begins_with}
-use Rattle.plan_rules.specs.Steps.{◌>>=◌, each}
-use Rattle.plan_rules.specs.Event.{event_reading}
-use Rattle.plan_rules.specs.Lines.{TextReading, in_line, on_line}
+use Rattle.plan_rules.specs.Limits.{least_name, most_name, most_events}
+use Rattle.plan_texts.specs.Text.{begins_with}
+use Rattle.plan_texts.specs.Steps.{◌>>=◌, each}
+use Rattle.plan_grammar.specs.Event.{event_reading}
+use Rattle.plan_rules.specs.LineFaults.{TextReading, in_line, on_line}
 use Rattle.plan_rules.specs.Job.{JobParts}
-use Rattle.plan_rules.specs.WholeLines.{whole_lines, trimmed}
+use Rattle.plan_texts.specs.Lines.{is_too_large}
+use Rattle.plan_texts.specs.WholeLines.{whole_lines, trimmed}
 
 -- ---- the name
 
@@ -30,8 +30,8 @@ is_name_byte b =
 -- a timer's name has 7 to 255 bytes and ends in `.timer` (own)
 unfoldable pub is_timer_name : List ℕ → Bool
 is_timer_name name =
-    nat_le 7 (length name)
-    && (nat_le (length name) 255 && (ends_with nat_eq name (codes ".timer") && list_all is_name_byte name))
+    nat_le least_name (length name)
+    && (nat_le (length name) most_name && (ends_with nat_eq name (codes ".timer") && list_all is_name_byte name))
 
 -- the service of a timer's name: its last `.timer` is replaced by `.service` (systemd.timer(5), `Unit=`)
 abbrev pub service_name : List ℕ → List ℕ
@@ -129,7 +129,7 @@ groups ((number, Nothing) ∷ more) = groups more
 -- an event at a place of its group: where the list holds 64 already, that is a fault before the text is read (own)
 abbrev pub event_at : ℕ × (ℕ × List ℕ) → TextReading Calendar
 event_at (place, (number, text)) =
-    on_line number (if nat_lt place MOST_EVENTS then in_line (event_reading text) else Err TooManyLines)
+    on_line number (if nat_lt place most_events then in_line (event_reading text) else Err TooManyLines)
 
 -- the events of a group
 abbrev pub group_reading : List (ℕ × List ℕ) → TextReading (List Calendar)
@@ -175,7 +175,7 @@ timer_of_lines name lines = do
 abbrev pub timer_reading : List ℕ → List ℕ → TextReading JobParts
 timer_reading name bytes =
     if is_timer_name name
-    then (if nat_lt MOST_BYTES (length bytes) then on_line 0 (Err TooLarge)
+    then (if is_too_large bytes then on_line 0 (Err TooLarge)
     else (if is_utf8 bytes
     then timer_of_lines name (map (λ line. (line.0, trimmed (line.1))) (whole_lines bytes))
     else on_line 0 (Err NotUtf8)))

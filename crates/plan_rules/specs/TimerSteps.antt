@@ -1,13 +1,13 @@
 -- What is held while the whole lines of a timer file are read, and what the meaning of the file is from there.
 use Rattle.std.specs.Prelude.{ℕ, Bool, false, ◌||◌, nat_lt, if◌then◌else◌, List, [], ◌∷◌, ◌++◌, length, Option, Some, Ok, Err, unwrap_or, string_bytes}
 use Rattle.std.specs.Option.{option_map}
-use Rattle.plan_rules.specs.declared.event.Calendar.{Calendar}
+use Rattle.plan_match.specs.declared.event.Calendar.{Calendar}
 use Rattle.plan_rules.specs.declared.line_fault.LineCause.TheVariants.{TooManyLines}
 use Rattle.plan_rules.specs.declared.timers.Settings.{Settings}
-use Rattle.plan_rules.specs.declared.timers.TheConstants.{MOST_EVENTS}
-use Rattle.plan_rules.specs.Steps.{◌>>=◌}
-use Rattle.plan_rules.specs.Event.{event_reading}
-use Rattle.plan_rules.specs.Lines.{LineReading, in_line}
+use Rattle.plan_rules.specs.Limits.{most_events}
+use Rattle.plan_texts.specs.Steps.{◌>>=◌}
+use Rattle.plan_grammar.specs.Event.{event_reading}
+use Rattle.plan_rules.specs.LineFaults.{LineReading, in_line}
 use Rattle.plan_rules.specs.Timer.{Effect, Reset, Event, Starts, Nothing, inside_after, line_effect, section_name, setting_of}
 
 -- whether the next line stands in a `[Timer]` section, whether there was one, the list of events, and the unit that was named
@@ -29,7 +29,7 @@ draft_of settings = record {
 -- one event more at the end of a list that holds fewer than 64 (own)
 abbrev pub after_event : Draft → List ℕ → LineReading Draft
 after_event draft text =
-    if nat_lt (length draft.events) MOST_EVENTS
+    if nat_lt (length draft.events) most_events
     then (in_line (event_reading text) >>= λ event. Ok (record draft { events = draft.events ++ event ∷ [] }))
     else Err TooManyLines
 

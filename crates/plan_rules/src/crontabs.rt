@@ -1,18 +1,20 @@
 //! Crontabs, and the jobs of their lines (crontab(5)).
 
-ghost use Rattle.std.specs.Prelude.{◌≡◌, ◌≤◌, Bool, IfErr, IfOk, length, map, string_bytes};
+ghost use Rattle.std.specs.Prelude.{◌≡◌, ◌≤◌, ◌↔◌, Bool, false, Err, IfErr, IfOk, IsTrue, length, map, string_bytes};
 ghost use Rattle.std.specs.Result.{result_map_both};
-ghost use Rattle.plan_rules.specs.Steps.{GivesBy, GivesUnless};
-ghost use Rattle.plan_rules.specs.Lines.{after_blanks, on_line, want_of_memory, GivesLine, IsOwnCause};
+ghost use Rattle.std.specs.Str.{is_utf8};
+ghost use Rattle.plan_texts.specs.Limits.{most_bytes};
+ghost use Rattle.plan_texts.specs.Steps.{GivesBy, GivesUnless};
+ghost use Rattle.plan_texts.specs.Lines.{after_blanks, is_too_large};
+ghost use Rattle.plan_rules.specs.LineFaults.{on_line, of_whole, want_of_memory, GivesLine, IsOwnCause};
 ghost use Rattle.plan_rules.specs.Crontab.{rule_in_front, at_word_in_front, fields_in_front, command_reading, what_reading, job_name, job_reading, begins_setting, setting_reading, line_reading, jobs_reading, crontab_reading};
 
-use crate::cron::{WRONG_PARTS, at_rule, five_fields};
-use crate::fault::RuleFault;
 use crate::job::Job;
 use crate::line_fault::{LineCause, LineFault};
-use crate::lines::{MOST_BYTES, after_blanks, cut_word, lines};
-use crate::parts::begins_with;
-use crate::rule::Rule;
+use plan_grammar::{WRONG_PARTS, at_rule, five_fields};
+use plan_match::Rule;
+use plan_texts::lines::{after_blanks, cut_word, is_too_large, lines};
+use plan_texts::{RuleFault, begins_with};
 use std::alloc::{AllocError, Global};
 use std::sync::Arc;
 
@@ -37,10 +39,14 @@ pub enum Kind {
 pub fn crontab(alloc: Global, bytes: &[u8], kind: Kind) -> Result<Vec<Job>, LineFault>
     ensures meaning { GivesUnless want_of_memory (λ jobs. jobs.items) result
         (crontab_reading kind bytes.now) }
+    // These two are found before any memory is asked for.
+    ensures too_large { (result ≡ Err (of_whole LineCause.TooLarge)) ↔ IsTrue (is_too_large bytes.now) }
+    ensures not_utf8 { (result ≡ Err (of_whole LineCause.NotUtf8))
+        ↔ ((is_too_large bytes.now ≡ false) × (is_utf8 bytes.now ≡ false)) }
     ensures memory { IfErr result (λ fault. fault.cause ≡ LineCause.NoMemory → fault.line ≡ 0) }
     ensures own_cause { IfErr result (λ fault. IsOwnCause fault.cause) }
 {
-    if bytes.len() > MOST_BYTES {
+    if is_too_large(bytes) {
         return Err(LineCause::TooLarge.on_line(0));
     }
     let Ok(text) = str::from_utf8(bytes) else {
@@ -52,7 +58,7 @@ pub fn crontab(alloc: Global, bytes: &[u8], kind: Kind) -> Result<Vec<Job>, Line
 
 // The jobs of lines, in order.
 fn jobs_of_lines(alloc: Global, kind: Kind, lines: &[&str]) -> Result<Vec<Job>, LineFault>
-    requires { length lines.now ≤ MOST_BYTES }
+    requires { length lines.now ≤ most_bytes }
     ensures { GivesUnless want_of_memory (λ jobs. jobs.items) result
         (jobs_reading kind (map (λ line. line.now) lines.now)) }
 {

@@ -3,7 +3,7 @@
 ghost use Rattle.std.specs.Prelude.{◌≡◌, string_bytes};
 ghost use Rattle.std.specs.Arc.{arc_value};
 
-use crate::rule::Rule;
+use plan_match::Rule;
 use std::marker::Model;
 use std::sync::Arc;
 

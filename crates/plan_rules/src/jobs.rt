@@ -2,6 +2,7 @@
 
 ghost use Rattle.std.specs.Prelude.{◌≡◌, ◌↔◌, ◌≤◌, ◌++◌, [], ◌∷◌, length, slice_get, IsTrue, IsNone, IsSome, IfOk, IfErr, OnOk, OnErr};
 ghost use Rattle.std.specs.Option.{option_copied};
+ghost use Rattle.plan_rules.specs.Limits.{most_jobs};
 ghost use Rattle.plan_rules.specs.Jobs.{number_of, HaveDistinctNames, job_of};
 
 use crate::job::Job;
@@ -43,13 +44,13 @@ impl Model for Jobs {
 
     ghost coded = { coded_list job_code };
 
-    ghost use Rattle.plan_rules.specs.declared.jobs.TheConstants.{MOST_JOBS};
+    ghost use Rattle.plan_rules.specs.Limits.{most_jobs};
 
     ghost view = { λ jobs. values jobs.by_name };
 
     ghost invariant = { λ jobs.
         (map (λ key. string_bytes key) (keys jobs.by_name) ≡ map (λ job. job.name) (values jobs.by_name))
-        × (index_map_len jobs.by_name ≤ MOST_JOBS) };
+        × (index_map_len jobs.by_name ≤ most_jobs) };
 }
 
 impl Jobs {
@@ -65,7 +66,7 @@ impl Jobs {
     /// How many jobs there are, at most 1,000.
     pub fn len(&self) -> usize
         ensures len { result ≡ length self.now }
-        ensures few { length self.now ≤ MOST_JOBS }
+        ensures few { length self.now ≤ most_jobs }
         ensures distinct { HaveDistinctNames self.now }
     {
         self.by_name.len()
@@ -102,7 +103,7 @@ impl Jobs {
         ensures added { OnOk result (self.new ≡ self.old ++ job ∷ []) }
         ensures same_name { (result ≡ Err (AddFault.SameName job)) ↔ IsSome (number_of job.name self.old) }
         ensures full { (result ≡ Err (AddFault.Full job))
-            ↔ (IsNone (number_of job.name self.old) × (length self.old ≡ MOST_JOBS)) }
+            ↔ (IsNone (number_of job.name self.old) × (length self.old ≡ most_jobs)) }
         ensures handed_back { IfErr result (λ fault. job_of fault ≡ job) }
         ensures unchanged { OnErr result (self.new ≡ self.old) }
     {
@@ -126,7 +127,7 @@ impl Jobs {
 #[cfg(test)]
 mod tests {
     use super::*;
-    use crate::cron::cron_rule;
+    use crate::cron_rule;
     use std::sync::Arc;
     use std::test::Fail;
 

@@ -1,6 +1,6 @@
 //! Why a text of lines is refused: its first bad line, and what is wrong with it.
 
-use crate::fault::{RuleCause, RuleFault};
+use plan_texts::{RuleCause, RuleFault};
 use std::alloc::{AllocError, AllocFailed};
 use thiserror::Error;
 
@@ -48,7 +48,7 @@ pub struct LineFault {
 
 impl LineCause {
     ghost use Rattle.std.specs.Prelude.{◌≡◌};
-    ghost use Rattle.plan_rules.specs.Lines.{fault_on_line};
+    ghost use Rattle.plan_rules.specs.LineFaults.{fault_on_line};
 
     // The fault of a line, from 1, or of the whole text, 0. A want of memory is the whole text's.
     pub(crate) fn on_line(self, line: u32) -> LineFault
@@ -89,7 +89,7 @@ impl<T: Drop> From<AllocFailed<T>> for LineCause {
 // A want of memory inside a rule's fault is a want of memory.
 impl From<RuleFault> for LineCause {
     ghost use Rattle.std.specs.Prelude.{◌≡◌};
-    ghost use Rattle.plan_rules.specs.Lines.{cause_of_rule};
+    ghost use Rattle.plan_rules.specs.LineFaults.{cause_of_rule};
 
     ghost from_gives = { λ fault cause. cause ≡ cause_of_rule fault };
 
@@ -103,7 +103,7 @@ impl From<RuleFault> for LineCause {
 
 impl From<AllocError> for LineFault {
     ghost use Rattle.std.specs.Prelude.{◌≡◌};
-    ghost use Rattle.plan_rules.specs.Lines.{want_of_memory};
+    ghost use Rattle.plan_rules.specs.LineFaults.{want_of_memory};
 
     ghost from_gives = { λ _ fault. fault ≡ want_of_memory };
 
@@ -117,7 +117,7 @@ impl From<AllocError> for LineFault {
 
 impl<T: Drop> From<AllocFailed<T>> for LineFault {
     ghost use Rattle.std.specs.Prelude.{◌≡◌};
-    ghost use Rattle.plan_rules.specs.Lines.{want_of_memory};
+    ghost use Rattle.plan_rules.specs.LineFaults.{want_of_memory};
 
     ghost from_gives = { λ _ fault. fault ≡ want_of_memory };
 

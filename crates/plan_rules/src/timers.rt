@@ -1,20 +1,21 @@
 //! Timer files, and the job of each (systemd.timer(5), systemd.syntax(7)).
 
-ghost use Rattle.std.specs.Prelude.{◌≡◌, Bool, true, false, [], IfErr, IfOk, map, string_bytes};
+ghost use Rattle.std.specs.Prelude.{◌≡◌, ◌↔◌, Bool, true, false, [], Err, IfErr, IfOk, IsTrue, map, string_bytes};
 ghost use Rattle.std.specs.List.{list_all};
 ghost use Rattle.std.specs.Option.{option_map};
-ghost use Rattle.plan_rules.specs.Steps.{GivesUnless};
-ghost use Rattle.plan_rules.specs.Lines.{want_of_memory, IsOwnCause};
-ghost use Rattle.plan_rules.specs.WholeLines.{trimmed};
+ghost use Rattle.std.specs.Str.{is_utf8};
+ghost use Rattle.plan_texts.specs.Steps.{GivesUnless};
+ghost use Rattle.plan_rules.specs.LineFaults.{of_whole, want_of_memory, IsOwnCause};
+ghost use Rattle.plan_texts.specs.Lines.{is_too_large};
+ghost use Rattle.plan_texts.specs.WholeLines.{trimmed};
 ghost use Rattle.plan_rules.specs.Timer.{is_name_byte, is_timer_name, service_name, section_name, setting_of, key_of, timer_of_lines, timer_reading, job_with};
 
-use crate::event::calendar_event;
-use crate::events::Events;
 use crate::job::Job;
 use crate::line_fault::{LineCause, LineFault};
-use crate::lines::MOST_BYTES;
-use crate::rule::Rule;
-use crate::whole_lines::{WholeLine, trimmed, whole_lines};
+use plan_grammar::calendar_event;
+use plan_match::{Events, Rule};
+use plan_texts::lines::is_too_large;
+use plan_texts::whole_lines::{WholeLine, trimmed, whole_lines};
 use std::alloc::{AllocError, Global};
 use std::sync::Arc;
 
@@ -55,13 +56,19 @@ pub enum Key {
 /// are of no line are of line 0, and so is `NoMemory`.
 pub fn timer(alloc: Global, name: &str, bytes: &[u8]) -> Result<Job, LineFault>
     ensures meaning { GivesUnless want_of_memory (λ job. job) result (timer_reading name.now bytes.now) }
+    // These three are found before any memory is asked for.
+    ensures bad_name { (result ≡ Err (of_whole LineCause.BadTimerName)) ↔ (is_timer_name name.now ≡ false) }
+    ensures too_large { (result ≡ Err (of_whole LineCause.TooLarge))
+        ↔ (IsTrue (is_timer_name name.now) × IsTrue (is_too_large bytes.now)) }
+    ensures not_utf8 { (result ≡ Err (of_whole LineCause.NotUtf8))
+        ↔ (IsTrue (is_timer_name name.now) × ((is_too_large bytes.now ≡ false) × (is_utf8 bytes.now ≡ false))) }
     ensures memory { IfErr result (λ fault. fault.cause ≡ LineCause.NoMemory → fault.line ≡ 0) }
     ensures own_cause { IfErr result (λ fault. IsOwnCause fault.cause) }
 {
     if !is_timer_name(name.as_bytes()) {
         return Err(LineCause::BadTimerName.on_line(0));
     }
-    if bytes.len() > MOST_BYTES {
+    if is_too_large(bytes) {
         return Err(LineCause::TooLarge.on_line(0));
     }
     let Ok(text) = str::from_utf8(bytes) else {

@@ -1,5 +1,6 @@
-use super::{Kind, crontab};
-use crate::{LineCause, LineFault, Rule, RuleCause, RuleFault, cron_rule};
+use crate::{
+    Jobs, Kind, LineCause, LineFault, MOST_JOBS, Rule, RuleCause, RuleFault, cron_rule, crontab,
+};
 use plan_sets::{Civil, SetFault};
 use std::test::Fail;
 
@@ -268,5 +269,38 @@ fn the_largest_crontabs(rt: HostRuntime) -> Result<(), Fail> {
 
     let newlines = vec![in alloc; b'\n'; 1_048_576]?;
     assert_eq!(rt; crontab(alloc, newlines.as_slice(), Kind::User)?.len(), 0);
+    Ok(())
+}
+
+#[test]
+fn a_crontab_of_1_048_576_bytes(rt: HostRuntime) -> Result<(), Fail> {
+    let alloc = rt.alloc();
+    let mut bytes = b"30 4 * * * x\n@daily y\n#".to_vec(alloc)?;
+    bytes.resize(1_048_576, b'c')?;
+    let jobs = crontab(alloc, bytes.as_slice(), Kind::User)?;
+    assert_eq!(rt; jobs.len(), 2);
+    assert!(rt; jobs[1].name() == "cron:2" && jobs[1].what() == "y");
+    bytes.push(b'c')?;
+    let more = crontab(alloc, bytes.as_slice(), Kind::User).err();
+    assert!(rt; more.is_some_and(|fault| fault.cause == LineCause::TooLarge));
+    Ok(())
+}
+
+#[test]
+fn a_thousand_jobs_of_one_crontab(rt: HostRuntime) -> Result<(), Fail> {
+    let alloc = rt.alloc();
+    let mut lines = String::new(alloc);
+    for _ in 0..1_000 {
+        lines.push_str("30 4 1,15 * 5 x\n")?;
+    }
+    let mut jobs = Jobs::new(alloc);
+    for (place, job) in crontab(alloc, lines.as_bytes(), Kind::User)?
+        .into_iter()
+        .enumerate()
+    {
+        assert!(rt; matches!(jobs.add(job), Ok(number) if number == place));
+    }
+    assert_eq!(rt; jobs.len(), MOST_JOBS);
+    assert_eq!(rt; jobs.number_of("cron:1000"), Some(999));
     Ok(())
 }

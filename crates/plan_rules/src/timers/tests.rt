@@ -1,6 +1,6 @@
-use super::{MOST_EVENTS, timer};
 use crate::{
-    AddFault, Events, Job, Jobs, LineCause, LineFault, Rule, RuleCause, RuleFault, calendar_event,
+    AddFault, Events, Job, Jobs, LineCause, LineFault, MOST_EVENTS, Rule, RuleCause, RuleFault,
+    calendar_event, timer,
 };
 use plan_sets::{Civil, SetFault};
 use std::alloc::Global;

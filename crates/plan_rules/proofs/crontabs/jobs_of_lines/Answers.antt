@@ -1,7 +1,7 @@
 use Rattle.std.proofs.Common.{◌++◌, ◌∷◌, [], Ok, ap, sym, ◌∙◌}
 use Rattle.std.proofs.lemmas.Result.{err_from_is_err_and}
 use Rattle.std.specs.List.{filter_map}
-use Rattle.plan_rules.specs.Steps.{◌>>=◌}
+use Rattle.plan_texts.specs.Steps.{◌>>=◌}
 use Rattle.plan_rules.specs.Crontab.{numbered_reading, jobs_reading}
 use Rattle.plan_rules.proofs.CrontabLemmas.{read_more, read_fault, read_all, jobs_push, jobs_pass}
 use Rattle.plan_rules.proofs.crontabs.jobs_of_lines.Goals as goal

@@ -1,6 +1,6 @@
 use Rattle.std.proofs.Common.{◌≡◌, List, Option, map, take, Ok}
 use Rattle.std.specs.List.{enumerate_from, filter_map}
-use Rattle.plan_rules.specs.Steps.{each}
+use Rattle.plan_texts.specs.Steps.{each}
 use Rattle.plan_rules.specs.Job.{JobParts}
 use Rattle.plan_rules.specs.Crontab.{numbered_reading}
 use Rattle.plan_rules.proofs.crontabs.jobs_of_lines.Given as goal

@@ -1,8 +1,8 @@
 use Rattle.std.proofs.Common.{◌≡◌, ◌+◌, drop, map, Ok, Err, string_bytes, subst, ap, sym, ◌∙◌}
-use Rattle.plan_rules.specs.Steps.{◌>>=◌, GivesUnless}
-use Rattle.plan_rules.specs.Lines.{TextReading, on_line, fault_on_line, want_of_memory}
+use Rattle.plan_texts.specs.Steps.{◌>>=◌, GivesUnless}
+use Rattle.plan_rules.specs.LineFaults.{TextReading, on_line, fault_on_line, want_of_memory}
 use Rattle.plan_rules.specs.Job.{JobParts}
-use Rattle.plan_rules.specs.WholeLines.{trimmed}
+use Rattle.plan_texts.specs.WholeLines.{trimmed}
 use Rattle.plan_rules.specs.TimerSteps.{draft_of, after_line}
 use Rattle.plan_rules.proofs.TimerLemmas.{rest_reading, rest_reading-none, rest_reading-more, rest_reading-end}
 use Rattle.plan_rules.proofs.timers.timer_of_lines.Goals as goal

@@ -1,5 +1,5 @@
 use Rattle.std.proofs.Common.{◌≡◌, map, drop, string_bytes}
-use Rattle.plan_rules.specs.WholeLines.{trimmed}
+use Rattle.plan_texts.specs.WholeLines.{trimmed}
 use Rattle.plan_rules.specs.Timer.{timer_of_lines}
 use Rattle.plan_rules.specs.TimerSteps.{draft_of}
 use Rattle.plan_rules.proofs.TimerLemmas.{rest_reading}

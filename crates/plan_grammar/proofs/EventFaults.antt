@@ -1,0 +1,175 @@
+-- The words of a calendar event are never refused for want of memory or for a specifier: the definitions give no such fault.
+use Rattle.std.proofs.Common.{ℕ, ◌||◌, not, List, [], ◌∷◌, codes, length, eqb, Option, Some, None}
+use Rattle.std.specs.Str.{str_eq_ignore_ascii_case}
+use Rattle.plan_texts.specs.declared.fault.RuleCause.TheVariants.{BadName}
+use Rattle.plan_texts.specs.declared.element.Side.{Side}
+use Rattle.plan_texts.specs.declared.element.Side.TheVariants.{Star, Value, Between}
+use Rattle.plan_grammar.specs.declared.component.Component.{Component}
+use Rattle.plan_grammar.specs.declared.component.Component.TheVariants.{Year, Month, Day, Place, Hour, Minute, Second}
+use Rattle.plan_texts.specs.Text.{words, pieces, cut_at}
+use Rattle.plan_grammar.specs.Shape.{ShapeText, date_from_start, date_from_end, cut_date, date_reading, time_of_pieces, time_reading, is_time, one_word, two_words, dated, shape_reading}
+use Rattle.plan_grammar.specs.Event.{holds_byte, component_part, component_number, component_value, component_side, component_item_of, component_item, component_items, component_set, component_reading, weekday_of, weekday_reading, weekday_span, weekday_item, without_comma, weekday_items, weekdays_reading, weekdays_if_given, day_component, event_of, spelled_out, has_zone, last_word, zone_dropped, expression_of, is_unknown_word, lone_word, zoneless, words_reading}
+use Rattle.plan_grammar.proofs.TextFaults.{IsTextFault, steps, elements, choice, or_fault, number, side_of, cut_item, list_values}
+
+-- a component's number
+digits : (component : Component) (text : List ℕ) → IsTextFault (component_number component text)
+unfolding component_number
+digits Year text = number 2 text
+digits Month text = number 3 text
+digits Day text = number 4 text
+digits Place text = number 4 text
+digits Hour text = number 5 text
+digits Minute text = number 6 text
+digits Second text = choice (holds_byte 46 text) _ _ tt (number 7 text)
+
+value : (component : Component) (text : List ℕ) → IsTextFault (component_value component text)
+unfolding component_value
+value Year text = steps (component_number Year text) _ (digits Year text) (λ n. tt)
+value Month text = digits Month text
+value Day text = digits Day text
+value Place text = digits Place text
+value Hour text = digits Hour text
+value Minute text = digits Minute text
+value Second text = digits Second text
+
+side : (component : Component) (text : List ℕ) → IsTextFault (component_side component text)
+unfolding component_side
+side component text = side_of (component_value component) (value component) (codes "..") text
+
+item_form : (component : Component) (left : Side) (n : Option ℕ) → IsTextFault (component_item_of component left n)
+item_form Year left n = tt
+item_form Month left n = tt
+item_form Day left n = tt
+item_form Place Star None = tt
+item_form Place Star (Some n) = tt
+item_form Place (Value a) n = tt
+item_form Place (Between a b) n = tt
+item_form Hour left n = tt
+item_form Minute left n = tt
+item_form Second left n = tt
+
+item : (component : Component) (text : List ℕ) → IsTextFault (component_item component text)
+unfolding component_item
+item component text =
+    cut_item (component_side component) (component_number component) (component_item_of component) (side component) (digits component) (item_form component) text (cut_at (codes "/") text)
+
+items : (component : Component) (text : List ℕ) → IsTextFault (component_items component text)
+unfolding component_items
+items component text = elements (component_item component) (item component) (pieces 44 text)
+
+values : (component : Component) (text : List ℕ) → IsTextFault (component_reading component text)
+unfolding component_reading
+values component text = list_values (component_part component) (component_set component) (component_items component text) (items component text)
+
+weekday : (name : List ℕ) → IsTextFault (weekday_reading name)
+unfolding weekday_reading
+weekday name = choice (eqb (length name) 0) _ _ tt (or_fault (weekday_of name) (record { part = 1; cause = BadName }) tt)
+
+weekday_form : (text : List ℕ) (cut : Option (List ℕ × List ℕ)) → IsTextFault (weekday_span text cut)
+weekday_form text None = steps (weekday_reading text) _ (weekday text) (λ a. tt)
+weekday_form text (Some ends) =
+    steps (weekday_reading ends.0) _ (weekday ends.0) (λ a. steps (weekday_reading ends.1) _ (weekday ends.1) (λ b. tt))
+
+weekday_element : (text : List ℕ) → IsTextFault (weekday_item text)
+unfolding weekday_item
+weekday_element text = weekday_form text (cut_at (codes "..") text)
+
+weekday_list : (text : List ℕ) → IsTextFault (weekday_items text)
+unfolding weekday_items
+weekday_list text = elements weekday_item weekday_element (pieces 44 (without_comma text))
+
+weekdays : (text : List ℕ) → IsTextFault (weekdays_reading text)
+unfolding weekdays_reading
+weekdays text = list_values 1 _ (weekday_items text) (weekday_list text)
+
+maybe_weekdays : (text : Option (List ℕ)) → IsTextFault (weekdays_if_given text)
+maybe_weekdays None = tt
+maybe_weekdays (Some text) = steps (weekdays_reading text) _ (weekdays text) (λ days. tt)
+
+from_start : (texts : List (List ℕ)) → IsTextFault (date_from_start texts)
+from_start [] = tt
+from_start (a ∷ []) = tt
+from_start (a ∷ b ∷ []) = tt
+from_start (a ∷ b ∷ c ∷ []) = tt
+from_start (a ∷ b ∷ c ∷ d ∷ more) = tt
+
+from_end : (texts : List (List ℕ)) (day : List ℕ) → IsTextFault (date_from_end texts day)
+from_end [] day = tt
+from_end (a ∷ []) day = tt
+from_end (a ∷ b ∷ []) day = tt
+from_end (a ∷ b ∷ c ∷ more) day = tt
+
+cut_day : (text : List ℕ) (cut : Option (List ℕ × List ℕ)) → IsTextFault (cut_date text cut)
+cut_day text None = from_start (pieces 45 text)
+cut_day text (Some cut) = from_end (pieces 45 cut.0) cut.1
+
+date : (text : List ℕ) → IsTextFault (date_reading text)
+unfolding date_reading
+date text = cut_day text (cut_at (codes "~") text)
+
+time_pieces : (texts : List (List ℕ)) → IsTextFault (time_of_pieces texts)
+time_pieces [] = tt
+time_pieces (a ∷ []) = tt
+time_pieces (a ∷ b ∷ []) = tt
+time_pieces (a ∷ b ∷ c ∷ []) = tt
+time_pieces (a ∷ b ∷ c ∷ d ∷ more) = tt
+
+time : (text : List ℕ) → IsTextFault (time_reading text)
+unfolding time_reading
+time text = time_pieces (pieces 58 text)
+
+one : (given : Option (List ℕ)) (word : List ℕ) → IsTextFault (one_word given word)
+one given word =
+    choice (is_time word) _ _ (steps (time_reading word) _ (time word) (λ t. tt)) (steps (date_reading word) _ (date word) (λ d. tt))
+
+two : (given : Option (List ℕ)) (first second : List ℕ) → IsTextFault (two_words given first second)
+two given first second =
+    choice (is_time first || not (is_time second)) _ _ tt
+    (steps (date_reading first) _ (date first) (λ d. steps (time_reading second) _ (time second) (λ t. tt)))
+
+after_weekdays : (given : Option (List ℕ)) (texts : List (List ℕ)) → IsTextFault (dated given texts)
+unfolding dated
+after_weekdays given [] = tt
+after_weekdays given (a ∷ []) = one given a
+after_weekdays given (a ∷ b ∷ []) = two given a b
+after_weekdays given (a ∷ b ∷ c ∷ more) = tt
+
+shape : (texts : List (List ℕ)) → IsTextFault (shape_reading texts)
+unfolding shape_reading
+shape [] = tt
+shape (first ∷ others) = choice _ _ _ (after_weekdays (Some first) others) (after_weekdays None (first ∷ others))
+
+parts : (form : ShapeText) → IsTextFault (event_of form)
+unfolding event_of
+parts form =
+    steps (weekdays_if_given form.weekdays) _ (maybe_weekdays form.weekdays)
+    (λ a. steps (component_reading Year form.date.year) _ (values Year form.date.year)
+    (λ b. steps (component_reading Month form.date.month) _ (values Month form.date.month)
+    (λ c. steps (component_reading (day_component form.date.count) form.date.day) _ (values (day_component form.date.count) form.date.day)
+    (λ d. steps (component_reading Hour form.time.hour) _ (values Hour form.time.hour)
+    (λ e. steps (component_reading Minute form.time.minute) _ (values Minute form.time.minute)
+    (λ f. steps (component_reading Second form.time.second) _ (values Second form.time.second) (λ g. tt)))))))
+
+spelled : (texts : List (List ℕ)) → IsTextFault (spelled_out texts)
+unfolding spelled_out
+spelled texts = steps (shape_reading texts) _ (shape texts) parts
+
+zone : (texts : List (List ℕ)) → IsTextFault (zone_dropped texts)
+unfolding zone_dropped
+zone texts =
+    choice (has_zone texts) _ _ (choice (str_eq_ignore_ascii_case (last_word texts) (codes "utc")) _ _ tt tt) tt
+
+lone : (word : List ℕ) (expression : Option (List ℕ)) → IsTextFault (lone_word word expression)
+lone word (Some expression) = spelled (words expression)
+lone word None = choice (is_unknown_word word) _ _ tt (spelled (word ∷ []))
+
+no_zone : (texts : List (List ℕ)) → IsTextFault (zoneless texts)
+unfolding zoneless
+no_zone [] = spelled []
+no_zone (word ∷ []) = lone word (expression_of word)
+no_zone (first ∷ second ∷ others) = spelled (first ∷ second ∷ others)
+
+-- the fault of an event's words is the text's
+pub all_words : (texts : List (List ℕ)) → IsTextFault (words_reading texts)
+unfolding words_reading
+all_words texts = steps (zone_dropped texts) _ (zone texts) no_zone

@@ -1,0 +1,8 @@
+pub mod WeekDaysLemmas
+pub mod NameLemmas
+pub mod CronRows
+pub mod TextFaults
+pub mod LimitsLemmas
+pub mod PlacesLemmas
+pub mod EventFaults
+mod EventRows

@@ -1,0 +1,10 @@
+use Rattle.std.proofs.Common.{◌≡◌, map, Ok}
+use Rattle.plan_texts.specs.Steps.{each}
+use Rattle.plan_grammar.specs.Event.{weekday_item}
+use Rattle.plan_grammar.proofs.weekdays.weekday_items.Given as goal
+
+abbrev pub invariant-loop-element : goal.invariant-loop-element
+invariant-loop-element l =
+    (goal.iterator-loop-element).can_next l.element-iterator
+    × (goal.iterator-loop-element).is_finite l.element-iterator
+    × (each weekday_item (map (λ element. element.now) l.yielded) ≡ Ok l.items.items)

@@ -1,0 +1,4 @@
+pub mod Cron
+pub mod Shape
+pub mod Event
+pub mod Rows

@@ -1,0 +1,200 @@
+//! The components of a calendar event: their limits, and the values that a component's text admits (systemd.time(7)).
+
+ghost use Rattle.std.specs.Prelude.{◌≡◌, ◌<◌, ◌^◌, IfOk};
+ghost use Rattle.plan_texts.specs.Limits.{most_digits};
+ghost use Rattle.plan_texts.specs.Steps.{Gives, GivesBy};
+ghost use Rattle.plan_grammar.specs.Event.{component_part, least_of, greatest_of, component_number, full_year, component_value, component_side, spread_item, component_item_of, component_item, component_items, component_set, component_reading};
+
+use crate::places::places_of;
+use plan_sets::{FIRST_YEAR, Item, LAST_YEAR, SetFault, ValueSet, set_of};
+use plan_texts::{RuleCause, RuleFault, Side, cut, number_in};
+use std::alloc::Global;
+
+/// A component of a calendar event.
+#[derive(Clone, Copy)]
+pub enum Component {
+    Year,
+    Month,
+    /// The day, counted from the start of the month.
+    Day,
+    /// The day, counted from the end of the month: 1 is the last day.
+    Place,
+    Hour,
+    Minute,
+    Second,
+}
+
+impl Component {
+    // The part of the text that the component is.
+    fn part(self) -> u8
+        ensures { result ≡ component_part self }
+    {
+        match self {
+            Component::Year => 2,
+            Component::Month => 3,
+            Component::Day | Component::Place => 4,
+            Component::Hour => 5,
+            Component::Minute => 6,
+            Component::Second => 7,
+        }
+    }
+
+    // The least value of the component.
+    fn lowest(self) -> u16
+        ensures { result ≡ least_of self }
+    {
+        match self {
+            Component::Year => FIRST_YEAR,
+            Component::Month | Component::Day | Component::Place => 1,
+            Component::Hour | Component::Minute | Component::Second => 0,
+        }
+    }
+
+    // The greatest value of the component.
+    fn highest(self) -> u16
+        ensures { result ≡ greatest_of self }
+    {
+        match self {
+            Component::Year => LAST_YEAR,
+            Component::Month => 12,
+            Component::Day | Component::Place => 31,
+            Component::Hour => 23,
+            Component::Minute | Component::Second => 59,
+        }
+    }
+
+    // A fault of this component.
+    fn fault(self, cause: RuleCause) -> RuleFault
+        ensures part { result.part ≡ component_part self }
+        ensures cause { result.cause ≡ cause }
+    {
+        RuleFault {
+            part: self.part(),
+            cause,
+        }
+    }
+
+    // A number, of which a second's may hold no fraction.
+    #[tactic(auto, unfolding(crate::specs::Event::component_number))]
+    fn number(self, text: &[u8]) -> Result<u16, RuleFault>
+        ensures value { result ≡ component_number self text.now }
+        ensures small { IfOk result (λ n. n < 10 ^ most_digits) }
+    {
+        match self {
+            Component::Second if text.contains(&b'.') => Err(self.fault(RuleCause::Fraction)),
+            _ => number_in(self.part(), text),
+        }
+    }
+
+    // A value; a year of one or two digits lies from 1970 to 2069.
+    #[tactic(auto, unfolding(crate::specs::Event::component_value))]
+    fn value(self, text: &[u8]) -> Result<u16, RuleFault>
+        ensures { result ≡ component_value self text.now }
+    {
+        let number = self.number(text)?;
+        match self {
+            Component::Year => Ok(full_year(text, number)),
+            _ => Ok(number),
+        }
+    }
+
+    // What stands before the step of an element.
+    #[tactic(auto, unfolding(crate::specs::Event::component_side))]
+    fn side(self, text: &[u8]) -> Result<Side, RuleFault>
+        ensures { result ≡ component_side self text.now }
+    {
+        if text == b"*".as_slice() {
+            return Ok(Side::Star);
+        }
+        let Some((first, last)) = cut(text, b"..") else {
+            return Ok(Side::Value(self.value(text)?));
+        };
+        let first = self.value(first)?;
+        let last = self.value(last)?;
+        Ok(Side::Between(first, last))
+    }
+
+    // The item of an element, by what stands before its step and by its step.
+    fn item_of(self, side: Side, step: Option<u16>) -> Result<Item, RuleFault>
+        ensures { result ≡ component_item_of self side step }
+    {
+        match (self, side, step) {
+            (Component::Place, Side::Star, Some(_)) => Err(self.fault(RuleCause::WrongParts)),
+            _ => Ok(self.spread(side, step)),
+        }
+    }
+
+    // The item of an element that may have a step.
+    fn spread(self, side: Side, step: Option<u16>) -> Item
+        ensures { result ≡ spread_item self side step }
+    {
+        match (side, step) {
+            (Side::Star, None) => Item::Range(self.lowest(), self.highest(), 1),
+            (Side::Star, Some(step)) => Item::Onward(self.lowest(), step),
+            (Side::Value(value), None) => Item::One(value),
+            (Side::Value(value), Some(step)) => Item::Onward(value, step),
+            (Side::Between(first, last), step) => Item::Range(first, last, step.unwrap_or(1)),
+        }
+    }
+
+    // An element of the component.
+    #[tactic(auto, unfolding(crate::specs::Event::component_item))]
+    fn item(self, text: &[u8]) -> Result<Item, RuleFault>
+        ensures { result ≡ component_item self text.now }
+    {
+        let Some((left, step)) = cut(text, b"/") else {
+            return self.item_of(self.side(text)?, None);
+        };
+        let side = self.side(left)?;
+        let step = self.number(step)?;
+        self.item_of(side, Some(step))
+    }
+
+    // The items of the component, between commas.
+    #[tactic(auto, unfolding(crate::specs::Event::component_items))]
+    fn items(self, alloc: Global, text: &[u8]) -> Result<Vec<Item>, RuleFault>
+        ensures { GivesBy (λ items. items.items) result (component_items self text.now) }
+    {
+        let mut items = Vec::new(alloc);
+        for element in text.split(|byte| *byte == b',') {
+            items.push(self.item(element)?)?;
+        }
+        Ok(items)
+    }
+
+    // The set that the items of the component mean.
+    fn set_of_items(self, items: &[Item]) -> Result<ValueSet, SetFault>
+        ensures { result ≡ component_set self items.now }
+    {
+        match self {
+            Component::Place => places_of(items),
+            _ => set_of(items, self.lowest(), self.highest()),
+        }
+    }
+
+    /// The values that the component's text admits.
+    #[tactic(auto, unfolding(crate::specs::Event::component_reading))]
+    pub fn values(self, alloc: Global, text: &[u8]) -> Result<ValueSet, RuleFault>
+        ensures { Gives result (component_reading self text.now) }
+    {
+        let items = self.items(alloc, text)?;
+        match self.set_of_items(items.as_slice()) {
+            Ok(values) => Ok(values),
+            Err(fault) => Err(self.fault(RuleCause::Values(fault))),
+        }
+    }
+}
+
+// The year that a number stands for, by the text that it was written with.
+fn full_year(text: &[u8], number: u16) -> u16
+    requires { number < 10 ^ most_digits }
+    ensures { result ≡ full_year text.now number }
+{
+    if text.len() > 2 {
+        number
+    } else if number < 70 {
+        number + 2000
+    } else {
+        number + 1900
+    }
+}

@@ -1,0 +1,220 @@
+//! Calendar events, and how their texts are read (systemd.time(7)).
+
+ghost use Rattle.std.specs.Prelude.{◌≡◌, ◌↔◌, IfErr, IfOk, IsTrue, codes, map};
+ghost use Rattle.std.specs.Char.{is_ascii_alphabetic};
+ghost use Rattle.std.specs.List.{list_all};
+ghost use Rattle.std.specs.Option.{option_map};
+ghost use Rattle.std.specs.Str.{str_eq_ignore_ascii_case};
+ghost use Rattle.plan_texts.specs.Steps.{Gives, GivesBy};
+ghost use Rattle.plan_grammar.specs.Shape.{shape_text};
+ghost use Rattle.plan_texts.specs.Text.{words};
+ghost use Rattle.plan_match.specs.WithinLimits.{EventIsWithinLimits, RuleIsWithinLimits};
+ghost use Rattle.plan_grammar.specs.Event.{weekdays_if_given, day_component, event_of, spelled_out, zone_dropped, expression_of, is_unknown_word, zoneless, words_reading, has_specifier, event_reading, event_rule_reading};
+
+use crate::component::Component;
+use crate::shape::{Shape, shape_of};
+use crate::weekdays::{weekday_of, weekdays};
+use plan_match::{Calendar, DayCount, Events, Rule};
+use plan_sets::ValueSet;
+use plan_texts::{RuleCause, RuleFault, begins_with_letter, words};
+use std::alloc::Global;
+
+/// The calendar event that a text means (systemd.time(7)): weekdays, a date, a time of day and the zone `UTC`, each of
+/// which may be missing; or one of the words `minutely`, `hourly`, `daily`, `weekly`, `monthly`, `quarterly`, `semiannually`,
+/// `yearly` and `annually`.
+///
+/// The fault is the first of these, with its part. `Specifier`, part 0: a `%` anywhere. `WrongParts`, part 0: no word.
+/// `Zone`, part 8: a last word of several that begins with a letter and isn't `UTC`. `UnknownWord`, part 0: one word of
+/// letters alone that is neither one of those words nor a weekday. `WrongParts`, part 0: any other shape. Then those of the
+/// weekdays, part 1, and of the year, month, day, hour, minute and second, parts 2 to 7.
+///
+/// In each part the first element that is faulty in its form decides: `WrongParts` is an empty name, value or step, or a
+/// step after `*` in days from the month's end; `BadName` is an unknown weekday; `Fraction` is a second or its step with a
+/// `.` in it; `BadNumber` is any other value or step that isn't 1 to 4 digits. Only then `Values` holds the fault of the
+/// items, as `plan_sets::set_of` finds it; but a range of days from the month's end may run either way.
+///
+/// `NoMemory`, part 0, can come before a fault that isn't found yet.
+pub fn calendar_event(alloc: Global, text: &str) -> Result<Calendar, RuleFault>
+    ensures meaning { Gives result (event_reading text.now) }
+    ensures within { IfOk result EventIsWithinLimits }
+    // A specifier is found before any memory is asked for.
+    ensures specifier { (result ≡ Err (record { part = 0; cause = RuleCause.Specifier }))
+        ↔ IsTrue (has_specifier text.now) }
+    ensures memory { IfErr result (λ fault. fault.cause ≡ RuleCause.NoMemory → fault.part ≡ 0) }
+{
+    if text.as_bytes().contains(&b'%') {
+        return Err(RuleFault {
+            part: 0,
+            cause: RuleCause::Specifier,
+        });
+    }
+    let words = words(alloc, text.as_bytes())?;
+    event_of_words(alloc, words.as_slice())
+}
+
+/// The rule of the one calendar event that a text means. Its faults are those of `calendar_event`.
+pub fn calendar_rule(alloc: Global, text: &str) -> Result<Rule, RuleFault>
+    ensures meaning { Gives result (event_rule_reading text.now) }
+    ensures within { IfOk result RuleIsWithinLimits }
+    ensures specifier { (result ≡ Err (record { part = 0; cause = RuleCause.Specifier }))
+        ↔ IsTrue (has_specifier text.now) }
+    ensures memory { IfErr result (λ fault. fault.cause ≡ RuleCause.NoMemory → fault.part ≡ 0) }
+{
+    let event = calendar_event(alloc, text)?;
+    Ok(Rule::Events(Events::one(alloc, event)?))
+}
+
+// The event of a text's words.
+#[tactic(auto, unfolding(crate::specs::Event::words_reading))]
+fn event_of_words(alloc: Global, words: &[&[u8]]) -> Result<Calendar, RuleFault>
+    ensures { Gives result (words_reading (map (λ word. word.now) words.now)) }
+{
+    let words = without_zone(words)?;
+    zoneless(alloc, words)
+}
+
+// The words before the zone, which is the last word where it isn't the first and begins with a letter.
+#[tactic(auto, unfolding(crate::specs::Event::zone_dropped))]
+fn without_zone<'w, 't>(words: &'w [&'t [u8]]) -> Result<&'w [&'t [u8]], RuleFault>
+    ensures { GivesBy (λ left. map (λ word. word.now) left.now) result
+        (zone_dropped (map (λ word. word.now) words.now)) }
+{
+    let [before @ .., zone] = words else {
+        return Ok(words);
+    };
+    if before.is_empty() || !begins_with_letter(zone) {
+        return Ok(words);
+    }
+    if is_utc(zone) {
+        return Ok(before);
+    }
+    Err(RuleFault {
+        part: 8,
+        cause: RuleCause::Zone,
+    })
+}
+
+// Whether a zone is UTC, in any case.
+fn is_utc(zone: &[u8]) -> bool
+    ensures { result ≡ str_eq_ignore_ascii_case zone.now (codes "utc") }
+{
+    zone.eq_ignore_ascii_case(b"utc")
+}
+
+// The event of words without a zone, of which one alone may stand for an expression.
+#[tactic(auto, unfolding(crate::specs::Event::zoneless))]
+fn zoneless(alloc: Global, words: &[&[u8]]) -> Result<Calendar, RuleFault>
+    ensures { Gives result (zoneless (map (λ word. word.now) words.now)) }
+{
+    let [word] = words else {
+        return spelled_out(alloc, words);
+    };
+    if let Some(expression) = expression(word) {
+        return event_of_expression(alloc, expression);
+    }
+    if is_unknown_word(word) {
+        return Err(RuleFault {
+            part: 0,
+            cause: RuleCause::UnknownWord,
+        });
+    }
+    spelled_out(alloc, words)
+}
+
+// The event of an expression that a word stands for.
+fn event_of_expression(alloc: Global, expression: &[u8]) -> Result<Calendar, RuleFault>
+    ensures { Gives result (spelled_out (words expression.now)) }
+{
+    let words = words(alloc, expression)?;
+    spelled_out(alloc, words.as_slice())
+}
+
+// The expression that a word stands for, in any case.
+#[tactic(auto, unfolding(crate::specs::Event::expression_of))]
+fn expression(word: &[u8]) -> Option<&'static [u8]>
+    ensures { option_map (λ text. text.now) result ≡ expression_of word.now }
+{
+    if word.eq_ignore_ascii_case(b"minutely") {
+        Some(b"*-*-* *:*:00")
+    } else if word.eq_ignore_ascii_case(b"hourly") {
+        Some(b"*-*-* *:00:00")
+    } else if word.eq_ignore_ascii_case(b"daily") {
+        Some(b"*-*-* 00:00:00")
+    } else if word.eq_ignore_ascii_case(b"weekly") {
+        Some(b"Mon *-*-* 00:00:00")
+    } else if word.eq_ignore_ascii_case(b"monthly") {
+        Some(b"*-*-01 00:00:00")
+    } else if word.eq_ignore_ascii_case(b"quarterly") {
+        Some(b"*-01,04,07,10-01 00:00:00")
+    } else if word.eq_ignore_ascii_case(b"semiannually") {
+        Some(b"*-01,07-01 00:00:00")
+    } else if word.eq_ignore_ascii_case(b"yearly") || word.eq_ignore_ascii_case(b"annually") {
+        Some(b"*-01-01 00:00:00")
+    } else {
+        None
+    }
+}
+
+// Whether a word is made of letters alone and names no weekday.
+fn is_unknown_word(word: &[u8]) -> bool
+    ensures { result ≡ is_unknown_word word.now }
+{
+    is_of_letters(word) && weekday_of(word).is_none()
+}
+
+// Whether a word is made of ASCII letters alone.
+fn is_of_letters(word: &[u8]) -> bool
+    ensures { result ≡ list_all is_ascii_alphabetic word.now }
+{
+    word.iter().all(|byte| byte.is_ascii_alphabetic())
+}
+
+// The event of words that spell it out.
+#[tactic(auto, unfolding(crate::specs::Event::spelled_out))]
+fn spelled_out(alloc: Global, words: &[&[u8]]) -> Result<Calendar, RuleFault>
+    ensures { Gives result (spelled_out (map (λ word. word.now) words.now)) }
+{
+    let shape = shape_of(alloc, words)?;
+    event_of(alloc, shape)
+}
+
+// The event of a shape.
+#[tactic(auto, unfolding(crate::specs::Event::event_of))]
+fn event_of(alloc: Global, shape: Shape<'_>) -> Result<Calendar, RuleFault>
+    ensures { Gives result (event_of (shape_text shape.entry)) }
+{
+    let weekdays = weekdays_if_given(alloc, shape.weekdays)?;
+    Ok(Calendar {
+        years: Component::Year.values(alloc, shape.date.year)?,
+        months: Component::Month.values(alloc, shape.date.month)?,
+        days: day_component(shape.date.count).values(alloc, shape.date.day)?,
+        day_count: shape.date.count,
+        hours: Component::Hour.values(alloc, shape.time.hour)?,
+        minutes: Component::Minute.values(alloc, shape.time.minute)?,
+        seconds: Component::Second.values(alloc, shape.time.second)?,
+        weekdays,
+    })
+}
+
+// The weekdays, where there is a weekday part.
+fn weekdays_if_given(alloc: Global, text: Option<&[u8]>) -> Result<Option<ValueSet>, RuleFault>
+    ensures { Gives result (weekdays_if_given (option_map (λ text. text.now) text.entry)) }
+{
+    let Some(text) = text else {
+        return Ok(None);
+    };
+    Ok(Some(weekdays(alloc, text)?))
+}
+
+// The component that a text of days is.
+fn day_component(count: DayCount) -> Component
+    ensures { result ≡ day_component count }
+{
+    match count {
+        DayCount::FromStart => Component::Day,
+        DayCount::FromEnd => Component::Place,
+    }
+}
+
+#[cfg(test)]
+mod tests;

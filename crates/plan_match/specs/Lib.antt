@@ -1,0 +1,5 @@
+pub mod CalendarCode
+pub mod EventMatch
+pub mod Match
+pub mod WithinLimits
+pub mod Equal

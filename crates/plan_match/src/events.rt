@@ -1,0 +1,108 @@
+//! Lists of calendar events.
+ghost use Rattle.std.specs.Prelude.{◌≡◌, ◌++◌, ◌∷◌, [], length, slice_get, IfOk, IfErr, is_ok, if◌then◌else◌};
+ghost use Rattle.std.specs.Option.{option_copied};
+ghost use Rattle.plan_match.specs.EventMatch.{some_event_matches};
+
+use crate::event::Calendar;
+use plan_sets::Civil;
+use std::alloc::{AllocFailed, Global};
+use std::marker::Model;
+
+/// A list of calendar events, seen as that list: a job with it starts where any of them matches.
+#[derive(Debug, Drop)]
+pub struct Events {
+    calendars: Vec<Calendar>,
+}
+
+impl Model for Events {
+    ghost use Rattle.std.specs.Prelude.{List};
+    ghost use Rattle.plan_match.specs.declared.event.Calendar.{Calendar};
+
+    ghost Value = { List Calendar };
+
+    ghost use Rattle.std.specs.Coded.{coded_list};
+    ghost use Rattle.plan_match.specs.CalendarCode.{calendar_code};
+
+    ghost coded = { coded_list calendar_code };
+
+    ghost view = { λ events. events.calendars.items };
+}
+
+// Equal are lists with equal events in the same order.
+impl PartialEq for Events {
+    ghost use Rattle.std.specs.Prelude.{◌≡◌};
+    ghost use Rattle.plan_match.specs.Equal.{same_events, same_events_laws};
+
+    ghost eq = { same_events };
+
+    ghost laws = { same_events_laws };
+
+    fn eq(&self, other: &Events) -> bool
+        ensures { result ≡ same_events self.now other.now }
+    {
+        self.calendars == other.calendars
+    }
+}
+
+impl Eq for Events {
+    ghost use Rattle.plan_match.specs.Equal.{same_events_equivalence};
+
+    ghost laws = { same_events_equivalence };
+}
+
+impl Events {
+    /// The list with no event.
+    pub fn new(alloc: Global) -> Events
+        ensures { result ≡ [] }
+    {
+        Events {
+            calendars: Vec::new(alloc),
+        }
+    }
+
+    /// The list of one event; where memory is refused the event comes back.
+    pub fn one(alloc: Global, event: Calendar) -> Result<Events, AllocFailed<Calendar>>
+        ensures list { IfOk result (λ events. events ≡ event ∷ []) }
+        ensures returned { IfErr result (λ refused. refused.value ≡ event) }
+    {
+        let mut events = Events::new(alloc);
+        events.push(event)?;
+        Ok(events)
+    }
+
+    /// Adds an event at the end; where memory is refused the event comes back and the list is unchanged.
+    pub fn push(&mut self, event: Calendar) -> Result<(), AllocFailed<Calendar>>
+        ensures list { self.new ≡ (if is_ok result then self.old ++ event ∷ [] else self.old) }
+        ensures returned { IfErr result (λ refused. refused.value ≡ event) }
+    {
+        self.calendars.push(event)
+    }
+
+    /// Takes all events away.
+    pub fn clear(&mut self)
+        ensures { self.new ≡ [] }
+    {
+        self.calendars.clear();
+    }
+
+    /// How many events there are.
+    pub fn len(&self) -> usize
+        ensures { result ≡ length self.now }
+    {
+        self.calendars.len()
+    }
+
+    /// The event at a place, from 0; `None` past the last.
+    pub fn get(&self, i: usize) -> Option<&Calendar>
+        ensures { option_copied result ≡ slice_get self.now i }
+    {
+        self.calendars.get(i)
+    }
+
+    /// Whether some event admits the second that has these civil fields.
+    pub fn matches(&self, civil: &Civil) -> bool
+        ensures { result ≡ some_event_matches self.now civil.now }
+    {
+        self.calendars.iter().any(|event| event.matches(civil))
+    }
+}

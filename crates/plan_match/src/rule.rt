@@ -1,0 +1,60 @@
+//! The rule by which a job starts.
+
+ghost use Rattle.std.specs.Prelude.{◌≡◌, Bool};
+ghost use Rattle.plan_match.specs.Match.{rule_matches, cron_matches};
+
+use crate::cron::CronRule;
+use crate::events::Events;
+use plan_sets::Civil;
+
+/// When a job starts.
+#[derive(Debug, Drop)]
+pub enum Rule {
+    /// By the five fields of a crontab (crontab(5)).
+    Cron(CronRule),
+    /// By a list of calendar events, any of which may match (systemd.timer(5)).
+    Events(Events),
+    /// Never, as `@reboot` in a crontab: it has no start in any span.
+    Never,
+}
+
+/// Equal are rules of one kind with equal parts.
+impl PartialEq for Rule {
+    ghost use Rattle.std.specs.Prelude.{◌≡◌, ◌↔◌, IsTrue};
+    ghost use Rattle.plan_match.specs.Equal.{same_rule, same_rule_laws};
+
+    ghost eq = { same_rule };
+
+    ghost laws = { same_rule_laws };
+
+    fn eq(&self, other: &Rule) -> bool
+        ensures value { result ≡ same_rule self.now other.now }
+        ensures same { IsTrue result ↔ (self.now ≡ other.now) }
+    {
+        match (self, other) {
+            (Rule::Cron(first), Rule::Cron(second)) => first == second,
+            (Rule::Events(first), Rule::Events(second)) => first == second,
+            (Rule::Never, Rule::Never) => true,
+            _ => false,
+        }
+    }
+}
+
+impl Eq for Rule {
+    ghost use Rattle.plan_match.specs.Equal.{same_rule_equivalence};
+
+    ghost laws = { same_rule_equivalence };
+}
+
+impl Rule {
+    /// Whether a job with this rule starts at the second that has these civil fields. `Never` starts at none.
+    pub fn matches(&self, civil: &Civil) -> bool
+        ensures { result ≡ rule_matches self.now civil.now }
+    {
+        match self {
+            Rule::Cron(rule) => rule.matches(civil),
+            Rule::Events(events) => events.matches(civil),
+            Rule::Never => false,
+        }
+    }
+}

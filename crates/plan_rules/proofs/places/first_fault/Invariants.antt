@@ -1,7 +1,0 @@
-use Rattle.std.proofs.Common.{◌≡◌, take, None}
-use Rattle.plan_rules.specs.Event.{first_place_fault}
-use Rattle.plan_rules.proofs.places.first_fault.Given as goal
-
--- the items so far are faultless
-abbrev pub invariant-loop-item : goal.invariant-loop-item
-invariant-loop-item l = first_place_fault (take l.item-index l.items) ≡ None

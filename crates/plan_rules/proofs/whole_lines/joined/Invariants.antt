@@ -1,9 +1,0 @@
-use Rattle.std.proofs.Common.{◌≡◌, map}
-use Rattle.plan_rules.specs.WholeLines.{numbered_texts, joined}
-use Rattle.plan_rules.specs.Joining.{whole_with}
-use Rattle.plan_rules.proofs.WholeLinesLemmas.{rest_from}
-use Rattle.plan_rules.proofs.whole_lines.joined.Given as goal
-
-abbrev pub invariant-loop-place : goal.invariant-loop-place
-invariant-loop-place l =
-    whole_with l.joiner (rest_from l.place (map (λ line. line.now) l.lines)) ≡ joined (numbered_texts (map (λ line. line.now) l.lines))

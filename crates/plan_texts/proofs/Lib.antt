@@ -1,0 +1,4 @@
+pub mod TextLemmas
+pub mod NumberLemmas
+pub mod LinesLemmas
+pub mod WholeLinesLemmas

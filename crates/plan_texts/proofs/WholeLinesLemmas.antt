@@ -1,0 +1,64 @@
+-- Whole lines: where a text may be cut before what stands at its end, and how lines are joined one by one.
+use Rattle.std.proofs.Common.{◌≡◌, ℕ, ◌+◌, ◌-◌, ◌<◌, ◌≤◌, Bool, true, false, not, cond, List, [], ◌∷◌, length, drop, get_or, filter, map, reverse, refl, ap, sym, ◌∙◌, arith, inl, inr}
+use Rattle.std.proofs.lemmas.Bool.{cases_lt}
+use Rattle.std.proofs.lemmas.List.{drop_more, drop_all, drop-map, get_or-reverse}
+use Rattle.std.proofs.lemmas.List.Sums.{prefix_len_passes, suffix_len-le-length}
+use Rattle.std.proofs.lemmas.Str.{IsCharBoundary-end, IsCharBoundary-before_ascii}
+use Rattle.std.specs.List.{suffix_len, enumerate_from}
+use Rattle.std.specs.Str.{IsUtf8, IsCharBoundary}
+use Rattle.plan_texts.specs.Text.{is_blank}
+use Rattle.plan_texts.specs.WholeLines.{line_text, is_comment, with_line, numbered_texts, joined}
+use Rattle.plan_texts.specs.Joining.{with_raw_line}
+use Rattle.plan_texts.proofs.LinesLemmas.{blank_ascii}
+
+-- the first of those at the end that pass
+suffix_first : (p : ℕ → Bool) (text : List ℕ) → 0 < suffix_len p text → p (get_or text (length text - suffix_len p text) 0) ≡ true
+suffix_first p text some =
+    let n = suffix_len p text in
+    let whole : n ≤ length text = suffix_len-le-length p text in
+    let last : n - 1 < n = omega arith in
+    let inside : n - 1 < length text = omega arith in
+    let place : length text - 1 - (n - 1) ≡ length text - n = omega arith in
+    sym (ap p (get_or-reverse text (n - 1) 0 inside ∙ ap (λ k. get_or text k 0) place)) ∙ prefix_len_passes p (reverse text) (n - 1) 0 last
+
+-- before the blanks at its end a text may be cut
+pub boundary_before_blanks : (text : List ℕ) → IsUtf8 text → IsCharBoundary text (length text - suffix_len is_blank text)
+boundary_before_blanks text utf8 =
+    let n = suffix_len is_blank text in
+    let whole : n ≤ length text = suffix_len-le-length is_blank text in
+    elim (cases_lt 0 n) as (λ _. IsCharBoundary text (length text - suffix_len is_blank text)) [
+      | inl some ↦
+          let inside : length text - n < length text = omega arith in
+          IsCharBoundary-before_ascii text (length text - n) inside (blank_ascii _ (suffix_first is_blank text some))
+      | inr none ↦
+          let all : length text - suffix_len is_blank text ≡ length text = omega arith in
+          rw all (IsCharBoundary-end text)
+    ]
+
+-- ---- lines, one by one
+
+-- the whole lines of the lines from a place on
+abbrev pub rest_from : ℕ → List (List ℕ) → List (ℕ × List ℕ)
+rest_from place lines =
+    joined (filter (λ line. not (is_comment line.1)) (enumerate_from (place + 1) (map line_text (drop place lines))))
+
+pub rest_none : (lines : List (List ℕ)) → rest_from 0 lines ≡ joined (numbered_texts lines)
+rest_none lines = refl
+
+comment_or_line : (comment : Bool) (line : ℕ × List ℕ) (more : List (ℕ × List ℕ)) → joined (cond (not comment) (line ∷ more) more) ≡ cond comment (joined more) (with_line line (joined more))
+comment_or_line true line more = refl
+comment_or_line false line more = refl
+
+-- one line more
+pub rest_more : {A : Type 0} (v : A → List ℕ) (lines : List A) (place : ℕ) (d : A) → place < length lines → rest_from place (map v lines) ≡ with_raw_line (place + 1) (v (get_or lines place d)) (rest_from (place + 1) (map v lines))
+rest_more v lines place d inside =
+    let line = v (get_or lines place d) in
+    let split : drop place (map v lines) ≡ v (get_or lines place d) ∷ drop (place + 1) (map v lines) =
+    drop-map v place lines ∙ ap (map v) (drop_more lines place d inside) ∙ ap (λ more. v (get_or lines place d) ∷ more) (sym (drop-map v (place + 1) lines)) in
+    ap (λ left. joined (filter (λ l. not (is_comment l.1)) (enumerate_from (place + 1) (map line_text left)))) split
+    ∙ comment_or_line (is_comment (line_text line)) (place + 1, line_text line) (filter (λ l. not (is_comment l.1)) (enumerate_from (place + 1 + 1) (map line_text (drop (place + 1) (map v lines)))))
+
+-- past the last line nothing follows
+pub rest_all : {A : Type 0} (v : A → List ℕ) (lines : List A) (place : ℕ) → length lines ≤ place → rest_from place (map v lines) ≡ []
+rest_all v lines place past =
+    ap (λ left. joined (filter (λ l. not (is_comment l.1)) (enumerate_from (place + 1) (map line_text left)))) (drop-map v place lines ∙ ap (map v) (drop_all place lines past))

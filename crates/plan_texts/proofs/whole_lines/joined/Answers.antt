@@ -1,0 +1,18 @@
+use Rattle.std.proofs.Common.{◌≡◌, ◌+◌, [], map, ap, sym, ◌∙◌}
+use Rattle.std.proofs.lemmas.Result.{IfOk-weaker}
+use Rattle.plan_texts.specs.WholeLines.{whole_text, numbered_texts, joined}
+use Rattle.plan_texts.specs.Joining.{whole_with}
+use Rattle.plan_texts.proofs.WholeLinesLemmas.{rest_from, rest_more, rest_all}
+use Rattle.plan_texts.proofs.whole_lines.joined.Goals as goal
+
+pub loop-place-preserved : goal.loop-place-preserved
+loop-place-preserved c =
+    c.in_ok-add.ensures (rest_from (c.loop-place.place + 1) (map (λ line. line.now) c.args.lines.now))
+    ∙ ap (whole_with c.loop-place.joiner) (sym (rest_more (λ line. line.now) c.args.lines.now c.loop-place.place _ c.loop-place-test.true))
+    ∙ c.loop-place.invariant
+
+pub returns : goal.returns
+returns c =
+    IfOk-weaker c.end.result (λ whole. map whole_text whole.items ≡ whole_with c.loop-place.joiner []) (λ whole. map whole_text whole.items ≡ joined (numbered_texts (map (λ line. line.now) c.args.lines.now)))
+    (λ whole is. is ∙ ap (whole_with c.loop-place.joiner) (sym (rest_all (λ line. line.now) c.args.lines.now c.loop-place.place c.loop-place-test.false)) ∙ c.loop-place.invariant)
+    c.end.ensures

@@ -1,0 +1,67 @@
+-- The whole lines of a unit file (systemd.syntax(7)): its lines without the comments, of which those that end in a backslash
+-- are joined with the next. A whole line is the number of its first line, from 1, and its text.
+use Rattle.std.specs.Prelude.{ℕ, ◌-◌, ◌%◌, Bool, not, ◌||◌, ◌==◌, if◌then◌else◌, List, [], ◌∷◌, ◌++◌, length, take, filter, map, string_bytes}
+use Rattle.std.specs.List.{suffix_len, enumerate_from}
+use Rattle.std.specs.Str.{byte}
+use Rattle.std.specs.Str.Lines.{strip_carriage_return}
+use Rattle.plan_texts.specs.declared.whole_lines.WholeLine.{WholeLine}
+use Rattle.plan_texts.specs.Text.{is_blank, begins_with}
+use Rattle.plan_texts.specs.Lines.{lines, after_blanks}
+
+-- ---- one line
+
+-- the text of a line: one carriage return at its end isn't part of it (own), and blanks in front of it are ignored
+abbrev pub line_text : List ℕ → List ℕ
+line_text line = after_blanks (strip_carriage_return line)
+
+-- a line that begins with `#` or `;` is a comment (systemd.syntax(7))
+abbrev pub is_comment : List ℕ → Bool
+is_comment text = begins_with (λ b. (b == byte "#") || (b == byte ";")) text
+
+-- a line is joined with the next where it ends in an odd number of backslashes (systemd.syntax(7); own for the count)
+abbrev pub is_joined : List ℕ → Bool
+is_joined text = suffix_len (λ b. b == byte "\\") text % 2 == 1
+
+-- the last backslash of such a line is read as a space (systemd.syntax(7))
+abbrev pub with_space : List ℕ → List ℕ
+with_space text = take (length text - 1) text ++ byte " " ∷ []
+
+-- ---- all lines
+
+-- the lines that are no comments, each with its number; comments are skipped inside a joined line too (systemd.syntax(7))
+abbrev pub numbered_texts : List (List ℕ) → List (ℕ × List ℕ)
+numbered_texts lines = filter (λ line. not (is_comment line.1)) (enumerate_from 1 (map line_text lines))
+
+-- a text in front of the whole line that follows, if there is one: at the end of the file a joined line ends
+abbrev pub in_front : ℕ → List ℕ → List (ℕ × List ℕ) → List (ℕ × List ℕ)
+in_front number text [] = (number, text) ∷ []
+in_front number text (next ∷ more) = (number, text ++ next.1) ∷ more
+
+-- a line in front of the whole lines that follow
+abbrev pub with_line : ℕ × List ℕ → List (ℕ × List ℕ) → List (ℕ × List ℕ)
+with_line line whole = if is_joined line.1 then in_front line.0 (with_space line.1) whole else line ∷ whole
+
+-- lines that are joined where they end in a backslash
+abbrev pub joined : List (ℕ × List ℕ) → List (ℕ × List ℕ)
+joined [] = []
+joined (line ∷ more) = with_line line (joined more)
+
+-- the whole lines of a unit file's text
+unfoldable pub whole_lines : List ℕ → List (ℕ × List ℕ)
+whole_lines text = joined (numbered_texts (lines text))
+
+-- ---- blanks at both ends
+
+-- a text without the blanks at its end
+abbrev pub before_blanks : List ℕ → List ℕ
+before_blanks text = take (length text - suffix_len is_blank text) text
+
+-- a text without the blanks at both ends
+abbrev pub trimmed : List ℕ → List ℕ
+trimmed text = before_blanks (after_blanks text)
+
+-- ---- what the code holds
+
+-- the number and the text that a whole line holds
+abbrev pub whole_text : WholeLine → ℕ × List ℕ
+whole_text line = (line.number, string_bytes line.text)

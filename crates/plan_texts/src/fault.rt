@@ -1,0 +1,105 @@
+//! Why a text is no rule.
+
+use plan_sets::SetFault;
+use std::alloc::{AllocError, AllocFailed};
+use thiserror::Error;
+
+/// What is wrong with a part of a rule's text.
+#[derive(Clone, Copy, Debug, PartialEq, Eq, Error)]
+pub enum RuleCause {
+    /// 1: memory was refused; its part is 0.
+    #[error("NoMemory")]
+    NoMemory,
+    /// 2: a part is missing, empty, or not allowed where it stands.
+    #[error("WrongParts")]
+    WrongParts,
+    /// 3: a value or a step is no number of 1 to 4 digits.
+    #[error("BadNumber")]
+    BadNumber,
+    /// 4: a name isn't known where it stands. In a field of a crontab a value that begins with a letter is a name.
+    #[error("BadName")]
+    BadName,
+    /// 5: the values of a part are no set.
+    #[error("{0}")]
+    Values(SetFault),
+    /// 6: a second, or its step, is written with a fraction.
+    #[error("Fraction")]
+    Fraction,
+    /// 7: the time zone isn't UTC.
+    #[error("Zone")]
+    Zone,
+    /// 8: a word that stands for a whole rule isn't known.
+    #[error("UnknownWord")]
+    UnknownWord,
+    /// 9: the text holds a specifier, which begins with `%`.
+    #[error("Specifier")]
+    Specifier,
+}
+
+/// The first fault of a rule's text.
+#[derive(Clone, Copy, Debug, PartialEq, Eq, Error)]
+#[error("{cause}")]
+pub struct RuleFault {
+    /// The part of the text, from 1; 0 is the whole text.
+    pub part: u8,
+    /// What is wrong with it.
+    pub cause: RuleCause,
+}
+
+impl From<AllocError> for RuleFault {
+    ghost use Rattle.std.specs.Prelude.{◌≡◌};
+    ghost use Rattle.plan_texts.specs.Steps.{memory_refused};
+
+    ghost from_gives = { λ _ fault. fault ≡ memory_refused };
+
+    fn from(_refused: AllocError) -> RuleFault {
+        RuleFault {
+            part: 0,
+            cause: RuleCause::NoMemory,
+        }
+    }
+}
+
+impl<T: Drop> From<AllocFailed<T>> for RuleFault {
+    ghost use Rattle.std.specs.Prelude.{◌≡◌};
+    ghost use Rattle.plan_texts.specs.Steps.{memory_refused};
+
+    ghost from_gives = { λ _ fault. fault ≡ memory_refused };
+
+    fn from(_refused: AllocFailed<T>) -> RuleFault {
+        RuleFault {
+            part: 0,
+            cause: RuleCause::NoMemory,
+        }
+    }
+}
+
+#[cfg(test)]
+mod tests {
+    use super::*;
+    use std::test::Fail;
+
+    #[test]
+    fn names_of_faults(rt: HostRuntime) -> Result<(), Fail> {
+        let rows = [
+            (RuleCause::NoMemory, "NoMemory"),
+            (RuleCause::WrongParts, "WrongParts"),
+            (RuleCause::BadNumber, "BadNumber"),
+            (RuleCause::BadName, "BadName"),
+            (RuleCause::Values(SetFault::NoItem), "NoItem"),
+            (RuleCause::Values(SetFault::OutOfRange), "OutOfRange"),
+            (RuleCause::Values(SetFault::Backwards), "Backwards"),
+            (RuleCause::Values(SetFault::ZeroStep), "ZeroStep"),
+            (RuleCause::Fraction, "Fraction"),
+            (RuleCause::Zone, "Zone"),
+            (RuleCause::UnknownWord, "UnknownWord"),
+            (RuleCause::Specifier, "Specifier"),
+        ];
+        for (cause, name) in rows {
+            assert_eq!(rt; format!(in rt.alloc(); "{cause}")?.as_str(), name);
+            let fault = RuleFault { part: 1, cause };
+            assert_eq!(rt; format!(in rt.alloc(); "{fault}")?.as_str(), name);
+        }
+        Ok(())
+    }
+}

@@ -1,0 +1,149 @@
+//! The whole lines of a unit file (systemd.syntax(7)).
+
+ghost use Rattle.std.specs.Prelude.{◌≡◌, ◌≤◌, ◌==◌, IfOk, OnOk, [], ℕ, List, length, map, take, ◌-◌, if◌then◌else◌, Some, None};
+ghost use Rattle.std.specs.List.{suffix_len};
+ghost use Rattle.std.specs.Option.{option_map};
+ghost use Rattle.plan_texts.specs.Limits.{most_bytes};
+ghost use Rattle.plan_texts.specs.Text.{is_blank};
+ghost use Rattle.plan_texts.specs.WholeLines.{line_text, is_comment, is_joined, numbered_texts, joined, whole_lines, trimmed, whole_text};
+
+use crate::lines::{after_blanks, lines};
+use crate::parts::is_blank;
+use std::alloc::{AllocError, Global};
+
+/// A whole line: a line of a unit file, or several that are joined.
+#[derive(Debug, Drop)]
+pub struct WholeLine {
+    /// The number of its first line, from 1.
+    pub number: u32,
+    /// What it says, with a space for each backslash that joined it.
+    pub text: String,
+}
+
+/// The whole lines of a text of at most 1,048,576 bytes. One carriage return at a line's end and the blanks in front of it
+/// aren't part of it; blanks at its end stay. Comments, which begin with `#` or `;`, are skipped, and a line that ends in an
+/// odd number of backslashes is joined with the next line that isn't skipped, its last backslash read as a space.
+#[tactic(auto, unfolding(crate::specs::WholeLines::whole_lines))]
+pub fn whole_lines(alloc: Global, text: &str) -> Result<Vec<WholeLine>, AllocError>
+    requires { length text.now ≤ most_bytes }
+    ensures { IfOk result (λ whole. map whole_text whole.items ≡ whole_lines text.now) }
+{
+    let lines = lines(alloc, text)?;
+    joined(alloc, lines.as_slice())
+}
+
+// The whole lines of lines.
+fn joined(alloc: Global, lines: &[&str]) -> Result<Vec<WholeLine>, AllocError>
+    requires { length lines.now ≤ most_bytes }
+    ensures { IfOk result (λ whole. map whole_text whole.items
+        ≡ joined (numbered_texts (map (λ line. line.now) lines.now))) }
+{
+    let mut joiner = Joiner {
+        whole: Vec::new(alloc),
+        open: None,
+    };
+    for (place, line) in lines.iter().enumerate() {
+        joiner.add(alloc, place as u32 + 1, line)?;
+    }
+    joiner.end()
+}
+
+/// A text without the blanks at both ends.
+pub fn trimmed(text: &str) -> &str
+    ensures { result.now ≡ trimmed text.now }
+{
+    let text = after_blanks(text);
+    &text[..text.len() - blanks_at_end(text.as_bytes())]
+}
+
+// How many blanks stand at the end of a text.
+fn blanks_at_end(text: &[u8]) -> usize
+    ensures { result ≡ suffix_len is_blank text.now }
+{
+    text.iter()
+        .rev()
+        .take_while(|byte| is_blank(**byte))
+        .count()
+}
+
+// How many backslashes stand at the end of a text.
+fn backslashes_at_end(text: &[u8]) -> usize
+    ensures { result ≡ suffix_len (λ b. b == 92) text.now }
+{
+    text.iter().rev().take_while(|byte| **byte == b'\\').count()
+}
+
+// The text of a line: without one carriage return at its end and without the blanks in front.
+fn line_text(line: &str) -> &str
+    ensures { result.now ≡ line_text line.now }
+{
+    let line = match line.as_bytes() {
+        [.., b'\r'] => &line[..line.len() - 1],
+        _ => line,
+    };
+    after_blanks(line)
+}
+
+// Whether a line is a comment.
+fn is_comment(text: &str) -> bool
+    ensures { result ≡ is_comment text.now }
+{
+    matches!(text.as_bytes(), [b'#' | b';', ..])
+}
+
+// What stands before the last backslash of a line that is joined with the next; `None` for any other line.
+fn before_backslash(text: &str) -> Option<&str>
+    ensures { option_map (λ front. front.now) result
+        ≡ (if is_joined text.now then Some (take (length text.now - 1) text.now) else None) }
+{
+    if backslashes_at_end(text.as_bytes()) % 2 == 0 {
+        return None;
+    }
+    Some(&text[..text.len() - 1])
+}
+
+// The whole lines so far, and the one that is still to be joined with the next line.
+#[derive(Drop)]
+struct Joiner {
+    whole: Vec<WholeLine>,
+    open: Option<WholeLine>,
+}
+
+impl Joiner {
+    ghost use Rattle.plan_texts.specs.Joining.{whole_with, with_raw_line};
+
+    // Reads a line.
+    fn add(&mut self, alloc: Global, number: u32, line: &str) -> Result<(), AllocError>
+        ensures { OnOk result ((rest : List (ℕ × List ℕ))
+            → whole_with self.new rest ≡ whole_with self.old (with_raw_line number line.now rest)) }
+    {
+        let text = line_text(line);
+        if is_comment(text) {
+            return Ok(());
+        }
+        let mut whole = self.open.take().unwrap_or(WholeLine {
+            number,
+            text: String::new(alloc),
+        });
+        if let Some(front) = before_backslash(text) {
+            whole.text.push_str(front)?;
+            whole.text.push_str(" ")?;
+            self.open = Some(whole);
+            return Ok(());
+        }
+        whole.text.push_str(text)?;
+        self.whole.push(whole)?;
+        Ok(())
+    }
+
+    // The whole lines, once all lines are read.
+    fn end(self) -> Result<Vec<WholeLine>, AllocError>
+        ensures { IfOk result (λ whole. map whole_text whole.items ≡ whole_with self []) }
+    {
+        let Joiner { mut whole, open } = self;
+        if let Some(line) = open {
+            whole.push(line)?;
+        }
+        Ok(whole)
+    }
+}
