@@ -1,21 +1,23 @@
--- The first start of a list of events is the earliest of theirs.
-use Rattle.std.proofs.Common.{◌≡◌, ℕ, ◌+◌, zero, suc, length, ◌≤◌, Bool, true, false, ◌||◌, List, [], ◌∷◌, ◌++◌, Option, None, Some, Bor, take, refl, ap, sym, ◌∙◌, arith}
-use Rattle.std.specs.Prelude.{slice_get, unwrap_or}
+-- The starts of a list of events are those of its events.
+use Rattle.std.proofs.Common.{◌≡◌, ℕ, ◌+◌, zero, suc, length, ◌<◌, ◌≤◌, Bool, true, false, ◌&&◌, ◌||◌, List, [], ◌∷◌, ◌++◌, Option, None, Some, inl, inr, Bor, take, take_all, refl, ap, sym, ◌∙◌, arith}
+use Rattle.std.specs.Prelude.{min, nat_lt, slice_get, unwrap_or}
 use Rattle.std.specs.Option.{option_or}
+use Rattle.std.proofs.lemmas.Bool.{cases_lt, lt-ltb}
 use Rattle.std.proofs.lemmas.List.{take_more}
 use Rattle.std.proofs.lemmas.List.Folds.{list_any-append}
 use Rattle.std.proofs.lemmas.Option.{slice_get_within, get_or_from_slice_get}
-use Rattle.plan_next.specs.declared.search.Pattern.TheVariants.{Event}
-use Rattle.plan_next.specs.Search.{admits_moment}
-use Rattle.plan_next.proofs.PassingLemmas.{IsFirstIn-same}
-use Rattle.plan_next.proofs.StartsLemmas.{event_matches-moment}
+use Rattle.plan_sets.specs.Limits.{end_second}
 use Rattle.plan_sets.specs.Civil.{civil_fields}
-use Rattle.plan_rules.specs.declared.event.Calendar.{Calendar}
-use Rattle.plan_rules.specs.EventMatch.{event_matches, some_event_matches}
-use Rattle.plan_next.specs.Starts.{IsFirstIn}
-
-either : (ℕ → Bool) → (ℕ → Bool) → ℕ → Bool
-either p q n = p n || q n
+use Rattle.plan_match.specs.declared.event.Calendar.{Calendar}
+use Rattle.plan_match.specs.declared.rule.Rule.TheVariants as rule
+use Rattle.plan_match.specs.EventMatch.{event_matches, some_event_matches}
+use Rattle.plan_next.specs.declared.search.Pattern.TheVariants.{Event}
+use Rattle.plan_next.specs.Next.{matches_at, IsNextIn}
+use Rattle.plan_next.specs.Search.{admits_moment}
+use Rattle.plan_next.specs.Starts.{IsFirstIn, is_start}
+use Rattle.plan_next.proofs.FirstLemmas.{IsFirstIn-same}
+use Rattle.plan_next.proofs.NextsLemmas.{IsNextIn-same}
+use Rattle.plan_next.proofs.StartsLemmas.{event_matches-moment}
 
 or_false : (a b : Bool) → a ≡ false → b ≡ false → (a || b) ≡ false
 or_false a b h k = rw (h, k) refl
@@ -28,7 +30,7 @@ or_right true b h = refl
 or_right false b h = h
 
 -- where the second answer is searched up to the first one, it is the first of both tests where there is one
-pub IsFirstIn-narrowed : (p q : ℕ → Bool) (a b : ℕ) (first second : Option ℕ) → IsFirstIn p a b first → IsFirstIn q a (unwrap_or first b) second → IsFirstIn (λ n. p n || q n) a b (option_or second first)
+IsFirstIn-narrowed : (p q : ℕ → Bool) (a b : ℕ) (first second : Option ℕ) → IsFirstIn p a b first → IsFirstIn q a (unwrap_or first b) second → IsFirstIn (λ n. p n || q n) a b (option_or second first)
 IsFirstIn-narrowed p q a b None None h k = λ n low high. or_false (p n) (q n) (h n low high) (k n low high)
 IsFirstIn-narrowed p q a b None (Some m) h (low, high, is, none) =
     (low, high, or_right (p m) (q m) is, λ n from to. or_false (p n) (q n) (h n from (omega arith)) (none n from to))
@@ -37,14 +39,21 @@ IsFirstIn-narrowed p q a b (Some m) None (low, high, is, none) k =
 IsFirstIn-narrowed p q a b (Some m) (Some k) (low, high, is, none) (low₂, high₂, is₂, none₂) =
     (low₂, omega arith, or_right (p k) (q k) is₂, λ n from to. or_false (p n) (q n) (none n from (omega arith)) (none₂ n from to))
 
--- the part that is left for the next event
-pub record IsLeft (a b before : ℕ) : Type 0 where
-  pub from : a ≤ before
-  pub to : before ≤ b
-
-pub IsLeft-first : (p : ℕ → Bool) (a b : ℕ) (first : Option ℕ) → a ≤ b → IsFirstIn p a b first → IsLeft a b (unwrap_or first b)
-IsLeft-first p a b None le none = record { from = le; to = omega arith }
-IsLeft-first p a b (Some m) le (low, high, is, none) = record { from = low; to = omega arith }
+-- the earlier of two next numbers is the next of both tests
+IsNextIn-min : (p q : ℕ → Bool) (a b n m : ℕ) → IsNextIn p a b n → IsNextIn q a b m → IsNextIn (λ k. p k || q k) a b (min n m)
+IsNextIn-min p q a b n m first second =
+    let from = first.from in
+    let from_second = second.from in
+    let to = first.to in
+    record {
+      from = omega arith;
+      to = omega arith;
+      none = λ k low high. or_false (p k) (q k) (first.none k low (omega arith)) (second.none k low (omega arith));
+      is = λ lt. elim (cases_lt n m) [
+        | inl before ↦ let here : min n m ≡ n = omega arith in rw here (or_left (p n) (q n) (first.is (omega arith)))
+        | inr after ↦ let here : min n m ≡ m = omega arith in rw here (or_right (p m) (q m) (second.is (omega arith)))
+      ];
+    }
 
 -- some event of the list matches the fields of second n
 abbrev pub matched_by : List Calendar → ℕ → Bool
@@ -58,15 +67,42 @@ or_none : (b : Bool) → (b || false) ≡ b
 or_none true = refl
 or_none false = refl
 
--- one more event
+matched_by-more : (events : List Calendar) (i n : ℕ) (event : Calendar) → slice_get events i ≡ Some event → (matched_by (take i events) n || matches_at event n) ≡ matched_by (take (i + 1) events) n
+matched_by-more events i n event is =
+    sym (ap (λ xs. matched_by xs n) (one_more events i event is)
+    ∙ list_any-append (λ e. event_matches e (civil_fields n)) (take i events) (event ∷ [])
+    ∙ ap (λ b. matched_by (take i events) n || b) (or_none (matches_at event n)))
+
+-- one more event, searched up to the first start so far
 pub more_events : (events : List Calendar) (i since end : ℕ) (event : Bor Calendar) (first found : Option ℕ) → slice_get events i ≡ Some event.now → IsFirstIn (matched_by (take i events)) since end first → IsFirstIn (admits_moment (Event event)) since (unwrap_or first end) found → IsFirstIn (matched_by (take (i + 1) events)) since end (option_or found first)
 more_events events i since end event first found is so_far next =
     let both = IsFirstIn-narrowed (matched_by (take i events)) (admits_moment (Event event)) since end first found so_far next in
     IsFirstIn-same (λ n. matched_by (take i events) n || admits_moment (Event event) n) (matched_by (take (i + 1) events)) since end (option_or found first)
-    (λ n h. sym (ap (λ xs. matched_by xs n) (one_more events i event.now is)
-    ∙ list_any-append (λ e. event_matches e (civil_fields n)) (take i events) (event.now ∷ [])
-    ∙ ap (λ b. matched_by (take i events) n || b) (or_none (event_matches event.now (civil_fields n)) ∙ sym (event_matches-moment event n))))
+    (λ n h. ap (λ b. matched_by (take i events) n || b) (event_matches-moment event n) ∙ matched_by-more events i n event.now is)
     both
+
+-- one more event, whose next start is known
+pub more_nexts : (events : List Calendar) (i from end earliest next : ℕ) (event : Calendar) → slice_get events i ≡ Some event → IsNextIn (matched_by (take i events)) from end earliest → IsNextIn (matches_at event) from end next → IsNextIn (matched_by (take (i + 1) events)) from end (min earliest next)
+more_nexts events i from end earliest next event is so_far more =
+    IsNextIn-same (λ n. matched_by (take i events) n || matches_at event n) (matched_by (take (i + 1) events)) from end (min earliest next)
+    (λ n h. matched_by-more events i n event is)
+    (IsNextIn-min (matched_by (take i events)) (matches_at event) from end earliest next so_far more)
+
+-- all events
+pub all_nexts : (events : List Calendar) (i from end n : ℕ) → length events ≤ i → end ≤ end_second → IsNextIn (matched_by (take i events)) from end n → IsNextIn (is_start (rule.Events events)) from end n
+all_nexts events i from end n all years so_far =
+    IsNextIn-same (matched_by (take i events)) (is_start (rule.Events events)) from end n
+    (λ k h. let known : nat_lt k end_second ≡ true = lt-ltb _ _ (omega arith) in rw (known, take_all i events all) refl)
+    so_far
+
+-- an event of the list that matches is a start
+pub is_start-event : (events : List Calendar) (k n : ℕ) (event : Calendar) → slice_get events k ≡ Some event → matches_at event n ≡ true → matched_by events n ≡ true
+is_start-event [] k n event is h = absurd (cc)
+is_start-event (first ∷ events) zero n event is h =
+    let same : first ≡ event = cc in
+    or_left (matches_at first n) (matched_by events n) (ap (λ e. matches_at e n) same ∙ h)
+is_start-event (first ∷ events) (suc k) n event is h =
+    or_right (matches_at first n) (matched_by events n) (is_start-event events k n event is h)
 
 pub none_past : (events : List Calendar) (i : ℕ) → slice_get events i ≡ None → length events ≤ i
 none_past [] i is = omega arith

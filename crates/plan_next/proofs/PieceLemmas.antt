@@ -1,13 +1,13 @@
 -- Starts that are found one after another.
-use Rattle.std.proofs.Common.{◌≡◌, ℕ, ◌+◌, ◌-◌, ◌<◌, ◌≤◌, true, false, List, [], ◌∷◌, ◌++◌, length, take, get_or, nat_le, refl, ap, sym, ◌∙◌, arith, append-nil, take_all}
-use Rattle.std.proofs.lemmas.Bool.{le-leb, lt-leb}
+use Rattle.std.proofs.Common.{◌≡◌, ℕ, ◌+◌, ◌-◌, ◌<◌, ◌≤◌, true, false, List, [], ◌∷◌, ◌++◌, length, take, get_or, nat_le, inl, inr, refl, ap, sym, ◌∙◌, arith, append-nil, take_all}
+use Rattle.std.proofs.lemmas.Bool.{cases_lt, le-leb, lt-leb}
 use Rattle.std.proofs.lemmas.List.{length_push, get_or_append_left, take-append-le}
 use Rattle.std.proofs.Math.Seq.{get_or-append_seam}
 use Rattle.std.proofs.Common.{length-append}
-use Rattle.plan_rules.specs.declared.rule.Rule.{Rule}
+use Rattle.plan_match.specs.declared.rule.Rule.{Rule}
 use Rattle.plan_next.specs.Starts.{NoneIn, IsLeastIn, is_start, starts}
 use Rattle.plan_next.specs.Piece.{piece_end}
-use Rattle.plan_next.proofs.PassingLemmas.{passing-append, passing-none, passing-least}
+use Rattle.plan_next.specs.StartsLaws.{passing-append, passing-none, passing-least}
 
 -- all starts of a part up to a second were found, at most `most`, the last of them just before that second
 pub record AreFound (rule : Rule) (since upto most : ℕ) (found : List ℕ) (reached : ℕ) : Type 0 where
@@ -81,3 +81,15 @@ full_piece rule since upto most reached n found so_far full some least =
       all = so_far.all;
       first = rw all (sym (take-append-le most found (n ∷ rest) (omega arith) ∙ take_all most found (omega arith)));
     }
+
+-- a piece does not end before it begins
+pub piece_ordered : (rule : Rule) (since upto most end : ℕ) → since ≤ upto → end ≡ piece_end rule since upto most → (since < upto → since < end) → since ≤ end
+piece_ordered rule since upto most end part is moves =
+    elim (cases_lt since upto) [
+      | inl before ↦ (let after = moves before in omega arith)
+      | inr none ↦ (
+          let empty : starts rule since upto ≡ [] = passing-none (is_start rule) since upto (λ n low high. absurd (omega arith)) in
+          let few : nat_le 0 most ≡ true = le-leb 0 most (omega arith) in
+          let whole : end ≡ upto = is ∙ (rw (empty, few) refl) in
+          omega arith)
+    ]

@@ -1,24 +1,24 @@
--- What is searched part by part is searched as a whole.
-use Rattle.std.proofs.Common.{◌≡◌, ℕ, ◌+◌, ◌-◌, ◌*◌, ◌/◌, ◌%◌, ◌<◌, ◌≤◌, Bool, true, false, ◌&&◌, inl, inr, refl, sym, ◌∙◌, subst, arith}
-use Rattle.std.specs.Prelude.{max}
-use Rattle.std.proofs.lemmas.Bool.{cases_lt, cases_Bool, true≢false, false≢true}
+-- What is searched month by month is searched as a whole.
+use Rattle.std.proofs.Common.{◌≡◌, ℕ, ◌+◌, ◌-◌, ◌*◌, ◌/◌, ◌%◌, ◌<◌, ◌≤◌, Bool, true, false, ◌&&◌, Option, Some, None, inl, inr, refl, ap, sym, ◌∙◌, subst, arith}
+use Rattle.std.specs.Prelude.{min}
 use Rattle.std.specs.Int.{IsInRange}
-use Rattle.plan_sets.specs.Civil.{civil_fields}
-use Rattle.plan_sets.specs.Months.{month_number, IsFirstDay}
+use Rattle.std.proofs.lemmas.Bool.{cases_lt, cases_Bool, true≢false, false≢true}
 use Rattle.plan_sets.specs.declared.civil.Civil.{Civil}
-use Rattle.plan_sets.specs.declared.civil.TheConstants.{SECONDS_A_DAY}
-use Rattle.plan_sets.proofs.CivilLemmas.{IsCivilOf-civil_fields}
-use Rattle.plan_sets.proofs.MonthLemmas.{ComesBefore, ComesBefore-first_day, IsInRange-month_number, month_number-mono}
+use Rattle.plan_sets.specs.Limits.{end_second, seconds_a_day}
+use Rattle.plan_sets.specs.Civil.{civil_fields}
+use Rattle.plan_sets.specs.CivilLaws.{IsCivilOf-civil_fields}
+use Rattle.plan_sets.specs.Months.{days_of_month, month_number, ComesBefore, IsFirstDay}
+use Rattle.plan_sets.specs.MonthsLaws.{civil_fields-of_month, ComesBefore-first_day, IsFirstDay-le_end, IsFirstDay-next, IsInRange-month_number}
+use Rattle.plan_sets.specs.Values.{has_value}
+use Rattle.plan_next.specs.declared.month.Month.{Month}
 use Rattle.plan_next.specs.declared.search.Pattern.{Pattern}
 use Rattle.plan_next.specs.declared.search.Pattern.TheVariants.{Cron, Event}
-use Rattle.plan_next.specs.declared.search.TheConstants.{END_DAY, END_MONTH, FIRST_MONTH}
 use Rattle.plan_next.specs.Starts.{NoneIn, IsLeastIn}
-use Rattle.plan_next.specs.Search.{admits_date, admits_day, admits_month, admits_month_number, admits_year}
-use Rattle.plan_sets.specs.Values.{has_value}
+use Rattle.plan_next.specs.Search.{admits_date, admits_day, admits_month, admits_month_number, admits_year, end_day, end_month, IsFirstOpen, IsMonth}
 
 -- the month of a day, by its day number
 abbrev pub month_of_day : ℕ → ℕ
-month_of_day day = month_number (civil_fields (day * SECONDS_A_DAY))
+month_of_day day = month_number (civil_fields (day * seconds_a_day))
 
 -- ---- laws of each kind of pattern
 
@@ -54,106 +54,154 @@ month_here pattern year month (low, high) has_year has_month =
     rw (same, same_month, has_year, has_month) refl
 
 -- no day of a month that isn't admitted is admitted
-no_day_of_month : (pattern : Pattern) (day : ℕ) → day < END_DAY → admits_month_number pattern (month_of_day day) ≡ false → admits_day pattern day ≡ false
+no_day_of_month : (pattern : Pattern) (day : ℕ) → day < end_day → admits_month_number pattern (month_of_day day) ≡ false → admits_day pattern day ≡ false
 no_day_of_month pattern day h none =
     elim (cases_Bool (admits_day pattern day)) [
       | inl some ↦
-          let c = civil_fields (day * SECONDS_A_DAY) in
-          let fields = IsCivilOf-civil_fields (day * SECONDS_A_DAY) (omega arith) in
+          let c = civil_fields (day * seconds_a_day) in
+          let fields = IsCivilOf-civil_fields (day * seconds_a_day) (omega arith) in
           let has = HasMonth-date pattern c some in
           absurd (true≢false (sym (month_here pattern c.year c.month fields.date.1 has.year has.month) ∙ none))
       | inr not ↦ not
     ]
 
-day_of_first_second : (day : ℕ) → day * SECONDS_A_DAY / SECONDS_A_DAY ≡ day
+day_of_first_second : (day : ℕ) → day * seconds_a_day / seconds_a_day ≡ day
 day_of_first_second day = omega arith
 
 -- the first day of a month against any day
-ComesBefore-day : (month first day : ℕ) → month ≤ END_MONTH → IsFirstDay month first → day < END_DAY → ComesBefore month first day (civil_fields (day * SECONDS_A_DAY))
+ComesBefore-day : (month first day : ℕ) → month ≤ end_month → IsFirstDay month first → day < end_day → ComesBefore month first day (civil_fields (day * seconds_a_day))
 ComesBefore-day month first day known is h =
-    let fact = ComesBefore-first_day month first (day * SECONDS_A_DAY) (omega arith) is (omega arith) in
-    subst (λ d. ComesBefore month first d (civil_fields (day * SECONDS_A_DAY))) (day_of_first_second day) fact
+    let fact = ComesBefore-first_day month first (day * seconds_a_day) (omega arith) is (omega arith) in
+    subst (λ d. ComesBefore month first d (civil_fields (day * seconds_a_day))) (day_of_first_second day) fact
 
--- no day from `from` on that comes before the month is admitted
-pub record IsSearched (pattern : Pattern) (from month : ℕ) : Type 0 where
-  pub known : IsInRange FIRST_MONTH END_MONTH month
-  pub none : (day : ℕ) → from ≤ day → day < END_DAY → month_of_day day < month → admits_day pattern day ≡ false
+-- the end of a month is the first day of the next
+pub IsFirstDay-end_of : (month : Month) → IsMonth month → IsFirstDay (month.number + 1) month.end
+IsFirstDay-end_of month is =
+    let low = is.to in
+    rw is.end_is (IsFirstDay-next month.number month.first (omega arith) is.first_day)
 
--- a month was found, which begins at the day `first` and before which no further month is admitted
-pub record IsNextMonth (pattern : Pattern) (from month next first : ℕ) : Type 0 where
-  pub searched : IsSearched pattern from month
-  pub least : IsLeastIn (admits_month_number pattern) month END_MONTH next
-  pub first_day : IsFirstDay next first
+pub ends_in_years : (month : Month) → IsMonth month → month.end ≤ end_day
+ends_in_years month is =
+    let high = is.to in
+    IsFirstDay-le_end (month.number + 1) month.end (omega arith) (IsFirstDay-end_of month is)
 
-none_earlier : (pattern : Pattern) (from month next first day : ℕ) → IsNextMonth pattern from month next first → from ≤ day → day < END_DAY → month_of_day day < next → admits_day pattern day ≡ false
-none_earlier pattern from month next first day found low high lt =
-    elim (cases_lt (month_of_day day) month) [
-      | inl before ↦ found.searched.none day low high before
-      | inr after ↦ no_day_of_month pattern day high (found.least.3 (month_of_day day) after lt)
+-- a day from the end of a month on is one of a later month
+month_past : (month : Month) (day : ℕ) → IsMonth month → month.end ≤ day → day < end_day → month.number + 1 ≤ month_of_day day
+month_past month day is from known =
+    let high = is.to in
+    let at_end = ComesBefore-day (month.number + 1) month.end day (omega arith) (IsFirstDay-end_of month is) known in
+    elim (cases_lt (month_of_day day) (month.number + 1)) [
+      | inl lt ↦ absurd (omega (arith, at_end.before lt))
+      | inr le ↦ le
     ]
 
--- no day before the found month is admitted
-pub none_before : (pattern : Pattern) (from month next first end : ℕ) → IsNextMonth pattern from month next first → end ≤ first → end ≤ END_DAY → NoneIn (admits_day pattern) from end
-none_before pattern from month next first end found begins known day low high =
-    let in_years : next < END_MONTH = found.least.1 in
-    let at_first = ComesBefore-day next first day (omega arith) found.first_day (omega arith) in
-    elim (cases_lt (month_of_day day) next) [
-      | inl before ↦ none_earlier pattern from month next first day found low (omega arith) before
-      | inr after ↦ absurd (omega (arith, at_first.from after))
+-- a day before a month is one of an earlier month
+month_before : (month : Month) (day : ℕ) → IsMonth month → day < month.first → day < end_day → month_of_day day < month.number
+month_before month day is until known =
+    let high = is.to in
+    let at_first = ComesBefore-day month.number month.first day (omega arith) is.first_day known in
+    elim (cases_lt (month_of_day day) month.number) [
+      | inl lt ↦ lt
+      | inr le ↦ absurd (omega (arith, at_first.from le))
     ]
 
--- no day up to some day of the found month is admitted, where none from its first day on is
-none_until : (pattern : Pattern) (from month next first end start until day : ℕ) → IsNextMonth pattern from month next first → IsFirstDay (next + 1) end → start ≡ max from first → until ≤ end → until ≤ END_DAY → NoneIn (admits_day pattern) start until → from ≤ day → day < until → admits_day pattern day ≡ false
-none_until pattern from month next first end start until day found end_day begins ends known none low high =
-    let in_years : next < END_MONTH = found.least.1 in
-    let at_first = ComesBefore-day next first day (omega arith) found.first_day (omega arith) in
-    let at_end = ComesBefore-day (next + 1) end day (omega arith) end_day (omega arith) in
-    elim (cases_lt (month_of_day day) next) [
-      | inl before ↦ none_earlier pattern from month next first day found low (omega arith) before
-      | inr after ↦ elim (cases_lt next (month_of_day day)) [
-        | inl later ↦ absurd (omega (arith, at_end.from (omega arith)))
-        | inr here ↦ none day (omega (arith, at_first.from after)) high
-      ]
+month_in_years : (day : ℕ) → day < end_day → month_of_day day < end_month
+month_in_years day h = (IsInRange-month_number (day * seconds_a_day) (omega arith)).1
+
+day_of : (month : Month) (day : ℕ) → IsMonth month → month.first ≤ day → day < month.end → (civil_fields (day * seconds_a_day)).day ≡ day - month.first + 1
+day_of month day is from to =
+    let known = ends_in_years month is in
+    let last = is.to in
+    let length = is.end_is in
+    ap (λ (c : Civil). c.day) (civil_fields-of_month month.number month.first day (omega arith) is.first_day from (omega arith) (omega arith))
+
+-- the search of a month from `from` on has come to a day, and knows where the days of the month go on
+pub record IsOpen (pattern : Pattern) (month : Month) (from day : ℕ) (place : Option ℕ) : Type 0 where
+  pub known : IsMonth month
+  pub start : month.first ≤ from
+  pub low : from ≤ day
+  pub none : NoneIn (admits_day pattern) from day
+  pub goes_on : IsFirstOpen pattern (day - month.first + 1) place
+
+-- no day of a month before the next open one is admitted
+pub not_open : (pattern : Pattern) (month : Month) (from day first k : ℕ) → IsOpen pattern month from day (Some first) → from ≤ k → k < month.first + (first - 1) → k < month.end → admits_day pattern k ≡ false
+not_open pattern month from day first k is low before within =
+    let start = is.start in
+    let from_low = is.low in
+    let here = day_of month k is.known (omega arith) within in
+    elim (cases_lt k day) [
+      | inl earlier ↦ is.none k low earlier
+      | inr after ↦ is.goes_on.1 (civil_fields (k * seconds_a_day)) (omega arith) (omega arith)
     ]
 
-pub day_found : (pattern : Pattern) (from month next first end start day : ℕ) → IsNextMonth pattern from month next first → IsFirstDay (next + 1) end → start ≡ max from first → end ≤ END_DAY → IsLeastIn (admits_day pattern) start end day → IsLeastIn (admits_day pattern) from END_DAY day
-day_found pattern from month next first end start day found end_day begins ends (low, high, is, none) = (
-  omega arith,
-  omega arith,
-  is,
-  λ earlier from_low until. none_until pattern from month next first end start day earlier found end_day begins (omega arith) (omega arith) none from_low until,
-)
+pub none_open : (pattern : Pattern) (month : Month) (from day end : ℕ) → IsOpen pattern month from day None → NoneIn (admits_day pattern) from (min end month.end)
+none_open pattern month from day end is k low high =
+    let start = is.start in
+    let from_low = is.low in
+    let here = day_of month k is.known (omega arith) (omega arith) in
+    elim (cases_lt k day) [
+      | inl earlier ↦ is.none k low earlier
+      | inr after ↦ is.goes_on (civil_fields (k * seconds_a_day)) (omega arith)
+    ]
 
-pub month_passed : (pattern : Pattern) (from month next first end start : ℕ) → IsNextMonth pattern from month next first → IsFirstDay (next + 1) end → start ≡ max from first → end ≤ END_DAY → NoneIn (admits_day pattern) start end → IsSearched pattern from (next + 1)
-month_passed pattern from month next first end start found end_day begins ends none =
-    let low : month ≤ next = found.least.0 in
-    let high : next < END_MONTH = found.least.1 in
-    let known = found.searched.known in
+-- the search from `begin` on has come to a day of a month, or to its end
+pub record IsReached (pattern : Pattern) (begin : ℕ) (month : Month) (from : ℕ) : Type 0 where
+  pub known : IsMonth month
+  pub start : month.first ≤ from
+  pub until : from ≤ month.end
+  pub low : begin ≤ from
+  pub none : NoneIn (admits_day pattern) begin from
+
+none_of_month : (pattern : Pattern) (begin from end day : ℕ) (month : Month) → IsReached pattern begin month from → NoneIn (admits_day pattern) from (min end month.end) → begin ≤ day → day < end → day < month.end → admits_day pattern day ≡ false
+none_of_month pattern begin from end day month reached none low high until =
+    elim (cases_lt day from) [
+      | inl before ↦ reached.none day low before
+      | inr after ↦ none day after (omega arith)
+    ]
+
+-- a day before the month `upto`, where no month from the next one on, before that, is admitted
+none_later : (pattern : Pattern) (begin from end upto day : ℕ) (month : Month) → IsReached pattern begin month from → NoneIn (admits_day pattern) from (min end month.end) → NoneIn (admits_month_number pattern) (month.number + 1) upto → begin ≤ day → (day < month.end → day < end) → day < end_day → month_of_day day < upto → admits_day pattern day ≡ false
+none_later pattern begin from end upto day month reached none months low high known lt =
+    elim (cases_lt day month.end) [
+      | inl before ↦ none_of_month pattern begin from end day month reached none low (high before) before
+      | inr after ↦ no_day_of_month pattern day known (months (month_of_day day) (month_past month day reached.known after known) lt)
+    ]
+
+pub no_month_left : (pattern : Pattern) (begin from end : ℕ) (month : Month) → IsReached pattern begin month from → NoneIn (admits_day pattern) from (min end month.end) → NoneIn (admits_month_number pattern) (month.number + 1) end_month → end ≤ end_day → NoneIn (admits_day pattern) begin end
+no_month_left pattern begin from end month reached none months known day low high =
+    none_later pattern begin from end end_month day month reached none months low (λ _. high) (omega arith) (month_in_years day (omega arith))
+
+-- a month ends before a later one begins
+ends_before : (month later : Month) → IsMonth month → IsMonth later → month.number < later.number → month.end ≤ later.first
+ends_before month later is is_later lt =
+    let known = ends_in_years month is in
+    let high = is_later.to in
+    elim (cases_lt later.first month.end) [
+      | inl begins ↦
+          let last = month.end - 1 in
+          let at_end = ComesBefore-day (month.number + 1) month.end last (omega arith) (IsFirstDay-end_of month is) (omega arith) in
+          let at_later = ComesBefore-day later.number later.first last (omega arith) is_later.first_day (omega arith) in
+          elim (cases_lt (month_of_day last) (month.number + 1)) [
+            | inl within ↦ absurd (omega (arith, at_later.before (omega arith)))
+            | inr past ↦ absurd (omega (arith, at_end.from past))
+          ]
+      | inr le ↦ le
+    ]
+
+-- the search goes on with the first day of the next month that is admitted
+pub month_reached : (pattern : Pattern) (begin from end next : ℕ) (month later : Month) → IsReached pattern begin month from → NoneIn (admits_day pattern) from (min end month.end) → month.end < end → IsLeastIn (admits_month_number pattern) (month.number + 1) end_month next → IsMonth later → later.number ≡ next → IsReached pattern begin later later.first
+month_reached pattern begin from end next month later reached none within (low, high, is_next, months) is number =
+    let start = reached.low in
+    let until = reached.until in
+    let after = ends_before month later reached.known is (omega arith) in
+    let length = is.end_is in
+    let known = ends_in_years later is in
     record {
-      known = (omega arith, omega arith);
-      none = λ day from_low until lt.
-          let at_end = ComesBefore-day (next + 1) end day (omega arith) end_day until in
-          none_until pattern from month next first end start end day found end_day begins (omega arith) ends none from_low (at_end.before lt);
+      known = is;
+      start = omega arith;
+      until = omega arith;
+      low = omega arith;
+      none = λ day from_low lt.
+          let before = month_before later day is lt (omega arith) in
+          none_later pattern begin from end next day month reached none months from_low (λ h. omega arith) (omega arith) (omega arith);
     }
-
-months_in_years : (day : ℕ) → day < END_DAY → IsInRange FIRST_MONTH END_MONTH (month_of_day day) × (month_of_day day < END_MONTH)
-months_in_years day h =
-    let years = IsInRange-month_number (day * SECONDS_A_DAY) (omega arith) in
-    ((years.0, omega arith), years.1)
-
--- the search begins with the month of the first day
-pub search_begins : (pattern : Pattern) (from month : ℕ) → from < END_DAY → month ≡ month_of_day from → IsSearched pattern from month
-search_begins pattern from month h is = record {
-  known = rw is (months_in_years from h).0;
-  none = λ day low high lt.
-      let later = month_number-mono (from * SECONDS_A_DAY) (day * SECONDS_A_DAY) (omega arith) (omega arith) in
-      absurd (omega arith);
-}
-
-pub no_day_left : (pattern : Pattern) (from month end : ℕ) → IsSearched pattern from month → NoneIn (admits_month_number pattern) month END_MONTH → end ≤ END_DAY → NoneIn (admits_day pattern) from end
-no_day_left pattern from month end searched none known day low high =
-    let in_years : day < END_DAY = omega arith in
-    elim (cases_lt (month_of_day day) month) [
-      | inl before ↦ searched.none day low in_years before
-      | inr after ↦ no_day_of_month pattern day in_years (none (month_of_day day) after (months_in_years day in_years).1)
-    ]

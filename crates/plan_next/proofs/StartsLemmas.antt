@@ -3,18 +3,19 @@ use Rattle.std.proofs.Common.{◌≡◌, ℕ, ◌*◌, ◌/◌, ◌%◌, ◌<◌
 use Rattle.std.proofs.lemmas.Bool.{lt-ltb}
 use Rattle.plan_sets.specs.Civil.{civil_fields}
 use Rattle.plan_sets.specs.declared.civil.Civil.{Civil}
-use Rattle.plan_sets.specs.declared.civil.TheConstants.{END_SECOND, SECONDS_A_DAY}
-use Rattle.plan_sets.proofs.MonthLemmas.{SameDate, SameDate-day, IsTime-civil_fields}
-use Rattle.plan_rules.specs.declared.cron.CronRule.{CronRule}
-use Rattle.plan_rules.specs.declared.rule.Rule.TheVariants as rule
+use Rattle.plan_sets.specs.Limits.{end_second, seconds_a_day}
+use Rattle.plan_sets.specs.Civil.{SameDate}
+use Rattle.plan_sets.specs.CivilLaws.{SameDate-day, IsTime-civil_fields}
+use Rattle.plan_match.specs.declared.cron.CronRule.{CronRule}
+use Rattle.plan_match.specs.declared.rule.Rule.TheVariants as rule
 use Rattle.plan_next.specs.declared.search.Pattern.{Pattern}
 use Rattle.plan_next.specs.declared.search.Pattern.TheVariants.{Cron, Event}
-use Rattle.plan_rules.specs.declared.event.Calendar.{Calendar}
-use Rattle.plan_rules.specs.EventMatch.{event_matches}
+use Rattle.plan_match.specs.declared.event.Calendar.{Calendar}
+use Rattle.plan_match.specs.EventMatch.{event_matches}
 use Rattle.plan_sets.specs.Values.{Values as SetOfValues, has_value}
-use Rattle.plan_rules.specs.declared.event.DayCount.{DayCount}
-use Rattle.plan_rules.specs.declared.event.DayCount.TheVariants.{FromStart, FromEnd}
-use Rattle.plan_rules.specs.EventMatch.{month_day_matches, weekday_matches}
+use Rattle.plan_match.specs.declared.event.DayCount.{DayCount}
+use Rattle.plan_match.specs.declared.event.DayCount.TheVariants.{FromStart, FromEnd}
+use Rattle.plan_match.specs.EventMatch.{month_day_matches, weekday_matches}
 use Rattle.std.proofs.Common.{Option, None, Some}
 use Rattle.plan_next.specs.Starts.{is_start}
 use Rattle.plan_next.specs.Search.{admits_date, admits_day, admits_hour, admits_minute, admits_moment, admits_second}
@@ -44,10 +45,10 @@ admits_date-same (Event event) a b same =
 pub admits_moment-fields : (pattern : Pattern) (n : ℕ) → admits_moment pattern n ≡ admits_fields pattern (civil_fields n)
 admits_moment-fields pattern n =
     let c = civil_fields n in
-    let time = n % SECONDS_A_DAY in
+    let time = n % seconds_a_day in
     let is = IsTime-civil_fields n in
-    let midnight : n / SECONDS_A_DAY * SECONDS_A_DAY / SECONDS_A_DAY ≡ n / SECONDS_A_DAY = omega arith in
-    let date : admits_day pattern (n / SECONDS_A_DAY) ≡ admits_date pattern c = admits_date-same pattern _ _ (SameDate-day (n / SECONDS_A_DAY * SECONDS_A_DAY) n midnight) in
+    let midnight : n / seconds_a_day * seconds_a_day / seconds_a_day ≡ n / seconds_a_day = omega arith in
+    let date : admits_day pattern (n / seconds_a_day) ≡ admits_date pattern c = admits_date-same pattern _ _ (SameDate-day (n / seconds_a_day * seconds_a_day) n midnight) in
     let minute : time % 3600 / 60 ≡ c.minute = omega arith in
     let second : time % 3600 % 60 ≡ c.second = omega arith in
     let hour : time / 3600 ≡ c.hour = omega arith in
@@ -58,9 +59,9 @@ turned : (date hour minute second : Bool) → (date && (hour && (minute && secon
 turned date hour minute second = grind arith
 
 -- the seconds that a cron rule's pattern admits are its starts
-pub is_start-cron : (cron : Bor CronRule) (n : ℕ) → n < END_SECOND → admits_moment (Cron cron) n ≡ is_start (rule.Cron cron.now) n
+pub is_start-cron : (cron : Bor CronRule) (n : ℕ) → n < end_second → admits_moment (Cron cron) n ≡ is_start (rule.Cron cron.now) n
 is_start-cron cron n before =
-    let known : nat_lt n END_SECOND ≡ true = lt-ltb _ _ before in
+    let known : nat_lt n end_second ≡ true = lt-ltb _ _ before in
     let c = civil_fields n in
     let pattern = Cron cron in
     rw known (admits_moment-fields pattern n ∙ turned (admits_date pattern c) (admits_hour pattern c.hour) (admits_minute pattern c.minute) (admits_second pattern c.second))

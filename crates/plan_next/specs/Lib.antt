@@ -1,3 +1,5 @@
+pub mod Next
 pub mod Piece
 pub mod Search
 pub mod Starts
+pub mod StartsLaws

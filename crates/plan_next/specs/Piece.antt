@@ -1,8 +1,8 @@
 -- Pieces of a rule's starts.
 use Rattle.std.specs.Prelude.{ℕ, ◌+◌, ◌-◌, nat_le, if◌then◌else◌, length, slice_index, refl}
 use Rattle.std.specs.Coded.{Coded, code_by, coded×, coded_ℕ}
-use Rattle.plan_rules.specs.declared.rule.Rule.{Rule}
-use Rattle.plan_rules.specs.contracts.rule.Rule.{the_row as rule_row}
+use Rattle.plan_match.specs.declared.rule.Rule.{Rule}
+use Rattle.plan_match.specs.contracts.rule.Rule.{the_row as rule_row}
 use Rattle.plan_next.specs.Starts.{starts}
 
 -- what contracts see of a piece: a rule and a part of time; the starts follow from these

@@ -1,13 +1,24 @@
--- What a pattern admits (own): each field by itself, and the fields that the search puts together.
-use Rattle.std.specs.Prelude.{ℕ, ◌+◌, ◌*◌, ◌/◌, ◌%◌, Bool, true, ◌&&◌, ◌==◌}
+-- What a pattern admits (own): each field by itself, and the fields that the search puts together; and the months that it
+-- goes through.
+use Rattle.std.specs.Prelude.{◌≡◌, ℕ, ◌+◌, ◌*◌, ◌/◌, ◌%◌, ◌<◌, ◌≤◌, Bool, true, false, ◌&&◌, ◌==◌, Option, Some, None}
 use Rattle.plan_sets.specs.Values.{has_value}
+use Rattle.plan_sets.specs.Limits.{first_year, last_year, end_second, seconds_a_day}
 use Rattle.plan_sets.specs.Civil.{civil_fields}
+use Rattle.plan_sets.specs.Months.{days_of_month, IsFirstDay}
 use Rattle.plan_sets.specs.declared.civil.Civil.{Civil}
-use Rattle.plan_sets.specs.declared.civil.TheConstants.{SECONDS_A_DAY}
-use Rattle.plan_rules.specs.Match.{day_matches}
+use Rattle.plan_match.specs.Match.{day_matches}
+use Rattle.plan_next.specs.declared.month.Month.{Month}
 use Rattle.plan_next.specs.declared.search.Pattern.{Pattern}
 use Rattle.plan_next.specs.declared.search.Pattern.TheVariants.{Cron, Event}
-use Rattle.plan_rules.specs.EventMatch.{event_day_matches}
+use Rattle.plan_match.specs.EventMatch.{event_day_matches}
+
+-- the month after the last year, where January of the year 0 is month 0
+abbrev pub end_month : ℕ
+end_month = (last_year + 1) * 12
+
+-- the day after the last year
+abbrev pub end_day : ℕ
+end_day = end_second / seconds_a_day
 
 -- the years; a cron rule has every year
 abbrev pub admits_year : Pattern → ℕ → Bool
@@ -45,7 +56,7 @@ admits_month_number pattern month = admits_year pattern (month / 12) && admits_m
 
 -- the date of a day, by its day number
 abbrev pub admits_day : Pattern → ℕ → Bool
-admits_day pattern day = admits_date pattern (civil_fields (day * SECONDS_A_DAY))
+admits_day pattern day = admits_date pattern (civil_fields (day * seconds_a_day))
 
 -- the minute and the second of a second of an hour
 abbrev pub admits_in_hour : Pattern → ℕ → Bool
@@ -58,4 +69,17 @@ admits_time pattern time = admits_hour pattern (time / 3600) && admits_in_hour p
 -- the date and the time of day of a second
 abbrev pub admits_moment : Pattern → ℕ → Bool
 admits_moment pattern second =
-    admits_day pattern (second / SECONDS_A_DAY) && admits_time pattern (second % SECONDS_A_DAY)
+    admits_day pattern (second / seconds_a_day) && admits_time pattern (second % seconds_a_day)
+
+-- a month of the planner's years, from its first day up to its end
+pub record IsMonth (month : Month) : Type 0 where
+  pub from : first_year * 12 ≤ month.number
+  pub to : month.number < end_month
+  pub first_day : IsFirstDay month.number month.first
+  pub end_is : month.end ≡ month.first + days_of_month month.number
+
+-- where the days of a month may go on: no date with a day from `from` on, before that one, is admitted
+abbrev pub IsFirstOpen : Pattern → ℕ → Option ℕ → Type 0
+IsFirstOpen pattern from None = (civil : Civil) → from ≤ civil.day → admits_date pattern civil ≡ false
+IsFirstOpen pattern from (Some first) =
+    (from ≤ first) × ((civil : Civil) → from ≤ civil.day → civil.day < first → admits_date pattern civil ≡ false)

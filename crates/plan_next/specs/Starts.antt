@@ -1,10 +1,10 @@
 -- The starts of a rule, and the first of them.
 use Rattle.std.specs.Prelude.{◌≡◌, ℕ, ◌-◌, ◌<◌, ◌≤◌, Bool, true, false, ◌&&◌, nat_lt, List, filter, Option, Some, None}
 use Rattle.std.specs.List.{range_with_len}
-use Rattle.plan_sets.specs.declared.civil.TheConstants.{END_SECOND}
+use Rattle.plan_sets.specs.Limits.{end_second}
 use Rattle.plan_sets.specs.Civil.{civil_fields}
-use Rattle.plan_rules.specs.declared.rule.Rule.{Rule}
-use Rattle.plan_rules.specs.Match.{rule_matches}
+use Rattle.plan_match.specs.declared.rule.Rule.{Rule}
+use Rattle.plan_match.specs.Match.{rule_matches}
 
 -- no number from a on, b excluded, passes the test
 abbrev pub NoneIn : (ℕ → Bool) → (a b : ℕ) → Type 0
@@ -25,7 +25,7 @@ passing test a b = filter test (range_with_len a (b - a))
 
 -- n is a start of the rule: a second of the planner's years whose civil fields match
 abbrev pub is_start : Rule → ℕ → Bool
-is_start rule n = nat_lt n END_SECOND && rule_matches rule (civil_fields n)
+is_start rule n = nat_lt n end_second && rule_matches rule (civil_fields n)
 
 -- the starts of a rule from second a on, b excluded: every second of them, filtered
 abbrev pub starts : Rule → (a b : ℕ) → List ℕ

@@ -1,9 +1,14 @@
 //! The next start of a rule, found by jumps from field to field, and pieces: all starts of a rule in a part of time.
 #![tactic(auto)]
 
+mod month;
 mod next;
+mod nexts;
 mod piece;
 mod search;
 
 pub use next::{next_from, next_start};
 pub use piece::{NoMemory, Piece, next_piece};
+
+#[cfg(test)]
+mod tests;

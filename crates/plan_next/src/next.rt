@@ -1,17 +1,21 @@
 //! The next start of a rule.
 
 ghost use Rattle.std.specs.Prelude.{◌≡◌, ◌+◌, ◌≤◌, slice_get};
+ghost use Rattle.plan_sets.specs.Limits.{end_second};
 ghost use Rattle.plan_next.specs.Starts.{is_start, starts, IsFirstIn};
 
 use crate::search::Pattern;
-use plan_rules::{CronRule, Events, Rule};
-use plan_sets::END_SECOND;
+use plan_match::{CronRule, Events, Rule};
+use plan_sets::{END_SECOND, SECONDS_A_DAY};
+
+// The days after the first that are searched before all later ones: so many that most events start in them.
+const FAR_DAYS: u64 = 400;
 
 /// The first start of a rule later than `after`, which is any number of seconds since 1970-01-01T00:00:00Z; `None` where the
 /// rule has none before `END_SECOND`. Takes no memory.
 pub fn next_start(rule: &Rule, after: u64) -> Option<u64>
-    ensures first { result ≡ slice_get (starts rule.now (after + 1) END_SECOND) 0 }
-    ensures least { IsFirstIn (is_start rule.now) (after + 1) END_SECOND result }
+    ensures first { result ≡ slice_get (starts rule.now (after + 1) end_second) 0 }
+    ensures least { IsFirstIn (is_start rule.now) (after + 1) end_second result }
 {
     next_from(rule, after.saturating_add(1))
 }
@@ -19,15 +23,15 @@ pub fn next_start(rule: &Rule, after: u64) -> Option<u64>
 /// The first start of a rule from `since` on, which is any number of seconds since 1970-01-01T00:00:00Z; `None` where the
 /// rule has none before `END_SECOND`. Takes no memory.
 pub fn next_from(rule: &Rule, since: u64) -> Option<u64>
-    ensures first { result ≡ slice_get (starts rule.now since END_SECOND) 0 }
-    ensures least { IsFirstIn (is_start rule.now) since END_SECOND result }
+    ensures first { result ≡ slice_get (starts rule.now since end_second) 0 }
+    ensures least { IsFirstIn (is_start rule.now) since end_second result }
 {
     first_start(rule, since, END_SECOND)
 }
 
 /// The first start of a rule from `since` on, before `end`.
 pub(crate) fn first_start(rule: &Rule, since: u64, end: u64) -> Option<u64>
-    requires { end ≤ END_SECOND }
+    requires { end ≤ end_second }
     ensures { IsFirstIn (is_start rule.now) since end result }
 {
     if since >= end {
@@ -40,20 +44,41 @@ pub(crate) fn first_start(rule: &Rule, since: u64, end: u64) -> Option<u64>
     }
 }
 
-// The first start of a cron rule from `since` on, before `end`.
-fn first_of_cron(rule: &CronRule, since: u64, end: u64) -> Option<u64>
+/// The first start of a cron rule from `since` on, before `end`.
+pub(crate) fn first_of_cron(rule: &CronRule, since: u64, end: u64) -> Option<u64>
     requires part { since ≤ end }
-    requires years { end ≤ END_SECOND }
+    requires years { end ≤ end_second }
     ensures { IsFirstIn (is_start (Rule.Cron rule.now)) since end result }
 {
     Pattern::Cron(rule).first_moment(since, end)
 }
 
+/// The first start of a list of events from `since` on, before `end`. Of several events all are searched through a near part
+/// of time before any is searched through a far one.
+pub(crate) fn first_of_events(events: &Events, since: u64, end: u64) -> Option<u64>
+    requires part { since ≤ end }
+    requires years { end ≤ end_second }
+    ensures { IsFirstIn (is_start (Rule.Events events.now)) since end result }
+{
+    if events.len() < 2 {
+        return first_within(events, since, end);
+    }
+    let near = end.min(since + SECONDS_A_DAY);
+    let far = end.min(near + FAR_DAYS * SECONDS_A_DAY);
+    if let Some(first) = first_within(events, since, near) {
+        return Some(first);
+    }
+    if let Some(first) = first_within(events, near, far) {
+        return Some(first);
+    }
+    first_within(events, far, end)
+}
+
 // The first start of a list of events from `since` on, before `end`: each event is searched up to the first start of those
 // before it.
-fn first_of_events(events: &Events, since: u64, end: u64) -> Option<u64>
+fn first_within(events: &Events, since: u64, end: u64) -> Option<u64>
     requires part { since ≤ end }
-    requires years { end ≤ END_SECOND }
+    requires years { end ≤ end_second }
     ensures { IsFirstIn (is_start (Rule.Events events.now)) since end result }
 {
     let mut first = None;
@@ -65,6 +90,3 @@ fn first_of_events(events: &Events, since: u64, end: u64) -> Option<u64>
     }
     first
 }
-
-#[cfg(test)]
-mod tests;

@@ -2,12 +2,12 @@
 
 ghost use Rattle.std.specs.Prelude.{◌≡◌, ◌<◌, ◌≤◌, IfOk, take};
 ghost use Rattle.std.specs.Arc.{arc_value};
+ghost use Rattle.plan_sets.specs.Limits.{end_second};
 ghost use Rattle.plan_next.specs.Starts.{starts};
 ghost use Rattle.plan_next.specs.Piece.{piece_end, piece_of};
 
-use crate::next::first_start;
-use plan_rules::Rule;
-use plan_sets::END_SECOND;
+use crate::nexts::{MOST_KEPT, first_next, later_next};
+use plan_match::Rule;
 use std::alloc::{AllocError, AllocFailed, Global};
 use std::marker::Model;
 use std::sync::Arc;
@@ -40,7 +40,7 @@ pub struct Piece {
 }
 
 impl Model for Piece {
-    ghost use Rattle.std.specs.Prelude.{◌≡◌};
+    ghost use Rattle.std.specs.Prelude.{◌≡◌, ◌≤◌};
     ghost use Rattle.plan_next.specs.Starts.{starts as starts_of};
     ghost use Rattle.plan_next.specs.Piece.{Part, part_code};
 
@@ -50,7 +50,7 @@ impl Model for Piece {
 
     ghost view = { λ p. record { rule = p.rule.value; since = p.since; upto = p.upto } };
 
-    ghost invariant = { λ p. p.starts.items ≡ starts_of p.rule.value p.since p.upto };
+    ghost invariant = { λ p. (p.starts.items ≡ starts_of p.rule.value p.since p.upto) × (p.since ≤ p.upto) };
 }
 
 impl Piece {
@@ -70,7 +70,8 @@ impl Piece {
 
     /// The second before which the part ends.
     pub fn upto(&self) -> u64
-        ensures { result ≡ self.now.upto }
+        ensures value { result ≡ self.now.upto }
+        ensures ordered { self.now.since ≤ result }
     {
         self.upto
     }
@@ -95,7 +96,7 @@ pub fn next_piece(
     most: usize,
 ) -> Result<Piece, NoMemory>
     requires part { since ≤ upto }
-    requires years { upto ≤ END_SECOND }
+    requires years { upto ≤ end_second }
     requires room { 1 ≤ most }
 
     ensures piece { IfOk result (λ piece. piece ≡ piece_of (arc_value rule.now) since upto most) }
@@ -126,7 +127,7 @@ fn first_starts(
     most: usize,
 ) -> Result<(Vec<u64>, u64), NoMemory>
     requires part { since ≤ upto }
-    requires years { upto ≤ END_SECOND }
+    requires years { upto ≤ end_second }
     requires room { 1 ≤ most }
     ensures end { IfOk result (λ found. found.1 ≡ piece_end rule.now since upto most) }
     ensures all { IfOk result (λ found. found.0.items ≡ starts rule.now since found.1) }
@@ -135,16 +136,16 @@ fn first_starts(
     ensures moves { IfOk result (λ found. since < upto → since < found.1) }
 {
     let mut found = Vec::new(alloc);
+    let mut kept = [upto; MOST_KEPT];
     let mut reached = since;
-    while let Some(start) = first_start(rule, reached, upto) {
+    let mut next = first_next(rule, since, upto, &mut kept);
+    while next < upto {
         if found.len() == most {
             return Ok((found, reached));
         }
-        found.push(start)?;
-        reached = start + 1;
+        found.push(next)?;
+        reached = next + 1;
+        next = later_next(rule, next, upto, &mut kept);
     }
     Ok((found, upto))
 }
-
-#[cfg(test)]
-mod tests;

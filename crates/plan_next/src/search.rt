@@ -1,27 +1,15 @@
 //! The search for the least second that a pattern admits: the least year, month, day, hour, minute and second in turn, and
 //! one field back where a field has none left.
 
-ghost use Rattle.std.specs.Prelude.{◌≡◌, ◌+◌, ◌*◌, ◌/◌, ◌<◌, ◌≤◌, ◌==◌};
-ghost use Rattle.std.specs.Int.{IsInRange};
+ghost use Rattle.std.specs.Prelude.{◌≡◌, ◌+◌, ◌*◌, ◌/◌, ◌<◌, ◌≤◌, true, min};
+ghost use Rattle.plan_sets.specs.Limits.{end_second, last_year, seconds_a_day};
+ghost use Rattle.plan_sets.specs.Civil.{civil_fields};
 ghost use Rattle.plan_sets.specs.Values.{has_value};
-ghost use Rattle.plan_sets.specs.Months.{month_number, IsFirstDay};
 ghost use Rattle.plan_next.specs.Starts.{IsFirstIn};
 
-use plan_rules::{Calendar, CronRule};
-use plan_sets::{
-    Civil, END_SECOND, FIRST_YEAR, LAST_YEAR, SECONDS_A_DAY, ValueSet, civil_of, second_of,
-};
-
-const MONTHS_A_YEAR: u16 = 12;
-
-// January of the first year. Months are counted from January of the year 0.
-const FIRST_MONTH: u16 = FIRST_YEAR * MONTHS_A_YEAR;
-
-// The month after the last year.
-const END_MONTH: u16 = (LAST_YEAR + 1) * MONTHS_A_YEAR;
-
-// The day after the last year.
-const END_DAY: u64 = END_SECOND / SECONDS_A_DAY;
+use crate::month::{MONTHS_A_YEAR, Month};
+use plan_match::{Calendar, CronRule, DayCount};
+use plan_sets::{Civil, LAST_YEAR, SECONDS_A_DAY, ValueSet, civil_of};
 
 const HOURS_A_DAY: u16 = 24;
 
@@ -41,12 +29,12 @@ pub(crate) enum Pattern<'a> {
 }
 
 impl Pattern<'_> {
-    ghost use Rattle.plan_next.specs.Search.{admits_year, admits_month, admits_date, admits_hour, admits_minute, admits_second, admits_month_number, admits_day, admits_in_hour, admits_time, admits_moment};
+    ghost use Rattle.plan_next.specs.Search.{admits_year, admits_month, admits_date, admits_hour, admits_minute, admits_second, admits_month_number, admits_day, admits_in_hour, admits_time, admits_moment, end_day, end_month, IsFirstOpen, IsMonth};
 
     /// The first admitted second from `from` on, before `end`.
     pub(crate) fn first_moment(self, from: u64, end: u64) -> Option<u64>
         requires part { from ≤ end }
-        requires years { end ≤ END_SECOND }
+        requires years { end ≤ end_second }
         ensures { IsFirstIn (admits_moment self.entry) from end result }
     {
         if from == end {
@@ -56,63 +44,128 @@ impl Pattern<'_> {
             .filter(|moment| *moment < end)
     }
 
+    /// The first admitted second after an admitted one, before `end`.
+    pub(crate) fn next_moment(self, moment: u64, end: u64) -> Option<u64>
+        requires part { moment < end }
+        requires years { end ≤ end_second }
+        requires admitted { admits_moment self moment ≡ true }
+        ensures { IsFirstIn (admits_moment self.entry) (moment + 1) end result }
+    {
+        self.next_of_days(moment, end.div_ceil(SECONDS_A_DAY))
+            .filter(|moment| *moment < end)
+    }
+
     // The first admitted second from `from` on, before the day `end`.
     fn first_of_days(self, from: u64, end: u64) -> Option<u64>
-        requires part { from < end * SECONDS_A_DAY }
-        requires years { end ≤ END_DAY }
-        ensures { IsFirstIn (admits_moment self.entry) from (end * SECONDS_A_DAY) result }
+        requires part { from < end * seconds_a_day }
+        requires years { end ≤ end_day }
+        ensures { IsFirstIn (admits_moment self.entry) from (end * seconds_a_day) result }
     {
         let today = from / SECONDS_A_DAY;
-        if self.admits_date(&civil_of(today * SECONDS_A_DAY))
+        let civil = civil_of(today * SECONDS_A_DAY);
+        if self.admits_date(&civil)
             && let Some(time) = self.first_time((from % SECONDS_A_DAY) as u32)
         {
             return Some(today * SECONDS_A_DAY + u64::from(time));
         }
+        self.first_of_later_days(today, &civil, end)
+    }
+
+    // The first admitted second after an admitted one, before the day `end`.
+    fn next_of_days(self, moment: u64, end: u64) -> Option<u64>
+        requires part { moment < end * seconds_a_day }
+        requires years { end ≤ end_day }
+        requires admitted { admits_moment self moment ≡ true }
+        ensures { IsFirstIn (admits_moment self.entry) (moment + 1) (end * seconds_a_day) result }
+    {
+        let today = moment / SECONDS_A_DAY;
+        if let Some(time) = self.next_time((moment % SECONDS_A_DAY) as u32) {
+            return Some(today * SECONDS_A_DAY + u64::from(time));
+        }
+        self.first_of_later_days(today, &civil_of(today * SECONDS_A_DAY), end)
+    }
+
+    // The first admitted second after a day, whose civil fields are given, before the day `end`.
+    fn first_of_later_days(self, day: u64, civil: &Civil, end: u64) -> Option<u64>
+        requires part { day < end }
+        requires years { end ≤ end_day }
+        requires fields { civil.now ≡ civil_fields (day * seconds_a_day) }
+        ensures { IsFirstIn (admits_moment self.entry)
+            ((day + 1) * seconds_a_day)
+            (end * seconds_a_day)
+            result }
+    {
         let time = self.first_time(0)?;
-        let day = self.first_day(today + 1, end)?;
+        let day = self.first_later_day(day, civil, end)?;
         Some(day * SECONDS_A_DAY + u64::from(time))
     }
 
-    // The first admitted day from `from` on, before `end`, by day numbers.
-    fn first_day(self, from: u64, end: u64) -> Option<u64>
-        requires part { from ≤ end }
-        requires years { end ≤ END_DAY }
-        ensures { IsFirstIn (admits_day self.entry) from end result }
+    // The first admitted day after a day, whose civil fields are given, before `end`, by day numbers.
+    fn first_later_day(self, day: u64, civil: &Civil, end: u64) -> Option<u64>
+        requires part { day < end }
+        requires years { end ≤ end_day }
+        requires fields { civil.now ≡ civil_fields (day * seconds_a_day) }
+        ensures { IsFirstIn (admits_day self.entry) (day + 1) end result }
     {
-        if from == end {
-            return None;
-        }
-        let mut month = month_of(&civil_of(from * SECONDS_A_DAY));
-        while let Some(next) = self.first_month(month) {
-            let first = first_day_of(next);
-            if first >= end {
+        let mut month = Month::of_day(day, civil);
+        let mut from = day + 1;
+        loop {
+            if let Some(found) = self.first_day_in(month, from, end) {
+                return Some(found);
+            }
+            if month.end >= end {
                 return None;
             }
-            if let Some(day) = self.first_day_between(from.max(first), first_day_of(next + 1)) {
-                return (day < end).then_some(day);
+            let next = self.first_month(month.number + 1)?;
+            month = month.later(next);
+            from = month.first;
+        }
+    }
+
+    // The first admitted day of a month from `from` on, before `end`, by day numbers.
+    fn first_day_in(self, month: Month, from: u64, end: u64) -> Option<u64>
+        requires month { IsMonth month }
+        requires from { month.first ≤ from }
+        requires to { from ≤ month.end }
+        ensures { IsFirstIn (admits_day self.entry) from (min end month.end) result }
+    {
+        let until = end.min(month.end);
+        let mut day = from;
+        while day < until {
+            let place = self.first_open_place((day - month.first) as u16 + 1)?;
+            let passed = u64::from(place - 1);
+            if passed >= until - month.first {
+                return None;
             }
-            month = next + 1;
+            day = month.first + passed;
+            if self.admits_date(&month.date(day, ((day + 3) % 7) as u8)) {
+                return Some(day);
+            }
+            day += 1;
         }
         None
     }
 
-    // The first admitted day from `from` on, before `end`.
-    fn first_day_between(self, from: u64, end: u64) -> Option<u64>
-        requires { end ≤ END_DAY }
-        ensures { IsFirstIn (admits_day self.entry) from end result }
+    // A place in the month, from `from` on, before which no day from there on is admitted in any month; `None` where no day is.
+    fn first_open_place(self, from: u16) -> Option<u16>
+        ensures { IsFirstOpen self.entry from result }
     {
-        for day in from..end {
-            if self.admits_date(&civil_of(day * SECONDS_A_DAY)) {
-                return Some(day);
-            }
+        match self {
+            Pattern::Cron(rule) if rule.month_days_restricted && rule.week_days_restricted => Some(
+                from,
+            ),
+            Pattern::Cron(rule) => rule.month_days.first_from(from),
+            Pattern::Event(event) => match event.day_count {
+                DayCount::FromStart => event.days.first_from(from),
+                DayCount::FromEnd => Some(from),
+            },
         }
-        None
     }
 
     // The first month from `from` on whose year and month are admitted.
     fn first_month(self, from: u16) -> Option<u16>
-        requires { from ≤ END_MONTH }
-        ensures { IsFirstIn (admits_month_number self.entry) from END_MONTH result }
+        requires { from ≤ end_month }
+        ensures { IsFirstIn (admits_month_number self.entry) from end_month result }
     {
         let here = from / MONTHS_A_YEAR;
         let year = self.first_year(here)?;
@@ -131,8 +184,8 @@ impl Pattern<'_> {
 
     // The first admitted time of day from `from` on, in seconds.
     fn first_time(self, from: u32) -> Option<u32>
-        requires { from < SECONDS_A_DAY }
-        ensures { IsFirstIn (admits_time self.entry) from SECONDS_A_DAY result }
+        requires { from < seconds_a_day }
+        ensures { IsFirstIn (admits_time self.entry) from seconds_a_day result }
     {
         let here = (from / SECONDS_AN_HOUR) as u16;
         let hour = self.first_hour(here)?;
@@ -144,6 +197,27 @@ impl Pattern<'_> {
         if let Some(rest) = self.first_in_hour(start) {
             return Some(u32::from(hour) * SECONDS_AN_HOUR + u32::from(rest));
         }
+        self.first_of_later_hours(hour)
+    }
+
+    // The first admitted time of day after an admitted one, in seconds.
+    fn next_time(self, time: u32) -> Option<u32>
+        requires day { time < seconds_a_day }
+        requires admitted { admits_time self time ≡ true }
+        ensures { IsFirstIn (admits_time self.entry) (time + 1) seconds_a_day result }
+    {
+        let hour = (time / SECONDS_AN_HOUR) as u16;
+        if let Some(rest) = self.next_in_hour((time % SECONDS_AN_HOUR) as u16) {
+            return Some(u32::from(hour) * SECONDS_AN_HOUR + u32::from(rest));
+        }
+        self.first_of_later_hours(hour)
+    }
+
+    // The first admitted time of day after an hour, in seconds.
+    fn first_of_later_hours(self, hour: u16) -> Option<u32>
+        requires { hour < HOURS_A_DAY }
+        ensures { IsFirstIn (admits_time self.entry) ((hour + 1) * SECONDS_AN_HOUR) seconds_a_day result }
+    {
         let hour = self.first_hour(hour + 1)?;
         let rest = self.first_in_hour(0)?;
         Some(u32::from(hour) * SECONDS_AN_HOUR + u32::from(rest))
@@ -164,6 +238,30 @@ impl Pattern<'_> {
         if let Some(second) = self.first_second(start) {
             return Some(minute * SECONDS_A_MINUTE + second);
         }
+        self.first_of_later_minutes(minute)
+    }
+
+    // The first admitted second of an hour after an admitted one.
+    fn next_in_hour(self, second: u16) -> Option<u16>
+        requires hour { second < SECONDS_AN_HOUR }
+        requires admitted { admits_in_hour self second ≡ true }
+        ensures { IsFirstIn (admits_in_hour self.entry) (second + 1) SECONDS_AN_HOUR result }
+    {
+        let minute = second / SECONDS_A_MINUTE;
+        if let Some(second) = self.first_second(second % SECONDS_A_MINUTE + 1) {
+            return Some(minute * SECONDS_A_MINUTE + second);
+        }
+        self.first_of_later_minutes(minute)
+    }
+
+    // The first admitted second of an hour after a minute.
+    fn first_of_later_minutes(self, minute: u16) -> Option<u16>
+        requires { minute < MINUTES_AN_HOUR }
+        ensures { IsFirstIn (admits_in_hour self.entry)
+            ((minute + 1) * SECONDS_A_MINUTE)
+            SECONDS_AN_HOUR
+            result }
+    {
         let minute = self.first_minute(minute + 1)?;
         let second = self.first_second(0)?;
         Some(minute * SECONDS_A_MINUTE + second)
@@ -171,7 +269,7 @@ impl Pattern<'_> {
 
     // The first admitted year from `from` on.
     fn first_year(self, from: u16) -> Option<u16>
-        ensures { IsFirstIn (admits_year self.entry) from (LAST_YEAR + 1) result }
+        ensures { IsFirstIn (admits_year self.entry) from (last_year + 1) result }
     {
         match self {
             Pattern::Cron(_) => (from <= LAST_YEAR).then_some(from),
@@ -190,6 +288,7 @@ impl Pattern<'_> {
     }
 
     // Whether the date of civil fields is admitted.
+    #[inline(always)]
     fn admits_date(self, civil: &Civil) -> bool
         ensures { result ≡ admits_date self.entry civil.now }
     {
@@ -235,28 +334,4 @@ fn first_in(set: &ValueSet, from: u16, end: u16) -> Option<u16>
     ensures { IsFirstIn (has_value set.now) from end result }
 {
     set.first_from(from).filter(|value| *value < end)
-}
-
-// The month of civil fields.
-fn month_of(civil: &Civil) -> u16
-    requires year { civil.now.year ≤ LAST_YEAR }
-    requires month { IsInRange 1 12 civil.now.month }
-    ensures { result ≡ month_number civil.now }
-{
-    MONTHS_A_YEAR * civil.year + (u16::from(civil.month) - 1)
-}
-
-// The first day of a month, by its day number.
-fn first_day_of(month: u16) -> u64
-    requires from { FIRST_MONTH ≤ month }
-    requires to { month ≤ END_MONTH }
-    ensures day { IsFirstDay month result }
-    ensures range { result ≤ END_DAY }
-{
-    let year = month / MONTHS_A_YEAR;
-    let month_of_year = (month % MONTHS_A_YEAR + 1) as u8;
-    match second_of(year, month_of_year, 1, 0, 0, 0) {
-        Some(second) => second / SECONDS_A_DAY,
-        None => END_DAY,
-    }
 }

@@ -1,9 +1,9 @@
 use Rattle.std.proofs.Common.{arith}
-use Rattle.plan_rules.specs.declared.rule.Rule.TheVariants as rule
+use Rattle.plan_match.specs.declared.rule.Rule.TheVariants as rule
 use Rattle.plan_next.specs.declared.search.Pattern.TheVariants.{Cron}
 use Rattle.plan_next.specs.Starts.{is_start}
 use Rattle.plan_next.specs.Search.{admits_moment}
-use Rattle.plan_next.proofs.PassingLemmas.{IsFirstIn-same}
+use Rattle.plan_next.proofs.FirstLemmas.{IsFirstIn-same}
 use Rattle.plan_next.proofs.StartsLemmas.{is_start-cron}
 use Rattle.plan_next.proofs.next.first_of_cron.Goals as goal
 

@@ -1,8 +1,8 @@
-use Rattle.plan_sets.specs.declared.civil.TheConstants.{END_SECOND}
+use Rattle.plan_sets.specs.Limits.{end_second}
 use Rattle.plan_next.specs.Starts.{is_start}
-use Rattle.plan_next.proofs.PassingLemmas.{passing-first}
+use Rattle.plan_next.specs.StartsLaws.{passing-first}
 use Rattle.plan_next.proofs.next.next_from.Goals as goal
 
 pub returns-clause-first : goal.returns-clause-first
 returns-clause-first c =
-    passing-first (is_start c.args.rule.now) c.args.since END_SECOND c.first_start.result c.first_start.ensures
+    passing-first (is_start c.args.rule.now) c.args.since end_second c.first_start.result c.first_start.ensures

@@ -1,7 +1,7 @@
 use Rattle.std.proofs.Common.{◌+◌, rules}
-use Rattle.plan_sets.specs.declared.civil.TheConstants.{END_SECOND}
+use Rattle.plan_sets.specs.Limits.{end_second}
 use Rattle.plan_next.specs.Starts.{is_start}
-use Rattle.plan_next.proofs.PassingLemmas.{passing-first}
+use Rattle.plan_next.specs.StartsLaws.{passing-first}
 use Rattle.plan_next.proofs.next.next_start.Goals as goal
 
 -- a moment that can't be counted further lies past the end
@@ -10,4 +10,4 @@ returns-clause-least c = search rules
 
 pub returns-clause-first : goal.returns-clause-first
 returns-clause-first c =
-    passing-first (is_start c.args.rule.now) (c.args.after + 1) END_SECOND c.next_from.result (returns-clause-least c)
+    passing-first (is_start c.args.rule.now) (c.args.after + 1) end_second c.next_from.result (returns-clause-least c)

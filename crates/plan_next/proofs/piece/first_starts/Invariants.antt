@@ -1,10 +1,16 @@
 use Rattle.std.proofs.Common.{◌-◌}
+use Rattle.plan_next.specs.Next.{IsNextIn, KeepsNexts}
+use Rattle.plan_next.specs.Starts.{is_start}
 use Rattle.plan_next.proofs.PieceLemmas.{AreFound}
 use Rattle.plan_next.proofs.piece.first_starts.Given as goal
 
--- what was found so far are all starts up to here
-abbrev pub invariant-loop-start : goal.invariant-loop-start
-invariant-loop-start l = AreFound l.rule l.since l.upto l.most l.found.items l.reached
+-- what was found so far are all starts up to here, and the next one is known
+abbrev pub invariant-loop-next : goal.invariant-loop-next
+invariant-loop-next l = record {
+  found : AreFound l.rule l.since l.upto l.most l.found.items l.reached;
+  next : IsNextIn (is_start l.rule) l.reached l.upto l.next;
+  kept : KeepsNexts l.rule l.reached l.upto l.kept;
+}
 
-abbrev pub decreases-loop-start : goal.decreases-loop-start
-decreases-loop-start l = l.upto - l.reached
+abbrev pub decreases-loop-next : goal.decreases-loop-next
+decreases-loop-next l = l.upto - l.next

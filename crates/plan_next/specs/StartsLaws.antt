@@ -1,8 +1,6 @@
--- The numbers of a range that pass a test, by their first.
-use Rattle.std.proofs.Common.{◌≡◌, ℕ, zero, suc, ◌+◌, ◌-◌, ◌<◌, ◌≤◌, Bool, true, false, nat_lt, [], ◌∷◌, ◌++◌, filter, Option, Some, None, inl, inr, refl, ap, sym, ◌∙◌, arith}
+-- Laws of the numbers of a range that pass a test, by their first.
+use Rattle.std.proofs.Common.{◌≡◌, ℕ, zero, suc, ◌+◌, ◌-◌, ◌<◌, ◌≤◌, Bool, true, false, [], ◌∷◌, ◌++◌, filter, Option, Some, None, refl, ap, sym, ◌∙◌, arith}
 use Rattle.std.specs.Prelude.{slice_get}
-use Rattle.std.specs.Bool.{then_some}
-use Rattle.std.proofs.lemmas.Bool.{cases_lt, lt-ltb, le-ltb}
 use Rattle.std.specs.List.{range_with_len}
 use Rattle.std.proofs.lemmas.List.Elements.{filter-append}
 use Rattle.plan_next.specs.Starts.{NoneIn, IsLeastIn, IsFirstIn, passing}
@@ -56,17 +54,3 @@ passing-least test a b n (low, high, is, none) =
 pub passing-first : (test : ℕ → Bool) (a b : ℕ) (answer : Option ℕ) → IsFirstIn test a b answer → answer ≡ slice_get (passing test a b) 0
 passing-first test a b None none = rw (passing-none test a b none) refl
 passing-first test a b (Some n) least = rw (passing-least test a b n least) refl
-
--- the least that passes is the first up to an earlier end, where it comes before that
-pub IsFirstIn-within : (test : ℕ → Bool) (a b n end : ℕ) → IsLeastIn test a b n → end ≤ b → IsFirstIn test a end (then_some (nat_lt n end) n)
-IsFirstIn-within test a b n end (low, high, is, none) known =
-    elim (cases_lt n end) [
-      | inl before ↦ rw (lt-ltb n end before) (low, before, is, none)
-      | inr after ↦ rw (le-ltb n end after) (λ k from to. none k from (omega arith))
-    ]
-
--- a test that passes the same numbers has the same first one
-pub IsFirstIn-same : (test other : ℕ → Bool) (a b : ℕ) (answer : Option ℕ) → ((n : ℕ) → n < b → test n ≡ other n) → IsFirstIn test a b answer → IsFirstIn other a b answer
-IsFirstIn-same test other a b None same none = λ n low high. sym (same n high) ∙ none n low high
-IsFirstIn-same test other a b (Some n) same (low, high, is, none) =
-    (low, high, sym (same n high) ∙ is, λ k from to. sym (same k (omega arith)) ∙ none k from to)

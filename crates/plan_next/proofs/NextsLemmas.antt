@@ -1,0 +1,63 @@
+-- Next starts: of a rule by those of its events, and each by the one before it.
+use Rattle.std.proofs.Common.{◌≡◌, ◌≢◌, ℕ, ◌+◌, ◌/◌, ◌<◌, ◌≤◌, Bool, true, false, ◌&&◌, ◌||◌, List, length, take, Option, Some, None, inl, inr, Bor, refl, sym, ap, ◌∙◌, subst, arith}
+use Rattle.std.specs.Prelude.{min, nat_lt, slice_get, slice_index, unwrap_or}
+use Rattle.std.proofs.lemmas.Bool.{cases_lt, false≢true, lt-ltb, true≢false}
+use Rattle.plan_sets.specs.Limits.{end_second, seconds_a_day}
+use Rattle.plan_sets.specs.Civil.{civil_fields}
+use Rattle.plan_match.specs.declared.event.Calendar.{Calendar}
+use Rattle.plan_match.specs.declared.rule.Rule.{Rule}
+use Rattle.plan_match.specs.declared.rule.Rule.TheVariants as rule
+use Rattle.plan_match.specs.EventMatch.{event_matches, some_event_matches}
+use Rattle.plan_next.specs.declared.search.Pattern.{Pattern}
+use Rattle.plan_next.specs.Next.{matches_at, AreNexts, IsNextIn, KeepsNexts}
+use Rattle.plan_next.specs.Search.{admits_day, admits_moment}
+use Rattle.plan_next.specs.Starts.{NoneIn, IsLeastIn, IsFirstIn, is_start}
+
+-- a first answer, or the end of the part
+pub IsNextIn-first : (test : ℕ → Bool) (a b : ℕ) (answer : Option ℕ) → a ≤ b → IsFirstIn test a b answer → IsNextIn test a b (unwrap_or answer b)
+IsNextIn-first test a b None le none = record {
+  from = le;
+  to = omega arith;
+  none = none;
+  is = λ lt. absurd (omega arith);
+}
+IsNextIn-first test a b (Some n) le (low, high, is, none) = record {
+  from = low;
+  to = omega arith;
+  none = none;
+  is = λ lt. is;
+}
+
+-- the least of those that pass, where the next one isn't the end
+pub IsLeastIn-next : (test : ℕ → Bool) (a b n : ℕ) → IsNextIn test a b n → n < b → IsLeastIn test a b n
+IsLeastIn-next test a b n next lt = (next.from, lt, next.is lt, next.none)
+
+-- and where it is, there is none
+pub NoneIn-next : (test : ℕ → Bool) (a b n : ℕ) → IsNextIn test a b n → b ≤ n → NoneIn test a b
+NoneIn-next test a b n next le k low high = next.none k low (omega arith)
+
+-- a part that begins later, and not after the next number
+pub IsNextIn-later : (test : ℕ → Bool) (a b n later : ℕ) → IsNextIn test a b n → a ≤ later → later ≤ n → IsNextIn test later b n
+IsNextIn-later test a b n later next low high = record {
+  from = high;
+  to = next.to;
+  none = λ k from until. next.none k (omega arith) until;
+  is = next.is;
+}
+
+pub IsNextIn-same : (test other : ℕ → Bool) (a b n : ℕ) → ((k : ℕ) → k < b → test k ≡ other k) → IsNextIn test a b n → IsNextIn other a b n
+IsNextIn-same test other a b n same next =
+    let to = next.to in
+    record {
+      from = next.from;
+      to = to;
+      none = λ k low high. sym (same k (omega arith)) ∙ next.none k low high;
+      is = λ lt. sym (same n lt) ∙ next.is lt;
+    }
+
+-- a part begins with the next number, which then passes
+pub passes-next : (test : ℕ → Bool) (a b n : ℕ) → IsNextIn test a b n → n ≤ a → a < b → test a ≡ true
+passes-next test a b n next le lt =
+    let from = next.from in
+    let same : n ≡ a = omega arith in
+    ap test (sym same) ∙ next.is (omega arith)

@@ -1,7 +1,0 @@
-use Rattle.plan_next.specs.Search.{admits_day}
-use Rattle.plan_next.specs.Starts.{NoneIn}
-use Rattle.plan_next.proofs.search.Pattern.first_day_between.Given as goal
-
--- no day up to here is admitted
-abbrev pub invariant-loop-day : goal.invariant-loop-day
-invariant-loop-day l = NoneIn (admits_day l.self) l.from l.day

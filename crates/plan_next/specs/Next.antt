@@ -1,0 +1,35 @@
+-- The next starts of a rule and of its events.
+use Rattle.std.specs.Prelude.{◌≡◌, ℕ, ◌<◌, ◌≤◌, Bool, true, List, length, Some, slice_get, slice_index}
+use Rattle.plan_sets.specs.Civil.{civil_fields}
+use Rattle.plan_match.specs.declared.event.Calendar.{Calendar}
+use Rattle.plan_match.specs.declared.rule.Rule.{Rule}
+use Rattle.plan_match.specs.declared.rule.Rule.TheVariants.{Cron, Never, Events}
+use Rattle.plan_match.specs.EventMatch.{event_matches}
+use Rattle.plan_next.specs.Starts.{NoneIn}
+
+-- the longest list of events of which each keeps its next start (own)
+abbrev pub most_kept : ℕ
+most_kept = 64
+
+-- n is the least number from a on, b excluded, that passes the test, and b where no number does
+pub record IsNextIn (test : ℕ → Bool) (a b n : ℕ) : Type 0 where
+  pub from : a ≤ n
+  pub to : n ≤ b
+  pub none : NoneIn test a n
+  pub is : n < b → test n ≡ true
+
+-- the event matches the fields of second n
+abbrev pub matches_at : Calendar → ℕ → Bool
+matches_at event n = event_matches event (civil_fields n)
+
+-- each number of `kept` is the next start of the event with its place
+abbrev pub AreNexts : List Calendar → (from end : ℕ) → List ℕ → Type 0
+AreNexts events from end kept =
+    (k : ℕ) → (event : Calendar) → slice_get events k ≡ Some event
+    → IsNextIn (matches_at event) from end (slice_index kept k)
+
+-- a list of events that isn't too long keeps the next start of each
+abbrev pub KeepsNexts : Rule → (from end : ℕ) → List ℕ → Type 0
+KeepsNexts (Cron rule) from end kept = Unit {0}
+KeepsNexts Never from end kept = Unit {0}
+KeepsNexts (Events events) from end kept = length events ≤ most_kept → AreNexts events from end kept

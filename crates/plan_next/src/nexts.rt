@@ -1,0 +1,121 @@
+//! The starts of a rule one after the other: each follows from the one before it, and no event is searched again while its
+//! next start is known.
+
+ghost use Rattle.std.specs.Prelude.{◌≡◌, ◌+◌, ◌<◌, ◌≤◌, true, length};
+ghost use Rattle.plan_sets.specs.Limits.{end_second};
+ghost use Rattle.plan_next.specs.Starts.{is_start, IsFirstIn};
+ghost use Rattle.plan_next.specs.Next.{matches_at, most_kept, AreNexts, IsNextIn, KeepsNexts};
+
+use crate::next::{first_of_cron, first_of_events};
+use crate::search::Pattern;
+use plan_match::{Calendar, CronRule, Events, Rule};
+
+/// The longest list of events of which each keeps its next start.
+pub(crate) const MOST_KEPT: usize = 64;
+
+/// The first start of a rule from `from` on, or `end` where it has none before that. Where its events aren't too many, `kept`
+/// then holds the same of each.
+pub(crate) fn first_next(rule: &Rule, from: u64, end: u64, kept: &mut [u64; MOST_KEPT]) -> u64
+    requires part { from ≤ end }
+    requires years { end ≤ end_second }
+    ensures next { IsNextIn (is_start rule.now) from end result }
+    ensures kept { KeepsNexts rule.now from end kept.new }
+{
+    match rule {
+        Rule::Cron(rule) => first_of_cron(rule, from, end).unwrap_or(end),
+        Rule::Never => end,
+        Rule::Events(events) if events.len() <= MOST_KEPT => first_of_each(events, from, end, kept),
+        Rule::Events(events) => first_of_events(events, from, end).unwrap_or(end),
+    }
+}
+
+/// The start of a rule after its start `start`, or `end` where it has none before that. `kept` holds what each event has from
+/// `start` on, and then what it has after it.
+pub(crate) fn later_next(rule: &Rule, start: u64, end: u64, kept: &mut [u64; MOST_KEPT]) -> u64
+    requires part { start < end }
+    requires years { end ≤ end_second }
+    requires start { is_start rule.now start ≡ true }
+    requires kept { KeepsNexts rule.now start end kept.old }
+    ensures next { IsNextIn (is_start rule.now) (start + 1) end result }
+    ensures kept { KeepsNexts rule.now (start + 1) end kept.new }
+{
+    match rule {
+        Rule::Cron(rule) => later_of_cron(rule, start, end).unwrap_or(end),
+        Rule::Never => end,
+        Rule::Events(events) if events.len() <= MOST_KEPT => {
+            later_of_each(events, start, end, kept)
+        }
+        Rule::Events(events) => first_of_events(events, start + 1, end).unwrap_or(end),
+    }
+}
+
+// The first start of a cron rule after `start`, before `end`.
+fn later_of_cron(rule: &CronRule, start: u64, end: u64) -> Option<u64>
+    requires part { start < end }
+    requires years { end ≤ end_second }
+    requires start { is_start (Rule.Cron rule.now) start ≡ true }
+    ensures { IsFirstIn (is_start (Rule.Cron rule.now)) (start + 1) end result }
+{
+    Pattern::Cron(rule).next_moment(start, end)
+}
+
+// Finds the first start of each event from `from` on, or `end` where it has none, and answers the earliest.
+fn first_of_each(events: &Events, from: u64, end: u64, kept: &mut [u64; MOST_KEPT]) -> u64
+    requires part { from ≤ end }
+    requires years { end ≤ end_second }
+    requires room { length events.now ≤ most_kept }
+    ensures next { IsNextIn (is_start (Rule.Events events.now)) from end result }
+    ensures kept { AreNexts events.now from end kept.new }
+{
+    let mut earliest = end;
+    for i in 0..events.len() {
+        if let Some(event) = events.get(i) {
+            let next = start_from(event, from, end);
+            kept[i] = next;
+            earliest = earliest.min(next);
+        }
+    }
+    earliest
+}
+
+// Moves those events on that start at `start`, and answers the earliest of their next starts.
+fn later_of_each(events: &Events, start: u64, end: u64, kept: &mut [u64; MOST_KEPT]) -> u64
+    requires part { start < end }
+    requires years { end ≤ end_second }
+    requires room { length events.now ≤ most_kept }
+    requires kept { AreNexts events.now start end kept.old }
+    ensures next { IsNextIn (is_start (Rule.Events events.now)) (start + 1) end result }
+    ensures kept { AreNexts events.now (start + 1) end kept.new }
+{
+    let mut earliest = end;
+    for i in 0..events.len() {
+        if let Some(event) = events.get(i) {
+            let next = start_after(event, start, kept[i], end);
+            kept[i] = next;
+            earliest = earliest.min(next);
+        }
+    }
+    earliest
+}
+
+// The first start of an event from `from` on, or `end` where it has none before that.
+fn start_from(event: &Calendar, from: u64, end: u64) -> u64
+    requires part { from ≤ end }
+    requires years { end ≤ end_second }
+    ensures { IsNextIn (matches_at event.now) from end result }
+{
+    Pattern::Event(event).first_moment(from, end).unwrap_or(end)
+}
+
+// The first start of an event after `start`, or `end` where it has none before that; `next` is the same from `start` on.
+fn start_after(event: &Calendar, start: u64, next: u64, end: u64) -> u64
+    requires part { start < end }
+    requires years { end ≤ end_second }
+    requires next { IsNextIn (matches_at event.now) start end next }
+    ensures { IsNextIn (matches_at event.now) (start + 1) end result }
+{
+    if next > start {
+        return next;
+    }
+    Pattern::Event(event).next_moment(start, end).unwrap_or(end)
+}
