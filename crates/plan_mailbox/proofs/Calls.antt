@@ -6,8 +6,7 @@ use Rattle.std.proofs.lemmas.Bool.{cond-true, cond-false, lt-ltb, ne_eqb, or_par
 use Rattle.std.proofs.lemmas.List.Elements.{All-head, All-tail}
 use Rattle.plan_mailbox.specs.declared.replies.Reply.TheVariants.{Sent, Full, Closed, NoSender, Took}
 use Rattle.plan_mailbox.specs.Mailbox.{Mailbox, senders_of, waiting_at, is_shut_at, send_reply, next_of, take_reply, IsNew, new_mailbox}
-use Rattle.plan_mailbox.specs.declared.lanes.Lane.{Lane}
-use Rattle.plan_mailbox.specs.Lanes.{queue_at, queues_of}
+use Rattle.plan_mailbox.specs.Places.{waiting_in}
 use Rattle.plan_mailbox.specs.Turn.{in_turn, line_of}
 use Rattle.plan_mailbox.specs.Reply.{taking}
 use Rattle.plan_mailbox.proofs.Lines.{next-found, next-none}
@@ -36,18 +35,22 @@ none_marked-pass (x ∷ marks) pass =
     let here = not-true x (All-head (λ y. not y ≡ true) x marks pass) in
     ap (λ y. y || list_any (λ z. z) marks) here ∙ none_marked-pass marks (All-tail (λ y. not y ≡ true) x marks pass)
 
--- who is next in line, by a search through the queues
-pub next-found-in : {M : Type 0} (lanes seen : List (Lane M)) (turn s : ℕ) (m : M) (rest : List M) → seen ≡ lanes → queue_at lanes s ≡ m ∷ rest
-    → Some s ≡ find (λ t. ltb 0 (length (queue_at seen t))) (in_turn (length seen) turn) → slice_get (line_of (queue_at lanes) (in_turn (length (queues_of lanes)) turn)) 0 ≡ Some (s, m)
-next-found-in lanes seen turn s m rest same waits e =
-    next-found (queue_at lanes) (in_turn (length (queues_of lanes)) turn) s m rest waits
-    (sym (e ∙ ap (λ ls. find (λ t. ltb 0 (length (queue_at ls t))) (in_turn (length ls) turn)) same ∙ ap (λ n. find (λ t. ltb 0 (length (queue_at lanes t))) (in_turn n turn)) (sym (length-map lanes (λ l. l.queue.items)))))
+-- who is next in line, by a search through the lanes
+pub next-found-in : {M L : Type 0} (waiting : L → List M) (lanes seen : List L) (turn s : ℕ) (m : M) (rest : List M) → seen ≡ lanes → waiting_in waiting lanes s ≡ m ∷ rest
+    → Some s ≡ find (λ t. ltb 0 (length (waiting_in waiting seen t))) (in_turn (length seen) turn)
+    → slice_get (line_of (waiting_in waiting lanes) (in_turn (length (map waiting lanes)) turn)) 0 ≡ Some (s, m)
+next-found-in waiting lanes seen turn s m rest same waits e =
+    next-found (waiting_in waiting lanes) (in_turn (length (map waiting lanes)) turn) s m rest waits
+    (sym (e ∙ ap (λ ls. find (λ t. ltb 0 (length (waiting_in waiting ls t))) (in_turn (length ls) turn)) same
+    ∙ ap (λ n. find (λ t. ltb 0 (length (waiting_in waiting lanes t))) (in_turn n turn)) (sym (length-map lanes waiting))))
 
-pub next-none-in : {M : Type 0} (lanes seen : List (Lane M)) (turn : ℕ) → seen ≡ lanes
-    → None ≡ find (λ t. ltb 0 (length (queue_at seen t))) (in_turn (length seen) turn) → slice_get (line_of (queue_at lanes) (in_turn (length (queues_of lanes)) turn)) 0 ≡ None
-next-none-in lanes seen turn same e =
-    next-none (queue_at lanes) (in_turn (length (queues_of lanes)) turn)
-    (sym (e ∙ ap (λ ls. find (λ t. ltb 0 (length (queue_at ls t))) (in_turn (length ls) turn)) same ∙ ap (λ n. find (λ t. ltb 0 (length (queue_at lanes t))) (in_turn n turn)) (sym (length-map lanes (λ l. l.queue.items)))))
+pub next-none-in : {M L : Type 0} (waiting : L → List M) (lanes seen : List L) (turn : ℕ) → seen ≡ lanes
+    → None ≡ find (λ t. ltb 0 (length (waiting_in waiting seen t))) (in_turn (length seen) turn)
+    → slice_get (line_of (waiting_in waiting lanes) (in_turn (length (map waiting lanes)) turn)) 0 ≡ None
+next-none-in waiting lanes seen turn same e =
+    next-none (waiting_in waiting lanes) (in_turn (length (map waiting lanes)) turn)
+    (sym (e ∙ ap (λ ls. find (λ t. ltb 0 (length (waiting_in waiting ls t))) (in_turn (length ls) turn)) same
+    ∙ ap (λ n. find (λ t. ltb 0 (length (waiting_in waiting lanes t))) (in_turn n turn)) (sym (length-map lanes waiting))))
 
 -- where none waits, the reply is by whether all are shut
 pub take_reply-none : {M : Type 0} (b : Mailbox M) (all : Bool) → next_of b ≡ None → list_all (λ x. x) b.shut ≡ all → take_reply b ≡ taking None all

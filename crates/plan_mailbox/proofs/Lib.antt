@@ -5,3 +5,7 @@ pub mod Steps
 pub mod Runs
 pub mod Calls
 pub mod Orders
+pub mod Receives
+pub mod RingsApart
+pub mod LockedReplies
+pub mod Accounts

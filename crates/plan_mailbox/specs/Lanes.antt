@@ -1,15 +1,15 @@
--- The queues of the plain mailbox, one for each sender.
-use Rattle.std.specs.Prelude.{ℕ, Bool, List, [], map, slice_index_or}
-use Rattle.plan_mailbox.specs.declared.lanes.Lane.{Lane}
+-- What a mailbox of lanes is to its callers.
+use Rattle.std.specs.Prelude.{map}
+use Rattle.plan_mailbox.specs.declared.lane.Lane as declared
+use Rattle.plan_mailbox.specs.declared.lanes.Lanes.{Lanes}
+use Rattle.plan_mailbox.specs.Mailbox.{Mailbox}
 
--- for each sender the messages in its queue
-abbrev pub queues_of : {M : Type 0} → List (Lane M) → List (List M)
-queues_of lanes = map (λ lane. lane.queue.items) lanes
-
--- for each sender whether it is shut
-abbrev pub marks_of : {M : Type 0} → List (Lane M) → List Bool
-marks_of lanes = map (λ lane. lane.is_shut) lanes
-
--- the messages in the queue of sender s, and none where there is no such sender
-abbrev pub queue_at : {M : Type 0} → List (Lane M) → ℕ → List M
-queue_at lanes s = slice_index_or (queues_of lanes) s []
+-- the mailbox that these lanes are: what is in the lane of a sender waits
+abbrev pub mailbox_of : {M L : Type 0} {lane : declared.Ghosts L M} → Lanes M L lane → Mailbox M
+mailbox_of {M} {L} {lane} lanes = record {
+  room = lanes.room;
+  waiting = map lane.waiting lanes.lanes.items;
+  shut = map lane.marked lanes.lanes.items;
+  turn = lanes.turn;
+  has_sent = lanes.has_sent;
+}

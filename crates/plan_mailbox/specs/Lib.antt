@@ -2,5 +2,9 @@ pub mod Turn
 pub mod History
 pub mod Reply
 pub mod Mailbox
-pub mod Queues
+pub mod Places
 pub mod Lanes
+pub mod Rings
+pub mod Ends
+pub mod Splits
+pub mod Locked

@@ -38,9 +38,17 @@ is_shut_at b s = slice_index_or b.shut s false
 abbrev pub new_mailbox : {M : Type 0} → ℕ → ℕ → Mailbox M
 new_mailbox senders room = record { room = room; waiting = replicate senders []; shut = replicate senders false; turn = 0; has_sent = false }
 
--- the sizes that a mailbox may have: 1 to 8 senders, with room for 1 to 1,024 messages of each
+-- the most senders of a mailbox
+abbrev pub most_senders : ℕ
+most_senders = 8
+
+-- the most messages of a sender for which a mailbox has room
+abbrev pub most_room : ℕ
+most_room = 1024
+
+-- the sizes that a mailbox may have: from 1 sender on, with room for 1 message of each on
 abbrev pub is_size : ℕ → ℕ → Bool
-is_size senders room = nat_le 1 senders && nat_le senders 8 && (nat_le 1 room && nat_le room 1024)
+is_size senders room = nat_le 1 senders && nat_le senders most_senders && (nat_le 1 room && nat_le room most_room)
 
 -- a mailbox is as new
 abbrev pub IsNew : {M : Type 0} → Mailbox M → Type 0

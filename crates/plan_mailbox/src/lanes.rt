@@ -1,71 +1,137 @@
-ghost use Rattle.std.specs.Prelude.{◌≡◌, ◌<◌, ◌≤◌, All, IfOk, IfSome, [], false, find, length, nat_lt, vec_len};
-ghost use Rattle.std.specs.List.{list_all, list_any};
-ghost use Rattle.std.specs.VecDeque.{deque_capacity};
-ghost use Rattle.plan_mailbox.specs.Lanes.{queue_at};
-ghost use Rattle.plan_mailbox.specs.Turn.{in_turn};
+ghost use Rattle.std.specs.Prelude.{◌≡◌, ◌<◌, ◌≤◌, All, length, vec_len, false};
+ghost use Rattle.plan_mailbox.specs.Mailbox.{most_room, most_senders};
 
-use std::alloc::{AllocError, Global};
-use std::collections::VecDeque;
+use crate::faults::NewFault;
+use crate::lane::Lane;
+use crate::mailbox::Post;
+use crate::replies::Reply;
+use crate::scan::{all_shut, any_shut, first_waiting, new_lanes};
+use crate::sizes::{MOST_ROOM, MOST_SENDERS};
+use std::alloc::Global;
+use std::marker::PhantomData;
 
-/// The queue of a sender, and whether it is shut.
+/// A mailbox of messages `M` that keeps a lane `L` for each sender. Its room is made by `new`.
+///
+/// Both `Core` and `Rings` are such a mailbox, and meet every clause of `Post` by one body.
 #[derive(Drop)]
-pub(crate) struct Lane<M> {
-    pub(crate) queue: VecDeque<M>,
-    pub(crate) is_shut: bool,
-}
-
-/// The first sender, from the turn on and round, of which a message waits.
-pub(crate) fn first_waiting<M>(lanes: &[Lane<M>], turn: usize) -> Option<usize>
-    requires { turn < length lanes.now }
-    ensures first { result ≡ find (λ s. nat_lt 0 (length (queue_at lanes.now s)))
-        (in_turn (length lanes.now) turn) }
-    ensures known { IfSome result (λ s. s < length lanes.now) }
-    ensures waits { IfSome result (λ s. 0 < length (queue_at lanes.now s)) }
-{
-    (turn..lanes.len())
-        .chain(0..turn)
-        .find(|sender| has_waiting(lanes, *sender))
-}
-
-/// Whether all senders are shut.
-pub(crate) fn all_shut<M>(lanes: &[Lane<M>]) -> bool
-    ensures { result ≡ list_all (λ lane. lane.is_shut) lanes.now }
-{
-    lanes.iter().all(|lane| lane.is_shut)
-}
-
-/// Whether any sender is shut.
-pub(crate) fn any_shut<M>(lanes: &[Lane<M>]) -> bool
-    ensures { result ≡ list_any (λ lane. lane.is_shut) lanes.now }
-{
-    lanes.iter().any(|lane| lane.is_shut)
-}
-
-/// Whether a message of the sender waits.
-fn has_waiting<M>(lanes: &[Lane<M>], sender: usize) -> bool
-    ensures { result ≡ nat_lt 0 (length (queue_at lanes.now sender)) }
-{
-    lanes.get(sender).is_some_and(|lane| !lane.queue.is_empty())
-}
-
-/// Empty queues, each with its room.
-pub(crate) fn new_lanes<M: Drop>(
-    alloc: Global,
-    senders: usize,
+pub struct Lanes<M, L: Lane<M>> {
     room: usize,
-) -> Result<Vec<Lane<M>>, AllocError>
-    ensures many { IfOk result (λ lanes. vec_len lanes ≡ senders) }
-    ensures empty { IfOk result (λ lanes. All (λ lane. lane.queue.items ≡ []) lanes.items) }
-    ensures not_shut { IfOk result (λ lanes. All (λ lane. lane.is_shut ≡ false) lanes.items) }
-    ensures reserved { IfOk result (λ lanes. All (λ lane. room ≤ deque_capacity lane.queue) lanes.items) }
-{
-    let mut lanes = Vec::with_capacity(alloc, senders)?;
-    for _ in 0..senders {
-        let queue = VecDeque::with_capacity(alloc, room)?;
-        lanes.push_reserved(Lane {
-            queue,
-            is_shut: false,
-        });
+    pub(crate) lanes: Vec<L>,
+    turn: usize,
+    has_sent: bool,
+    of: PhantomData<M>,
+    ghost has_senders: { 0 < vec_len lanes },
+    ghost few_senders: { vec_len lanes ≤ most_senders },
+    ghost has_room: { 0 < room },
+    ghost little_room: { room ≤ most_room },
+    ghost turn_in_range: { turn < vec_len lanes },
+    ghost reserved: { All (λ lane. L.places lane ≡ room) lanes.items },
+    ghost fits: { All (λ lane. length (L.waiting lane) ≤ room) lanes.items },
+    ghost begins: { has_sent ≡ false → turn ≡ 0 },
+    ghost unused: { has_sent ≡ false → All (λ lane. length (L.sent lane) ≡ 0) lanes.items },
+}
+
+impl<M: Drop, L: Lane<M>> Lanes<M, L> {
+    ghost use Rattle.std.specs.Prelude.{◌≡◌, ◌↔◌, IfOk, IsErrOf, false};
+    ghost use Rattle.plan_mailbox.specs.Mailbox.{IsNew, is_size, new_mailbox};
+    ghost use Rattle.plan_mailbox.specs.Lanes.{mailbox_of};
+
+    /// An empty mailbox of 1 to 8 senders, with room for 1 to 1,024 messages of each: the only call that takes memory.
+    ///
+    /// `BadSize` comes at other sizes, and before `NoMemory`.
+    pub fn new(alloc: Global, senders: usize, room: usize) -> Result<Self, NewFault>
+        ensures made { IfOk result (λ made. mailbox_of made ≡ new_mailbox senders room) }
+        ensures is_new { IfOk result (λ made. IsNew (mailbox_of made)) }
+        ensures bad_size { IsErrOf result NewFault.BadSize ↔ (is_size senders room ≡ false) }
+    {
+        if !(1..=MOST_SENDERS).contains(&senders) || !(1..=MOST_ROOM).contains(&room) {
+            return Err(NewFault::BadSize);
+        }
+        Ok(Lanes {
+            room,
+            lanes: new_lanes(alloc, senders, room)?,
+            turn: 0,
+            has_sent: false,
+            of: PhantomData,
+        })
     }
-    Ok(lanes)
+}
+
+impl<M, L: Lane<M>> Lanes<M, L> {
+    ghost use Rattle.std.specs.Prelude.{◌≡◌};
+
+    /// Its lanes, in the order of the senders.
+    pub(crate) fn into_lanes(self) -> Vec<L>
+        ensures { result ≡ self.lanes }
+    {
+        let Lanes {
+            room: _,
+            lanes,
+            turn: _,
+            has_sent: _,
+            of: _,
+        } = self;
+        lanes
+    }
+}
+
+impl<M: Drop, L: Lane<M>> Post<M> for Lanes<M, L> {
+    ghost use Rattle.plan_mailbox.specs.Lanes.{mailbox_of};
+
+    ghost seen = { mailbox_of };
+
+    fn send(&mut self, sender: usize, message: M) -> Reply<M> {
+        let Some(lane) = self.lanes.get_mut(sender) else {
+            return Reply::NoSender(message);
+        };
+        if lane.is_shut() {
+            return Reply::Closed(message);
+        }
+        if lane.len() == self.room {
+            return Reply::Full(message);
+        }
+        lane.push(message);
+        self.has_sent = true;
+        Reply::Sent
+    }
+
+    fn take(&mut self) -> Reply<M> {
+        match first_waiting(&self.lanes, self.turn) {
+            Some(sender) => {
+                let message = self.lanes[sender].pop();
+                self.turn = (sender + 1) % self.lanes.len();
+                Reply::Took(sender, message)
+            }
+            None => {
+                if all_shut(&self.lanes) {
+                    Reply::Ended
+                } else {
+                    Reply::Nothing
+                }
+            }
+        }
+    }
+
+    fn close(&mut self, sender: usize) -> Reply<M> {
+        let Some(lane) = self.lanes.get_mut(sender) else {
+            return Reply::Unknown;
+        };
+        if lane.is_shut() {
+            return Reply::AlreadyShut;
+        }
+        lane.shut();
+        Reply::Shut
+    }
+
+    fn is_new(&self) -> bool {
+        !self.has_sent && !any_shut(&self.lanes)
+    }
+
+    fn senders(&self) -> usize {
+        self.lanes.len()
+    }
+
+    fn room(&self) -> usize {
+        self.room
+    }
 }

@@ -1,0 +1,47 @@
+use Rattle.std.proofs.Common.{◌≡◌, ◌+◌, ◌++◌, [], ◌∷◌, All, List, length, map, false, rules, refl, sym, ap, subst, ◌∙◌, append_assoc, zero-add, arith}
+use Rattle.std.specs.List.{enumerate_from}
+use Rattle.std.specs.Vec.Iter.{into_iter_items}
+use Rattle.std.proofs.lemmas.List.{append-nil, length-append, map-append, nil_from_length}
+use Rattle.rtrb.specs.Ring.{sent}
+use Rattle.plan_mailbox.specs.Ends.{outlet_of, producer_ring, receiving}
+use Rattle.plan_mailbox.proofs.RingsApart.{IsUnused, end_from, outlet_from, enumerate_from-push, inlet-apart, outlets-apart}
+use Rattle.plan_mailbox.proofs.rings.Lanes+M+RingLane+M.split.Goals as goal
+
+pub loop-lane-preserved : goal.loop-lane-preserved
+loop-lane-preserved g c =
+    let before = c.loop-lane.invariant in
+    let lane = c.in-Some.lane in
+    let lanes = c.loop-lane.yielded in
+    let one_more = length-append lanes (lane ∷ []) in
+    let number : c.len.result ≡ length lanes = c.len.ensures ∙ before.outlet_count in
+    let outlet : outlet_of c.new.result ≡ outlet_from (0 + length lanes, lane) = c.new.ensures
+    ∙ ap (λ p. record { sender = c.len.result; ring = producer_ring p; sent = sent p }) c.into_ends-producer.ensures.producer ∙ ap (λ n. outlet_from (n, lane)) (number ∙ sym (zero-add (length lanes))) in
+    record {
+      can = search rules;
+      ends_once = search rules;
+      left = rw append_assoc (ap (λ rest. lanes ++ rest) (sym c.in-Some.ensures.steps.0) ∙ before.left);
+      outlet_room = omega (arith, c.push_reserved.ensures.capacity);
+      end_room = omega (arith, c.push_reserved-in-loop-lane.ensures.capacity);
+      outlet_count = omega (arith, c.push_reserved.ensures.len, one_more);
+      end_count = omega (arith, c.push_reserved-in-loop-lane.ensures.len, one_more);
+      outlets = rw (c.push_reserved.ensures.items, map-append, before.outlets, enumerate_from-push, map-append, outlet);
+      ends = rw (c.push_reserved-in-loop-lane.ensures.items, before.ends, c.new-in-loop-lane.ensures, c.into_ends-producer.ensures.consumer, map-append);
+    }
+
+-- every lane was taken apart
+all_yielded : {A : Type 0} (yielded left all : List A) → yielded ++ left ≡ all → length left ≡ 0 → yielded ≡ all
+all_yielded yielded left all e none = sym (append-nil yielded) ∙ ap (λ rest. yielded ++ rest) (sym (nil_from_length left none)) ∙ e
+
+pub returns-clause-outlets : goal.returns-clause-outlets
+returns-clause-outlets g c =
+    let self = c.args.self in
+    let unused : All IsUnused self.lanes.items = self.unused (ap (λ b. b.has_sent) c.requires) in
+    let all = all_yielded c.loop-lane.yielded (into_iter_items c.loop-lane.lane-iterator) self.lanes.items c.loop-lane.invariant.left (omega (arith, c.in-None.ensures.steps.0, c.loop-lane.lane-iterator.rest.ok)) in
+    c.loop-lane.invariant.outlets ∙ ap (λ lanes. map outlet_from (enumerate_from 0 lanes)) all ∙ outlets-apart self.lanes.items unused
+
+pub returns-clause-inlet : goal.returns-clause-inlet
+returns-clause-inlet g c =
+    let self = c.args.self in
+    let unused : All IsUnused self.lanes.items = self.unused (ap (λ b. b.has_sent) c.requires) in
+    let all = all_yielded c.loop-lane.yielded (into_iter_items c.loop-lane.lane-iterator) self.lanes.items c.loop-lane.invariant.left (omega (arith, c.in-None.ensures.steps.0, c.loop-lane.lane-iterator.rest.ok)) in
+    c.new-2.ensures ∙ ap (receiving 0) (c.loop-lane.invariant.ends ∙ ap (map end_from) all) ∙ inlet-apart self.lanes.items unused

@@ -1,0 +1,72 @@
+ghost use Rattle.std.specs.Prelude.{◌<◌, vec_len};
+
+use crate::outlet::Receipt;
+use crate::ring_end::{RingEnd, take_among};
+use thiserror::Error;
+
+/// The end of all rings of a mailbox: the receiver's own.
+///
+/// Contracts see it as the turn and, for each sender, its ring, the messages that were taken of it, those that are known
+/// to wait, and whether its receipt was settled.
+#[derive(Drop)]
+pub struct Inlet<M> {
+    ends: Vec<RingEnd<M>>,
+    turn: usize,
+    ghost turn_in_range: { turn < vec_len ends },
+}
+
+/// What an outlet sent can't be told. `Inlet::settle` alone makes it.
+#[derive(Clone, Copy, Debug, PartialEq, Eq, Error)]
+#[error("NotSettled")]
+pub struct NotSettled {
+    pub(crate) made_by_settle: (),
+}
+
+impl<M> Inlet<M> {
+    ghost use Rattle.std.specs.Prelude.{◌≡◌, IfSome, IfNone};
+    ghost use Rattle.plan_mailbox.specs.Ends.{IsTake, NothingKnown, inlet_of, receiving};
+
+    /// The inlet over these ends. The first sender has the turn.
+    pub(crate) fn new(ends: Vec<RingEnd<M>>) -> Self
+        requires { 0 < vec_len ends }
+        ensures { inlet_of result ≡ receiving 0 ends.items }
+    {
+        Inlet { ends, turn: 0 }
+    }
+
+    /// Takes the oldest message of the first sender, from the turn on and round, of which the ring has one, with the
+    /// sender's number. The sender after it then has the turn. It returns at once, whatever the senders do.
+    pub fn try_take(&mut self) -> Option<(usize, M)>
+        ensures took { IfSome result (λ took. IsTake (inlet_of self.old) took.0 took.1 (inlet_of self.new)) }
+        ensures unchanged { IfNone result (inlet_of self.new ≡ inlet_of self.old) }
+        ensures nothing_known { IfNone result (NothingKnown (inlet_of self.old)) }
+    {
+        let senders = self.ends.len();
+        let turn = self.turn;
+        if let Some((sender, message)) = take_among(&mut self.ends, turn, senders) {
+            self.turn = (sender + 1) % senders;
+            return Some((sender, message));
+        }
+        let (sender, message) = take_among(&mut self.ends, 0, turn)?;
+        self.turn = (sender + 1) % senders;
+        Some((sender, message))
+    }
+}
+
+impl<M: Drop> Inlet<M> {
+    ghost use Rattle.std.specs.Prelude.{◌≡◌, OnOk, OnErr, slice_get};
+    ghost use Rattle.plan_mailbox.specs.Ends.{Accounts, after_settle, inlet_of, known_at, receipt_of};
+
+    /// Tells what still waits of the sender whose outlet was closed. It returns at once.
+    pub fn settle(&mut self, sender: usize, receipt: Receipt<M>) -> Result<(), NotSettled>
+        // The receipt is that of the outlet of this sender of the same split.
+        requires { slice_get (inlet_of self.old).rings sender ≡ Some (receipt_of receipt).ring }
+        ensures accounts { OnOk result (Accounts (inlet_of self.new) sender (receipt_of receipt).sent) }
+        ensures settled { OnOk result
+            (inlet_of self.new ≡ after_settle (inlet_of self.old) sender (known_at (inlet_of self.new) sender)) }
+        ensures refused { OnErr result (inlet_of self.new ≡ inlet_of self.old) }
+    {
+        self.ends[sender].settle(receipt.into_producer());
+        Ok(())
+    }
+}
