@@ -1,0 +1,313 @@
+-- What a collector answers does not depend on the order in which the notes of different planners arrive.
+use Rattle.std.proofs.Common.{◌≡◌, ◌≢◌, ℕ, zero, suc, ◌+◌, ◌%◌, ◌<◌, ◌≤◌, ◌⊎◌, Bool, true, false, ◌&&◌, ◌==◌, nat_lt, nat_le, List, [], ◌∷◌, length, map, filter, get_or, Some, None, Result, Ok, Err, inl, inr, refl, ap, ap₂, sym, ◌∙◌, subst, arith}
+use Rattle.std.specs.Prelude.{slice_get, slice_index, if◌then◌else◌, unwrap_or, cond, Option, MatchResult}
+use Rattle.std.specs.List.{list_all}
+use Rattle.std.proofs.Math.ListN.{set}
+use Rattle.std.proofs.lemmas.Bool.{cases_lt, cases_eq, cases_Bool, and_parts, and_from, eqb-true, ltb-true, leb-true, eq-eqb, ne_eqb}
+use Rattle.std.proofs.lemmas.List.{length-set, get_or-set_same, get_or-set_other, get_or_past}
+use Rattle.std.proofs.lemmas.Option.{unwrap_or-slice_get, slice_get_within}
+use Rattle.plan_match.specs.declared.rule.Rule.{Rule}
+use Rattle.plan_match.specs.Equal.{same_rule, same_rule-Decides}
+use Rattle.plan_next.specs.Starts.{starts}
+use Rattle.plan_collect.specs.declared.note.Note.{Note}
+use Rattle.plan_collect.specs.declared.note.Note.TheVariants.{Part, Last}
+use Rattle.plan_collect.specs.declared.collector.CollectFault.{CollectFault}
+use Rattle.plan_collect.specs.declared.collector.CollectFault.TheVariants.{TooMany}
+use Rattle.plan_collect.specs.Span.{Bounds}
+use Rattle.plan_collect.specs.Collecting.{Collected, held, belongs, is_rule_of, has_ended, adjoins, has_room, refusal, after, is_complete}
+use Rattle.plan_collect.specs.Tiling.{starts_in, notes_of}
+use Rattle.plan_collect.specs.Merging.{answer_to}
+use Rattle.plan_collect.proofs.PiecesLemmas.{held_further}
+
+-- ---- notes that fit
+
+-- a piece does not end before it begins
+abbrev pub IsOrdered : Note → Type 0
+IsOrdered (Part job piece) = piece.since ≤ piece.upto
+IsOrdered Last = Unit {0}
+
+-- but for its room, the collector accepts the planner's note
+pub record Fits (k : ℕ) (c : Collected) (note : Note) : Type 0 where
+  pub own : belongs c k note ≡ true
+  pub early : has_ended c k ≡ false
+  pub next : adjoins c note ≡ true
+  pub ordered : IsOrdered note
+
+-- the planner's jobs are covered, and its last note came
+pub record IsDone (k : ℕ) (c : Collected) : Type 0 where
+  pub covered : (j : ℕ) → j < length c.covered → j % length c.ended ≡ k → slice_index c.covered j ≡ c.span.upto
+  pub ended : has_ended c k ≡ true
+
+-- the planner's notes fit one after another, and then all of it is done
+abbrev pub Ready : ℕ → Collected → List Note → Type 0
+Ready k c [] = IsDone k c
+Ready k c (note ∷ notes) = Fits k c note × Ready k (after c k note) notes
+
+-- the planner's notes fit one after another, and with `count` they bring more starts than the limit
+abbrev pub Over : (limit count k : ℕ) → Collected → List Note → Type 0
+Over limit count k c [] = limit < count
+Over limit count k c (note ∷ notes) = Fits k c note × Over limit (count + starts_in note) k (after c k note) notes
+
+-- ---- what a planner's notes look at
+
+-- two collectors are alike to a planner
+record IsAlike (k : ℕ) (c d : Collected) : Type 0 where
+  pub rules : c.rules ≡ d.rules
+  pub span : c.span ≡ d.span
+  pub size : length c.ended ≡ length d.ended
+  pub jobs : length c.covered ≡ length d.covered
+  pub covered : (j : ℕ) → j % length c.ended ≡ k → slice_index c.covered j ≡ slice_index d.covered j
+  pub ended : has_ended c k ≡ has_ended d k
+
+-- a job's number is the planner's
+own_job : (c : Collected) (k job : ℕ) (rule : Option Rule) (fits : Bool) → (nat_lt k (length c.ended) && (job % length c.ended == k && fits)) ≡ true → job % length c.ended ≡ k
+own_job c k job rule fits is = eqb-true _ _ (and_parts _ _ (and_parts _ _ is).1).0
+
+alike_fits : (k : ℕ) (c d : Collected) (note : Note) → IsAlike k c d → Fits k c note → Fits k d note
+alike_fits k c d (Part job piece) alike fits =
+    let own : job % length c.ended ≡ k = own_job c k job (slice_get c.rules job) _ fits.own in
+    record {
+      own = sym (ap₂ (λ n rules. nat_lt k n && (job % n == k && is_rule_of (slice_get rules job) piece.rule)) alike.size alike.rules) ∙ fits.own;
+      early = sym alike.ended ∙ fits.early;
+      next = sym (ap₂ (λ reached span. reached == piece.since && nat_le piece.upto (Bounds.upto span)) (alike.covered job own) alike.span) ∙ fits.next;
+      ordered = fits.ordered;
+    }
+alike_fits k c d Last alike fits = record {
+  own = sym (ap (λ n. nat_lt k n) alike.size) ∙ fits.own;
+  early = sym alike.ended ∙ fits.early;
+  next = refl;
+  ordered = tt;
+}
+
+-- the same write to two lists that read alike at a place
+set_alike : (xs ys : List ℕ) (i j v : ℕ) → length xs ≡ length ys → get_or xs j 0 ≡ get_or ys j 0 → get_or (set xs i v) j 0 ≡ get_or (set ys i v) j 0
+set_alike xs ys i j v size same =
+    elim (cases_eq j i) [
+      | inl is ↦ (elim (cases_lt j (length xs)) [
+        | inl inside ↦ (
+            let left : get_or (set xs j v) j 0 ≡ v = get_or-set_same xs j v 0 inside in
+            let right : get_or (set ys j v) j 0 ≡ v = get_or-set_same ys j v 0 (omega arith) in
+            ap (λ place. get_or (set xs place v) j 0) (sym is) ∙ left ∙ sym right ∙ ap (λ place. get_or (set ys place v) j 0) is)
+        | inr past ↦ (
+            let wide = length-set xs i v in
+            let wide' = length-set ys i v in
+            get_or_past (set xs i v) j 0 (omega arith) ∙ sym (get_or_past (set ys i v) j 0 (omega arith)))
+      ])
+      | inr not ↦ get_or-set_other xs i j v 0 not ∙ same ∙ sym (get_or-set_other ys i j v 0 not)
+    ]
+
+-- the last note ends its planner
+ends_now : (k : ℕ) (ended : List Bool) → k < length ended → unwrap_or (slice_get (set ended k true) k) false ≡ true
+ends_now k ended inside = unwrap_or-slice_get (set ended k true) k false ∙ get_or-set_same ended k true false inside
+
+alike_after : (k : ℕ) (c d : Collected) (note : Note) → IsAlike k c d → Fits k c note → IsAlike k (after c k note) (after d k note)
+alike_after k c d (Part job piece) alike fits = record {
+  rules = alike.rules;
+  span = alike.span;
+  size = alike.size;
+  jobs = length-set c.covered job piece.upto ∙ alike.jobs ∙ sym (length-set d.covered job piece.upto);
+  covered = λ j own. set_alike c.covered d.covered job j piece.upto alike.jobs (alike.covered j own);
+  ended = alike.ended;
+}
+alike_after k c d Last alike fits =
+    let inside : k < length c.ended = ltb-true _ _ fits.own in
+    let size = alike.size in
+    record {
+      rules = alike.rules;
+      span = alike.span;
+      size = length-set c.ended k true ∙ alike.size ∙ sym (length-set d.ended k true);
+      jobs = alike.jobs;
+      covered = λ j own. alike.covered j (ap (λ n. j % n) (sym (length-set c.ended k true)) ∙ own);
+      ended = ends_now k c.ended inside ∙ sym (ends_now k d.ended (omega arith));
+    }
+
+-- to another planner a note changes nothing
+alike_other : (k other : ℕ) (c : Collected) (note : Note) → other ≢ k → Fits k c note → IsAlike other c (after c k note)
+alike_other k other c (Part job piece) not fits =
+    let own : job % length c.ended ≡ k = own_job c k job (slice_get c.rules job) _ fits.own in
+    record {
+      rules = refl;
+      span = refl;
+      size = refl;
+      jobs = sym (length-set c.covered job piece.upto);
+      covered = λ j is. sym (get_or-set_other c.covered job j piece.upto 0 (λ same. not (sym is ∙ ap (λ n. n % length c.ended) same ∙ own)));
+      ended = refl;
+    }
+alike_other k other c Last not fits = record {
+  rules = refl;
+  span = refl;
+  size = sym (length-set c.ended k true);
+  jobs = refl;
+  covered = λ j is. refl;
+  ended = unwrap_or-slice_get c.ended other false ∙ sym (get_or-set_other c.ended k other true false not) ∙ sym (unwrap_or-slice_get (set c.ended k true) other false);
+}
+
+alike_ready : (k : ℕ) (notes : List Note) (c d : Collected) → IsAlike k c d → Ready k c notes → Ready k d notes
+alike_ready k [] c d alike done = record {
+  covered = λ j inside own.
+      let size = alike.size in
+      let jobs = alike.jobs in
+      let here : j % length c.ended ≡ k = ap (λ n. j % n) alike.size ∙ own in
+      sym (alike.covered j here) ∙ done.covered j (omega arith) here ∙ ap (λ (span : Bounds). span.upto) alike.span;
+  ended = sym alike.ended ∙ done.ended;
+}
+alike_ready k (note ∷ notes) c d alike (fits, rest) =
+    (alike_fits k c d note alike fits, alike_ready k notes (after c k note) (after d k note) (alike_after k c d note alike fits) rest)
+
+alike_over : (limit count k : ℕ) (notes : List Note) (c d : Collected) → IsAlike k c d → Over limit count k c notes → Over limit count k d notes
+alike_over limit count k [] c d alike more = more
+alike_over limit count k (note ∷ notes) c d alike (fits, rest) =
+    (alike_fits k c d note alike fits, alike_over limit (count + starts_in note) k notes (after c k note) (after d k note) (alike_after k c d note alike fits) rest)
+
+-- ---- what is held
+
+-- the parts of a collector fit one another
+pub record IsSound (c : Collected) : Type 0 where
+  pub jobs : length c.covered ≡ length c.rules
+  pub since : (j : ℕ) → j < length c.covered → c.span.since ≤ slice_index c.covered j
+  pub few : length (held c) ≤ c.limit
+
+-- a rule that is the same as the one known is that one
+found : (known : Option Rule) (rule : Rule) → is_rule_of known rule ≡ true → known ≡ Some rule
+found None rule is = cc
+found (Some own) rule is = ap (λ r. Some r) ((same_rule-Decides own rule).0 is)
+
+rule_is : (k size job : ℕ) (known : Bool) → (nat_lt k size && (job % size == k && known)) ≡ true → known ≡ true
+rule_is k size job known is = (and_parts (job % size == k) known (and_parts (nat_lt k size) (job % size == k && known) is).1).1
+
+held_after : (k : ℕ) (c : Collected) (note : Note) → IsSound c → Fits k c note → length (held (after c k note)) ≡ length (held c) + starts_in note
+held_after k c (Part job piece) sound fits =
+    let known : slice_get c.rules job ≡ Some piece.rule = found (slice_get c.rules job) piece.rule (rule_is k (length c.ended) job (is_rule_of (slice_get c.rules job) piece.rule) fits.own) in
+    let jobs = sound.jobs in
+    let among : job < length c.rules = slice_get_within c.rules job piece.rule known in
+    let inside : job < length c.covered = omega arith in
+    let reached : slice_index c.covered job ≡ piece.since = eqb-true _ _ (and_parts _ _ fits.next).0 in
+    let low = sound.since job inside in
+    held_further 0 c.span.since c.rules c.covered job piece.since piece.upto piece.rule known inside reached (omega arith) fits.ordered
+held_after k c Last sound fits = omega arith
+
+-- a collector that has room for a note that fits stays sound
+sound_after : (k : ℕ) (c : Collected) (note : Note) → IsSound c → Fits k c note → has_room c note ≡ true → IsSound (after c k note)
+sound_after k c (Part job piece) sound fits room =
+    let reached : slice_index c.covered job ≡ piece.since = eqb-true _ _ (and_parts _ _ fits.next).0 in
+    let size = length-set c.covered job piece.upto in
+    let few : length (held c) + length (starts piece.rule piece.since piece.upto) ≤ c.limit = leb-true _ _ room in
+    let new = held_after k c (Part job piece) sound fits in
+    record {
+      jobs = size ∙ sound.jobs;
+      since = λ j inside. (elim (cases_eq j job) [
+        | inl is ↦ (
+            let within : job < length c.covered = omega arith in
+            let low = sound.since job within in
+            let now : get_or (set c.covered job piece.upto) job 0 ≡ piece.upto = get_or-set_same c.covered job piece.upto 0 within in
+            let same : get_or (set c.covered job piece.upto) j 0 ≡ piece.upto = ap (λ place. get_or (set c.covered job piece.upto) place 0) is ∙ now in
+            let ordered : piece.since ≤ piece.upto = fits.ordered in
+            omega arith)
+        | inr not ↦ (
+            let old = sound.since j (omega arith) in
+            let same : get_or (set c.covered job piece.upto) j 0 ≡ get_or c.covered j 0 = get_or-set_other c.covered job j piece.upto 0 not in
+            omega arith)
+      ]);
+      few = omega arith;
+    }
+sound_after k c Last sound fits room = record { jobs = sound.jobs; since = sound.since; few = sound.few }
+
+-- ---- all together
+
+-- what is left of a planner's notes: they fit to the end, or they bring more starts than the limit
+abbrev pub Sends : ℕ → Collected → List Note → Type 0
+Sends k c notes = Ready k c notes ⊎ ((count : ℕ) × ((count ≤ length (held c)) × Over c.limit count k c notes))
+
+all_of : {X : Type 0} (test : X → Bool) (xs : List X) (d : X) → ((i : ℕ) → i < length xs → test (get_or xs i d) ≡ true) → list_all test xs ≡ true
+all_of test [] d each = refl
+all_of test (x ∷ xs) d each = and_from _ _ (each 0 (omega arith)) (all_of test xs d (λ i inside. each (suc i) (omega arith)))
+
+-- where nothing more comes, a planner is done: it cannot have sent more than the collector has room for
+done_of : (k : ℕ) (c : Collected) → IsSound c → Sends k c [] → IsDone k c
+done_of k c sound (inl done) = done
+done_of k c sound (inr (count, (held_so_far, more))) = let few = sound.few in absurd (omega arith)
+
+complete_of : (c : Collected) → IsSound c → 0 < length c.ended → ((k : ℕ) → k < length c.ended → Sends k c []) → is_complete c ≡ true
+complete_of c sound some each =
+    and_from _ _
+    (all_of (λ upto. upto == c.span.upto) c.covered 0 (λ j inside.
+    let own : j % length c.ended < length c.ended = omega arith in
+    eq-eqb _ _ ((done_of (j % length c.ended) c sound (each (j % length c.ended) own)).covered j inside refl)))
+    (all_of (λ ended. ended) c.ended false (λ k inside.
+    sym (unwrap_or-slice_get c.ended k false) ∙ (done_of k c sound (each k inside)).ended))
+
+-- a note at the front is its planner's next
+notes_own : (k : ℕ) (sent : ℕ × Note) (history : List (ℕ × Note)) → sent.0 ≡ k → notes_of k (sent ∷ history) ≡ sent.1 ∷ notes_of k history
+notes_own k sent history is = rw (eq-eqb sent.0 k is) refl
+
+notes_other : (k : ℕ) (sent : ℕ × Note) (history : List (ℕ × Note)) → (sent.0 ≡ k → ⊥) → notes_of k (sent ∷ history) ≡ notes_of k history
+notes_other k sent history not = rw (ne_eqb sent.0 k not) refl
+
+fits_of : (k : ℕ) (c : Collected) (note : Note) (notes : List Note) → Sends k c (note ∷ notes) → Fits k c note
+fits_of k c note notes (inl (fits, rest)) = fits
+fits_of k c note notes (inr (count, (few, (fits, rest)))) = fits
+
+-- what is left to send after a note was accepted
+sends_own : (k : ℕ) (c : Collected) (note : Note) (notes : List Note) → IsSound c → Sends k c (note ∷ notes) → Sends k (after c k note) notes
+sends_own k c note notes sound (inl (fits, rest)) = inl rest
+sends_own k c (Part job piece) notes sound (inr (count, (few, (fits, rest)))) =
+    let new = held_after k c (Part job piece) sound fits in
+    inr (count + starts_in (Part job piece), (omega arith, rest))
+sends_own k c Last notes sound (inr (count, (few, (fits, rest)))) = inr (count + 0, (omega arith, rest))
+
+sends_other : (k other : ℕ) (c : Collected) (note : Note) (notes : List Note) → other ≢ k → IsSound c → Fits k c note → Sends other c notes → Sends other (after c k note) notes
+sends_other k other c note notes not sound fits (inl rest) = inl (alike_ready other notes c (after c k note) (alike_other k other c note not fits) rest)
+sends_other k other c (Part job piece) notes not sound fits (inr (count, (few, rest))) =
+    let new = held_after k c (Part job piece) sound fits in
+    let alike = alike_other k other c (Part job piece) not fits in
+    inr (count, (omega arith, alike_over c.limit count other notes c (after c k (Part job piece)) alike rest))
+sends_other k other c Last notes not sound fits (inr (count, (few, rest))) =
+    inr (count, (few, alike_over c.limit count other notes c (after c k Last) (alike_other k other c Last not fits) rest))
+
+-- a note that fits is refused for want of room alone
+refusal_of : (k : ℕ) (c : Collected) (note : Note) → Fits k c note → refusal c k note ≡ (if has_room c note then None else Some TooMany)
+refusal_of k c note fits = rw (fits.own, fits.early, fits.next) refl
+
+-- each note is of one of these planners
+abbrev pub AllOf : (planners : ℕ) → List (ℕ × Note) → Type 0
+AllOf planners [] = Unit {0}
+AllOf planners (sent ∷ history) = (sent.0 < planners) × AllOf planners history
+
+size_after : (k : ℕ) (c : Collected) (note : Note) → length (after c k note).ended ≡ length c.ended
+size_after k c (Part job piece) = refl
+size_after k c Last = length-set c.ended k true
+
+answer_accepted : (c : Collected) (sent : ℕ × Note) (history : List (ℕ × Note)) → refusal c sent.0 sent.1 ≡ None → answer_to c (sent ∷ history) ≡ answer_to (after c sent.0 sent.1) history
+answer_accepted c sent history is = rw (is, answer_to) refl
+
+answer_refused : (c : Collected) (sent : ℕ × Note) (history : List (ℕ × Note)) (fault : CollectFault) → refusal c sent.0 sent.1 ≡ Some fault → answer_to c (sent ∷ history) ≡ Err fault
+answer_refused c sent history fault is = rw (is, answer_to) refl
+
+-- the collector accepted all and is complete, or it has no more room
+abbrev pub IsFair : Result Collected CollectFault → Type 0
+IsFair answer = MatchResult answer (λ d. is_complete d ≡ true) (λ fault. fault ≡ TooMany)
+
+-- for every order of arrival
+pub merged : (history : List (ℕ × Note)) (c : Collected) → IsSound c → 0 < length c.ended → AllOf (length c.ended) history → ((k : ℕ) → k < length c.ended → Sends k c (notes_of k history)) → IsFair (answer_to c history)
+merged [] c sound some known each = complete_of c sound some each
+merged (sent ∷ history) c sound some known each =
+    let k = sent.0 in
+    let note = sent.1 in
+    let mine : Sends k c (note ∷ notes_of k history) = rw (notes_own k sent history refl) at (each k known.0) in
+    let fits : Fits k c note = fits_of k c note (notes_of k history) mine in
+    let refused : refusal c k note ≡ (if has_room c note then None else Some TooMany) = refusal_of k c note fits in
+    elim (cases_Bool (has_room c note)) [
+      | inl room ↦ (
+          let size : length (after c k note).ended ≡ length c.ended = size_after k c note in
+          let accepted : refusal c k note ≡ None = refused ∙ (rw room refl) in
+          subst IsFair (sym (answer_accepted c sent history accepted)) (merged history (after c k note) (sound_after k c note sound fits room) (omega arith)
+          (subst (λ n. AllOf n history) (sym size) known.1)
+          (λ other among. elim (cases_eq other k) [
+            | inl is ↦ subst (λ planner. Sends planner (after c k note) (notes_of planner history)) (sym is) (sends_own k c note (notes_of k history) sound mine)
+            | inr not ↦ sends_other k other c note (notes_of other history) not sound fits
+                (rw (notes_other other sent history (λ same. not (sym same))) at (each other (omega arith)))
+          ])))
+      | inr full ↦ (
+          let too_many : refusal c k note ≡ Some TooMany = refused ∙ (rw full refl) in
+          subst IsFair (sym (answer_refused c sent history TooMany too_many)) refl)
+    ]

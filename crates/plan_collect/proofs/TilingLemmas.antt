@@ -1,0 +1,269 @@
+-- What a planner sends fits, note by note.
+use Rattle.std.proofs.Common.{◌≡◌, ◌≢◌, ℕ, zero, suc, ◌+◌, ◌-◌, ◌%◌, ◌<◌, ◌≤◌, ◌⊎◌, Bool, true, false, ◌&&◌, ◌==◌, nat_lt, nat_le, List, [], ◌∷◌, ◌++◌, length, map, replicate, get_or, Some, None, inl, inr, refl, ap, ap₂, sym, ◌∙◌, subst, arith, append_assoc}
+use Rattle.std.specs.Prelude.{slice_get, slice_index, unwrap_or}
+use Rattle.std.proofs.Math.ListN.{set}
+use Rattle.std.proofs.lemmas.Bool.{cases_lt, cases_eq, cases_Bool, and_from, and_parts, eq-eqb, ne_eqb, lt-ltb, le-ltb, le-leb, leb-true, ltb-true, ltb-false}
+use Rattle.std.proofs.lemmas.List.{length-set, get_or-set_same, get_or-set_other, length-replicate, get_or-replicate}
+use Rattle.std.proofs.lemmas.Option.{unwrap_or-slice_get}
+use Rattle.plan_match.specs.declared.rule.Rule.{Rule}
+use Rattle.plan_match.specs.Equal.{same_rule, same_rule-Decides}
+use Rattle.plan_next.specs.Starts.{is_start, starts}
+use Rattle.plan_next.specs.StartsLaws.{passing-none}
+use Rattle.plan_next.specs.Piece.{Part, piece_of, piece_end}
+use Rattle.plan_collect.specs.declared.note.Note.{Note}
+use Rattle.plan_collect.specs.declared.note.Note.TheVariants as note
+use Rattle.plan_collect.specs.Span.{Bounds}
+use Rattle.plan_collect.specs.Limits.{is_size, most_planners, most_starts}
+use Rattle.plan_collect.specs.Collecting.{Collected, begun, held, held_from, belongs, has_ended, adjoins, after}
+use Rattle.plan_collect.specs.Tiling.{pieces_within, pieces, parts_from, tiling, starts_in, cut_after, sent_by, notes_of, IsMerging}
+use Rattle.plan_collect.specs.Merging.{answer_to, AcceptsMergings}
+use Rattle.plan_collect.proofs.PiecesLemmas.{Ends, piece_ends, piece_of_nothing}
+use Rattle.plan_collect.proofs.MergingLemmas.{Fits, IsDone, Ready, Over, Sends, IsSound, IsFair, AllOf, merged}
+
+-- a write after a write
+set_again : (xs : List ℕ) (i a b : ℕ) → set (set xs i a) i b ≡ set xs i b
+set_again [] i a b = refl
+set_again (x ∷ xs) zero a b = refl
+set_again (x ∷ xs) (suc i) a b = ap (λ rest. x ∷ rest) (set_again xs i a b)
+
+-- a job of the planner, with its rule, that the planner is at
+record IsAtJob (k job : ℕ) (rule : Rule) (c : Collected) : Type 0 where
+  pub planner : k < length c.ended
+  pub own : job % length c.ended ≡ k
+  pub known : slice_get c.rules job ≡ Some rule
+  pub early : has_ended c k ≡ false
+  pub inside : job < length c.covered
+
+abbrev covering : Collected → (job upto : ℕ) → Collected
+covering c job upto = record c { covered = set c.covered job upto }
+
+fits_next : (k job : ℕ) (rule : Rule) (c : Collected) (from upto : ℕ) → IsAtJob k job rule c → slice_index c.covered job ≡ from → from ≤ upto → upto ≤ c.span.upto → Fits k c (note.Part job (record { rule = rule; since = from; upto = upto }))
+fits_next k job rule c from upto here reached low high = record {
+  own = and_from _ _ (lt-ltb _ _ here.planner) (and_from _ _ (eq-eqb _ _ here.own) (rw here.known ((same_rule-Decides rule rule).1 refl)));
+  early = here.early;
+  next = and_from _ _ (eq-eqb _ _ reached) (le-leb _ _ high);
+  ordered = low;
+}
+
+at_job_covering : (k job : ℕ) (rule : Rule) (c : Collected) (upto : ℕ) → IsAtJob k job rule c → IsAtJob k job rule (covering c job upto)
+at_job_covering k job rule c upto here =
+    let size = length-set c.covered job upto in
+    let inside = here.inside in
+    record { planner = here.planner; own = here.own; known = here.known; early = here.early; inside = omega arith }
+
+-- the first of some pieces, and whether others follow
+pieces_last : (seconds : ℕ) (rule : Rule) (since upto : ℕ) → nat_lt (piece_end rule since upto most_starts) upto ≡ false → pieces_within (suc seconds) rule since upto ≡ piece_of rule since upto most_starts ∷ []
+unfolding pieces_within
+pieces_last seconds rule since upto is = rw (is, pieces_within) refl
+
+pieces_more : (seconds : ℕ) (rule : Rule) (since upto : ℕ) → nat_lt (piece_end rule since upto most_starts) upto ≡ true → pieces_within (suc seconds) rule since upto ≡ piece_of rule since upto most_starts ∷ pieces_within seconds rule (piece_end rule since upto most_starts) upto
+unfolding pieces_within
+pieces_more seconds rule since upto is = rw (is, pieces_within) refl
+
+pieces_one : (rule : Rule) (since upto : ℕ) → pieces_within zero rule since upto ≡ piece_of rule since upto most_starts ∷ []
+unfolding pieces_within
+pieces_one rule since upto = refl
+
+-- the pieces of a job fit, one after another, and cover it
+ready_pieces : (seconds k job : ℕ) (rule : Rule) (c : Collected) (from : ℕ) (rest : List Note) → IsAtJob k job rule c → slice_index c.covered job ≡ from → from ≤ c.span.upto → c.span.upto - from ≤ seconds → Ready k (covering c job c.span.upto) rest → Ready k c (map (note.Part job) (pieces_within seconds rule from c.span.upto) ++ rest)
+ready_pieces zero k job rule c from rest here reached part few ready =
+    let whole : from ≡ c.span.upto = omega arith in
+    let end : piece_end rule from c.span.upto most_starts ≡ c.span.upto = ap (λ since. piece_end rule since c.span.upto most_starts) whole ∙ piece_of_nothing rule c.span.upto most_starts in
+    let all : Ready k c (note.Part job (record { rule = rule; since = from; upto = c.span.upto }) ∷ rest) = (fits_next k job rule c from c.span.upto here reached part (omega arith), ready) in
+    subst (λ ps. Ready k c (map (note.Part job) ps ++ rest)) (sym (pieces_one rule from c.span.upto)) (subst (λ upto. Ready k c (note.Part job (record { rule = rule; since = from; upto = upto }) ∷ rest)) (sym end) all)
+ready_pieces (suc seconds) k job rule c from rest here reached part few ready =
+    let end = piece_end rule from c.span.upto most_starts in
+    let ends : Ends from c.span.upto end = piece_ends rule from c.span.upto most_starts (omega arith) part in
+    let fits : Fits k c (note.Part job (piece_of rule from c.span.upto most_starts)) = fits_next k job rule c from end here reached ends.from ends.to in
+    elim (cases_lt end c.span.upto) [
+      | inl more ↦ (
+          let go_on : nat_lt end c.span.upto ≡ true = lt-ltb _ _ more in
+          let now : slice_index (covering c job end).covered job ≡ end = get_or-set_same c.covered job end 0 here.inside in
+          let moves = ends.moves in
+          let again : Ready k (covering (covering c job end) job c.span.upto) rest = subst (λ covered. Ready k (record c { covered = covered }) rest) (sym (set_again c.covered job end c.span.upto)) ready in
+          let all : Ready k c (note.Part job (piece_of rule from c.span.upto most_starts) ∷ (map (note.Part job) (pieces_within seconds rule end c.span.upto) ++ rest)) =
+          (fits, ready_pieces seconds k job rule (covering c job end) end rest (at_job_covering k job rule c end here) now ends.to (omega arith) again) in
+          subst (λ ps. Ready k c (map (note.Part job) ps ++ rest)) (sym (pieces_more seconds rule from c.span.upto go_on)) all)
+      | inr no_more ↦ (
+          let stop : nat_lt end c.span.upto ≡ false = le-ltb _ _ no_more in
+          let to = ends.to in
+          let is : c.span.upto ≡ end = omega arith in
+          let all : Ready k c (note.Part job (piece_of rule from c.span.upto most_starts) ∷ rest) = (fits, subst (λ upto. Ready k (covering c job upto) rest) is ready) in
+          subst (λ ps. Ready k c (map (note.Part job) ps ++ rest)) (sym (pieces_last seconds rule from c.span.upto stop)) all)
+    ]
+
+parts_none : (job k planners : ℕ) (span : Bounds) → parts_from job k planners [] span ≡ []
+unfolding parts_from
+parts_none job k planners span = refl
+
+parts_own : (job k planners : ℕ) (rule : Rule) (rules : List Rule) (span : Bounds) → job % planners ≡ k → parts_from job k planners (rule ∷ rules) span ≡ map (note.Part job) (pieces rule span.since span.upto) ++ parts_from (job + 1) k planners rules span
+unfolding parts_from
+parts_own job k planners rule rules span own = let is : (job % planners == k) ≡ true = eq-eqb _ _ own in rw (is, parts_from) refl
+
+parts_other : (job k planners : ℕ) (rule : Rule) (rules : List Rule) (span : Bounds) → (job % planners ≡ k → ⊥) → parts_from job k planners (rule ∷ rules) span ≡ parts_from (job + 1) k planners rules span
+unfolding parts_from
+parts_other job k planners rule rules span other = let is : (job % planners == k) ≡ false = ne_eqb _ _ other in rw (is, parts_from) refl
+
+-- the planner's jobs before this one are covered, and of those from it on, which have these rules, nothing came
+record IsAt (k job : ℕ) (rules : List Rule) (c : Collected) : Type 0 where
+  pub planner : k < length c.ended
+  pub early : has_ended c k ≡ false
+  pub known : (i : ℕ) (rule : Rule) → slice_get rules i ≡ Some rule → slice_get c.rules (job + i) ≡ Some rule
+  pub jobs : length c.covered ≡ job + length rules
+  pub part : c.span.since ≤ c.span.upto
+  pub coming : (j : ℕ) → job ≤ j → j < length c.covered → slice_index c.covered j ≡ c.span.since
+  pub done : (j : ℕ) → j < job → j % length c.ended ≡ k → slice_index c.covered j ≡ c.span.upto
+
+-- the last note fits where all jobs are covered
+ready_last : (k job : ℕ) (c : Collected) → IsAt k job [] c → Ready k c (note.Last ∷ [])
+ready_last k job c here =
+    let size = length-set c.ended k true in
+    let jobs = here.jobs in
+    let last : Fits k c note.Last = record { own = lt-ltb _ _ here.planner; early = here.early; next = refl; ordered = tt } in (
+      last,
+      record {
+        covered = λ j inside own. here.done j (omega arith) (ap (λ n. j % n) (sym size) ∙ own);
+        ended = unwrap_or-slice_get (set c.ended k true) k false ∙ get_or-set_same c.ended k true false here.planner;
+      },
+    )
+
+-- after a job of the planner, the next
+at_next_own : (k job : ℕ) (rule : Rule) (rules : List Rule) (c : Collected) → IsAt k job (rule ∷ rules) c → IsAt k (job + 1) rules (covering c job c.span.upto)
+at_next_own k job rule rules c here =
+    let size = length-set c.covered job c.span.upto in
+    let jobs = here.jobs in
+    record {
+      planner = here.planner;
+      early = here.early;
+      known = λ i r is. (let place : job + 1 + i ≡ job + suc i = omega arith in rw place (here.known (suc i) r is));
+      jobs = omega arith;
+      part = here.part;
+      coming = λ j low inside. get_or-set_other c.covered job j c.span.upto 0 (omega arith) ∙ here.coming j (omega arith) (omega arith);
+      done = λ j low own. elim (cases_eq j job) [
+        | inl is ↦ ap (λ place. get_or (set c.covered job c.span.upto) place 0) is ∙ get_or-set_same c.covered job c.span.upto 0 (omega arith)
+        | inr not ↦ get_or-set_other c.covered job j c.span.upto 0 not ∙ here.done j (omega arith) own
+      ];
+    }
+
+-- after a job of another planner, the next
+at_next_other : (k job : ℕ) (rule : Rule) (rules : List Rule) (c : Collected) → (job % length c.ended ≡ k → ⊥) → IsAt k job (rule ∷ rules) c → IsAt k (job + 1) rules c
+at_next_other k job rule rules c other here =
+    let jobs = here.jobs in
+    record {
+      planner = here.planner;
+      early = here.early;
+      known = λ i r is. (let place : job + 1 + i ≡ job + suc i = omega arith in rw place (here.known (suc i) r is));
+      jobs = omega arith;
+      part = here.part;
+      coming = λ j low inside. here.coming j (omega arith) inside;
+      done = λ j low own. elim (cases_eq j job) [
+        | inl is ↦ absurd (other (ap (λ place. place % length c.ended) (sym is) ∙ own))
+        | inr not ↦ here.done j (omega arith) own
+      ];
+    }
+
+-- what is left of a tiling from a job on fits
+ready_parts : (rules : List Rule) (k job : ℕ) (c : Collected) → IsAt k job rules c → Ready k c (parts_from job k (length c.ended) rules c.span ++ note.Last ∷ [])
+ready_parts [] k job c here = subst (λ notes. Ready k c (notes ++ note.Last ∷ [])) (sym (parts_none job k (length c.ended) c.span)) (ready_last k job c here)
+ready_parts (rule ∷ rules) k job c here =
+    let later = parts_from (job + 1) k (length c.ended) rules c.span in
+    let jobs = here.jobs in
+    elim (cases_eq (job % length c.ended) k) [
+      | inl own ↦ (
+          let inside : job < length c.covered = omega arith in
+          let zeroth : job + 0 ≡ job = omega arith in
+          let known : slice_get c.rules job ≡ Some rule = rw zeroth at (here.known 0 rule refl) in
+          let at_job : IsAtJob k job rule c = record { planner = here.planner; own = own; known = known; early = here.early; inside = inside } in
+          let rest : Ready k (covering c job c.span.upto) (later ++ note.Last ∷ []) = ready_parts rules k (job + 1) (covering c job c.span.upto) (at_next_own k job rule rules c here) in
+          let mine = map (note.Part job) (pieces rule c.span.since c.span.upto) in
+          let all : Ready k c (mine ++ (later ++ note.Last ∷ [])) = ready_pieces (c.span.upto - c.span.since) k job rule c c.span.since (later ++ note.Last ∷ []) at_job (here.coming job (omega arith) inside) here.part (omega arith) rest in
+          subst (λ notes. Ready k c (notes ++ note.Last ∷ [])) (sym (parts_own job k (length c.ended) rule rules c.span own))
+          (subst (λ notes. Ready k c notes) (sym (append_assoc mine later (note.Last ∷ []))) all))
+      | inr other ↦ subst (λ notes. Ready k c (notes ++ note.Last ∷ [])) (sym (parts_other job k (length c.ended) rule rules c.span other))
+          (ready_parts rules k (job + 1) c (at_next_other k job rule rules c other here))
+    ]
+
+-- ---- a tiling that is cut
+
+cut_here : (limit count : ℕ) (note : Note) (notes : List Note) → limit < count + starts_in note → cut_after limit count (note ∷ notes) ≡ note ∷ []
+unfolding cut_after
+cut_here limit count note notes more = let is : nat_lt limit (count + starts_in note) ≡ true = lt-ltb _ _ more in rw (is, cut_after) refl
+
+cut_later : (limit count : ℕ) (note : Note) (notes : List Note) → count + starts_in note ≤ limit → cut_after limit count (note ∷ notes) ≡ note ∷ cut_after limit (count + starts_in note) notes
+unfolding cut_after
+cut_later limit count note notes few = let is : nat_lt limit (count + starts_in note) ≡ false = le-ltb _ _ few in rw (is, cut_after) refl
+
+cut_none : (limit count : ℕ) → cut_after limit count [] ≡ []
+unfolding cut_after
+cut_none limit count = refl
+
+-- notes that fit to the end, cut after the limit, fit, or bring more starts than the limit
+cut_ready : (limit count k : ℕ) (notes : List Note) (c : Collected) → Ready k c notes → Ready k c (cut_after limit count notes) ⊎ Over limit count k c (cut_after limit count notes)
+cut_ready limit count k [] c done = rw (cut_none limit count) (inl done)
+cut_ready limit count k (first ∷ notes) c (fits, rest) =
+    elim (cases_lt limit (count + starts_in first)) [
+      | inl more ↦ inr (subst (λ sent. Over limit count k c sent) (sym (cut_here limit count first notes more)) (fits, more))
+      | inr few ↦ (elim (cut_ready limit (count + starts_in first) k notes (after c k first) rest) [
+        | inl ready ↦ inl (subst (λ sent. Ready k c sent) (sym (cut_later limit count first notes few)) (fits, ready))
+        | inr over ↦ inr (subst (λ sent. Over limit count k c sent) (sym (cut_later limit count first notes few)) (fits, over))
+      ])
+    ]
+
+-- ---- a new collector
+
+at_begin : (k planners limit : ℕ) (rules : List Rule) (span : Bounds) → k < planners → span.since ≤ span.upto → IsAt k 0 rules (begun rules span planners limit)
+at_begin k planners limit rules span few part =
+    let size = length-replicate planners false in
+    let jobs = length-replicate (length rules) span.since in
+    record {
+      planner = omega arith;
+      early = unwrap_or-slice_get (replicate planners false) k false ∙ get_or-replicate planners k false false few;
+      known = λ i rule is. (let place : 0 + i ≡ i = omega arith in rw place is);
+      jobs = omega arith;
+      part = part;
+      coming = λ j low inside. get_or-replicate (length rules) j span.since 0 (omega arith);
+      done = λ j low own. absurd (omega arith);
+    }
+
+sends_at_begin : (k planners limit : ℕ) (rules : List Rule) (span : Bounds) → k < planners → span.since ≤ span.upto → Sends k (begun rules span planners limit) (sent_by k planners limit rules span)
+sends_at_begin k planners limit rules span few part =
+    let c = begun rules span planners limit in
+    let ready : Ready k c (parts_from 0 k (length c.ended) rules span ++ note.Last ∷ []) = ready_parts rules k 0 c (at_begin k planners limit rules span few part) in
+    let whole : Ready k c (tiling k planners rules span) = subst (λ n. Ready k c (parts_from 0 k n rules span ++ note.Last ∷ [])) (length-replicate planners false) ready in
+    elim (cut_ready limit 0 k (tiling k planners rules span) c whole) [
+      | inl all ↦ inl all
+      | inr over ↦ inr (0, (omega arith, over))
+    ]
+
+-- it holds nothing
+held_at_begin : (rules : List Rule) (job since : ℕ) → length (held_from job since rules (replicate (length rules) since)) ≡ 0
+held_at_begin [] job since = refl
+held_at_begin (rule ∷ rules) job since =
+    let none : starts rule since since ≡ [] = passing-none (is_start rule) since since (λ n low high. absurd (omega arith)) in
+    rw none (held_at_begin rules (job + 1) since)
+
+sound_at_begin : (planners limit : ℕ) (rules : List Rule) (span : Bounds) → IsSound (begun rules span planners limit)
+sound_at_begin planners limit rules span =
+    let size = length-replicate (length rules) span.since in
+    let none = held_at_begin rules 0 span.since in
+    record {
+      jobs = size;
+      since = λ j inside. (let is : get_or (replicate (length rules) span.since) j 0 ≡ span.since = get_or-replicate (length rules) j span.since 0 (omega arith) in omega arith);
+      few = omega arith;
+    }
+
+all_of_places : (planners : ℕ) (history : List (ℕ × Note)) → ((place planner : ℕ) (note : Note) → slice_get history place ≡ Some (planner, note) → planner < planners) → AllOf planners history
+all_of_places planners [] known = tt
+all_of_places planners (sent ∷ history) known =
+    (known 0 sent.0 sent.1 refl, all_of_places planners history (λ place planner note is. known (suc place) planner note is))
+
+-- every merging is accepted to its end, or there is no more room
+pub accepts : AcceptsMergings
+accepts planners limit rules span history size part merging =
+    let c = begun rules span planners limit in
+    let wide : length c.ended ≡ planners = length-replicate planners false in
+    let some : 1 ≤ planners = leb-true 1 planners (and_parts (nat_le 1 planners) (nat_le planners most_planners) size).0 in
+    merged history c (sound_at_begin planners limit rules span) (omega arith)
+    (subst (λ n. AllOf n history) (sym wide) (all_of_places planners history merging.known))
+    (λ k few. (let among : k < planners = omega arith in
+    subst (λ notes. Sends k c notes) (sym (merging.each k among)) (sends_at_begin k planners limit rules span among part)))

@@ -1,0 +1,23 @@
+-- The sorted entries are the agenda.
+use Rattle.std.proofs.Common.{Ok, Err, cond, ap, sym, subst, ◌∙◌}
+use Rattle.plan_collect.specs.Agenda.{IsInYears, IsOfJobs}
+use Rattle.plan_collect.specs.AgendaLaws.{agenda-in_years, agenda-of_rules}
+use Rattle.plan_collect.specs.contracts.collector.Collector.{the_view}
+use Rattle.plan_collect.proofs.HoldsLemmas.{agenda_sorted}
+use Rattle.plan_collect.proofs.collector.Collector.finish.Goals as goal
+
+pub new-requires : goal.new-requires
+new-requires c =
+    let is = agenda_sorted (the_view c.self.inside) c.args.self c.self.inside.entries.items c.sort_unstable.new.self.items c.is_complete.result c.self.view_is c.self.invariant c.is_complete.ensures c.if-not-is_complete.false c.sort_unstable.ensures.permutation c.sort_unstable.ensures.sorted in
+    subst IsInYears (sym is) (agenda-in_years c.args.self.rules c.args.self.span)
+
+pub returns-clause-agenda : goal.returns-clause-agenda
+returns-clause-agenda c =
+    let is = agenda_sorted (the_view c.self.inside) c.args.self c.self.inside.entries.items c.sort_unstable.new.self.items c.is_complete.result c.self.view_is c.self.invariant c.is_complete.ensures c.if-not-is_complete.false c.sort_unstable.ensures.permutation c.sort_unstable.ensures.sorted in
+    let complete = sym c.is_complete.ensures ∙ c.if-not-is_complete.false in
+    rw complete (ap Ok (c.new.ensures ∙ is))
+
+pub returns-clause-jobs : goal.returns-clause-jobs
+returns-clause-jobs c =
+    let is = agenda_sorted (the_view c.self.inside) c.args.self c.self.inside.entries.items c.sort_unstable.new.self.items c.is_complete.result c.self.view_is c.self.invariant c.is_complete.ensures c.if-not-is_complete.false c.sort_unstable.ensures.permutation c.sort_unstable.ensures.sorted in
+    subst (IsOfJobs _) (sym (c.new.ensures ∙ is)) (agenda-of_rules c.args.self.rules c.args.self.span)

@@ -1,0 +1,55 @@
+-- What is so of every agenda.
+use Rattle.std.specs.Prelude.{◌≡◌, ℕ, ◌+◌, ◌-◌, ◌<◌, ◌≤◌, Bool, true, false, ◌&&◌, nat_lt, List, [], ◌∷◌, ◌++◌, length, map}
+use Rattle.std.proofs.Common.{cond, refl, ap, sym, ◌∙◌, arith}
+use Rattle.std.specs.List.{range_with_len, flat_map, list_all}
+use Rattle.std.proofs.lemmas.Bool.{lt-ltb, and_parts, and_from}
+use Rattle.std.proofs.lemmas.List.Folds.{list_all-append}
+use Rattle.std.proofs.lemmas.List.{length-map}
+use Rattle.plan_sets.specs.Limits.{end_second}
+use Rattle.plan_sets.specs.Civil.{civil_fields}
+use Rattle.plan_match.specs.declared.rule.Rule.{Rule}
+use Rattle.plan_match.specs.Match.{rule_matches}
+use Rattle.plan_next.specs.Starts.{is_start}
+use Rattle.plan_rules.specs.Job.{JobParts}
+use Rattle.plan_collect.specs.Span.{Bounds}
+use Rattle.plan_collect.specs.Agenda.{row_from, agenda, rules_of, IsInYears, IsOfJobs}
+
+-- what is so of each entry of a row is so of all entries of all rows
+step : (test : ℕ × ℕ → Bool) (is : Bool) (entry : ℕ × ℕ) (row : List (ℕ × ℕ)) → (is ≡ true → test entry ≡ true) → list_all test row ≡ true → list_all test (cond is (entry ∷ row) row) ≡ true
+step test true entry row here later = and_from (test entry) (list_all test row) (here refl) later
+step test false entry row here later = later
+
+rows : (test : ℕ × ℕ → Bool) (rules : List Rule) (seconds : List ℕ) → ((second : ℕ) → list_all test (row_from 0 rules second) ≡ true) → list_all test (flat_map (row_from 0 rules) seconds) ≡ true
+rows test rules [] row = refl
+rows test rules (second ∷ seconds) row =
+    list_all-append test (row_from 0 rules second) (flat_map (row_from 0 rules) seconds)
+    ∙ and_from (list_all test (row_from 0 rules second)) (list_all test (flat_map (row_from 0 rules) seconds)) (row second) (rows test rules seconds row)
+
+row_in_years : (job : ℕ) (rules : List Rule) (second : ℕ) → IsInYears (row_from job rules second)
+row_in_years job [] second = refl
+row_in_years job (rule ∷ rules) second =
+    step (λ entry. nat_lt entry.0 end_second) (is_start rule second) (second, job) (row_from (job + 1) rules second)
+    (λ is. (and_parts (nat_lt second end_second) (rule_matches rule (civil_fields second)) is).0) (row_in_years (job + 1) rules second)
+
+-- its seconds are of the planner's years
+pub agenda-in_years : (rules : List Rule) (span : Bounds) → IsInYears (agenda rules span)
+unfolding agenda
+agenda-in_years rules span =
+    rows (λ entry. nat_lt entry.0 end_second) rules (range_with_len span.since (span.upto - span.since)) (row_in_years 0 rules)
+
+row_of_jobs : (job jobs : ℕ) (rules : List Rule) (second : ℕ) → job + length rules ≤ jobs → IsOfJobs jobs (row_from job rules second)
+row_of_jobs job jobs [] second few = refl
+row_of_jobs job jobs (rule ∷ rules) second few =
+    step (λ entry. nat_lt entry.1 jobs) (is_start rule second) (second, job) (row_from (job + 1) rules second)
+    (λ is. lt-ltb job jobs (omega arith)) (row_of_jobs (job + 1) jobs rules second (omega arith))
+
+-- its entries are of the jobs that the rules are of
+pub agenda-of_rules : (rules : List Rule) (span : Bounds) → IsOfJobs (length rules) (agenda rules span)
+unfolding agenda
+agenda-of_rules rules span =
+    rows (λ entry. nat_lt entry.1 (length rules)) rules (range_with_len span.since (span.upto - span.since)) (λ second. row_of_jobs 0 (length rules) rules second (omega arith))
+
+pub agenda-of_jobs : (jobs : List JobParts) (span : Bounds) → IsOfJobs (length jobs) (agenda (rules_of jobs) span)
+agenda-of_jobs jobs span =
+    let as_many : length (rules_of jobs) ≡ length jobs = length-map jobs (λ job. job.rule) in
+    rw as_many at (agenda-of_rules (rules_of jobs) span)

@@ -1,0 +1,130 @@
+-- What a collector holds, which notes it refuses, and what the others add (own).
+use Rattle.std.specs.Prelude.{◌≡◌, ℕ, ◌+◌, ◌%◌, ◌<◌, ◌≤◌, Bool, true, false, ◌&&◌, ◌==◌, nat_lt, nat_le, if◌then◌else◌, List, [], ◌∷◌, ◌++◌, length, map, replicate, Option, Some, None, slice_get, slice_index, slice_set, unwrap_or, Result, Ok, Err, IsTrue}
+use Rattle.std.specs.Prelude.{refl}
+use Rattle.std.specs.Coded.{Coded, code_by, coded×, coded_list, coded_ℕ, coded_bool}
+use Rattle.std.specs.List.{list_all}
+use Rattle.plan_match.specs.declared.rule.Rule.{Rule}
+use Rattle.plan_match.specs.contracts.rule.Rule.{the_row as rule_row}
+use Rattle.plan_match.specs.Equal.{same_rule}
+use Rattle.plan_next.specs.Starts.{starts}
+use Rattle.plan_collect.specs.declared.note.Note.{Note}
+use Rattle.plan_collect.specs.declared.note.Note.TheVariants.{Part, Last}
+use Rattle.plan_collect.specs.declared.collector.CollectFault.{CollectFault}
+use Rattle.plan_collect.specs.declared.collector.CollectFault.TheVariants.{NoMemory, Stranger, Gap, TooMany, AfterLast, Missing}
+use Rattle.plan_collect.specs.Span.{Bounds, bounds_code}
+use Rattle.plan_collect.specs.Limits.{is_limit, is_size}
+use Rattle.plan_collect.specs.Agenda.{agenda}
+
+-- what contracts see of a collector: the jobs' rules, the span, the limit of entries, the second before which all starts of each
+-- job are held, and for each planner whether its last note was accepted; which starts are held follows from these
+pub record Collected : Type 0 where
+  pub rules : List Rule
+  pub span : Bounds
+  pub limit : ℕ
+  pub covered : List ℕ
+  pub ended : List Bool
+
+-- a collector is stored as the tuple of these
+abbrev pub collected_code : Coded Collected
+collected_code =
+    code_by ((List Rule × Bounds) × (ℕ × (List ℕ × List Bool)))
+    (coded× (coded× (coded_list rule_row.coded) bounds_code) (coded× coded_ℕ (coded× (coded_list coded_ℕ) (coded_list coded_bool))))
+    (λ c. ((c.rules, c.span), (c.limit, (c.covered, c.ended))))
+    (λ t. record { rules = t.0.0; span = t.0.1; limit = t.1.0; covered = t.1.1.0; ended = t.1.1.1 })
+    (λ _. refl)
+
+-- a new collector holds nothing
+abbrev pub begun : List Rule → Bounds → (planners limit : ℕ) → Collected
+begun rules span planners limit = record {
+  rules = rules;
+  span = span;
+  limit = limit;
+  covered = replicate (length rules) span.since;
+  ended = replicate planners false;
+}
+
+-- the entries of jobs from `since` to where each is covered, where the first job has number `job`
+abbrev pub held_from : (job since : ℕ) → List Rule → List ℕ → List (ℕ × ℕ)
+held_from job since [] covered = []
+held_from job since (rule ∷ rules) [] = []
+held_from job since (rule ∷ rules) (upto ∷ covered) =
+    map (λ second. (second, job)) (starts rule since upto) ++ held_from (job + 1) since rules covered
+
+-- what a collector holds: of each job all starts from the span's begin to where the job is covered
+abbrev pub held : Collected → List (ℕ × ℕ)
+held c = held_from 0 c.span.since c.rules c.covered
+
+-- this is the job's rule
+abbrev pub is_rule_of : Option Rule → Rule → Bool
+is_rule_of None rule = false
+is_rule_of (Some own) rule = same_rule own rule
+
+-- the note is one that this planner may send: there is such a planner, and a piece is of the rule of a job that is there and is
+-- this planner's; job j is planner j mod planners' (own)
+abbrev pub belongs : Collected → (planner : ℕ) → Note → Bool
+belongs c planner (Part job piece) =
+    nat_lt planner (length c.ended) && (job % length c.ended == planner && is_rule_of (slice_get c.rules job) piece.rule)
+belongs c planner Last = nat_lt planner (length c.ended)
+
+-- this planner's last note was accepted before
+abbrev pub has_ended : Collected → (planner : ℕ) → Bool
+has_ended c planner = unwrap_or (slice_get c.ended planner) false
+
+-- a piece begins where its job is covered to, and ends within the span
+abbrev pub adjoins : Collected → Note → Bool
+adjoins c (Part job piece) = slice_index c.covered job == piece.since && nat_le piece.upto c.span.upto
+adjoins c Last = true
+
+-- a piece's starts and those that are held are not more than the limit
+abbrev pub has_room : Collected → Note → Bool
+has_room c (Part job piece) = nat_le (length (held c) + length (starts piece.rule piece.since piece.upto)) c.limit
+has_room c Last = true
+
+-- why a note is refused, memory aside: the first of these that holds
+abbrev pub refusal : Collected → (planner : ℕ) → Note → Option CollectFault
+refusal c planner note =
+    if belongs c planner note then
+    (if has_ended c planner then Some AfterLast else
+    (if adjoins c note then
+    (if has_room c note then None else Some TooMany) else
+    Some Gap)) else
+    Some Stranger
+
+-- the answer to a note: a refusal where there is one, else the note is accepted or memory was refused
+abbrev pub Answers : Result (Unit {0}) CollectFault → Option CollectFault → Type 0
+Answers (Ok done) refused = refused ≡ None
+Answers (Err NoMemory) refused = refused ≡ None
+Answers (Err fault) refused = refused ≡ Some fault
+
+-- what an accepted note changes
+abbrev pub after : Collected → (planner : ℕ) → Note → Collected
+after c planner (Part job piece) = record c { covered = slice_set c.covered job piece.upto }
+after c planner Last = record c { ended = slice_set c.ended planner true }
+
+-- each job is covered to the span's end, and each planner's last note was accepted
+abbrev pub is_complete : Collected → Bool
+is_complete c = list_all (λ upto. upto == c.span.upto) c.covered && list_all (λ has_sent_last. has_sent_last) c.ended
+
+-- the answer of a collector to which nothing more comes
+abbrev pub finished : Collected → Result (List (ℕ × ℕ)) CollectFault
+finished c = if is_complete c then Ok (agenda c.rules c.span) else Err Missing
+
+-- the sum of the entries' weights
+abbrev pub weigh : (ℕ × ℕ → ℕ) → List (ℕ × ℕ) → ℕ
+weigh weight [] = 0
+weigh weight (entry ∷ entries) = weight entry + weigh weight entries
+
+-- two lists have the same entries, each as often: by any weights of entries they weigh the same
+abbrev pub SameEntries : List (ℕ × ℕ) → List (ℕ × ℕ) → Type 0
+SameEntries xs ys = (weight : ℕ × ℕ → ℕ) → weigh weight xs ≡ weigh weight ys
+
+-- these entries, in any order, are what a collector holds, and its parts fit one another
+pub record Holds (c : Collected) (entries : List (ℕ × ℕ)) : Type 0 where
+  pub same : SameEntries entries (held c)
+  pub few : length entries ≤ c.limit
+  pub limit : is_limit c.limit ≡ true
+  pub size : is_size (length c.ended) ≡ true
+  pub jobs : length c.covered ≡ length c.rules
+  pub since : (job : ℕ) → job < length c.covered → c.span.since ≤ slice_index c.covered job
+  pub upto : (job : ℕ) → job < length c.covered → slice_index c.covered job ≤ c.span.upto
+  pub ordered : c.span.since ≤ c.span.upto

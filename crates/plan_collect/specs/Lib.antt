@@ -1,0 +1,15 @@
+pub use Rattle.plan_match.specs.Match
+pub use Rattle.plan_next.specs.Starts
+pub use Rattle.plan_next.specs.Piece
+pub use Rattle.plan_rules.specs.Job
+pub use Rattle.plan_sets.specs.Moment
+pub mod Agenda
+pub mod AgendaLaws
+pub mod Collecting
+pub mod Limits
+pub mod Output
+pub mod Planning
+pub mod Span
+pub mod Texts
+pub mod Tiling
+pub mod Merging

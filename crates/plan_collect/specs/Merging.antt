@@ -1,0 +1,25 @@
+-- What a collector answers to the notes of planners, in any order of arrival (own).
+use Rattle.std.specs.Prelude.{◌≡◌, ℕ, ◌≤◌, true, List, [], ◌∷◌, Option, Some, None, Result, Ok, Err, MatchResult}
+use Rattle.plan_match.specs.declared.rule.Rule.{Rule}
+use Rattle.plan_collect.specs.declared.note.Note.{Note}
+use Rattle.plan_collect.specs.declared.collector.CollectFault.{CollectFault}
+use Rattle.plan_collect.specs.declared.collector.CollectFault.TheVariants.{TooMany}
+use Rattle.plan_collect.specs.Span.{Bounds}
+use Rattle.plan_collect.specs.Limits.{is_size}
+use Rattle.plan_collect.specs.Collecting.{Collected, begun, refusal, after, is_complete}
+use Rattle.plan_collect.specs.Tiling.{IsMerging}
+
+-- what comes of notes that arrive one after another, each with its planner's number: the first that is refused ends it
+abbrev pub answer_to : Collected → List (ℕ × Note) → Result Collected CollectFault
+answer_to c [] = Ok c
+answer_to c (sent ∷ history) = elim (refusal c sent.0 sent.1) [
+  | None ↦ answer_to (after c sent.0 sent.1) history
+  | Some fault ↦ Err fault
+]
+
+-- for every order in which the notes of all planners may arrive, a new collector accepts them all and is complete, or it has no more
+-- room: it never meets a stranger, a gap or a note after the last, and nothing is missing
+abbrev pub AcceptsMergings : Type 0
+AcceptsMergings = (planners limit : ℕ) (rules : List Rule) (span : Bounds) (history : List (ℕ × Note))
+    → is_size planners ≡ true → span.since ≤ span.upto → IsMerging planners limit rules span history
+    → MatchResult (answer_to (begun rules span planners limit) history) (λ c. is_complete c ≡ true) (λ fault. fault ≡ TooMany)

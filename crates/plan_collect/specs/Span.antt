@@ -1,0 +1,14 @@
+-- What contracts see of a span.
+use Rattle.std.specs.Prelude.{ℕ, refl}
+use Rattle.std.specs.Coded.{Coded, code_by, coded×, coded_ℕ}
+
+-- the seconds from `since` on, `upto` excluded
+pub record Bounds : Type 0 where
+  pub since : ℕ
+  pub upto : ℕ
+
+-- a span is stored as the pair of these
+abbrev pub bounds_code : Coded Bounds
+bounds_code =
+    code_by (ℕ × ℕ) (coded× coded_ℕ coded_ℕ) (λ span. (span.since, span.upto)) (λ t. record { since = t.0; upto = t.1 })
+    (λ _. refl)

@@ -1,0 +1,345 @@
+//! The collector: it checks what planners send, keeps the starts, and makes the agenda of them.
+
+ghost use Rattle.std.specs.Prelude.{◌≡◌, ℕ, ◌+◌, ◌%◌, ◌<◌, ◌≤◌, ◌↔◌, ◌++◌, Bool, true, false, ◌&&◌, ◌==◌, nat_lt, nat_le, length, map, slice_get, slice_index, slice_set, IfOk, IfErr, OnOk, OnErr};
+ghost use Rattle.std.specs.Arc.{arc_value};
+ghost use Rattle.std.specs.List.{list_all};
+ghost use Rattle.plan_next.specs.Starts.{starts};
+ghost use Rattle.plan_collect.specs.Agenda.{agenda, rules_of, IsOfJobs};
+ghost use Rattle.plan_collect.specs.Limits.{is_limit, is_size};
+ghost use Rattle.plan_collect.specs.Collecting.{begun, is_rule_of, belongs, has_ended, adjoins, has_room, refusal, Answers, after, finished, is_complete};
+
+use crate::agenda::Agenda;
+use crate::note::Note;
+use crate::span::Span;
+use plan_match::Rule;
+use plan_next::Piece;
+use plan_rules::Jobs;
+use std::alloc::{AllocError, Global};
+use std::marker::Model;
+use std::sync::Arc;
+use thiserror::Error;
+
+/// How many entries an agenda may be limited to.
+pub const MOST_ENTRIES: u64 = 1_000_000;
+
+/// How many planners there may be.
+pub const MOST_PLANNERS: usize = 8;
+
+/// Why there is no new collector.
+#[derive(Clone, Copy, Debug, PartialEq, Eq, Error)]
+pub enum CollectorFault {
+    /// 1: memory was refused.
+    #[error("NoMemory")]
+    NoMemory,
+    /// 2: the limit is not 1 to 1,000,000.
+    #[error("BadLimit")]
+    BadLimit,
+    /// 3: there are not 1 to 8 planners.
+    #[error("BadSize")]
+    BadSize,
+}
+
+/// Why a collector refuses a note, or to finish.
+#[derive(Clone, Copy, Debug, PartialEq, Eq, Error)]
+pub enum CollectFault {
+    /// 1: memory was refused.
+    #[error("NoMemory")]
+    NoMemory,
+    /// 2: there is no such planner; or no such job, or it is not this planner's, or it has another rule than the piece.
+    #[error("Stranger")]
+    Stranger,
+    /// 3: the piece does not begin where its job is covered to, or ends after the span.
+    #[error("Gap")]
+    Gap,
+    /// 4: there are more starts than the limit.
+    #[error("TooMany")]
+    TooMany,
+    /// 5: the planner's last note was accepted before.
+    #[error("AfterLast")]
+    AfterLast,
+    /// 6: a job is not covered to the span's end, or a planner's last note is missing.
+    #[error("Missing")]
+    Missing,
+}
+
+impl From<AllocError> for CollectorFault {
+    ghost use Rattle.std.specs.Prelude.{◌≡◌};
+    ghost use Rattle.plan_collect.specs.declared.collector.CollectorFault.{CollectorFault};
+    ghost use Rattle.plan_collect.specs.declared.collector.CollectorFault.TheVariants.{NoMemory};
+
+    ghost from_gives = { λ _ fault. fault ≡ NoMemory };
+
+    fn from(_refused: AllocError) -> CollectorFault {
+        CollectorFault::NoMemory
+    }
+}
+
+impl From<AllocError> for CollectFault {
+    ghost use Rattle.std.specs.Prelude.{◌≡◌};
+    ghost use Rattle.plan_collect.specs.declared.collector.CollectFault.{CollectFault};
+    ghost use Rattle.plan_collect.specs.declared.collector.CollectFault.TheVariants.{NoMemory};
+
+    ghost from_gives = { λ _ fault. fault ≡ NoMemory };
+
+    fn from(_refused: AllocError) -> CollectFault {
+        CollectFault::NoMemory
+    }
+}
+
+/// Keeps the starts of jobs in a span, which planners send piece by piece. A job's number modulo the number of planners is its
+/// planner. Of each job all starts are held from the span's begin to where the job is covered.
+#[derive(Drop)]
+pub struct Collector {
+    rules: Vec<Arc<Rule>>,
+    span: Span,
+    limit: u64,
+    covered: Vec<u64>,
+    ended: Vec<bool>,
+    entries: Vec<(u64, u32)>,
+}
+
+impl Model for Collector {
+    ghost use Rattle.std.specs.Prelude.{map};
+    ghost use Rattle.std.specs.Arc.{arc_value};
+    ghost use Rattle.plan_collect.specs.Collecting.{Collected, Holds, collected_code};
+
+    ghost Value = { Collected };
+
+    ghost coded = { collected_code };
+
+    ghost view = { λ c. record {
+      rules = map (λ rule. arc_value rule) c.rules.items;
+      span = c.span;
+      limit = c.limit;
+      covered = c.covered.items;
+      ended = c.ended.items;
+    } };
+
+    ghost invariant = { λ c. Holds (record {
+      rules = map (λ rule. arc_value rule) c.rules.items;
+      span = c.span;
+      limit = c.limit;
+      covered = c.covered.items;
+      ended = c.ended.items;
+    }) c.entries.items };
+}
+
+impl Collector {
+    /// A collector of the starts of these jobs in a span that holds none yet, for this many planners and at most `limit` starts.
+    ///
+    /// Faults, in this order: `BadSize` for other than 1 to 8 planners, `BadLimit` for a limit other than 1 to 1,000,000,
+    /// `NoMemory`.
+    pub fn new(
+        alloc: Global,
+        jobs: &Jobs,
+        span: Span,
+        planners: usize,
+        limit: u64,
+    ) -> Result<Collector, CollectorFault>
+        ensures new { IfOk result (λ c. c ≡ begun (rules_of jobs.now) span planners limit) }
+        ensures bad_size { (result ≡ Err CollectorFault.BadSize) ↔ (is_size planners ≡ false) }
+        ensures bad_limit { (result ≡ Err CollectorFault.BadLimit)
+            ↔ ((is_size planners ≡ true) × (is_limit limit ≡ false)) }
+    {
+        if planners < 1 || planners > MOST_PLANNERS {
+            return Err(CollectorFault::BadSize);
+        }
+        if limit < 1 || limit > MOST_ENTRIES {
+            return Err(CollectorFault::BadLimit);
+        }
+        let rules = rules_in(alloc, jobs)?;
+        Ok(Collector {
+            covered: Vec::from_elem(alloc, span.since(), rules.len())?,
+            ended: Vec::from_elem(alloc, false, planners)?,
+            rules,
+            span,
+            limit,
+            entries: Vec::new(alloc),
+        })
+    }
+
+    /// Takes a note that a planner sent.
+    ///
+    /// Faults, in this order, each for the whole note; the collector stays as it was, and the note is gone:
+    /// `Stranger` where there is no such planner or no such job, or the job is not this planner's, or has another rule;
+    /// `AfterLast` where this planner's last note was accepted before;
+    /// `Gap` where the piece does not begin where its job is covered to, or ends after the span;
+    /// `TooMany` where its starts and those held are more than the limit;
+    /// `NoMemory`.
+    pub fn accept(&mut self, planner: usize, note: Note) -> Result<(), CollectFault>
+        ensures answer { Answers result (refusal self.old planner note) }
+        ensures accepted { OnOk result (self.new ≡ after self.old planner note) }
+        ensures unchanged { OnErr result (self.new ≡ self.old) }
+
+        // Only an agenda that has more entries than the limit is refused for that.
+        ensures too_many { result ≡ Err CollectFault.TooMany
+            → self.old.limit < length (agenda self.old.rules self.old.span) }
+    {
+        if !self.belongs(planner, &note) {
+            return Err(CollectFault::Stranger);
+        }
+        if self.has_ended(planner) {
+            return Err(CollectFault::AfterLast);
+        }
+        if !self.adjoins(&note) {
+            return Err(CollectFault::Gap);
+        }
+        if !self.has_room(&note) {
+            return Err(CollectFault::TooMany);
+        }
+        match note {
+            Note::Part(job, piece) => self.keep(job, &piece),
+            Note::Last => {
+                self.end(planner);
+                Ok(())
+            }
+        }
+    }
+
+    /// The agenda, once each job is covered to the span's end and each planner's last note was accepted; else `Missing`.
+    /// Takes no memory.
+    pub fn finish(self) -> Result<Agenda, CollectFault>
+        ensures agenda { result ≡ finished self }
+        ensures few { IfOk result (λ entries. length entries ≤ self.limit) }
+        ensures jobs { IfOk result (IsOfJobs (length self.rules)) }
+    {
+        if !self.is_complete() {
+            return Err(CollectFault::Missing);
+        }
+        let mut entries = self.entries;
+        entries.sort_unstable();
+        Ok(Agenda::new(entries))
+    }
+
+    // Whether this planner may send the note.
+    fn belongs(&self, planner: usize, note: &Note) -> bool
+        ensures { result ≡ belongs self.now planner note.now }
+    {
+        if planner >= self.ended.len() {
+            return false;
+        }
+        match note {
+            Note::Part(job, piece) => {
+                let job = *job as usize;
+                job % self.ended.len() == planner && self.has_rule(job, piece.rule())
+            }
+            Note::Last => true,
+        }
+    }
+
+    // Whether there is a job with this number and this rule.
+    fn has_rule(&self, job: usize, rule: &Rule) -> bool
+        ensures { result ≡ is_rule_of (slice_get self.now.rules job) rule.now }
+    {
+        match self.rules.get(job) {
+            Some(own) => **own == *rule,
+            None => false,
+        }
+    }
+
+    // Whether this planner's last note was accepted.
+    fn has_ended(&self, planner: usize) -> bool
+        ensures { result ≡ has_ended self.now planner }
+    {
+        self.ended.get(planner).copied().unwrap_or(false)
+    }
+
+    // Whether a piece begins where its job is covered to, and ends within the span.
+    fn adjoins(&self, note: &Note) -> bool
+        ensures { result ≡ adjoins self.now note.now }
+    {
+        match note {
+            Note::Part(job, piece) => {
+                let covered = self.covered.get(*job as usize).copied().unwrap_or(0);
+                covered == piece.since() && piece.upto() <= self.span.upto()
+            }
+            Note::Last => true,
+        }
+    }
+
+    // Whether a piece's starts and those held are not more than the limit.
+    fn has_room(&self, note: &Note) -> bool
+        ensures value { result ≡ has_room self.now note.now }
+
+        // Else a piece of a job that is there and adjoins is of an agenda with more entries than the limit.
+        ensures too_many { (planner : ℕ) → belongs self.now planner note.now ≡ true → adjoins self.now note.now ≡ true
+            → result ≡ false → self.now.limit < length (agenda self.now.rules self.now.span) }
+    {
+        match note {
+            Note::Part(_, piece) => piece.starts().len() as u64
+                <= self.limit - self.entries.len() as u64,
+            Note::Last => true,
+        }
+    }
+
+    // Keeps the starts of a piece of a job.
+    fn keep(&mut self, job: u32, piece: &Piece) -> Result<(), CollectFault>
+        requires known { is_rule_of (slice_get self.old.rules job) piece.now.rule ≡ true }
+        requires adjoins { adjoins self.old (Note.Part job piece.now) ≡ true }
+        requires room { has_room self.old (Note.Part job piece.now) ≡ true }
+        ensures accepted { OnOk result (self.new ≡ record self.old { covered = slice_set self.old.covered job piece.now.upto }) }
+        ensures unchanged { OnErr result (self.new ≡ self.old) }
+        ensures memory { IfErr result (λ fault. fault ≡ CollectFault.NoMemory) }
+    {
+        append(&mut self.entries, job, piece.starts())?;
+        self.covered[job as usize] = piece.upto();
+        Ok(())
+    }
+
+    // Marks that this planner's last note was accepted.
+    fn end(&mut self, planner: usize)
+        requires { planner < length self.old.ended }
+        ensures { self.new ≡ record self.old { ended = slice_set self.old.ended planner true } }
+    {
+        self.ended[planner] = true;
+    }
+
+    // Whether each job is covered to the span's end, and each planner's last note was accepted.
+    fn is_complete(&self) -> bool
+        ensures { result ≡ is_complete self.now }
+    {
+        self.is_covered() && self.has_all_last()
+    }
+
+    // Whether each job is covered to the span's end.
+    fn is_covered(&self) -> bool
+        ensures { result ≡ list_all (λ upto. upto == self.now.span.upto) self.now.covered }
+    {
+        let upto = self.span.upto();
+        self.covered.iter().all(|covered| *covered == upto)
+    }
+
+    // Whether each planner's last note was accepted.
+    fn has_all_last(&self) -> bool
+        ensures { result ≡ list_all (λ has_sent_last. has_sent_last) self.now.ended }
+    {
+        self.ended.iter().all(|ended| *ended)
+    }
+}
+
+// The rules of jobs, in their order.
+fn rules_in(alloc: Global, jobs: &Jobs) -> Result<Vec<Arc<Rule>>, AllocError>
+    ensures { IfOk result (λ rules. map (λ rule. arc_value rule) rules.items ≡ rules_of jobs.now) }
+{
+    let mut rules = Vec::with_capacity(alloc, jobs.len())?;
+    for number in 0..jobs.len() {
+        if let Some(job) = jobs.get(number) {
+            rules.push(Arc::try_clone(job.rule())?)?;
+        }
+    }
+    Ok(rules)
+}
+
+// Appends an entry for each start of a job. Where memory is refused, which comes first, nothing is appended.
+fn append(entries: &mut Vec<(u64, u32)>, job: u32, starts: &[u64]) -> Result<(), AllocError>
+    ensures all { OnOk result (entries.new.items ≡ entries.old.items ++ map (λ second. (second, job)) starts.now) }
+    ensures none { OnErr result (entries.new.items ≡ entries.old.items) }
+{
+    entries.reserve(starts.len())?;
+    for start in starts {
+        let Ok(()) = entries.push((*start, job)) else {
+            unreachable!()
+        };
+    }
+    Ok(())
+}

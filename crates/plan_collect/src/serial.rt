@@ -1,0 +1,133 @@
+//! A plan by one planner, without threads.
+
+ghost use Rattle.std.specs.Prelude.{◌≡◌, ◌<◌, ◌≤◌, false, [], ◌∷◌, length, slice_get, slice_set, Some, IfOk, IfErr, OnOk};
+ghost use Rattle.std.specs.Arc.{arc_value};
+ghost use Rattle.plan_next.specs.Piece.{piece_of};
+ghost use Rattle.plan_collect.specs.Agenda.{rules_of, IsOfJobs};
+ghost use Rattle.plan_collect.specs.Limits.{most_starts};
+ghost use Rattle.plan_collect.specs.Planning.{Plans, PlanFails};
+
+use crate::agenda::Agenda;
+use crate::collector::{CollectFault, Collector, CollectorFault};
+use crate::note::{Note, PIECE_STARTS};
+use crate::span::Span;
+use plan_match::Rule;
+use plan_next::{NoMemory, Piece, next_piece};
+use plan_rules::Jobs;
+use std::alloc::Global;
+use std::sync::Arc;
+use thiserror::Error;
+
+/// Why there is no plan.
+#[derive(Clone, Copy, Debug, PartialEq, Eq, Error)]
+pub enum PlanFault {
+    /// 1: memory was refused.
+    #[error("NoMemory")]
+    NoMemory,
+    /// 2: there are not 1 to 8 planners, or there is not room for 1 to 1,024 notes.
+    #[error("BadSize")]
+    BadSize,
+    /// 3: the collector refused a note, or to finish; never for want of memory, which is `NoMemory`.
+    #[error("{0}")]
+    Collect(CollectFault),
+    /// 5: the limit is not 1 to 1,000,000.
+    #[error("BadLimit")]
+    BadLimit,
+}
+
+impl From<NoMemory> for PlanFault {
+    ghost use Rattle.std.specs.Prelude.{◌≡◌};
+    ghost use Rattle.plan_collect.specs.declared.serial.PlanFault.{PlanFault};
+    ghost use Rattle.plan_collect.specs.declared.serial.PlanFault.TheVariants.{NoMemory};
+
+    ghost from_gives = { λ _ fault. fault ≡ NoMemory };
+
+    fn from(_refused: NoMemory) -> PlanFault {
+        PlanFault::NoMemory
+    }
+}
+
+impl From<CollectorFault> for PlanFault {
+    ghost use Rattle.std.specs.Prelude.{◌≡◌};
+    ghost use Rattle.plan_collect.specs.Planning.{of_collector};
+
+    ghost from_gives = { λ fault plan_fault. plan_fault ≡ of_collector fault };
+
+    fn from(fault: CollectorFault) -> PlanFault {
+        match fault {
+            CollectorFault::NoMemory => PlanFault::NoMemory,
+            CollectorFault::BadLimit => PlanFault::BadLimit,
+            CollectorFault::BadSize => PlanFault::BadSize,
+        }
+    }
+}
+
+impl From<CollectFault> for PlanFault {
+    ghost use Rattle.std.specs.Prelude.{◌≡◌};
+    ghost use Rattle.plan_collect.specs.Planning.{of_collect};
+
+    ghost from_gives = { λ fault plan_fault. plan_fault ≡ of_collect fault };
+
+    fn from(fault: CollectFault) -> PlanFault {
+        match fault {
+            CollectFault::NoMemory => PlanFault::NoMemory,
+            fault => PlanFault::Collect(fault),
+        }
+    }
+}
+
+/// The agenda of jobs over a span, if it has at most `limit` entries: the work of one planner and a collector, without threads.
+///
+/// Faults: `BadLimit` for a limit other than 1 to 1,000,000; else `Collect(TooMany)` where the agenda has more entries than
+/// that, or `NoMemory`.
+pub fn plan_serial(alloc: Global, jobs: &Jobs, span: Span, limit: u64) -> Result<Agenda, PlanFault>
+    ensures planned { Plans result (rules_of jobs.now) span limit }
+    ensures jobs { IfOk result (IsOfJobs (length jobs.now)) }
+{
+    let mut collector = Collector::new(alloc, jobs, span, 1, limit)?;
+    for number in 0..jobs.len() {
+        if let Some(job) = jobs.get(number) {
+            collect_job(alloc, &mut collector, number as u32, job.rule(), span)?;
+        }
+    }
+    collector.accept(0, Note::Last)?;
+    Ok(collector.finish()?)
+}
+
+// Collects all starts of a job: pieces that adjoin, each with at most 1,024 starts, at least one.
+fn collect_job(
+    alloc: Global,
+    collector: &mut Collector,
+    job: u32,
+    rule: &Arc<Rule>,
+    span: Span,
+) -> Result<(), PlanFault>
+    requires one { collector.old.ended ≡ false ∷ [] }
+    requires span { collector.old.span ≡ span }
+    requires rule { slice_get collector.old.rules job ≡ Some (arc_value rule.now) }
+    requires open { slice_get collector.old.covered job ≡ Some span.since }
+    ensures covered { OnOk result (collector.new ≡ record collector.old { covered = slice_set collector.old.covered job span.upto }) }
+    ensures fails { IfErr result (PlanFails collector.old) }
+{
+    let mut since = span.since();
+    loop {
+        let piece = next_part(alloc, rule, since, span)?;
+        since = piece.upto();
+        collector.accept(0, Note::Part(job, piece))?;
+        if since >= span.upto() {
+            return Ok(());
+        }
+    }
+}
+
+// The piece of a job's starts from a second on within the span, with at most 1,024 starts.
+fn next_part(alloc: Global, rule: &Arc<Rule>, since: u64, span: Span) -> Result<Piece, NoMemory>
+    requires { since ≤ span.upto }
+    ensures piece { IfOk result (λ piece. piece ≡ piece_of (arc_value rule.now) since span.upto most_starts) }
+
+    // A caller that goes on from where the piece ends comes to the span's end.
+    ensures within { IfOk result (λ piece. piece.upto ≤ span.upto) }
+    ensures moves { IfOk result (λ piece. since < span.upto → since < piece.upto) }
+{
+    next_piece(alloc, rule, since, span.upto(), PIECE_STARTS)
+}

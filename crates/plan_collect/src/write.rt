@@ -1,0 +1,96 @@
+//! The text of an agenda.
+
+ghost use Rattle.std.specs.Prelude.{◌≡◌, ◌≤◌, ◌++◌, length, slice_get, OnOk, OnErr};
+ghost use Rattle.std.specs.List.{flat_map};
+ghost use Rattle.std.specs.Io.KnownBytes.{Appends};
+ghost use Rattle.plan_collect.specs.Agenda.{IsOfJobs};
+ghost use Rattle.plan_collect.specs.Output.{AppendsPrefix, AppendsAllBut};
+ghost use Rattle.plan_collect.specs.Texts.{agenda_text, line_of};
+
+use crate::agenda::Agenda;
+use crate::output::{WriteFault, write_bytes, write_text};
+use arrayvec::ArrayVec;
+use plan_rules::Jobs;
+use plan_sets::{END_SECOND, moment_text};
+use std::io::Write;
+
+// How many bytes wait at most until they are written together.
+const MOST_WAITING: usize = 8_192;
+
+/// Writes the text of an agenda of these jobs, one line for each entry, and flushes the writer: the moment, a tab, the job's
+/// name, a tab, what it runs. Takes no memory of its own.
+///
+/// `Device` where a write or the flush gives an error, or a write takes none of its bytes; then only the first bytes of the
+/// text were written.
+pub fn write_agenda<W: Write>(agenda: &Agenda, jobs: &Jobs, out: &mut W) -> Result<(), WriteFault>
+    requires { IsOfJobs (length jobs.now) agenda.now }
+    ensures written { OnOk result (Appends (W.contents out.old) (W.contents out.new) (agenda_text agenda.now jobs.now)) }
+    ensures prefix { OnErr result (AppendsPrefix (W.contents out.old) (W.contents out.new) (agenda_text agenda.now jobs.now)) }
+{
+    let mut waiting = ArrayVec::<u8, MOST_WAITING>::new();
+    let entries = agenda.entries();
+    for entry in entries {
+        put_line(entry.0, entry.1, jobs, &mut waiting, out)?;
+    }
+    write_text(waiting.as_slice(), out)
+}
+
+// Puts the line of an entry behind what waits: of a second, and a job's number.
+fn put_line<W: Write>(
+    second: u64,
+    job: u32,
+    jobs: &Jobs,
+    waiting: &mut ArrayVec<u8, MOST_WAITING>,
+    out: &mut W,
+) -> Result<(), WriteFault>
+    requires { second ≤ END_SECOND }
+    ensures kept { OnOk result (AppendsAllBut (W.contents out.old) (W.contents out.new)
+        (waiting.old.items ++ line_of second (slice_get jobs.now job)) waiting.new.items) }
+    ensures prefix { OnErr result (AppendsPrefix (W.contents out.old) (W.contents out.new)
+        (waiting.old.items ++ line_of second (slice_get jobs.now job))) }
+{
+    let Some(job) = jobs.get(job as usize) else {
+        return Ok(());
+    };
+    let moment = moment_text(second);
+    let name = job.name().as_bytes();
+    let what = job.what().as_bytes();
+    put_all(&[&moment, b"\t", name, b"\t", what, b"\n"], waiting, out)
+}
+
+// Puts texts behind what waits, one after the other.
+fn put_all<W: Write>(
+    texts: &[&[u8]],
+    waiting: &mut ArrayVec<u8, MOST_WAITING>,
+    out: &mut W,
+) -> Result<(), WriteFault>
+    ensures kept { OnOk result (AppendsAllBut (W.contents out.old) (W.contents out.new)
+        (waiting.old.items ++ flat_map (λ text. text.now) texts.now) waiting.new.items) }
+    ensures prefix { OnErr result (AppendsPrefix (W.contents out.old) (W.contents out.new)
+        (waiting.old.items ++ flat_map (λ text. text.now) texts.now)) }
+{
+    for text in texts {
+        put(text, waiting, out)?;
+    }
+    Ok(())
+}
+
+// Puts a text behind what waits. Where there is no room for it, what waits is written first.
+fn put<W: Write>(
+    text: &[u8],
+    waiting: &mut ArrayVec<u8, MOST_WAITING>,
+    out: &mut W,
+) -> Result<(), WriteFault>
+    ensures kept { OnOk result (AppendsAllBut (W.contents out.old) (W.contents out.new) (waiting.old.items ++ text.now) waiting.new.items) }
+    ensures prefix { OnErr result (AppendsPrefix (W.contents out.old) (W.contents out.new) (waiting.old.items ++ text.now)) }
+{
+    if waiting.try_extend_from_slice(text).is_ok() {
+        return Ok(());
+    }
+    write_bytes(waiting.as_slice(), out)?;
+    waiting.clear();
+    if waiting.try_extend_from_slice(text).is_ok() {
+        return Ok(());
+    }
+    write_bytes(text, out)
+}
