@@ -1,6 +1,5 @@
+pub mod FaultLineLemmas
+pub mod FileLemmas
 pub mod NextLemmas
-pub mod OutputLemmas
-pub mod RefusalLemmas
 pub mod ScriptLemmas
-mod ScriptRows
-mod WordsRows
+pub mod StreamLemmas

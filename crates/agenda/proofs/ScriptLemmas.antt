@@ -1,84 +1,62 @@
--- How the steps of a script are read from top to bottom.
-use Rattle.std.proofs.Common.{◌≡◌, ℕ, ◌+◌, ◌<◌, ◌≤◌, List, [], ◌∷◌, ◌++◌, length, take, get_or, Ok, Err, refl, ap, ap₂, sym, ◌∙◌, arith, map, Bor, Bool, true, false}
-use Rattle.std.proofs.lemmas.Bool.{le-ltb}
-use Rattle.std.proofs.lemmas.List.{take_more, take_all, get_or-map, length-map}
-use Rattle.std.proofs.lemmas.List.FromFn.{length-enumerate_from, get_or-enumerate_from}
-use Rattle.std.proofs.lemmas.Str.{IsUtf8-from_is_utf8, is_utf8-from_IsUtf8}
-use Rattle.std.specs.List.{enumerate_from}
-use Rattle.std.specs.Str.{IsUtf8, is_utf8}
-use Rattle.plan_rules.specs.Lines.{lines}
-use Rattle.plan_mailbox.specs.declared.replies.Step.{Step}
-use Rattle.plan_rules.specs.Steps.{each}
-use Rattle.plan_rules.proofs.StepsLemmas.{each-push, each-fault}
-use Rattle.agenda.specs.declared.script.fault.ScriptFault.{ScriptFault}
-use Rattle.plan_rules.specs.declared.lines.TheConstants.{MOST_BYTES}
-use Rattle.agenda.specs.declared.script.fault.ScriptCause.TheVariants.{NotUtf8}
-use Rattle.agenda.specs.Script.{fault_on, lines_reading, numbered_step, script_reading, step_on, steps_reading}
+-- A script of which only the first bytes were read, one past the limit: it means what the whole file means.
+use Rattle.std.proofs.Common.{◌≡◌, ℕ, ◌≤◌, ◌<◌, true, Bool, List, [], length, take, nat_lt, Option, None, Some, refl, sym, ap, subst, ◌∙◌, arith, take_all, length-take-le, ⊎_elim}
+use Rattle.std.proofs.lemmas.Bool.{lt-ltb, cases_lt}
+use Rattle.plan_texts.specs.declared.lines.TheConstants.{MOST_BYTES}
+use Rattle.agenda_script.specs.declared.fault.ScriptCause.TheVariants.{TooLarge}
+use Rattle.agenda_script.specs.Script.{script_reading, fault_on}
+use Rattle.agenda.specs.declared.faults.RunFault.{RunFault}
+use Rattle.agenda.specs.declared.faults.RunFault.TheVariants as run
+use Rattle.std.proofs.KnownBytes.{Keeps-refl}
+use Rattle.agenda.specs.declared.faults.Failure.TheVariants.{Run}
+use Rattle.agenda.specs.Answer.{Held, DoesSteps, FailsSteps}
+use Rattle.agenda.specs.Files.{most_read, IsFrontOf, IsHeld}
+use Rattle.agenda.specs.Script.{WritesRun, RefusesScript}
 
--- the first k lines, which have the numbers from 2 on, were read as these steps
-pub record AreRead (lines : List (List ℕ)) (k : ℕ) (steps : List (Step (List ℕ))) : Type 0 where
-  pub so_far : each numbered_step (take k (enumerate_from 2 lines)) ≡ Ok steps
-
-pub none_read : (lines : List (List ℕ)) → AreRead lines 0 []
-none_read lines = record { so_far = refl }
-
--- the texts of some lines
-abbrev pub texts : List (Bor (List ℕ)) → List (List ℕ)
-texts lines = map (λ line. line.now) lines
-
--- the text of the line at a place
-pub line_is : (lines : List (Bor (List ℕ))) (k : ℕ) (line : List ℕ) (other : Bor (List ℕ)) → k < length lines → line ≡ (get_or lines k other).now → line ≡ get_or (texts lines) k line
-line_is lines k line other inside is = is ∙ sym (get_or-map (λ (l : Bor (List ℕ)). l.now) lines k other line inside)
-
-pub inside_texts : (lines : List (Bor (List ℕ))) (k : ℕ) → k < length lines → k < length (texts lines)
-inside_texts lines k inside =
-    let e : length (texts lines) ≡ length lines = simp length-map in
-    omega arith
-
-pub past_texts : (lines : List (Bor (List ℕ))) (k : ℕ) → length lines ≤ k → length (texts lines) ≤ k
-past_texts lines k past =
-    let e : length (texts lines) ≡ length lines = simp length-map in
-    omega arith
-
-inside_all : (lines : List (List ℕ)) (k : ℕ) → k < length lines → k < length (enumerate_from 2 lines)
-inside_all lines k inside = omega (arith, length-enumerate_from 2 lines)
-
-found : (lines : List (List ℕ)) (k number : ℕ) (line : List ℕ) → k < length lines → line ≡ get_or lines k line → number ≡ k + 2 → get_or (enumerate_from 2 lines) k (number, line) ≡ (number, line)
-found lines k number line inside is place =
-    let n : 2 + k ≡ number = omega arith in
-    get_or-enumerate_from 2 lines k (number, line) inside ∙ ap₂ (λ (a : ℕ) (b : List ℕ). (a, b)) n (sym is)
-
--- one line more was read
-pub one_more_read : (lines : List (List ℕ)) (k number : ℕ) (line : List ℕ) (steps : List (Step (List ℕ))) (step : Step (List ℕ)) → k < length lines → line ≡ get_or lines k line → number ≡ k + 2 → AreRead lines k steps → step_on number line ≡ Ok step → AreRead lines (k + 1) (steps ++ step ∷ [])
-one_more_read lines k number line steps step inside is place read here =
-    let all = enumerate_from 2 lines in
-    let within : k < length (enumerate_from 2 lines) = inside_all lines k inside in
-    record {
-      so_far = ap (each numbered_step) (take_more all k (number, line) within ∙ ap (λ x. take k all ++ x ∷ []) (found lines k number line inside is place))
-          ∙ each-push numbered_step (take k all) steps (number, line) step read.so_far here;
-    }
-
--- the next line is faulty
-pub fault_read : (lines : List (List ℕ)) (k number : ℕ) (line : List ℕ) (steps : List (Step (List ℕ))) (fault : ScriptFault) → k < length lines → line ≡ get_or lines k line → number ≡ k + 2 → AreRead lines k steps → step_on number line ≡ Err fault → steps_reading lines ≡ Err fault
-fault_read lines k number line steps fault inside is place read here =
-    each-fault numbered_step (enumerate_from 2 lines) k steps (number, line) fault (inside_all lines k inside) (sym (found lines k number line inside is place)) read.so_far here
-
--- all lines were read
-pub all_read : (lines : List (List ℕ)) (k : ℕ) (steps : List (Step (List ℕ))) → length lines ≤ k → AreRead lines k steps → steps_reading lines ≡ Ok steps
-all_read lines k steps past read =
-    let whole : length (enumerate_from 2 lines) ≤ k = omega (arith, length-enumerate_from 2 lines) in
-    ap (each numbered_step) (sym (take_all k (enumerate_from 2 lines) whole)) ∙ read.so_far
-
--- bytes that are no text
-pub no_text_read : (bytes : List ℕ) → length bytes ≤ MOST_BYTES → ¬ (IsUtf8 bytes) → script_reading bytes ≡ fault_on 0 NotUtf8
+-- more bytes than a script may have are too many, whatever they are
+too_large : (bytes : List ℕ) → most_read ≤ length bytes → script_reading bytes ≡ fault_on 0 TooLarge
 unfolding script_reading
-no_text_read bytes few isnt_text = go (is_utf8 bytes) refl
-  where
-    go : (b : Bool) → is_utf8 bytes ≡ b → script_reading bytes ≡ fault_on 0 NotUtf8
-    go true is = absurd (isnt_text (IsUtf8-from_is_utf8 bytes is))
-    go false is = rw (le-ltb MOST_BYTES (length bytes) few, is) refl
+too_large bytes more = let many : nat_lt MOST_BYTES (length bytes) ≡ true = lt-ltb _ _ (omega arith) in rw many refl
 
--- bytes that are a text are read by its lines
-pub text_read : (bytes : List ℕ) → length bytes ≤ MOST_BYTES → IsUtf8 bytes → script_reading bytes ≡ lines_reading (lines bytes)
-unfolding script_reading
-text_read bytes few text = rw (le-ltb MOST_BYTES (length bytes) few, is_utf8-from_IsUtf8 bytes text) refl
+script_reading-take : (bytes : List ℕ) → script_reading (take most_read bytes) ≡ script_reading bytes
+script_reading-take bytes =
+    ⊎_elim (λ (few : length bytes < most_read). ap script_reading (take_all most_read bytes (omega arith)))
+    (λ (more : most_read ≤ length bytes). too_large (take most_read bytes) (omega (arith, length-take-le most_read bytes more)) ∙ sym (too_large bytes more))
+    (cases_lt (length bytes) most_read)
+
+-- the whole file, where it is known, means what was read
+pub whole_script : (held : Option (List ℕ)) (bytes : List ℕ) → IsFrontOf held bytes → (script : List ℕ) × IsHeld held script × (script_reading script ≡ script_reading bytes)
+whole_script None bytes front = (bytes, tt, refl)
+whole_script (Some whole) bytes front = (whole, refl, sym (script_reading-take whole) ∙ ap script_reading (sym front))
+
+-- some bytes that the file may hold
+pub some_script : (held : Option (List ℕ)) → (script : List ℕ) × IsHeld held script
+some_script None = ([], tt)
+some_script (Some whole) = (whole, refl)
+
+pub runs_whole : (bytes script : List ℕ) (old new : Option (List ℕ)) → script_reading script ≡ script_reading bytes → WritesRun bytes old new → WritesRun script old new
+runs_whole bytes script old new same (text, (meaning, replies, reads, many, turn, is), appends) =
+    (text, (meaning, replies, same ∙ reads, many, turn, is), appends)
+
+pub refuses_whole : (takes_all : Bool) (fault : RunFault) (bytes script : List ℕ) (old new : Option (List ℕ)) → script_reading script ≡ script_reading bytes → RefusesScript takes_all fault bytes old new → RefusesScript takes_all fault script old new
+refuses_whole takes_all (run.Script fault) bytes script old new same (reads, kept) = (same ∙ reads, kept)
+refuses_whole takes_all run.NoMemory bytes script old new same kept = kept
+refuses_whole takes_all run.Device bytes script old new same (text, (meaning, replies, reads, many, turn, is), off) =
+    (text, (meaning, replies, same ∙ reads, many, turn, is), off)
+refuses_whole takes_all run.BadCount bytes script old new same none = absurd none
+refuses_whole takes_all (run.Rule fault) bytes script old new same none = absurd none
+
+-- `steps` on a file of which the first bytes were read
+pub does_steps : (held : Held) (file path bytes read : List ℕ) (old new : Option (List ℕ)) → path ≡ file → IsFrontOf (held path) bytes → read ≡ bytes → WritesRun read old new → DoesSteps held file old new
+does_steps held file path bytes read old new same front is writes =
+    let (script, whole, means) = whole_script (held path) bytes front in
+    subst (λ p. DoesSteps held p old new) same (script, whole, runs_whole bytes script old new means (subst (λ b. WritesRun b old new) is writes))
+
+pub fails_steps : (takes_all : Bool) (held : Held) (file path bytes read : List ℕ) (fault : RunFault) (old new : Option (List ℕ)) → path ≡ file → IsFrontOf (held path) bytes → read ≡ bytes → RefusesScript takes_all fault read old new → FailsSteps takes_all held file (Run fault) old new
+fails_steps takes_all held file path bytes read fault old new same front is refuses =
+    let (script, whole, means) = whole_script (held path) bytes front in
+    subst (λ p. FailsSteps takes_all held p (Run fault) old new) same
+    (script, whole, refuses_whole takes_all fault bytes script old new means (subst (λ b. RefusesScript takes_all fault b old new) is refuses))
+
+-- `steps` without memory to read the file
+pub fails_unread : (takes_all : Bool) (held : Held) (file : List ℕ) (old : Option (List ℕ)) → FailsSteps takes_all held file (Run run.NoMemory) old old
+fails_unread takes_all held file old = let (script, whole) = some_script (held file) in (script, whole, Keeps-refl old)

@@ -1,15 +1,15 @@
 -- The statuses with which the program ends.
 use Rattle.std.specs.Prelude.{ℕ}
-use Rattle.plan_rules.specs.declared.fault.RuleCause.{RuleCause}
-use Rattle.plan_rules.specs.declared.fault.RuleFault.{RuleFault}
-use Rattle.plan_rules.specs.declared.fault.RuleCause.TheVariants as cause
+use Rattle.plan_rules.specs.declared.RuleCause.{RuleCause}
+use Rattle.plan_rules.specs.declared.RuleFault.{RuleFault}
+use Rattle.plan_rules.specs.declared.RuleCause.TheVariants as cause
 use Rattle.agenda.specs.declared.faults.RunFault.{RunFault}
 use Rattle.agenda.specs.declared.faults.RunFault.TheVariants.{NoMemory, BadCount, Rule, Script, Device}
 use Rattle.agenda.specs.declared.faults.Failure.{Failure}
-use Rattle.agenda.specs.declared.faults.Failure.TheVariants.{After, Run, File}
-use Rattle.agenda.specs.declared.script.fault.ScriptCause.{ScriptCause}
-use Rattle.agenda.specs.declared.script.fault.ScriptCause.TheVariants as script
-use Rattle.agenda.specs.declared.script.fault.ScriptFault.{ScriptFault}
+use Rattle.agenda.specs.declared.faults.Failure.TheVariants.{Usage, After, Run, File}
+use Rattle.agenda_script.specs.declared.fault.ScriptCause.{ScriptCause}
+use Rattle.agenda_script.specs.declared.fault.ScriptCause.TheVariants as script
+use Rattle.agenda_script.specs.declared.fault.ScriptFault.{ScriptFault}
 
 -- a fault of a rule, of which a cause is known
 abbrev pub fault_by_cause : RuleCause → RuleFault → RunFault
@@ -32,6 +32,10 @@ fault_of_script fault = fault_by_script_cause fault.cause fault
 -- input, a size, a count or a limit was refused (own)
 abbrev pub refused_status : ℕ
 refused_status = 1
+
+-- the words are no use of the program (own)
+abbrev pub usage_status : ℕ
+usage_status = 2
 
 -- memory was refused, or a device or a file failed (own)
 abbrev pub failed_status : ℕ
@@ -57,6 +61,7 @@ run_status Device = failed_status
 
 -- the status with which the program ends on a failure (own)
 abbrev pub status_of : Failure → ℕ
+status_of (Usage text) = usage_status
 status_of (After fault) = refused_status
 status_of (Run fault) = run_status fault
 status_of (File path) = failed_status

@@ -1,5 +1,8 @@
+pub mod Answer
+pub mod Causes
+pub mod FaultLines
 pub mod Faults
+pub mod Files
 pub mod Next
-pub mod Output
+pub mod Stream
 pub mod Script
-pub mod Words

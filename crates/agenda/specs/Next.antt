@@ -1,21 +1,20 @@
 -- The next starts of one rule, and the text that lists them.
-use Rattle.std.specs.Prelude.{◌≡◌, ℕ, ◌+◌, ◌≤◌, nat_lt, if◌then◌else◌, List, [], ◌++◌, length, take, codes, Option, Ok, Err}
+use Rattle.std.specs.Prelude.{◌≡◌, ℕ, Bool, ◌+◌, ◌≤◌, nat_lt, if◌then◌else◌, List, [], ◌++◌, length, take, codes, Option, Ok, Err}
 use Rattle.std.specs.List.{flat_map}
 use Rattle.std.specs.Io.KnownBytes.{Appends, Keeps}
-use Rattle.plan_sets.specs.declared.civil.TheConstants.{END_SECOND}
+use Rattle.plan_sets.specs.Limits.{end_second}
 use Rattle.plan_sets.specs.Moment.{moment_text_of}
-use Rattle.plan_rules.specs.declared.rule.Rule.{Rule}
+use Rattle.plan_rules.specs.declared.Rule.{Rule}
 use Rattle.plan_rules.specs.Cron.{cron_reading}
 use Rattle.plan_rules.specs.Event.{event_rule_reading}
 use Rattle.plan_rules.specs.Match.{rule_matches}
 use Rattle.plan_rules.specs.Steps.{Reading}
 use Rattle.plan_next.specs.Starts.{starts}
-use Rattle.agenda.specs.declared.next.TheConstants.{MOST_STARTS}
-use Rattle.agenda.specs.declared.next.Asked.{Asked}
-use Rattle.agenda.specs.declared.next.Asked.TheVariants.{Cron, Event}
+use Rattle.agenda_words.specs.declared.Asked.{Asked}
+use Rattle.agenda_words.specs.declared.Asked.TheVariants.{Cron, Event}
 use Rattle.agenda.specs.declared.faults.RunFault.{RunFault}
 use Rattle.agenda.specs.declared.faults.RunFault.TheVariants.{NoMemory, BadCount, Rule as BadRule, Script, Device}
-use Rattle.agenda.specs.Output.{AppendsPrefix}
+use Rattle.agenda.specs.Stream.{BreaksOff}
 
 -- the line of a moment (own)
 abbrev pub moment_line : ℕ → List ℕ
@@ -28,16 +27,20 @@ starts_text count moments =
 
 -- the text of next starts: the first `count` starts of the rule after a moment, then `none` where there are fewer (own)
 abbrev pub next_text : Rule → (after count : ℕ) → List ℕ
-next_text rule after count = starts_text count (take count (starts rule (after + 1) END_SECOND))
+next_text rule after count = starts_text count (take count (starts rule (after + 1) end_second))
 
 -- the rule that a text asks about
 abbrev pub asked_reading : Asked → Reading Rule
-asked_reading (Cron text) = cron_reading text.now
-asked_reading (Event text) = event_rule_reading text.now
+asked_reading (Cron text) = cron_reading text
+asked_reading (Event text) = event_rule_reading text
+
+-- how many starts may be asked for at most (own)
+abbrev pub most_starts : ℕ
+most_starts = 1000
 
 -- how many starts may be asked for (own)
 abbrev pub IsCount : ℕ → Type 0
-IsCount count = (1 ≤ count) × (count ≤ MOST_STARTS)
+IsCount count = (1 ≤ count) × (count ≤ most_starts)
 
 -- the text of next starts of the rule that was asked about
 abbrev pub IsAnswer : Asked → (after count : ℕ) → List ℕ → Type 0
@@ -50,11 +53,11 @@ WritesNext asked after count old new =
     (text : List ℕ) × IsAnswer asked after count text × Appends old new text
 
 -- when each fault of `next` comes, and what was written: the count is looked at first, then the rule (own)
-abbrev pub RefusesNext : RunFault → Asked → (after count : ℕ) → (old new : Option (List ℕ)) → Type 0
-RefusesNext BadCount asked after count old new = (IsCount count → ⊥) × Keeps old new
-RefusesNext (BadRule fault) asked after count old new =
+abbrev pub RefusesNext : Bool → RunFault → Asked → (after count : ℕ) → (old new : Option (List ℕ)) → Type 0
+RefusesNext takes_all BadCount asked after count old new = (IsCount count → ⊥) × Keeps old new
+RefusesNext takes_all (BadRule fault) asked after count old new =
     IsCount count × (asked_reading asked ≡ Err fault) × Keeps old new
-RefusesNext NoMemory asked after count old new = IsCount count × Keeps old new
-RefusesNext (Script fault) asked after count old new = ⊥
-RefusesNext Device asked after count old new =
-    (text : List ℕ) × IsAnswer asked after count text × AppendsPrefix old new text
+RefusesNext takes_all NoMemory asked after count old new = IsCount count × Keeps old new
+RefusesNext takes_all (Script fault) asked after count old new = ⊥
+RefusesNext takes_all Device asked after count old new =
+    (text : List ℕ) × IsAnswer asked after count text × BreaksOff takes_all old new text

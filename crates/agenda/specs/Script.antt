@@ -1,169 +1,12 @@
--- Scripts of steps on a mailbox: what their bytes mean, and the text of what the mailbox replies. All of it is own.
-use Rattle.std.specs.Prelude.{◌≡◌, ℕ, ◌+◌, ◌==◌, nat_lt, if◌then◌else◌, List, [], ◌∷◌, ◌++◌, length, flat_map, codes, decimal, Option, None, Some, option_and_then, Result, Ok, Err}
+-- What a run of a script writes. All of it is own.
+use Rattle.std.specs.Prelude.{◌≡◌, ℕ, Bool, List, length, Option, Ok, Err}
 use Rattle.std.specs.Io.KnownBytes.{Appends, Keeps}
-use Rattle.std.specs.List.{enumerate_from}
-use Rattle.std.specs.Option.{option_map}
-use Rattle.std.specs.Str.{bytes_eq, is_utf8}
-use Rattle.plan_mailbox.specs.declared.replies.Step.{Step}
-use Rattle.plan_mailbox.specs.declared.replies.Step.TheVariants.{Send, Take, Close}
 use Rattle.plan_mailbox.specs.declared.replies.Reply.{Reply}
-use Rattle.plan_mailbox.specs.declared.replies.Reply.TheVariants.{Sent, Full, Closed, NoSender, Took, Nothing, Ended, Shut, AlreadyShut, Unknown}
-use Rattle.plan_mailbox.specs.declared.faults.NewFault.{NewFault}
-use Rattle.plan_mailbox.specs.declared.faults.NewFault.TheVariants as new
-use Rattle.plan_mailbox.specs.declared.queues.Core.{Core}
-use Rattle.plan_mailbox.specs.Mailbox.{is_size, senders_of}
-use Rattle.plan_mailbox.specs.Queues.{mailbox_of}
 use Rattle.plan_mailbox.specs.Reply.{RepliesInTurn}
-use Rattle.plan_rules.specs.Lines.{lines}
-use Rattle.plan_rules.specs.Steps.{◌>>=◌, each}
-use Rattle.plan_rules.specs.Text.{cut_at, number_of}
-use Rattle.agenda.specs.declared.script.TheConstants.{MOST_STEPS}
-use Rattle.plan_rules.specs.declared.lines.TheConstants.{MOST_BYTES}
-use Rattle.agenda.specs.declared.script.fault.ScriptCause.{ScriptCause}
-use Rattle.agenda.specs.declared.script.fault.ScriptCause.TheVariants.{NoMemory, NotUtf8, TooLarge, BadLine, BadSize, TooManySteps}
-use Rattle.agenda.specs.declared.script.fault.ScriptFault.{ScriptFault}
-use Rattle.agenda.specs.declared.script.reader.Script.{Script}
+use Rattle.agenda_script.specs.Script.{Meaning, script_reading, replies_text}
 use Rattle.agenda.specs.declared.faults.RunFault.{RunFault}
 use Rattle.agenda.specs.declared.faults.RunFault.TheVariants as run
-use Rattle.agenda.specs.Output.{AppendsPrefix}
-
--- ---- what a script means
-
--- a new mailbox of so many senders, each with room for so many messages, and the steps on it
-pub record Meaning : Type 0 where
-  pub senders : ℕ
-  pub room : ℕ
-  pub steps : List (Step (List ℕ))
-
--- what a part of a script means, or the first fault of the script
-abbrev pub ScriptReading : Type 0 → Type 0
-ScriptReading A = Result A ScriptFault
-
--- the fault of a line, from 1, or of the whole script, 0
-abbrev pub fault_on : {A : Type 0} → ℕ → ScriptCause → ScriptReading A
-fault_on line cause = Err (record { line = line; cause = cause })
-
--- what a line means; a line of no form that a script has is a bad one
-abbrev pub on_line : {A : Type 0} → ℕ → Option A → ScriptReading A
-on_line number None = fault_on number BadLine
-on_line number (Some meaning) = Ok meaning
-
--- the texts before and after the first space
-abbrev pub around_space : List ℕ → Option (List ℕ × List ℕ)
-around_space text = cut_at (codes " ") text
-
--- both of two numbers
-abbrev pub both : Option ℕ → Option ℕ → Option (ℕ × ℕ)
-both (Some first) (Some second) = Some (first, second)
-both first second = None
-
--- `SENDERS ROOM`, with one space between
-unfoldable pub sizes_of : List ℕ → Option (ℕ × ℕ)
-sizes_of text = option_and_then (λ parts. both (number_of parts.0) (number_of parts.1)) (around_space text)
-
--- `mailbox SENDERS ROOM`
-unfoldable pub mailbox_line : List ℕ → Option (ℕ × ℕ)
-mailbox_line line =
-    option_and_then (λ parts. if bytes_eq parts.0 (codes "mailbox") then sizes_of parts.1 else None) (around_space line)
-
--- a message that isn't empty, of the sender of this number
-abbrev pub sending : Option ℕ → List ℕ → Option (Step (List ℕ))
-sending sender text = if length text == 0 then None else option_map (λ s. Send s text) sender
-
--- `S TEXT`: the text is all that follows the one space
-unfoldable pub send_of : List ℕ → Option (Step (List ℕ))
-send_of text = option_and_then (λ parts. sending (number_of parts.0) parts.1) (around_space text)
-
--- by the word before the first space: `send S TEXT` or `close S`
-abbrev pub step_by_word : List ℕ → List ℕ → Option (Step (List ℕ))
-step_by_word word rest =
-    if bytes_eq word (codes "send") then send_of rest
-    else (if bytes_eq word (codes "close") then option_map (λ s. Close s) (number_of rest) else None)
-
--- `take`, or a step of several words
-unfoldable pub step_of : List ℕ → Option (Step (List ℕ))
-step_of line =
-    if bytes_eq line (codes "take") then Some Take
-    else option_and_then (λ parts. step_by_word parts.0 parts.1) (around_space line)
-
--- the line of this number as a step: a script has at most so many
-unfoldable pub step_on : ℕ → List ℕ → ScriptReading (Step (List ℕ))
-step_on number line =
-    if nat_lt (MOST_STEPS + 1) number then fault_on number TooManySteps else on_line number (step_of line)
-
--- the same of a line with its number
-abbrev pub numbered_step : ℕ × List ℕ → ScriptReading (Step (List ℕ))
-numbered_step numbered = step_on numbered.0 numbered.1
-
--- the steps of the lines after the first, which have the numbers from 2 on: the first that is faulty decides
-abbrev pub steps_reading : List (List ℕ) → ScriptReading (List (Step (List ℕ)))
-steps_reading lines = each numbered_step (enumerate_from 2 lines)
-
--- sizes that a mailbox may have
-abbrev pub as_size : ℕ × ℕ → ScriptReading (ℕ × ℕ)
-as_size size = if is_size size.0 size.1 then Ok size else fault_on 1 BadSize
-
--- the first line: the sizes of the mailbox
-unfoldable pub size_reading : List ℕ → ScriptReading (ℕ × ℕ)
-size_reading line = do
-  size ← on_line 1 (mailbox_line line)
-  as_size size
-
--- the lines: the first makes the mailbox, and each further one is a step
-unfoldable pub lines_reading : List (List ℕ) → ScriptReading Meaning
-lines_reading [] = fault_on 1 BadLine
-lines_reading (first ∷ later) = do
-  size ← size_reading first
-  steps ← steps_reading later
-  Ok (record { senders = size.0; room = size.1; steps = steps })
-
--- the bytes of a script, in this order: they are not too many, they are UTF-8, and then the lines
-unfoldable pub script_reading : List ℕ → ScriptReading Meaning
-script_reading bytes =
-    if nat_lt MOST_BYTES (length bytes) then fault_on 0 TooLarge
-    else (if is_utf8 bytes then lines_reading (lines bytes) else fault_on 0 NotUtf8)
-
--- that memory was refused: a fault of no line
-abbrev pub memory_refused : ScriptFault
-memory_refused = record { line = 0; cause = NoMemory }
-
--- the fault of a script of which no mailbox is made
-abbrev pub fault_of_mailbox : NewFault → ScriptFault
-fault_of_mailbox new.NoMemory = memory_refused
-fault_of_mailbox new.BadSize = record { line = 1; cause = BadSize }
-
--- the sizes of a mailbox
-abbrev pub sizes_in : Core (List ℕ) → ℕ × ℕ
-sizes_in core = (senders_of (mailbox_of core), (mailbox_of core).room)
-
--- what a script that was read means
-abbrev pub meaning_of : Script → Meaning
-meaning_of script = record {
-  senders = senders_of (mailbox_of script.mailbox);
-  room = (mailbox_of script.mailbox).room;
-  steps = script.steps.items;
-}
-
--- ---- the text of replies
-
--- the line of a reply
-unfoldable pub reply_line : Reply (List ℕ) → List ℕ
-reply_line Sent = codes "sent\n"
-reply_line (Full text) = codes "full " ++ text ++ codes "\n"
-reply_line (Closed text) = codes "closed " ++ text ++ codes "\n"
-reply_line (NoSender text) = codes "no sender " ++ text ++ codes "\n"
-reply_line (Took s text) = codes "took " ++ decimal s ++ codes " " ++ text ++ codes "\n"
-reply_line Nothing = codes "nothing\n"
-reply_line Ended = codes "ended\n"
-reply_line Shut = codes "shut\n"
-reply_line AlreadyShut = codes "already shut\n"
-reply_line Unknown = codes "unknown\n"
-
--- one line for each reply
-unfoldable pub replies_text : List (Reply (List ℕ)) → List ℕ
-replies_text replies = flat_map reply_line replies
-
--- ---- a run of a script
+use Rattle.agenda.specs.Stream.{BreaksOff}
 
 -- the text of the replies to a script's steps on a new mailbox: one for each step, and each is the one after the history
 -- of the steps before it
@@ -179,8 +22,9 @@ abbrev pub WritesRun : List ℕ → (old new : Option (List ℕ)) → Type 0
 WritesRun script old new = (text : List ℕ) × IsTextOfRun script text × Appends old new text
 
 -- when each fault of a script comes, and what was written
-abbrev pub RefusesScript : RunFault → List ℕ → (old new : Option (List ℕ)) → Type 0
-RefusesScript (run.Script fault) script old new = (script_reading script ≡ Err fault) × Keeps old new
-RefusesScript run.NoMemory script old new = Keeps old new
-RefusesScript run.Device script old new = (text : List ℕ) × IsTextOfRun script text × AppendsPrefix old new text
-RefusesScript other script old new = ⊥
+abbrev pub RefusesScript : Bool → RunFault → List ℕ → (old new : Option (List ℕ)) → Type 0
+RefusesScript takes_all (run.Script fault) script old new = (script_reading script ≡ Err fault) × Keeps old new
+RefusesScript takes_all run.NoMemory script old new = Keeps old new
+RefusesScript takes_all run.Device script old new =
+    (text : List ℕ) × IsTextOfRun script text × BreaksOff takes_all old new text
+RefusesScript takes_all other script old new = ⊥

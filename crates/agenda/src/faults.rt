@@ -1,14 +1,12 @@
-//! Why the program fails: its line on standard error, and its status.
+//! Why the program fails, and the status with which it then ends.
 
 ghost use Rattle.std.specs.Prelude.{◌≡◌};
-ghost use Rattle.agenda.specs.Faults.{status_of, run_status};
 
-use crate::output::WriteFault;
-use crate::script::{ScriptCause, ScriptFault};
+use crate::stream::WriteFault;
+use agenda_script::{ScriptCause, ScriptFault};
 use plan_rules::{RuleCause, RuleFault, Text};
 use plan_sets::MomentFault;
 use std::alloc::{AllocError, AllocFailed};
-use std::io::Write;
 use thiserror::Error;
 
 /// Why a command was not done.
@@ -94,9 +92,11 @@ impl From<ScriptFault> for RunFault {
     }
 }
 
-/// Why the program ends with a status other than 0, but for usage.
+/// Why the program ends with a status other than 0.
 #[derive(Debug, Drop)]
 pub enum Failure {
+    /// The words of the command line are no use of the program. The text says what is.
+    Usage(Text),
     /// The text of `--after` is no moment.
     After(MomentFault),
     /// The command was not done.
@@ -108,50 +108,45 @@ pub enum Failure {
 // The status where input, a size, a count or a limit was refused.
 const REFUSED: u8 = 1;
 
+// The status where the words are no use of the program.
+const USAGE: u8 = 2;
+
 // The status where memory was refused, or a device or a file failed.
 const FAILED: u8 = 3;
 
-/// Writes the line of a failure, and answers the status with which the program ends: 1 where input or a count was refused,
-/// 3 where memory was refused, or a device or a file failed. A fault of this writer is passed over. Takes no memory.
-pub fn fault_line<W: Write>(failure: &Failure, out: &mut W) -> u8
-    ensures { result ≡ status_of failure.now }
-{
-    match failure {
-        Failure::After(cause) => {
-            let _ = writeln!(out, "agenda: after: {cause}");
-            REFUSED
-        }
-        Failure::Run(fault) => run_line(fault, out),
-        Failure::File(path) => {
-            let _ = writeln!(out, "agenda: {}: Device", path.as_str());
-            FAILED
+impl Failure {
+    ghost use Rattle.agenda.specs.Faults.{status_of};
+
+    /// The status with which the program ends: 1 where input or a count was refused, 2 for usage, 3 where memory was
+    /// refused, or a device or a file failed.
+    pub fn status(&self) -> u8
+        ensures { result ≡ status_of self.now }
+    {
+        match self {
+            Failure::Usage(_) => USAGE,
+            Failure::After(_) => REFUSED,
+            Failure::Run(fault) => fault.status(),
+            Failure::File(_) => FAILED,
         }
     }
 }
 
-fn run_line<W: Write>(fault: &RunFault, out: &mut W) -> u8
-    ensures { result ≡ run_status fault.now }
-{
-    match fault {
-        RunFault::BadCount => {
-            let _ = writeln!(out, "agenda: count: BadCount");
-            REFUSED
-        }
-        RunFault::Rule(RuleFault { part, cause }) if *cause != RuleCause::NoMemory => {
-            let _ = writeln!(out, "agenda: rule: part {part}: {cause}");
-            REFUSED
-        }
-        RunFault::Script(ScriptFault { line, cause }) if *cause != ScriptCause::NoMemory => {
-            let _ = writeln!(out, "agenda: script: line {line}: {cause}");
-            REFUSED
-        }
-        RunFault::Rule(_) | RunFault::Script(_) | RunFault::NoMemory => {
-            let _ = writeln!(out, "agenda: NoMemory");
-            FAILED
-        }
-        RunFault::Device => {
-            let _ = writeln!(out, "agenda: Device");
-            FAILED
+impl RunFault {
+    ghost use Rattle.agenda.specs.Faults.{run_status};
+
+    // The status with which the program ends where a command was not done.
+    fn status(&self) -> u8
+        ensures { result ≡ run_status self.now }
+    {
+        match self {
+            RunFault::Rule(RuleFault { part: _, cause }) if *cause != RuleCause::NoMemory =>
+                REFUSED,
+            RunFault::Script(ScriptFault { line: _, cause }) if *cause != ScriptCause::NoMemory => {
+                REFUSED
+            }
+            RunFault::BadCount => REFUSED,
+            RunFault::Rule(_) | RunFault::Script(_) | RunFault::NoMemory | RunFault::Device =>
+                FAILED,
         }
     }
 }

@@ -1,62 +1,56 @@
 //! The next starts of one rule.
 
 ghost use Rattle.std.specs.Prelude.{◌≡◌, IfOk, IfErr, OnOk};
-ghost use Rattle.agenda.specs.Next.{next_text, WritesNext, RefusesNext, asked_reading};
+ghost use Rattle.agenda.specs.Next.{next_text, WritesNext, RefusesNext, IsCount, asked_reading};
 ghost use Rattle.plan_rules.specs.Steps.{Gives};
 
 use crate::faults::RunFault;
-use crate::output::write_text;
+use crate::stream::Stream;
+use agenda_words::Asked;
 use plan_next::next_start;
 use plan_rules::{Rule, RuleFault, calendar_rule, cron_rule};
 use plan_sets::moment_text;
 use std::alloc::{AllocError, Global};
-use std::io::Write;
 
 /// How many starts may be asked for at most.
 pub const MOST_STARTS: u64 = 1_000;
-
-/// The text of a rule whose starts are asked for.
-#[derive(Clone, Copy, Debug)]
-pub enum Asked<'a> {
-    /// A rule as crontab(5) writes it.
-    Cron(&'a str),
-    /// A calendar event as systemd.time(7) writes it.
-    Event(&'a str),
-}
 
 /// Writes the first `count` starts of a rule later than `after`, in seconds since 1970-01-01T00:00:00Z: one moment a line, and
 /// the line `none` after them where the rule has no more.
 ///
 /// `BadCount` where the count is outside 1 to 1,000; else `Rule` where the text is no rule; `NoMemory` where memory was
-/// refused. Nothing is written then. `Device` where the writer fails, which then took the first bytes of the text.
-pub fn run_next<W: Write>(
+/// refused. Nothing is written then. `Device` where the stream fails, which then took the first bytes of the text.
+pub fn run_next<S: Stream>(
     alloc: Global,
-    asked: Asked<'_>,
+    asked: &Asked,
     after: u64,
     count: u64,
-    out: &mut W,
+    out: &mut S,
 ) -> Result<(), RunFault>
     ensures written { OnOk result
-        (WritesNext asked.entry after count (W.contents out.old) (W.contents out.new)) }
+        (WritesNext asked.now after count (S.holds out.old) (S.holds out.new)) }
     ensures refused { IfErr result
-        (λ fault. RefusesNext fault asked.entry after count (W.contents out.old) (W.contents out.new)) }
+        (λ fault. RefusesNext S.takes_all fault asked.now after count (S.holds out.old) (S.holds out.new)) }
+
+    // A bad count is found before anything else, and before memory is asked for.
+    ensures bad_count { ¬ IsCount count → result ≡ Err RunFault.BadCount }
 {
     if count == 0 || count > MOST_STARTS {
         return Err(RunFault::BadCount);
     }
     let rule = asked_rule(alloc, asked)?;
     let text = starts_text(alloc, &rule, after, count)?;
-    write_text(text.as_slice(), out)?;
+    out.put(text.as_slice())?;
     Ok(())
 }
 
 // The rule that was asked about.
-fn asked_rule(alloc: Global, asked: Asked<'_>) -> Result<Rule, RuleFault>
-    ensures { Gives result (asked_reading asked.entry) }
+fn asked_rule(alloc: Global, asked: &Asked) -> Result<Rule, RuleFault>
+    ensures { Gives result (asked_reading asked.now) }
 {
     match asked {
-        Asked::Cron(text) => cron_rule(alloc, text),
-        Asked::Event(text) => calendar_rule(alloc, text),
+        Asked::Cron(text) => cron_rule(alloc, text.as_str()),
+        Asked::Event(text) => calendar_rule(alloc, text.as_str()),
     }
 }
 

@@ -1,42 +1,48 @@
 //! Scripts: a list of steps on a mailbox, and what it replies to them.
 
-ghost use Rattle.std.specs.Prelude.{IfErr, OnOk};
+ghost use Rattle.std.specs.Prelude.{◌≡◌, IfErr, IfOk, OnOk, vec_len};
+ghost use Rattle.plan_mailbox.specs.Lanes.{mailbox_of};
+ghost use Rattle.plan_mailbox.specs.Mailbox.{IsNew, senders_of};
+ghost use Rattle.plan_mailbox.specs.Reply.{RepliesInTurn};
 ghost use Rattle.agenda.specs.Script.{RefusesScript, WritesRun};
 
-mod fault;
-mod message;
-mod reader;
-mod replies;
-
 use crate::faults::RunFault;
-use crate::output::write_text;
-pub use fault::{ScriptCause, ScriptFault};
-use plan_mailbox::run_steps;
-use reader::{Script, read_script};
-use replies::replies_text;
+use crate::stream::Stream;
+use agenda_script::{Script, read_script, replies_text};
+use plan_mailbox::{Reply, Rings, Step, run_steps};
 use std::alloc::Global;
-use std::io::Write;
-
-/// How many steps a script has at most.
-pub const MOST_STEPS: u32 = 10_000;
 
 /// Takes the steps of a script on a new mailbox, and writes one line for each reply.
 ///
 /// The first line is `mailbox SENDERS ROOM`; each further one is `send S TEXT`, `take` or `close S`. `Script` holds the
 /// first fault of the script's bytes; `NoMemory` says that memory was refused. Nothing is written then. `Device` comes where
-/// the writer fails, which then took the first bytes of the text.
-pub fn run_script<W: Write>(alloc: Global, script: &[u8], out: &mut W) -> Result<(), RunFault>
-    ensures written { OnOk result (WritesRun script.now (W.contents out.old) (W.contents out.new)) }
+/// the stream fails, which then took the first bytes of the text.
+pub fn run_script<S: Stream>(alloc: Global, script: &[u8], out: &mut S) -> Result<(), RunFault>
+    ensures written { OnOk result (WritesRun script.now (S.holds out.old) (S.holds out.new)) }
     ensures refused { IfErr result
-        (λ fault. RefusesScript fault script.now (W.contents out.old) (W.contents out.new)) }
+        (λ fault. RefusesScript S.takes_all fault script.now (S.holds out.old) (S.holds out.new)) }
 {
     let Script { mut mailbox, steps } = read_script(alloc, script)?;
-    let Ok(replies) = run_steps(alloc, &mut mailbox, steps) else {
+    let Ok(replies) = replies_to(alloc, &mut mailbox, steps) else {
         return Err(RunFault::NoMemory);
     };
     let text = replies_text(alloc, replies.as_slice())?;
-    write_text(text.as_slice(), out)?;
+    out.put(text.as_slice())?;
     Ok(())
+}
+
+// The replies of new rings to steps, whatever the messages are: those of a script are lent, and a trait's call names no lifetime.
+fn replies_to<M: Drop>(
+    alloc: Global,
+    rings: &mut Rings<M>,
+    steps: Vec<Step<M>>,
+) -> Result<Vec<Reply<M>>, Vec<Step<M>>>
+    requires { IsNew (mailbox_of rings.old) }
+    ensures as_many { IfOk result (λ replies. vec_len replies ≡ vec_len steps) }
+    ensures in_turn { let before = mailbox_of rings.old in IfOk result (λ replies.
+        RepliesInTurn (senders_of before) before.room steps.items replies.items) }
+{
+    run_steps(alloc, rings, steps)
 }
 
 #[cfg(test)]

@@ -1,5 +1,6 @@
 use super::*;
-use crate::output::tests::{End, LimitedWriter};
+use crate::stream::tests::{End, LimitedWriter};
+use agenda_script::{ScriptCause, ScriptFault};
 use plan_rules::lines::MOST_BYTES;
 use std::process::Abort;
 use std::test::Fail;

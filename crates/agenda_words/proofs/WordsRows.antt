@@ -1,0 +1,118 @@
+-- Worked rows of the command line, by the definition of what its words ask for.
+use Rattle.std.proofs.Common.{◌≡◌, List, ℕ, [], ◌∷◌, false, None, Some, Ok, Err, codes, refl}
+use Rattle.std.specs.Str.{bytes_eq}
+use Rattle.clap.specs.Lexer.{long_of, short_of}
+use Rattle.clap.proofs.OnLiterals.{clap_on_literals}
+use Rattle.agenda_words.specs.declared.ask.Ask.TheVariants.{Next, Steps}
+use Rattle.agenda_words.specs.declared.ask.Asked.TheVariants.{Cron, Event}
+use Rattle.agenda_words.specs.Words.{asked_by, is_usage, wants_help}
+
+abbrev moment : List ℕ
+moment = codes "2024-01-01T00:00:00Z"
+
+abbrev rule : List ℕ
+rule = codes "30 4 1,15 * 5"
+
+abbrev next_with : List (List ℕ) → List (List ℕ)
+next_with words = codes "agenda" ∷ codes "next" ∷ codes "--after" ∷ moment ∷ words
+
+-- both values and the number
+four_starts : asked_by (next_with (codes "--count" ∷ codes "4" ∷ codes "--cron" ∷ rule ∷ [])) ≡ Ok (Next moment 4 (Cron rule))
+unfolding asked_by clap_on_literals
+four_starts = refl
+
+-- without `--count` one start is wanted
+one_start_by_default : asked_by (next_with (codes "--cron" ∷ rule ∷ [])) ≡ Ok (Next moment 1 (Cron rule))
+unfolding asked_by clap_on_literals
+one_start_by_default = refl
+
+-- none may be wanted
+no_start : asked_by (next_with (codes "--count" ∷ codes "0" ∷ codes "--cron" ∷ rule ∷ [])) ≡ Ok (Next moment 0 (Cron rule))
+unfolding asked_by clap_on_literals
+no_start = refl
+
+-- the most that 32 bits hold
+most_starts : asked_by (next_with (codes "--count=4294967295" ∷ codes "--cron" ∷ rule ∷ [])) ≡ Ok (Next moment 4294967295 (Cron rule))
+unfolding asked_by clap_on_literals
+most_starts = refl
+
+-- and one more
+one_start_too_many : asked_by (next_with (codes "--count=4294967296" ∷ codes "--cron" ∷ rule ∷ [])) ≡ Err is_usage
+unfolding asked_by clap_on_literals
+one_start_too_many = refl
+
+-- a count that is no number
+count_is_no_number : asked_by (next_with (codes "--count" ∷ codes "x" ∷ codes "--cron" ∷ rule ∷ [])) ≡ Err is_usage
+unfolding asked_by clap_on_literals
+count_is_no_number = refl
+
+-- no `--cron`, which clap lets through
+no_rule_is_given : asked_by (next_with []) ≡ Err is_usage
+unfolding asked_by clap_on_literals
+no_rule_is_given = refl
+
+-- no `--after`, which clap refuses
+no_moment_is_given : asked_by (codes "agenda" ∷ codes "next" ∷ codes "--cron" ∷ rule ∷ []) ≡ Err is_usage
+unfolding asked_by clap_on_literals
+no_moment_is_given = refl
+
+-- the program's name alone
+no_subcommand_is_given : asked_by (codes "agenda" ∷ []) ≡ Err is_usage
+unfolding asked_by clap_on_literals
+no_subcommand_is_given = refl
+
+-- help comes before what is missing
+help_is_wanted : asked_by (codes "agenda" ∷ codes "next" ∷ codes "--help" ∷ []) ≡ Err wants_help
+unfolding asked_by clap_on_literals
+help_is_wanted = refl
+
+-- a word that is no flag, as clap reads it
+record IsPlainWord (word : List ℕ) : Type 0 where
+  long : long_of word ≡ None
+  short : short_of word ≡ None
+  trailing : bytes_eq word (codes "--") ≡ false
+
+-- any two plain words are taken
+any_moment_and_rule : (name after cron : List ℕ) → IsPlainWord after → IsPlainWord cron
+    → asked_by (name ∷ codes "next" ∷ codes "--after" ∷ after ∷ codes "--cron" ∷ cron ∷ []) ≡ Ok (Next after 1 (Cron cron))
+unfolding asked_by clap_on_literals
+any_moment_and_rule name after cron a c = rw (a.trailing, a.long, a.short, c.trailing, c.long, c.short) refl
+
+-- a calendar event
+an_event_is_given : asked_by (next_with (codes "--calendar" ∷ codes "daily" ∷ [])) ≡ Ok (Next moment 1 (Event (codes "daily")))
+unfolding asked_by clap_on_literals
+an_event_is_given = refl
+
+-- both
+two_rules_are_given : asked_by (next_with (codes "--calendar" ∷ codes "daily" ∷ codes "--cron" ∷ rule ∷ [])) ≡ Err is_usage
+unfolding asked_by clap_on_literals
+two_rules_are_given = refl
+
+-- a script's path
+a_script_is_given : asked_by (codes "agenda" ∷ codes "steps" ∷ codes "a/b c" ∷ []) ≡ Ok (Steps (codes "a/b c"))
+unfolding asked_by clap_on_literals
+a_script_is_given = refl
+
+-- no path
+no_script_is_given : asked_by (codes "agenda" ∷ codes "steps" ∷ []) ≡ Err is_usage
+unfolding asked_by clap_on_literals
+no_script_is_given = refl
+
+-- two paths
+two_scripts_are_given : asked_by (codes "agenda" ∷ codes "steps" ∷ codes "a" ∷ codes "b" ∷ []) ≡ Err is_usage
+unfolding asked_by clap_on_literals
+two_scripts_are_given = refl
+
+-- another subcommand
+plan_is_no_subcommand : asked_by (codes "agenda" ∷ codes "plan" ∷ []) ≡ Err is_usage
+unfolding asked_by clap_on_literals
+plan_is_no_subcommand = refl
+
+-- the version is told, of the program alone
+version_is_wanted : asked_by (codes "agenda" ∷ codes "--version" ∷ []) ≡ Err wants_help
+unfolding asked_by clap_on_literals
+version_is_wanted = refl
+
+no_version_of_next : asked_by (next_with (codes "--version" ∷ [])) ≡ Err is_usage
+unfolding asked_by clap_on_literals
+no_version_of_next = refl

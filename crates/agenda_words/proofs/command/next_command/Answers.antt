@@ -1,0 +1,23 @@
+use Rattle.std.proofs.Common.{rules, ◌≡◌, List, [], ◌∷◌, codes, false}
+use Rattle.clap.specs.Words.{app_of, new_app}
+use Rattle.clap.specs.declared.builder.arg.Arg.{Arg}
+use Rattle.clap.specs.declared.builder.command.Command.TheViews.{out-Command}
+use Rattle.agenda_words.specs.Command.{next}
+use Rattle.agenda_words.proofs.CommandLemmas.{HaveRules, app_after, local_after}
+use Rattle.agenda_words.proofs.command.next_command.Goals as goal
+
+pub returns-clause-app : goal.returns-clause-app
+returns-clause-app c =
+    let options : List Arg = c.moment_option.result ∷ c.number_option.result ∷ c.text_option.result ∷ c.text_option-2.result ∷ [] in
+    let have : HaveRules options next.top.rules =
+    (c.moment_option.ensures.rule, c.moment_option.ensures.local, (c.number_option.ensures.rule, c.number_option.ensures.local, (c.text_option.ensures.rule, c.text_option.ensures.local, (c.text_option-2.ensures.rule, c.text_option-2.ensures.local, tt)))) in
+    let start : app_of c.after_help.result ≡ new_app (codes "next") = search rules in
+    app_after c.args-2.result c.after_help.result (new_app (codes "next")) c.in_ok-options.options.items options next.top.rules start c.in_ok-options.ensures.items have c.args-2.ensures
+
+pub returns-clause-local : goal.returns-clause-local
+returns-clause-local c =
+    let options : List Arg = c.moment_option.result ∷ c.number_option.result ∷ c.text_option.result ∷ c.text_option-2.result ∷ [] in
+    let have : HaveRules options next.top.rules =
+    (c.moment_option.ensures.rule, c.moment_option.ensures.local, (c.number_option.ensures.rule, c.number_option.ensures.local, (c.text_option.ensures.rule, c.text_option.ensures.local, (c.text_option-2.ensures.rule, c.text_option-2.ensures.local, tt)))) in
+    let plain : (out-Command c.after_help.result).has_globals ≡ false = search rules in
+    local_after c.args-2.result c.after_help.result c.in_ok-options.options.items options next.top.rules plain c.in_ok-options.ensures.items have c.args-2.ensures

@@ -1,0 +1,51 @@
+-- The command line of the program, as clap reads it.
+use Rattle.std.specs.Prelude.{ℕ, true, pos, List, [], ◌∷◌, Some, codes}
+use Rattle.clap.specs.Words.{App, Rule, new_app, new_rule, with_subcommand}
+use Rattle.clap.specs.Simple.{on_top}
+use Rattle.clap.specs.declared.builder.value_parser.ValueParser.TheVariants as parser
+
+-- own: an option `--name VALUE`, which may be missing
+abbrev pub option_named : List ℕ → Rule
+option_named name = record (new_rule name) { long = Some name; value_names = 1 }
+
+-- own: a moment, which has to be there
+abbrev pub moment_option : List ℕ → Rule
+moment_option name = record (option_named name) { required = true }
+
+-- own: a whole number of 32 bits; where it is missing, the default
+abbrev pub number_option : List ℕ → List ℕ → Rule
+number_option name default = record (option_named name) {
+  parser = Some (parser.Signed (pos 0) (pos 4294967295));
+  defaults = default ∷ [];
+}
+
+-- own: `FILE`, which has to be there
+abbrev pub file_argument : Rule
+file_argument = record (new_rule (codes "file")) { value_names = 1; required = true }
+
+-- own: a subcommand with these options and arguments
+abbrev pub subcommand_with : List ℕ → List Rule → App
+subcommand_with name rules = on_top (λ s. record s { rules = rules }) (new_app name)
+
+-- own: `next --after T [--count N] (--cron TEXT or --calendar TEXT)`; that exactly one of the last two is there is tested
+-- after the parse
+abbrev pub next : App
+next = subcommand_with (codes "next") (moment_option (codes "after") ∷ number_option (codes "count") (codes "1")
+    ∷ option_named (codes "cron") ∷ option_named (codes "calendar") ∷ [])
+
+-- own: `steps FILE`
+abbrev pub steps : App
+steps = subcommand_with (codes "steps") (file_argument ∷ [])
+
+-- own: `agenda`, which a subcommand follows or `--version`; there is no subcommand `help`, so that each fault of clap has
+-- one answer
+abbrev pub agenda_alone : App
+agenda_alone = on_top (λ s. record s {
+  has_version = true;
+  subcommand_required = true;
+  disable_help_subcommand = true;
+}) (new_app (codes "agenda"))
+
+-- own: `agenda next ..` or `agenda steps ..`
+abbrev pub agenda : App
+agenda = with_subcommand (with_subcommand agenda_alone next.top) steps.top

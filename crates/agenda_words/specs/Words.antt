@@ -1,0 +1,98 @@
+-- What the words of the command line ask for.
+use Rattle.std.specs.Prelude.{◌≡◌, ⊤, ℕ, false, List, [], ◌∷◌, Option, Some, None, Result, Ok, Err}
+use Rattle.std.specs.Prelude.{codes, if◌then◌else◌, option_and_then}
+use Rattle.std.specs.Str.{bytes_eq}
+use Rattle.std.specs.Str.Parse.{digits_value, without_leading_plus}
+use Rattle.clap.specs.ValueTests.{accepts}
+use Rattle.clap.specs.Words.{Kinds, Row, fault_of, first_of, one_of, subcommand_of}
+use Rattle.clap.specs.declared.builder.value_parser.ValueParser.TheVariants as parser
+use Rattle.clap.specs.declared.error.kind.ErrorKind.{ErrorKind}
+use Rattle.clap.specs.declared.error.kind.ErrorKind.TheVariants.{DisplayHelp, DisplayVersion, OutOfMemory}
+use Rattle.agenda_words.specs.declared.ask.Ask.{Ask}
+use Rattle.agenda_words.specs.declared.ask.Ask.TheVariants.{Next, Steps}
+use Rattle.agenda_words.specs.declared.ask.Asked.{Asked}
+use Rattle.agenda_words.specs.declared.ask.Asked.TheVariants.{Cron, Event}
+use Rattle.agenda_words.specs.declared.ask.UsageFault.{UsageFault}
+use Rattle.agenda_words.specs.declared.ask.UsageFault.TheVariants.{NoMemory, Usage, Help}
+use Rattle.agenda_words.specs.Command.{agenda}
+
+-- own: words that ask for nothing: help or the version is wanted, or they are no use of the program
+pub data Refusal : Type 0 where
+  wants_help : Refusal
+  is_usage : Refusal
+
+infixl 10 ◌>>=◌
+-- own: the first refusal decides
+abbrev pub ◌>>=◌ : {X Y : Type 0} → Result X Refusal → (X → Result Y Refusal) → Result Y Refusal
+(Ok x) >>= f = f x
+(Err e) >>= f = Err e
+
+-- own: an option that has to be there
+abbrev pub wanted : {X : Type 0} → Option X → Result X Refusal
+wanted None = Err is_usage
+wanted (Some x) = Ok x
+
+-- own: the number that a text writes in decimal digits, where it is one of 32 bits
+abbrev pub number_of : List ℕ → Option ℕ
+number_of text = if accepts false (parser.Unsigned 0 4294967295) text
+    then Some (digits_value 10 (without_leading_plus text)) else None
+
+abbrev pub number_in : Option (List ℕ) → Option ℕ
+number_in text = option_and_then number_of text
+
+-- own: exactly one of a cron rule and a calendar event has to be there
+abbrev pub one_rule : Option (List ℕ) → Option (List ℕ) → Result Asked Refusal
+one_rule (Some cron) None = Ok (Cron cron)
+one_rule None (Some calendar) = Ok (Event calendar)
+one_rule (Some cron) (Some calendar) = Err is_usage
+one_rule None None = Err is_usage
+
+-- own: the values that `next` was given
+abbrev pub asked_by_next : List Row → Result Ask Refusal
+asked_by_next rows = do
+  after ← wanted (first_of (codes "after") rows)
+  count ← wanted (number_in (one_of (codes "count") rows))
+  rule ← one_rule (first_of (codes "cron") rows) (first_of (codes "calendar") rows)
+  Ok (Next after count rule)
+
+-- own: the file that `steps` was given
+abbrev pub asked_by_steps : List Row → Result Ask Refusal
+asked_by_steps rows = do
+  file ← wanted (first_of (codes "file") rows)
+  Ok (Steps file)
+
+-- own: by the name of the subcommand that was met, and what it was given
+abbrev pub asked_by_subcommand : Option (List ℕ × List Row) → Result Ask Refusal
+asked_by_subcommand None = Err is_usage
+asked_by_subcommand (Some met) =
+    if bytes_eq met.0 (codes "next") then asked_by_next met.1
+    else (if bytes_eq met.0 (codes "steps") then asked_by_steps met.1 else Err is_usage)
+
+-- own: a call for help or for the version is answered, and each other fault is usage
+abbrev pub refusal_of : ErrorKind → Refusal
+refusal_of DisplayHelp = wants_help
+refusal_of DisplayVersion = wants_help
+refusal_of _ = is_usage
+
+-- own: words that clap refuses ask for nothing
+abbrev pub asked_unless : Kinds → Result Ask Refusal → Result Ask Refusal
+asked_unless [] read = read
+asked_unless (kind ∷ _) read = Err (refusal_of kind)
+
+-- own: what the words ask for
+unfoldable pub asked_by : List (List ℕ) → Result Ask Refusal
+asked_by words = asked_unless (fault_of agenda words) (asked_by_subcommand (subcommand_of agenda words))
+
+-- own: the answer is the definition's, or memory was refused
+abbrev pub Gives : {X : Type 0} → Result X UsageFault → Result X Refusal → Type 0
+Gives (Ok x) read = read ≡ Ok x
+Gives (Err NoMemory) read = ⊤
+Gives (Err (Usage text)) read = read ≡ Err is_usage
+Gives (Err (Help text)) read = read ≡ Err wants_help
+
+-- own: the fault that stands for a kind of clap's error
+abbrev pub IsAnswerTo : ErrorKind → UsageFault → Type 0
+IsAnswerTo OutOfMemory fault = fault ≡ NoMemory
+IsAnswerTo DisplayHelp fault = (text : List ℕ) × (fault ≡ Help text)
+IsAnswerTo DisplayVersion fault = (text : List ℕ) × (fault ≡ Help text)
+IsAnswerTo _ fault = (text : List ℕ) × (fault ≡ Usage text)

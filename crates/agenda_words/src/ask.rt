@@ -1,0 +1,58 @@
+//! What the words of the command line ask for.
+
+use plan_texts::Text;
+use std::alloc::AllocError;
+use thiserror::Error;
+
+/// What the words ask for.
+#[derive(Debug, Drop)]
+pub enum Ask {
+    /// The next starts of one rule.
+    Next {
+        /// The text of a moment: the starts are later.
+        after: Text,
+        /// How many starts.
+        count: u32,
+        /// The rule.
+        rule: Asked,
+    },
+    /// The replies to the steps of a script.
+    Steps {
+        /// The path of the script.
+        file: Text,
+    },
+}
+
+/// The rule that is asked about.
+#[derive(Debug, Drop)]
+pub enum Asked {
+    /// The text of a cron rule.
+    Cron(Text),
+    /// The text of a calendar event.
+    Event(Text),
+}
+
+/// Why the words ask for nothing.
+#[derive(Debug, Drop, Error)]
+pub enum UsageFault {
+    /// Memory was refused.
+    #[error("NoMemory")]
+    NoMemory,
+    /// The words are no use of the program. The text is for standard error.
+    #[error("Usage")]
+    Usage(Text),
+    /// The words ask for help or for the version. The text is for standard output.
+    #[error("Help")]
+    Help(Text),
+}
+
+impl From<AllocError> for UsageFault {
+    ghost use Rattle.std.specs.Prelude.{◌≡◌};
+    ghost use Rattle.agenda_words.specs.declared.ask.UsageFault.TheVariants.{NoMemory};
+
+    ghost from_gives = { λ _ fault. fault ≡ NoMemory };
+
+    fn from(_error: AllocError) -> UsageFault {
+        UsageFault::NoMemory
+    }
+}

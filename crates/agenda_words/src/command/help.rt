@@ -1,0 +1,48 @@
+//! The texts that help shows.
+
+pub(super) const AGENDA: &str = "When jobs start, by the rules of cron and of systemd timers";
+
+pub(super) const AFTER_AGENDA: &str = "\
+All moments are in UTC and of the years 1970 to 2199. The formats, the limits and
+what each fault line means are described in agenda(1).
+
+Examples:
+  agenda next --cron @daily --after 2024-01-01T00:00:00Z
+  agenda steps script";
+
+pub(super) const NEXT: &str = "Prints the next starts of one rule";
+
+pub(super) const NEXT_USAGE: &str =
+    "agenda next --after <T> [--count <N>] (--cron <TEXT> | --calendar <TEXT>)";
+
+pub(super) const AFTER: &str = "\
+The starts are later than this moment, in UTC, as
+2024-01-01T00:00:00Z; the years are 1970 to 2199";
+
+pub(super) const COUNT: &str = "How many starts, from 1 to 1000";
+
+pub(super) const CRON: &str = "\
+A cron rule: minute, hour, day of month, month and day
+of week, or @hourly, @daily, @weekly, @monthly, @yearly";
+
+pub(super) const CALENDAR: &str = "A calendar event, as 'Mon..Fri *-*-* 04:30' or daily";
+
+pub(super) const AFTER_NEXT: &str = "\
+Exactly one of --cron and --calendar is given. Prints a moment a line; where the rule
+has fewer starts before the year 2200, the last line is none. Both grammars are
+described in agenda(1).
+
+Example:
+  agenda next --cron '30 4 1,15 * 5' --after 2024-01-01T00:00:00Z --count 4";
+
+pub(super) const STEPS: &str = "Prints what a mailbox replies to the steps of a script";
+
+pub(super) const FILE: &str = "The script: a line that makes the mailbox, and a line for each step";
+
+pub(super) const AFTER_STEPS: &str = "\
+The first line is mailbox SENDERS ROOM, with 1 to 8 senders and room for 1 to 1024
+messages of each. Each further line is a step, of at most 10000: send S TEXT, take or
+close S, with senders S from 0. The replies are described in agenda(1).
+
+Example:
+  agenda steps script";

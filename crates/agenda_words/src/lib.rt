@@ -1,0 +1,13 @@
+//! The words of the command line: what they ask for, or the text of help or of usage.
+#![tactic(auto)]
+
+mod ask;
+mod command;
+mod values;
+mod words;
+
+pub use ask::{Ask, Asked, UsageFault};
+pub use words::read_words;
+
+#[cfg(test)]
+mod tests;

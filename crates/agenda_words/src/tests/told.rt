@@ -1,0 +1,182 @@
+//! The texts of help, of the version and of usage, letter by letter.
+use super::{MOMENT, RULE, read};
+use crate::UsageFault;
+
+const AGENDA: &str = "\
+When jobs start, by the rules of cron and of systemd timers
+
+Usage: agenda <COMMAND>
+
+Commands:
+  next   Prints the next starts of one rule
+  steps  Prints what a mailbox replies to the steps of a script
+
+Options:
+  -h, --help     Print help
+  -V, --version  Print version
+
+All moments are in UTC and of the years 1970 to 2199. The formats, the limits and
+what each fault line means are described in agenda(1).
+
+Examples:
+  agenda next --cron @daily --after 2024-01-01T00:00:00Z
+  agenda steps script
+";
+
+const NEXT: &str = "\
+Prints the next starts of one rule
+
+Usage: agenda next --after <T> [--count <N>] (--cron <TEXT> | --calendar <TEXT>)
+
+Options:
+      --after <T>        The starts are later than this moment, in UTC, as
+                         2024-01-01T00:00:00Z; the years are 1970 to 2199
+      --count <N>        How many starts, from 1 to 1000 [default: 1]
+      --cron <TEXT>      A cron rule: minute, hour, day of month, month and day
+                         of week, or @hourly, @daily, @weekly, @monthly, @yearly
+      --calendar <TEXT>  A calendar event, as 'Mon..Fri *-*-* 04:30' or daily
+  -h, --help             Print help
+
+Exactly one of --cron and --calendar is given. Prints a moment a line; where the rule
+has fewer starts before the year 2200, the last line is none. Both grammars are
+described in agenda(1).
+
+Example:
+  agenda next --cron '30 4 1,15 * 5' --after 2024-01-01T00:00:00Z --count 4
+";
+
+const STEPS: &str = "\
+Prints what a mailbox replies to the steps of a script
+
+Usage: agenda steps <FILE>
+
+Arguments:
+  <FILE>  The script: a line that makes the mailbox, and a line for each step
+
+Options:
+  -h, --help  Print help
+
+The first line is mailbox SENDERS ROOM, with 1 to 8 senders and room for 1 to 1024
+messages of each. Each further line is a step, of at most 10000: send S TEXT, take or
+close S, with senders S from 0. The replies are described in agenda(1).
+
+Example:
+  agenda steps script
+";
+
+const VERSION: &str = "\
+agenda 0.1.0
+proved with rattle-kit-13b logic dac8208d650f15bf
+";
+
+#[test]
+fn help_and_version_are_told_whole(rt: HostRuntime) {
+    let rows: [(&[&str], &str); 10] = [
+        (&["--help"], AGENDA),
+        (&["-h"], AGENDA),
+        (&["--help", "--version"], AGENDA),
+        (&["--version"], VERSION),
+        (&["-V"], VERSION),
+        (&["-Vh"], VERSION),
+        (&["next", "--help"], NEXT),
+        (&["next", "--after", MOMENT, "-h"], NEXT),
+        (&["steps", "--help"], STEPS),
+        (&["steps", "script", "-h"], STEPS),
+    ];
+    for (words, whole) in rows {
+        match read(rt.alloc(), words) {
+            Err(UsageFault::Help(text)) => assert_eq!(rt; text.as_str(), whole, "{words:?}"),
+            other => panic!(rt; "{words:?} gives {other:?}"),
+        }
+    }
+}
+
+#[test]
+fn usage_is_told_whole(rt: HostRuntime) {
+    let rows: [(&[&str], &str); 8] = [
+        (
+            &[],
+            "\
+error: 'agenda' requires a subcommand but one was not provided
+  [subcommands: next, steps]
+
+Usage: agenda <COMMAND>
+
+For more information, try '--help'.
+",
+        ),
+        (
+            &["help"],
+            "\
+error: unrecognized subcommand 'help'
+
+Usage: agenda <COMMAND>
+
+For more information, try '--help'.
+",
+        ),
+        (
+            &["nxt"],
+            "\
+error: unrecognized subcommand 'nxt'
+
+  tip: a similar subcommand exists: 'next'
+
+Usage: agenda <COMMAND>
+
+For more information, try '--help'.
+",
+        ),
+        (
+            &["next", "--cron", RULE],
+            "\
+error: the following required arguments were not provided:
+  --after <T>
+
+Usage: agenda next --after <T> [--count <N>] (--cron <TEXT> | --calendar <TEXT>)
+
+For more information, try '--help'.
+",
+        ),
+        (
+            &["next", "--after", MOMENT, "--cron", RULE, "--count", "x"],
+            "\
+error: invalid value 'x' for '--count <N>': invalid digit found in string
+
+For more information, try '--help'.
+",
+        ),
+        (
+            &["next", "--after", MOMENT],
+            "exactly one of --cron and --calendar\n",
+        ),
+        (
+            &[
+                "next",
+                "--after",
+                MOMENT,
+                "--cron",
+                RULE,
+                "--calendar",
+                "daily",
+            ],
+            "exactly one of --cron and --calendar\n",
+        ),
+        (
+            &["steps", "script", "another"],
+            "\
+error: unexpected argument 'another' found
+
+Usage: agenda steps <FILE>
+
+For more information, try '--help'.
+",
+        ),
+    ];
+    for (words, whole) in rows {
+        match read(rt.alloc(), words) {
+            Err(UsageFault::Usage(text)) => assert_eq!(rt; text.as_str(), whole, "{words:?}"),
+            other => panic!(rt; "{words:?} gives {other:?}"),
+        }
+    }
+}

@@ -1,0 +1,77 @@
+//! How the words of the command line are read.
+ghost use Rattle.std.specs.Prelude.{IfOk, map, string_bytes};
+ghost use Rattle.clap.specs.Words.{found_of, kind_of, rows_of, subcommand_rows_of};
+ghost use Rattle.agenda_words.specs.Words.{Gives, IsAnswerTo, asked_by, asked_by_next};
+ghost use Rattle.agenda_words.specs.Words.{asked_by_steps, asked_by_subcommand};
+
+use crate::ask::{Ask, Asked, UsageFault};
+use crate::command::agenda_command;
+use crate::values::{number_of, text, text_if_given, text_of};
+use clap::ArgMatches;
+use clap::error::ErrorKind;
+use plan_texts::Text;
+use std::alloc::{AllocError, Global};
+
+const ONE_RULE: &str = "exactly one of --cron and --calendar\n";
+
+const NO_SUBCOMMAND: &str =
+    "error: a subcommand is missing\n\nFor more information, try '--help'.\n";
+
+/// Reads the words of the command line, of which the first is the program's name: what they ask for,
+/// or the text of help, of the version or of usage.
+pub fn read_words(alloc: Global, words: &[String]) -> Result<Ask, UsageFault>
+    ensures { Gives result (asked_by (map string_bytes words.now)) }
+{
+    let command = agenda_command(alloc)?;
+    match command.try_get_matches_from(words) {
+        Ok(matches) => asked_by_subcommand(alloc, &matches),
+        Err(error) => Err(refusal(alloc, &error)?),
+    }
+}
+
+// What the subcommand that was met asks for.
+fn asked_by_subcommand(alloc: Global, matches: &ArgMatches<'_>) -> Result<Ask, UsageFault>
+    ensures { Gives result (asked_by_subcommand (subcommand_rows_of matches.now)) }
+{
+    if let Some(given) = matches.subcommand_matches("next") {
+        return asked_by_next(alloc, given);
+    }
+    match matches.subcommand_matches("steps") {
+        Some(given) => asked_by_steps(alloc, given),
+        None => Err(UsageFault::Usage(text(alloc, NO_SUBCOMMAND)?)),
+    }
+}
+
+fn asked_by_next(alloc: Global, given: &ArgMatches<'_>) -> Result<Ask, UsageFault>
+    ensures { Gives result (asked_by_next (rows_of (found_of given.now))) }
+{
+    let after = text_of(alloc, given, "after")?;
+    let count = number_of(alloc, given, "count")?;
+    let cron = text_if_given(alloc, given, "cron")?;
+    let calendar = text_if_given(alloc, given, "calendar")?;
+    let rule = match (cron, calendar) {
+        (Some(cron), None) => Asked::Cron(cron),
+        (None, Some(calendar)) => Asked::Event(calendar),
+        _ => return Err(UsageFault::Usage(text(alloc, ONE_RULE)?)),
+    };
+    Ok(Ask::Next { after, count, rule })
+}
+
+fn asked_by_steps(alloc: Global, given: &ArgMatches<'_>) -> Result<Ask, UsageFault>
+    ensures { Gives result (asked_by_steps (rows_of (found_of given.now))) }
+{
+    let file = text_of(alloc, given, "file")?;
+    Ok(Ask::Steps { file })
+}
+
+// The fault that stands for an error of `clap`, with its text.
+fn refusal(alloc: Global, error: &clap::Error) -> Result<UsageFault, AllocError>
+    ensures { IfOk result (IsAnswerTo (kind_of error.now)) }
+{
+    let text = Text::new(error.to_string(alloc)?);
+    Ok(match error.kind() {
+        ErrorKind::OutOfMemory => UsageFault::NoMemory,
+        ErrorKind::DisplayHelp | ErrorKind::DisplayVersion => UsageFault::Help(text),
+        _ => UsageFault::Usage(text),
+    })
+}
