@@ -17,7 +17,7 @@ use Rattle.agenda.specs.Faults.{status_of}
 use Rattle.agenda.specs.Files.{IsHeld}
 use Rattle.agenda.specs.Next.{WritesNext, RefusesNext}
 use Rattle.agenda.specs.Script.{WritesRun, RefusesScript}
-use Rattle.agenda.specs.Stream.{BreaksOff, PutsOrBreaksOff}
+use Rattle.plan_collect.specs.Stream.{BreaksOff, PutsOrBreaksOff}
 
 -- memory aside, the text of usage where a word of the command line isn't UTF-8
 abbrev pub SaysNotUtf8 : UsageFault → Type 0

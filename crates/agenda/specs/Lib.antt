@@ -4,5 +4,4 @@ pub mod FaultLines
 pub mod Faults
 pub mod Files
 pub mod Next
-pub mod Stream
 pub mod Script

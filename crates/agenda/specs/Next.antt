@@ -14,7 +14,7 @@ use Rattle.agenda_words.specs.declared.Asked.{Asked}
 use Rattle.agenda_words.specs.declared.Asked.TheVariants.{Cron, Event}
 use Rattle.agenda.specs.declared.faults.RunFault.{RunFault}
 use Rattle.agenda.specs.declared.faults.RunFault.TheVariants.{NoMemory, BadCount, Rule as BadRule, Script, Device}
-use Rattle.agenda.specs.Stream.{BreaksOff}
+use Rattle.plan_collect.specs.Stream.{BreaksOff}
 
 -- the line of a moment (own)
 abbrev pub moment_line : ℕ → List ℕ

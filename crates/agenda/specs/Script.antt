@@ -6,7 +6,7 @@ use Rattle.plan_mailbox.specs.Reply.{RepliesInTurn}
 use Rattle.agenda_script.specs.Script.{Meaning, script_reading, replies_text}
 use Rattle.agenda.specs.declared.faults.RunFault.{RunFault}
 use Rattle.agenda.specs.declared.faults.RunFault.TheVariants as run
-use Rattle.agenda.specs.Stream.{BreaksOff}
+use Rattle.plan_collect.specs.Stream.{BreaksOff}
 
 -- the text of the replies to a script's steps on a new mailbox: one for each step, and each is the one after the history
 -- of the steps before it

@@ -3,15 +3,15 @@
 ghost use Rattle.std.specs.Prelude.{◌≡◌, ◌≢◌, IfErr, OnOk, map, string_bytes};
 ghost use Rattle.std.specs.Io.KnownBytes.{Appends};
 ghost use Rattle.agenda.specs.Answer.{Answers, AnswersWords, DoesNext, DoesSteps, FailsNext, FailsSteps, Finishes, SaysNotUtf8, Stops};
-ghost use Rattle.agenda.specs.Stream.{BreaksOff};
+ghost use Rattle.plan_collect.specs.Stream.{BreaksOff};
 
 use crate::fault_lines::fault_line;
 use crate::faults::{Failure, RunFault};
 use crate::files::{Files, read_file};
 use crate::next::run_next;
 use crate::script::run_script;
-use crate::stream::Stream;
 use agenda_words::{Ask, Asked, UsageFault, read_words};
+use plan_collect::Stream;
 use plan_rules::Text;
 use plan_sets::read_moment;
 use std::alloc::Global;

@@ -4,13 +4,13 @@ ghost use Rattle.std.specs.Prelude.{◌≡◌, ◌≤◌, IfSome, length, take};
 ghost use Rattle.std.specs.List.{flat_map};
 ghost use Rattle.agenda.specs.Faults.{status_of};
 ghost use Rattle.agenda.specs.FaultLines.{fault_text, rule_line, run_line, script_line};
-ghost use Rattle.agenda.specs.Stream.{Puts, PutsOrBreaksOff};
+ghost use Rattle.plan_collect.specs.Stream.{Puts, PutsOrBreaksOff};
 
 use crate::causes::{moment_cause, rule_cause, script_cause};
 use crate::faults::{Failure, RunFault};
-use crate::stream::{Stream, WriteFault};
 use agenda_script::{ScriptCause, ScriptFault};
 use itoa::Buffer;
+use plan_collect::{Stream, WriteFault};
 use plan_rules::{RuleCause, RuleFault};
 
 // How many bytes of a line go out by one write: all but those with a very long path.

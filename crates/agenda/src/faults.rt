@@ -2,8 +2,8 @@
 
 ghost use Rattle.std.specs.Prelude.{◌≡◌};
 
-use crate::stream::WriteFault;
 use agenda_script::{ScriptCause, ScriptFault};
+use plan_collect::WriteFault;
 use plan_rules::{RuleCause, RuleFault, Text};
 use plan_sets::MomentFault;
 use std::alloc::{AllocError, AllocFailed};

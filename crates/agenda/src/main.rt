@@ -8,7 +8,6 @@ mod faults;
 mod files;
 mod next;
 mod script;
-mod stream;
 
 use agenda_words::UsageFault;
 use answer::{answer, answer_words, unread_words};

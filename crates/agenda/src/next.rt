@@ -5,8 +5,8 @@ ghost use Rattle.agenda.specs.Next.{next_text, WritesNext, RefusesNext, IsCount,
 ghost use Rattle.plan_rules.specs.Steps.{Gives};
 
 use crate::faults::RunFault;
-use crate::stream::Stream;
 use agenda_words::Asked;
+use plan_collect::Stream;
 use plan_next::next_start;
 use plan_rules::{Rule, RuleFault, calendar_rule, cron_rule};
 use plan_sets::moment_text;

@@ -7,8 +7,8 @@ ghost use Rattle.plan_mailbox.specs.Reply.{RepliesInTurn};
 ghost use Rattle.agenda.specs.Script.{RefusesScript, WritesRun};
 
 use crate::faults::RunFault;
-use crate::stream::Stream;
 use agenda_script::{Script, read_script, replies_text};
+use plan_collect::Stream;
 use plan_mailbox::{Reply, Rings, Step, run_steps};
 use std::alloc::Global;
 

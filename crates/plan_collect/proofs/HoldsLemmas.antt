@@ -1,22 +1,21 @@
 -- What a collector holds as it begins, takes a piece and ends.
-use Rattle.std.proofs.Common.{◌≡◌, ℕ, zero, suc, ◌+◌, ◌-◌, ◌<◌, ◌≤◌, ◌≢◌, ◌%◌, Bool, true, false, ◌&&◌, ◌==◌, List, [], ◌∷◌, ◌++◌, length, map, get_or, set, Option, None, Some, inl, inr, refl, ap, sym, subst, ◌∙◌, arith, length-append, length-set, get_or-set_same, get_or-set_other}
+use Rattle.std.proofs.Common.{◌≡◌, ℕ, ◌+◌, ◌-◌, ◌<◌, ◌≤◌, ◌%◌, Bool, true, false, ◌&&◌, ◌==◌, List, [], ◌∷◌, ◌++◌, length, Option, None, Some, inl, inr, refl, ap, sym, subst, ◌∙◌, arith, length-append, length-set, get_or-set_same, get_or-set_other}
 use Rattle.std.specs.Prelude.{slice_get, slice_index, slice_set, replicate, nat_lt, nat_le, IsPermutation}
-use Rattle.std.specs.List.{range_with_len, flat_map, list_all}
+use Rattle.std.specs.List.{list_all}
 use Rattle.std.specs.List.Sorted.{IsSorted}
 use Rattle.std.specs.Ordering.{nat_cmp, ordering_then}
 use Rattle.std.proofs.lemmas.Bool.{and_parts, eqb-true, le-leb, lt-leb, leb-true, leb-false, cases_lt, cases_eq, false≢true}
 use Rattle.std.proofs.lemmas.List.{get_or-replicate, length-replicate}
 use Rattle.std.proofs.lemmas.Option.{slice_get_within}
 use Rattle.plan_match.specs.declared.rule.Rule.{Rule}
-use Rattle.plan_match.specs.Equal.{same_rule, same_rule-Decides}
-use Rattle.plan_next.specs.Starts.{is_start, starts, passing}
+use Rattle.plan_match.specs.Equal.{same_rule-Decides}
+use Rattle.plan_next.specs.Starts.{starts, passing}
 use Rattle.plan_next.specs.Piece.{Part}
-use Rattle.plan_collect.specs.declared.note.Note.{Note}
 use Rattle.plan_collect.specs.declared.note.Note.TheVariants as note
 use Rattle.plan_collect.specs.Span.{Bounds}
 use Rattle.plan_collect.specs.Limits.{is_limit, is_size}
-use Rattle.plan_collect.specs.Agenda.{agenda, row_from}
-use Rattle.plan_collect.specs.Collecting.{Collected, begun, held_from, held, is_rule_of, belongs, adjoins, has_room, is_complete, weigh, SameEntries, Holds}
+use Rattle.plan_collect.specs.Agenda.{agenda}
+use Rattle.plan_collect.specs.Collecting.{Collected, held_from, held, is_rule_of, belongs, adjoins, has_room, is_complete, weigh, SameEntries, Holds}
 use Rattle.plan_collect.proofs.EntriesLemmas.{weigh-append, weigh-length, SameEntries-length, SameEntries-permutation, Ascends-sorted, Ascends-unique}
 use Rattle.plan_collect.proofs.HeldLemmas.{entries_of, length-entries_of, AreWithin, AreWithin-each, held-le, held-complete, held-more}
 use Rattle.plan_collect.proofs.AgendaOrder.{Ascends-agenda}

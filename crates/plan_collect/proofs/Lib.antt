@@ -4,7 +4,7 @@ pub mod EntriesLemmas
 pub mod HeldLemmas
 pub mod HoldsLemmas
 pub mod JobsLemmas
-pub mod OutputLemmas
+pub mod StreamLemmas
 pub mod SerialLemmas
 pub mod PiecesLemmas
 pub mod MergingLemmas

@@ -1,24 +1,24 @@
 -- What a planner sends fits, note by note.
-use Rattle.std.proofs.Common.{◌≡◌, ◌≢◌, ℕ, zero, suc, ◌+◌, ◌-◌, ◌%◌, ◌<◌, ◌≤◌, ◌⊎◌, Bool, true, false, ◌&&◌, ◌==◌, nat_lt, nat_le, List, [], ◌∷◌, ◌++◌, length, map, replicate, get_or, Some, None, inl, inr, refl, ap, ap₂, sym, ◌∙◌, subst, arith, append_assoc}
-use Rattle.std.specs.Prelude.{slice_get, slice_index, unwrap_or}
+use Rattle.std.proofs.Common.{◌≡◌, ℕ, zero, suc, ◌+◌, ◌-◌, ◌%◌, ◌<◌, ◌≤◌, ◌⊎◌, true, false, ◌==◌, nat_lt, nat_le, List, [], ◌∷◌, ◌++◌, length, map, replicate, get_or, Some, inl, inr, refl, ap, sym, ◌∙◌, subst, arith, append_assoc}
+use Rattle.std.specs.Prelude.{slice_get, slice_index}
 use Rattle.std.proofs.Math.ListN.{set}
-use Rattle.std.proofs.lemmas.Bool.{cases_lt, cases_eq, cases_Bool, and_from, and_parts, eq-eqb, ne_eqb, lt-ltb, le-ltb, le-leb, leb-true, ltb-true, ltb-false}
+use Rattle.std.proofs.lemmas.Bool.{cases_lt, cases_eq, and_from, and_parts, eq-eqb, ne_eqb, lt-ltb, le-ltb, le-leb, leb-true}
 use Rattle.std.proofs.lemmas.List.{length-set, get_or-set_same, get_or-set_other, length-replicate, get_or-replicate}
 use Rattle.std.proofs.lemmas.Option.{unwrap_or-slice_get}
 use Rattle.plan_match.specs.declared.rule.Rule.{Rule}
-use Rattle.plan_match.specs.Equal.{same_rule, same_rule-Decides}
+use Rattle.plan_match.specs.Equal.{same_rule-Decides}
 use Rattle.plan_next.specs.Starts.{is_start, starts}
 use Rattle.plan_next.specs.StartsLaws.{passing-none}
-use Rattle.plan_next.specs.Piece.{Part, piece_of, piece_end}
+use Rattle.plan_next.specs.Piece.{piece_of, piece_end}
 use Rattle.plan_collect.specs.declared.note.Note.{Note}
 use Rattle.plan_collect.specs.declared.note.Note.TheVariants as note
 use Rattle.plan_collect.specs.Span.{Bounds}
-use Rattle.plan_collect.specs.Limits.{is_size, most_planners, most_starts}
-use Rattle.plan_collect.specs.Collecting.{Collected, begun, held, held_from, belongs, has_ended, adjoins, after}
-use Rattle.plan_collect.specs.Tiling.{pieces_within, pieces, parts_from, tiling, starts_in, cut_after, sent_by, notes_of, IsMerging}
-use Rattle.plan_collect.specs.Merging.{answer_to, AcceptsMergings}
+use Rattle.plan_collect.specs.Limits.{most_planners, most_starts}
+use Rattle.plan_collect.specs.Collecting.{Collected, begun, held_from, has_ended, after}
+use Rattle.plan_collect.specs.Tiling.{pieces_within, pieces, parts_from, tiling, starts_in, cut_after, sent_by}
+use Rattle.plan_collect.specs.Merging.{AcceptsMergings}
 use Rattle.plan_collect.proofs.PiecesLemmas.{Ends, piece_ends, piece_of_nothing}
-use Rattle.plan_collect.proofs.MergingLemmas.{Fits, IsDone, Ready, Over, Sends, IsSound, IsFair, AllOf, merged}
+use Rattle.plan_collect.proofs.MergingLemmas.{Fits, Ready, Over, Sends, IsSound, AllOf, merged}
 
 -- a write after a write
 set_again : (xs : List ℕ) (i a b : ℕ) → set (set xs i a) i b ≡ set xs i b

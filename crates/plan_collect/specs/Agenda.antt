@@ -1,5 +1,5 @@
 -- The agenda of jobs over a span: every second of the span and every job.
-use Rattle.std.specs.Prelude.{◌≡◌, ℕ, ◌+◌, ◌-◌, ◌<◌, Bool, List, [], ◌∷◌, length, map, nat_lt, IsTrue, if◌then◌else◌}
+use Rattle.std.specs.Prelude.{ℕ, ◌+◌, ◌-◌, List, [], ◌∷◌, map, nat_lt, IsTrue, if◌then◌else◌}
 use Rattle.std.specs.List.{range_with_len, flat_map, list_all}
 use Rattle.plan_sets.specs.Limits.{end_second}
 use Rattle.plan_match.specs.declared.rule.Rule.{Rule}

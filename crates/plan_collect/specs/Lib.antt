@@ -7,7 +7,7 @@ pub mod Agenda
 pub mod AgendaLaws
 pub mod Collecting
 pub mod Limits
-pub mod Output
+pub mod Stream
 pub mod Planning
 pub mod Span
 pub mod Texts

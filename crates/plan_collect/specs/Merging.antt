@@ -1,5 +1,5 @@
 -- What a collector answers to the notes of planners, in any order of arrival (own).
-use Rattle.std.specs.Prelude.{◌≡◌, ℕ, ◌≤◌, true, List, [], ◌∷◌, Option, Some, None, Result, Ok, Err, MatchResult}
+use Rattle.std.specs.Prelude.{◌≡◌, ℕ, ◌≤◌, true, List, [], ◌∷◌, Some, None, Result, Ok, Err, MatchResult}
 use Rattle.plan_match.specs.declared.rule.Rule.{Rule}
 use Rattle.plan_collect.specs.declared.note.Note.{Note}
 use Rattle.plan_collect.specs.declared.collector.CollectFault.{CollectFault}

@@ -1,5 +1,5 @@
 -- What planners send (own).
-use Rattle.std.specs.Prelude.{◌≡◌, ℕ, zero, suc, ◌+◌, ◌-◌, ◌%◌, ◌<◌, ◌==◌, nat_lt, if◌then◌else◌, Bool, true, false, List, [], ◌∷◌, ◌++◌, length, map, filter, slice_get, Option, Some, None}
+use Rattle.std.specs.Prelude.{◌≡◌, ℕ, zero, suc, ◌+◌, ◌-◌, ◌%◌, ◌<◌, ◌==◌, nat_lt, if◌then◌else◌, true, false, List, [], ◌∷◌, ◌++◌, length, map, filter, slice_get, Some}
 use Rattle.plan_match.specs.declared.rule.Rule.{Rule}
 use Rattle.plan_next.specs.Starts.{starts}
 use Rattle.plan_next.specs.Piece.{Part, piece_of}

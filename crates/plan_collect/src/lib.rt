@@ -6,18 +6,18 @@ mod agenda;
 mod collector;
 mod merging;
 mod note;
-mod output;
 mod serial;
 mod span;
+mod stream;
 mod write;
 
 pub use agenda::Agenda;
 pub use collector::{CollectFault, Collector, CollectorFault, MOST_ENTRIES, MOST_PLANNERS};
 pub use merging::accepts_every_merging;
 pub use note::{Note, PIECE_STARTS};
-pub use output::{WriteFault, write_text};
 pub use serial::{PlanFault, plan_serial};
 pub use span::{Span, SpanFault};
+pub use stream::{Stream, WriteFault};
 pub use write::write_agenda;
 
 #[cfg(test)]

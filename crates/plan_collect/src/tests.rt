@@ -421,7 +421,7 @@ fn a_line_that_is_longer_than_what_waits(rt: HostRuntime) -> Result<(), Fail> {
 #[test]
 fn a_text_that_is_written(rt: HostRuntime) -> Result<(), Fail> {
     let mut out = Vec::new(rt.alloc());
-    assert_eq!(rt; write_text(b"none\n", &mut out), Ok(()));
+    assert_eq!(rt; out.put(b"none\n"), Ok(()));
     assert_eq!(rt; out.as_slice(), b"none\n".as_slice());
     Ok(())
 }

@@ -1,53 +1,47 @@
 //! The text of an agenda.
 
-ghost use Rattle.std.specs.Prelude.{◌≡◌, ◌≤◌, ◌++◌, length, slice_get, OnOk, OnErr};
+ghost use Rattle.std.specs.Prelude.{◌≡◌, ◌≤◌, ◌++◌, length, slice_get};
 ghost use Rattle.std.specs.List.{flat_map};
-ghost use Rattle.std.specs.Io.KnownBytes.{Appends};
 ghost use Rattle.plan_collect.specs.Agenda.{IsOfJobs};
-ghost use Rattle.plan_collect.specs.Output.{AppendsPrefix, AppendsAllBut};
+ghost use Rattle.plan_collect.specs.Stream.{Puts, PutsAllBut};
 ghost use Rattle.plan_collect.specs.Texts.{agenda_text, line_of};
 
 use crate::agenda::Agenda;
-use crate::output::{WriteFault, write_bytes, write_text};
+use crate::stream::{Stream, WriteFault};
 use arrayvec::ArrayVec;
 use plan_rules::Jobs;
 use plan_sets::{END_SECOND, moment_text};
-use std::io::Write;
 
 // How many bytes wait at most until they are written together.
 const MOST_WAITING: usize = 8_192;
 
-/// Writes the text of an agenda of these jobs, one line for each entry, and flushes the writer: the moment, a tab, the job's
-/// name, a tab, what it runs. Takes no memory of its own.
+/// Writes the text of an agenda of these jobs, one line for each entry: the moment, a tab, the job's name, a tab, what it
+/// runs. Takes no memory of its own.
 ///
-/// `Device` where a write or the flush gives an error, or a write takes none of its bytes; then only the first bytes of the
-/// text were written.
-pub fn write_agenda<W: Write>(agenda: &Agenda, jobs: &Jobs, out: &mut W) -> Result<(), WriteFault>
+/// `Device` where the stream fails; then only the first bytes of the text were written.
+pub fn write_agenda<S: Stream>(agenda: &Agenda, jobs: &Jobs, out: &mut S) -> Result<(), WriteFault>
     requires { IsOfJobs (length jobs.now) agenda.now }
-    ensures written { OnOk result (Appends (W.contents out.old) (W.contents out.new) (agenda_text agenda.now jobs.now)) }
-    ensures prefix { OnErr result (AppendsPrefix (W.contents out.old) (W.contents out.new) (agenda_text agenda.now jobs.now)) }
+    ensures { Puts S.takes_all result (S.holds out.old) (S.holds out.new) (agenda_text agenda.now jobs.now) }
 {
     let mut waiting = ArrayVec::<u8, MOST_WAITING>::new();
     let entries = agenda.entries();
     for entry in entries {
         put_line(entry.0, entry.1, jobs, &mut waiting, out)?;
     }
-    write_text(waiting.as_slice(), out)
+    out.put(waiting.as_slice())
 }
 
 // Puts the line of an entry behind what waits: of a second, and a job's number.
-fn put_line<W: Write>(
+fn put_line<S: Stream>(
     second: u64,
     job: u32,
     jobs: &Jobs,
     waiting: &mut ArrayVec<u8, MOST_WAITING>,
-    out: &mut W,
+    out: &mut S,
 ) -> Result<(), WriteFault>
     requires { second ≤ END_SECOND }
-    ensures kept { OnOk result (AppendsAllBut (W.contents out.old) (W.contents out.new)
-        (waiting.old.items ++ line_of second (slice_get jobs.now job)) waiting.new.items) }
-    ensures prefix { OnErr result (AppendsPrefix (W.contents out.old) (W.contents out.new)
-        (waiting.old.items ++ line_of second (slice_get jobs.now job))) }
+    ensures { PutsAllBut S.takes_all result (S.holds out.old) (S.holds out.new)
+        (waiting.old.items ++ line_of second (slice_get jobs.now job)) waiting.new.items }
 {
     let Some(job) = jobs.get(job as usize) else {
         return Ok(());
@@ -59,15 +53,13 @@ fn put_line<W: Write>(
 }
 
 // Puts texts behind what waits, one after the other.
-fn put_all<W: Write>(
+fn put_all<S: Stream>(
     texts: &[&[u8]],
     waiting: &mut ArrayVec<u8, MOST_WAITING>,
-    out: &mut W,
+    out: &mut S,
 ) -> Result<(), WriteFault>
-    ensures kept { OnOk result (AppendsAllBut (W.contents out.old) (W.contents out.new)
-        (waiting.old.items ++ flat_map (λ text. text.now) texts.now) waiting.new.items) }
-    ensures prefix { OnErr result (AppendsPrefix (W.contents out.old) (W.contents out.new)
-        (waiting.old.items ++ flat_map (λ text. text.now) texts.now)) }
+    ensures { PutsAllBut S.takes_all result (S.holds out.old) (S.holds out.new)
+        (waiting.old.items ++ flat_map (λ text. text.now) texts.now) waiting.new.items }
 {
     for text in texts {
         put(text, waiting, out)?;
@@ -76,21 +68,21 @@ fn put_all<W: Write>(
 }
 
 // Puts a text behind what waits. Where there is no room for it, what waits is written first.
-fn put<W: Write>(
+fn put<S: Stream>(
     text: &[u8],
     waiting: &mut ArrayVec<u8, MOST_WAITING>,
-    out: &mut W,
+    out: &mut S,
 ) -> Result<(), WriteFault>
-    ensures kept { OnOk result (AppendsAllBut (W.contents out.old) (W.contents out.new) (waiting.old.items ++ text.now) waiting.new.items) }
-    ensures prefix { OnErr result (AppendsPrefix (W.contents out.old) (W.contents out.new) (waiting.old.items ++ text.now)) }
+    ensures { PutsAllBut S.takes_all result (S.holds out.old) (S.holds out.new)
+        (waiting.old.items ++ text.now) waiting.new.items }
 {
     if waiting.try_extend_from_slice(text).is_ok() {
         return Ok(());
     }
-    write_bytes(waiting.as_slice(), out)?;
+    out.put(waiting.as_slice())?;
     waiting.clear();
     if waiting.try_extend_from_slice(text).is_ok() {
         return Ok(());
     }
-    write_bytes(text, out)
+    out.put(text)
 }

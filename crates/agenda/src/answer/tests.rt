@@ -1,6 +1,6 @@
 use super::*;
 use crate::files::tests::OneFile;
-use crate::stream::tests::{End, LimitedWriter};
+use crate::tests::writers::{End, LimitedWriter};
 use std::test::Fail;
 
 // What a run left behind.

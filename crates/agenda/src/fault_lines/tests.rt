@@ -1,5 +1,5 @@
 use super::*;
-use crate::stream::tests::{End, LimitedWriter};
+use crate::tests::writers::{End, LimitedWriter};
 use plan_rules::Text;
 use plan_sets::{MomentFault, SetFault};
 use std::test::Fail;

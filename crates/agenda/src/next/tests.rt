@@ -1,5 +1,5 @@
 use super::*;
-use crate::stream::tests::{End, LimitedWriter};
+use crate::tests::writers::{End, LimitedWriter};
 use plan_rules::{RuleCause, Text};
 use plan_sets::{END_SECOND, SetFault, read_moment};
 use std::process::Abort;

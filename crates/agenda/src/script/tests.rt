@@ -1,5 +1,5 @@
 use super::*;
-use crate::stream::tests::{End, LimitedWriter};
+use crate::tests::writers::{End, LimitedWriter};
 use agenda_script::{ScriptCause, ScriptFault};
 use plan_rules::lines::MOST_BYTES;
 use std::process::Abort;

@@ -1,7 +1,7 @@
 use Rattle.std.proofs.Common.{subst, arith}
 use Rattle.std.specs.Io.KnownBytes.{Appends}
 use Rattle.agenda.specs.declared.faults.RunFault.TheVariants.{Device}
-use Rattle.agenda.specs.Stream.{BreaksOff}
+use Rattle.plan_collect.specs.Stream.{BreaksOff}
 use Rattle.agenda.specs.Next.{RefusesNext, IsCount}
 use Rattle.agenda.proofs.NextLemmas.{refused_as}
 use Rattle.agenda.proofs.next.run_next.Goals as goal

@@ -1,4 +1,4 @@
-use Rattle.std.proofs.Common.{◌≡◌, ◌≤◌, ap, sym, subst, arith}
+use Rattle.std.proofs.Common.{◌≤◌, ap, sym, subst, arith}
 use Rattle.plan_next.specs.Piece.{Part}
 use Rattle.plan_collect.specs.Span.{Bounds}
 use Rattle.plan_collect.specs.Planning.{PlanFails, of_collect}

@@ -1,13 +1,15 @@
-use Rattle.std.proofs.Common.{List, ℕ, Bor, length, ◌<◌, arith}
-use Rattle.plan_collect.proofs.OutputLemmas.{loop_more, loop_prefix, on_err}
+use Rattle.std.proofs.Common.{List, ℕ, Bor, length, ◌<◌, ◌++◌, arith}
+use Rattle.std.specs.List.{flat_map}
+use Rattle.plan_collect.proofs.StreamLemmas.{loop_more, loop_breaks_off, all_but_err}
 use Rattle.plan_collect.proofs.write.put_all.Goals as goal
 
-pub returns-in_err-put-clause-prefix : goal.returns-in_err-put-clause-prefix
-returns-in_err-put-clause-prefix g c =
+pub returns-in_err-put : goal.returns-in_err-put
+returns-in_err-put g c =
     let lt : c.loop-text.text-index < length c.args.texts.now = omega arith in
-    on_err c.from_residual.result _ (loop_prefix (λ (text : Bor (List ℕ)). text.now) c.args.texts.now c.loop-text.text-index _ (g.W.Write.contents c.args.out.now) (g.W.Write.contents c.loop-text.out) (g.W.Write.contents c.put.new.out) c.args.waiting.now.items c.loop-text.waiting.items c.loop-text.invariant lt c.in_err-put.ensures.prefix)
+    let off = loop_breaks_off (λ (text : Bor (List ℕ)). text.now) c.args.texts.now c.loop-text.text-index _ g.S.Stream.takes_all (g.S.Stream.holds c.args.out.now) (g.S.Stream.holds c.loop-text.out) (g.S.Stream.holds c.put.new.out) c.args.waiting.now.items c.loop-text.waiting.items c.loop-text.invariant lt c.in_err-put.ensures in
+    all_but_err g.S.Stream.takes_all c.from_residual.result (g.S.Stream.holds c.args.out.now) (g.S.Stream.holds c.put.new.out) (c.args.waiting.now.items ++ flat_map (λ (text : Bor (List ℕ)). text.now) c.args.texts.now) c.put.new.waiting.items c.from_residual.ensures.0 off
 
 pub loop-text-preserved : goal.loop-text-preserved
 loop-text-preserved g c =
     let lt : c.loop-text.text-index < length c.args.texts.now = omega arith in
-    loop_more (λ (text : Bor (List ℕ)). text.now) c.args.texts.now c.loop-text.text-index _ (g.W.Write.contents c.args.out.now) (g.W.Write.contents c.loop-text.out) (g.W.Write.contents c.put.new.out) c.args.waiting.now.items c.loop-text.waiting.items c.put.new.waiting.items c.loop-text.invariant lt c.in_ok-put.ensures.kept
+    loop_more (λ (text : Bor (List ℕ)). text.now) c.args.texts.now c.loop-text.text-index _ (g.S.Stream.holds c.args.out.now) (g.S.Stream.holds c.loop-text.out) (g.S.Stream.holds c.put.new.out) c.args.waiting.now.items c.loop-text.waiting.items c.put.new.waiting.items c.loop-text.invariant lt c.in_ok-put.ensures

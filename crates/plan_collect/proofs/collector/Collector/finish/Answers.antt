@@ -1,5 +1,5 @@
 -- The sorted entries are the agenda.
-use Rattle.std.proofs.Common.{Ok, Err, cond, ap, sym, subst, ◌∙◌}
+use Rattle.std.proofs.Common.{Ok, ap, sym, subst, ◌∙◌}
 use Rattle.plan_collect.specs.Agenda.{IsInYears, IsOfJobs}
 use Rattle.plan_collect.specs.AgendaLaws.{agenda-in_years, agenda-of_rules}
 use Rattle.plan_collect.specs.contracts.collector.Collector.{the_view}

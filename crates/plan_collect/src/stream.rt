@@ -2,7 +2,7 @@
 
 ghost use Rattle.std.specs.Prelude.{◌≡◌, OnOk, OnErr};
 ghost use Rattle.std.specs.Io.KnownBytes.{Appends};
-ghost use Rattle.agenda.specs.Stream.{AppendsPrefix, Puts};
+ghost use Rattle.plan_collect.specs.Stream.{AppendsPrefix, Puts};
 
 use std::io::Write;
 use thiserror::Error;
@@ -62,6 +62,3 @@ fn write_text<W: Write>(text: &[u8], out: &mut W) -> Result<(), WriteFault>
         Err(_) => Err(WriteFault::Device),
     }
 }
-
-#[cfg(test)]
-pub mod tests;

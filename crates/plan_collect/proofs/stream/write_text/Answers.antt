@@ -1,5 +1,5 @@
-use Rattle.agenda.proofs.StreamLemmas.{part_written_more}
-use Rattle.agenda.proofs.stream.write_text.Goals as goal
+use Rattle.plan_collect.proofs.StreamLemmas.{part_written_more}
+use Rattle.plan_collect.proofs.stream.write_text.Goals as goal
 
 pub loop-rest-preserved : goal.loop-rest-preserved
 loop-rest-preserved g c =

@@ -1,5 +1,4 @@
-use super::*;
-use std::io;
+use std::io::{self, Write};
 
 /// A writer that takes a number of bytes, some at a call, and then fails.
 #[derive(Drop)]
@@ -71,26 +70,4 @@ impl Write for LimitedWriter {
         }
         Ok(())
     }
-}
-
-#[test]
-fn a_writer_that_takes_one_byte_a_call(rt: HostRuntime) {
-    let mut out = LimitedWriter::new(128, 1, End::Error, false);
-    assert_eq!(rt; out.put(b"2024-01-01T00:00:00Z\n"), Ok(()));
-    assert_eq!(rt; out.bytes(), b"2024-01-01T00:00:00Z\n".as_slice());
-}
-
-#[test]
-fn a_writer_that_fails(rt: HostRuntime) {
-    let text = b"none\n";
-    for room in 0..5 {
-        for end in [End::Error, End::TakesNothing] {
-            let mut out = LimitedWriter::new(room, 2, end, false);
-            assert_eq!(rt; out.put(text), Err(WriteFault::Device), "{room}");
-            assert_eq!(rt; out.bytes(), &text[..room]);
-        }
-    }
-    let mut out = LimitedWriter::new(5, 5, End::Error, true);
-    assert_eq!(rt; out.put(text), Err(WriteFault::Device));
-    assert_eq!(rt; out.bytes(), text.as_slice());
 }

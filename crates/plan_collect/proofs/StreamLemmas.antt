@@ -1,5 +1,5 @@
 -- A text that is written piece by piece.
-use Rattle.std.proofs.Common.{◌≡◌, ℕ, ◌+◌, ◌-◌, ◌<◌, ◌≤◌, List, [], ◌∷◌, ◌++◌, length, take, drop, get_or, Option, None, Some, Result, Ok, Err, OnOk, OnErr, is_ok, true, false, refl, ap, sym, subst, ◌∙◌, arith, append_assoc, append-nil, take_all, length-append, length-drop}
+use Rattle.std.proofs.Common.{◌≡◌, ℕ, ◌+◌, ◌-◌, ◌<◌, ◌≤◌, List, [], ◌∷◌, ◌++◌, length, take, drop, get_or, Option, None, Some, Result, Ok, Err, OnErr, IsErr, Bool, is_ok, true, false, refl, ap, sym, subst, ◌∙◌, arith, append_assoc, append-nil, take_all, length-append, length-drop}
 use Rattle.std.specs.List.{flat_map}
 use Rattle.std.proofs.Math.Seq.{take-add, take-append-add}
 use Rattle.std.proofs.lemmas.List.{drop-drop, take_more, take-append-drop, take-append-le}
@@ -7,7 +7,7 @@ use Rattle.std.proofs.lemmas.Bool.{true≢false}
 use Rattle.std.proofs.lemmas.Grind.{flat_map-append}
 use Rattle.std.proofs.KnownBytes.{Appends-trans, Appends-nil}
 use Rattle.std.specs.Io.KnownBytes.{Appends, Keeps}
-use Rattle.plan_collect.specs.Output.{AppendsPrefix, AppendsAllBut}
+use Rattle.plan_collect.specs.Stream.{AppendsPrefix, AppendsAllBut, BreaksOff, Puts, PutsAllBut}
 
 -- the first k bytes of the text were written, and the rest is left
 pub record IsWrittenTo (old new : Option (List ℕ)) (text rest : List ℕ) (k : ℕ) : Type 0 where
@@ -58,19 +58,14 @@ pub refused : {T E : Type 0} (r : Result T E) (P : Type 0) → is_ok r ≡ false
 refused (Ok x) P is h = absurd (true≢false is)
 refused (Err e) P is h = h
 
--- what is so anyway is so of a refusal
-pub on_err : {T E : Type 0} (r : Result T E) (P : Type 0) → P → OnErr r P
-on_err (Ok x) P h = tt
-on_err (Err e) P h = h
+-- at an error the stream broke off
+pub all_but_err : {T E : Type 0} (takes_all : Bool) (r : Result T E) (old new : Option (List ℕ)) (text waiting : List ℕ) → IsErr r → BreaksOff takes_all old new text → PutsAllBut takes_all r old new text waiting
+all_but_err takes_all (Ok x) old new text waiting is off = absurd (let no : false ≡ true = is in cc)
+all_but_err takes_all (Err e) old new text waiting is off = off
 
--- what waited was written, and then a text
-pub put_whole : {E : Type 0} (r : Result (Unit {0}) E) (a b c : Option (List ℕ)) (waiting text rest : List ℕ) → Appends a b waiting → OnOk r (Appends b c text) → rest ≡ [] → OnOk r (AppendsAllBut a c (waiting ++ text) rest)
-put_whole (Ok done) a b c waiting text rest first second none = record {
-  front = waiting ++ text;
-  all = sym (ap (λ xs. (waiting ++ text) ++ xs) none ∙ append-nil (waiting ++ text));
-  written = Appends-trans a b c waiting text first second;
-}
-put_whole (Err e) a b c waiting text rest first second none = tt
+pub puts_err : {T E : Type 0} (takes_all : Bool) (r : Result T E) (old new : Option (List ℕ)) (text : List ℕ) → IsErr r → BreaksOff takes_all old new text → Puts takes_all r old new text
+puts_err takes_all (Ok x) old new text is off = absurd (let no : false ≡ true = is in cc)
+puts_err takes_all (Err e) old new text is off = off
 
 -- what waited was written, and then some of a text
 prefix_after : (a b c : Option (List ℕ)) (front text : List ℕ) → Appends a b front → AppendsPrefix b c text → AppendsPrefix a c (front ++ text)
@@ -78,9 +73,14 @@ prefix_after a b c front text first (k, few, second) =
     let both : take (length front + k) (front ++ text) ≡ front ++ take k text = take-append-add front text k in
     (length front + k, omega (arith, length-append front text), rw both (Appends-trans a b c front (take k text) first second))
 
-pub put_part : {E : Type 0} (r : Result (Unit {0}) E) (a b c : Option (List ℕ)) (waiting text : List ℕ) → Appends a b waiting → OnErr r (AppendsPrefix b c text) → OnErr r (AppendsPrefix a c (waiting ++ text))
-put_part (Ok done) a b c waiting text first second = tt
-put_part (Err e) a b c waiting text first second = prefix_after a b c waiting text first second
+-- what waited was written, and then a text, if not all of it
+pub put_behind : {E : Type 0} (takes_all : Bool) (r : Result (Unit {0}) E) (a b c : Option (List ℕ)) (waiting text rest : List ℕ) → Appends a b waiting → Puts takes_all r b c text → rest ≡ [] → PutsAllBut takes_all r a c (waiting ++ text) rest
+put_behind takes_all (Ok done) a b c waiting text rest first second none = record {
+  front = waiting ++ text;
+  all = sym (ap (λ xs. (waiting ++ text) ++ xs) none ∙ append-nil (waiting ++ text));
+  written = Appends-trans a b c waiting text first second;
+}
+put_behind takes_all (Err e) a b c waiting text rest first (fails, second) none = (fails, prefix_after a b c waiting text first second)
 
 -- nothing was written yet
 pub all_but_none : (a : Option (List ℕ)) (waiting : List ℕ) → AppendsAllBut a a waiting waiting
@@ -107,16 +107,12 @@ pub prefix_longer : (a c : Option (List ℕ)) (text rest : List ℕ) → Appends
 prefix_longer a c text rest (k, few, written) =
     (k, omega (arith, length-append text rest), rw (take-append-le k text rest few) written)
 
--- what still waited was written
-pub all_but_written : {E : Type 0} (r : Result (Unit {0}) E) (a b c : Option (List ℕ)) (text waiting : List ℕ) → AppendsAllBut a b text waiting → OnOk r (Appends b c waiting) → OnOk r (Appends a c text)
-all_but_written (Ok done) a b c text waiting so_far last =
+-- what still waited was written, if not all of it
+pub puts_last : {E : Type 0} (takes_all : Bool) (r : Result (Unit {0}) E) (a b c : Option (List ℕ)) (text waiting : List ℕ) → AppendsAllBut a b text waiting → Puts takes_all r b c waiting → Puts takes_all r a c text
+puts_last takes_all (Ok done) a b c text waiting so_far last =
     subst (Appends a c) (sym so_far.all) (Appends-trans a b c so_far.front waiting so_far.written last)
-all_but_written (Err e) a b c text waiting so_far last = tt
-
-pub all_but_prefix : {E : Type 0} (r : Result (Unit {0}) E) (a b c : Option (List ℕ)) (text waiting : List ℕ) → AppendsAllBut a b text waiting → OnErr r (AppendsPrefix b c waiting) → OnErr r (AppendsPrefix a c text)
-all_but_prefix (Ok done) a b c text waiting so_far last = tt
-all_but_prefix (Err e) a b c text waiting so_far last =
-    subst (AppendsPrefix a c) (sym so_far.all) (prefix_after a b c so_far.front waiting so_far.written last)
+puts_last takes_all (Err e) a b c text waiting so_far (fails, last) =
+    (fails, subst (AppendsPrefix a c) (sym so_far.all) (prefix_after a b c so_far.front waiting so_far.written last))
 
 next_part : {X : Type 0} (f : X → List ℕ) (xs : List X) (i : ℕ) (d : X) (start : List ℕ) → i < length xs → (start ++ flat_map f (take i xs)) ++ f (get_or xs i d) ≡ start ++ flat_map f (take (i + 1) xs)
 next_part f xs i d start lt =
@@ -139,3 +135,6 @@ loop_prefix f xs i d a b c start waiting so_far lt more =
     append_assoc start (flat_map f (take (i + 1) xs)) (flat_map f (drop (i + 1) xs))
     ∙ ap (λ ys. start ++ ys) (sym (flat_map-append f (take (i + 1) xs) (drop (i + 1) xs)) ∙ ap (flat_map f) (take-append-drop (i + 1) xs)) in
     subst (AppendsPrefix a c) all longer
+
+pub loop_breaks_off : {X : Type 0} (f : X → List ℕ) (xs : List X) (i : ℕ) (d : X) (takes_all : Bool) (a b c : Option (List ℕ)) (start waiting : List ℕ) → AppendsAllBut a b (start ++ flat_map f (take i xs)) waiting → i < length xs → BreaksOff takes_all b c (waiting ++ f (get_or xs i d)) → BreaksOff takes_all a c (start ++ flat_map f xs)
+loop_breaks_off f xs i d takes_all a b c start waiting so_far lt (fails, more) = (fails, loop_prefix f xs i d a b c start waiting so_far lt more)
