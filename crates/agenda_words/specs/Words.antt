@@ -64,7 +64,7 @@ asked_by_plan rows = do
   room ← wanted (number_in (one_of (codes "room") rows))
   limit ← wanted (number_in (one_of (codes "limit") rows))
   Ok (Plan since upto (first_of (codes "crontab") rows) (first_of (codes "system-crontab") rows) planners room limit
-    (unwrap_or (all_of (codes "timer") rows) []))
+      (unwrap_or (all_of (codes "timer") rows) []))
 
 -- own: the file that `steps` was given
 abbrev pub asked_by_steps : List Row → Result Ask Refusal

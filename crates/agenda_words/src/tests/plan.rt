@@ -17,16 +17,18 @@ fn path(given: &Option<Text>) -> &str {
 
 // What the words ask of `plan`, its parts in one line.
 fn asked(alloc: Global, words: &[&str]) -> Result<String, Fail> {
-    let Ok(Ask::Plan {
-        since,
-        upto,
-        crontab,
-        system,
-        planners,
-        room,
-        limit,
-        timers,
-    }) = read(alloc, words)
+    let Ok(
+        Ask::Plan {
+            since,
+            upto,
+            crontab,
+            system,
+            planners,
+            room,
+            limit,
+            timers,
+        },
+    ) = read(alloc, words)
     else {
         return Ok(String::from_str(alloc, "no plan")?);
     };
@@ -91,7 +93,15 @@ fn what_is_missing_has_its_default(rt: HostRuntime) -> Result<(), Fail> {
 #[test]
 fn timers_stay_in_order(rt: HostRuntime) -> Result<(), Fail> {
     let words = [
-        "plan", "c", "--since=x", "a", "b", "--upto=", "a", "--", "--limit",
+        "plan",
+        "c",
+        "--since=x",
+        "a",
+        "b",
+        "--upto=",
+        "a",
+        "--",
+        "--limit",
     ];
     let line = "x  none none 2 16 10000 c a b a --limit";
     assert_eq!(rt; asked(rt.alloc(), &words)?.as_str(), line);
