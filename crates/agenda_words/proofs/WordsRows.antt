@@ -3,7 +3,7 @@ use Rattle.std.proofs.Common.{◌≡◌, List, ℕ, [], ◌∷◌, false, None, 
 use Rattle.std.specs.Str.{bytes_eq}
 use Rattle.clap.specs.Lexer.{long_of, short_of}
 use Rattle.clap.proofs.OnLiterals.{clap_on_literals}
-use Rattle.agenda_words.specs.declared.ask.Ask.TheVariants.{Next, Steps}
+use Rattle.agenda_words.specs.declared.ask.Ask.TheVariants.{Next, Plan, Steps}
 use Rattle.agenda_words.specs.declared.ask.Asked.TheVariants.{Cron, Event}
 use Rattle.agenda_words.specs.Words.{asked_by, is_usage, wants_help}
 
@@ -104,9 +104,50 @@ unfolding asked_by clap_on_literals
 two_scripts_are_given = refl
 
 -- another subcommand
-plan_is_no_subcommand : asked_by (codes "agenda" ∷ codes "plan" ∷ []) ≡ Err is_usage
+plans_is_no_subcommand : asked_by (codes "agenda" ∷ codes "plans" ∷ []) ≡ Err is_usage
 unfolding asked_by clap_on_literals
-plan_is_no_subcommand = refl
+plans_is_no_subcommand = refl
+
+abbrev plan_with : List (List ℕ) → List (List ℕ)
+plan_with words = codes "agenda" ∷ codes "plan" ∷ codes "--since" ∷ moment ∷ codes "--upto" ∷ codes "u" ∷ words
+
+-- a span alone: no crontab, no timer, and each number by its default
+a_span_is_given : asked_by (plan_with []) ≡ Ok (Plan moment (codes "u") None None 2 16 10000 [])
+unfolding asked_by clap_on_literals
+a_span_is_given = refl
+
+-- every option
+all_is_given : asked_by (plan_with (codes "--crontab" ∷ codes "c" ∷ codes "--system-crontab" ∷ codes "s" ∷ codes "--planners" ∷ codes "3"
+    ∷ codes "--room" ∷ codes "4" ∷ codes "--limit" ∷ codes "5" ∷ []))
+    ≡ Ok (Plan moment (codes "u") (Some (codes "c")) (Some (codes "s")) 3 4 5 [])
+unfolding asked_by clap_on_literals
+all_is_given = refl
+
+-- timers, also between options, in the order of the words
+timers_are_given : asked_by (plan_with (codes "b.timer" ∷ codes "--room=1" ∷ codes "a.timer" ∷ codes "--" ∷ codes "-c" ∷ []))
+    ≡ Ok (Plan moment (codes "u") None None 2 1 10000 (codes "b.timer" ∷ codes "a.timer" ∷ codes "-c" ∷ []))
+unfolding asked_by clap_on_literals
+timers_are_given = refl
+
+-- no `--since`
+no_beginning_is_given : asked_by (codes "agenda" ∷ codes "plan" ∷ codes "--upto" ∷ moment ∷ []) ≡ Err is_usage
+unfolding asked_by clap_on_literals
+no_beginning_is_given = refl
+
+-- no `--upto`
+no_end_is_given : asked_by (codes "agenda" ∷ codes "plan" ∷ codes "--since" ∷ moment ∷ []) ≡ Err is_usage
+unfolding asked_by clap_on_literals
+no_end_is_given = refl
+
+-- planners that are no number
+planners_are_no_number : asked_by (plan_with (codes "--planners" ∷ codes "x" ∷ [])) ≡ Err is_usage
+unfolding asked_by clap_on_literals
+planners_are_no_number = refl
+
+-- a limit of more than 32 bits
+limit_is_too_large : asked_by (plan_with (codes "--limit=4294967296" ∷ [])) ≡ Err is_usage
+unfolding asked_by clap_on_literals
+limit_is_too_large = refl
 
 -- the version is told, of the program alone
 version_is_wanted : asked_by (codes "agenda" ∷ codes "--version" ∷ []) ≡ Err wants_help

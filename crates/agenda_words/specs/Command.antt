@@ -2,6 +2,7 @@
 use Rattle.std.specs.Prelude.{ℕ, true, pos, List, [], ◌∷◌, Some, codes}
 use Rattle.clap.specs.Words.{App, Rule, new_app, new_rule, with_subcommand}
 use Rattle.clap.specs.Simple.{on_top}
+use Rattle.clap.specs.declared.builder.action.ArgAction.TheVariants.{Append}
 use Rattle.clap.specs.declared.builder.value_parser.ValueParser.TheVariants as parser
 
 -- own: an option `--name VALUE`, which may be missing
@@ -23,6 +24,10 @@ number_option name default = record (option_named name) {
 abbrev pub file_argument : Rule
 file_argument = record (new_rule (codes "file")) { value_names = 1; required = true }
 
+-- own: `TIMER ..`, of which there may be any number
+abbrev pub timers_argument : Rule
+timers_argument = record (new_rule (codes "timer")) { value_names = 1; action = Some Append }
+
 -- own: a subcommand with these options and arguments
 abbrev pub subcommand_with : List ℕ → List Rule → App
 subcommand_with name rules = on_top (λ s. record s { rules = rules }) (new_app name)
@@ -32,6 +37,13 @@ subcommand_with name rules = on_top (λ s. record s { rules = rules }) (new_app 
 abbrev pub next : App
 next = subcommand_with (codes "next") (moment_option (codes "after") ∷ number_option (codes "count") (codes "1")
     ∷ option_named (codes "cron") ∷ option_named (codes "calendar") ∷ [])
+
+-- own: `plan --since T --upto T [--crontab F] [--system-crontab F] [--planners N] [--room N] [--limit N] [TIMER ..]`
+abbrev pub plan : App
+plan = subcommand_with (codes "plan") (moment_option (codes "since") ∷ moment_option (codes "upto")
+    ∷ option_named (codes "crontab") ∷ option_named (codes "system-crontab")
+    ∷ number_option (codes "planners") (codes "2") ∷ number_option (codes "room") (codes "16")
+    ∷ number_option (codes "limit") (codes "10000") ∷ timers_argument ∷ [])
 
 -- own: `steps FILE`
 abbrev pub steps : App
@@ -46,6 +58,6 @@ agenda_alone = on_top (λ s. record s {
   disable_help_subcommand = true;
 }) (new_app (codes "agenda"))
 
--- own: `agenda next ..` or `agenda steps ..`
+-- own: `agenda next ..`, `agenda plan ..` or `agenda steps ..`
 abbrev pub agenda : App
-agenda = with_subcommand (with_subcommand agenda_alone next.top) steps.top
+agenda = with_subcommand (with_subcommand (with_subcommand agenda_alone next.top) plan.top) steps.top

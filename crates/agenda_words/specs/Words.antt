@@ -1,15 +1,15 @@
 -- What the words of the command line ask for.
 use Rattle.std.specs.Prelude.{◌≡◌, ⊤, ℕ, false, List, [], ◌∷◌, Option, Some, None, Result, Ok, Err}
-use Rattle.std.specs.Prelude.{codes, if◌then◌else◌, option_and_then}
+use Rattle.std.specs.Prelude.{codes, if◌then◌else◌, option_and_then, unwrap_or}
 use Rattle.std.specs.Str.{bytes_eq}
 use Rattle.std.specs.Str.Parse.{digits_value, without_leading_plus}
 use Rattle.clap.specs.ValueTests.{accepts}
-use Rattle.clap.specs.Words.{Kinds, Row, fault_of, first_of, one_of, subcommand_of}
+use Rattle.clap.specs.Words.{Kinds, Row, all_of, fault_of, first_of, one_of, subcommand_of}
 use Rattle.clap.specs.declared.builder.value_parser.ValueParser.TheVariants as parser
 use Rattle.clap.specs.declared.error.kind.ErrorKind.{ErrorKind}
 use Rattle.clap.specs.declared.error.kind.ErrorKind.TheVariants.{DisplayHelp, DisplayVersion, OutOfMemory}
 use Rattle.agenda_words.specs.declared.ask.Ask.{Ask}
-use Rattle.agenda_words.specs.declared.ask.Ask.TheVariants.{Next, Steps}
+use Rattle.agenda_words.specs.declared.ask.Ask.TheVariants.{Next, Plan, Steps}
 use Rattle.agenda_words.specs.declared.ask.Asked.{Asked}
 use Rattle.agenda_words.specs.declared.ask.Asked.TheVariants.{Cron, Event}
 use Rattle.agenda_words.specs.declared.ask.UsageFault.{UsageFault}
@@ -55,6 +55,17 @@ asked_by_next rows = do
   rule ← one_rule (first_of (codes "cron") rows) (first_of (codes "calendar") rows)
   Ok (Next after count rule)
 
+-- own: the values that `plan` was given; the crontabs may be missing, and there may be any number of timers
+abbrev pub asked_by_plan : List Row → Result Ask Refusal
+asked_by_plan rows = do
+  since ← wanted (first_of (codes "since") rows)
+  upto ← wanted (first_of (codes "upto") rows)
+  planners ← wanted (number_in (one_of (codes "planners") rows))
+  room ← wanted (number_in (one_of (codes "room") rows))
+  limit ← wanted (number_in (one_of (codes "limit") rows))
+  Ok (Plan since upto (first_of (codes "crontab") rows) (first_of (codes "system-crontab") rows) planners room limit
+      (unwrap_or (all_of (codes "timer") rows) []))
+
 -- own: the file that `steps` was given
 abbrev pub asked_by_steps : List Row → Result Ask Refusal
 asked_by_steps rows = do
@@ -66,7 +77,8 @@ abbrev pub asked_by_subcommand : Option (List ℕ × List Row) → Result Ask Re
 asked_by_subcommand None = Err is_usage
 asked_by_subcommand (Some met) =
     if bytes_eq met.0 (codes "next") then asked_by_next met.1
-    else (if bytes_eq met.0 (codes "steps") then asked_by_steps met.1 else Err is_usage)
+    else (if bytes_eq met.0 (codes "plan") then asked_by_plan met.1
+    else (if bytes_eq met.0 (codes "steps") then asked_by_steps met.1 else Err is_usage))
 
 -- own: a call for help or for the version is answered, and each other fault is usage
 abbrev pub refusal_of : ErrorKind → Refusal

@@ -1,5 +1,6 @@
 //! What the words of the command line ask for.
 
+use crate::texts::Texts;
 use plan_texts::Text;
 use std::alloc::AllocError;
 use thiserror::Error;
@@ -15,6 +16,25 @@ pub enum Ask {
         count: u32,
         /// The rule.
         rule: Asked,
+    },
+    /// The agenda of the jobs of crontabs and timers.
+    Plan {
+        /// The text of a moment: the agenda begins with it.
+        since: Text,
+        /// The text of a moment: the agenda ends before it.
+        upto: Text,
+        /// The path of the user crontab.
+        crontab: Option<Text>,
+        /// The path of the system crontab.
+        system: Option<Text>,
+        /// How many planners.
+        planners: u32,
+        /// How many messages of each planner may wait.
+        room: u32,
+        /// How many starts at most.
+        limit: u32,
+        /// The paths of timers, in the order of the words.
+        timers: Texts,
     },
     /// The replies to the steps of a script.
     Steps {

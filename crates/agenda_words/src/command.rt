@@ -3,11 +3,12 @@ ghost use Rattle.std.specs.Prelude.{◌≡◌, [], ◌∷◌, IfOk, false};
 ghost use Rattle.clap.specs.Words.{app_of, items_of, rule_of};
 ghost use Rattle.clap.specs.declared.builder.command.Command.TheViews.{out-Command};
 ghost use Rattle.agenda_words.specs.Command.{agenda, file_argument, moment_option, next};
-ghost use Rattle.agenda_words.specs.Command.{number_option, option_named, steps};
+ghost use Rattle.agenda_words.specs.Command.{number_option, option_named, plan, steps};
+ghost use Rattle.agenda_words.specs.Command.{timers_argument};
 
 mod help;
 
-use clap::{Arg, Command, value_parser};
+use clap::{Arg, ArgAction, Command, value_parser};
 use std::alloc::{AllocError, Global};
 
 // The version of the program, which stands here alone, and what it was proved with.
@@ -25,6 +26,7 @@ pub(crate) fn agenda_command<'a>(alloc: Global) -> Result<Command<'a>, AllocErro
         .subcommand_required(true)
         .disable_help_subcommand(true)
         .subcommand(next_command(alloc)?)?
+        .subcommand(plan_command(alloc)?)?
         .subcommand(steps_command(alloc)?)
 }
 
@@ -43,6 +45,26 @@ fn next_command<'a>(alloc: Global) -> Result<Command<'a>, AllocError>
         .override_usage(help::NEXT_USAGE)
         .after_help(help::AFTER_NEXT)
         .args(options)
+}
+
+fn plan_command<'a>(alloc: Global) -> Result<Command<'a>, AllocError>
+    ensures app { IfOk result (λ command. app_of command ≡ plan) }
+    ensures local { IfOk result (λ command. (out-Command command).has_globals ≡ false) }
+{
+    let arguments = vec![in alloc;
+        moment_option(alloc, "since", help::SINCE),
+        moment_option(alloc, "upto", help::UPTO),
+        text_option(alloc, "crontab", "F", help::CRONTAB),
+        text_option(alloc, "system-crontab", "F", help::SYSTEM_CRONTAB),
+        number_option(alloc, "planners", "2", help::PLANNERS),
+        number_option(alloc, "room", "16", help::ROOM),
+        number_option(alloc, "limit", "10000", help::LIMIT),
+        timers_argument(alloc),
+    ]?;
+    Command::new(alloc, "plan")
+        .about(help::PLAN)
+        .after_help(help::AFTER_PLAN)
+        .args(arguments)
 }
 
 fn steps_command<'a>(alloc: Global) -> Result<Command<'a>, AllocError>
@@ -64,6 +86,17 @@ fn file_argument<'a>(alloc: Global) -> Arg<'a>
         .value_name("FILE")
         .required(true)
         .help(help::FILE)
+}
+
+// `TIMER ..`, of which there may be any number.
+fn timers_argument<'a>(alloc: Global) -> Arg<'a>
+    ensures rule { rule_of result ≡ timers_argument }
+    ensures local { result.global ≡ false }
+{
+    Arg::new(alloc, "timer")
+        .value_name("TIMER")
+        .action(ArgAction::Append)
+        .help(help::TIMER)
 }
 
 // `--name T`, a moment, which has to be there.

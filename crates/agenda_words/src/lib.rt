@@ -3,10 +3,12 @@
 
 mod ask;
 mod command;
+mod texts;
 mod values;
 mod words;
 
 pub use ask::{Ask, Asked, UsageFault};
+pub use texts::Texts;
 pub use words::read_words;
 
 #[cfg(test)]

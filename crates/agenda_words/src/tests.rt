@@ -4,6 +4,7 @@ use std::alloc::{AllocError, Global};
 use std::process::Abort;
 use std::test::Fail;
 
+mod plan;
 mod told;
 
 const MOMENT: &str = "2024-01-01T00:00:00Z";

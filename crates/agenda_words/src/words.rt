@@ -2,11 +2,11 @@
 ghost use Rattle.std.specs.Prelude.{IfOk, map, string_bytes};
 ghost use Rattle.clap.specs.Words.{found_of, kind_of, rows_of, subcommand_rows_of};
 ghost use Rattle.agenda_words.specs.Words.{Gives, IsAnswerTo, asked_by, asked_by_next};
-ghost use Rattle.agenda_words.specs.Words.{asked_by_steps, asked_by_subcommand};
+ghost use Rattle.agenda_words.specs.Words.{asked_by_plan, asked_by_steps, asked_by_subcommand};
 
 use crate::ask::{Ask, Asked, UsageFault};
 use crate::command::agenda_command;
-use crate::values::{number_of, text, text_if_given, text_of};
+use crate::values::{number_of, text, text_if_given, text_of, texts_of};
 use clap::ArgMatches;
 use clap::error::ErrorKind;
 use plan_texts::Text;
@@ -36,6 +36,9 @@ fn asked_by_subcommand(alloc: Global, matches: &ArgMatches<'_>) -> Result<Ask, U
     if let Some(given) = matches.subcommand_matches("next") {
         return asked_by_next(alloc, given);
     }
+    if let Some(given) = matches.subcommand_matches("plan") {
+        return asked_by_plan(alloc, given);
+    }
     match matches.subcommand_matches("steps") {
         Some(given) => asked_by_steps(alloc, given),
         None => Err(UsageFault::Usage(text(alloc, NO_SUBCOMMAND)?)),
@@ -55,6 +58,29 @@ fn asked_by_next(alloc: Global, given: &ArgMatches<'_>) -> Result<Ask, UsageFaul
         _ => return Err(UsageFault::Usage(text(alloc, ONE_RULE)?)),
     };
     Ok(Ask::Next { after, count, rule })
+}
+
+fn asked_by_plan(alloc: Global, given: &ArgMatches<'_>) -> Result<Ask, UsageFault>
+    ensures { Gives result (asked_by_plan (rows_of (found_of given.now))) }
+{
+    let since = text_of(alloc, given, "since")?;
+    let upto = text_of(alloc, given, "upto")?;
+    let crontab = text_if_given(alloc, given, "crontab")?;
+    let system = text_if_given(alloc, given, "system-crontab")?;
+    let planners = number_of(alloc, given, "planners")?;
+    let room = number_of(alloc, given, "room")?;
+    let limit = number_of(alloc, given, "limit")?;
+    let timers = texts_of(alloc, given, "timer")?;
+    Ok(Ask::Plan {
+        since,
+        upto,
+        crontab,
+        system,
+        planners,
+        room,
+        limit,
+        timers,
+    })
 }
 
 fn asked_by_steps(alloc: Global, given: &ArgMatches<'_>) -> Result<Ask, UsageFault>

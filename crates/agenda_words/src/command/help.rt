@@ -8,6 +8,7 @@ what each fault line means are described in agenda(1).
 
 Examples:
   agenda next --cron @daily --after 2024-01-01T00:00:00Z
+  agenda plan --since 2024-01-01T00:00:00Z --upto 2024-01-02T00:00:00Z backup.timer
   agenda steps script";
 
 pub(super) const NEXT: &str = "Prints the next starts of one rule";
@@ -34,6 +35,43 @@ described in agenda(1).
 
 Example:
   agenda next --cron '30 4 1,15 * 5' --after 2024-01-01T00:00:00Z --count 4";
+
+pub(super) const PLAN: &str = "Prints which jobs of crontabs and timers start when";
+
+pub(super) const SINCE: &str = "\
+The first moment of the span, in UTC, as
+2024-01-01T00:00:00Z; the years are 1970 to 2199";
+
+pub(super) const UPTO: &str = "\
+The moment before which the span ends, written as that
+of --since and no earlier";
+
+pub(super) const CRONTAB: &str = "The path of a user crontab";
+
+pub(super) const SYSTEM_CRONTAB: &str = "The path of a system crontab, whose lines name a user";
+
+pub(super) const PLANNERS: &str = "How many planners search, from 1 to 8";
+
+pub(super) const ROOM: &str = "\
+How many messages of each planner may wait,
+from 1 to 1024";
+
+pub(super) const LIMIT: &str = "\
+How many starts there may be in all,
+from 1 to 1000000";
+
+pub(super) const TIMER: &str = "The path of a systemd timer's file, as backup.timer";
+
+pub(super) const AFTER_PLAN: &str = "\
+Prints a line for each start in the span: the moment, the job's name and what it runs,
+with a tab between. The lines are in order of moments; at one moment in order of jobs,
+first the user crontab's, then the system crontab's, then the timers as given. Where
+there are more starts than the limit, none is printed. The number of planners and their
+room change no line. The formats of the files are described in agenda(1).
+
+Example:
+  agenda plan --since 2024-01-01T00:00:00Z --upto 2024-01-02T00:00:00Z \\
+    --crontab jobs --limit 100 backup.timer rotate.timer";
 
 pub(super) const STEPS: &str = "Prints what a mailbox replies to the steps of a script";
 

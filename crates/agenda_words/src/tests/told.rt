@@ -9,6 +9,7 @@ Usage: agenda <COMMAND>
 
 Commands:
   next   Prints the next starts of one rule
+  plan   Prints which jobs of crontabs and timers start when
   steps  Prints what a mailbox replies to the steps of a script
 
 Options:
@@ -20,6 +21,7 @@ what each fault line means are described in agenda(1).
 
 Examples:
   agenda next --cron @daily --after 2024-01-01T00:00:00Z
+  agenda plan --since 2024-01-01T00:00:00Z --upto 2024-01-02T00:00:00Z backup.timer
   agenda steps script
 ";
 
@@ -43,6 +45,39 @@ described in agenda(1).
 
 Example:
   agenda next --cron '30 4 1,15 * 5' --after 2024-01-01T00:00:00Z --count 4
+";
+
+const PLAN: &str = "\
+Prints which jobs of crontabs and timers start when
+
+Usage: agenda plan [OPTIONS] --since <T> --upto <T> [TIMER]...
+
+Arguments:
+  [TIMER]...  The path of a systemd timer's file, as backup.timer
+
+Options:
+      --since <T>           The first moment of the span, in UTC, as
+                            2024-01-01T00:00:00Z; the years are 1970 to 2199
+      --upto <T>            The moment before which the span ends, written as that
+                            of --since and no earlier
+      --crontab <F>         The path of a user crontab
+      --system-crontab <F>  The path of a system crontab, whose lines name a user
+      --planners <N>        How many planners search, from 1 to 8 [default: 2]
+      --room <N>            How many messages of each planner may wait,
+                            from 1 to 1024 [default: 16]
+      --limit <N>           How many starts there may be in all,
+                            from 1 to 1000000 [default: 10000]
+  -h, --help                Print help
+
+Prints a line for each start in the span: the moment, the job's name and what it runs,
+with a tab between. The lines are in order of moments; at one moment in order of jobs,
+first the user crontab's, then the system crontab's, then the timers as given. Where
+there are more starts than the limit, none is printed. The number of planners and their
+room change no line. The formats of the files are described in agenda(1).
+
+Example:
+  agenda plan --since 2024-01-01T00:00:00Z --upto 2024-01-02T00:00:00Z \\
+    --crontab jobs --limit 100 backup.timer rotate.timer
 ";
 
 const STEPS: &str = "\
@@ -92,13 +127,24 @@ fn help_and_version_are_told_whole(rt: HostRuntime) {
 }
 
 #[test]
+fn help_of_plan_is_told_whole(rt: HostRuntime) {
+    let rows: [&[&str]; 2] = [&["plan", "--help"], &["plan", "--since", MOMENT, "-h"]];
+    for words in rows {
+        match read(rt.alloc(), words) {
+            Err(UsageFault::Help(text)) => assert_eq!(rt; text.as_str(), PLAN, "{words:?}"),
+            other => panic!(rt; "{words:?} gives {other:?}"),
+        }
+    }
+}
+
+#[test]
 fn usage_is_told_whole(rt: HostRuntime) {
     let rows: [(&[&str], &str); 8] = [
         (
             &[],
             "\
 error: 'agenda' requires a subcommand but one was not provided
-  [subcommands: next, steps]
+  [subcommands: next, plan, steps]
 
 Usage: agenda <COMMAND>
 
