@@ -117,6 +117,7 @@ fn timers_keep_their_order(rt: HostRuntime) -> Result<(), Fail> {
 
 // Faults of crontabs: a job without a command on line 2, and a setting without `=` on line 3.
 const NO_COMMAND: &str = "@daily x\n@daily";
+
 const NO_SETTING: &str = "@daily root x\n\nx";
 
 #[test]
