@@ -1,5 +1,5 @@
 -- The names of a crontab's jobs: each is that of a line, and no two jobs have one.
-use Rattle.std.proofs.Common.{◌≡◌, ◌≢◌, ℕ, ◌+◌, ◌<◌, ◌≤◌, ◌^◌, Bool, true, false, cond, eqb, nat_le, List, [], ◌∷◌, ◌++◌, length, map, codes, Option, Some, None, Result, Ok, Err, IfOk, refl, ap, sym, ◌∙◌, arith, subst, get_or}
+use Rattle.std.proofs.Common.{◌≡◌, ◌≢◌, ℕ, ◌+◌, ◌<◌, ◌≤◌, ◌^◌, Bool, true, false, cond, eqb, nat_le, List, [], ◌∷◌, length, map, codes, Option, Some, None, Result, Ok, Err, IfOk, refl, ap, sym, ◌∙◌, arith, get_or}
 use Rattle.std.proofs.lemmas.Fmt.{decimal_injective}
 use Rattle.std.proofs.lemmas.List.{append_cancel_left}
 use Rattle.std.proofs.lemmas.List.Elements.{All-from_recursion}
@@ -18,10 +18,10 @@ use Rattle.plan_rules.specs.LineFaults.{LineReading, TextReading, in_line, on_li
 use Rattle.plan_rules.specs.Limits.{most_jobs}
 use Rattle.plan_rules.specs.Job.{JobParts}
 use Rattle.plan_rules.specs.Jobs.{number_of, HaveDistinctNames}
-use Rattle.plan_rules.specs.Crontab.{rule_in_front, what_reading, job_name, job_reading, begins_setting, setting_reading, entry_reading, line_reading, numbered_reading, jobs_reading, crontab_reading}
+use Rattle.plan_rules.specs.Crontab.{rule_in_front, what_reading, job_name, job_reading, begins_setting, entry_reading, line_reading, numbered_reading, jobs_reading, crontab_reading}
 use Rattle.agenda_sources.specs.declared.fault.SourceFault.TheVariants.{Full}
-use Rattle.agenda_sources.specs.Faults.{SourceReading, crontab_fault, in_source}
-use Rattle.agenda_sources.specs.Sources.{with_jobs, with_crontab, HasNoLineOf}
+use Rattle.agenda_sources.specs.Faults.{crontab_fault, in_source}
+use Rattle.agenda_sources.specs.Sources.{with_crontab, HasNoLineOf}
 use Rattle.agenda_sources.proofs.NameLemmas.{other_name, AllFail, none_from_fail}
 
 -- ---- what is true of each reading
@@ -94,20 +94,18 @@ lower kind low (j ∷ jobs) (here, all) =
 
 apart : (kind : Kind) (number : ℕ) (name : List ℕ) (jobs : List JobParts) → number < 2 ^ 64 → name ≡ job_name kind number → AllByRecursion (IsLineBehind kind number) jobs → AllByRecursion (λ other. bytes_eq name other ≡ false) (map (λ j. j.name) jobs)
 apart kind number name [] small named all = tt
-apart kind number name (j ∷ jobs) small named (here, all) =
-    (
-      other_name name j.name (λ same. let one = same_line kind number here.number small here.fits (sym named ∙ same ∙ here.named) in omega (arith, here.behind)),
-      apart kind number name jobs small named all,
-    )
+apart kind number name (j ∷ jobs) small named (here, all) = (
+  other_name name j.name (λ same. let one = same_line kind number here.number small here.fits (sym named ∙ same ∙ here.named) in omega (arith, here.behind)),
+  apart kind number name jobs small named all,
+)
 
 one_more : (kind : Kind) (low : ℕ) (found : Option JobParts) (jobs : List JobParts) → low + 1 < 2 ^ 64 → IsNamedBy kind (low + 1) found → AreLinesBehind kind (low + 1) jobs → AreLinesBehind kind low (cons_option found jobs)
 unfolding IsDistinct
 one_more kind low None jobs small named (all, distinct) = (lower kind low jobs all, distinct)
-one_more kind low (Some j) jobs small named (all, distinct) =
-    (
-      (record { number = low + 1; behind = omega arith; fits = small; named = named }, lower kind low jobs all),
-      (apart kind (low + 1) j.name jobs small named all, distinct),
-    )
+one_more kind low (Some j) jobs small named (all, distinct) = (
+  (record { number = low + 1; behind = omega arith; fits = small; named = named }, lower kind low jobs all),
+  (apart kind (low + 1) j.name jobs small named all, distinct),
+)
 
 -- the jobs of lines, of which the first has this place
 each_line : (kind : Kind) (place : ℕ) (texts : List (List ℕ)) → place + length texts < 2 ^ 64 → IfOk (each (numbered_reading kind) (enumerate_from place texts)) (λ found. AreLinesBehind kind place (filter_map (λ j. j) found))

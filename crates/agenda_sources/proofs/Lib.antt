@@ -1,2 +1,3 @@
 pub mod NameLemmas
 pub mod CrontabNames
+pub mod SourceFaults

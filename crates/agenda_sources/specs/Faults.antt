@@ -1,5 +1,5 @@
 -- The faults of sources.
-use Rattle.std.specs.Prelude.{ℕ, Result, Ok, Err}
+use Rattle.std.specs.Prelude.{◌≢◌, ℕ, Result, Ok, Err}
 use Rattle.plan_rules.specs.declared.crontabs.Kind.{Kind}
 use Rattle.plan_rules.specs.declared.crontabs.Kind.TheVariants.{User, System}
 use Rattle.plan_rules.specs.declared.line_fault.LineCause.{LineCause}
@@ -31,3 +31,10 @@ timer_fault place fault = fault_by_cause fault.cause (InTimer place fault)
 abbrev pub in_source : {A : Type 0} → (LineFault → SourceFault) → TextReading A → SourceReading A
 in_source fault_of (Ok x) = Ok x
 in_source fault_of (Err fault) = Err (fault_of fault)
+
+-- no want of memory stands inside the fault
+abbrev pub IsOwnFault : SourceFault → Type 0
+IsOwnFault (InCrontab fault) = fault.cause ≢ cause.NoMemory
+IsOwnFault (InSystem fault) = fault.cause ≢ cause.NoMemory
+IsOwnFault (InTimer place fault) = fault.cause ≢ cause.NoMemory
+IsOwnFault other = Unit {0}

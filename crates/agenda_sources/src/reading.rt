@@ -1,9 +1,10 @@
 //! How the sources of a plan are read, one after another.
 
-ghost use Rattle.std.specs.Prelude.{◌≡◌, ◌≤◌, All, None, length};
+ghost use Rattle.std.specs.Prelude.{◌≡◌, ◌≤◌, All, IfErr, None, length};
 ghost use Rattle.plan_texts.specs.Steps.{GivesUnless};
 ghost use Rattle.plan_rules.specs.Limits.{most_jobs};
 ghost use Rattle.plan_rules.specs.Jobs.{number_of, HaveDistinctNames};
+ghost use Rattle.agenda_sources.specs.Faults.{IsOwnFault};
 ghost use Rattle.agenda_sources.specs.Sources.{HasNoLineOf, with_jobs, with_new_name, with_crontab, with_timer, with_timers, sources_reading};
 
 use crate::bytes::Bytes;
@@ -18,7 +19,8 @@ use std::alloc::Global;
 /// `InTimer` for the first fault of a source, as `crontab` and `timer` find it; `SameName` where a job has a timer's name;
 /// `Full` where there are more than 1,000 jobs; `NoMemory`, also in place of one that stands in a source's fault.
 pub fn jobs_of_sources(alloc: Global, sources: &Sources) -> Result<Jobs, SourceFault>
-    ensures { GivesUnless SourceFault.NoMemory (λ jobs. jobs) result (sources_reading sources.now) }
+    ensures meaning { GivesUnless SourceFault.NoMemory (λ jobs. jobs) result (sources_reading sources.now) }
+    ensures own_fault { IfErr result IsOwnFault }
 {
     let mut jobs = Jobs::new(alloc);
     add_crontab(alloc, &mut jobs, Kind::User, &sources.crontab)?;

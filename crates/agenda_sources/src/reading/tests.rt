@@ -115,21 +115,31 @@ fn timers_keep_their_order(rt: HostRuntime) -> Result<(), Fail> {
     )
 }
 
+// Faults of crontabs: a job without a command on line 2, and a setting without `=` on line 3.
+const NO_COMMAND: &str = "@daily x\n@daily";
+
+const NO_SETTING: &str = "@daily root x\n\nx";
+
 #[test]
-fn each_crontabs_fault(rt: HostRuntime) -> Result<(), Fail> {
-    let no_command = "@daily x\n@daily";
-    let setting = "@daily root x\n\nx";
+fn the_users_crontab_is_read_first(rt: HostRuntime) -> Result<(), Fail> {
     assert_fault(
         &rt,
-        &(Some(no_command), Some(setting), &[("b", HOURLY)]),
+        &(Some(NO_COMMAND), Some(NO_SETTING), &[("b", HOURLY)]),
         SourceFault::InCrontab(bad(2, LineCause::NoCommand)),
-    )?;
+    )
+}
+
+#[test]
+fn the_systems_crontab_is_read_before_timers(rt: HostRuntime) -> Result<(), Fail> {
     assert_fault(
         &rt,
-        &(Some("@daily x"), Some(setting), &[("b", HOURLY)]),
+        &(Some("@daily x"), Some(NO_SETTING), &[("b", HOURLY)]),
         SourceFault::InSystem(bad(3, LineCause::BadSetting)),
-    )?;
-    // a command without a user is a fault of the system's crontab alone
+    )
+}
+
+#[test]
+fn the_systems_crontab_names_users(rt: HostRuntime) -> Result<(), Fail> {
     assert_fault(
         &rt,
         &(Some("@daily x"), Some("@daily x"), &[]),

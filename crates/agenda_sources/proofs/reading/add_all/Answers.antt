@@ -1,8 +1,6 @@
-use Rattle.std.proofs.Common.{◌≡◌, ◌++◌, ◌∷◌, List, Err, None, IsSome, ap, sym, ◌∙◌}
-use Rattle.std.specs.List.{All}
-use Rattle.plan_rules.specs.Job.{JobParts}
+use Rattle.std.proofs.Common.{◌≡◌, ◌++◌, Err, IsSome, ap, sym, ◌∙◌}
 use Rattle.plan_rules.specs.declared.jobs.AddFault.TheVariants.{SameName}
-use Rattle.plan_rules.specs.Jobs.{number_of, job_of, HaveDistinctNames}
+use Rattle.plan_rules.specs.Jobs.{number_of, job_of}
 use Rattle.agenda_sources.proofs.NameLemmas.{next_is_new, not_there}
 use Rattle.agenda_sources.proofs.reading.add_all.Goals as goal
 
