@@ -8,8 +8,8 @@ use Rattle.agenda.specs.declared.faults.RunFault.{RunFault}
 use Rattle.agenda.specs.declared.faults.RunFault.TheVariants as run
 use Rattle.std.proofs.KnownBytes.{Keeps-refl}
 use Rattle.agenda.specs.declared.faults.Failure.TheVariants.{Run}
-use Rattle.agenda.specs.Answer.{Held, DoesSteps, FailsSteps}
-use Rattle.agenda.specs.Files.{most_read, IsFrontOf, IsHeld}
+use Rattle.agenda.specs.Answer.{DoesSteps, FailsSteps}
+use Rattle.agenda.specs.Files.{Held, most_read, IsFrontOf, IsHeld}
 use Rattle.agenda.specs.Script.{WritesRun, RefusesScript}
 
 -- more bytes than a script may have are too many, whatever they are
@@ -44,6 +44,12 @@ refuses_whole takes_all run.Device bytes script old new same (text, (meaning, re
     (text, (meaning, replies, same ∙ reads, many, turn, is), off)
 refuses_whole takes_all run.BadCount bytes script old new same none = absurd none
 refuses_whole takes_all (run.Rule fault) bytes script old new same none = absurd none
+refuses_whole takes_all (run.InCrontab fault) bytes script old new same none = absurd none
+refuses_whole takes_all (run.InSystem fault) bytes script old new same none = absurd none
+refuses_whole takes_all (run.InTimer place fault) bytes script old new same none = absurd none
+refuses_whole takes_all (run.SameName place) bytes script old new same none = absurd none
+refuses_whole takes_all run.Full bytes script old new same none = absurd none
+refuses_whole takes_all (run.Plan fault) bytes script old new same none = absurd none
 
 -- `steps` on a file of which the first bytes were read
 pub does_steps : (held : Held) (file path bytes read : List ℕ) (old new : Option (List ℕ)) → path ≡ file → IsFrontOf (held path) bytes → read ≡ bytes → WritesRun read old new → DoesSteps held file old new

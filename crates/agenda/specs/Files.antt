@@ -1,6 +1,10 @@
 -- What is read of a file. All of it is own.
 use Rattle.std.specs.Prelude.{◌≡◌, ⊤, ℕ, List, take, Option, None, Some}
 
+-- what the file of each path holds, where that is known
+abbrev pub Held : Type 0
+Held = List ℕ → Option (List ℕ)
+
 -- how many bytes are read at most: one past the limit of every input
 abbrev pub most_read : ℕ
 most_read = 1048577

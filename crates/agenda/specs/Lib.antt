@@ -4,4 +4,6 @@ pub mod FaultLines
 pub mod Faults
 pub mod Files
 pub mod Next
+pub mod Plan
 pub mod Script
+pub mod Sources

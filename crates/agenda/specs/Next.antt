@@ -13,7 +13,7 @@ use Rattle.plan_next.specs.Starts.{starts}
 use Rattle.agenda_words.specs.declared.Asked.{Asked}
 use Rattle.agenda_words.specs.declared.Asked.TheVariants.{Cron, Event}
 use Rattle.agenda.specs.declared.faults.RunFault.{RunFault}
-use Rattle.agenda.specs.declared.faults.RunFault.TheVariants.{NoMemory, BadCount, Rule as BadRule, Script, Device}
+use Rattle.agenda.specs.declared.faults.RunFault.TheVariants.{NoMemory, BadCount, Rule as BadRule, Device}
 use Rattle.plan_collect.specs.Stream.{BreaksOff}
 
 -- the line of a moment (own)
@@ -58,6 +58,6 @@ RefusesNext takes_all BadCount asked after count old new = (IsCount count → �
 RefusesNext takes_all (BadRule fault) asked after count old new =
     IsCount count × (asked_reading asked ≡ Err fault) × Keeps old new
 RefusesNext takes_all NoMemory asked after count old new = IsCount count × Keeps old new
-RefusesNext takes_all (Script fault) asked after count old new = ⊥
 RefusesNext takes_all Device asked after count old new =
     (text : List ℕ) × IsAnswer asked after count text × BreaksOff takes_all old new text
+RefusesNext takes_all other asked after count old new = ⊥

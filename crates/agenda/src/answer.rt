@@ -1,21 +1,36 @@
 //! What the program does, over any files and streams.
 
-ghost use Rattle.std.specs.Prelude.{◌≡◌, ◌≢◌, IfErr, OnOk, map, string_bytes};
-ghost use Rattle.std.specs.Io.KnownBytes.{Appends};
-ghost use Rattle.agenda.specs.Answer.{Answers, AnswersWords, DoesNext, DoesSteps, FailsNext, FailsSteps, Finishes, SaysNotUtf8, Stops};
-ghost use Rattle.plan_collect.specs.Stream.{BreaksOff};
+ghost use Rattle.std.specs.Prelude.{◌≡◌, ◌≢◌, IfErr, IfOk, Ok, OnOk, map, string_bytes};
+ghost use Rattle.std.specs.Io.KnownBytes.{Appends, Keeps};
+ghost use Rattle.agenda.specs.FaultLines.{fault_text};
+ghost use Rattle.agenda.specs.Faults.{status_of as failure_status};
+ghost use Rattle.agenda.specs.Answer.{Answers, AnswersWords, asked_plan, DoesNext, DoesPlan, DoesSteps, FailsNext, FailsPlan, FailsSteps, GivesNoSpan, IsSpan, SaysNotUtf8};
+ghost use Rattle.plan_collect.specs.Stream.{BreaksOff, PutsOrBreaksOff};
 
 use crate::fault_lines::fault_line;
 use crate::faults::{Failure, RunFault};
 use crate::files::{Files, read_file};
 use crate::next::run_next;
+use crate::plan::run_plan;
 use crate::script::run_script;
+use crate::sources::{Paths, read_sources};
 use agenda_words::{Ask, Asked, UsageFault, read_words};
-use plan_collect::Stream;
+use plan_collect::{Span, Stream};
 use plan_rules::Text;
 use plan_sets::read_moment;
 use std::alloc::Global;
 use std::io::ErrorKind;
+
+// What is wanted of `plan`: the texts of two moments, the paths of its sources, and three numbers.
+#[derive(Drop)]
+struct Wanted {
+    since: Text,
+    upto: Text,
+    paths: Paths,
+    planners: u32,
+    room: u32,
+    limit: u32,
+}
 
 // The status of what was done, and of help.
 const DONE: u8 = 0;
@@ -54,9 +69,38 @@ pub fn answer<F: Files, O: Stream, E: Stream>(
         (record { takes_all = O.takes_all; old = O.holds out.old; new = O.holds out.new })
         (record { takes_all = E.takes_all; old = E.holds err.old; new = E.holds err.new }) }
 {
-    match carry_out(alloc, asked, files, out) {
-        Ok(()) => DONE,
-        Err(failure) => fault_line(&failure, err),
+    match asked {
+        Ok(Ask::Next { after, count, rule }) => {
+            status_of(next(alloc, &after, count, &rule, out), &[], err)
+        }
+        Ok(Ask::Plan {
+            since,
+            upto,
+            crontab,
+            system,
+            planners,
+            room,
+            limit,
+            timers,
+        }) => {
+            let wanted = Wanted {
+                since,
+                upto,
+                paths: Paths {
+                    crontab,
+                    system,
+                    timers,
+                },
+                planners,
+                room,
+                limit,
+            };
+            answer_plan(alloc, &wanted, files, out, err)
+        }
+        Ok(Ask::Steps { file }) => status_of(steps(alloc, file, files, out), &[], err),
+        Err(UsageFault::Help(text)) => status_of(help(&text, out), &[], err),
+        Err(UsageFault::Usage(text)) => status_of(Err(Failure::Usage(text)), &[], err),
+        Err(UsageFault::NoMemory) => status_of(Err(Failure::Run(RunFault::NoMemory)), &[], err),
     }
 }
 
@@ -74,23 +118,31 @@ pub fn unread_words(alloc: Global, kind: ErrorKind) -> UsageFault
     }
 }
 
-// Does what is asked for.
-fn carry_out<F: Files, S: Stream>(
+// The answer to `plan`.
+fn answer_plan<F: Files, O: Stream, E: Stream>(
     alloc: Global,
-    asked: Result<Ask, UsageFault>,
+    wanted: &Wanted,
     files: &mut F,
-    out: &mut S,
-) -> Result<(), Failure>
-    ensures done { OnOk result (Finishes (F.held files.old) asked (S.holds out.old) (S.holds out.new)) }
-    ensures failed { IfErr result
-        (λ failure. Stops S.takes_all (F.held files.old) asked failure (S.holds out.old) (S.holds out.new)) }
+    out: &mut O,
+    err: &mut E,
+) -> u8
+    ensures { Answers (F.held files.old) (Ok (asked_plan wanted.now)) result
+        (record { takes_all = O.takes_all; old = O.holds out.old; new = O.holds out.new })
+        (record { takes_all = E.takes_all; old = E.holds err.old; new = E.holds err.new }) }
 {
-    match asked {
-        Ok(Ask::Next { after, count, rule }) => next(alloc, &after, count, &rule, out),
-        Ok(Ask::Steps { file }) => steps(alloc, file, files, out),
-        Err(UsageFault::Help(text)) => help(&text, out),
-        Err(UsageFault::Usage(text)) => Err(Failure::Usage(text)),
-        Err(UsageFault::NoMemory) => Err(Failure::Run(RunFault::NoMemory)),
+    let done = plan(alloc, wanted, files, out);
+    status_of(done, wanted.paths.timers.as_slice(), err)
+}
+
+// The status of what was done, or was not. `timers` are the paths of the timers of a plan.
+fn status_of<S: Stream>(done: Result<(), Failure>, timers: &[Text], err: &mut S) -> u8
+    ensures done { OnOk done ((result ≡ 0) × Keeps (S.holds err.old) (S.holds err.new)) }
+    ensures failed { IfErr done (λ failure. (result ≡ failure_status failure)
+        × PutsOrBreaksOff S.takes_all (S.holds err.old) (S.holds err.new) (fault_text timers.now failure)) }
+{
+    match done {
+        Ok(()) => DONE,
+        Err(failure) => fault_line(&failure, timers, err),
     }
 }
 
@@ -114,6 +166,54 @@ fn next<S: Stream>(
     match run_next(alloc, rule, moment, u64::from(count), out) {
         Ok(()) => Ok(()),
         Err(fault) => Err(Failure::Run(fault)),
+    }
+}
+
+// The command `plan`.
+fn plan<F: Files, S: Stream>(
+    alloc: Global,
+    wanted: &Wanted,
+    files: &mut F,
+    out: &mut S,
+) -> Result<(), Failure>
+    ensures done { OnOk result
+        (DoesPlan (F.held files.old) wanted.now (S.holds out.old) (S.holds out.new)) }
+    ensures failed { IfErr result
+        (λ failure. FailsPlan S.takes_all (F.held files.old) wanted.now failure (S.holds out.old) (S.holds out.new)) }
+{
+    let span = span_between(&wanted.since, &wanted.upto)?;
+    let sources = read_sources(alloc, files, &wanted.paths)?;
+    let (planners, room) = (wanted.planners as usize, wanted.room as usize);
+    match run_plan(
+        alloc,
+        &sources,
+        span,
+        u64::from(wanted.limit),
+        planners,
+        room,
+        out,
+    ) {
+        Ok(()) => Ok(()),
+        Err(fault) => Err(Failure::Run(fault)),
+    }
+}
+
+// The span between two moments.
+fn span_between(since: &Text, upto: &Text) -> Result<Span, Failure>
+    ensures span { IfOk result (IsSpan since.now upto.now) }
+    ensures no_span { IfErr result (GivesNoSpan since.now upto.now) }
+{
+    let begin = match read_moment(since.as_str()) {
+        Ok(begin) => begin,
+        Err(fault) => return Err(Failure::Since(fault)),
+    };
+    let end = match read_moment(upto.as_str()) {
+        Ok(end) => end,
+        Err(fault) => return Err(Failure::Upto(fault)),
+    };
+    match Span::new(begin, end) {
+        Ok(span) => Ok(span),
+        Err(fault) => Err(Failure::Span(fault)),
     }
 }
 

@@ -1,10 +1,11 @@
 //! The names of causes, as fault lines show them.
 
 ghost use Rattle.std.specs.Prelude.{◌≡◌};
-ghost use Rattle.agenda.specs.Causes.{moment_cause, rule_cause, script_cause, set_cause};
+ghost use Rattle.agenda.specs.Causes.{collect_cause, line_cause, moment_cause, rule_cause, script_cause, set_cause, span_cause};
 
 use agenda_script::ScriptCause;
-use plan_rules::RuleCause;
+use plan_collect::{CollectFault, SpanFault};
+use plan_rules::{LineCause, RuleCause};
 use plan_sets::{MomentFault, SetFault};
 
 /// The name of what is wrong with a moment.
@@ -44,6 +45,47 @@ pub fn rule_cause(cause: RuleCause) -> &'static [u8]
         RuleCause::Zone => b"Zone",
         RuleCause::UnknownWord => b"UnknownWord",
         RuleCause::Specifier => b"Specifier",
+    }
+}
+
+/// The name of what is wrong with a line of a crontab or of a timer file; that of a rule is the name of what is wrong with it.
+pub fn line_cause(cause: LineCause) -> &'static [u8]
+    ensures { result.now ≡ line_cause cause }
+{
+    match cause {
+        LineCause::NoMemory => b"NoMemory",
+        LineCause::NotUtf8 => b"NotUtf8",
+        LineCause::TooLarge => b"TooLarge",
+        LineCause::BadSetting => b"BadSetting",
+        LineCause::Rule(fault) => rule_cause(fault.cause),
+        LineCause::NoCommand => b"NoCommand",
+        LineCause::BadTimerName => b"BadTimerName",
+        LineCause::NoTimerSection => b"NoTimerSection",
+        LineCause::TooManyLines => b"TooManyLines",
+    }
+}
+
+/// The name of what is wrong with a span.
+pub fn span_cause(cause: SpanFault) -> &'static [u8]
+    ensures { result.now ≡ span_cause cause }
+{
+    match cause {
+        SpanFault::Backwards => b"Backwards",
+        SpanFault::OutOfYears => b"OutOfYears",
+    }
+}
+
+/// The name of why a collector refuses.
+pub fn collect_cause(cause: CollectFault) -> &'static [u8]
+    ensures { result.now ≡ collect_cause cause }
+{
+    match cause {
+        CollectFault::NoMemory => b"NoMemory",
+        CollectFault::Stranger => b"Stranger",
+        CollectFault::Gap => b"Gap",
+        CollectFault::TooMany => b"TooMany",
+        CollectFault::AfterLast => b"AfterLast",
+        CollectFault::Missing => b"Missing",
     }
 }
 

@@ -1,10 +1,12 @@
 //! Why the program fails, and the status with which it then ends.
 
 ghost use Rattle.std.specs.Prelude.{◌≡◌};
+ghost use Rattle.agenda.specs.Faults.{line_status, plan_status, rule_status, script_status};
 
 use agenda_script::{ScriptCause, ScriptFault};
-use plan_collect::WriteFault;
-use plan_rules::{RuleCause, RuleFault, Text};
+use agenda_sources::SourceFault;
+use plan_collect::{CollectFault, PlanFault, SpanFault, WriteFault};
+use plan_rules::{LineCause, LineFault, RuleCause, RuleFault, Text};
 use plan_sets::MomentFault;
 use std::alloc::{AllocError, AllocFailed};
 use thiserror::Error;
@@ -21,6 +23,24 @@ pub enum RunFault {
     /// 3: the text of `next` is no rule.
     #[error("{0}")]
     Rule(RuleFault),
+    /// 4: the user's crontab is refused.
+    #[error("{0}")]
+    InCrontab(LineFault),
+    /// 5: the system's crontab is refused.
+    #[error("{0}")]
+    InSystem(LineFault),
+    /// 6: the timer at this place, from 0, is refused.
+    #[error("{1}")]
+    InTimer(usize, LineFault),
+    /// 7: a job has the name of the timer at this place, from 0.
+    #[error("SameName")]
+    SameName(usize),
+    /// 8: there are more than 1,000 jobs.
+    #[error("Full")]
+    Full,
+    /// 9: the jobs make no plan.
+    #[error("{0}")]
+    Plan(PlanFault),
     /// 10: the script was refused.
     #[error("{0}")]
     Script(ScriptFault),
@@ -77,6 +97,39 @@ impl From<RuleFault> for RunFault {
     }
 }
 
+impl From<SourceFault> for RunFault {
+    ghost use Rattle.std.specs.Prelude.{◌≡◌};
+    ghost use Rattle.agenda.specs.Faults.{fault_of_sources};
+
+    ghost from_gives = { λ fault answer. answer ≡ fault_of_sources fault };
+
+    fn from(fault: SourceFault) -> RunFault {
+        match fault {
+            SourceFault::NoMemory => RunFault::NoMemory,
+            SourceFault::InCrontab(fault) => RunFault::InCrontab(fault),
+            SourceFault::InSystem(fault) => RunFault::InSystem(fault),
+            SourceFault::InTimer(place, fault) => RunFault::InTimer(place, fault),
+            SourceFault::SameName(place) => RunFault::SameName(place),
+            SourceFault::Full => RunFault::Full,
+        }
+    }
+}
+
+// A want of memory is always the same fault.
+impl From<PlanFault> for RunFault {
+    ghost use Rattle.std.specs.Prelude.{◌≡◌};
+    ghost use Rattle.agenda.specs.Faults.{fault_of_plan};
+
+    ghost from_gives = { λ fault answer. answer ≡ fault_of_plan fault };
+
+    fn from(fault: PlanFault) -> RunFault {
+        match fault {
+            PlanFault::NoMemory => RunFault::NoMemory,
+            fault => RunFault::Plan(fault),
+        }
+    }
+}
+
 // A want of memory inside a fault of a script is a want of memory.
 impl From<ScriptFault> for RunFault {
     ghost use Rattle.std.specs.Prelude.{◌≡◌};
@@ -99,10 +152,40 @@ pub enum Failure {
     Usage(Text),
     /// The text of `--after` is no moment.
     After(MomentFault),
+    /// The text of `--since` is no moment.
+    Since(MomentFault),
+    /// The text of `--upto` is no moment.
+    Upto(MomentFault),
+    /// The moments of `--since` and `--upto` bound no span.
+    Span(SpanFault),
     /// The command was not done.
     Run(RunFault),
     /// The file with this path can't be opened or read.
     File(Text),
+}
+
+impl From<AllocError> for Failure {
+    ghost use Rattle.std.specs.Prelude.{◌≡◌};
+    ghost use Rattle.agenda.specs.declared.faults.RunFault.TheVariants.{NoMemory};
+    ghost use Rattle.agenda.specs.declared.faults.Failure.TheVariants.{Run};
+
+    ghost from_gives = { λ _ failure. failure ≡ Run NoMemory };
+
+    fn from(_refused: AllocError) -> Failure {
+        Failure::Run(RunFault::NoMemory)
+    }
+}
+
+impl<T: Drop> From<AllocFailed<T>> for Failure {
+    ghost use Rattle.std.specs.Prelude.{◌≡◌};
+    ghost use Rattle.agenda.specs.declared.faults.RunFault.TheVariants.{NoMemory};
+    ghost use Rattle.agenda.specs.declared.faults.Failure.TheVariants.{Run};
+
+    ghost from_gives = { λ _ failure. failure ≡ Run NoMemory };
+
+    fn from(_refused: AllocFailed<T>) -> Failure {
+        Failure::Run(RunFault::NoMemory)
+    }
 }
 
 // The status where input, a size, a count or a limit was refused.
@@ -124,7 +207,7 @@ impl Failure {
     {
         match self {
             Failure::Usage(_) => USAGE,
-            Failure::After(_) => REFUSED,
+            Failure::After(_) | Failure::Since(_) | Failure::Upto(_) | Failure::Span(_) => REFUSED,
             Failure::Run(fault) => fault.status(),
             Failure::File(_) => FAILED,
         }
@@ -139,15 +222,56 @@ impl RunFault {
         ensures { result ≡ run_status self.now }
     {
         match self {
-            RunFault::Rule(RuleFault { part: _, cause }) if *cause != RuleCause::NoMemory =>
-                REFUSED,
-            RunFault::Script(ScriptFault { line: _, cause }) if *cause != ScriptCause::NoMemory => {
-                REFUSED
+            RunFault::Rule(fault) => rule_status(fault.cause),
+            RunFault::InCrontab(fault) | RunFault::InSystem(fault) | RunFault::InTimer(_, fault) => {
+                line_status(fault.cause)
             }
-            RunFault::BadCount => REFUSED,
-            RunFault::Rule(_) | RunFault::Script(_) | RunFault::NoMemory | RunFault::Device =>
-                FAILED,
+            RunFault::Plan(fault) => plan_status(*fault),
+            RunFault::Script(fault) => script_status(fault.cause),
+            RunFault::BadCount | RunFault::SameName(_) | RunFault::Full => REFUSED,
+            RunFault::NoMemory | RunFault::Device => FAILED,
         }
+    }
+}
+
+// The status of a rule that was refused.
+fn rule_status(cause: RuleCause) -> u8
+    ensures { result ≡ rule_status cause }
+{
+    match cause {
+        RuleCause::NoMemory => FAILED,
+        _ => REFUSED,
+    }
+}
+
+// The status of a crontab or a timer file that was refused.
+fn line_status(cause: LineCause) -> u8
+    ensures { result ≡ line_status cause }
+{
+    match cause {
+        LineCause::NoMemory => FAILED,
+        LineCause::Rule(fault) => rule_status(fault.cause),
+        _ => REFUSED,
+    }
+}
+
+// The status of a plan that was refused.
+fn plan_status(fault: PlanFault) -> u8
+    ensures { result ≡ plan_status fault }
+{
+    match fault {
+        PlanFault::NoMemory | PlanFault::Collect(CollectFault::NoMemory) => FAILED,
+        _ => REFUSED,
+    }
+}
+
+// The status of a script that was refused.
+fn script_status(cause: ScriptCause) -> u8
+    ensures { result ≡ script_status cause }
+{
+    match cause {
+        ScriptCause::NoMemory => FAILED,
+        _ => REFUSED,
     }
 }
 

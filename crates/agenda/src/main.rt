@@ -7,7 +7,9 @@ mod fault_lines;
 mod faults;
 mod files;
 mod next;
+mod plan;
 mod script;
+mod sources;
 
 use agenda_words::UsageFault;
 use answer::{answer, answer_words, unread_words};

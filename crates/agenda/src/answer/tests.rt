@@ -3,6 +3,8 @@ use crate::files::tests::OneFile;
 use crate::tests::writers::{End, LimitedWriter};
 use std::test::Fail;
 
+mod plans;
+
 // What a run left behind.
 #[derive(Drop)]
 struct Left {

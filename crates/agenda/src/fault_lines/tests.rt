@@ -123,7 +123,7 @@ fn lines_and_statuses(rt: HostRuntime) {
     ];
     for (failure, line, status) in rows {
         let mut out = LimitedWriter::new(128, 128, End::Error, false);
-        assert_eq!(rt; fault_line(&failure, &mut out), status, "{line}");
+        assert_eq!(rt; fault_line(&failure, &[], &mut out), status, "{line}");
         assert_eq!(rt; out.bytes(), line.as_bytes());
     }
 }
@@ -137,7 +137,7 @@ fn a_file_that_failed_is_named(rt: HostRuntime) -> Result<(), Fail> {
     ] {
         let failure = Failure::File(Text::new(String::from_str(rt.alloc(), path)?));
         let mut out = LimitedWriter::new(128, 128, End::Error, false);
-        assert_eq!(rt; fault_line(&failure, &mut out), 3, "{path}");
+        assert_eq!(rt; fault_line(&failure, &[], &mut out), 3, "{path}");
         assert_eq!(rt; out.bytes(), line.as_bytes());
     }
     Ok(())
@@ -148,7 +148,7 @@ fn the_text_of_usage_is_written_as_it_is(rt: HostRuntime) -> Result<(), Fail> {
     let text = "exactly one of --cron and --calendar\n";
     let failure = Failure::Usage(Text::new(String::from_str(rt.alloc(), text)?));
     let mut out = LimitedWriter::new(128, 128, End::Error, false);
-    assert_eq!(rt; fault_line(&failure, &mut out), 2);
+    assert_eq!(rt; fault_line(&failure, &[], &mut out), 2);
     assert_eq!(rt; out.bytes(), text.as_bytes());
     Ok(())
 }
@@ -163,7 +163,7 @@ fn a_line_goes_out_by_one_write(rt: HostRuntime) -> Result<(), Fail> {
     ];
     for failure in &failures {
         let mut out = LimitedWriter::new(128, 128, End::Error, false);
-        fault_line(failure, &mut out);
+        fault_line(failure, &[], &mut out);
         assert_eq!(rt; out.calls, 1);
     }
     Ok(())
@@ -181,7 +181,7 @@ fn a_path_that_is_longer_than_the_buffer(rt: HostRuntime) -> Result<(), Fail> {
         line.extend_from_slice(b": Device\n")?;
         let failure = Failure::File(Text::new(String::from_utf8(path)?));
         let mut out = Vec::new(rt.alloc());
-        assert_eq!(rt; fault_line(&failure, &mut out), 3);
+        assert_eq!(rt; fault_line(&failure, &[], &mut out), 3);
         assert!(rt; out == line, "{len}");
     }
     Ok(())
@@ -194,7 +194,7 @@ fn a_stream_that_fails_at_each_byte_has_the_first_bytes(rt: HostRuntime) {
     for room in 0..line.len() {
         for end in [End::Error, End::TakesNothing] {
             let mut out = LimitedWriter::new(room, 9, end, true);
-            assert_eq!(rt; fault_line(&failure, &mut out), 1, "{room}");
+            assert_eq!(rt; fault_line(&failure, &[], &mut out), 1, "{room}");
             assert_eq!(rt; out.bytes(), &line[..room]);
         }
     }
