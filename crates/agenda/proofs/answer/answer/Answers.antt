@@ -12,7 +12,7 @@ returns-in-Err-Usage g c =
     let err : Stream = record { takes_all = g.E.Stream.takes_all; old = g.E.Stream.holds c.args.err.now; new = g.E.Stream.holds c.status_of-in-Err-Usage.new.err } in
     let asked : c.args.asked ≡ Err (usage.Usage c.in-Err-Usage.text) = c.in-Err-Usage.is ∙ ap Err c.in-Err-Usage.field-0-is in
     subst (λ a. Answers held a c.status_of-in-Err-Usage.result out err) (sym asked)
-    (usage_answers held c.in-Err-Usage.text c.status_of-in-Err-Usage.result g.O.Stream.takes_all kept err c.status_of-in-Err-Usage.ensures.failed)
+    (usage_answers held c.in-Err-Usage.text c.status_of-in-Err-Usage.result g.O.Stream.takes_all kept err (rw c.in-Err-Usage.field-0-is at c.status_of-in-Err-Usage.ensures.failed))
 
 pub returns-in-Err-NoMemory : goal.returns-in-Err-NoMemory
 returns-in-Err-NoMemory g c =
