@@ -1,12 +1,12 @@
 -- A text that is written piece by piece.
-use Rattle.std.proofs.Common.{◌≡◌, ℕ, ◌+◌, ◌-◌, ◌≤◌, Bool, List, ◌++◌, length, take, drop, Option, None, Some, refl, ap, subst, ◌∙◌, arith, take_all, sym, length-drop, length-append, get_or, take-append-drop, ◌<◌, Result, Ok, Err, IsErr, true, false}
-use Rattle.std.proofs.Math.Seq.{take-add, take-append-add}
+use Rattle.std.proofs.Common.{◌≡◌, ℕ, ◌+◌, Bool, List, ◌++◌, length, take, drop, Option, ap, subst, ◌∙◌, arith, sym, length-append, get_or, take-append-drop, ◌<◌, Result, Ok, Err, IsErr, true, false}
+use Rattle.std.proofs.Math.Seq.{take-append-add}
 use Rattle.std.specs.List.{flat_map}
-use Rattle.std.proofs.lemmas.List.{drop-drop, drop_more, take-append-le}
+use Rattle.std.proofs.lemmas.List.{drop_more, take-append-le}
 use Rattle.std.proofs.lemmas.Grind.{flat_map-append}
-use Rattle.std.proofs.KnownBytes.{Appends-trans, Appends-nil}
-use Rattle.std.specs.Io.KnownBytes.{Appends, Keeps}
-use Rattle.plan_collect.specs.Stream.{AppendsPrefix, BreaksOff, Puts}
+use Rattle.std.proofs.KnownBytes.{Appends-trans}
+use Rattle.std.specs.Io.KnownBytes.{Appends}
+use Rattle.plan_collect.specs.Stream.{BreaksOff, Puts}
 
 -- a stream that broke off in a piece of a text broke off in the text
 pub breaks_off_in : (takes_all : Bool) (a b c : Option (List ℕ)) (front piece back text : List ℕ) → text ≡ front ++ (piece ++ back) → Appends a b front → BreaksOff takes_all b c piece → BreaksOff takes_all a c text

@@ -7,7 +7,6 @@ use Rattle.plan_sets.specs.Moment.{moment_text_of}
 use Rattle.plan_rules.specs.declared.Rule.{Rule}
 use Rattle.plan_rules.specs.Cron.{cron_reading}
 use Rattle.plan_rules.specs.Event.{event_rule_reading}
-use Rattle.plan_rules.specs.Match.{rule_matches}
 use Rattle.plan_rules.specs.Steps.{Reading}
 use Rattle.plan_next.specs.Starts.{starts}
 use Rattle.agenda_words.specs.declared.Asked.{Asked}

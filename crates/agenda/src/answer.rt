@@ -73,16 +73,18 @@ pub fn answer<F: Files, O: Stream, E: Stream>(
         Ok(Ask::Next { after, count, rule }) => {
             status_of(next(alloc, &after, count, &rule, out), &[], err)
         }
-        Ok(Ask::Plan {
-            since,
-            upto,
-            crontab,
-            system,
-            planners,
-            room,
-            limit,
-            timers,
-        }) => {
+        Ok(
+            Ask::Plan {
+                since,
+                upto,
+                crontab,
+                system,
+                planners,
+                room,
+                limit,
+                timers,
+            },
+        ) => {
             let wanted = Wanted {
                 since,
                 upto,

@@ -7,7 +7,9 @@ ghost use Rattle.agenda.specs.FaultLines.{collect_line, fault_text, name_at, pla
 ghost use Rattle.agenda.specs.FaultLines.{script_line, source_line, source_rule_line, text_of_line, text_of_part};
 ghost use Rattle.plan_collect.specs.Stream.{Puts, PutsOrBreaksOff};
 
-use crate::causes::{collect_cause, line_cause, moment_cause, rule_cause, script_cause, span_cause};
+use crate::causes::{
+    collect_cause, line_cause, moment_cause, rule_cause, script_cause, span_cause,
+};
 use crate::faults::{Failure, RunFault};
 use crate::sources::timer_name;
 use agenda_script::{ScriptCause, ScriptFault};

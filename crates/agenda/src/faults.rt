@@ -223,9 +223,8 @@ impl RunFault {
     {
         match self {
             RunFault::Rule(fault) => rule_status(fault.cause),
-            RunFault::InCrontab(fault) | RunFault::InSystem(fault) | RunFault::InTimer(_, fault) => {
-                line_status(fault.cause)
-            }
+            RunFault::InCrontab(fault) | RunFault::InSystem(fault) | RunFault::InTimer(_, fault) =>
+                { line_status(fault.cause) }
             RunFault::Plan(fault) => plan_status(*fault),
             RunFault::Script(fault) => script_status(fault.cause),
             RunFault::BadCount | RunFault::SameName(_) | RunFault::Full => REFUSED,

@@ -58,7 +58,15 @@ fn refusal(
 ) -> Result<Option<RunFault>, Fail> {
     let sources = nightly(rt.alloc())?;
     let mut out = Vec::new(rt.alloc());
-    let done = run_plan(rt.alloc(), &sources, new_year()?, limit, planners, room, &mut out);
+    let done = run_plan(
+        rt.alloc(),
+        &sources,
+        new_year()?,
+        limit,
+        planners,
+        room,
+        &mut out,
+    );
     assert!(rt; out.is_empty());
     Ok(done.err())
 }

@@ -1,4 +1,4 @@
-use Rattle.std.proofs.Common.{◌≡◌, ◌++◌, List, ℕ, codes, ap, sym, ◌∙◌}
+use Rattle.std.proofs.Common.{◌++◌, List, ℕ, codes, ap, sym, ◌∙◌}
 use Rattle.agenda.specs.FaultLines.{fault_text}
 use Rattle.agenda.proofs.StreamLemmas.{puts_as}
 use Rattle.agenda.proofs.fault_lines.put_failure.Goals as goal

@@ -1,4 +1,4 @@
-use Rattle.std.proofs.Common.{◌≡◌, ◌<◌, ℕ, List, length, ◌∙◌, refl, arith, subst}
+use Rattle.std.proofs.Common.{◌<◌, ℕ, List, length, ◌∙◌, refl, arith, subst}
 use Rattle.agenda.specs.Sources.{IsTimerOf, IsAmong, IsUnreadIn}
 use Rattle.agenda.proofs.SourcesLemmas.{err_as, timers_none, timers_up_to, unread_among}
 use Rattle.agenda.proofs.sources.read_timers.Goals as goal

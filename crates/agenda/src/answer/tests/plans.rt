@@ -107,7 +107,8 @@ fn refuses(
 
 #[test]
 fn a_reset_empties_the_list(rt: HostRuntime) -> Result<(), Fail> {
-    let timer = b"[Timer]\nOnCalendar=hourly\nOnCalendar=\nOnCalendar=daily\nOnCalendar=*-*-* 00:00:00\n";
+    let timer =
+        b"[Timer]\nOnCalendar=hourly\nOnCalendar=\nOnCalendar=daily\nOnCalendar=*-*-* 00:00:00\n";
     prints(
         &rt,
         &[("a/b/backup.timer", timer)],
@@ -165,7 +166,10 @@ fn a_span_without_a_second(rt: HostRuntime) -> Result<(), Fail> {
     let left = planned(rt.alloc(), &NIGHTLY, "2023-12-31T23:59:59Z", &words)?;
     assert_eq!(rt; left.status, 1);
     assert!(rt; left.out.is_empty());
-    assert_eq!(rt; left.err.as_slice(), b"agenda: span: Backwards\n".as_slice());
+    assert_eq!(rt;
+        left.err.as_slice(),
+        b"agenda: span: Backwards\n".as_slice()
+    );
     assert_eq!(rt; left.opened, 0);
     Ok(())
 }
@@ -175,7 +179,10 @@ fn moments_that_are_refused(rt: HostRuntime) -> Result<(), Fail> {
     let words = ["--crontab", "there is no file"];
     let left = planned(rt.alloc(), &[], "2024-02-30T00:00:00Z", &words)?;
     assert_eq!(rt; left.status, 1);
-    assert_eq!(rt; left.err.as_slice(), b"agenda: upto: NoSuchDate\n".as_slice());
+    assert_eq!(rt;
+        left.err.as_slice(),
+        b"agenda: upto: NoSuchDate\n".as_slice()
+    );
     let line = command_line(
         rt.alloc(),
         &["plan", "--since", "2024", "--upto", "x", "there is no file"],
@@ -197,11 +204,21 @@ fn moments_that_are_refused(rt: HostRuntime) -> Result<(), Fail> {
 fn limit_60_is_enough_and_59_is_not(rt: HostRuntime) -> Result<(), Fail> {
     let files: [(&str, &[u8]); 1] = [("c", b"* * * * * x\n")];
     let upto = "2024-01-01T01:00:00Z";
-    let left = planned(rt.alloc(), &files, upto, &["--limit", "60", "--crontab", "c"])?;
+    let left = planned(
+        rt.alloc(),
+        &files,
+        upto,
+        &["--limit", "60", "--crontab", "c"],
+    )?;
     assert_eq!(rt; left.status, 0);
     // A moment, two tabs, `cron:1`, `x` and a newline.
     assert_eq!(rt; left.out.len(), 60 * 30);
-    let left = planned(rt.alloc(), &files, upto, &["--limit", "59", "--crontab", "c"])?;
+    let left = planned(
+        rt.alloc(),
+        &files,
+        upto,
+        &["--limit", "59", "--crontab", "c"],
+    )?;
     assert_eq!(rt; left.status, 1);
     assert!(rt; left.out.is_empty());
     assert_eq!(rt; left.err.as_slice(), b"agenda: plan: TooMany\n".as_slice());
@@ -218,7 +235,12 @@ fn sizes_and_limits_that_are_refused(rt: HostRuntime) -> Result<(), Fail> {
     refuses(&rt, &files, &["--room", "0", "--crontab", "c"], size)?;
     refuses(&rt, &files, &["--room", "1025", "--crontab", "c"], size)?;
     refuses(&rt, &files, &["--limit", "0", "--crontab", "c"], limit)?;
-    refuses(&rt, &files, &["--limit", "1000001", "--crontab", "c"], limit)?;
+    refuses(
+        &rt,
+        &files,
+        &["--limit", "1000001", "--crontab", "c"],
+        limit,
+    )?;
     // The size comes before the limit.
     refuses(&rt, &files, &["--limit", "0", "--room", "0"], size)
 }
@@ -261,7 +283,12 @@ fn a_timer_that_is_given_twice(rt: HostRuntime) -> Result<(), Fail> {
     refuses(
         &rt,
         &NIGHTLY,
-        &["--crontab", "crontab", "timers/rot.timer", "timers/rot.timer"],
+        &[
+            "--crontab",
+            "crontab",
+            "timers/rot.timer",
+            "timers/rot.timer",
+        ],
         "agenda: job rot.timer: SameName\n",
     )
 }
