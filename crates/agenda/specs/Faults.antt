@@ -59,7 +59,7 @@ refused_status = 1
 abbrev pub usage_status : ℕ
 usage_status = 2
 
--- memory was refused, or a device or a file failed (own)
+-- memory was refused, a device or a file failed, or what a planner sent can't be told (own)
 abbrev pub failed_status : ℕ
 failed_status = 3
 
@@ -87,6 +87,7 @@ collect_status other = refused_status
 -- a want of memory inside a fault of a plan is a want of memory (own)
 abbrev pub plan_status : PlanFault → ℕ
 plan_status plan.NoMemory = failed_status
+plan_status plan.NotSettled = failed_status
 plan_status (plan.Collect fault) = collect_status fault
 plan_status other = refused_status
 

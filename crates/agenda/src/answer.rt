@@ -20,6 +20,8 @@ use plan_rules::Text;
 use plan_sets::read_moment;
 use std::alloc::Global;
 use std::io::ErrorKind;
+use std::sync::Wait;
+use std::thread::Threads;
 
 // What is wanted of `plan`: the texts of two moments, the paths of its sources, and three numbers.
 #[derive(Drop)]
@@ -43,7 +45,8 @@ const NOT_UTF8: &str = "a word of the command line is not UTF-8\n";
 /// use of the program; 3 where memory was refused, or a device or a file failed.
 ///
 /// The answer goes to `out`. One line of a fault, or the text of usage, goes to `err`.
-pub fn answer_words<F: Files, O: Stream, E: Stream>(
+pub fn answer_words<R: Threads + Wait + Sync, F: Files, O: Stream, E: Stream>(
+    rt: &R,
     alloc: Global,
     words: &[String],
     files: &mut F,
@@ -54,11 +57,12 @@ pub fn answer_words<F: Files, O: Stream, E: Stream>(
         (record { takes_all = O.takes_all; old = O.holds out.old; new = O.holds out.new })
         (record { takes_all = E.takes_all; old = E.holds err.old; new = E.holds err.new }) }
 {
-    answer(alloc, read_words(alloc, words), files, out, err)
+    answer(rt, alloc, read_words(alloc, words), files, out, err)
 }
 
 /// Does what is asked for, as `answer_words` does.
-pub fn answer<F: Files, O: Stream, E: Stream>(
+pub fn answer<R: Threads + Wait + Sync, F: Files, O: Stream, E: Stream>(
+    rt: &R,
     alloc: Global,
     asked: Result<Ask, UsageFault>,
     files: &mut F,
@@ -97,7 +101,7 @@ pub fn answer<F: Files, O: Stream, E: Stream>(
                 room,
                 limit,
             };
-            answer_plan(alloc, &wanted, files, out, err)
+            answer_plan(rt, alloc, &wanted, files, out, err)
         }
         Ok(Ask::Steps { file }) => status_of(steps(alloc, file, files, out), &[], err),
         Err(UsageFault::Help(text)) => status_of(help(&text, out), &[], err),
@@ -121,7 +125,8 @@ pub fn unread_words(alloc: Global, kind: ErrorKind) -> UsageFault
 }
 
 // The answer to `plan`.
-fn answer_plan<F: Files, O: Stream, E: Stream>(
+fn answer_plan<R: Threads + Wait + Sync, F: Files, O: Stream, E: Stream>(
+    rt: &R,
     alloc: Global,
     wanted: &Wanted,
     files: &mut F,
@@ -132,7 +137,7 @@ fn answer_plan<F: Files, O: Stream, E: Stream>(
         (record { takes_all = O.takes_all; old = O.holds out.old; new = O.holds out.new })
         (record { takes_all = E.takes_all; old = E.holds err.old; new = E.holds err.new }) }
 {
-    let done = plan(alloc, wanted, files, out);
+    let done = plan(rt, alloc, wanted, files, out);
     status_of(done, wanted.paths.timers.as_slice(), err)
 }
 
@@ -172,7 +177,8 @@ fn next<S: Stream>(
 }
 
 // The command `plan`.
-fn plan<F: Files, S: Stream>(
+fn plan<R: Threads + Wait + Sync, F: Files, S: Stream>(
+    rt: &R,
     alloc: Global,
     wanted: &Wanted,
     files: &mut F,
@@ -187,6 +193,7 @@ fn plan<F: Files, S: Stream>(
     let sources = read_sources(alloc, files, &wanted.paths)?;
     let (planners, room) = (wanted.planners as usize, wanted.room as usize);
     match run_plan(
+        rt,
         alloc,
         &sources,
         span,

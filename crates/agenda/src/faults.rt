@@ -259,7 +259,8 @@ fn plan_status(fault: PlanFault) -> u8
     ensures { result ≡ plan_status fault }
 {
     match fault {
-        PlanFault::NoMemory | PlanFault::Collect(CollectFault::NoMemory) => FAILED,
+        PlanFault::NoMemory | PlanFault::NotSettled | PlanFault::Collect(CollectFault::NoMemory) =>
+            FAILED,
         _ => REFUSED,
     }
 }

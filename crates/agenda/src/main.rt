@@ -37,10 +37,17 @@ impl Files for HostFiles<'_> {
 fn main(rt: HostRuntime) -> ExitCode {
     let (mut files, mut out, mut err) = (HostFiles(&rt), rt.stdout(), rt.stderr());
     let status = match given_words(&rt) {
-        Ok(words) => answer_words(rt.alloc(), words.as_slice(), &mut files, &mut out, &mut err),
+        Ok(words) => answer_words(
+            &rt,
+            rt.alloc(),
+            words.as_slice(),
+            &mut files,
+            &mut out,
+            &mut err,
+        ),
         Err(fault) => {
             let asked = Err(unread_words(rt.alloc(), fault.kind()));
-            answer(rt.alloc(), asked, &mut files, &mut out, &mut err)
+            answer(&rt, rt.alloc(), asked, &mut files, &mut out, &mut err)
         }
     };
     ExitCode::from(status)

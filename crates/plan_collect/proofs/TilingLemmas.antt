@@ -16,8 +16,8 @@ use Rattle.plan_collect.specs.Span.{Bounds}
 use Rattle.plan_collect.specs.Limits.{most_planners, most_starts}
 use Rattle.plan_collect.specs.Collecting.{Collected, begun, held_from, has_ended, after}
 use Rattle.plan_collect.specs.Tiling.{pieces_within, pieces, parts_from, tiling, starts_in, cut_after, sent_by}
+use Rattle.plan_collect.specs.TilingLaws.{Ends, piece_ends, piece_of_nothing, pieces_last, pieces_more, pieces_one, parts_none, parts_own, parts_other, cut_here, cut_later, cut_none}
 use Rattle.plan_collect.specs.Merging.{AcceptsMergings}
-use Rattle.plan_collect.proofs.PiecesLemmas.{Ends, piece_ends, piece_of_nothing}
 use Rattle.plan_collect.proofs.MergingLemmas.{Fits, Ready, Over, Sends, IsSound, AllOf, merged}
 
 -- a write after a write
@@ -51,19 +51,6 @@ at_job_covering k job rule c upto here =
     let inside = here.inside in
     record { planner = here.planner; own = here.own; known = here.known; early = here.early; inside = omega arith }
 
--- the first of some pieces, and whether others follow
-pieces_last : (seconds : ℕ) (rule : Rule) (since upto : ℕ) → nat_lt (piece_end rule since upto most_starts) upto ≡ false → pieces_within (suc seconds) rule since upto ≡ piece_of rule since upto most_starts ∷ []
-unfolding pieces_within
-pieces_last seconds rule since upto is = rw (is, pieces_within) refl
-
-pieces_more : (seconds : ℕ) (rule : Rule) (since upto : ℕ) → nat_lt (piece_end rule since upto most_starts) upto ≡ true → pieces_within (suc seconds) rule since upto ≡ piece_of rule since upto most_starts ∷ pieces_within seconds rule (piece_end rule since upto most_starts) upto
-unfolding pieces_within
-pieces_more seconds rule since upto is = rw (is, pieces_within) refl
-
-pieces_one : (rule : Rule) (since upto : ℕ) → pieces_within zero rule since upto ≡ piece_of rule since upto most_starts ∷ []
-unfolding pieces_within
-pieces_one rule since upto = refl
-
 -- the pieces of a job fit, one after another, and cover it
 ready_pieces : (seconds k job : ℕ) (rule : Rule) (c : Collected) (from : ℕ) (rest : List Note) → IsAtJob k job rule c → slice_index c.covered job ≡ from → from ≤ c.span.upto → c.span.upto - from ≤ seconds → Ready k (covering c job c.span.upto) rest → Ready k c (map (note.Part job) (pieces_within seconds rule from c.span.upto) ++ rest)
 ready_pieces zero k job rule c from rest here reached part few ready =
@@ -91,18 +78,6 @@ ready_pieces (suc seconds) k job rule c from rest here reached part few ready =
           let all : Ready k c (note.Part job (piece_of rule from c.span.upto most_starts) ∷ rest) = (fits, subst (λ upto. Ready k (covering c job upto) rest) is ready) in
           subst (λ ps. Ready k c (map (note.Part job) ps ++ rest)) (sym (pieces_last seconds rule from c.span.upto stop)) all)
     ]
-
-parts_none : (job k planners : ℕ) (span : Bounds) → parts_from job k planners [] span ≡ []
-unfolding parts_from
-parts_none job k planners span = refl
-
-parts_own : (job k planners : ℕ) (rule : Rule) (rules : List Rule) (span : Bounds) → job % planners ≡ k → parts_from job k planners (rule ∷ rules) span ≡ map (note.Part job) (pieces rule span.since span.upto) ++ parts_from (job + 1) k planners rules span
-unfolding parts_from
-parts_own job k planners rule rules span own = let is : (job % planners == k) ≡ true = eq-eqb _ _ own in rw (is, parts_from) refl
-
-parts_other : (job k planners : ℕ) (rule : Rule) (rules : List Rule) (span : Bounds) → (job % planners ≡ k → ⊥) → parts_from job k planners (rule ∷ rules) span ≡ parts_from (job + 1) k planners rules span
-unfolding parts_from
-parts_other job k planners rule rules span other = let is : (job % planners == k) ≡ false = ne_eqb _ _ other in rw (is, parts_from) refl
 
 -- the planner's jobs before this one are covered, and of those from it on, which have these rules, nothing came
 record IsAt (k job : ℕ) (rules : List Rule) (c : Collected) : Type 0 where
@@ -184,18 +159,6 @@ ready_parts (rule ∷ rules) k job c here =
     ]
 
 -- ---- a tiling that is cut
-
-cut_here : (limit count : ℕ) (note : Note) (notes : List Note) → limit < count + starts_in note → cut_after limit count (note ∷ notes) ≡ note ∷ []
-unfolding cut_after
-cut_here limit count note notes more = let is : nat_lt limit (count + starts_in note) ≡ true = lt-ltb _ _ more in rw (is, cut_after) refl
-
-cut_later : (limit count : ℕ) (note : Note) (notes : List Note) → count + starts_in note ≤ limit → cut_after limit count (note ∷ notes) ≡ note ∷ cut_after limit (count + starts_in note) notes
-unfolding cut_after
-cut_later limit count note notes few = let is : nat_lt limit (count + starts_in note) ≡ false = le-ltb _ _ few in rw (is, cut_after) refl
-
-cut_none : (limit count : ℕ) → cut_after limit count [] ≡ []
-unfolding cut_after
-cut_none limit count = refl
 
 -- notes that fit to the end, cut after the limit, fit, or bring more starts than the limit
 cut_ready : (limit count k : ℕ) (notes : List Note) (c : Collected) → Ready k c notes → Ready k c (cut_after limit count notes) ⊎ Over limit count k c (cut_after limit count notes)

@@ -12,4 +12,5 @@ pub mod Planning
 pub mod Span
 pub mod Texts
 pub mod Tiling
+pub mod TilingLaws
 pub mod Merging

@@ -8,7 +8,7 @@ use Rattle.plan_collect.specs.declared.collector.CollectorFault.{CollectorFault}
 use Rattle.plan_collect.specs.declared.collector.CollectorFault.TheVariants as collector
 use Rattle.plan_collect.specs.Collecting.{Collected}
 use Rattle.plan_collect.specs.declared.serial.PlanFault.{PlanFault}
-use Rattle.plan_collect.specs.declared.serial.PlanFault.TheVariants.{NoMemory, BadSize, Collect, BadLimit}
+use Rattle.plan_collect.specs.declared.serial.PlanFault.TheVariants.{NoMemory, BadSize, Collect, NotSettled, BadLimit}
 use Rattle.plan_collect.specs.Span.{Bounds}
 use Rattle.plan_collect.specs.Limits.{is_limit}
 use Rattle.plan_collect.specs.Agenda.{agenda}
@@ -22,6 +22,7 @@ Plans (Err NoMemory) rules span limit = is_limit limit ≡ true
 Plans (Err BadSize) rules span limit = ⊥
 Plans (Err (Collect fault)) rules span limit =
     (is_limit limit ≡ true) × (fault ≡ TooMany) × (limit < length (agenda rules span))
+Plans (Err NotSettled) rules span limit = ⊥
 Plans (Err BadLimit) rules span limit = is_limit limit ≡ false
 
 -- what a collector's fault is to a plan

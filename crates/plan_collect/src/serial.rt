@@ -30,6 +30,9 @@ pub enum PlanFault {
     /// 3: the collector refused a note, or to finish; never for want of memory, which is `NoMemory`.
     #[error("{0}")]
     Collect(CollectFault),
+    /// 4: what a planner thread sent can't be told.
+    #[error("NotSettled")]
+    NotSettled,
     /// 5: the limit is not 1 to 1,000,000.
     #[error("BadLimit")]
     BadLimit,

@@ -25,10 +25,15 @@ fn command_line(alloc: Global, words: &[&str]) -> Result<Vec<String>, Fail> {
 }
 
 // Runs the words where one file is there.
-fn run_with(alloc: Global, words: &[&str], mut files: OneFile<'_>) -> Result<Left, Fail> {
+fn run_with(
+    rt: &(impl Threads + Wait + Sync + AllocGlobal),
+    words: &[&str],
+    mut files: OneFile<'_>,
+) -> Result<Left, Fail> {
+    let alloc = rt.alloc();
     let line = command_line(alloc, words)?;
     let (mut out, mut err) = (Vec::new(alloc), Vec::new(alloc));
-    let status = answer_words(alloc, line.as_slice(), &mut files, &mut out, &mut err);
+    let status = answer_words(rt, alloc, line.as_slice(), &mut files, &mut out, &mut err);
     Ok(Left {
         status,
         out,
@@ -38,8 +43,8 @@ fn run_with(alloc: Global, words: &[&str], mut files: OneFile<'_>) -> Result<Lef
 }
 
 // Runs the words where no file is there.
-fn run(alloc: Global, words: &[&str]) -> Result<Left, Fail> {
-    run_with(alloc, words, OneFile::new("there is no file", b""))
+fn run(rt: &(impl Threads + Wait + Sync + AllocGlobal), words: &[&str]) -> Result<Left, Fail> {
+    run_with(rt, words, OneFile::new("there is no file", b""))
 }
 
 const NEW_YEAR: &str = "2024-01-01T00:00:00Z";
@@ -96,7 +101,7 @@ fn answers_go_to_standard_output(rt: HostRuntime) -> Result<(), Fail> {
         ),
     ];
     for (words, text) in rows {
-        let left = run(rt.alloc(), words)?;
+        let left = run(&rt, words)?;
         assert_eq!(rt; left.status, 0, "{text}");
         assert_eq!(rt; left.out.as_slice(), text.as_bytes());
         assert!(rt; left.err.is_empty());
@@ -181,7 +186,7 @@ fn faults_go_to_standard_error(rt: HostRuntime) -> Result<(), Fail> {
         ),
     ];
     for (words, line) in rows {
-        let left = run(rt.alloc(), words)?;
+        let left = run(&rt, words)?;
         assert_eq!(rt; left.status, 1, "{line}");
         assert!(rt; left.out.is_empty());
         assert_eq!(rt; left.err.as_slice(), line.as_bytes());
@@ -210,7 +215,7 @@ fn usage_goes_to_standard_error(rt: HostRuntime) -> Result<(), Fail> {
         ),
     ];
     for (words, text) in rows {
-        let left = run(rt.alloc(), words)?;
+        let left = run(&rt, words)?;
         assert_eq!(rt; left.status, 2, "{text}");
         assert!(rt; left.out.is_empty());
         assert_eq!(rt; left.err.as_slice(), text.as_bytes());
@@ -227,7 +232,7 @@ fn usage_goes_to_standard_error(rt: HostRuntime) -> Result<(), Fail> {
         ],
     ];
     for words in refused {
-        let left = run(rt.alloc(), words)?;
+        let left = run(&rt, words)?;
         assert_eq!(rt; left.status, 2, "{words:?}");
         assert!(rt; left.out.is_empty());
         assert!(rt; !left.err.is_empty());
@@ -239,7 +244,7 @@ fn usage_goes_to_standard_error(rt: HostRuntime) -> Result<(), Fail> {
 fn help_goes_to_standard_output(rt: HostRuntime) -> Result<(), Fail> {
     let rows: [&[&str]; 3] = [&["--help"], &["next", "-h"], &["steps", "--help"]];
     for words in rows {
-        let left = run(rt.alloc(), words)?;
+        let left = run(&rt, words)?;
         assert_eq!(rt; left.status, 0, "{words:?}");
         assert!(rt;
             left.out.as_slice().starts_with(b"When") || left.out.as_slice().starts_with(b"Prints")
@@ -256,7 +261,7 @@ fn the_steps_of_a_script(rt: HostRuntime) -> Result<(), Fail> {
     for at_a_call in [1, 2, 4_096] {
         let mut files = OneFile::new("dir/steps.txt", script);
         files.at_a_call = at_a_call;
-        let left = run_with(rt.alloc(), &["steps", "dir/steps.txt"], files)?;
+        let left = run_with(&rt, &["steps", "dir/steps.txt"], files)?;
         assert_eq!(rt; left.status, 0, "{at_a_call}");
         assert_eq!(rt; left.out.as_slice(), text.as_slice());
         assert!(rt; left.err.is_empty());
@@ -276,7 +281,7 @@ fn a_script_that_is_refused(rt: HostRuntime) -> Result<(), Fail> {
         (b"mailbox 1 1\n\xff", "agenda: script: line 0: NotUtf8\n"),
     ];
     for (script, line) in rows {
-        let left = run_with(rt.alloc(), &["steps", "a"], OneFile::new("a", script))?;
+        let left = run_with(&rt, &["steps", "a"], OneFile::new("a", script))?;
         assert_eq!(rt; left.status, 1, "{line}");
         assert!(rt; left.out.is_empty());
         assert_eq!(rt; left.err.as_slice(), line.as_bytes());
@@ -287,14 +292,14 @@ fn a_script_that_is_refused(rt: HostRuntime) -> Result<(), Fail> {
 #[test]
 fn a_file_that_is_missing_or_fails_in_the_middle(rt: HostRuntime) -> Result<(), Fail> {
     let script = b"mailbox 1 1\ntake\n";
-    let left = run_with(rt.alloc(), &["steps", "b c"], OneFile::new("a", script))?;
+    let left = run_with(&rt, &["steps", "b c"], OneFile::new("a", script))?;
     assert_eq!(rt; left.status, 3);
     assert!(rt; left.out.is_empty());
     assert_eq!(rt; left.err.as_slice(), b"agenda: b c: Device\n".as_slice());
     for len in 0..script.len() {
         let mut files = OneFile::new("a", &script[..len]);
         files.fails = true;
-        let left = run_with(rt.alloc(), &["steps", "a"], files)?;
+        let left = run_with(&rt, &["steps", "a"], files)?;
         assert_eq!(rt; left.status, 3, "{len}");
         assert!(rt; left.out.is_empty());
         assert_eq!(rt; left.err.as_slice(), b"agenda: a: Device\n".as_slice());
@@ -309,18 +314,14 @@ fn a_large_script(rt: HostRuntime) -> Result<(), Fail> {
     for _ in script.len()..1_048_576 {
         script.push(b'x')?;
     }
-    let fits = run_with(
-        rt.alloc(),
-        &["steps", "a"],
-        OneFile::new("a", script.as_slice()),
-    )?;
+    let fits = run_with(&rt, &["steps", "a"], OneFile::new("a", script.as_slice()))?;
     assert_eq!(rt; fits.status, 0);
     assert_eq!(rt; fits.out.as_slice(), b"sent\n".as_slice());
     script.push(b'x')?;
     // What comes behind the first byte too many is a fault, which is never met.
     let mut files = OneFile::new("a", script.as_slice());
     files.fails = true;
-    let longer = run_with(rt.alloc(), &["steps", "a"], files)?;
+    let longer = run_with(&rt, &["steps", "a"], files)?;
     assert_eq!(rt; longer.status, 1);
     assert!(rt; longer.out.is_empty());
     assert_eq!(rt;
@@ -348,7 +349,14 @@ fn standard_output_that_fails_at_each_byte(rt: HostRuntime) -> Result<(), Fail> 
             let mut files = OneFile::new("a", script);
             let mut out = LimitedWriter::new(room, 3, End::Error, false);
             let mut err = LimitedWriter::new(128, 128, End::Error, false);
-            let status = answer_words(rt.alloc(), line.as_slice(), &mut files, &mut out, &mut err);
+            let status = answer_words(
+                &rt,
+                rt.alloc(),
+                line.as_slice(),
+                &mut files,
+                &mut out,
+                &mut err,
+            );
             assert_eq!(rt; status, 3, "{room}");
             assert_eq!(rt; out.bytes(), &text[..room]);
             assert_eq!(rt; err.bytes(), b"agenda: Device\n".as_slice());
@@ -378,7 +386,14 @@ fn standard_error_that_fails_at_each_byte(rt: HostRuntime) -> Result<(), Fail> {
             let mut files = OneFile::new("a", b"");
             let mut out = LimitedWriter::new(128, 128, End::Error, false);
             let mut err = LimitedWriter::new(room, 5, End::TakesNothing, false);
-            let status = answer_words(rt.alloc(), words.as_slice(), &mut files, &mut out, &mut err);
+            let status = answer_words(
+                &rt,
+                rt.alloc(),
+                words.as_slice(),
+                &mut files,
+                &mut out,
+                &mut err,
+            );
             assert_eq!(rt; status, wanted, "{room}");
             assert_eq!(rt; out.calls, 0);
             assert_eq!(rt; err.bytes(), &line[..room]);
@@ -402,7 +417,7 @@ fn words_that_are_not_read(rt: HostRuntime) {
         let mut files = OneFile::new("a", b"");
         let mut out = LimitedWriter::new(128, 128, End::Error, false);
         let mut err = LimitedWriter::new(128, 128, End::Error, false);
-        let status = answer(rt.alloc(), asked, &mut files, &mut out, &mut err);
+        let status = answer(&rt, rt.alloc(), asked, &mut files, &mut out, &mut err);
         assert_eq!(rt; status, wanted, "{line}");
         assert_eq!(rt; out.calls, 0);
         assert_eq!(rt; err.bytes(), line.as_bytes());

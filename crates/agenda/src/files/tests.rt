@@ -13,6 +13,17 @@ pub struct LimitedFile<'a> {
     fails: bool,
 }
 
+impl<'a> LimitedFile<'a> {
+    /// A file that gives these bytes, and then ends.
+    pub fn whole(bytes: &'a [u8]) -> LimitedFile<'a> {
+        LimitedFile {
+            bytes,
+            at_a_call: 4_096,
+            fails: false,
+        }
+    }
+}
+
 impl Read for LimitedFile<'_> {
     fn read(&mut self, buffer: &mut [u8]) -> io::Result<usize> {
         let count = self.bytes.len().min(self.at_a_call).min(buffer.len());

@@ -1,7 +1,8 @@
 use super::*;
 use agenda_sources::{Bytes, TimerFile, TimerFiles};
-use plan_collect::CollectFault;
+use plan_collect::{CollectFault, PlanFault};
 use plan_rules::Text;
+use std::process::Abort;
 use std::test::Fail;
 
 // A user's crontab, and timers by their names.
@@ -39,7 +40,16 @@ fn any_number_of_planners_writes_the_same(rt: HostRuntime) -> Result<(), Fail> {
     let sources = nightly(rt.alloc())?;
     for planners in [1, 2, 8] {
         let mut out = Vec::new(rt.alloc());
-        let done = run_plan(rt.alloc(), &sources, new_year()?, 10, planners, 1, &mut out);
+        let done = run_plan(
+            &rt,
+            rt.alloc(),
+            &sources,
+            new_year()?,
+            10,
+            planners,
+            1,
+            &mut out,
+        );
         assert_eq!(rt; done, Ok(()), "{planners}");
         assert_eq!(rt;
             out.as_slice(),
@@ -51,7 +61,7 @@ fn any_number_of_planners_writes_the_same(rt: HostRuntime) -> Result<(), Fail> {
 
 // What a plan of the nightly jobs answers, which writes nothing.
 fn refusal(
-    rt: &(impl std::process::Abort + AllocGlobal),
+    rt: &(impl Threads + Wait + Sync + Abort + AllocGlobal),
     limit: u64,
     planners: usize,
     room: usize,
@@ -59,6 +69,7 @@ fn refusal(
     let sources = nightly(rt.alloc())?;
     let mut out = Vec::new(rt.alloc());
     let done = run_plan(
+        rt,
         rt.alloc(),
         &sources,
         new_year()?,
@@ -90,7 +101,7 @@ fn sizes_and_limits(rt: HostRuntime) -> Result<(), Fail> {
 fn no_jobs_write_nothing(rt: HostRuntime) -> Result<(), Fail> {
     let sources = sources(rt.alloc(), b"# no job\n", &[])?;
     let mut out = Vec::new(rt.alloc());
-    let done = run_plan(rt.alloc(), &sources, new_year()?, 1, 8, 1, &mut out);
+    let done = run_plan(&rt, rt.alloc(), &sources, new_year()?, 1, 8, 1, &mut out);
     assert_eq!(rt; done, Ok(()));
     assert!(rt; out.is_empty());
     Ok(())

@@ -3,11 +3,14 @@
 use super::{Left, command_line};
 use crate::answer::answer_words;
 use crate::files::Files;
+use crate::files::tests::LimitedFile;
 use crate::tests::writers::{End, LimitedWriter};
 use std::alloc::Global;
 use std::io::{self, ErrorKind};
 use std::process::Abort;
+use std::sync::Wait;
 use std::test::Fail;
+use std::thread::Threads;
 
 // Files by their paths.
 #[derive(Drop)]
@@ -19,15 +22,15 @@ struct FewFiles<'a> {
 impl<'a> Files for FewFiles<'a> {
     ghost use Rattle.std.specs.Prelude.{None};
 
-    type File = &'a [u8];
+    type File = LimitedFile<'a>;
 
     ghost held = { λ _ _. None };
 
-    fn open(&mut self, path: &str) -> io::Result<&'a [u8]> {
+    fn open(&mut self, path: &str) -> io::Result<LimitedFile<'a>> {
         self.opened = self.opened.saturating_add(1);
         for (name, bytes) in self.files {
             if *name == path {
-                return Ok(bytes);
+                return Ok(LimitedFile::whole(bytes));
             }
         }
         Err(io::Error::from(ErrorKind::NotFound))
@@ -57,15 +60,16 @@ fn plan_line(alloc: Global, upto: &str, more: &[&str]) -> Result<Vec<String>, Fa
 
 // What a plan from the begin of 2024 up to a moment leaves behind.
 fn planned(
-    alloc: Global,
+    rt: &(impl Threads + Wait + Sync + AllocGlobal),
     files: &[(&str, &[u8])],
     upto: &str,
     more: &[&str],
 ) -> Result<Left, Fail> {
+    let alloc = rt.alloc();
     let line = plan_line(alloc, upto, more)?;
     let mut files = FewFiles { files, opened: 0 };
     let (mut out, mut err) = (Vec::new(alloc), Vec::new(alloc));
-    let status = answer_words(alloc, line.as_slice(), &mut files, &mut out, &mut err);
+    let status = answer_words(rt, alloc, line.as_slice(), &mut files, &mut out, &mut err);
     Ok(Left {
         status,
         out,
@@ -78,12 +82,12 @@ const A_DAY: &str = "2024-01-02T00:00:00Z";
 
 // A plan of a day that prints a text, and opens each path once.
 fn prints(
-    rt: &(impl Abort + AllocGlobal),
+    rt: &(impl Threads + Wait + Sync + Abort + AllocGlobal),
     files: &[(&str, &[u8])],
     more: &[&str],
     text: &str,
 ) -> Result<(), Fail> {
-    let left = planned(rt.alloc(), files, A_DAY, more)?;
+    let left = planned(rt, files, A_DAY, more)?;
     assert_eq!(rt; left.status, 0, "{text}");
     assert_eq!(rt; left.out.as_slice(), text.as_bytes());
     assert!(rt; left.err.is_empty());
@@ -93,12 +97,12 @@ fn prints(
 
 // A plan of a day that is refused.
 fn refuses(
-    rt: &(impl Abort + AllocGlobal),
+    rt: &(impl Threads + Wait + Sync + Abort + AllocGlobal),
     files: &[(&str, &[u8])],
     more: &[&str],
     line: &str,
 ) -> Result<(), Fail> {
-    let left = planned(rt.alloc(), files, A_DAY, more)?;
+    let left = planned(rt, files, A_DAY, more)?;
     assert_eq!(rt; left.status, 1, "{line}");
     assert!(rt; left.out.is_empty());
     assert_eq!(rt; left.err.as_slice(), line.as_bytes());
@@ -143,7 +147,7 @@ fn any_number_of_planners_prints_the_same(rt: HostRuntime) -> Result<(), Fail> {
 #[test]
 fn a_systems_crontab(rt: HostRuntime) -> Result<(), Fail> {
     let left = planned(
-        rt.alloc(),
+        &rt,
         &[("etc", b"17 * * * * root cd / && run-parts x\n")],
         "2024-01-01T02:00:00Z",
         &["--system-crontab", "etc"],
@@ -159,11 +163,11 @@ fn a_systems_crontab(rt: HostRuntime) -> Result<(), Fail> {
 #[test]
 fn a_span_without_a_second(rt: HostRuntime) -> Result<(), Fail> {
     let words = ["--crontab", "crontab"];
-    let left = planned(rt.alloc(), &NIGHTLY, "2024-01-01T00:00:00Z", &words)?;
+    let left = planned(&rt, &NIGHTLY, "2024-01-01T00:00:00Z", &words)?;
     assert_eq!(rt; left.status, 0);
     assert!(rt; left.out.is_empty());
     assert!(rt; left.err.is_empty());
-    let left = planned(rt.alloc(), &NIGHTLY, "2023-12-31T23:59:59Z", &words)?;
+    let left = planned(&rt, &NIGHTLY, "2023-12-31T23:59:59Z", &words)?;
     assert_eq!(rt; left.status, 1);
     assert!(rt; left.out.is_empty());
     assert_eq!(rt;
@@ -177,7 +181,7 @@ fn a_span_without_a_second(rt: HostRuntime) -> Result<(), Fail> {
 #[test]
 fn moments_that_are_refused(rt: HostRuntime) -> Result<(), Fail> {
     let words = ["--crontab", "there is no file"];
-    let left = planned(rt.alloc(), &[], "2024-02-30T00:00:00Z", &words)?;
+    let left = planned(&rt, &[], "2024-02-30T00:00:00Z", &words)?;
     assert_eq!(rt; left.status, 1);
     assert_eq!(rt;
         left.err.as_slice(),
@@ -192,7 +196,14 @@ fn moments_that_are_refused(rt: HostRuntime) -> Result<(), Fail> {
         opened: 0,
     };
     let (mut out, mut err) = (Vec::new(rt.alloc()), Vec::new(rt.alloc()));
-    let status = answer_words(rt.alloc(), line.as_slice(), &mut files, &mut out, &mut err);
+    let status = answer_words(
+        &rt,
+        rt.alloc(),
+        line.as_slice(),
+        &mut files,
+        &mut out,
+        &mut err,
+    );
     assert_eq!(rt; status, 1);
     assert!(rt; out.is_empty());
     assert_eq!(rt; err.as_slice(), b"agenda: since: BadForm\n".as_slice());
@@ -204,21 +215,11 @@ fn moments_that_are_refused(rt: HostRuntime) -> Result<(), Fail> {
 fn limit_60_is_enough_and_59_is_not(rt: HostRuntime) -> Result<(), Fail> {
     let files: [(&str, &[u8]); 1] = [("c", b"* * * * * x\n")];
     let upto = "2024-01-01T01:00:00Z";
-    let left = planned(
-        rt.alloc(),
-        &files,
-        upto,
-        &["--limit", "60", "--crontab", "c"],
-    )?;
+    let left = planned(&rt, &files, upto, &["--limit", "60", "--crontab", "c"])?;
     assert_eq!(rt; left.status, 0);
     // A moment, two tabs, `cron:1`, `x` and a newline.
     assert_eq!(rt; left.out.len(), 60 * 30);
-    let left = planned(
-        rt.alloc(),
-        &files,
-        upto,
-        &["--limit", "59", "--crontab", "c"],
-    )?;
+    let left = planned(&rt, &files, upto, &["--limit", "59", "--crontab", "c"])?;
     assert_eq!(rt; left.status, 1);
     assert!(rt; left.out.is_empty());
     assert_eq!(rt; left.err.as_slice(), b"agenda: plan: TooMany\n".as_slice());
@@ -310,7 +311,7 @@ fn a_thousand_jobs_and_one_more(rt: HostRuntime) -> Result<(), Fail> {
 #[test]
 fn a_file_that_is_missing(rt: HostRuntime) -> Result<(), Fail> {
     let words = ["--crontab", "crontab", "--system-crontab", "a b", "c.timer"];
-    let left = planned(rt.alloc(), &NIGHTLY, A_DAY, &words)?;
+    let left = planned(&rt, &NIGHTLY, A_DAY, &words)?;
     assert_eq!(rt; left.status, 3);
     assert!(rt; left.out.is_empty());
     assert_eq!(rt; left.err.as_slice(), b"agenda: a b: Device\n".as_slice());
@@ -328,7 +329,14 @@ fn standard_output_that_fails_after_ten_bytes(rt: HostRuntime) -> Result<(), Fai
     };
     let mut out = LimitedWriter::new(10, 128, End::Error, false);
     let mut err = LimitedWriter::new(128, 128, End::Error, false);
-    let status = answer_words(rt.alloc(), line.as_slice(), &mut files, &mut out, &mut err);
+    let status = answer_words(
+        &rt,
+        rt.alloc(),
+        line.as_slice(),
+        &mut files,
+        &mut out,
+        &mut err,
+    );
     assert_eq!(rt; status, 3);
     assert_eq!(rt; out.bytes(), b"2024-01-01".as_slice());
     assert_eq!(rt; err.bytes(), b"agenda: Device\n".as_slice());

@@ -1,0 +1,4 @@
+pub mod GatheringLemmas
+pub mod SendingLemmas
+pub mod SettlingLemmas
+pub mod StartLemmas

@@ -1,0 +1,103 @@
+-- What the calling thread of a plan knows of the notes that it took (own).
+use Rattle.std.specs.Prelude.{◌≡◌, ℕ, ◌+◌, ◌<◌, ◌≤◌, Bool, true, false, List, [], ◌∷◌, length, Option, None, Some, slice_get, Result, Ok, Err}
+use Rattle.plan_match.specs.declared.rule.Rule.{Rule}
+use Rattle.plan_collect.specs.declared.note.Note.{Note}
+use Rattle.plan_collect.specs.declared.collector.CollectFault.{CollectFault}
+use Rattle.plan_collect.specs.declared.collector.CollectFault.TheVariants as collect
+use Rattle.plan_collect.specs.declared.collector.CollectFault.TheVariants.{TooMany}
+use Rattle.plan_collect.specs.declared.serial.PlanFault.{PlanFault}
+use Rattle.plan_collect.specs.declared.serial.PlanFault.TheVariants as plan
+use Rattle.plan_collect.specs.Agenda.{agenda, rules_of, IsOfJobs}
+use Rattle.plan_collect.specs.Span.{Bounds}
+use Rattle.plan_collect.specs.Collecting.{Collected, begun, refusal, after, is_complete}
+use Rattle.plan_collect.specs.Merging.{answer_to}
+use Rattle.plan_collect.specs.Tiling.{notes_of, sent_by}
+use Rattle.std.specs.declared.thread.PromisedHandle.{PromisedHandle}
+use Rattle.plan_threads.specs.declared.promise.Sending.{Sending}
+use Rattle.plan_mailbox.specs.declared.outlet.Outlet.{Outlet}
+use Rattle.plan_mailbox.specs.Ends.{Receiving, Ring, Accounts, outlet_of, taken_at, is_settled_at}
+
+-- all notes are of one of so many planners
+abbrev pub AreOf : (planners : ℕ) → List (ℕ × Note) → Type 0
+AreOf planners [] = Unit {0}
+AreOf planners (sent ∷ history) = (sent.0 < planners) × AreOf planners history
+
+-- what came of notes that arrived: all were accepted by the collector, or this was the first refusal; nothing is said where
+-- memory was refused
+abbrev pub Stands : Result Collected CollectFault → Collected → Option CollectFault → Type 0
+Stands answer c None = answer ≡ Ok c
+Stands answer c (Some collect.NoMemory) = Unit {0}
+Stands answer c (Some fault) = answer ≡ Err fault
+
+-- the notes that were taken arrived in some order, and the collector and its first refusal are what comes of it
+pub record IsGathering (planners limit : ℕ) (rules : List Rule) (span : Bounds) (c : Collected) (b : Receiving Note) (refused : Option CollectFault) : Type 0 where
+  pub rules_are : c.rules ≡ rules
+  pub span_is : c.span ≡ span
+  pub limit_is : c.limit ≡ limit
+  pub size_is : length c.ended ≡ planners
+  pub lanes : length b.taken ≡ planners
+  pub rings : length b.rings ≡ planners
+  pub too_many : refused ≡ Some TooMany → limit < length (agenda rules span)
+  pub history : List (ℕ × Note)
+  pub known : AreOf planners history
+  pub each : (k : ℕ) → k < planners → notes_of k history ≡ taken_at b k
+  pub stands : Stands (answer_to (begun rules span planners limit) history) c refused
+
+-- the receipt of sender s was settled, and these messages are what it sent
+abbrev pub IsAccounted : Receiving Note → ℕ → List Note → Type 0
+IsAccounted b s sent = (is_settled_at b s ≡ true) × Accounts b s sent
+
+-- all notes that planner k of this collector's plan sends
+abbrev pub all_notes : Collected → ℕ → List Note
+all_notes c k = sent_by k (length c.ended) c.limit c.rules c.span
+
+-- a thread promises the notes of planner k of the collector's plan, through the ring of sender k
+pub record IsPlanner (c : Collected) (rings : List Ring) (k : ℕ) (promise : Sending) : Type 0 where
+  pub sender : (outlet_of promise.outlet.value).sender ≡ k
+  pub ring : slice_get rings k ≡ Some (outlet_of promise.outlet.value).ring
+  pub planners : promise.planners ≡ length c.ended
+  pub limit : promise.limit ≡ c.limit
+  pub rules : rules_of promise.jobs.value ≡ c.rules
+  pub span : promise.span ≡ c.span
+
+-- these threads are of the planners from k on, in order
+abbrev pub ArePlanners : {T : Type 0} → Collected → List Ring → (k : ℕ) → List (PromisedHandle T Sending) → Type 0
+ArePlanners c rings k [] = Unit {0}
+ArePlanners c rings k (thread ∷ threads) = IsPlanner c rings k thread.promise × ArePlanners c rings (k + 1) threads
+
+-- what a note does to a collector that refused nothing
+abbrev pub Meets : Collected → (planner : ℕ) → Note → Collected → Option CollectFault → Type 0
+Meets c planner note new None = (refusal c planner note ≡ None) × (new ≡ after c planner note)
+Meets c planner note new (Some collect.NoMemory) = new ≡ c
+Meets c planner note new (Some fault) =
+    (refusal c planner note ≡ Some fault) × (new ≡ c) × (fault ≡ TooMany → c.limit < length (agenda c.rules c.span))
+
+-- a note is accepted or refused, and dropped where one was refused before
+abbrev pub Steps : Collected → Option CollectFault → (planner : ℕ) → Note → Collected → Option CollectFault → Type 0
+Steps c None planner note new refused = Meets c planner note new refused
+Steps c (Some fault) planner note new refused = (new ≡ c) × (refused ≡ Some fault)
+
+-- all that was sent came: the collector is complete, or it has no more room, or memory was refused
+abbrev pub IsWhole : Collected → Option CollectFault → Type 0
+IsWhole c None = is_complete c ≡ true
+IsWhole c (Some collect.NoMemory) = Unit {0}
+IsWhole c (Some fault) = (fault ≡ TooMany) × (c.limit < length (agenda c.rules c.span))
+
+-- why threads fail, their notes aside
+abbrev pub IsThreadFault : PlanFault → Type 0
+IsThreadFault plan.NoMemory = Unit {0}
+IsThreadFault plan.NotSettled = Unit {0}
+IsThreadFault fault = ⊥
+
+-- the answer to a plan of good size and limit
+abbrev pub Ends : Result (List (ℕ × ℕ)) PlanFault → List Rule → Bounds → (limit : ℕ) → Type 0
+Ends (Ok entries) rules span limit = (entries ≡ agenda rules span) × (length entries ≤ limit) × IsOfJobs (length rules) entries
+Ends (Err (plan.Collect fault)) rules span limit = (fault ≡ TooMany) × (limit < length (agenda rules span))
+Ends (Err fault) rules span limit = IsThreadFault fault
+
+-- these outlets are those of the senders from k on, in order, and nothing was sent
+abbrev pub AreFresh : List Ring → (k : ℕ) → List (Outlet Note) → Type 0
+AreFresh rings k [] = Unit {0}
+AreFresh rings k (outlet ∷ outlets) =
+    ((outlet_of outlet).sender ≡ k) × (slice_get rings k ≡ Some (outlet_of outlet).ring) × ((outlet_of outlet).sent ≡ [])
+    × AreFresh rings (k + 1) outlets

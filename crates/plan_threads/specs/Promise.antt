@@ -1,0 +1,15 @@
+-- What a planner's thread promises (own).
+use Rattle.std.specs.Prelude.{◌≡◌, Bool, false}
+use Rattle.plan_collect.specs.declared.note.Note.{Note}
+use Rattle.plan_collect.specs.Agenda.{rules_of}
+use Rattle.plan_collect.specs.Tiling.{sent_by}
+use Rattle.plan_mailbox.specs.declared.outlet.Receipt.{Receipt}
+use Rattle.plan_mailbox.specs.Ends.{outlet_of, receipt_of}
+use Rattle.plan_threads.specs.declared.promise.Sending.{Sending}
+
+-- the receipt is that of the outlet, and where memory was not refused it is of all that its sender is to send
+abbrev pub Keeps : Sending → Receipt Note × Bool → Type 0
+Keeps p r =
+    ((receipt_of r.0).sender ≡ (outlet_of p.outlet.value).sender)
+    × ((receipt_of r.0).ring ≡ (outlet_of p.outlet.value).ring)
+    × (r.1 ≡ false → (receipt_of r.0).sent ≡ sent_by (outlet_of p.outlet.value).sender p.planners p.limit (rules_of p.jobs.value) p.span)

@@ -1,0 +1,13 @@
+-- What comes of a planner's sending (own).
+use Rattle.std.specs.Prelude.{ℕ, nat_lt, if◌then◌else◌, List, [], ◌∷◌, ◌++◌}
+use Rattle.plan_collect.specs.declared.note.Note.{Note}
+use Rattle.plan_collect.specs.Tiling.{cut_after}
+use Rattle.plan_mailbox.specs.Ends.{Sending}
+
+-- an outlet after a message was sent
+abbrev pub after_send : {M : Type 0} → Sending M → M → Sending M
+after_send before message = record before { sent = before.sent ++ message ∷ [] }
+
+-- what is sent of these notes, where `count` starts were sent before: nothing where those are more than the limit
+abbrev pub cut_rest : (limit count : ℕ) → List Note → List Note
+cut_rest limit count notes = if nat_lt limit count then [] else cut_after limit count notes

@@ -1,0 +1,189 @@
+//! The calling thread's desk: what it takes from, and what it accepts into.
+
+ghost use Rattle.std.specs.Prelude.{◌≡◌, ◌≢◌, ◌<◌, ◌≤◌, ℕ, List, true, false, length, Some, slice_get, OnOk, IfErr, vec_len};
+ghost use Rattle.plan_match.specs.declared.rule.Rule.{Rule};
+ghost use Rattle.plan_collect.specs.declared.note.Note.{Note};
+ghost use Rattle.plan_collect.specs.Limits.{is_size};
+ghost use Rattle.plan_collect.specs.Span.{Bounds};
+ghost use Rattle.plan_mailbox.specs.Ends.{inlet_of, receipt_of, NothingKnown};
+ghost use Rattle.plan_threads.specs.Gathering.{ArePlanners, Ends, IsAccounted, IsGathering, IsThreadFault, IsWhole, Steps, all_notes};
+
+use crate::promise::Sending;
+use plan_collect::{Agenda, CollectFault, Collector, Note, PlanFault, accepts_every_merging};
+use plan_mailbox::{Inlet, Receipt, takes_what_outlets_sent};
+use std::sync::Wait;
+use std::sync::atomic::AtomicBool;
+use std::sync::atomic::Ordering::SeqCst;
+use std::thread;
+use std::thread::{PromisedHandle, Threads};
+
+/// The thread of a planner.
+pub(crate) type Planner = PromisedHandle<(Receipt<Note>, bool), Sending>;
+
+/// Where the planners' notes arrive.
+#[derive(Drop)]
+pub(crate) struct Desk {
+    pub(crate) inlet: Inlet<Note>,
+    pub(crate) collector: Collector,
+
+    /// Why a note was refused first. The notes that come after it are dropped.
+    pub(crate) refused: Option<CollectFault>,
+}
+
+impl Desk {
+    /// Collects the notes of these planners, who raise these flags at their ends, and makes the agenda of them.
+    ///
+    /// `NoMemory` where memory was refused, or where there are fewer threads than planners; else `NotSettled` where what a
+    /// planner sent can't be told; else `Collect(TooMany)` where the agenda has more entries than the limit.
+    pub(crate) fn collect<R: Threads + Wait>(
+        self,
+        rt: &R,
+        flags: &[AtomicBool],
+        threads: Vec<Planner>,
+        planners: usize,
+    ) -> Result<Agenda, PlanFault>
+        requires size { is_size planners ≡ true }
+        requires planners { planners ≡ length self.collector.ended }
+        requires span { self.collector.span.since ≤ self.collector.span.upto }
+        requires gathers { IsGathering planners self.collector.limit self.collector.rules self.collector.span
+            self.collector (inlet_of self.inlet) self.refused }
+        requires threads { ArePlanners self.collector (inlet_of self.inlet).rings 0 threads.items }
+        ensures { Ends result self.collector.rules self.collector.span self.collector.limit }
+    {
+        accepts_every_merging();
+        let mut desk = self;
+        let started = threads.len();
+        desk.take_until(rt, flags);
+        let settled = desk.settle_all(rt, threads);
+        desk.take_rest(rt);
+        if started < planners {
+            return Err(PlanFault::NoMemory);
+        }
+        desk.finish(settled)
+    }
+
+    // Takes notes until all these flags are up. While none waits it yields the processor.
+    fn take_until<R: Wait>(&mut self, rt: &R, flags: &[AtomicBool])
+        ensures gathers { (planners limit : ℕ) (rules : List Rule) (span : Bounds) →
+            IsGathering planners limit rules span self.old.collector (inlet_of self.old.inlet) self.old.refused →
+            IsGathering planners limit rules span self.new.collector (inlet_of self.new.inlet) self.new.refused }
+        ensures rings { (inlet_of self.new.inlet).rings ≡ (inlet_of self.old.inlet).rings }
+    {
+        for _ in rt.forever() {
+            if flags.iter().all(|flag| flag.load(SeqCst)) {
+                return;
+            }
+            if !self.take() {
+                thread::yield_now();
+            }
+        }
+    }
+
+    // Joins the planners and settles their receipts.
+    //
+    // `NoMemory` where a planner's memory was refused, else `NotSettled` where a receipt did not settle.
+    fn settle_all<R: Threads>(&mut self, rt: &R, planners: Vec<Planner>) -> Result<(), PlanFault>
+        requires { ArePlanners self.old.collector (inlet_of self.old.inlet).rings 0 planners.items }
+        ensures collector { self.new.collector ≡ self.old.collector }
+        ensures refused { self.new.refused ≡ self.old.refused }
+        ensures rings { (inlet_of self.new.inlet).rings ≡ (inlet_of self.old.inlet).rings }
+        ensures taken { (inlet_of self.new.inlet).taken ≡ (inlet_of self.old.inlet).taken }
+        ensures accounts { OnOk result ((k : ℕ) → k < vec_len planners →
+            IsAccounted (inlet_of self.new.inlet) k (all_notes self.old.collector k)) }
+        ensures fault { IfErr result IsThreadFault }
+    {
+        let mut settled = Ok(());
+        for planner in planners {
+            let (receipt, refused) = planner.join(rt);
+            settled = settled.and(self.settle(receipt));
+            if refused {
+                settled = Err(PlanFault::NoMemory);
+            }
+        }
+        settled
+    }
+
+    // Settles the receipt of a planner.
+    fn settle(&mut self, receipt: Receipt<Note>) -> Result<(), PlanFault>
+        requires { slice_get (inlet_of self.old.inlet).rings (receipt_of receipt).sender ≡ Some (receipt_of receipt).ring }
+        ensures collector { self.new.collector ≡ self.old.collector }
+        ensures refused { self.new.refused ≡ self.old.refused }
+        ensures rings { (inlet_of self.new.inlet).rings ≡ (inlet_of self.old.inlet).rings }
+        ensures taken { (inlet_of self.new.inlet).taken ≡ (inlet_of self.old.inlet).taken }
+        ensures accounts { OnOk result
+            (IsAccounted (inlet_of self.new.inlet) (receipt_of receipt).sender (receipt_of receipt).sent) }
+        ensures others { (s : ℕ) (sent : List Note) → s ≢ (receipt_of receipt).sender →
+            IsAccounted (inlet_of self.old.inlet) s sent → IsAccounted (inlet_of self.new.inlet) s sent }
+        ensures fault { IfErr result (λ fault. fault ≡ PlanFault.NotSettled) }
+    {
+        match self.inlet.settle(receipt.sender(), receipt) {
+            Ok(()) => Ok(()),
+            Err(_) => Err(PlanFault::NotSettled),
+        }
+    }
+
+    // Takes all notes that wait.
+    fn take_rest<R: Wait>(&mut self, rt: &R)
+        ensures gathers { (planners limit : ℕ) (rules : List Rule) (span : Bounds) →
+            IsGathering planners limit rules span self.old.collector (inlet_of self.old.inlet) self.old.refused →
+            IsGathering planners limit rules span self.new.collector (inlet_of self.new.inlet) self.new.refused }
+        ensures rings { (inlet_of self.new.inlet).rings ≡ (inlet_of self.old.inlet).rings }
+        ensures accounts { (s : ℕ) (sent : List Note) →
+            IsAccounted (inlet_of self.old.inlet) s sent → IsAccounted (inlet_of self.new.inlet) s sent }
+        ensures none { NothingKnown (inlet_of self.new.inlet) }
+    {
+        for _ in rt.forever() {
+            if !self.take() {
+                return;
+            }
+        }
+    }
+
+    // What comes of the notes, where the receipts were settled so.
+    fn finish(self, settled: Result<(), PlanFault>) -> Result<Agenda, PlanFault>
+        requires fault { IfErr settled IsThreadFault }
+        requires whole { OnOk settled (IsWhole self.collector self.refused) }
+        ensures { Ends result self.collector.rules self.collector.span self.collector.limit }
+    {
+        let refused = self.refused;
+        if refused == Some(CollectFault::NoMemory) {
+            return Err(PlanFault::NoMemory);
+        }
+        settled?;
+        match refused {
+            Some(fault) => Err(PlanFault::Collect(fault)),
+            None => Ok(self.collector.finish()?),
+        }
+    }
+
+    // Takes a note, and tells whether one was there.
+    fn take(&mut self) -> bool
+        ensures gathers { (planners limit : ℕ) (rules : List Rule) (span : Bounds) →
+            IsGathering planners limit rules span self.old.collector (inlet_of self.old.inlet) self.old.refused →
+            IsGathering planners limit rules span self.new.collector (inlet_of self.new.inlet) self.new.refused }
+        ensures rings { (inlet_of self.new.inlet).rings ≡ (inlet_of self.old.inlet).rings }
+        ensures accounts { (s : ℕ) (sent : List Note) →
+            IsAccounted (inlet_of self.old.inlet) s sent → IsAccounted (inlet_of self.new.inlet) s sent }
+        ensures none { result ≡ false → NothingKnown (inlet_of self.new.inlet) }
+    {
+        takes_what_outlets_sent::<Note>();
+        let Some((planner, note)) = self.inlet.try_take() else {
+            return false;
+        };
+        self.accept(planner, note);
+        true
+    }
+
+    // Has the note accepted, unless one was refused before.
+    fn accept(&mut self, planner: usize, note: Note)
+        ensures steps { Steps self.old.collector self.old.refused planner note self.new.collector self.new.refused }
+        ensures inlet { self.new.inlet ≡ self.old.inlet }
+    {
+        if self.refused.is_some() {
+            return;
+        }
+        if let Err(fault) = self.collector.accept(planner, note) {
+            self.refused = Some(fault);
+        }
+    }
+}

@@ -1,0 +1,15 @@
+//! Where planners arrive before they send.
+
+/// Where each planner arrives once, with its number, before its first piece.
+pub trait Gate: Sync {
+    /// Returns when the planner may go on.
+    fn arrive(&self, planner: usize);
+}
+
+/// The gate that lets every planner go on at once.
+#[derive(Clone, Copy, Debug)]
+pub struct NoGate;
+
+impl Gate for NoGate {
+    fn arrive(&self, _planner: usize) {}
+}

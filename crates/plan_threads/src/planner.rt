@@ -1,0 +1,154 @@
+//! A planner: it sends the pieces of its jobs.
+
+ghost use Rattle.std.specs.Prelude.{◌≡◌, ◌<◌, ◌≤◌, ℕ, List, ◌++◌, [], ◌∷◌, map, length, true, false, OnOk, OnErr, IfOk};
+ghost use Rattle.std.specs.Arc.{arc_value};
+ghost use Rattle.plan_collect.specs.declared.note.Note.{Note};
+ghost use Rattle.plan_collect.specs.Agenda.{rules_of};
+ghost use Rattle.plan_collect.specs.Limits.{is_limit, is_size};
+ghost use Rattle.plan_collect.specs.Tiling.{pieces, sent_by};
+ghost use Rattle.plan_mailbox.specs.Ends.{outlet_of, receipt_of};
+ghost use Rattle.plan_mailbox.specs.History.{IsPrefix};
+ghost use Rattle.plan_threads.specs.Sending.{after_send, cut_rest};
+
+use crate::gate::Gate;
+use plan_collect::{Note, PIECE_STARTS, Span};
+use plan_mailbox::{Outlet, Receipt};
+use plan_match::Rule;
+use plan_next::{NoMemory, next_piece};
+use plan_rules::Jobs;
+use std::alloc::Global;
+use std::sync::{Arc, Wait};
+use std::thread;
+
+/// Sends the notes of the outlet's planner, and closes the outlet: for each of its jobs ascending, the pieces that adjoin
+/// over the span, each with at most 1,024 starts and at least one, and then its last note. Job j is that of planner j mod
+/// `planners`. After a piece with which more than `limit` starts were sent, it sends no more.
+///
+/// The receipt stands for what was sent. The other answer is true where memory was refused, which ends the sending early.
+/// A full outlet is tried again, so the function may wait for the receiver. It arrives at the gate first.
+pub fn run_planner<R: Wait, G: Gate>(
+    rt: &R,
+    alloc: Global,
+    jobs: &Jobs,
+    span: Span,
+    limit: u64,
+    planners: usize,
+    gate: &G,
+    outlet: Outlet<Note>,
+) -> (Receipt<Note>, bool)
+    requires size { is_size planners ≡ true }
+    requires limit { is_limit limit ≡ true }
+    requires planner { (outlet_of outlet).sender < planners }
+    requires fresh { (outlet_of outlet).sent ≡ [] }
+    ensures sender { (receipt_of result.0).sender ≡ (outlet_of outlet).sender }
+    ensures ring { (receipt_of result.0).ring ≡ (outlet_of outlet).ring }
+    ensures prefix { IsPrefix (receipt_of result.0).sent
+        (sent_by (outlet_of outlet).sender planners limit (rules_of jobs.now) span) }
+    ensures all { result.1 ≡ false → (receipt_of result.0).sent
+        ≡ sent_by (outlet_of outlet).sender planners limit (rules_of jobs.now) span }
+{
+    gate.arrive(outlet.sender());
+    let mut outlet = outlet;
+    let refused = match send_notes(rt, alloc, jobs, span, limit, planners, &mut outlet) {
+        Ok(()) => false,
+        Err(NoMemory) => true,
+    };
+    (outlet.close(), refused)
+}
+
+// Sends all notes of the outlet's planner.
+fn send_notes<R: Wait>(
+    rt: &R,
+    alloc: Global,
+    jobs: &Jobs,
+    span: Span,
+    limit: u64,
+    planners: usize,
+    outlet: &mut Outlet<Note>,
+) -> Result<(), NoMemory>
+    requires size { is_size planners ≡ true }
+    requires limit { is_limit limit ≡ true }
+    requires fresh { (outlet_of outlet.old).sent ≡ [] }
+    ensures sender { (outlet_of outlet.new).sender ≡ (outlet_of outlet.old).sender }
+    ensures ring { (outlet_of outlet.new).ring ≡ (outlet_of outlet.old).ring }
+    ensures all { OnOk result ((outlet_of outlet.new).sent
+        ≡ sent_by (outlet_of outlet.old).sender planners limit (rules_of jobs.now) span) }
+    ensures prefix { OnErr result (IsPrefix (outlet_of outlet.new).sent
+        (sent_by (outlet_of outlet.old).sender planners limit (rules_of jobs.now) span)) }
+{
+    let planner = outlet.sender();
+    let mut count = 0;
+    for number in 0..jobs.len() {
+        if number % planners != planner {
+            continue;
+        }
+        if let Some(job) = jobs.get(number) {
+            count = send_job(
+                rt,
+                alloc,
+                number as u32,
+                job.rule(),
+                span,
+                limit,
+                count,
+                outlet,
+            )?;
+        }
+        if count > limit {
+            return Ok(());
+        }
+    }
+    send(rt, outlet, Note::Last);
+    Ok(())
+}
+
+// Sends the pieces of a job, up to one with which more than `limit` starts were sent, where `count` were sent before. Answers
+// how many were sent then.
+fn send_job<R: Wait>(
+    rt: &R,
+    alloc: Global,
+    job: u32,
+    rule: &Arc<Rule>,
+    span: Span,
+    limit: u64,
+    count: u64,
+    outlet: &mut Outlet<Note>,
+) -> Result<u64, NoMemory>
+    requires limit { is_limit limit ≡ true }
+    requires few { count ≤ limit }
+    ensures sender { (outlet_of outlet.new).sender ≡ (outlet_of outlet.old).sender }
+    ensures ring { (outlet_of outlet.new).ring ≡ (outlet_of outlet.old).ring }
+
+    // Whatever notes come after the job's.
+    ensures all { IfOk result (λ reached. (rest : List Note) →
+        (outlet_of outlet.old).sent ++ cut_rest limit count (map (Note.Part job) (pieces (arc_value rule.now) span.since span.upto) ++ rest)
+        ≡ (outlet_of outlet.new).sent ++ cut_rest limit reached rest) }
+    ensures prefix { OnErr result ((rest : List Note) → IsPrefix (outlet_of outlet.new).sent
+        ((outlet_of outlet.old).sent ++ cut_rest limit count (map (Note.Part job) (pieces (arc_value rule.now) span.since span.upto) ++ rest))) }
+{
+    let mut since = span.since();
+    let mut reached = count;
+    loop {
+        let piece = next_piece(alloc, rule, since, span.upto(), PIECE_STARTS)?;
+        since = piece.upto();
+        reached += piece.starts().len() as u64;
+        send(rt, outlet, Note::Part(job, piece));
+        if reached > limit || since >= span.upto() {
+            return Ok(reached);
+        }
+    }
+}
+
+// Sends the note, and tries a full outlet again.
+fn send<R: Wait>(rt: &R, outlet: &mut Outlet<Note>, note: Note)
+    ensures { outlet_of outlet.new ≡ after_send (outlet_of outlet.old) note }
+{
+    let mut note = note;
+    for _ in rt.forever() {
+        match outlet.try_send(note) {
+            Ok(()) => return,
+            Err(back) => note = back,
+        }
+        thread::yield_now();
+    }
+}

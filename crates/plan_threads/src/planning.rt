@@ -1,0 +1,198 @@
+//! A plan by several planners, each in a thread of its own.
+
+ghost use Rattle.std.specs.Prelude.{◌≡◌, ◌<◌, ◌≤◌, true, false, [], length, IfOk, IfErr, vec_len};
+ghost use Rattle.plan_collect.specs.Agenda.{IsOfJobs, rules_of};
+ghost use Rattle.plan_collect.specs.Collecting.{begun};
+ghost use Rattle.plan_collect.specs.Limits.{is_limit, is_size};
+ghost use Rattle.plan_collect.specs.Tiling.{sent_by};
+ghost use Rattle.plan_mailbox.specs.Ends.{inlet_of, outlet_of, receipt_of};
+ghost use Rattle.plan_mailbox.specs.Mailbox.{is_size as is_mailbox_size};
+ghost use Rattle.plan_threads.specs.Gathering.{AreFresh, Ends, IsGathering};
+ghost use Rattle.plan_threads.specs.Planning.{PlansBy};
+
+use crate::desk::Desk;
+use crate::gate::Gate;
+use crate::planner::run_planner;
+use crate::promise::Sending;
+use plan_collect::{Agenda, Collector, MOST_ENTRIES, MOST_PLANNERS, Note, PlanFault, Span};
+use plan_mailbox::{MOST_ROOM, Outlet, Receipt, Rings};
+use plan_rules::Jobs;
+use std::alloc::Global;
+use std::snapshot::Snapshot;
+use std::sync::Wait;
+use std::sync::atomic::AtomicBool;
+use std::sync::atomic::Ordering::SeqCst;
+use std::thread;
+use std::thread::Threads;
+
+/// The agenda of jobs over a span, if it has at most `limit` entries: the work of 1 to 8 planners, each in a thread of its own,
+/// each with room for 1 to 1,024 notes, and of the calling thread, which collects their notes. It waits for them.
+///
+/// Faults, the first of these: `BadSize` for other numbers of planners or another room; `BadLimit` for a limit other than 1 to
+/// 1,000,000; `NoMemory` where memory was refused or a thread could not be started; `NotSettled` where what a planner sent
+/// can't be told; `Collect(TooMany)` where the agenda has more entries than the limit.
+pub fn plan<R: Threads + Wait + Sync, G: Gate>(
+    rt: &R,
+    alloc: Global,
+    jobs: &Jobs,
+    span: Span,
+    limit: u64,
+    gate: &G,
+    planners: usize,
+    room: usize,
+) -> Result<Agenda, PlanFault>
+    ensures planned { PlansBy result (rules_of jobs.now) span limit planners room }
+    ensures jobs { IfOk result (IsOfJobs (length jobs.now)) }
+{
+    if planners < 1 || planners > MOST_PLANNERS || room < 1 || room > MOST_ROOM {
+        return Err(PlanFault::BadSize);
+    }
+    if limit < 1 || limit > MOST_ENTRIES {
+        return Err(PlanFault::BadLimit);
+    }
+    let (outlets, desk) = set_up(alloc, jobs, span, limit, planners, room)?;
+    run_threads(rt, alloc, jobs, span, limit, gate, planners, outlets, desk)
+}
+
+// Runs the planners of these outlets, each in a thread of its own, and collects their notes at the desk.
+fn run_threads<R: Threads + Wait + Sync, G: Gate>(
+    rt: &R,
+    alloc: Global,
+    jobs: &Jobs,
+    span: Span,
+    limit: u64,
+    gate: &G,
+    planners: usize,
+    outlets: Vec<Outlet<Note>>,
+    desk: Desk,
+) -> Result<Agenda, PlanFault>
+    requires size { is_size planners ≡ true }
+    requires limit { is_limit limit ≡ true }
+    requires outlets { AreFresh (inlet_of desk.inlet).rings 0 outlets.items }
+    requires as_many { vec_len outlets ≡ planners }
+    requires begun { desk.collector ≡ begun (rules_of jobs.now) span planners limit }
+    requires gathers { IsGathering planners limit (rules_of jobs.now) span desk.collector (inlet_of desk.inlet) desk.refused }
+    ensures { Ends result (rules_of jobs.now) span limit }
+{
+    let flags = new_flags();
+    let flags = &flags;
+    thread::scope(
+        thread::scope_env(),
+        rt,
+        move |scope| -> Result<Agenda, PlanFault>
+            requires size { is_size planners ≡ true }
+            requires limit { is_limit limit ≡ true }
+            requires outlets { AreFresh (inlet_of desk.inlet).rings 0 outlets.items }
+            requires as_many { vec_len outlets ≡ planners }
+            requires begun { desk.collector ≡ begun (rules_of jobs.now) span planners limit }
+            requires gathers { IsGathering planners limit (rules_of jobs.now) span desk.collector (inlet_of desk.inlet) desk.refused }
+            ensures { Ends result (rules_of jobs.entry.now) span limit }
+        {
+            let Ok(mut threads) = Vec::with_capacity(alloc, planners) else {
+                return Err(PlanFault::NoMemory);
+            };
+            for outlet in outlets {
+                let flag = &flags[threads.len()];
+                let promise = Sending {
+                    outlet: Snapshot::of(&outlet),
+                    jobs: Snapshot::of(jobs),
+                    span,
+                    limit,
+                    planners,
+                };
+                let work = move || -> (Receipt<Note>, bool)
+                    requires size { is_size planners ≡ true }
+                    requires limit { is_limit limit ≡ true }
+                    requires planner { (outlet_of outlet).sender < planners }
+                    requires fresh { (outlet_of outlet).sent ≡ [] }
+                    ensures sender { (receipt_of result.0).sender ≡ (outlet_of outlet).sender }
+                    ensures ring { (receipt_of result.0).ring ≡ (outlet_of outlet).ring }
+                    ensures all { result.1 ≡ false → (receipt_of result.0).sent
+                        ≡ sent_by (outlet_of outlet).sender planners limit (rules_of jobs.entry.now) span }
+                { send_all(rt, alloc, jobs, span, limit, planners, gate, outlet, flag) };
+                match scope.spawn_with(promise, work) {
+                    Ok(thread) => threads.push_reserved(thread),
+                    Err(_) => break,
+                }
+            }
+            let started = threads.len();
+            desk.collect(rt, &flags[..started], threads, planners)
+        },
+    )
+}
+
+// The outlets of the planners, and a desk that nothing came to.
+fn set_up(
+    alloc: Global,
+    jobs: &Jobs,
+    span: Span,
+    limit: u64,
+    planners: usize,
+    room: usize,
+) -> Result<(Vec<Outlet<Note>>, Desk), PlanFault>
+    requires size { is_size planners ≡ true }
+    ensures outlets { IfOk result (λ made. AreFresh (inlet_of made.1.inlet).rings 0 made.0.items) }
+    ensures as_many { IfOk result (λ made. vec_len made.0 ≡ planners) }
+    ensures begun { IfOk result (λ made. made.1.collector ≡ begun (rules_of jobs.now) span planners limit) }
+    ensures gathers { IfOk result (λ made. IsGathering planners limit (rules_of jobs.now) span
+        made.1.collector (inlet_of made.1.inlet) made.1.refused) }
+    ensures memory { IfErr result (λ fault. fault ≡ PlanFault.NoMemory) }
+{
+    let Ok(collector) = Collector::new(alloc, jobs, span, planners, limit) else {
+        return Err(PlanFault::NoMemory);
+    };
+    let Ok(rings) = Rings::new(alloc, planners, room) else {
+        return Err(PlanFault::NoMemory);
+    };
+    let Ok((outlets, inlet)) = rings.split(alloc) else {
+        return Err(PlanFault::NoMemory);
+    };
+    Ok((
+        outlets,
+        Desk {
+            inlet,
+            collector,
+            refused: None,
+        },
+    ))
+}
+
+// The end flag of each planner, which is down.
+fn new_flags() -> [AtomicBool; MOST_PLANNERS] {
+    [
+        AtomicBool::new(false),
+        AtomicBool::new(false),
+        AtomicBool::new(false),
+        AtomicBool::new(false),
+        AtomicBool::new(false),
+        AtomicBool::new(false),
+        AtomicBool::new(false),
+        AtomicBool::new(false),
+    ]
+}
+
+// Runs a planner, and then raises its end flag.
+fn send_all<R: Wait, G: Gate>(
+    rt: &R,
+    alloc: Global,
+    jobs: &Jobs,
+    span: Span,
+    limit: u64,
+    planners: usize,
+    gate: &G,
+    outlet: Outlet<Note>,
+    flag: &AtomicBool,
+) -> (Receipt<Note>, bool)
+    requires size { is_size planners ≡ true }
+    requires limit { is_limit limit ≡ true }
+    requires planner { (outlet_of outlet).sender < planners }
+    requires fresh { (outlet_of outlet).sent ≡ [] }
+    ensures sender { (receipt_of result.0).sender ≡ (outlet_of outlet).sender }
+    ensures ring { (receipt_of result.0).ring ≡ (outlet_of outlet).ring }
+    ensures all { result.1 ≡ false → (receipt_of result.0).sent
+        ≡ sent_by (outlet_of outlet).sender planners limit (rules_of jobs.now) span }
+{
+    let sent = run_planner(rt, alloc, jobs, span, limit, planners, gate, outlet);
+    flag.store(true, SeqCst);
+    sent
+}

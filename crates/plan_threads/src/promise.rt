@@ -1,0 +1,25 @@
+//! What a planner's thread promises.
+
+ghost use Rattle.std.specs.Prelude.{◌≡◌, false};
+
+use plan_collect::{Note, Span};
+use plan_mailbox::{Outlet, Receipt};
+use plan_rules::Jobs;
+use std::snapshot::Snapshot;
+use std::thread::Promise;
+
+/// That the planner of this outlet sends its notes of the plan, unless memory is refused.
+#[derive(Drop)]
+pub(crate) struct Sending {
+    pub(crate) outlet: Snapshot<Outlet<Note>>,
+    pub(crate) jobs: Snapshot<Jobs>,
+    pub(crate) span: Span,
+    pub(crate) limit: u64,
+    pub(crate) planners: usize,
+}
+
+impl Promise<(Receipt<Note>, bool)> for Sending {
+    ghost use Rattle.plan_threads.specs.Promise.{Keeps};
+
+    ghost kept_by = { Keeps };
+}
