@@ -2,6 +2,8 @@
 //! they find and no time.
 #![tactic(auto)]
 
+mod plans;
+
 use anyhow::{Result, bail};
 use plan_next::{next_piece, next_start};
 use plan_rules::{MOST_EVENTS, Rule, cron_rule, timer};
@@ -73,7 +75,10 @@ struct Part {
 
 fn main(rt: HostRuntime) -> Result<()> {
     match env::args(&rt)?.nth(1) {
-        None => measure(&rt),
+        None => {
+            measure(&rt)?;
+            plans::measure_plans(&rt)
+        }
         Some(word) if word.as_str() == "check" => check(&rt),
         Some(word) => bail!("no word but `check` is known: {}", word.as_str()),
     }
