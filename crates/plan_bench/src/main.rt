@@ -3,6 +3,7 @@
 #![tactic(auto)]
 
 mod plans;
+mod rings;
 
 use anyhow::{Result, bail};
 use plan_next::{next_piece, next_start};
@@ -77,7 +78,8 @@ fn main(rt: HostRuntime) -> Result<()> {
     match env::args(&rt)?.nth(1) {
         None => {
             measure(&rt)?;
-            plans::measure_plans(&rt)
+            plans::measure_plans(&rt)?;
+            rings::measure_rings(&rt)
         }
         Some(word) if word.as_str() == "check" => check(&rt),
         Some(word) => bail!("no word but `check` is known: {}", word.as_str()),
