@@ -74,7 +74,7 @@ abbrev pub plan_line : PlanFault → List ℕ
 plan_line plan.NoMemory = memory_line
 plan_line plan.BadSize = codes "agenda: plan: BadSize\n"
 plan_line (plan.Collect fault) = collect_line fault
-plan_line plan.NotSettled = codes "agenda: NotSettled\n"
+plan_line (plan.NotSettled unsettled) = codes "agenda: NotSettled\n"
 plan_line plan.BadLimit = codes "agenda: plan: BadLimit\n"
 
 -- a command that was not done, with the paths of the timers of a plan

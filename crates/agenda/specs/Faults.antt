@@ -87,7 +87,7 @@ collect_status other = refused_status
 -- a want of memory inside a fault of a plan is a want of memory (own)
 abbrev pub plan_status : PlanFault → ℕ
 plan_status plan.NoMemory = failed_status
-plan_status plan.NotSettled = failed_status
+plan_status (plan.NotSettled unsettled) = failed_status
 plan_status (plan.Collect fault) = collect_status fault
 plan_status other = refused_status
 

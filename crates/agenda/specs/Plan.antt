@@ -40,7 +40,7 @@ RefusesJobs plan.BadSize jobs span limit planners room = is_size planners room �
 RefusesJobs plan.BadLimit jobs span limit planners room = (is_size planners room ≡ true) × (is_limit limit ≡ false)
 RefusesJobs (plan.Collect collect.TooMany) jobs span limit planners room =
     (is_size planners room ≡ true) × (is_limit limit ≡ true) × (limit < length (agenda (rules_of jobs) span))
-RefusesJobs plan.NotSettled jobs span limit planners room = (is_size planners room ≡ true) × (is_limit limit ≡ true)
+RefusesJobs (plan.NotSettled unsettled) jobs span limit planners room = (is_size planners room ≡ true) × (is_limit limit ≡ true)
 RefusesJobs other jobs span limit planners room = ⊥
 
 -- when each fault of a plan comes, and what was written: the sources are read first, then their jobs are planned

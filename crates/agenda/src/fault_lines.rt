@@ -121,7 +121,7 @@ fn put_plan_fault<S: Stream>(fault: PlanFault, stream: &mut S) -> Result<(), Wri
         PlanFault::NoMemory => stream.put(MEMORY_LINE),
         PlanFault::BadSize => stream.put(b"agenda: plan: BadSize\n"),
         PlanFault::Collect(fault) => put_collect_fault(fault, stream),
-        PlanFault::NotSettled => stream.put(b"agenda: NotSettled\n"),
+        PlanFault::NotSettled(_) => stream.put(b"agenda: NotSettled\n"),
         PlanFault::BadLimit => stream.put(b"agenda: plan: BadLimit\n"),
     }
 }

@@ -259,7 +259,7 @@ fn plan_status(fault: PlanFault) -> u8
     ensures { result ≡ plan_status fault }
 {
     match fault {
-        PlanFault::NoMemory | PlanFault::NotSettled | PlanFault::Collect(CollectFault::NoMemory) =>
+        PlanFault::NoMemory | PlanFault::NotSettled(_) | PlanFault::Collect(CollectFault::NoMemory) =>
             FAILED,
         _ => REFUSED,
     }

@@ -137,7 +137,7 @@ plan_stopped c rules span limit (plan.Collect fault) own whole most good fails =
     let all : length (agenda c.rules c.span) ≡ length (agenda rules span) = (λ i. length (agenda (own i) (whole i))) in
     let more = fails.1 in
     (good, fails.0, omega arith)
-plan_stopped c rules span limit plan.NotSettled own whole most good fails = absurd fails
+plan_stopped c rules span limit (plan.NotSettled unsettled) own whole most good fails = absurd fails
 plan_stopped c rules span limit plan.BadLimit own whole most good fails = absurd fails
 
 pub err_not_ok : {T E : Type 0} (e : E) (x : T) → Err e ≡ Ok x → ⊥

@@ -22,7 +22,7 @@ Plans (Err NoMemory) rules span limit = is_limit limit ≡ true
 Plans (Err BadSize) rules span limit = ⊥
 Plans (Err (Collect fault)) rules span limit =
     (is_limit limit ≡ true) × (fault ≡ TooMany) × (limit < length (agenda rules span))
-Plans (Err NotSettled) rules span limit = ⊥
+Plans (Err (NotSettled unsettled)) rules span limit = ⊥
 Plans (Err BadLimit) rules span limit = is_limit limit ≡ false
 
 -- what a collector's fault is to a plan

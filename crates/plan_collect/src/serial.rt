@@ -11,6 +11,7 @@ use crate::agenda::Agenda;
 use crate::collector::{CollectFault, Collector, CollectorFault};
 use crate::note::{Note, PIECE_STARTS};
 use crate::span::Span;
+use plan_mailbox::NotSettled;
 use plan_match::Rule;
 use plan_next::{NoMemory, Piece, next_piece};
 use plan_rules::Jobs;
@@ -30,9 +31,9 @@ pub enum PlanFault {
     /// 3: the collector refused a note, or to finish; never for want of memory, which is `NoMemory`.
     #[error("{0}")]
     Collect(CollectFault),
-    /// 4: what a planner thread sent can't be told.
-    #[error("NotSettled")]
-    NotSettled,
+    /// 4: what a planner thread sent can't be told, which `Inlet::settle` alone says.
+    #[error("{0}")]
+    NotSettled(NotSettled),
     /// 5: the limit is not 1 to 1,000,000.
     #[error("BadLimit")]
     BadLimit,
@@ -76,6 +77,17 @@ impl From<CollectFault> for PlanFault {
             CollectFault::NoMemory => PlanFault::NoMemory,
             fault => PlanFault::Collect(fault),
         }
+    }
+}
+
+impl From<NotSettled> for PlanFault {
+    ghost use Rattle.std.specs.Prelude.{◌≡◌};
+    ghost use Rattle.plan_collect.specs.declared.serial.PlanFault.TheVariants.{NotSettled};
+
+    ghost from_gives = { λ unsettled fault. fault ≡ NotSettled unsettled };
+
+    fn from(unsettled: NotSettled) -> PlanFault {
+        PlanFault::NotSettled(unsettled)
     }
 }
 

@@ -13,7 +13,7 @@ use Rattle.plan_mailbox.specs.declared.outlet.Receipt.{Receipt}
 use Rattle.plan_mailbox.specs.Ends.{Receiving, Ring, receipt_of}
 use Rattle.plan_threads.specs.declared.promise.Sending.{Sending}
 use Rattle.plan_threads.specs.Promise.{Keeps}
-use Rattle.plan_threads.specs.Gathering.{ArePlanners, IsAccounted, IsPlanner, IsThreadFault, all_notes}
+use Rattle.plan_threads.specs.Gathering.{ArePlanners, IsAccounted, IsPlanner, IsThreadFault, IsUnsettled, all_notes}
 
 pub planner_ring : (c : Collected) (rings : List Ring) (k : ℕ) (p : Sending) (r : Receipt Note × Bool) → IsPlanner c rings k p → Keeps p r → slice_get rings (receipt_of r.0).sender ≡ Some (receipt_of r.0).ring
 planner_ring c rings k p r is keeps = ap (slice_get rings) (keeps.0 ∙ is.sender) ∙ is.ring ∙ ap Some (sym keeps.1)
@@ -34,7 +34,11 @@ and_ok (Ok x) (Ok y) A B C a b go = go a b
 and_ok (Ok x) (Err f) A B C a b go = tt
 and_ok (Err f) second A B C a b go = tt
 
-pub and_err : (first second : Result (Unit {0}) PlanFault) → IfErr first IsThreadFault → IfErr second (λ fault. fault ≡ plan.NotSettled) → IfErr (result_and first second) IsThreadFault
+pub and_err : (first second : Result (Unit {0}) PlanFault) → IfErr first IsThreadFault → IfErr second IsUnsettled → IfErr (result_and first second) IsThreadFault
 and_err (Ok x) (Ok y) a b = tt
-and_err (Ok x) (Err f) a b = subst IsThreadFault (sym b) tt
+and_err (Ok x) (Err (plan.NotSettled unsettled)) a b = tt
+and_err (Ok x) (Err plan.NoMemory) a b = tt
+and_err (Ok x) (Err plan.BadSize) a b = absurd b
+and_err (Ok x) (Err (plan.Collect fault)) a b = absurd b
+and_err (Ok x) (Err plan.BadLimit) a b = absurd b
 and_err (Err f) second a b = a

@@ -18,5 +18,5 @@ PlansBy (Err NoMemory) rules span limit planners room = (is_size planners room �
 PlansBy (Err BadSize) rules span limit planners room = is_size planners room ≡ false
 PlansBy (Err (Collect fault)) rules span limit planners room =
     (is_size planners room ≡ true) × (is_limit limit ≡ true) × (fault ≡ TooMany) × (limit < length (agenda rules span))
-PlansBy (Err NotSettled) rules span limit planners room = (is_size planners room ≡ true) × (is_limit limit ≡ true)
+PlansBy (Err (NotSettled unsettled)) rules span limit planners room = (is_size planners room ≡ true) × (is_limit limit ≡ true)
 PlansBy (Err BadLimit) rules span limit planners room = (is_size planners room ≡ true) × (is_limit limit ≡ false)

@@ -6,7 +6,7 @@ ghost use Rattle.plan_collect.specs.declared.note.Note.{Note};
 ghost use Rattle.plan_collect.specs.Limits.{is_size};
 ghost use Rattle.plan_collect.specs.Span.{Bounds};
 ghost use Rattle.plan_mailbox.specs.Ends.{inlet_of, receipt_of, NothingKnown};
-ghost use Rattle.plan_threads.specs.Gathering.{ArePlanners, Ends, IsAccounted, IsGathering, IsThreadFault, IsWhole, Steps, all_notes};
+ghost use Rattle.plan_threads.specs.Gathering.{ArePlanners, Ends, IsAccounted, IsGathering, IsThreadFault, IsUnsettled, IsWhole, Steps, all_notes};
 
 use crate::promise::Sending;
 use plan_collect::{Agenda, CollectFault, Collector, Note, PlanFault, accepts_every_merging};
@@ -114,12 +114,9 @@ impl Desk {
             (IsAccounted (inlet_of self.new.inlet) (receipt_of receipt).sender (receipt_of receipt).sent) }
         ensures others { (s : ℕ) (sent : List Note) → s ≢ (receipt_of receipt).sender →
             IsAccounted (inlet_of self.old.inlet) s sent → IsAccounted (inlet_of self.new.inlet) s sent }
-        ensures fault { IfErr result (λ fault. fault ≡ PlanFault.NotSettled) }
+        ensures fault { IfErr result IsUnsettled }
     {
-        match self.inlet.settle(receipt.sender(), receipt) {
-            Ok(()) => Ok(()),
-            Err(_) => Err(PlanFault::NotSettled),
-        }
+        Ok(self.inlet.settle(receipt.sender(), receipt)?)
     }
 
     // Takes all notes that wait.

@@ -127,15 +127,6 @@ fn an_agenda_over_the_limit_is_refused(rt: HostRuntime) -> Result<(), Fail> {
     Ok(())
 }
 
-#[test]
-fn a_plan_that_did_not_settle_shows_its_name(rt: HostRuntime) -> Result<(), Fail> {
-    assert_eq!(rt;
-        PlanFault::NotSettled.to_string(rt.alloc())?.as_str(),
-        "NotSettled"
-    );
-    Ok(())
-}
-
 // A gate at which each of two planners waits a while for the other.
 #[derive(Drop)]
 struct Meeting {
