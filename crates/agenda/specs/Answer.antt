@@ -68,7 +68,8 @@ DoesPlan held wanted old new =
 abbrev pub FailsPlan : Bool → Held → Wanted → Failure → (old new : Option (List ℕ)) → Type 0
 FailsPlan takes_all held wanted (File path) old new =
     (span : Bounds) × IsSpan wanted.since wanted.upto span × IsGiven wanted.paths path × Keeps old new
-FailsPlan takes_all held wanted (Run run.NoMemory) old new = Keeps old new
+FailsPlan takes_all held wanted (Run run.NoMemory) old new =
+    (span : Bounds) × IsSpan wanted.since wanted.upto span × Keeps old new
 FailsPlan takes_all held wanted (Run fault) old new =
     (span : Bounds) × (sources : Sources) × IsSpan wanted.since wanted.upto span × MakesSources held wanted.paths sources
     × RefusesPlan takes_all fault sources span wanted.limit wanted.planners wanted.room old new
