@@ -259,8 +259,9 @@ fn plan_status(fault: PlanFault) -> u8
     ensures { result ≡ plan_status fault }
 {
     match fault {
-        PlanFault::NoMemory | PlanFault::NotSettled(_) | PlanFault::Collect(CollectFault::NoMemory) =>
-            FAILED,
+        PlanFault::NoMemory
+        | PlanFault::NotSettled(_)
+        | PlanFault::Collect(CollectFault::NoMemory) => FAILED,
         _ => REFUSED,
     }
 }
