@@ -4,13 +4,13 @@ use Rattle.std.specs.Io.KnownBytes.{Keeps}
 use Rattle.plan_collect.specs.Stream.{PutsOrBreaksOff}
 use Rattle.std.proofs.KnownBytes.{Keeps-refl}
 use Rattle.agenda_words.specs.declared.UsageFault.TheVariants as usage
-use Rattle.agenda.specs.declared.faults.RunFault.TheVariants as run
-use Rattle.agenda.specs.declared.faults.Failure.TheVariants.{Usage, Run}
-use Rattle.agenda.specs.declared.faults.Failure.{Failure}
+use Rattle.agenda_faults.specs.declared.faults.RunFault.TheVariants as run
+use Rattle.agenda_faults.specs.declared.faults.Failure.TheVariants.{Usage, Run}
+use Rattle.agenda_faults.specs.declared.faults.Failure.{Failure}
 use Rattle.agenda.specs.declared.answer.Wanted.{Wanted}
 use Rattle.agenda.specs.Files.{Held}
-use Rattle.agenda.specs.FaultLines.{fault_text}
-use Rattle.agenda.specs.Faults.{status_of}
+use Rattle.agenda_faults.specs.FaultLines.{fault_text}
+use Rattle.agenda_faults.specs.Faults.{status_of}
 use Rattle.agenda.specs.Answer.{Answers, DoesPlan, FailsPlan, Stream, asked_plan}
 
 -- `plan` was done, or was not, and then its line was written

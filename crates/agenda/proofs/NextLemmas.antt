@@ -8,7 +8,7 @@ use Rattle.plan_sets.specs.Limits.{end_second}
 use Rattle.plan_rules.specs.declared.Rule.{Rule}
 use Rattle.plan_next.specs.Starts.{NoneIn, IsLeastIn, is_start, starts}
 use Rattle.plan_next.specs.StartsLaws.{passing-least, passing-none}
-use Rattle.agenda.specs.declared.faults.RunFault.{RunFault}
+use Rattle.agenda_faults.specs.declared.faults.RunFault.{RunFault}
 use Rattle.agenda.specs.Next.{moment_line, starts_text, next_text}
 
 -- some starts were listed, and those after the latest are left

@@ -4,10 +4,10 @@ use Rattle.std.proofs.lemmas.Bool.{lt-ltb, cases_lt}
 use Rattle.plan_texts.specs.declared.lines.TheConstants.{MOST_BYTES}
 use Rattle.agenda_script.specs.declared.fault.ScriptCause.TheVariants.{TooLarge}
 use Rattle.agenda_script.specs.Script.{script_reading, fault_on}
-use Rattle.agenda.specs.declared.faults.RunFault.{RunFault}
-use Rattle.agenda.specs.declared.faults.RunFault.TheVariants as run
+use Rattle.agenda_faults.specs.declared.faults.RunFault.{RunFault}
+use Rattle.agenda_faults.specs.declared.faults.RunFault.TheVariants as run
 use Rattle.std.proofs.KnownBytes.{Keeps-refl}
-use Rattle.agenda.specs.declared.faults.Failure.TheVariants.{Run}
+use Rattle.agenda_faults.specs.declared.faults.Failure.TheVariants.{Run}
 use Rattle.agenda.specs.Answer.{DoesSteps, FailsSteps}
 use Rattle.agenda.specs.Files.{Held, most_read, IsFrontOf, IsHeld}
 use Rattle.agenda.specs.Script.{WritesRun, RefusesScript}

@@ -9,15 +9,15 @@ use Rattle.agenda_words.specs.declared.Asked.{Asked}
 use Rattle.agenda_words.specs.declared.UsageFault.{UsageFault}
 use Rattle.agenda_words.specs.declared.UsageFault.TheVariants as usage
 use Rattle.agenda_words.specs.Words.{Gives, asked_by}
-use Rattle.agenda.specs.declared.faults.RunFault.TheVariants as run
-use Rattle.agenda.specs.declared.faults.Failure.{Failure}
-use Rattle.agenda.specs.declared.faults.Failure.TheVariants.{Usage, After, Since, Upto, Span, Run, File}
+use Rattle.agenda_faults.specs.declared.faults.RunFault.TheVariants as run
+use Rattle.agenda_faults.specs.declared.faults.Failure.{Failure}
+use Rattle.agenda_faults.specs.declared.faults.Failure.TheVariants.{Usage, After, Since, Upto, Span, Run, File}
 use Rattle.agenda.specs.declared.answer.Wanted.{Wanted}
 use Rattle.agenda_sources.specs.declared.Sources.{Sources}
 use Rattle.plan_collect.specs.Span.{Bounds}
 use Rattle.plan_collect.specs.declared.SpanFault.TheVariants.{Backwards}
-use Rattle.agenda.specs.FaultLines.{fault_text}
-use Rattle.agenda.specs.Faults.{status_of}
+use Rattle.agenda_faults.specs.FaultLines.{fault_text}
+use Rattle.agenda_faults.specs.Faults.{status_of}
 use Rattle.agenda.specs.Files.{Held, IsHeld}
 use Rattle.agenda.specs.Next.{WritesNext, RefusesNext}
 use Rattle.agenda.specs.Plan.{WritesPlan, RefusesPlan}

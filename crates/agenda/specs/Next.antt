@@ -11,8 +11,8 @@ use Rattle.plan_rules.specs.Steps.{Reading}
 use Rattle.plan_next.specs.Starts.{starts}
 use Rattle.agenda_words.specs.declared.Asked.{Asked}
 use Rattle.agenda_words.specs.declared.Asked.TheVariants.{Cron, Event}
-use Rattle.agenda.specs.declared.faults.RunFault.{RunFault}
-use Rattle.agenda.specs.declared.faults.RunFault.TheVariants.{NoMemory, BadCount, Rule as BadRule, Device}
+use Rattle.agenda_faults.specs.declared.faults.RunFault.{RunFault}
+use Rattle.agenda_faults.specs.declared.faults.RunFault.TheVariants.{NoMemory, BadCount, Rule as BadRule, Device}
 use Rattle.plan_collect.specs.Stream.{BreaksOff}
 
 -- the line of a moment (own)

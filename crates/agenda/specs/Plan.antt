@@ -14,8 +14,8 @@ use Rattle.plan_collect.specs.declared.PlanFault.TheVariants as plan
 use Rattle.agenda_sources.specs.Sources.{sources_reading}
 use Rattle.agenda_sources.specs.declared.Sources.{Sources}
 use Rattle.agenda_sources.specs.declared.SourceFault.TheVariants as source
-use Rattle.agenda.specs.declared.faults.RunFault.{RunFault}
-use Rattle.agenda.specs.declared.faults.RunFault.TheVariants.{NoMemory, InCrontab, InSystem, InTimer, SameName, Full, Plan, Device}
+use Rattle.agenda_faults.specs.declared.faults.RunFault.{RunFault}
+use Rattle.agenda_faults.specs.declared.faults.RunFault.TheVariants.{NoMemory, InCrontab, InSystem, InTimer, SameName, Full, Plan, Device}
 
 -- what is printed for jobs: their agenda over the span, where the sizes and the limit are good ones, and it has no more entries
 -- than that

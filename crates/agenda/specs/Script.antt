@@ -4,8 +4,8 @@ use Rattle.std.specs.Io.KnownBytes.{Appends, Keeps}
 use Rattle.plan_mailbox.specs.declared.replies.Reply.{Reply}
 use Rattle.plan_mailbox.specs.Reply.{RepliesInTurn}
 use Rattle.agenda_script.specs.Script.{Meaning, script_reading, replies_text}
-use Rattle.agenda.specs.declared.faults.RunFault.{RunFault}
-use Rattle.agenda.specs.declared.faults.RunFault.TheVariants as run
+use Rattle.agenda_faults.specs.declared.faults.RunFault.{RunFault}
+use Rattle.agenda_faults.specs.declared.faults.RunFault.TheVariants as run
 use Rattle.plan_collect.specs.Stream.{BreaksOff}
 
 -- the text of the replies to a script's steps on a new mailbox: one for each step, and each is the one after the history

@@ -1,23 +1,13 @@
 -- The sources of a plan, by the paths that were given. All of it is own.
-use Rattle.std.specs.Prelude.{◌≡◌, ⊤, ◌⊎◌, ℕ, ◌==◌, Bool, false, ◌||◌, if◌then◌else◌, List, [], ◌∷◌, Option, None, Some, slice_get}
-use Rattle.std.specs.Path.{slash}
+use Rattle.std.specs.Prelude.{◌≡◌, ⊤, ◌⊎◌, ℕ, List, [], ◌∷◌, Option, None, Some, slice_get}
 use Rattle.agenda_sources.specs.declared.Sources.{Sources}
 use Rattle.agenda_sources.specs.declared.TimerFile.{TimerFile}
-use Rattle.agenda.specs.declared.faults.RunFault.TheVariants as run
-use Rattle.agenda.specs.declared.faults.Failure.{Failure}
-use Rattle.agenda.specs.declared.faults.Failure.TheVariants.{File, Run}
+use Rattle.agenda_sources.specs.Name.{timer_name}
+use Rattle.agenda_faults.specs.declared.faults.RunFault.TheVariants as run
+use Rattle.agenda_faults.specs.declared.faults.Failure.{Failure}
+use Rattle.agenda_faults.specs.declared.faults.Failure.TheVariants.{File, Run}
 use Rattle.agenda.specs.declared.sources.Paths.{Paths}
 use Rattle.agenda.specs.Files.{Held, IsFrontOf}
-
--- whether a path has a `/`
-unfoldable pub has_slash : List ℕ → Bool
-has_slash [] = false
-has_slash (byte ∷ path) = byte == slash || has_slash path
-
--- a timer's name: its path after the last `/`
-unfoldable pub timer_name : List ℕ → List ℕ
-timer_name [] = []
-timer_name (byte ∷ path) = if has_slash (byte ∷ path) then timer_name path else byte ∷ path
 
 -- what was read of a path, if one was given
 abbrev pub IsReadOf : Held → Option (List ℕ) → Option (List ℕ) → Type 0

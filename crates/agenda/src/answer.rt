@@ -2,18 +2,17 @@
 
 ghost use Rattle.std.specs.Prelude.{◌≡◌, ◌≢◌, IfErr, IfOk, Ok, OnOk, map, string_bytes};
 ghost use Rattle.std.specs.Io.KnownBytes.{Appends, Keeps};
-ghost use Rattle.agenda.specs.FaultLines.{fault_text};
-ghost use Rattle.agenda.specs.Faults.{status_of as failure_status};
+ghost use Rattle.agenda_faults.specs.FaultLines.{fault_text};
+ghost use Rattle.agenda_faults.specs.Faults.{status_of as failure_status};
 ghost use Rattle.agenda.specs.Answer.{Answers, AnswersWords, asked_plan, DoesNext, DoesPlan, DoesSteps, FailsNext, FailsPlan, FailsSteps, GivesNoSpan, IsSpan, SaysNotUtf8};
 ghost use Rattle.plan_collect.specs.Stream.{BreaksOff, PutsOrBreaksOff};
 
-use crate::fault_lines::fault_line;
-use crate::faults::{Failure, RunFault};
 use crate::files::{Files, read_file};
 use crate::next::run_next;
 use crate::plan::run_plan;
 use crate::script::run_script;
 use crate::sources::{Paths, read_sources};
+use agenda_faults::{Failure, RunFault, fault_line};
 use agenda_words::{Ask, Asked, UsageFault, read_words};
 use plan_collect::{Span, Stream};
 use plan_rules::Text;

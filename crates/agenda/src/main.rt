@@ -2,9 +2,6 @@
 #![tactic(auto)]
 
 mod answer;
-mod causes;
-mod fault_lines;
-mod faults;
 mod files;
 mod next;
 mod plan;

@@ -4,7 +4,7 @@ ghost use Rattle.std.specs.Prelude.{◌≡◌, IfOk, IfErr, OnOk};
 ghost use Rattle.agenda.specs.Next.{next_text, WritesNext, RefusesNext, IsCount, asked_reading};
 ghost use Rattle.plan_rules.specs.Steps.{Gives};
 
-use crate::faults::RunFault;
+use agenda_faults::RunFault;
 use agenda_words::Asked;
 use plan_collect::Stream;
 use plan_next::next_start;

@@ -3,7 +3,7 @@
 ghost use Rattle.std.specs.Prelude.{◌≡◌, IfErr, OnOk};
 ghost use Rattle.agenda.specs.Plan.{RefusesPlan, WritesPlan};
 
-use crate::faults::RunFault;
+use agenda_faults::RunFault;
 use agenda_sources::{Sources, jobs_of_sources};
 use plan_collect::{Span, Stream, write_agenda};
 use plan_threads::{NoGate, plan};

@@ -6,7 +6,7 @@ ghost use Rattle.plan_mailbox.specs.Mailbox.{IsNew, senders_of};
 ghost use Rattle.plan_mailbox.specs.Reply.{RepliesInTurn};
 ghost use Rattle.agenda.specs.Script.{RefusesScript, WritesRun};
 
-use crate::faults::RunFault;
+use agenda_faults::RunFault;
 use agenda_script::{Script, read_script, replies_text};
 use plan_collect::Stream;
 use plan_mailbox::{Reply, Rings, Step, run_steps};

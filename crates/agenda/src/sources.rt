@@ -2,11 +2,11 @@
 
 ghost use Rattle.std.specs.Prelude.{◌≡◌, IfErr, IfOk};
 ghost use Rattle.agenda.specs.Files.{IsFrontOf};
-ghost use Rattle.agenda.specs.Sources.{AreTimersOf, IsAmong, IsGiven, IsGivenIn, IsReadOf, IsTimerOf, IsUnreadIn, MakesSources, timer_name};
+ghost use Rattle.agenda.specs.Sources.{AreTimersOf, IsAmong, IsGiven, IsGivenIn, IsReadOf, IsTimerOf, IsUnreadIn, MakesSources};
 
-use crate::faults::{Failure, RunFault};
 use crate::files::{Files, read_file};
-use agenda_sources::{Bytes, Sources, TimerFile, TimerFiles};
+use agenda_faults::{Failure, RunFault};
+use agenda_sources::{Bytes, Sources, TimerFile, TimerFiles, timer_name};
 use agenda_words::Texts;
 use plan_rules::Text;
 use std::alloc::Global;
@@ -21,16 +21,6 @@ pub struct Paths {
     pub system: Option<Text>,
     /// The paths of timer files.
     pub timers: Texts,
-}
-
-/// A timer's name: its path after the last `/`.
-pub fn timer_name(path: &str) -> &str
-    ensures { result.now ≡ timer_name path.now }
-{
-    match path.rsplit_once('/') {
-        Some((_, name)) => name,
-        None => path,
-    }
 }
 
 /// Reads the user's crontab, the system's and the timers, in this order, each path once.

@@ -1,3 +1,4 @@
-pub mod NameLemmas
 pub mod CrontabNames
+pub mod NameLemmas
+pub mod SlashLemmas
 pub mod SourceFaults

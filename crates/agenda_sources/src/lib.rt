@@ -3,10 +3,12 @@
 
 mod bytes;
 mod fault;
+mod name;
 mod reading;
 mod sources;
 
 pub use bytes::Bytes;
 pub use fault::SourceFault;
+pub use name::timer_name;
 pub use reading::jobs_of_sources;
 pub use sources::{Sources, TimerFile, TimerFiles};

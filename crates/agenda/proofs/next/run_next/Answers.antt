@@ -1,6 +1,6 @@
 use Rattle.std.proofs.Common.{subst, arith}
 use Rattle.std.specs.Io.KnownBytes.{Appends}
-use Rattle.agenda.specs.declared.faults.RunFault.TheVariants.{Device}
+use Rattle.agenda_faults.specs.declared.faults.RunFault.TheVariants.{Device}
 use Rattle.plan_collect.specs.Stream.{BreaksOff}
 use Rattle.agenda.specs.Next.{RefusesNext, IsCount}
 use Rattle.agenda.proofs.NextLemmas.{refused_as}

@@ -1,0 +1,2 @@
+pub mod FaultLineLemmas
+pub mod StreamLemmas

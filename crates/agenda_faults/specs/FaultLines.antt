@@ -1,0 +1,102 @@
+-- The lines of failures, as the program writes them on standard error. All of it is own.
+use Rattle.std.specs.Prelude.{ℕ, List, [], ◌++◌, codes, decimal, Option, None, Some, slice_get}
+use Rattle.plan_rules.specs.declared.RuleCause.{RuleCause}
+use Rattle.plan_rules.specs.declared.RuleCause.TheVariants as cause
+use Rattle.agenda_script.specs.declared.fault.ScriptCause.{ScriptCause}
+use Rattle.agenda_script.specs.declared.fault.ScriptCause.TheVariants as script
+use Rattle.agenda_faults.specs.declared.faults.RunFault.{RunFault}
+use Rattle.agenda_faults.specs.declared.faults.RunFault.TheVariants.{NoMemory, BadCount, Rule, InCrontab, InSystem, InTimer, SameName, Full, Plan, Script, Device}
+use Rattle.agenda_faults.specs.declared.faults.Failure.{Failure}
+use Rattle.agenda_faults.specs.declared.faults.Failure.TheVariants.{Usage, After, Since, Upto, Span, Run, File}
+use Rattle.plan_rules.specs.declared.LineCause.{LineCause}
+use Rattle.plan_rules.specs.declared.LineCause.TheVariants as on_line
+use Rattle.plan_collect.specs.declared.CollectFault.{CollectFault}
+use Rattle.plan_collect.specs.declared.CollectFault.TheVariants as collect
+use Rattle.plan_collect.specs.declared.PlanFault.{PlanFault}
+use Rattle.plan_collect.specs.declared.PlanFault.TheVariants as plan
+use Rattle.agenda_faults.specs.Causes.{moment_cause, rule_cause, line_cause, span_cause, collect_cause, script_cause}
+use Rattle.agenda_sources.specs.Name.{timer_name}
+
+-- memory was refused
+abbrev pub memory_line : List ℕ
+memory_line = codes "agenda: NoMemory\n"
+
+-- the rule of `next`: its part and cause; a want of memory has no part
+abbrev pub rule_line : ℕ → RuleCause → List ℕ
+rule_line part cause.NoMemory = memory_line
+rule_line part refused =
+    codes "agenda: rule: part " ++ (decimal part ++ (codes ": " ++ (rule_cause refused ++ codes "\n")))
+
+-- a script: its line and cause; a want of memory has no line
+abbrev pub script_line : ℕ → ScriptCause → List ℕ
+script_line line script.NoMemory = memory_line
+script_line line refused =
+    codes "agenda: script: line " ++ (decimal line ++ (codes ": " ++ (script_cause refused ++ codes "\n")))
+
+-- a line of a crontab or of a timer file: the source's name, the line's number in decimal and the cause
+abbrev pub text_of_line : (source line cause : List ℕ) → List ℕ
+text_of_line source line cause =
+    codes "agenda: " ++ (source ++ (codes ": line " ++ (line ++ (codes ": " ++ (cause ++ codes "\n")))))
+
+-- a part of a rule on such a line: also the part's number in decimal
+abbrev pub text_of_part : (source line part cause : List ℕ) → List ℕ
+text_of_part source line part cause =
+    codes "agenda: "
+    ++ (source ++ (codes ": line " ++ (line ++ (codes ": part " ++ (part ++ (codes ": " ++ (cause ++ codes "\n")))))))
+
+-- a rule on a line of a crontab or of a timer file; a want of memory has no line
+abbrev pub source_rule_line : List ℕ → (line part : ℕ) → RuleCause → List ℕ
+source_rule_line source line part cause.NoMemory = memory_line
+source_rule_line source line part refused = text_of_part source (decimal line) (decimal part) (rule_cause refused)
+
+-- a crontab or a timer file that is refused; a want of memory has no line
+abbrev pub source_line : List ℕ → ℕ → LineCause → List ℕ
+source_line source line on_line.NoMemory = memory_line
+source_line source line (on_line.Rule fault) = source_rule_line source line fault.part fault.cause
+source_line source line refused = text_of_line source (decimal line) (line_cause refused)
+
+-- the name of a timer by its path, if it is there
+abbrev pub name_in : Option (List ℕ) → List ℕ
+name_in None = []
+name_in (Some path) = timer_name path
+
+-- the name of the timer at a place, by the paths of all
+abbrev pub name_at : List (List ℕ) → ℕ → List ℕ
+name_at timers place = name_in (slice_get timers place)
+
+-- what a collector refused; a want of memory has no cause
+abbrev pub collect_line : CollectFault → List ℕ
+collect_line collect.NoMemory = memory_line
+collect_line refused = codes "agenda: plan: " ++ (collect_cause refused ++ codes "\n")
+
+-- a plan that is refused; a want of memory has no cause
+abbrev pub plan_line : PlanFault → List ℕ
+plan_line plan.NoMemory = memory_line
+plan_line plan.BadSize = codes "agenda: plan: BadSize\n"
+plan_line (plan.Collect fault) = collect_line fault
+plan_line (plan.NotSettled unsettled) = codes "agenda: NotSettled\n"
+plan_line plan.BadLimit = codes "agenda: plan: BadLimit\n"
+
+-- a command that was not done, with the paths of the timers of a plan
+abbrev pub run_line : List (List ℕ) → RunFault → List ℕ
+run_line timers NoMemory = memory_line
+run_line timers BadCount = codes "agenda: count: BadCount\n"
+run_line timers (Rule fault) = rule_line fault.part fault.cause
+run_line timers (InCrontab fault) = source_line (codes "crontab") fault.line fault.cause
+run_line timers (InSystem fault) = source_line (codes "system crontab") fault.line fault.cause
+run_line timers (InTimer place fault) = source_line (name_at timers place) fault.line fault.cause
+run_line timers (SameName place) = codes "agenda: job " ++ (name_at timers place ++ codes ": SameName\n")
+run_line timers Full = codes "agenda: jobs: Full\n"
+run_line timers (Plan fault) = plan_line fault
+run_line timers (Script fault) = script_line fault.line fault.cause
+run_line timers Device = codes "agenda: Device\n"
+
+-- what standard error gets: the text of usage as it is, or one line
+abbrev pub fault_text : List (List ℕ) → Failure → List ℕ
+fault_text timers (Usage text) = text
+fault_text timers (After fault) = codes "agenda: after: " ++ (moment_cause fault ++ codes "\n")
+fault_text timers (Since fault) = codes "agenda: since: " ++ (moment_cause fault ++ codes "\n")
+fault_text timers (Upto fault) = codes "agenda: upto: " ++ (moment_cause fault ++ codes "\n")
+fault_text timers (Span fault) = codes "agenda: span: " ++ (span_cause fault ++ codes "\n")
+fault_text timers (Run fault) = run_line timers fault
+fault_text timers (File path) = codes "agenda: " ++ (path ++ codes ": Device\n")

@@ -1,0 +1,305 @@
+//! The lines of failures on standard error.
+
+ghost use Rattle.std.specs.Prelude.{◌≡◌, ◌≤◌, ◌++◌, IfSome, codes, length, take};
+ghost use Rattle.std.specs.List.{flat_map};
+ghost use Rattle.agenda_faults.specs.Faults.{status_of};
+ghost use Rattle.agenda_faults.specs.FaultLines.{collect_line, fault_text, name_at, plan_line, rule_line, run_line};
+ghost use Rattle.agenda_faults.specs.FaultLines.{script_line, source_line, source_rule_line, text_of_line, text_of_part};
+ghost use Rattle.plan_collect.specs.Stream.{Puts, PutsOrBreaksOff};
+
+use crate::causes::{
+    collect_cause, line_cause, moment_cause, rule_cause, script_cause, span_cause,
+};
+use crate::faults::{Failure, RunFault};
+use agenda_script::{ScriptCause, ScriptFault};
+use agenda_sources::timer_name;
+use itoa::Buffer;
+use plan_collect::{CollectFault, PlanFault, Stream, WriteFault};
+use plan_rules::{LineCause, LineFault, RuleCause, RuleFault, Text};
+
+// How many bytes of a line go out by one write: all but those with a very long path.
+const LINE_ROOM: usize = 1_024;
+
+// The line where memory was refused.
+const MEMORY_LINE: &[u8] = b"agenda: NoMemory\n";
+
+/// Writes the line of a failure, or the text of usage, and answers the status with which the program ends: 1 where input,
+/// a size, a count or a limit was refused, 2 for usage, 3 where memory was refused, or a device or a file failed. `timers` are
+/// the paths of the timers of a plan, of which a fault names the place. A fault of this stream is passed over. Takes no memory.
+pub fn fault_line<S: Stream>(failure: &Failure, timers: &[Text], stream: &mut S) -> u8
+    ensures status { result ≡ status_of failure.now }
+    ensures line { PutsOrBreaksOff S.takes_all (S.holds stream.old) (S.holds stream.new)
+        (fault_text timers.now failure.now) }
+{
+    match put_failure(failure, timers, stream) {
+        Ok(()) | Err(WriteFault::Device) => failure.status(),
+    }
+}
+
+// Writes the line of a failure, or the text of usage.
+fn put_failure<S: Stream>(
+    failure: &Failure,
+    timers: &[Text],
+    stream: &mut S,
+) -> Result<(), WriteFault>
+    ensures { Puts S.takes_all result (S.holds stream.old) (S.holds stream.new)
+        (fault_text timers.now failure.now) }
+{
+    match failure {
+        Failure::Usage(text) => stream.put(text.as_str().as_bytes()),
+        Failure::After(cause) => {
+            put_joined(&[b"agenda: after: ", moment_cause(*cause), b"\n"], stream)
+        }
+        Failure::Since(cause) => {
+            put_joined(&[b"agenda: since: ", moment_cause(*cause), b"\n"], stream)
+        }
+        Failure::Upto(cause) => {
+            put_joined(&[b"agenda: upto: ", moment_cause(*cause), b"\n"], stream)
+        }
+        Failure::Span(cause) => {
+            put_joined(&[b"agenda: span: ", span_cause(*cause), b"\n"], stream)
+        }
+        Failure::Run(fault) => put_run_fault(fault, timers, stream),
+        Failure::File(path) => {
+            put_joined(
+                &[b"agenda: ", path.as_str().as_bytes(), b": Device\n"],
+                stream,
+            )
+        }
+    }
+}
+
+// Writes the line of a command that was not done.
+fn put_run_fault<S: Stream>(
+    fault: &RunFault,
+    timers: &[Text],
+    stream: &mut S,
+) -> Result<(), WriteFault>
+    ensures { Puts S.takes_all result (S.holds stream.old) (S.holds stream.new)
+        (run_line timers.now fault.now) }
+{
+    match fault {
+        RunFault::NoMemory => stream.put(MEMORY_LINE),
+        RunFault::BadCount => stream.put(b"agenda: count: BadCount\n"),
+        RunFault::Rule(fault) => put_rule_fault(*fault, stream),
+        RunFault::InCrontab(fault) => put_source_fault(b"crontab", *fault, stream),
+        RunFault::InSystem(fault) => put_source_fault(b"system crontab", *fault, stream),
+        RunFault::InTimer(place, fault) => {
+            put_source_fault(name_at(timers, *place).as_bytes(), *fault, stream)
+        }
+        RunFault::SameName(place) => put_same_name(name_at(timers, *place), stream),
+        RunFault::Full => stream.put(b"agenda: jobs: Full\n"),
+        RunFault::Plan(fault) => put_plan_fault(*fault, stream),
+        RunFault::Script(fault) => put_script_fault(*fault, stream),
+        RunFault::Device => stream.put(b"agenda: Device\n"),
+    }
+}
+
+// The name of the timer at a place, if it is there.
+fn name_at(timers: &[Text], place: usize) -> &str
+    ensures { result.now ≡ name_at timers.now place }
+{
+    match timers.get(place) {
+        Some(path) => timer_name(path.as_str()),
+        None => "",
+    }
+}
+
+// Writes the line of a timer whose name another job has.
+fn put_same_name<S: Stream>(name: &str, stream: &mut S) -> Result<(), WriteFault>
+    ensures { Puts S.takes_all result (S.holds stream.old) (S.holds stream.new)
+        (codes "agenda: job " ++ (name.now ++ codes ": SameName\n")) }
+{
+    put_joined(&[b"agenda: job ", name.as_bytes(), b": SameName\n"], stream)
+}
+
+// Writes the line of a plan that was refused.
+fn put_plan_fault<S: Stream>(fault: PlanFault, stream: &mut S) -> Result<(), WriteFault>
+    ensures { Puts S.takes_all result (S.holds stream.old) (S.holds stream.new) (plan_line fault) }
+{
+    match fault {
+        PlanFault::NoMemory => stream.put(MEMORY_LINE),
+        PlanFault::BadSize => stream.put(b"agenda: plan: BadSize\n"),
+        PlanFault::Collect(fault) => put_collect_fault(fault, stream),
+        PlanFault::NotSettled(_) => stream.put(b"agenda: NotSettled\n"),
+        PlanFault::BadLimit => stream.put(b"agenda: plan: BadLimit\n"),
+    }
+}
+
+// Writes the line of what a collector refused.
+fn put_collect_fault<S: Stream>(fault: CollectFault, stream: &mut S) -> Result<(), WriteFault>
+    ensures { Puts S.takes_all result (S.holds stream.old) (S.holds stream.new)
+        (collect_line fault) }
+{
+    match fault {
+        CollectFault::NoMemory => stream.put(MEMORY_LINE),
+        fault => put_joined(&[b"agenda: plan: ", collect_cause(fault), b"\n"], stream),
+    }
+}
+
+// Writes the line of a crontab or of a timer file that was refused, by its name.
+fn put_source_fault<S: Stream>(
+    source: &[u8],
+    fault: LineFault,
+    stream: &mut S,
+) -> Result<(), WriteFault>
+    ensures { Puts S.takes_all result (S.holds stream.old) (S.holds stream.new)
+        (source_line source.now fault.line fault.cause) }
+{
+    let mut digits = Buffer::new();
+    let line = digits.format(fault.line).as_bytes();
+    match fault.cause {
+        LineCause::NoMemory => stream.put(MEMORY_LINE),
+        LineCause::Rule(rule) => put_source_rule_fault(source, fault.line, rule, stream),
+        cause => put_line(source, line, line_cause(cause), stream),
+    }
+}
+
+// Writes the line of a rule that was refused on a line of a crontab or of a timer file.
+fn put_source_rule_fault<S: Stream>(
+    source: &[u8],
+    line: u32,
+    fault: RuleFault,
+    stream: &mut S,
+) -> Result<(), WriteFault>
+    ensures { Puts S.takes_all result (S.holds stream.old) (S.holds stream.new)
+        (source_rule_line source.now line fault.part fault.cause) }
+{
+    let (mut digits, mut more_digits) = (Buffer::new(), Buffer::new());
+    let line = digits.format(line).as_bytes();
+    let part = more_digits.format(fault.part).as_bytes();
+    match fault.cause {
+        RuleCause::NoMemory => stream.put(MEMORY_LINE),
+        cause => put_part(source, line, part, rule_cause(cause), stream),
+    }
+}
+
+// Writes the line of a line of a source.
+fn put_line<'a, S: Stream>(
+    source: &'a [u8],
+    line: &'a [u8],
+    cause: &'a [u8],
+    stream: &mut S,
+) -> Result<(), WriteFault>
+    ensures { Puts S.takes_all result (S.holds stream.old) (S.holds stream.new)
+        (text_of_line source.now line.now cause.now) }
+{
+    put_joined(
+        &[b"agenda: ", source, b": line ", line, b": ", cause, b"\n"],
+        stream,
+    )
+}
+
+// Writes the line of a part of a rule on a line of a source.
+fn put_part<'a, S: Stream>(
+    source: &'a [u8],
+    line: &'a [u8],
+    part: &'a [u8],
+    cause: &'a [u8],
+    stream: &mut S,
+) -> Result<(), WriteFault>
+    ensures { Puts S.takes_all result (S.holds stream.old) (S.holds stream.new)
+        (text_of_part source.now line.now part.now cause.now) }
+{
+    put_joined(
+        &[
+            b"agenda: ",
+            source,
+            b": line ",
+            line,
+            b": part ",
+            part,
+            b": ",
+            cause,
+            b"\n",
+        ],
+        stream,
+    )
+}
+
+// Writes the line of a rule that was refused.
+fn put_rule_fault<S: Stream>(fault: RuleFault, stream: &mut S) -> Result<(), WriteFault>
+    ensures { Puts S.takes_all result (S.holds stream.old) (S.holds stream.new)
+        (rule_line fault.part fault.cause) }
+{
+    let mut digits = Buffer::new();
+    let part = digits.format(fault.part).as_bytes();
+    match fault.cause {
+        RuleCause::NoMemory => stream.put(MEMORY_LINE),
+        cause => put_joined(
+            &[
+                b"agenda: rule: part ",
+                part,
+                b": ",
+                rule_cause(cause),
+                b"\n",
+            ],
+            stream,
+        ),
+    }
+}
+
+// Writes the line of a script that was refused.
+fn put_script_fault<S: Stream>(fault: ScriptFault, stream: &mut S) -> Result<(), WriteFault>
+    ensures { Puts S.takes_all result (S.holds stream.old) (S.holds stream.new)
+        (script_line fault.line fault.cause) }
+{
+    let mut digits = Buffer::new();
+    let line = digits.format(fault.line).as_bytes();
+    match fault.cause {
+        ScriptCause::NoMemory => stream.put(MEMORY_LINE),
+        cause => put_joined(
+            &[
+                b"agenda: script: line ",
+                line,
+                b": ",
+                script_cause(cause),
+                b"\n",
+            ],
+            stream,
+        ),
+    }
+}
+
+// Writes pieces as one text: by one write, where they fit a buffer, so that the lines of programs which run at once don't
+// mix.
+fn put_joined<S: Stream>(pieces: &[&[u8]], stream: &mut S) -> Result<(), WriteFault>
+    ensures { Puts S.takes_all result (S.holds stream.old) (S.holds stream.new)
+        (flat_map (λ piece. piece.now) pieces.now) }
+{
+    let mut buffer = [0; LINE_ROOM];
+    match join(pieces, &mut buffer) {
+        Some(len) => stream.put(&buffer[..len]),
+        None => put_each(pieces, stream),
+    }
+}
+
+// Copies pieces one behind the other into a buffer, and answers how many bytes they are; `None` where they don't fit.
+fn join(pieces: &[&[u8]], buffer: &mut [u8]) -> Option<usize>
+    ensures { IfSome result (λ len. (len ≤ length buffer.new)
+        × (take len buffer.new ≡ flat_map (λ piece. piece.now) pieces.now)) }
+{
+    let mut len = 0;
+    for piece in pieces {
+        if piece.len() > buffer.len() - len {
+            return None;
+        }
+        buffer[len..len + piece.len()].copy_from_slice(piece);
+        len += piece.len();
+    }
+    Some(len)
+}
+
+// Writes pieces one after the other.
+fn put_each<S: Stream>(pieces: &[&[u8]], stream: &mut S) -> Result<(), WriteFault>
+    ensures { Puts S.takes_all result (S.holds stream.old) (S.holds stream.new)
+        (flat_map (λ piece. piece.now) pieces.now) }
+{
+    for piece in pieces {
+        stream.put(piece)?;
+    }
+    Ok(())
+}
+
+#[cfg(test)]
+mod tests;

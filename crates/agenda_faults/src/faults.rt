@@ -1,0 +1,280 @@
+//! Why the program fails, and the status with which it then ends.
+
+ghost use Rattle.std.specs.Prelude.{◌≡◌};
+ghost use Rattle.agenda_faults.specs.Faults.{line_status, plan_status, rule_status, script_status};
+
+use agenda_script::{ScriptCause, ScriptFault};
+use agenda_sources::SourceFault;
+use plan_collect::{CollectFault, PlanFault, SpanFault, WriteFault};
+use plan_rules::{LineCause, LineFault, RuleCause, RuleFault, Text};
+use plan_sets::MomentFault;
+use std::alloc::{AllocError, AllocFailed};
+use thiserror::Error;
+
+/// Why a command was not done.
+#[derive(Clone, Copy, Debug, PartialEq, Eq, Error)]
+pub enum RunFault {
+    /// 1: memory was refused.
+    #[error("NoMemory")]
+    NoMemory,
+    /// 2: the count of `next` is outside 1 to 1,000.
+    #[error("BadCount")]
+    BadCount,
+    /// 3: the text of `next` is no rule.
+    #[error("{0}")]
+    Rule(RuleFault),
+    /// 4: the user's crontab is refused.
+    #[error("{0}")]
+    InCrontab(LineFault),
+    /// 5: the system's crontab is refused.
+    #[error("{0}")]
+    InSystem(LineFault),
+    /// 6: the timer at this place, from 0, is refused.
+    #[error("{1}")]
+    InTimer(usize, LineFault),
+    /// 7: a job has the name of the timer at this place, from 0.
+    #[error("SameName")]
+    SameName(usize),
+    /// 8: there are more than 1,000 jobs.
+    #[error("Full")]
+    Full,
+    /// 9: the jobs make no plan.
+    #[error("{0}")]
+    Plan(PlanFault),
+    /// 10: the script was refused.
+    #[error("{0}")]
+    Script(ScriptFault),
+    /// 11: the writer failed.
+    #[error("Device")]
+    Device,
+}
+
+impl From<AllocError> for RunFault {
+    ghost use Rattle.std.specs.Prelude.{◌≡◌};
+    ghost use Rattle.agenda_faults.specs.declared.faults.RunFault.TheVariants.{NoMemory};
+
+    ghost from_gives = { λ _ fault. fault ≡ NoMemory };
+
+    fn from(_refused: AllocError) -> RunFault {
+        RunFault::NoMemory
+    }
+}
+
+impl<T: Drop> From<AllocFailed<T>> for RunFault {
+    ghost use Rattle.std.specs.Prelude.{◌≡◌};
+    ghost use Rattle.agenda_faults.specs.declared.faults.RunFault.TheVariants.{NoMemory};
+
+    ghost from_gives = { λ _ fault. fault ≡ NoMemory };
+
+    fn from(_refused: AllocFailed<T>) -> RunFault {
+        RunFault::NoMemory
+    }
+}
+
+impl From<WriteFault> for RunFault {
+    ghost use Rattle.std.specs.Prelude.{◌≡◌};
+    ghost use Rattle.agenda_faults.specs.declared.faults.RunFault.TheVariants.{Device};
+
+    ghost from_gives = { λ _ fault. fault ≡ Device };
+
+    fn from(_fault: WriteFault) -> RunFault {
+        RunFault::Device
+    }
+}
+
+// A want of memory inside a fault of a rule is a want of memory.
+impl From<RuleFault> for RunFault {
+    ghost use Rattle.std.specs.Prelude.{◌≡◌};
+    ghost use Rattle.agenda_faults.specs.Faults.{fault_of_rule};
+
+    ghost from_gives = { λ fault answer. answer ≡ fault_of_rule fault };
+
+    fn from(fault: RuleFault) -> RunFault {
+        match fault.cause {
+            RuleCause::NoMemory => RunFault::NoMemory,
+            _ => RunFault::Rule(fault),
+        }
+    }
+}
+
+impl From<SourceFault> for RunFault {
+    ghost use Rattle.std.specs.Prelude.{◌≡◌};
+    ghost use Rattle.agenda_faults.specs.Faults.{fault_of_sources};
+
+    ghost from_gives = { λ fault answer. answer ≡ fault_of_sources fault };
+
+    fn from(fault: SourceFault) -> RunFault {
+        match fault {
+            SourceFault::NoMemory => RunFault::NoMemory,
+            SourceFault::InCrontab(fault) => RunFault::InCrontab(fault),
+            SourceFault::InSystem(fault) => RunFault::InSystem(fault),
+            SourceFault::InTimer(place, fault) => RunFault::InTimer(place, fault),
+            SourceFault::SameName(place) => RunFault::SameName(place),
+            SourceFault::Full => RunFault::Full,
+        }
+    }
+}
+
+// A want of memory is always the same fault.
+impl From<PlanFault> for RunFault {
+    ghost use Rattle.std.specs.Prelude.{◌≡◌};
+    ghost use Rattle.agenda_faults.specs.Faults.{fault_of_plan};
+
+    ghost from_gives = { λ fault answer. answer ≡ fault_of_plan fault };
+
+    fn from(fault: PlanFault) -> RunFault {
+        match fault {
+            PlanFault::NoMemory => RunFault::NoMemory,
+            fault => RunFault::Plan(fault),
+        }
+    }
+}
+
+// A want of memory inside a fault of a script is a want of memory.
+impl From<ScriptFault> for RunFault {
+    ghost use Rattle.std.specs.Prelude.{◌≡◌};
+    ghost use Rattle.agenda_faults.specs.Faults.{fault_of_script};
+
+    ghost from_gives = { λ fault answer. answer ≡ fault_of_script fault };
+
+    fn from(fault: ScriptFault) -> RunFault {
+        match fault.cause {
+            ScriptCause::NoMemory => RunFault::NoMemory,
+            _ => RunFault::Script(fault),
+        }
+    }
+}
+
+/// Why the program ends with a status other than 0.
+#[derive(Debug, Drop)]
+pub enum Failure {
+    /// The words of the command line are no use of the program. The text says what is.
+    Usage(Text),
+    /// The text of `--after` is no moment.
+    After(MomentFault),
+    /// The text of `--since` is no moment.
+    Since(MomentFault),
+    /// The text of `--upto` is no moment.
+    Upto(MomentFault),
+    /// The moments of `--since` and `--upto` bound no span.
+    Span(SpanFault),
+    /// The command was not done.
+    Run(RunFault),
+    /// The file with this path can't be opened or read.
+    File(Text),
+}
+
+impl From<AllocError> for Failure {
+    ghost use Rattle.std.specs.Prelude.{◌≡◌};
+    ghost use Rattle.agenda_faults.specs.declared.faults.RunFault.TheVariants.{NoMemory};
+    ghost use Rattle.agenda_faults.specs.declared.faults.Failure.TheVariants.{Run};
+
+    ghost from_gives = { λ _ failure. failure ≡ Run NoMemory };
+
+    fn from(_refused: AllocError) -> Failure {
+        Failure::Run(RunFault::NoMemory)
+    }
+}
+
+impl<T: Drop> From<AllocFailed<T>> for Failure {
+    ghost use Rattle.std.specs.Prelude.{◌≡◌};
+    ghost use Rattle.agenda_faults.specs.declared.faults.RunFault.TheVariants.{NoMemory};
+    ghost use Rattle.agenda_faults.specs.declared.faults.Failure.TheVariants.{Run};
+
+    ghost from_gives = { λ _ failure. failure ≡ Run NoMemory };
+
+    fn from(_refused: AllocFailed<T>) -> Failure {
+        Failure::Run(RunFault::NoMemory)
+    }
+}
+
+// The status where input, a size, a count or a limit was refused.
+const REFUSED: u8 = 1;
+
+// The status where the words are no use of the program.
+const USAGE: u8 = 2;
+
+// The status where memory was refused, or a device or a file failed.
+const FAILED: u8 = 3;
+
+impl Failure {
+    ghost use Rattle.agenda_faults.specs.Faults.{status_of};
+
+    /// The status with which the program ends: 1 where input or a count was refused, 2 for usage, 3 where memory was
+    /// refused, or a device or a file failed.
+    pub fn status(&self) -> u8
+        ensures { result ≡ status_of self.now }
+    {
+        match self {
+            Failure::Usage(_) => USAGE,
+            Failure::After(_) | Failure::Since(_) | Failure::Upto(_) | Failure::Span(_) => REFUSED,
+            Failure::Run(fault) => fault.status(),
+            Failure::File(_) => FAILED,
+        }
+    }
+}
+
+impl RunFault {
+    ghost use Rattle.agenda_faults.specs.Faults.{run_status};
+
+    // The status with which the program ends where a command was not done.
+    fn status(&self) -> u8
+        ensures { result ≡ run_status self.now }
+    {
+        match self {
+            RunFault::Rule(fault) => rule_status(fault.cause),
+            RunFault::InCrontab(fault) | RunFault::InSystem(fault) | RunFault::InTimer(_, fault) =>
+                { line_status(fault.cause) }
+            RunFault::Plan(fault) => plan_status(*fault),
+            RunFault::Script(fault) => script_status(fault.cause),
+            RunFault::BadCount | RunFault::SameName(_) | RunFault::Full => REFUSED,
+            RunFault::NoMemory | RunFault::Device => FAILED,
+        }
+    }
+}
+
+// The status of a rule that was refused.
+fn rule_status(cause: RuleCause) -> u8
+    ensures { result ≡ rule_status cause }
+{
+    match cause {
+        RuleCause::NoMemory => FAILED,
+        _ => REFUSED,
+    }
+}
+
+// The status of a crontab or a timer file that was refused.
+fn line_status(cause: LineCause) -> u8
+    ensures { result ≡ line_status cause }
+{
+    match cause {
+        LineCause::NoMemory => FAILED,
+        LineCause::Rule(fault) => rule_status(fault.cause),
+        _ => REFUSED,
+    }
+}
+
+// The status of a plan that was refused.
+fn plan_status(fault: PlanFault) -> u8
+    ensures { result ≡ plan_status fault }
+{
+    match fault {
+        PlanFault::NoMemory
+        | PlanFault::NotSettled(_)
+        | PlanFault::Collect(CollectFault::NoMemory) => FAILED,
+        _ => REFUSED,
+    }
+}
+
+// The status of a script that was refused.
+fn script_status(cause: ScriptCause) -> u8
+    ensures { result ≡ script_status cause }
+{
+    match cause {
+        ScriptCause::NoMemory => FAILED,
+        _ => REFUSED,
+    }
+}
+
+#[cfg(test)]
+mod tests;
