@@ -10,7 +10,7 @@ use Rattle.std.proofs.KnownBytes.{Keeps-refl}
 use Rattle.agenda_faults.specs.declared.faults.Failure.TheVariants.{Run}
 use Rattle.agenda.specs.Answer.{DoesSteps, FailsSteps}
 use Rattle.agenda.specs.Files.{Held, most_read, IsFrontOf, IsHeld}
-use Rattle.agenda.specs.Script.{WritesRun, RefusesScript}
+use Rattle.agenda_commands.specs.Script.{WritesRun, RefusesScript}
 
 -- more bytes than a script may have are too many, whatever they are
 too_large : (bytes : List ℕ) → most_read ≤ length bytes → script_reading bytes ≡ fault_on 0 TooLarge

@@ -19,9 +19,9 @@ use Rattle.plan_collect.specs.declared.SpanFault.TheVariants.{Backwards}
 use Rattle.agenda_faults.specs.FaultLines.{fault_text}
 use Rattle.agenda_faults.specs.Faults.{status_of}
 use Rattle.agenda.specs.Files.{Held, IsHeld}
-use Rattle.agenda.specs.Next.{WritesNext, RefusesNext}
-use Rattle.agenda.specs.Plan.{WritesPlan, RefusesPlan}
-use Rattle.agenda.specs.Script.{WritesRun, RefusesScript}
+use Rattle.agenda_commands.specs.Next.{WritesNext, RefusesNext}
+use Rattle.agenda_commands.specs.Plan.{WritesPlan, RefusesPlan}
+use Rattle.agenda_commands.specs.Script.{WritesRun, RefusesScript}
 use Rattle.agenda.specs.Sources.{IsGiven, MakesSources}
 use Rattle.plan_collect.specs.Stream.{BreaksOff, PutsOrBreaksOff}
 

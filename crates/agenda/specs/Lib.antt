@@ -1,6 +1,3 @@
 pub mod Answer
 pub mod Files
-pub mod Next
-pub mod Plan
-pub mod Script
 pub mod Sources

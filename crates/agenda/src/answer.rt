@@ -8,10 +8,8 @@ ghost use Rattle.agenda.specs.Answer.{Answers, AnswersWords, asked_plan, DoesNex
 ghost use Rattle.plan_collect.specs.Stream.{BreaksOff, PutsOrBreaksOff};
 
 use crate::files::{Files, read_file};
-use crate::next::run_next;
-use crate::plan::run_plan;
-use crate::script::run_script;
 use crate::sources::{Paths, read_sources};
+use agenda_commands::{run_next, run_plan, run_script};
 use agenda_faults::{Failure, RunFault, fault_line};
 use agenda_words::{Ask, Asked, UsageFault, read_words};
 use plan_collect::{Span, Stream};

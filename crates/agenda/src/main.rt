@@ -3,9 +3,6 @@
 
 mod answer;
 mod files;
-mod next;
-mod plan;
-mod script;
 mod sources;
 
 use agenda_words::UsageFault;

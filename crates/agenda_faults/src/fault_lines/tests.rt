@@ -10,7 +10,7 @@ struct Counter(usize);
 
 impl Write for Counter {
     fn write(&mut self, bytes: &[u8]) -> io::Result<usize> {
-        self.0 += 1;
+        self.0 = self.0.saturating_add(1);
         Ok(bytes.len())
     }
 

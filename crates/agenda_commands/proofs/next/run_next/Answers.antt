@@ -2,9 +2,9 @@ use Rattle.std.proofs.Common.{subst, arith}
 use Rattle.std.specs.Io.KnownBytes.{Appends}
 use Rattle.agenda_faults.specs.declared.faults.RunFault.TheVariants.{Device}
 use Rattle.plan_collect.specs.Stream.{BreaksOff}
-use Rattle.agenda.specs.Next.{RefusesNext, IsCount}
-use Rattle.agenda.proofs.NextLemmas.{refused_as}
-use Rattle.agenda.proofs.next.run_next.Goals as goal
+use Rattle.agenda_commands.specs.Next.{RefusesNext, IsCount}
+use Rattle.agenda_commands.proofs.NextLemmas.{refused_as}
+use Rattle.agenda_commands.proofs.next.run_next.Goals as goal
 
 pub returns-in_err-put-clause-refused : goal.returns-in_err-put-clause-refused
 returns-in_err-put-clause-refused g c =

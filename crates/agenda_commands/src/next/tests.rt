@@ -1,5 +1,4 @@
 use super::*;
-use crate::tests::writers::{End, LimitedWriter};
 use plan_rules::{RuleCause, Text};
 use plan_sets::{END_SECOND, SetFault, read_moment};
 use std::process::Abort;
@@ -108,14 +107,15 @@ fn refusals_write_nothing(rt: HostRuntime) -> Result<(), Fail> {
 }
 
 #[test]
-fn a_writer_that_fails_has_the_first_bytes(rt: HostRuntime) -> Result<(), Fail> {
+fn a_writer_that_is_full_has_the_first_bytes(rt: HostRuntime) -> Result<(), Fail> {
     let asked = cron(rt.alloc(), "0 0 * * *")?;
     let text = b"2024-01-02T00:00:00Z\n";
     for room in 0..text.len() {
-        let mut out = LimitedWriter::new(room, 10, End::Error, false);
+        let mut bytes = [0; 32];
+        let mut out = &mut bytes[..room];
         let done = run_next(rt.alloc(), &asked, NEW_YEAR, 1, &mut out);
         assert_eq!(rt; done, Err(RunFault::Device), "{room}");
-        assert_eq!(rt; out.bytes(), &text[..room]);
+        assert_eq!(rt; &bytes[..room], &text[..room]);
     }
     Ok(())
 }

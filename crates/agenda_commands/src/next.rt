@@ -1,7 +1,7 @@
 //! The next starts of one rule.
 
 ghost use Rattle.std.specs.Prelude.{◌≡◌, IfOk, IfErr, OnOk};
-ghost use Rattle.agenda.specs.Next.{next_text, WritesNext, RefusesNext, IsCount, asked_reading};
+ghost use Rattle.agenda_commands.specs.Next.{next_text, WritesNext, RefusesNext, IsCount, asked_reading};
 ghost use Rattle.plan_rules.specs.Steps.{Gives};
 
 use agenda_faults::RunFault;

@@ -4,7 +4,7 @@ ghost use Rattle.std.specs.Prelude.{◌≡◌, IfErr, IfOk, OnOk, vec_len};
 ghost use Rattle.plan_mailbox.specs.Lanes.{mailbox_of};
 ghost use Rattle.plan_mailbox.specs.Mailbox.{IsNew, senders_of};
 ghost use Rattle.plan_mailbox.specs.Reply.{RepliesInTurn};
-ghost use Rattle.agenda.specs.Script.{RefusesScript, WritesRun};
+ghost use Rattle.agenda_commands.specs.Script.{RefusesScript, WritesRun};
 
 use agenda_faults::RunFault;
 use agenda_script::{Script, read_script, replies_text};

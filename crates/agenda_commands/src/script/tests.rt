@@ -1,7 +1,7 @@
 use super::*;
-use crate::tests::writers::{End, LimitedWriter};
 use agenda_script::{ScriptCause, ScriptFault};
 use plan_rules::lines::MOST_BYTES;
+use std::io::{self, ErrorKind, Write};
 use std::process::Abort;
 use std::test::Fail;
 
@@ -188,22 +188,37 @@ fn a_script_of_the_most_bytes_and_one_more(rt: HostRuntime) -> Result<(), Fail> 
 }
 
 #[test]
-fn a_writer_that_fails_has_the_first_bytes(rt: HostRuntime) {
-    for (room, end) in [
-        (0, End::Error),
-        (10, End::Error),
-        (11, End::TakesNothing),
-        (80, End::TakesNothing),
-    ] {
-        let mut out = LimitedWriter::new(room, 3, end, false);
+fn a_writer_that_is_full_has_the_first_bytes(rt: HostRuntime) {
+    for room in [0, 10, 11, 80] {
+        let mut bytes = [0; 128];
+        let mut out = &mut bytes[..room];
         let done = run_script(rt.alloc(), TWELVE_STEPS.as_bytes(), &mut out);
         assert_eq!(rt; done, Err(RunFault::Device), "{room}");
-        assert_eq!(rt; out.bytes(), &TWELVE_REPLIES.as_bytes()[..room]);
+        assert_eq!(rt; &bytes[..room], &TWELVE_REPLIES.as_bytes()[..room]);
     }
-    let mut out = LimitedWriter::new(128, 128, End::Error, true);
+}
+
+// A writer that counts the bytes, and fails where it is flushed.
+#[derive(Drop)]
+struct Unflushed(usize);
+
+impl Write for Unflushed {
+    fn write(&mut self, bytes: &[u8]) -> io::Result<usize> {
+        self.0 = self.0.saturating_add(bytes.len());
+        Ok(bytes.len())
+    }
+
+    fn flush(&mut self) -> io::Result<()> {
+        Err(io::Error::from(ErrorKind::Other))
+    }
+}
+
+#[test]
+fn a_writer_whose_flush_fails(rt: HostRuntime) {
+    let mut out = Unflushed(0);
     let done = run_script(rt.alloc(), TWELVE_STEPS.as_bytes(), &mut out);
-    assert_eq!(rt; done, Err(RunFault::Device), "the flush fails");
-    assert_eq!(rt; out.bytes(), TWELVE_REPLIES.as_bytes());
+    assert_eq!(rt; done, Err(RunFault::Device));
+    assert_eq!(rt; out.0, TWELVE_REPLIES.len());
 }
 
 #[test]

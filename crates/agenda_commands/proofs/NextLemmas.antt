@@ -9,7 +9,7 @@ use Rattle.plan_rules.specs.declared.Rule.{Rule}
 use Rattle.plan_next.specs.Starts.{NoneIn, IsLeastIn, is_start, starts}
 use Rattle.plan_next.specs.StartsLaws.{passing-least, passing-none}
 use Rattle.agenda_faults.specs.declared.faults.RunFault.{RunFault}
-use Rattle.agenda.specs.Next.{moment_line, starts_text, next_text}
+use Rattle.agenda_commands.specs.Next.{moment_line, starts_text, next_text}
 
 -- some starts were listed, and those after the latest are left
 pub record IsListed (rule : Rule) (after latest : ℕ) (text moments : List ℕ) : Type 0 where

@@ -1,6 +1,6 @@
 use Rattle.std.proofs.Common.{◌≡◌, ℕ, List, length}
-use Rattle.agenda.proofs.NextLemmas.{IsListed}
-use Rattle.agenda.proofs.next.starts_text.Given as goal
+use Rattle.agenda_commands.proofs.NextLemmas.{IsListed}
+use Rattle.agenda_commands.proofs.next.starts_text.Given as goal
 
 -- as many starts are listed as the loop has turned
 abbrev pub invariant-loop-listed : goal.invariant-loop-listed

@@ -1,8 +1,8 @@
 use Rattle.std.proofs.Common.{◌≡◌, ◌∙◌, ◌++◌, ◌∷◌, [], ap, ◌+◌, refl, arith, append_assoc}
 use Rattle.std.proofs.lemmas.List.{length_push}
 use Rattle.plan_sets.specs.Moment.{moment_text_of}
-use Rattle.agenda.proofs.NextLemmas.{listed_none, listed_push, lists_all, lists_fewer}
-use Rattle.agenda.proofs.next.starts_text.Goals as goal
+use Rattle.agenda_commands.proofs.NextLemmas.{listed_none, listed_push, lists_all, lists_fewer}
+use Rattle.agenda_commands.proofs.next.starts_text.Goals as goal
 
 pub loop-listed-init : goal.loop-listed-init
 loop-listed-init c = ([], listed_none c.args.rule.now c.args.after c.new-text.result.items c.new-text.ensures.items, refl)

@@ -1,7 +1,7 @@
 //! The agenda of the jobs of crontabs and timer files, planned and written.
 
 ghost use Rattle.std.specs.Prelude.{◌≡◌, IfErr, OnOk};
-ghost use Rattle.agenda.specs.Plan.{RefusesPlan, WritesPlan};
+ghost use Rattle.agenda_commands.specs.Plan.{RefusesPlan, WritesPlan};
 
 use agenda_faults::RunFault;
 use agenda_sources::{Sources, jobs_of_sources};
