@@ -9,12 +9,12 @@ use plan_next::next_piece;
 use plan_rules::{Jobs, Kind, crontab, timer};
 use plan_threads::{NoGate, plan};
 use std::alloc::Global;
+use std::fs::{self, Files};
 use std::io::{self, Write};
 use std::rt::Clock;
 use std::sync::Wait;
 use std::thread::Threads;
 use std::time::{Duration, Instant};
-use std::fs::{self, Files};
 
 // The most entries that an agenda may have.
 const ENTRIES: u64 = 1_000_000;
@@ -102,7 +102,10 @@ fn each_minute(alloc: Global, minutes: u64) -> Result<Load> {
     Ok(Load {
         name: "1,000 jobs each minute",
         jobs,
-        span: Span::new(NEW_YEAR, NEW_YEAR.saturating_add(minutes.saturating_mul(60)))?,
+        span: Span::new(
+            NEW_YEAR,
+            NEW_YEAR.saturating_add(minutes.saturating_mul(60)),
+        )?,
     })
 }
 
@@ -139,7 +142,9 @@ fn measure_steps<R: Clock + Print + AllocGlobal + Wait>(rt: &R, load: &Load) -> 
         writing = writing.min(begin.elapsed(rt)?);
     }
     let name = load.name;
-    println!(rt; "{name}: {collecting:?} to find and collect, {sorting:?} to sort, {writing:?} to write")?;
+    println!(rt;
+        "{name}: {collecting:?} to find and collect, {sorting:?} to sort, {writing:?} to write"
+    )?;
     Ok(())
 }
 
@@ -194,8 +199,21 @@ fn plan_by<R: AllocGlobal + Threads + Wait + Sync>(
     load: &Load,
     planners: usize,
 ) -> Result<Agenda> {
-    let Load { jobs, span, name: _ } = load;
-    Ok(plan(rt, rt.alloc(), jobs, *span, ENTRIES, &NoGate, planners, ROOM)?)
+    let Load {
+        jobs,
+        span,
+        name: _,
+    } = load;
+    Ok(plan(
+        rt,
+        rt.alloc(),
+        jobs,
+        *span,
+        ENTRIES,
+        &NoGate,
+        planners,
+        ROOM,
+    )?)
 }
 
 // How many bytes the text of an agenda of these jobs has.

@@ -32,7 +32,9 @@ pub fn measure_rings<R: Clock + Print + AllocGlobal + Threads + Wait + Sync>(rt:
             lock = lock.min(begin.elapsed(rt)?);
         }
         let (ring, lock) = (a_second(ring), a_second(lock));
-        println!(rt; "room for {room}: {ring} messages a second through a ring, {lock} through a lock")?;
+        println!(rt;
+            "room for {room}: {ring} messages a second through a ring, {lock} through a lock"
+        )?;
     }
     Ok(())
 }
@@ -48,7 +50,10 @@ pub fn check_rings<R: Print + AllocGlobal + Threads + Wait + Sync>(rt: &R) -> Re
 // How many messages go in a second, where all took so long.
 fn a_second(all: Duration) -> u64 {
     let micros = u64::try_from(all.as_micros()).unwrap_or(u64::MAX).max(1);
-    MESSAGES.saturating_mul(1_000_000).checked_div(micros).unwrap_or(0)
+    MESSAGES
+        .saturating_mul(1_000_000)
+        .checked_div(micros)
+        .unwrap_or(0)
 }
 
 // Sends so many messages from one thread to another through a ring, and answers how many were taken.
@@ -64,7 +69,11 @@ fn through_ring<R: Threads + Wait + Sync>(
     let Some(outlet) = outlets.pop() else {
         bail!("no outlet");
     };
-    let (_, taken) = thread::join(rt, || send_all(rt, outlet, count), || take_all(rt, inlet, count));
+    let (_, taken) = thread::join(
+        rt,
+        || send_all(rt, outlet, count),
+        || take_all(rt, inlet, count),
+    );
     Ok(taken)
 }
 
