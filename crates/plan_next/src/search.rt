@@ -187,14 +187,10 @@ impl Pattern<'_> {
         requires { from < seconds_a_day }
         ensures { IsFirstIn (admits_time self.entry) from seconds_a_day result }
     {
-        let here = (from / SECONDS_AN_HOUR) as u16;
-        let hour = self.first_hour(here)?;
-        let start = if hour == here {
-            (from % SECONDS_AN_HOUR) as u16
-        } else {
-            0
-        };
-        if let Some(rest) = self.first_in_hour(start) {
+        let hour = (from / SECONDS_AN_HOUR) as u16;
+        if self.has_hour(hour)
+            && let Some(rest) = self.first_in_hour((from % SECONDS_AN_HOUR) as u16)
+        {
             return Some(u32::from(hour) * SECONDS_AN_HOUR + u32::from(rest));
         }
         self.first_of_later_hours(hour)
@@ -228,14 +224,10 @@ impl Pattern<'_> {
         requires { from < SECONDS_AN_HOUR }
         ensures { IsFirstIn (admits_in_hour self.entry) from SECONDS_AN_HOUR result }
     {
-        let here = from / SECONDS_A_MINUTE;
-        let minute = self.first_minute(here)?;
-        let start = if minute == here {
-            from % SECONDS_A_MINUTE
-        } else {
-            0
-        };
-        if let Some(second) = self.first_second(start) {
+        let minute = from / SECONDS_A_MINUTE;
+        if self.has_minute(minute)
+            && let Some(second) = self.first_second(from % SECONDS_A_MINUTE)
+        {
             return Some(minute * SECONDS_A_MINUTE + second);
         }
         self.first_of_later_minutes(minute)
@@ -298,6 +290,16 @@ impl Pattern<'_> {
         }
     }
 
+    // Whether the hour is admitted.
+    fn has_hour(self, hour: u16) -> bool
+        ensures { result ≡ admits_hour self.entry hour }
+    {
+        match self {
+            Pattern::Cron(rule) => rule.hours().contains(hour),
+            Pattern::Event(event) => event.hours().contains(hour),
+        }
+    }
+
     // The first admitted hour from `from` on.
     fn first_hour(self, from: u16) -> Option<u16>
         ensures { IsFirstIn (admits_hour self.entry) from HOURS_A_DAY result }
@@ -305,6 +307,16 @@ impl Pattern<'_> {
         match self {
             Pattern::Cron(rule) => first_in(rule.hours(), from, HOURS_A_DAY),
             Pattern::Event(event) => first_in(event.hours(), from, HOURS_A_DAY),
+        }
+    }
+
+    // Whether the minute is admitted.
+    fn has_minute(self, minute: u16) -> bool
+        ensures { result ≡ admits_minute self.entry minute }
+    {
+        match self {
+            Pattern::Cron(rule) => rule.minutes().contains(minute),
+            Pattern::Event(event) => event.minutes().contains(minute),
         }
     }
 
