@@ -8,6 +8,3 @@ mod script;
 pub use next::run_next;
 pub use plan::run_plan;
 pub use script::run_script;
-
-#[cfg(test)]
-mod tests;

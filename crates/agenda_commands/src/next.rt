@@ -71,6 +71,3 @@ fn starts_text(alloc: Global, rule: &Rule, after: u64, count: u64) -> Result<Vec
     }
     Ok(text)
 }
-
-#[cfg(test)]
-mod tests;

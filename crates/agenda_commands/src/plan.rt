@@ -40,6 +40,3 @@ pub fn run_plan<R: Threads + Wait + Sync, S: Stream>(
     write_agenda(&agenda, &jobs, out)?;
     Ok(())
 }
-
-#[cfg(test)]
-mod tests;

@@ -44,6 +44,3 @@ fn replies_to<M: Drop>(
 {
     run_steps(alloc, rings, steps)
 }
-
-#[cfg(test)]
-mod tests;

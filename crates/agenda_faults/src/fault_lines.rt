@@ -300,6 +300,3 @@ fn put_each<S: Stream>(pieces: &[&[u8]], stream: &mut S) -> Result<(), WriteFaul
     }
     Ok(())
 }
-
-#[cfg(test)]
-mod tests;

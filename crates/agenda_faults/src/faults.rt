@@ -275,6 +275,3 @@ fn script_status(cause: ScriptCause) -> u8
         _ => REFUSED,
     }
 }
-
-#[cfg(test)]
-mod tests;

@@ -10,6 +10,3 @@ pub use fault::{ScriptCause, ScriptFault};
 pub use message::Message;
 pub use reader::{MOST_STEPS, Script, read_script};
 pub use replies::replies_text;
-
-#[cfg(test)]
-mod tests;

@@ -106,6 +106,3 @@ fn add_named(jobs: &mut Jobs, place: usize, job: Job) -> Result<(), SourceFault>
         Err(AddFault::Full(_)) => Err(SourceFault::Full),
     }
 }
-
-#[cfg(test)]
-mod tests;

@@ -10,6 +10,3 @@ mod words;
 pub use ask::{Ask, Asked, UsageFault};
 pub use texts::Texts;
 pub use words::read_words;
-
-#[cfg(test)]
-mod tests;

@@ -19,6 +19,3 @@ pub use serial::{PlanFault, plan_serial};
 pub use span::{Span, SpanFault};
 pub use stream::{Stream, WriteFault};
 pub use write::write_agenda;
-
-#[cfg(test)]
-mod tests;

@@ -145,6 +145,3 @@ fn has_week_day(written: &ValueSet, day: u16) -> bool
 {
     written.contains(day) || day == 0 && written.contains(7)
 }
-
-#[cfg(test)]
-mod tests;

@@ -215,6 +215,3 @@ fn day_component(count: DayCount) -> Component
         DayCount::FromEnd => Component::Place,
     }
 }
-
-#[cfg(test)]
-mod tests;

@@ -3,6 +3,7 @@ use crate::{
     takes_what_outlets_sent, takes_what_was_sent,
 };
 use std::alloc::Global;
+use std::fmt::{Debug, Display};
 use std::process::Abort;
 use std::test::Fail;
 
@@ -12,6 +13,11 @@ mod locks;
 /// A message that can't be copied.
 #[derive(Debug, PartialEq, Eq, Drop)]
 struct Parcel(u8);
+
+/// The mailbox replied what is wanted.
+fn assert_reply<M: Debug + PartialEq + Drop>(rt: &impl Abort, reply: Reply<M>, wanted: Reply<M>) {
+    assert_eq!(rt; reply, wanted);
+}
 
 /// What a new `Core` of these sizes replies to the steps.
 fn replies_of_core(
@@ -37,54 +43,77 @@ fn replies_of_rings(
     Ok(replies)
 }
 
-fn steps_on_unknown_senders() -> [Step<char>; 5] {
-    [
-        Step::Close(5),
-        Step::Close(1),
-        Step::Close(1),
-        Step::Send(7, 'x'),
-        Step::Take,
-    ]
+/// Both mailboxes of two senders, with this room, reply what is wanted. The same steps stand here for each of them.
+fn assert_replies(
+    rt: &(impl Abort + AllocGlobal),
+    room: usize,
+    of_core: Vec<Step<char>>,
+    of_rings: Vec<Step<char>>,
+    wanted: &[Reply<char>],
+) -> Result<(), Fail> {
+    let replies = replies_of_core(rt.alloc(), 2, room, of_core)?;
+    assert_eq!(rt; replies.as_slice(), wanted, "Core");
+    let replies = replies_of_rings(rt.alloc(), 2, room, of_rings)?;
+    assert_eq!(rt; replies.as_slice(), wanted, "Rings");
+    Ok(())
 }
 
-#[test]
-fn closing_and_sending_to_senders_that_are_not_there(rt: HostRuntime) -> Result<(), Fail> {
-    let wanted = [
+fn steps_on_unknown_senders(alloc: Global) -> Result<Vec<Step<char>>, Fail> {
+    Ok(Vec::from_array(
+        alloc,
+        [
+            Step::Close(5),
+            Step::Close(1),
+            Step::Close(1),
+            Step::Send(7, 'x'),
+            Step::Take,
+        ],
+    )?)
+}
+
+fn replies_of_unknown_senders() -> [Reply<char>; 5] {
+    [
         Reply::Unknown,
         Reply::Shut,
         Reply::AlreadyShut,
         Reply::NoSender('x'),
         Reply::Nothing,
-    ];
-    let steps = Vec::from_array(rt.alloc(), steps_on_unknown_senders())?;
-    let replies = replies_of_core(rt.alloc(), 2, 1, steps)?;
-    assert_eq!(rt; replies.as_slice(), wanted.as_slice(), "Core");
-    let steps = Vec::from_array(rt.alloc(), steps_on_unknown_senders())?;
-    let replies = replies_of_rings(rt.alloc(), 2, 1, steps)?;
-    assert_eq!(rt; replies.as_slice(), wanted.as_slice(), "Rings");
-    Ok(())
-}
-
-fn twelve_steps() -> [Step<char>; 12] {
-    [
-        Step::Send(0, 'a'),
-        Step::Send(0, 'b'),
-        Step::Send(0, 'c'),
-        Step::Send(1, 'd'),
-        Step::Take,
-        Step::Take,
-        Step::Close(0),
-        Step::Send(0, 'e'),
-        Step::Take,
-        Step::Take,
-        Step::Close(1),
-        Step::Take,
     ]
 }
 
 #[test]
-fn two_senders_with_room_for_two(rt: HostRuntime) -> Result<(), Fail> {
-    let wanted = [
+fn closing_and_sending_to_senders_that_are_not_there(rt: HostRuntime) -> Result<(), Fail> {
+    assert_replies(
+        &rt,
+        1,
+        steps_on_unknown_senders(rt.alloc())?,
+        steps_on_unknown_senders(rt.alloc())?,
+        &replies_of_unknown_senders(),
+    )
+}
+
+fn twelve_steps(alloc: Global) -> Result<Vec<Step<char>>, Fail> {
+    Ok(Vec::from_array(
+        alloc,
+        [
+            Step::Send(0, 'a'),
+            Step::Send(0, 'b'),
+            Step::Send(0, 'c'),
+            Step::Send(1, 'd'),
+            Step::Take,
+            Step::Take,
+            Step::Close(0),
+            Step::Send(0, 'e'),
+            Step::Take,
+            Step::Take,
+            Step::Close(1),
+            Step::Take,
+        ],
+    )?)
+}
+
+fn twelve_replies() -> [Reply<char>; 12] {
+    [
         Reply::Sent,
         Reply::Sent,
         Reply::Full('c'),
@@ -97,14 +126,18 @@ fn two_senders_with_room_for_two(rt: HostRuntime) -> Result<(), Fail> {
         Reply::Nothing,
         Reply::Shut,
         Reply::Ended,
-    ];
-    let steps = Vec::from_array(rt.alloc(), twelve_steps())?;
-    let replies = replies_of_core(rt.alloc(), 2, 2, steps)?;
-    assert_eq!(rt; replies.as_slice(), wanted.as_slice(), "Core");
-    let steps = Vec::from_array(rt.alloc(), twelve_steps())?;
-    let replies = replies_of_rings(rt.alloc(), 2, 2, steps)?;
-    assert_eq!(rt; replies.as_slice(), wanted.as_slice(), "Rings");
-    Ok(())
+    ]
+}
+
+#[test]
+fn two_senders_with_room_for_two(rt: HostRuntime) -> Result<(), Fail> {
+    assert_replies(
+        &rt,
+        2,
+        twelve_steps(rt.alloc())?,
+        twelve_steps(rt.alloc())?,
+        &twelve_replies(),
+    )
 }
 
 /// Ten thousand sends, by the eight senders in turn.
@@ -144,19 +177,30 @@ fn ten_thousand_steps_at_the_largest_sizes(rt: HostRuntime) -> Result<(), Fail> 
     Ok(())
 }
 
+fn assert_bad_size(rt: &(impl Abort + AllocGlobal), senders: usize, room: usize) {
+    let fault = Core::<char>::new(rt.alloc(), senders, room).err();
+    assert_eq!(rt; fault, Some(NewFault::BadSize), "Core {senders} {room}");
+    let fault = Rings::<char>::new(rt.alloc(), senders, room).err();
+    assert_eq!(rt; fault, Some(NewFault::BadSize), "Rings {senders} {room}");
+}
+
+fn assert_size(rt: &(impl Abort + AllocGlobal), senders: usize, room: usize) -> Result<(), Fail> {
+    assert_new(rt, &Core::new(rt.alloc(), senders, room)?, senders, room);
+    assert_new(rt, &Rings::new(rt.alloc(), senders, room)?, senders, room);
+    Ok(())
+}
+
 #[test]
 fn sizes_of_a_mailbox(rt: HostRuntime) -> Result<(), Fail> {
-    for (senders, room) in [(0, 1), (9, 1), (1, 0), (1, 1025), (0, 0), (usize::MAX, 1)] {
-        let fault = Core::<char>::new(rt.alloc(), senders, room).err();
-        assert_eq!(rt; fault, Some(NewFault::BadSize), "Core {senders} {room}");
-        let fault = Rings::<char>::new(rt.alloc(), senders, room).err();
-        assert_eq!(rt; fault, Some(NewFault::BadSize), "Rings {senders} {room}");
-    }
-    for (senders, room) in [(1, 1), (8, 1024), (2, 16)] {
-        assert_new(&rt, &Core::new(rt.alloc(), senders, room)?, senders, room);
-        assert_new(&rt, &Rings::new(rt.alloc(), senders, room)?, senders, room);
-    }
-    Ok(())
+    assert_bad_size(&rt, 0, 1);
+    assert_bad_size(&rt, 9, 1);
+    assert_bad_size(&rt, 1, 0);
+    assert_bad_size(&rt, 1, 1025);
+    assert_bad_size(&rt, 0, 0);
+    assert_bad_size(&rt, usize::MAX, 1);
+    assert_size(&rt, 1, 1)?;
+    assert_size(&rt, 8, 1024)?;
+    assert_size(&rt, 2, 16)
 }
 
 fn assert_new<P: Post<char>>(rt: &impl Abort, post: &P, senders: usize, room: usize) {
@@ -173,27 +217,32 @@ fn a_message_comes_back_as_it_was(rt: HostRuntime) -> Result<(), Fail> {
 }
 
 fn assert_comes_back<P: Post<Parcel>>(rt: &impl Abort, post: &mut P) {
-    assert_eq!(rt; post.send(1, Parcel(1)), Reply::NoSender(Parcel(1)));
+    assert_reply(rt, post.send(1, Parcel(1)), Reply::NoSender(Parcel(1)));
     assert!(rt; post.is_new(), "nothing was sent");
-    assert_eq!(rt; post.send(0, Parcel(2)), Reply::Sent);
-    assert_eq!(rt; post.send(0, Parcel(3)), Reply::Full(Parcel(3)));
-    assert_eq!(rt; post.close(0), Reply::Shut);
-    assert_eq!(rt; post.send(0, Parcel(4)), Reply::Closed(Parcel(4)));
-    assert_eq!(rt; post.take(), Reply::Took(0, Parcel(2)));
-    assert_eq!(rt; post.take(), Reply::Ended);
+    assert_reply(rt, post.send(0, Parcel(2)), Reply::Sent);
+    assert_reply(rt, post.send(0, Parcel(3)), Reply::Full(Parcel(3)));
+    assert_reply(rt, post.close(0), Reply::Shut);
+    assert_reply(rt, post.send(0, Parcel(4)), Reply::Closed(Parcel(4)));
+    assert_reply(rt, post.take(), Reply::Took(0, Parcel(2)));
+    assert_reply(rt, post.take(), Reply::Ended);
     assert!(rt; !post.is_new(), "a message was sent");
+}
+
+/// The fault shows this name.
+fn assert_shown(
+    rt: &(impl Abort + AllocGlobal),
+    fault: &impl Display,
+    wanted: &str,
+) -> Result<(), Fail> {
+    let shown = fault.to_string(rt.alloc())?;
+    assert_eq!(rt; shown.as_str(), wanted);
+    Ok(())
 }
 
 #[test]
 fn faults_show_their_names(rt: HostRuntime) -> Result<(), Fail> {
-    for (fault, wanted) in [
-        (NewFault::NoMemory, "NoMemory"),
-        (NewFault::BadSize, "BadSize"),
-    ] {
-        let shown = fault.to_string(rt.alloc())?;
-        assert_eq!(rt; shown.as_str(), wanted);
-    }
-    Ok(())
+    assert_shown(&rt, &NewFault::NoMemory, "NoMemory")?;
+    assert_shown(&rt, &NewFault::BadSize, "BadSize")
 }
 
 #[test]

@@ -9,6 +9,3 @@ mod search;
 
 pub use next::{next_from, next_start};
 pub use piece::{NoMemory, Piece, next_piece};
-
-#[cfg(test)]
-mod tests;

@@ -204,6 +204,3 @@ fn name(alloc: Global, kind: Kind, number: u32) -> Result<String, AllocError>
         Kind::System => format!(in alloc; "system:{number}"),
     }
 }
-
-#[cfg(test)]
-mod tests;

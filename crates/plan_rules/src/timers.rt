@@ -264,6 +264,3 @@ impl Settings {
         Ok(Job::new(name, what, Arc::new(alloc, Rule::Events(events))?))
     }
 }
-
-#[cfg(test)]
-mod tests;

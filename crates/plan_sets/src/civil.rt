@@ -150,6 +150,3 @@ pub fn month_length(year: u16, month: u8) -> u8
 {
     days_in_month(year as i16, month)
 }
-
-#[cfg(test)]
-mod tests;

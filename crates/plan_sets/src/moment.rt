@@ -121,6 +121,3 @@ pub fn moment_text(second: u64) -> [u8; 20]
         c1, c2, y1, y2, b'-', m1, m2, b'-', d1, d2, b'T', h1, h2, b':', n1, n2, b':', s1, s2, b'Z',
     ]
 }
-
-#[cfg(test)]
-mod tests;

@@ -73,33 +73,3 @@ impl<T: Drop> From<AllocFailed<T>> for RuleFault {
         }
     }
 }
-
-#[cfg(test)]
-mod tests {
-    use super::*;
-    use std::test::Fail;
-
-    #[test]
-    fn names_of_faults(rt: HostRuntime) -> Result<(), Fail> {
-        let rows = [
-            (RuleCause::NoMemory, "NoMemory"),
-            (RuleCause::WrongParts, "WrongParts"),
-            (RuleCause::BadNumber, "BadNumber"),
-            (RuleCause::BadName, "BadName"),
-            (RuleCause::Values(SetFault::NoItem), "NoItem"),
-            (RuleCause::Values(SetFault::OutOfRange), "OutOfRange"),
-            (RuleCause::Values(SetFault::Backwards), "Backwards"),
-            (RuleCause::Values(SetFault::ZeroStep), "ZeroStep"),
-            (RuleCause::Fraction, "Fraction"),
-            (RuleCause::Zone, "Zone"),
-            (RuleCause::UnknownWord, "UnknownWord"),
-            (RuleCause::Specifier, "Specifier"),
-        ];
-        for (cause, name) in rows {
-            assert_eq!(rt; format!(in rt.alloc(); "{cause}")?.as_str(), name);
-            let fault = RuleFault { part: 1, cause };
-            assert_eq!(rt; format!(in rt.alloc(); "{fault}")?.as_str(), name);
-        }
-        Ok(())
-    }
-}

@@ -32,18 +32,3 @@ impl Text {
         self.kept.as_str()
     }
 }
-
-#[cfg(test)]
-mod tests {
-    use super::*;
-    use std::test::Fail;
-
-    #[test]
-    fn lends_what_it_keeps(rt: HostRuntime) -> Result<(), Fail> {
-        for written in ["", "30 4 1,15 * 5", "à 12 h"] {
-            let text = Text::new(String::from_str(rt.alloc(), written)?);
-            assert_eq!(rt; text.as_str(), written);
-        }
-        Ok(())
-    }
-}

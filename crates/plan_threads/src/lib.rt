@@ -10,6 +10,3 @@ mod promise;
 pub use gate::{Gate, NoGate};
 pub use planner::run_planner;
 pub use planning::plan;
-
-#[cfg(test)]
-mod tests;

@@ -1,5 +1,6 @@
 use super::*;
 use std::io::ErrorKind;
+use std::process::Abort;
 use std::test::Fail;
 
 /// A file that gives some bytes, some at a call, and then ends or fails.
@@ -137,25 +138,32 @@ fn newlines(alloc: Global, count: usize) -> Result<Vec<u8>, Fail> {
     Ok(held)
 }
 
+// That so many bytes are read of a file of so many newlines.
+fn reads(
+    rt: &(impl Abort + AllocGlobal),
+    count: usize,
+    at_a_call: usize,
+    fails: bool,
+    len: usize,
+) -> Result<(), Fail> {
+    let held = newlines(rt.alloc(), count)?;
+    let mut files = OneFile::new("a", held.as_slice());
+    files.at_a_call = at_a_call;
+    files.fails = fails;
+    assert_eq!(rt; read_file(rt.alloc(), &mut files, "a")?.len(), len);
+    Ok(())
+}
+
 // What comes behind these bytes is a fault, which is never met.
 #[test]
 fn no_more_than_one_byte_past_the_limit_is_read(rt: HostRuntime) -> Result<(), Fail> {
-    let held = newlines(rt.alloc(), 1_048_577)?;
-    for at_a_call in [4_096, 1_048_576, 7] {
-        let mut files = OneFile::new("a", held.as_slice());
-        files.at_a_call = at_a_call;
-        files.fails = true;
-        assert_eq!(rt; read_file(rt.alloc(), &mut files, "a")?.len(), 1_048_577);
-    }
-    Ok(())
+    reads(&rt, 1_048_577, 4_096, true, 1_048_577)?;
+    reads(&rt, 1_048_577, 1_048_576, true, 1_048_577)?;
+    reads(&rt, 1_048_577, 7, true, 1_048_577)
 }
 
 #[test]
 fn files_of_the_limit_and_of_more(rt: HostRuntime) -> Result<(), Fail> {
-    for (count, len) in [(1_048_576, 1_048_576), (1_048_580, 1_048_577)] {
-        let held = newlines(rt.alloc(), count)?;
-        let mut files = OneFile::new("a", held.as_slice());
-        assert_eq!(rt; read_file(rt.alloc(), &mut files, "a")?.len(), len);
-    }
-    Ok(())
+    reads(&rt, 1_048_576, 4_096, false, 1_048_576)?;
+    reads(&rt, 1_048_580, 4_096, false, 1_048_577)
 }

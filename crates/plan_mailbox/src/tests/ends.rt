@@ -1,6 +1,7 @@
 ghost use Rattle.std.specs.Prelude.{◌≡◌, IfOk, Some, slice_get};
 ghost use Rattle.plan_mailbox.specs.Ends.{inlet_of, outlet_of, receipt_of};
 
+use super::assert_shown;
 use crate::{Inlet, NotSettled, Outlet, Receipt, Rings};
 use std::alloc::Global;
 use std::process::Abort;
@@ -115,7 +116,7 @@ fn take_most<R: Wait + Abort>(rt: &R, inlet: &mut Inlet<u32>, counts: &mut [u32;
     }
 }
 
-/// Settles both receipts, and takes what still waits.
+/// Settles both receipts, and takes what still waits: all came then.
 fn settle_both(
     rt: &impl Abort,
     inlet: &mut Inlet<u32>,
@@ -133,6 +134,8 @@ fn settle_both(
             count_in(rt, counts, sender, message);
         }
     }
+    assert_eq!(rt; *counts, [10_000, 10_000]);
+    assert_eq!(rt; inlet.try_take(), None);
 }
 
 #[test]
@@ -151,15 +154,11 @@ fn two_threads_send_in_order_over_room_for_one(rt: HostRuntime) -> Result<(), Fa
         second.join(&rt),
         &mut counts,
     );
-    assert_eq!(rt; counts, [10_000, 10_000]);
-    assert_eq!(rt; inlet.try_take(), None);
     Ok(())
 }
 
 #[test]
 fn a_refused_settling_shows_its_name(rt: HostRuntime) -> Result<(), Fail> {
     let fault = NotSettled { made_by_settle: () };
-    let shown = fault.to_string(rt.alloc())?;
-    assert_eq!(rt; shown.as_str(), "NotSettled");
-    Ok(())
+    assert_shown(&rt, &fault, "NotSettled")
 }

@@ -1,9 +1,9 @@
 //! The command `plan`.
 
-use super::{Left, command_line};
+use super::{Left, command_line, has_failed, has_printed, run_with};
 use crate::answer::answer_words;
 use crate::files::Files;
-use crate::files::tests::LimitedFile;
+use crate::files::tests::{LimitedFile, OneFile};
 use crate::tests::writers::{End, LimitedWriter};
 use std::alloc::Global;
 use std::io::{self, ErrorKind};
@@ -47,26 +47,19 @@ const NIGHTLY_TEXT: &str =
     "2024-01-01T00:00:00Z\tcron:4\tb\n2024-01-01T00:00:00Z\trot.timer\trot.service\n";
 
 // The words of a plan from the begin of 2024 up to a moment.
-fn plan_line(alloc: Global, upto: &str, more: &[&str]) -> Result<Vec<String>, Fail> {
-    let mut line = command_line(
-        alloc,
-        &["plan", "--since", "2024-01-01T00:00:00Z", "--upto", upto],
-    )?;
-    for word in more {
-        line.push(String::from_str(alloc, word)?)?;
-    }
-    Ok(line)
+fn plan_words(alloc: Global, upto: &str, more: &str) -> Result<String, Fail> {
+    let begin = "agenda|plan|--since|2024-01-01T00:00:00Z|--upto";
+    Ok(format!(in alloc; "{begin}|{upto}|{more}")?)
 }
 
-// What a plan from the begin of 2024 up to a moment leaves behind.
-fn planned(
+// What words leave behind where few files are there.
+fn run_over(
     rt: &(impl Threads + Wait + Sync + AllocGlobal),
+    words: &str,
     files: &[(&str, &[u8])],
-    upto: &str,
-    more: &[&str],
 ) -> Result<Left, Fail> {
     let alloc = rt.alloc();
-    let line = plan_line(alloc, upto, more)?;
+    let line = command_line(alloc, words)?;
     let mut files = FewFiles { files, opened: 0 };
     let (mut out, mut err) = (Vec::new(alloc), Vec::new(alloc));
     let status = answer_words(rt, alloc, line.as_slice(), &mut files, &mut out, &mut err);
@@ -78,79 +71,79 @@ fn planned(
     })
 }
 
+// What a plan of the nightly jobs from the begin of 2024 up to a moment leaves behind.
+fn nightly(
+    rt: &(impl Threads + Wait + Sync + AllocGlobal),
+    upto: &str,
+    more: &str,
+) -> Result<Left, Fail> {
+    let words = plan_words(rt.alloc(), upto, more)?;
+    run_over(rt, words.as_str(), &NIGHTLY)
+}
+
+// What a plan from the begin of 2024 up to a moment leaves behind, where one file is there.
+fn planned(
+    rt: &(impl Threads + Wait + Sync + AllocGlobal),
+    path: &str,
+    bytes: &[u8],
+    upto: &str,
+    more: &str,
+) -> Result<Left, Fail> {
+    let words = plan_words(rt.alloc(), upto, more)?;
+    run_with(rt, words.as_str(), OneFile::new(path, bytes))
+}
+
 const A_DAY: &str = "2024-01-02T00:00:00Z";
-
-// A plan of a day that prints a text, and opens each path once.
-fn prints(
-    rt: &(impl Threads + Wait + Sync + Abort + AllocGlobal),
-    files: &[(&str, &[u8])],
-    more: &[&str],
-    text: &str,
-) -> Result<(), Fail> {
-    let left = planned(rt, files, A_DAY, more)?;
-    assert_eq!(rt; left.status, 0, "{text}");
-    assert_eq!(rt; left.out.as_slice(), text.as_bytes());
-    assert!(rt; left.err.is_empty());
-    assert_eq!(rt; left.opened, files.len());
-    Ok(())
-}
-
-// A plan of a day that is refused.
-fn refuses(
-    rt: &(impl Threads + Wait + Sync + Abort + AllocGlobal),
-    files: &[(&str, &[u8])],
-    more: &[&str],
-    line: &str,
-) -> Result<(), Fail> {
-    let left = planned(rt, files, A_DAY, more)?;
-    assert_eq!(rt; left.status, 1, "{line}");
-    assert!(rt; left.out.is_empty());
-    assert_eq!(rt; left.err.as_slice(), line.as_bytes());
-    Ok(())
-}
 
 #[test]
 fn a_reset_empties_the_list(rt: HostRuntime) -> Result<(), Fail> {
     let timer =
         b"[Timer]\nOnCalendar=hourly\nOnCalendar=\nOnCalendar=daily\nOnCalendar=*-*-* 00:00:00\n";
-    prints(
-        &rt,
-        &[("a/b/backup.timer", timer)],
-        &["a/b/backup.timer"],
-        "2024-01-01T00:00:00Z\tbackup.timer\tbackup.service\n",
-    )
+    let path = "a/b/backup.timer";
+    let text = "2024-01-01T00:00:00Z\tbackup.timer\tbackup.service\n";
+    has_printed(&rt, planned(&rt, path, timer, A_DAY, path)?, text, 1);
+    Ok(())
 }
 
-#[test]
-fn a_crontab_and_a_timer(rt: HostRuntime) -> Result<(), Fail> {
-    let words = ["--crontab", "crontab", "timers/rot.timer"];
-    prints(&rt, &NIGHTLY, &words, NIGHTLY_TEXT)
-}
-
-#[test]
-fn any_number_of_planners_prints_the_same(rt: HostRuntime) -> Result<(), Fail> {
-    for planners in ["1", "2", "8"] {
-        let words = [
-            "--planners",
-            planners,
-            "--room",
-            "1",
-            "--crontab",
-            "crontab",
-            "timers/rot.timer",
-        ];
-        prints(&rt, &NIGHTLY, &words, NIGHTLY_TEXT)?;
-    }
+// That a plan of the nightly jobs prints their text, and opens each path once.
+fn prints_nightly(
+    rt: &(impl Threads + Wait + Sync + Abort + AllocGlobal),
+    more: &str,
+) -> Result<(), Fail> {
+    has_printed(rt, nightly(rt, A_DAY, more)?, NIGHTLY_TEXT, 2);
     Ok(())
 }
 
 #[test]
+fn a_crontab_and_a_timer(rt: HostRuntime) -> Result<(), Fail> {
+    prints_nightly(&rt, "--crontab|crontab|timers/rot.timer")
+}
+
+#[test]
+fn any_number_of_planners_prints_the_same(rt: HostRuntime) -> Result<(), Fail> {
+    prints_nightly(
+        &rt,
+        "--planners|1|--room|1|--crontab|crontab|timers/rot.timer",
+    )?;
+    prints_nightly(
+        &rt,
+        "--planners|2|--room|1|--crontab|crontab|timers/rot.timer",
+    )?;
+    prints_nightly(
+        &rt,
+        "--planners|8|--room|1|--crontab|crontab|timers/rot.timer",
+    )
+}
+
+#[test]
 fn a_systems_crontab(rt: HostRuntime) -> Result<(), Fail> {
+    let crontab = b"17 * * * * root cd / && run-parts x\n";
     let left = planned(
         &rt,
-        &[("etc", b"17 * * * * root cd / && run-parts x\n")],
+        "etc",
+        crontab,
         "2024-01-01T02:00:00Z",
-        &["--system-crontab", "etc"],
+        "--system-crontab|etc",
     )?;
     assert_eq!(rt; left.status, 0);
     assert_eq!(rt;
@@ -162,67 +155,54 @@ fn a_systems_crontab(rt: HostRuntime) -> Result<(), Fail> {
 
 #[test]
 fn a_span_without_a_second(rt: HostRuntime) -> Result<(), Fail> {
-    let words = ["--crontab", "crontab"];
-    let left = planned(&rt, &NIGHTLY, "2024-01-01T00:00:00Z", &words)?;
-    assert_eq!(rt; left.status, 0);
-    assert!(rt; left.out.is_empty());
-    assert!(rt; left.err.is_empty());
-    let left = planned(&rt, &NIGHTLY, "2023-12-31T23:59:59Z", &words)?;
-    assert_eq!(rt; left.status, 1);
-    assert!(rt; left.out.is_empty());
-    assert_eq!(rt;
-        left.err.as_slice(),
-        b"agenda: span: Backwards\n".as_slice()
-    );
+    let left = nightly(&rt, "2024-01-01T00:00:00Z", "--crontab|crontab")?;
+    has_printed(&rt, left, "", 1);
+    let left = nightly(&rt, "2023-12-31T23:59:59Z", "--crontab|crontab")?;
     assert_eq!(rt; left.opened, 0);
+    has_failed(&rt, left, 1, "agenda: span: Backwards\n");
     Ok(())
 }
 
 #[test]
 fn moments_that_are_refused(rt: HostRuntime) -> Result<(), Fail> {
-    let words = ["--crontab", "there is no file"];
-    let left = planned(&rt, &[], "2024-02-30T00:00:00Z", &words)?;
+    let words = plan_words(
+        rt.alloc(),
+        "2024-02-30T00:00:00Z",
+        "--crontab|there is no file",
+    )?;
+    let left = run_over(&rt, words.as_str(), &[])?;
     assert_eq!(rt; left.status, 1);
     assert_eq!(rt;
         left.err.as_slice(),
         b"agenda: upto: NoSuchDate\n".as_slice()
     );
-    let line = command_line(
-        rt.alloc(),
-        &["plan", "--since", "2024", "--upto", "x", "there is no file"],
-    )?;
-    let mut files = FewFiles {
-        files: &[],
-        opened: 0,
-    };
-    let (mut out, mut err) = (Vec::new(rt.alloc()), Vec::new(rt.alloc()));
-    let status = answer_words(
-        &rt,
-        rt.alloc(),
-        line.as_slice(),
-        &mut files,
-        &mut out,
-        &mut err,
-    );
-    assert_eq!(rt; status, 1);
-    assert!(rt; out.is_empty());
-    assert_eq!(rt; err.as_slice(), b"agenda: since: BadForm\n".as_slice());
-    assert_eq!(rt; files.opened, 0);
+    let words = "agenda|plan|--since|2024|--upto|x|there is no file";
+    let left = run_over(&rt, words, &[])?;
+    assert_eq!(rt; left.opened, 0);
+    has_failed(&rt, left, 1, "agenda: since: BadForm\n");
     Ok(())
 }
 
 #[test]
 fn limit_60_is_enough_and_59_is_not(rt: HostRuntime) -> Result<(), Fail> {
-    let files: [(&str, &[u8]); 1] = [("c", b"* * * * * x\n")];
-    let upto = "2024-01-01T01:00:00Z";
-    let left = planned(&rt, &files, upto, &["--limit", "60", "--crontab", "c"])?;
+    let (upto, crontab) = ("2024-01-01T01:00:00Z", b"* * * * * x\n");
+    let left = planned(&rt, "c", crontab, upto, "--limit|60|--crontab|c")?;
     assert_eq!(rt; left.status, 0);
     // A moment, two tabs, `cron:1`, `x` and a newline.
     assert_eq!(rt; left.out.len(), 60 * 30);
-    let left = planned(&rt, &files, upto, &["--limit", "59", "--crontab", "c"])?;
-    assert_eq!(rt; left.status, 1);
-    assert!(rt; left.out.is_empty());
-    assert_eq!(rt; left.err.as_slice(), b"agenda: plan: TooMany\n".as_slice());
+    let left = planned(&rt, "c", crontab, upto, "--limit|59|--crontab|c")?;
+    has_failed(&rt, left, 1, "agenda: plan: TooMany\n");
+    Ok(())
+}
+
+// That a plan of a day is refused by a line.
+fn refuses_day(
+    rt: &(impl Threads + Wait + Sync + Abort + AllocGlobal),
+    more: &str,
+    line: &str,
+) -> Result<(), Fail> {
+    let left = planned(rt, "c", b"@daily x\n", A_DAY, more)?;
+    has_failed(rt, left, 1, line);
     Ok(())
 }
 
@@ -230,68 +210,61 @@ fn limit_60_is_enough_and_59_is_not(rt: HostRuntime) -> Result<(), Fail> {
 fn sizes_and_limits_that_are_refused(rt: HostRuntime) -> Result<(), Fail> {
     let size = "agenda: plan: BadSize\n";
     let limit = "agenda: plan: BadLimit\n";
-    let files: [(&str, &[u8]); 1] = [("c", b"@daily x\n")];
-    refuses(&rt, &files, &["--planners", "0", "--crontab", "c"], size)?;
-    refuses(&rt, &files, &["--planners", "9", "--crontab", "c"], size)?;
-    refuses(&rt, &files, &["--room", "0", "--crontab", "c"], size)?;
-    refuses(&rt, &files, &["--room", "1025", "--crontab", "c"], size)?;
-    refuses(&rt, &files, &["--limit", "0", "--crontab", "c"], limit)?;
-    refuses(
-        &rt,
-        &files,
-        &["--limit", "1000001", "--crontab", "c"],
-        limit,
-    )?;
+    refuses_day(&rt, "--planners|0|--crontab|c", size)?;
+    refuses_day(&rt, "--planners|9|--crontab|c", size)?;
+    refuses_day(&rt, "--room|0|--crontab|c", size)?;
+    refuses_day(&rt, "--room|1025|--crontab|c", size)?;
+    refuses_day(&rt, "--limit|0|--crontab|c", limit)?;
+    refuses_day(&rt, "--limit|1000001|--crontab|c", limit)?;
     // The size comes before the limit.
-    refuses(&rt, &files, &["--limit", "0", "--room", "0"], size)
+    refuses_day(&rt, "--limit|0|--room|0", size)
 }
 
-#[test]
-fn lines_that_are_refused(rt: HostRuntime) -> Result<(), Fail> {
+// That a plan of a day is refused by a line of one of three sources.
+fn refuses_line(
+    rt: &(impl Threads + Wait + Sync + Abort + AllocGlobal),
+    more: &str,
+    line: &str,
+) -> Result<(), Fail> {
     let files: [(&str, &[u8]); 3] = [
         ("c", b"\n60 * * * * x\n"),
         ("s", b"* * * * * root\n"),
         ("t/bad.timer", b"[Timer]\nOnCalendar=Mon 12:00:00.5\n"),
     ];
-    refuses(
+    let words = plan_words(rt.alloc(), A_DAY, more)?;
+    has_failed(rt, run_over(rt, words.as_str(), &files)?, 1, line);
+    Ok(())
+}
+
+#[test]
+fn lines_that_are_refused(rt: HostRuntime) -> Result<(), Fail> {
+    refuses_line(
         &rt,
-        &files,
-        &["--crontab", "c", "--system-crontab", "s", "t/bad.timer"],
+        "--crontab|c|--system-crontab|s|t/bad.timer",
         "agenda: crontab: line 2: part 1: OutOfRange\n",
     )?;
-    refuses(
+    refuses_line(
         &rt,
-        &files,
-        &["--system-crontab", "s", "t/bad.timer"],
+        "--system-crontab|s|t/bad.timer",
         "agenda: system crontab: line 1: NoCommand\n",
     )?;
-    refuses(
+    refuses_line(
         &rt,
-        &files,
-        &["t/bad.timer"],
+        "t/bad.timer",
         "agenda: bad.timer: line 2: part 7: Fraction\n",
     )?;
-    refuses(
-        &rt,
-        &[("t/a@b.timer", b"")],
-        &["t/a@b.timer"],
-        "agenda: a@b.timer: line 0: BadTimerName\n",
-    )
+    let line = "agenda: a@b.timer: line 0: BadTimerName\n";
+    let left = planned(&rt, "t/a@b.timer", b"", A_DAY, "t/a@b.timer")?;
+    has_failed(&rt, left, 1, line);
+    Ok(())
 }
 
 #[test]
 fn a_timer_that_is_given_twice(rt: HostRuntime) -> Result<(), Fail> {
-    refuses(
-        &rt,
-        &NIGHTLY,
-        &[
-            "--crontab",
-            "crontab",
-            "timers/rot.timer",
-            "timers/rot.timer",
-        ],
-        "agenda: job rot.timer: SameName\n",
-    )
+    let more = "--crontab|crontab|timers/rot.timer|timers/rot.timer";
+    let line = "agenda: job rot.timer: SameName\n";
+    has_failed(&rt, nightly(&rt, A_DAY, more)?, 1, line);
+    Ok(())
 }
 
 #[test]
@@ -300,29 +273,25 @@ fn a_thousand_jobs_and_one_more(rt: HostRuntime) -> Result<(), Fail> {
     for _ in 0..1_001 {
         text.extend_from_slice(b"* * * * * x\n")?;
     }
-    refuses(
-        &rt,
-        &[("c", text.as_slice())],
-        &["--crontab", "c", "--room", "0"],
-        "agenda: jobs: Full\n",
-    )
+    let more = "--crontab|c|--room|0";
+    let left = planned(&rt, "c", text.as_slice(), A_DAY, more)?;
+    has_failed(&rt, left, 1, "agenda: jobs: Full\n");
+    Ok(())
 }
 
 #[test]
 fn a_file_that_is_missing(rt: HostRuntime) -> Result<(), Fail> {
-    let words = ["--crontab", "crontab", "--system-crontab", "a b", "c.timer"];
-    let left = planned(&rt, &NIGHTLY, A_DAY, &words)?;
-    assert_eq!(rt; left.status, 3);
-    assert!(rt; left.out.is_empty());
-    assert_eq!(rt; left.err.as_slice(), b"agenda: a b: Device\n".as_slice());
+    let more = "--crontab|crontab|--system-crontab|a b|c.timer";
+    let left = nightly(&rt, A_DAY, more)?;
     assert_eq!(rt; left.opened, 2);
+    has_failed(&rt, left, 3, "agenda: a b: Device\n");
     Ok(())
 }
 
 #[test]
 fn standard_output_that_fails_after_ten_bytes(rt: HostRuntime) -> Result<(), Fail> {
-    let words = ["--crontab", "crontab", "timers/rot.timer"];
-    let line = plan_line(rt.alloc(), A_DAY, &words)?;
+    let words = plan_words(rt.alloc(), A_DAY, "--crontab|crontab|timers/rot.timer")?;
+    let line = command_line(rt.alloc(), words.as_str())?;
     let mut files = FewFiles {
         files: &NIGHTLY,
         opened: 0,
