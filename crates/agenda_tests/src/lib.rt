@@ -1,5 +1,5 @@
-//! The tests of what the crates offer that agenda stands on: agenda_words, agenda_sources, agenda_script, agenda_faults and
-//! agenda_commands. They stand in a crate that has nothing else: with tests in it, the gate proves a crate once more.
+//! The tests of what agenda_sources and agenda_faults offer, and of the commands `next` and `plan` of agenda_commands. They stand in a
+//! crate that has nothing else: with tests in it, the gate proves a crate once more.
 #![tactic(auto)]
 
 #[cfg(test)]
@@ -13,12 +13,4 @@ mod next;
 #[cfg(test)]
 mod plan;
 #[cfg(test)]
-mod script;
-#[cfg(test)]
-mod scripts;
-#[cfg(test)]
 mod sources;
-#[cfg(test)]
-mod texts;
-#[cfg(test)]
-mod words;

@@ -5,9 +5,13 @@ use Rattle.clap.specs.Simple.{on_top}
 use Rattle.clap.specs.declared.builder.action.ArgAction.TheVariants.{Append}
 use Rattle.clap.specs.declared.builder.value_parser.ValueParser.TheVariants as parser
 
+-- own: an argument `VALUE`, which may be missing
+abbrev pub argument_named : List ℕ → Rule
+argument_named name = record (new_rule name) { value_names = 1 }
+
 -- own: an option `--name VALUE`, which may be missing
 abbrev pub option_named : List ℕ → Rule
-option_named name = record (new_rule name) { long = Some name; value_names = 1 }
+option_named name = record (argument_named name) { long = Some name }
 
 -- own: a moment, which has to be there
 abbrev pub moment_option : List ℕ → Rule
@@ -22,11 +26,11 @@ number_option name default = record (option_named name) {
 
 -- own: `FILE`, which has to be there
 abbrev pub file_argument : Rule
-file_argument = record (new_rule (codes "file")) { value_names = 1; required = true }
+file_argument = record (argument_named (codes "file")) { required = true }
 
 -- own: `TIMER ..`, of which there may be any number
 abbrev pub timers_argument : Rule
-timers_argument = record (new_rule (codes "timer")) { value_names = 1; action = Some Append }
+timers_argument = record (argument_named (codes "timer")) { action = Some Append }
 
 -- own: a subcommand with these options and arguments
 abbrev pub subcommand_with : List ℕ → List Rule → App

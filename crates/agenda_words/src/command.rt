@@ -2,7 +2,7 @@
 ghost use Rattle.std.specs.Prelude.{◌≡◌, [], ◌∷◌, IfOk, false};
 ghost use Rattle.clap.specs.Words.{app_of, items_of, rule_of};
 ghost use Rattle.clap.specs.declared.builder.command.Command.TheViews.{out-Command};
-ghost use Rattle.agenda_words.specs.Command.{agenda, file_argument, moment_option, next};
+ghost use Rattle.agenda_words.specs.Command.{agenda, argument_named, file_argument, moment_option, next};
 ghost use Rattle.agenda_words.specs.Command.{number_option, option_named, plan, steps};
 ghost use Rattle.agenda_words.specs.Command.{timers_argument};
 
@@ -82,10 +82,7 @@ fn file_argument<'a>(alloc: Global) -> Arg<'a>
     ensures rule { rule_of result ≡ file_argument }
     ensures local { result.global ≡ false }
 {
-    Arg::new(alloc, "file")
-        .value_name("FILE")
-        .required(true)
-        .help(help::FILE)
+    argument(alloc, "file", "FILE", help::FILE).required(true)
 }
 
 // `TIMER ..`, of which there may be any number.
@@ -93,10 +90,7 @@ fn timers_argument<'a>(alloc: Global) -> Arg<'a>
     ensures rule { rule_of result ≡ timers_argument }
     ensures local { result.global ≡ false }
 {
-    Arg::new(alloc, "timer")
-        .value_name("TIMER")
-        .action(ArgAction::Append)
-        .help(help::TIMER)
+    argument(alloc, "timer", "TIMER", help::TIMER).action(ArgAction::Append)
 }
 
 // `--name T`, a moment, which has to be there.
@@ -123,8 +117,14 @@ fn text_option<'a>(alloc: Global, name: &'a str, value: &'a str, help: &'a str) 
     ensures shown { items_of result.val_names ≡ value.entry ∷ [] }
     ensures local { result.global ≡ false }
 {
-    Arg::new(alloc, name)
-        .long(name)
-        .value_name(value)
-        .help(help)
+    argument(alloc, name, value, help).long(name)
+}
+
+// `VALUE`, which may be missing, under a name.
+fn argument<'a>(alloc: Global, name: &'a str, value: &'a str, help: &'a str) -> Arg<'a>
+    ensures rule { rule_of result ≡ argument_named name.entry.now }
+    ensures shown { items_of result.val_names ≡ value.entry ∷ [] }
+    ensures local { result.global ≡ false }
+{
+    Arg::new(alloc, name).value_name(value).help(help)
 }

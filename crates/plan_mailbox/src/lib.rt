@@ -32,6 +32,3 @@ pub use replies::{Reply, Step};
 pub use rings::Rings;
 pub use run::run_steps;
 pub use sizes::{MOST_ROOM, MOST_SENDERS};
-
-#[cfg(test)]
-mod tests;

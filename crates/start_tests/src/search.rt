@@ -1,33 +1,25 @@
 use plan_grammar::{calendar_event, calendar_rule, cron_rule};
 use plan_match::{Events, Rule};
-use plan_next::{next_from, next_piece, next_start};
+use plan_next::{next_from, next_start};
 use plan_sets::END_SECOND;
 use std::alloc::Global;
 use std::process::Abort;
-use std::sync::Arc;
 use std::test::Fail;
-
-const NOON: u64 = 43_200;
-
-// The seconds of 1970-01-02T00:00:00Z and of 1971-01-01T00:00:00Z.
-const SECOND_DAY: u64 = 86_400;
-
-const SECOND_YEAR: u64 = 31_536_000;
 
 const EITHER_DAY: &str = "30 4 1,15 * 5";
 
-const LEAP_DAYS: &str = "0 0 29 2 *";
+pub const LEAP_DAYS: &str = "0 0 29 2 *";
 
 const FRIDAYS: &str = "Fri *-*-13 12:00";
 
-const LAST_DAYS: &str = "*-*~01 12:00";
+pub const LAST_DAYS: &str = "*-*~01 12:00";
 
 const NEVER: &str = "*-2-30";
 
 const LAST_SECOND: &str = "2199-12-31 23:59:59";
 
-// The rule of two events.
-fn pair(alloc: Global, first: &str, second: &str) -> Result<Rule, Fail> {
+/// The rule of two events.
+pub fn pair(alloc: Global, first: &str, second: &str) -> Result<Rule, Fail> {
     let mut events = Events::one(alloc, calendar_event(alloc, first)?)?;
     events.push(calendar_event(alloc, second)?)?;
     Ok(Rule::Events(events))
@@ -144,73 +136,5 @@ fn two_events_of_which_one_never_starts(rt: HostRuntime) -> Result<(), Fail> {
     let none = pair(alloc, NEVER, NEVER)?;
     assert_next(&rt, &none, &[(0, None)]);
     assert_next(&rt, &Rule::Events(Events::new(alloc)), &[(0, None)]);
-    Ok(())
-}
-
-#[test]
-fn a_piece_of_5_000_starts(rt: HostRuntime) -> Result<(), Fail> {
-    let alloc = rt.alloc();
-    let minute = Arc::new(alloc, cron_rule(alloc, "* * * * *")?)?;
-    let piece = next_piece(alloc, &minute, 1, END_SECOND, 5_000)?;
-    assert_eq!(rt; piece.since(), 1);
-    assert_eq!(rt; piece.starts().len(), 5_000);
-    assert_eq!(rt; piece.starts().first().copied(), Some(60));
-    assert_eq!(rt; piece.starts().last().copied(), Some(300_000));
-    assert_eq!(rt; piece.upto(), 300_001);
-    assert!(rt; **piece.rule() == *minute);
-    Ok(())
-}
-
-// A leap day in each fourth year from 1972 to 2196, but for 2100.
-#[test]
-fn a_piece_up_to_the_end_of_all_years(rt: HostRuntime) -> Result<(), Fail> {
-    let alloc = rt.alloc();
-    let leap = Arc::new(alloc, cron_rule(alloc, LEAP_DAYS)?)?;
-    let piece = next_piece(alloc, &leap, 0, END_SECOND, 1_000)?;
-    assert_eq!(rt; piece.starts().len(), 56);
-    assert_eq!(rt; piece.starts().last().copied(), Some(7_136_985_600));
-    assert_eq!(rt; piece.upto(), END_SECOND);
-
-    let never = Arc::new(alloc, Rule::Never)?;
-    let piece = next_piece(alloc, &never, 5, 9, 1)?;
-    assert!(rt; piece.starts().is_empty());
-    assert_eq!(rt; piece.upto(), 9);
-    Ok(())
-}
-
-// A second of two events is one start.
-#[test]
-fn a_second_of_two_events(rt: HostRuntime) -> Result<(), Fail> {
-    let alloc = rt.alloc();
-    let noon = Arc::new(alloc, pair(alloc, "12:00", LAST_DAYS)?)?;
-    let piece = next_piece(alloc, &noon, 0, SECOND_YEAR, 1_000)?;
-    assert_eq!(rt; piece.starts().len(), 365);
-    assert_eq!(rt; piece.starts().last().copied(), Some(SECOND_YEAR - NOON));
-    Ok(())
-}
-
-#[test]
-fn a_piece_of_two_events_in_turn(rt: HostRuntime) -> Result<(), Fail> {
-    let alloc = rt.alloc();
-    let twice = Arc::new(alloc, pair(alloc, "7:00", "6:00")?)?;
-    let piece = next_piece(alloc, &twice, 0, END_SECOND, 3)?;
-    assert_eq!(rt; piece.starts(), [21_600, 25_200, 108_000].as_slice());
-    assert_eq!(rt; piece.upto(), 108_001);
-    Ok(())
-}
-
-// More events than keep a start of their own.
-#[test]
-fn a_piece_of_71_events(rt: HostRuntime) -> Result<(), Fail> {
-    let alloc = rt.alloc();
-    let mut many = Events::one(alloc, calendar_event(alloc, "12:00")?)?;
-    for hour in 0..70_u32 {
-        let text = format!(in alloc; "{}:00", hour % 24)?;
-        many.push(calendar_event(alloc, text.as_str())?)?;
-    }
-    let many = Arc::new(alloc, Rule::Events(many))?;
-    let piece = next_piece(alloc, &many, 0, SECOND_DAY, 100)?;
-    assert_eq!(rt; piece.starts().len(), 24);
-    assert_eq!(rt; piece.starts().last().copied(), Some(82_800));
     Ok(())
 }

@@ -5,7 +5,6 @@ use agenda_script::{
     MOST_STEPS, Message, Script, ScriptCause, ScriptFault, read_script, replies_text,
 };
 use plan_mailbox::{Post, Reply, Rings, Step, run_steps};
-use plan_texts::lines::MOST_BYTES;
 use std::alloc::Global;
 use std::process::Abort;
 use std::test::Fail;
@@ -87,46 +86,8 @@ fn a_message_is_what_follows_one_space(rt: HostRuntime) -> Result<(), Fail> {
     Ok(())
 }
 
-fn refuses(rt: &(impl Abort + AllocGlobal), script: &[u8], line: u32, cause: ScriptCause) {
-    match read_script(rt.alloc(), script) {
-        Ok(_) => panic!(rt; "{script:?} is read"),
-        Err(fault) => assert_eq!(rt; fault, ScriptFault { line, cause }, "{script:?}"),
-    }
-}
-
 #[test]
-fn the_first_fault_decides(rt: HostRuntime) {
-    refuses(&rt, b"", 1, ScriptCause::BadLine);
-    refuses(&rt, b"\n", 1, ScriptCause::BadLine);
-    refuses(&rt, b"mailbox 1", 1, ScriptCause::BadLine);
-    refuses(&rt, b"mailbox 1 1 1", 1, ScriptCause::BadLine);
-    refuses(&rt, b"mailbox  1 1", 1, ScriptCause::BadLine);
-    refuses(&rt, b" mailbox 1 1", 1, ScriptCause::BadLine);
-    refuses(&rt, b"Mailbox 1 1", 1, ScriptCause::BadLine);
-    refuses(&rt, b"mailbox 1 12345", 1, ScriptCause::BadLine);
-    refuses(&rt, b"mailbox 9 1\nsend 0\n", 1, ScriptCause::BadSize);
-    refuses(&rt, b"mailbox 0 1", 1, ScriptCause::BadSize);
-    refuses(&rt, b"mailbox 1 0", 1, ScriptCause::BadSize);
-    refuses(&rt, b"mailbox 8 1025", 1, ScriptCause::BadSize);
-    refuses(&rt, b"mailbox 1 1\nsend 0\n", 2, ScriptCause::BadLine);
-    refuses(&rt, b"mailbox 1 1\nsend 0 \n", 2, ScriptCause::BadLine);
-    refuses(&rt, b"mailbox 1 1\ntake\r\n", 2, ScriptCause::BadLine);
-    refuses(&rt, b"mailbox 1 1\ntake\n\n", 3, ScriptCause::BadLine);
-    refuses(
-        &rt,
-        b"mailbox 1 1\ntake\nclose\ngive",
-        3,
-        ScriptCause::BadLine,
-    );
-    refuses(&rt, b"mailbox 1 1\nclose -1", 2, ScriptCause::BadLine);
-    refuses(&rt, b"mailbox 1 1\nclose 0 ", 2, ScriptCause::BadLine);
-    refuses(&rt, b"mailbox 1 1\nTake", 2, ScriptCause::BadLine);
-    refuses(&rt, b"mailbox 1 1\nsend 0 \xff", 0, ScriptCause::NotUtf8);
-    refuses(&rt, b"\xc3", 0, ScriptCause::NotUtf8);
-}
-
-#[test]
-fn ten_thousand_steps_are_read_and_no_more(rt: HostRuntime) -> Result<(), Fail> {
+fn ten_thousand_steps_for_the_largest_mailbox(rt: HostRuntime) -> Result<(), Fail> {
     let mut script = Vec::new(rt.alloc());
     script.extend_from_slice(b"mailbox 8 1024\n")?;
     for _ in 0..MOST_STEPS {
@@ -136,22 +97,6 @@ fn ten_thousand_steps_are_read_and_no_more(rt: HostRuntime) -> Result<(), Fail> 
     assert_eq!(rt; (senders, room), (8, 1024));
     // 1,024 lines `sent`, and `full a` for the others.
     assert_eq!(rt; text.len(), 1_024 * 5 + 8_976 * 7);
-    script.extend_from_slice(b"give\n")?;
-    refuses(&rt, script.as_slice(), 10_002, ScriptCause::TooManySteps);
-    Ok(())
-}
-
-#[test]
-fn a_script_of_the_most_bytes_is_read_and_no_longer_one(rt: HostRuntime) -> Result<(), Fail> {
-    let mut script = Vec::new(rt.alloc());
-    script.extend_from_slice(b"mailbox 1 1\nsend 0 ")?;
-    for _ in script.len()..MOST_BYTES {
-        script.push(b'a')?;
-    }
-    let (_, _, text) = run(rt.alloc(), script.as_slice())?;
-    assert_eq!(rt; text.as_slice(), b"sent\n".as_slice());
-    script.push(0xff)?;
-    refuses(&rt, script.as_slice(), 0, ScriptCause::TooLarge);
     Ok(())
 }
 

@@ -1,6 +1,8 @@
+use crate::crontabs::repeated;
+use crate::jobs::read;
 use plan_rules::{
-    AddFault, Events, Jobs, LineCause, LineFault, MOST_EVENTS, Rule, RuleCause, RuleFault,
-    calendar_event, timer,
+    Events, Job, LineCause, LineFault, MOST_EVENTS, Rule, RuleCause, RuleFault, calendar_event,
+    timer,
 };
 use plan_sets::{Civil, SetFault};
 use std::alloc::Global;
@@ -44,7 +46,7 @@ fn assert_job(
     events: &str,
     what: &str,
 ) -> Result<(), Fail> {
-    let job = timer(rt.alloc(), name, file.as_bytes())?;
+    let job = read(rt.alloc(), name, file)?;
     assert_eq!(rt; job.name(), name);
     assert_eq!(rt; job.what(), what, "{file}");
     let rule = rule_of(rt.alloc(), events)?;
@@ -302,18 +304,22 @@ fn refused_events(rt: HostRuntime) {
     );
 }
 
+// Whether a name of so many bytes, of which the last are `.timer`, is good.
+fn is_good(alloc: Global, length: usize) -> Result<bool, Fail> {
+    let mut name = String::new(alloc);
+    for _ in 6..length {
+        name.push_str("n")?;
+    }
+    name.push_str(".timer")?;
+    Ok(timer(alloc, name.as_str(), b"[Timer]").is_ok())
+}
+
 #[test]
 fn names_of_6_to_256_bytes(rt: HostRuntime) -> Result<(), Fail> {
-    for (length, good) in [(6, false), (7, true), (255, true), (256, false)] {
-        let mut name = String::new(rt.alloc());
-        for _ in 6..length {
-            name.push_str("n")?;
-        }
-        name.push_str(".timer")?;
-        let answer = timer(rt.alloc(), name.as_str(), b"[Timer]");
-        assert_eq!(rt; name.len(), length);
-        assert_eq!(rt; answer.is_ok(), good, "{length}");
-    }
+    assert!(rt; !is_good(rt.alloc(), 6)?);
+    assert!(rt; is_good(rt.alloc(), 7)?);
+    assert!(rt; is_good(rt.alloc(), 255)?);
+    assert!(rt; !is_good(rt.alloc(), 256)?);
     Ok(())
 }
 
@@ -338,9 +344,8 @@ fn assert_too_many(rt: &(impl Abort + AllocGlobal), last: &str) -> Result<(), Fa
 #[test]
 fn sixty_four_events_are_all(rt: HostRuntime) -> Result<(), Fail> {
     let full = days(rt.alloc(), MOST_EVENTS, "")?;
-    let job = timer(rt.alloc(), "t.timer", full.as_str().as_bytes())?;
-    assert!(rt; matches!(&**job.rule(), Rule::Events(events) if events.len() == 64));
-    Ok(())
+    let events = repeated(rt.alloc(), "daily|", 64)?;
+    assert_job(&rt, "t.timer", full.as_str(), events.as_str(), "t.service")
 }
 
 #[test]
@@ -352,52 +357,52 @@ fn more_than_sixty_four_events(rt: HostRuntime) -> Result<(), Fail> {
     assert_too_many(&rt, "OnCalendar=weekly\nOnCalendar=")
 }
 
+// Of a file that is this text as often as 1,048,576 bytes hold it, the section is missing; with two bytes more it is too large. A bad name
+// comes first.
+fn assert_too_large(rt: &(impl Abort + AllocGlobal), part: &str) -> Result<(), Fail> {
+    let times = 1_048_576_usize.checked_div(part.len()).expect(rt, "a text");
+    let mut file = repeated(rt.alloc(), part, times)?;
+    let missing = on_line(0, LineCause::NoTimerSection);
+    assert_refused(rt, "t.timer", file.as_str(), missing);
+    file.push_str("\n\n")?;
+    let large = on_line(0, LineCause::TooLarge);
+    assert_refused(rt, "t.timer", file.as_str(), large);
+    let bad = on_line(0, LineCause::BadTimerName);
+    assert_refused(rt, "t.service", file.as_str(), bad);
+    Ok(())
+}
+
 #[test]
 fn files_of_1_048_576_bytes(rt: HostRuntime) -> Result<(), Fail> {
-    let alloc = rt.alloc();
-    for part in [" ", "x", "\\", "#", "\\\n", "a\\\n", "\n", "=;"] {
-        let mut file = String::new(alloc);
-        for _ in 0..1_048_576 / part.len() {
-            file.push_str(part)?;
-        }
-        let whole = timer(alloc, "t.timer", file.as_str().as_bytes());
-        let missing = on_line(0, LineCause::NoTimerSection);
-        assert!(rt; matches!(&whole, Err(fault) if *fault == missing), "{part}");
-        file.push_str("\n\n")?;
-        let more = timer(alloc, "t.timer", file.as_str().as_bytes());
-        let large = on_line(0, LineCause::TooLarge);
-        assert!(rt; matches!(&more, Err(fault) if *fault == large), "{part}");
-        let other = timer(alloc, "t.service", file.as_str().as_bytes());
-        let bad = on_line(0, LineCause::BadTimerName);
-        assert!(rt; matches!(&other, Err(fault) if *fault == bad), "{part}");
-    }
-    Ok(())
+    assert_too_large(&rt, " ")?;
+    assert_too_large(&rt, "x")?;
+    assert_too_large(&rt, "\\")?;
+    assert_too_large(&rt, "#")?;
+    assert_too_large(&rt, "\\\n")?;
+    assert_too_large(&rt, "a\\\n")?;
+    assert_too_large(&rt, "\n")?;
+    assert_too_large(&rt, "=;")
 }
 
 const TWO_EVENTS: &str = "[Timer]\nOnCalendar=Fri 12:00\nOnCalendar=*-*-3 06:00\n";
 
-#[test]
-fn two_events_of_one_timer(rt: HostRuntime) -> Result<(), Fail> {
-    let job = timer(rt.alloc(), "two.timer", TWO_EVENTS.as_bytes())?;
-    assert_eq!(rt; job.what(), "two.service");
-    let rule = &**job.rule();
-    assert!(rt; matches!(rule, Rule::Events(events) if events.len() == 2));
-    assert!(rt; rule.matches(&january(3, 6)));
-    assert!(rt; rule.matches(&january(5, 12)));
-    assert!(rt; !rule.matches(&january(5, 6)));
-    Ok(())
+// Whether a job starts at an hour of a day of January 2024.
+fn starts(job: &Job, day: u8, hour: u8) -> bool {
+    job.rule().matches(&january(day, hour))
 }
 
 #[test]
-fn a_second_timer_of_one_name(rt: HostRuntime) -> Result<(), Fail> {
-    let mut jobs = Jobs::new(rt.alloc());
-    let job = timer(rt.alloc(), "two.timer", TWO_EVENTS.as_bytes())?;
-    assert_eq!(rt; jobs.add(job)?, 0);
-    let again = timer(rt.alloc(), "two.timer", b"[Timer]\nUnit=other")?;
-    let refused = jobs.add(again);
-    assert!(rt; matches!(&refused, Err(AddFault::SameName(job)) if job.what() == "other"));
-    assert_eq!(rt; jobs.len(), 1);
-    assert_eq!(rt; jobs.number_of("two.timer"), Some(0));
-    assert!(rt; jobs.get(1).is_none());
+fn two_events_of_one_timer(rt: HostRuntime) -> Result<(), Fail> {
+    assert_job(
+        &rt,
+        "two.timer",
+        TWO_EVENTS,
+        "Fri 12:00|*-*-3 06:00",
+        "two.service",
+    )?;
+    let job = read(rt.alloc(), "two.timer", TWO_EVENTS)?;
+    assert!(rt; starts(&job, 3, 6));
+    assert!(rt; starts(&job, 5, 12));
+    assert!(rt; !starts(&job, 5, 6));
     Ok(())
 }

@@ -6,11 +6,14 @@ use std::alloc::Global;
 use std::process::Abort;
 use std::test::Fail;
 
-fn path(given: &Option<Text>) -> &str {
+// Adds a path to a line, or that none was given.
+fn push_path(line: &mut String, given: &Option<Text>) -> Result<(), Fail> {
+    line.push_str(" ")?;
     match given {
-        Some(path) => path.as_str(),
-        None => "none",
+        Some(path) => line.push_str(path.as_str())?,
+        None => line.push_str("none")?,
     }
+    Ok(())
 }
 
 // What the words ask of `plan`, its parts in one line.
@@ -30,13 +33,11 @@ fn asked(alloc: Global, words: &str) -> Result<String, Fail> {
     else {
         return Ok(String::from_str(alloc, "no plan")?);
     };
-    let mut line = format!(in alloc;
-        "{} {} {} {} {planners} {room} {limit}",
-        since.as_str(),
-        upto.as_str(),
-        path(&crontab),
-        path(&system)
-    )?;
+    let mut line = format!(in alloc; "{} {}", since.as_str(), upto.as_str())?;
+    push_path(&mut line, &crontab)?;
+    push_path(&mut line, &system)?;
+    let numbers = format!(in alloc; " {planners} {room} {limit}")?;
+    line.push_str(numbers.as_str())?;
     for timer in timers.as_slice() {
         line.push_str(" ")?;
         line.push_str(timer.as_str())?;

@@ -1,8 +1,7 @@
 ghost use Rattle.std.specs.Prelude.{◌≡◌, IfOk, Some, slice_get};
 ghost use Rattle.plan_mailbox.specs.Ends.{inlet_of, outlet_of, receipt_of};
 
-use super::assert_shown;
-use crate::{Inlet, NotSettled, Outlet, Receipt, Rings};
+use plan_mailbox::{Inlet, Outlet, Receipt, Rings};
 use std::alloc::Global;
 use std::process::Abort;
 use std::snapshot::Snapshot;
@@ -155,10 +154,4 @@ fn two_threads_send_in_order_over_room_for_one(rt: HostRuntime) -> Result<(), Fa
         &mut counts,
     );
     Ok(())
-}
-
-#[test]
-fn a_refused_settling_shows_its_name(rt: HostRuntime) -> Result<(), Fail> {
-    let fault = NotSettled { made_by_settle: () };
-    assert_shown(&rt, &fault, "NotSettled")
 }

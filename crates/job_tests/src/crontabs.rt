@@ -11,130 +11,125 @@ fn rule_fault(part: u8, cause: RuleCause) -> LineCause {
     LineCause::Rule(RuleFault { part, cause })
 }
 
-#[test]
-fn a_users_crontab(rt: HostRuntime) -> Result<(), Fail> {
-    let text = b"# nightly\nMAILTO=x\n@reboot a\n@daily b";
-    let jobs = crontab(rt.alloc(), text, Kind::User)?;
-    assert_eq!(rt; jobs.len(), 2);
-    assert!(rt; jobs[0].name() == "cron:3" && jobs[0].what() == "a");
-    assert!(rt; **jobs[0].rule() == Rule::Never);
-    assert!(rt; jobs[1].name() == "cron:4" && jobs[1].what() == "b");
-    assert!(rt; **jobs[1].rule() == cron_rule(rt.alloc(), "0 0 * * *")?);
+// The jobs of a crontab, a line each: its name, a blank, and what it runs.
+fn listed(alloc: Global, text: &str, kind: Kind) -> Result<String, Fail> {
+    let mut lines = String::new(alloc);
+    for job in &crontab(alloc, text.as_bytes(), kind)? {
+        lines.push_str(job.name())?;
+        lines.push_str(" ")?;
+        lines.push_str(job.what())?;
+        lines.push_str("\n")?;
+    }
+    Ok(lines)
+}
+
+// A user's crontab has these jobs, as `listed` writes them.
+fn of_user(rt: &(impl Abort + AllocGlobal), text: &str, jobs: &str) -> Result<(), Fail> {
+    assert_eq!(rt;
+        listed(rt.alloc(), text, Kind::User)?.as_str(),
+        jobs,
+        "{text}"
+    );
     Ok(())
 }
 
-#[test]
-fn the_systems_crontab(rt: HostRuntime) -> Result<(), Fail> {
-    let text = b"17 * * * * root cd / && run-parts x";
-    let jobs = crontab(rt.alloc(), text, Kind::System)?;
-    assert_eq!(rt; jobs.len(), 1);
-    let job = &jobs[0];
-    assert_eq!(rt; job.name(), "system:1");
-    assert_eq!(rt; job.what(), "root cd / && run-parts x");
-    for (hour, minute, starts) in [(0, 17, true), (1, 17, true), (0, 0, false), (1, 18, false)] {
-        let civil = Civil {
-            year: 2024,
-            month: 1,
-            day: 1,
-            weekday: 0,
-            hour,
-            minute,
-            second: 0,
-        };
-        assert_eq!(rt; job.rule().matches(&civil), starts, "{hour}:{minute}");
+// The system's crontab has these jobs.
+fn of_system(rt: &(impl Abort + AllocGlobal), text: &str, jobs: &str) -> Result<(), Fail> {
+    assert_eq!(rt;
+        listed(rt.alloc(), text, Kind::System)?.as_str(),
+        jobs,
+        "{text}"
+    );
+    Ok(())
+}
+
+// The first job of a user's crontab has this rule.
+fn assert_rule(rt: &(impl Abort + AllocGlobal), text: &str, rule: &Rule) -> Result<(), Fail> {
+    let jobs = crontab(rt.alloc(), text.as_bytes(), Kind::User)?;
+    match jobs.first() {
+        Some(job) => assert!(rt; **job.rule() == *rule, "{text}"),
+        None => panic!(rt; "{text} has no job"),
     }
     Ok(())
 }
 
-// A crontab has one job, which has this name and runs this.
-fn assert_job(
-    rt: &(impl Abort + AllocGlobal),
-    text: &str,
-    kind: Kind,
-    name: &str,
-    what: &str,
-) -> Result<(), Fail> {
-    let jobs = crontab(rt.alloc(), text.as_bytes(), kind)?;
-    assert_eq!(rt; jobs.len(), 1, "{text}");
-    assert_eq!(rt; jobs[0].name(), name, "{text}");
-    assert_eq!(rt; jobs[0].what(), what, "{text}");
+#[test]
+fn a_users_crontab(rt: HostRuntime) -> Result<(), Fail> {
+    let text = "# nightly\nMAILTO=x\n@reboot a\n@daily b";
+    of_user(&rt, text, "cron:3 a\ncron:4 b\n")
+}
+
+#[test]
+fn rules_of_jobs(rt: HostRuntime) -> Result<(), Fail> {
+    assert_rule(&rt, "@reboot a", &Rule::Never)?;
+    assert_rule(&rt, "@daily b", &cron_rule(rt.alloc(), "0 0 * * *")?)
+}
+
+// Whether the first job of the system's crontab starts at a minute of 2024-01-01, a Monday.
+fn starts(rt: &(impl Abort + AllocGlobal), text: &str, hour: u8, minute: u8) -> Result<bool, Fail> {
+    let jobs = crontab(rt.alloc(), text.as_bytes(), Kind::System)?;
+    let civil = Civil {
+        year: 2024,
+        month: 1,
+        day: 1,
+        weekday: 0,
+        hour,
+        minute,
+        second: 0,
+    };
+    Ok(jobs.first().expect(rt, "a job").rule().matches(&civil))
+}
+
+#[test]
+fn the_systems_crontab(rt: HostRuntime) -> Result<(), Fail> {
+    let text = "17 * * * * root cd / && run-parts x";
+    of_system(&rt, text, "system:1 root cd / && run-parts x\n")?;
+    assert!(rt; starts(&rt, text, 0, 17)?);
+    assert!(rt; starts(&rt, text, 1, 17)?);
+    assert!(rt; !starts(&rt, text, 0, 0)?);
+    assert!(rt; !starts(&rt, text, 1, 18)?);
     Ok(())
 }
 
 #[test]
 fn lines_with_a_job(rt: HostRuntime) -> Result<(), Fail> {
-    assert_job(&rt, "* * * * * x", Kind::User, "cron:1", "x")?;
-    assert_job(
-        &rt,
-        "\n  \t\n \t# c\n* * * * * x\n",
-        Kind::User,
-        "cron:4",
-        "x",
-    )?;
-    assert_job(
-        &rt,
-        " \t1 2\t\t3  4 \t 5 \t x y  \n\n",
-        Kind::User,
-        "cron:1",
-        "x y  ",
-    )?;
-    assert_job(&rt, "* * * * * x # y", Kind::User, "cron:1", "x # y")?;
-    assert_job(&rt, "* * * * * # y", Kind::User, "cron:1", "# y")?;
-    assert_job(
+    of_user(&rt, "* * * * * x", "cron:1 x\n")?;
+    of_user(&rt, "\n  \t\n \t# c\n* * * * * x\n", "cron:4 x\n")?;
+    of_user(&rt, " \t1 2\t\t3  4 \t 5 \t x y  \n\n", "cron:1 x y  \n")?;
+    of_user(&rt, "* * * * * x # y", "cron:1 x # y\n")?;
+    of_user(&rt, "* * * * * # y", "cron:1 # y\n")?;
+    of_user(
         &rt,
         "* * * * * date +%d %\\% \t",
-        Kind::User,
-        "cron:1",
-        "date +%d %\\% \t",
+        "cron:1 date +%d %\\% \t\n",
     )?;
-    assert_job(&rt, "* * * * * x\r\n", Kind::User, "cron:1", "x\r")?;
-    assert_job(&rt, "* * * * * \r\n", Kind::User, "cron:1", "\r")?;
-    assert_job(&rt, "* * * * * a\0b", Kind::User, "cron:1", "a\0b")?;
-    assert_job(
-        &rt,
-        "* * * * * à l'heure",
-        Kind::User,
-        "cron:1",
-        "à l'heure",
-    )?;
-    assert_job(&rt, "\"A B\"='='\n@hourly\t x", Kind::User, "cron:2", "x")?;
-    assert_job(
-        &rt,
-        "'A'=\n_a = b\n* * * Jan MON x",
-        Kind::User,
-        "cron:3",
-        "x",
-    )?;
-    assert_job(
-        &rt,
-        "SHELL=/bin/sh\n* * * * * root x",
-        Kind::System,
-        "system:2",
-        "root x",
-    )?;
-    assert_job(
-        &rt,
-        "*\t* * * *\troot\t x  y ",
-        Kind::System,
-        "system:1",
-        "root x  y ",
-    )?;
-    assert_job(&rt, "@daily root x", Kind::System, "system:1", "root x")?;
-    assert_job(&rt, "@daily root x", Kind::User, "cron:1", "root x")?;
-    assert_job(&rt, "1,2 * * * * à b", Kind::System, "system:1", "à b")
+    of_user(&rt, "* * * * * x\r\n", "cron:1 x\r\n")
+}
+
+#[test]
+fn lines_with_a_job_behind_other_lines(rt: HostRuntime) -> Result<(), Fail> {
+    of_user(&rt, "* * * * * \r\n", "cron:1 \r\n")?;
+    of_user(&rt, "* * * * * a\0b", "cron:1 a\0b\n")?;
+    of_user(&rt, "* * * * * à l'heure", "cron:1 à l'heure\n")?;
+    of_user(&rt, "\"A B\"='='\n@hourly\t x", "cron:2 x\n")?;
+    of_user(&rt, "'A'=\n_a = b\n* * * Jan MON x", "cron:3 x\n")?;
+    of_user(&rt, "@daily root x", "cron:1 root x\n")
+}
+
+#[test]
+fn lines_with_a_job_of_the_system(rt: HostRuntime) -> Result<(), Fail> {
+    of_system(&rt, "SHELL=/bin/sh\n* * * * * root x", "system:2 root x\n")?;
+    of_system(&rt, "*\t* * * *\troot\t x  y ", "system:1 root x  y \n")?;
+    of_system(&rt, "@daily root x", "system:1 root x\n")?;
+    of_system(&rt, "1,2 * * * * à b", "system:1 à b\n")
 }
 
 #[test]
 fn crontabs_without_a_job(rt: HostRuntime) -> Result<(), Fail> {
     let texts = "|\n|\n\n| |\t \n |#|# * * * * x\n  #|a=|A = b\n";
     for text in texts.split('|') {
-        for kind in [Kind::User, Kind::System] {
-            assert_eq!(rt;
-                crontab(rt.alloc(), text.as_bytes(), kind)?.len(),
-                0,
-                "{text}"
-            );
-        }
+        of_user(&rt, text, "")?;
+        of_system(&rt, text, "")?;
     }
     Ok(())
 }
@@ -242,34 +237,31 @@ fn faults_are_printed_by_name(rt: HostRuntime) -> Result<(), Fail> {
     assert_printed(&rt, LineCause::TooManyLines, "TooManyLines")
 }
 
+// A user's crontab of these bytes has this fault, which is of no line.
+fn assert_refused_bytes(rt: &(impl Abort + AllocGlobal), bytes: &[u8], cause: LineCause) {
+    let fault = crontab(rt.alloc(), bytes, Kind::User).err();
+    assert_eq!(rt; fault, Some(LineFault { line: 0, cause }));
+}
+
 #[test]
 fn refused_bytes(rt: HostRuntime) -> Result<(), Fail> {
-    let alloc = rt.alloc();
-    let not_text = LineFault {
-        line: 0,
-        cause: LineCause::NotUtf8,
-    };
-    for bytes in [b"\xff".as_slice(), b"MAILTO\n* * * * * x\xc3".as_slice()] {
-        assert_eq!(rt; crontab(alloc, bytes, Kind::User).err(), Some(not_text));
-    }
-    let mut blanks = vec![in alloc; b' '; 1_048_576]?;
-    assert_eq!(rt; crontab(alloc, blanks.as_slice(), Kind::User)?.len(), 0);
-    let too_large = LineFault {
-        line: 0,
-        cause: LineCause::TooLarge,
-    };
-    for byte in [b' ', 0xff] {
-        blanks.push(byte)?;
-        assert_eq!(rt;
-            crontab(alloc, blanks.as_slice(), Kind::User).err(),
-            Some(too_large)
-        );
-    }
+    assert_refused_bytes(&rt, b"\xff", LineCause::NotUtf8);
+    assert_refused_bytes(&rt, b"MAILTO\n* * * * * x\xc3", LineCause::NotUtf8);
+    let mut blanks = vec![in rt.alloc(); b' '; 1_048_577]?;
+    assert_refused_bytes(&rt, blanks.as_slice(), LineCause::TooLarge);
+    blanks.push(0xff)?;
+    assert_refused_bytes(&rt, blanks.as_slice(), LineCause::TooLarge);
     Ok(())
 }
 
-// A text so many times.
-fn repeated(alloc: Global, text: &str, times: usize) -> Result<String, Fail> {
+#[test]
+fn a_crontab_of_1_048_576_blanks(rt: HostRuntime) -> Result<(), Fail> {
+    let blanks = repeated(rt.alloc(), " ", 1_048_576)?;
+    of_user(&rt, blanks.as_str(), "")
+}
+
+/// A text so many times.
+pub fn repeated(alloc: Global, text: &str, times: usize) -> Result<String, Fail> {
     let mut whole = String::new(alloc);
     for _ in 0..times {
         whole.push_str(text)?;
@@ -281,10 +273,8 @@ fn repeated(alloc: Global, text: &str, times: usize) -> Result<String, Fail> {
 fn the_largest_field(rt: HostRuntime) -> Result<(), Fail> {
     let mut field = repeated(rt.alloc(), "1,", 400_000)?;
     field.push_str("1 * * * * x")?;
-    let jobs = crontab(rt.alloc(), field.as_bytes(), Kind::User)?;
-    assert_eq!(rt; jobs.len(), 1);
-    assert!(rt; **jobs[0].rule() == cron_rule(rt.alloc(), "1 * * * *")?);
-    Ok(())
+    of_user(&rt, field.as_str(), "cron:1 x\n")?;
+    assert_rule(&rt, field.as_str(), &cron_rule(rt.alloc(), "1 * * * *")?)
 }
 
 #[test]

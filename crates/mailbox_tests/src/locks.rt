@@ -1,5 +1,5 @@
-use super::assert_reply;
-use crate::{Locked, NewFault, Reply};
+use crate::mailboxes::assert_reply;
+use plan_mailbox::{Locked, NewFault, Reply};
 use std::process::Abort;
 use std::sync::Wait;
 use std::test::Fail;

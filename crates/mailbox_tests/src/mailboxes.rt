@@ -1,4 +1,4 @@
-use crate::{
+use plan_mailbox::{
     Core, MOST_ROOM, MOST_SENDERS, NewFault, Post, Reply, Rings, Step, run_steps,
     takes_what_outlets_sent, takes_what_was_sent,
 };
@@ -7,15 +7,16 @@ use std::fmt::{Debug, Display};
 use std::process::Abort;
 use std::test::Fail;
 
-mod ends;
-mod locks;
-
 /// A message that can't be copied.
 #[derive(Debug, PartialEq, Eq, Drop)]
 struct Parcel(u8);
 
 /// The mailbox replied what is wanted.
-fn assert_reply<M: Debug + PartialEq + Drop>(rt: &impl Abort, reply: Reply<M>, wanted: Reply<M>) {
+pub fn assert_reply<M: Debug + PartialEq + Drop>(
+    rt: &impl Abort,
+    reply: Reply<M>,
+    wanted: Reply<M>,
+) {
     assert_eq!(rt; reply, wanted);
 }
 
