@@ -1,13 +1,7 @@
 //! The program `agenda`: when jobs start, and what a mailbox replies, from the words of the command line.
 #![tactic(auto)]
 
-mod answer;
-mod files;
-mod sources;
-
-use agenda_words::UsageFault;
-use answer::{answer, answer_words, unread_words};
-use files::Files;
+use agenda_answers::{Files, answer, answer_words, unread_words};
 use std::fs::File;
 use std::process::ExitCode;
 use std::{env, io};
@@ -52,6 +46,3 @@ fn given_words(rt: &HostRuntime) -> io::Result<Vec<String>> {
     let words = env::args(rt)?.collect(rt.alloc())?;
     Ok(words)
 }
-
-#[cfg(test)]
-mod tests;

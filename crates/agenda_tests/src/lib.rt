@@ -1,16 +1,17 @@
-//! The tests of what agenda_sources and agenda_faults offer, and of the commands `next` and `plan` of agenda_commands. They stand in a
-//! crate that has nothing else: with tests in it, the gate proves a crate once more.
+//! The tests of agenda_words, agenda_sources, agenda_script, agenda_faults and agenda_commands, as far as rows/ can't show the same by
+//! runs of the program: streams that fail, what no input brings about, and the names that faults print. They stand in a crate that has nothing else:
+//! with tests in it, the gate proves a crate once more.
 #![tactic(auto)]
 
 #[cfg(test)]
 mod bytes;
 #[cfg(test)]
+mod commands;
+#[cfg(test)]
 mod fault_lines;
 #[cfg(test)]
-mod faults;
+mod names;
 #[cfg(test)]
-mod next;
+mod words;
 #[cfg(test)]
-mod plan;
-#[cfg(test)]
-mod sources;
+mod writers;

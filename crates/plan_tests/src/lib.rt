@@ -1,12 +1,18 @@
 //! The tests of what plan_collect and plan_threads offer. They stand in a crate that has nothing else: with tests in it, the gate proves a
-//! crate once more.
+//! crate once more. What the program shows of plans stands in rows/agendas.sh.
 #![tactic(auto)]
 
 #[cfg(test)]
 mod collector;
 #[cfg(test)]
+mod names;
+#[cfg(test)]
 mod planner;
 #[cfg(test)]
 mod plans;
+#[cfg(test)]
+mod serial;
+#[cfg(test)]
+mod spans;
 #[cfg(test)]
 mod writers;

@@ -1,92 +1,161 @@
 use plan_sets::{
-    Civil, END_SECOND, FIRST_YEAR, LAST_YEAR, SECONDS_A_DAY, civil_of, month_length, second_of,
+    Civil, END_SECOND, FIRST_YEAR, LAST_YEAR, SECONDS_A_DAY, civil_of, moment_text, month_length,
+    read_moment, second_of,
 };
+use std::process::Abort;
 
 #[test]
 fn the_planners_years(rt: HostRuntime) {
-    assert_eq!(rt; (FIRST_YEAR, LAST_YEAR), (1970, 2199));
-    assert_eq!(rt; (SECONDS_A_DAY, END_SECOND), (86_400, 7_258_118_400));
+    assert!(rt; FIRST_YEAR == 1970 && LAST_YEAR == 2199);
+    assert!(rt; SECONDS_A_DAY == 86_400 && END_SECOND == 7_258_118_400);
+}
+
+/// The civil fields of a second before `END_SECOND`.
+pub fn fields(rt: &impl Abort, second: u64) -> Civil {
+    assert!(rt; second < END_SECOND);
+    civil_of(second)
+}
+
+/// The second of a moment's text.
+pub fn second(rt: &impl Abort, text: &str) -> u64 {
+    read_moment(text).expect(rt, "a moment")
+}
+
+// Whether a second has a moment's text.
+fn is_written(rt: &impl Abort, second: u64, text: &str) -> bool {
+    assert!(rt; second <= END_SECOND);
+    moment_text(second).as_slice() == text.as_bytes()
+}
+
+// A second, its moment's text and its fields, each by the others.
+fn assert_known(rt: &impl Abort, number: u64, text: &str, civil: Civil) {
+    assert!(rt;
+        second(rt, text) == number && is_written(rt, number, text),
+        "{text}"
+    );
+    assert!(rt; fields(rt, number) == civil, "{text}");
+    assert!(rt; second_of_fields(civil) == Some(number), "{text}");
+}
+
+// The second that has these civil fields.
+fn second_of_fields(civil: Civil) -> Option<u64> {
+    second_of(
+        civil.year,
+        civil.month,
+        civil.day,
+        civil.hour,
+        civil.minute,
+        civil.second,
+    )
+}
+
+// Midnight of a day.
+fn midnight(year: u16, month: u8, day: u8, weekday: u8) -> Civil {
+    Civil {
+        year,
+        month,
+        day,
+        weekday,
+        hour: 0,
+        minute: 0,
+        second: 0,
+    }
 }
 
 #[test]
 fn fields_of_known_seconds(rt: HostRuntime) {
-    for (second, year, month, day, weekday, (hour, minute, rest)) in [
-        (0, 1970, 1, 1, 3, (0, 0, 0)),
-        (951_782_400, 2000, 2, 29, 1, (0, 0, 0)),
-        (1_700_000_000, 2023, 11, 14, 1, (22, 13, 20)),
-        (4_107_542_399, 2100, 2, 28, 6, (23, 59, 59)),
-        (4_107_542_400, 2100, 3, 1, 0, (0, 0, 0)),
-        (7_258_118_399, 2199, 12, 31, 1, (23, 59, 59)),
-    ] {
-        assert!(rt; second < END_SECOND);
-        let want = Civil {
-            year,
-            month,
-            day,
-            weekday,
-            hour,
-            minute,
-            second: rest,
-        };
-        assert_eq!(rt; civil_of(second), want, "at {second}");
-        assert_eq!(rt;
-            second_of(year, month, day, hour, minute, rest),
-            Some(second)
-        );
-    }
+    let last = |civil| Civil {
+        hour: 23,
+        minute: 59,
+        second: 59,
+        ..civil
+    };
+    let evening = Civil {
+        hour: 22,
+        minute: 13,
+        second: 20,
+        ..midnight(2023, 11, 14, 1)
+    };
+    assert_known(&rt, 0, "1970-01-01T00:00:00Z", midnight(1970, 1, 1, 3));
+    assert_known(
+        &rt,
+        951_782_400,
+        "2000-02-29T00:00:00Z",
+        midnight(2000, 2, 29, 1),
+    );
+    assert_known(&rt, 1_700_000_000, "2023-11-14T22:13:20Z", evening);
+    assert_known(
+        &rt,
+        4_107_542_399,
+        "2100-02-28T23:59:59Z",
+        last(midnight(2100, 2, 28, 6)),
+    );
+    assert_known(
+        &rt,
+        4_107_542_400,
+        "2100-03-01T00:00:00Z",
+        midnight(2100, 3, 1, 0),
+    );
+    assert_known(
+        &rt,
+        7_258_118_399,
+        "2199-12-31T23:59:59Z",
+        last(midnight(2199, 12, 31, 1)),
+    );
+}
+
+#[test]
+fn the_end_of_the_years(rt: HostRuntime) {
+    let text = "2200-01-01T00:00:00Z";
+    assert!(rt; second(&rt, text) == END_SECOND && is_written(&rt, END_SECOND, text));
+}
+
+// Whether no second has these fields.
+fn is_none(year: u16, month: u8, day: u8, hour: u8, minute: u8, second: u8) -> bool {
+    second_of(year, month, day, hour, minute, second).is_none()
 }
 
 #[test]
 fn no_second_has_these_fields(rt: HostRuntime) {
-    for (year, month, day, hour, minute, second) in [
-        (1969, 12, 31, 23, 59, 59),
-        (2200, 1, 1, 0, 0, 0),
-        (65_535, 1, 1, 0, 0, 0),
-        (2023, 2, 29, 0, 0, 0),
-        (2100, 2, 29, 0, 0, 0),
-        (2024, 0, 1, 0, 0, 0),
-        (2024, 13, 1, 0, 0, 0),
-        (2024, 255, 1, 0, 0, 0),
-        (2024, 4, 31, 0, 0, 0),
-        (2024, 1, 0, 0, 0, 0),
-        (2024, 1, 255, 0, 0, 0),
-        (2024, 1, 1, 24, 0, 0),
-        (2024, 1, 1, 23, 60, 0),
-        (2024, 1, 1, 23, 59, 60),
-    ] {
-        let found = second_of(year, month, day, hour, minute, second);
-        assert_eq!(rt;
-            found,
-            None,
-            "at {year}-{month}-{day} {hour}:{minute}:{second}"
-        );
+    assert!(rt; is_none(1969, 12, 31, 23, 59, 59));
+    assert!(rt; is_none(2200, 1, 1, 0, 0, 0));
+    assert!(rt; is_none(65_535, 1, 1, 0, 0, 0));
+    assert!(rt; is_none(2023, 2, 29, 0, 0, 0));
+    assert!(rt; is_none(2100, 2, 29, 0, 0, 0));
+    assert!(rt; is_none(2024, 0, 1, 0, 0, 0));
+    assert!(rt; is_none(2024, 13, 1, 0, 0, 0));
+    assert!(rt; is_none(2024, 255, 1, 0, 0, 0));
+    assert!(rt; is_none(2024, 4, 31, 0, 0, 0));
+    assert!(rt; is_none(2024, 1, 0, 0, 0, 0));
+    assert!(rt; is_none(2024, 1, 255, 0, 0, 0));
+    assert!(rt; is_none(2024, 1, 1, 24, 0, 0));
+    assert!(rt; is_none(2024, 1, 1, 23, 60, 0));
+    assert!(rt; is_none(2024, 1, 1, 23, 59, 60));
+}
+
+// The length of a month of the planner's years.
+fn length(rt: &impl Abort, year: u16, month: u8) -> u8 {
+    assert!(rt; 1970 <= year && year <= 2199 && 1 <= month && month <= 12);
+    month_length(year, month)
+}
+
+// The lengths of the months of a year.
+fn lengths(rt: &impl Abort, year: u16) -> [u8; 12] {
+    let mut lengths = [0; 12];
+    for place in 0..12_u8 {
+        lengths[usize::from(place)] = length(rt, year, place + 1);
     }
+    lengths
 }
 
 #[test]
 fn lengths_of_months(rt: HostRuntime) {
-    for (year, month, days) in [
-        (2023, 1, 31),
-        (2023, 2, 28),
-        (2023, 3, 31),
-        (2023, 4, 30),
-        (2023, 5, 31),
-        (2023, 6, 30),
-        (2023, 7, 31),
-        (2023, 8, 31),
-        (2023, 9, 30),
-        (2023, 10, 31),
-        (2023, 11, 30),
-        (2023, 12, 31),
-        (1970, 2, 28),
-        (1972, 2, 29),
-        (2000, 2, 29),
-        (2024, 2, 29),
-        (2100, 2, 28),
-        (2196, 2, 29),
-        (2199, 12, 31),
-    ] {
-        assert!(rt; 1970 <= year && year <= 2199 && 1 <= month && month <= 12);
-        assert_eq!(rt; month_length(year, month), days, "of {year}-{month}");
-    }
+    assert!(rt; lengths(&rt, 2023) == [31, 28, 31, 30, 31, 30, 31, 31, 30, 31, 30, 31]);
+    assert!(rt; length(&rt, 1970, 2) == 28);
+    assert!(rt; length(&rt, 1972, 2) == 29);
+    assert!(rt; length(&rt, 2000, 2) == 29);
+    assert!(rt; length(&rt, 2024, 2) == 29);
+    assert!(rt; length(&rt, 2100, 2) == 28);
+    assert!(rt; length(&rt, 2196, 2) == 29);
+    assert!(rt; length(&rt, 2199, 12) == 31);
 }

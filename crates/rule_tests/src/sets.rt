@@ -1,5 +1,32 @@
 use plan_sets::{Item, SetFault, ValueSet, set_of};
-use std::test::Fail;
+use std::process::Abort;
+
+// That a set has these members, which ascend, and no others.
+fn assert_members(rt: &impl Abort, set: &ValueSet, members: &[u16]) {
+    let mut from = 0;
+    for member in members {
+        assert!(rt;
+            first(set, from) == *member && first(set, *member) == *member,
+            "{member}"
+        );
+        assert!(rt; set.contains(*member), "{member}");
+        from = member.saturating_add(1);
+    }
+    assert!(rt; set.first_from(from).is_none() && set.first_from(65_535).is_none());
+    assert!(rt; set.is_empty() == members.is_empty());
+}
+
+// The first member from a number on, or 9,999 where there is none.
+fn first(set: &ValueSet, from: u16) -> u16 {
+    set.first_from(from).unwrap_or(9_999)
+}
+
+// That a set has none of these members.
+fn assert_others(rt: &impl Abort, set: &ValueSet, others: &[u16]) {
+    for other in others {
+        assert!(rt; !set.contains(*other), "{other}");
+    }
+}
 
 #[test]
 fn a_set_up_to_the_last_number(rt: HostRuntime) {
@@ -17,30 +44,8 @@ fn members_at_the_ends_of_words(rt: HostRuntime) {
     set.insert(1_128);
     set.insert(1_255);
     set.insert(1_127);
-    for (from, want) in [
-        (0, Some(1_127)),
-        (1_127, Some(1_127)),
-        (1_128, Some(1_128)),
-        (1_129, Some(1_255)),
-        (1_255, Some(1_255)),
-        (1_256, None),
-        (65_535, None),
-    ] {
-        assert_eq!(rt; set.first_from(from), want, "from {from}");
-    }
-    for (value, want) in [
-        (0, false),
-        (1_126, false),
-        (1_127, true),
-        (1_128, true),
-        (1_129, false),
-        (1_255, true),
-        (1_256, false),
-        (65_535, false),
-    ] {
-        assert_eq!(rt; set.contains(value), want, "at {value}");
-    }
-    assert!(rt; !set.is_empty());
+    assert_members(&rt, &set, &[1_127, 1_128, 1_255]);
+    assert_others(&rt, &set, &[0, 1_126, 1_129, 1_256, 65_535]);
 }
 
 #[test]
@@ -56,49 +61,39 @@ fn equal_sets(rt: HostRuntime) {
     assert!(rt; first == second);
 }
 
+// The set of items between limits.
+fn set(rt: &impl Abort, items: &[Item], lo: u16, hi: u16) -> Result<ValueSet, SetFault> {
+    assert!(rt; lo <= hi && hi < 256);
+    set_of(items, lo, hi)
+}
+
+// What is wrong with items between limits.
+fn fault(rt: &impl Abort, items: &[Item], lo: u16, hi: u16) -> Option<SetFault> {
+    set(rt, items, lo, hi).err()
+}
+
 #[test]
 fn faults_of_items(rt: HostRuntime) {
     let none: [Item; 0] = [];
-    assert_eq!(rt; set_of(&none, 0, 59).err(), Some(SetFault::NoItem));
+    assert!(rt; fault(&rt, &none, 0, 59) == Some(SetFault::NoItem));
     let backwards = [Item::Range(9, 3, 0)];
-    assert_eq!(rt; set_of(&backwards, 0, 59).err(), Some(SetFault::Backwards));
+    assert!(rt; fault(&rt, &backwards, 0, 59) == Some(SetFault::Backwards));
     let zero_step = [Item::Onward(55, 0), Item::One(99)];
-    assert_eq!(rt; set_of(&zero_step, 0, 59).err(), Some(SetFault::ZeroStep));
+    assert!(rt; fault(&rt, &zero_step, 0, 59) == Some(SetFault::ZeroStep));
     let out_of_range = [Item::One(7), Item::Range(3, 60, 0)];
-    assert_eq!(rt;
-        set_of(&out_of_range, 0, 59).err(),
-        Some(SetFault::OutOfRange)
-    );
+    assert!(rt; fault(&rt, &out_of_range, 0, 59) == Some(SetFault::OutOfRange));
     let below = [Item::Range(0, 12, 1)];
-    assert_eq!(rt; set_of(&below, 1, 12).err(), Some(SetFault::OutOfRange));
+    assert!(rt; fault(&rt, &below, 1, 12) == Some(SetFault::OutOfRange));
 }
 
 #[test]
 fn values_of_items(rt: HostRuntime) {
-    let odd_days = [Item::Onward(1, 2)];
-    let days = set_of(&odd_days, 1, 31).expect(&rt, "a set");
-    assert_eq!(rt; days.first_from(30), Some(31));
-    assert_eq!(rt; days.first_from(32), None);
+    let odd = [Item::Onward(1, 2)];
+    let days = set(&rt, &odd, 1, 31).expect(&rt, "a set");
+    let odd_days = [1, 3, 5, 7, 9, 11, 13, 15, 17, 19, 21, 23, 25, 27, 29, 31];
+    assert_members(&rt, &days, &odd_days);
     let quarters = [Item::Range(0, 59, 25), Item::One(59)];
-    let minutes = set_of(&quarters, 0, 59).expect(&rt, "a set");
-    for (from, want) in [(0, 0), (1, 25), (26, 50), (51, 59), (59, 59)] {
-        assert_eq!(rt; minutes.first_from(from), Some(want), "from {from}");
-    }
-    assert_eq!(rt; minutes.first_from(60), None);
-    assert!(rt; !minutes.contains(24) && minutes.contains(25) && !minutes.contains(300));
-    assert!(rt; !minutes.is_empty());
-}
-
-#[test]
-fn faults_print_their_names(rt: HostRuntime) -> Result<(), Fail> {
-    let faults = [
-        (SetFault::NoItem, "NoItem"),
-        (SetFault::OutOfRange, "OutOfRange"),
-        (SetFault::Backwards, "Backwards"),
-        (SetFault::ZeroStep, "ZeroStep"),
-    ];
-    for (fault, name) in faults {
-        assert_eq!(rt; format!(in rt.alloc(); "{fault}")?.as_str(), name);
-    }
-    Ok(())
+    let minutes = set(&rt, &quarters, 0, 59).expect(&rt, "a set");
+    assert_members(&rt, &minutes, &[0, 25, 50, 59]);
+    assert_others(&rt, &minutes, &[24, 60, 300]);
 }

@@ -28,17 +28,8 @@ one_new a (r ∷ rest) e = (
   ap (λ xs. (first_or (outlet_of a) xs).sent) e,
 )
 
-pub returns-clause-sender : goal.returns-clause-sender
-returns-clause-sender c =
+pub returns : goal.returns
+returns c =
     let all = one_left _ _ _ (omega (arith, c.in-Ok.ensures.as_many, ap senders_of c.in_ok-rings.ensures.made, c.in-Ok.outlets.ok)) c.in-Some.ensures.items in
-    (one_new c.in-Some.outlet (rings_of c.in_ok-rings.rings) (sym (ap (map outlet_of) all) ∙ c.in-Ok.ensures.outlets)).0
-
-pub returns-clause-ring : goal.returns-clause-ring
-returns-clause-ring c =
-    let all = one_left _ _ _ (omega (arith, c.in-Ok.ensures.as_many, ap senders_of c.in_ok-rings.ensures.made, c.in-Ok.outlets.ok)) c.in-Some.ensures.items in
-    ap (λ b. slice_get b.rings 0) c.in-Ok.ensures.inlet ∙ (one_new c.in-Some.outlet (rings_of c.in_ok-rings.rings) (sym (ap (map outlet_of) all) ∙ c.in-Ok.ensures.outlets)).1
-
-pub returns-clause-fresh : goal.returns-clause-fresh
-returns-clause-fresh c =
-    let all = one_left _ _ _ (omega (arith, c.in-Ok.ensures.as_many, ap senders_of c.in_ok-rings.ensures.made, c.in-Ok.outlets.ok)) c.in-Some.ensures.items in
-    (one_new c.in-Some.outlet (rings_of c.in_ok-rings.rings) (sym (ap (map outlet_of) all) ∙ c.in-Ok.ensures.outlets)).2
+    let one = one_new c.in-Some.outlet (rings_of c.in_ok-rings.rings) (sym (ap (map outlet_of) all) ∙ c.in-Ok.ensures.outlets) in
+    (one.0, ap (λ b. slice_get b.rings 0) c.in-Ok.ensures.inlet ∙ one.1, one.2)

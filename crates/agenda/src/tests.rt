@@ -1,3 +1,0 @@
-//! Writers that fail.
-
-pub mod writers;

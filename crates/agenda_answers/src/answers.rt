@@ -1,0 +1,261 @@
+//! What the program does, over any files and streams.
+
+ghost use Rattle.std.specs.Prelude.{◌≡◌, ◌≢◌, IfErr, IfOk, Ok, OnOk, map, string_bytes};
+ghost use Rattle.std.specs.Io.KnownBytes.{Appends, Keeps};
+ghost use Rattle.agenda_faults.specs.FaultLines.{fault_text};
+ghost use Rattle.agenda_faults.specs.Faults.{status_of as failure_status};
+ghost use Rattle.agenda_answers.specs.Answer.{Answers, AnswersWords, asked_plan, DoesNext, DoesPlan, DoesSteps, FailsNext, FailsPlan, FailsSteps, GivesNoSpan, IsSpan, SaysNotUtf8};
+ghost use Rattle.plan_collect.specs.Stream.{BreaksOff, PutsOrBreaksOff};
+
+use crate::files::{Files, read_file};
+use crate::sources::{Paths, read_sources};
+use agenda_commands::{run_next, run_plan, run_script};
+use agenda_faults::{Failure, RunFault, fault_line};
+use agenda_words::{Ask, Asked, UsageFault, read_words};
+use plan_collect::{Span, Stream};
+use plan_rules::Text;
+use plan_sets::read_moment;
+use std::alloc::Global;
+use std::io::ErrorKind;
+use std::sync::Wait;
+use std::thread::Threads;
+
+// What is wanted of `plan`: the texts of two moments, the paths of its sources, and three numbers.
+#[derive(Drop)]
+struct Wanted {
+    since: Text,
+    upto: Text,
+    paths: Paths,
+    planners: u32,
+    room: u32,
+    limit: u32,
+}
+
+// The status of what was done, and of help.
+const DONE: u8 = 0;
+
+// The text of usage where a word isn't UTF-8.
+const NOT_UTF8: &str = "a word of the command line is not UTF-8\n";
+
+/// Does what the words of the command line ask for, of which the first is the program's name, and answers the status with
+/// which the program ends: 0 where it was done, and for help; 1 where input or a count was refused; 2 where the words are no
+/// use of the program; 3 where memory was refused, or a device or a file failed.
+///
+/// The answer goes to `out`. One line of a fault, or the text of usage, goes to `err`.
+pub fn answer_words<R: Threads + Wait + Sync, F: Files, O: Stream, E: Stream>(
+    rt: &R,
+    alloc: Global,
+    words: &[String],
+    files: &mut F,
+    out: &mut O,
+    err: &mut E,
+) -> u8
+    ensures { AnswersWords (F.held files.old) (map string_bytes words.now) result
+        (record { takes_all = O.takes_all; old = O.holds out.old; new = O.holds out.new })
+        (record { takes_all = E.takes_all; old = E.holds err.old; new = E.holds err.new }) }
+{
+    answer(rt, alloc, read_words(alloc, words), files, out, err)
+}
+
+/// Does what is asked for, as `answer_words` does.
+pub fn answer<R: Threads + Wait + Sync, F: Files, O: Stream, E: Stream>(
+    rt: &R,
+    alloc: Global,
+    asked: Result<Ask, UsageFault>,
+    files: &mut F,
+    out: &mut O,
+    err: &mut E,
+) -> u8
+    ensures { Answers (F.held files.old) asked result
+        (record { takes_all = O.takes_all; old = O.holds out.old; new = O.holds out.new })
+        (record { takes_all = E.takes_all; old = E.holds err.old; new = E.holds err.new }) }
+{
+    match asked {
+        Ok(Ask::Next { after, count, rule }) => {
+            status_of(next(alloc, &after, count, &rule, out), &[], err)
+        }
+        Ok(
+            Ask::Plan {
+                since,
+                upto,
+                crontab,
+                system,
+                planners,
+                room,
+                limit,
+                timers,
+            },
+        ) => {
+            let wanted = Wanted {
+                since,
+                upto,
+                paths: Paths {
+                    crontab,
+                    system,
+                    timers,
+                },
+                planners,
+                room,
+                limit,
+            };
+            answer_plan(rt, alloc, &wanted, files, out, err)
+        }
+        Ok(Ask::Steps { file }) => status_of(steps(alloc, file, files, out), &[], err),
+        Err(UsageFault::Help(text)) => status_of(help(&text, out), &[], err),
+        Err(UsageFault::Usage(text)) => status_of(Err(Failure::Usage(text)), &[], err),
+        Err(UsageFault::NoMemory) => status_of(Err(Failure::Run(RunFault::NoMemory)), &[], err),
+    }
+}
+
+/// What stands for words of the command line that could not be read: usage where one isn't UTF-8, and else a want of memory.
+pub fn unread_words(alloc: Global, kind: ErrorKind) -> UsageFault
+    ensures not_utf8 { kind ≡ ErrorKind.InvalidData → SaysNotUtf8 result }
+    ensures memory { kind ≢ ErrorKind.InvalidData → result ≡ UsageFault.NoMemory }
+{
+    if kind != ErrorKind::InvalidData {
+        return UsageFault::NoMemory;
+    }
+    match String::from_str(alloc, NOT_UTF8) {
+        Ok(text) => UsageFault::Usage(Text::new(text)),
+        Err(_) => UsageFault::NoMemory,
+    }
+}
+
+// The answer to `plan`.
+fn answer_plan<R: Threads + Wait + Sync, F: Files, O: Stream, E: Stream>(
+    rt: &R,
+    alloc: Global,
+    wanted: &Wanted,
+    files: &mut F,
+    out: &mut O,
+    err: &mut E,
+) -> u8
+    ensures { Answers (F.held files.old) (Ok (asked_plan wanted.now)) result
+        (record { takes_all = O.takes_all; old = O.holds out.old; new = O.holds out.new })
+        (record { takes_all = E.takes_all; old = E.holds err.old; new = E.holds err.new }) }
+{
+    let done = plan(rt, alloc, wanted, files, out);
+    status_of(done, wanted.paths.timers.as_slice(), err)
+}
+
+// The status of what was done, or was not. `timers` are the paths of the timers of a plan.
+fn status_of<S: Stream>(done: Result<(), Failure>, timers: &[Text], err: &mut S) -> u8
+    ensures done { OnOk done ((result ≡ 0) × Keeps (S.holds err.old) (S.holds err.new)) }
+    ensures failed { IfErr done (λ failure. (result ≡ failure_status failure)
+        × PutsOrBreaksOff S.takes_all (S.holds err.old) (S.holds err.new) (fault_text timers.now failure)) }
+{
+    match done {
+        Ok(()) => DONE,
+        Err(failure) => fault_line(&failure, timers, err),
+    }
+}
+
+// The command `next`.
+fn next<S: Stream>(
+    alloc: Global,
+    after: &Text,
+    count: u32,
+    rule: &Asked,
+    out: &mut S,
+) -> Result<(), Failure>
+    ensures done { OnOk result
+        (DoesNext after.now count rule.now (S.holds out.old) (S.holds out.new)) }
+    ensures failed { IfErr result
+        (λ failure. FailsNext S.takes_all after.now count rule.now failure (S.holds out.old) (S.holds out.new)) }
+{
+    let moment = match read_moment(after.as_str()) {
+        Ok(moment) => moment,
+        Err(fault) => return Err(Failure::After(fault)),
+    };
+    match run_next(alloc, rule, moment, u64::from(count), out) {
+        Ok(()) => Ok(()),
+        Err(fault) => Err(Failure::Run(fault)),
+    }
+}
+
+// The command `plan`.
+fn plan<R: Threads + Wait + Sync, F: Files, S: Stream>(
+    rt: &R,
+    alloc: Global,
+    wanted: &Wanted,
+    files: &mut F,
+    out: &mut S,
+) -> Result<(), Failure>
+    ensures done { OnOk result
+        (DoesPlan (F.held files.old) wanted.now (S.holds out.old) (S.holds out.new)) }
+    ensures failed { IfErr result
+        (λ failure. FailsPlan S.takes_all (F.held files.old) wanted.now failure (S.holds out.old) (S.holds out.new)) }
+{
+    let span = span_between(&wanted.since, &wanted.upto)?;
+    let sources = read_sources(alloc, files, &wanted.paths)?;
+    let (planners, room) = (wanted.planners as usize, wanted.room as usize);
+    match run_plan(
+        rt,
+        alloc,
+        &sources,
+        span,
+        u64::from(wanted.limit),
+        planners,
+        room,
+        out,
+    ) {
+        Ok(()) => Ok(()),
+        Err(fault) => Err(Failure::Run(fault)),
+    }
+}
+
+// The span between two moments.
+fn span_between(since: &Text, upto: &Text) -> Result<Span, Failure>
+    ensures span { IfOk result (IsSpan since.now upto.now) }
+    ensures no_span { IfErr result (GivesNoSpan since.now upto.now) }
+{
+    let begin = match read_moment(since.as_str()) {
+        Ok(begin) => begin,
+        Err(fault) => return Err(Failure::Since(fault)),
+    };
+    let end = match read_moment(upto.as_str()) {
+        Ok(end) => end,
+        Err(fault) => return Err(Failure::Upto(fault)),
+    };
+    match Span::new(begin, end) {
+        Ok(span) => Ok(span),
+        Err(fault) => Err(Failure::Span(fault)),
+    }
+}
+
+// The command `steps`.
+fn steps<F: Files, S: Stream>(
+    alloc: Global,
+    file: Text,
+    files: &mut F,
+    out: &mut S,
+) -> Result<(), Failure>
+    ensures done { OnOk result
+        (DoesSteps (F.held files.old) file (S.holds out.old) (S.holds out.new)) }
+    ensures failed { IfErr result
+        (λ failure. FailsSteps S.takes_all (F.held files.old) file failure (S.holds out.old) (S.holds out.new)) }
+{
+    let script = match read_file(alloc, files, file.as_str()) {
+        Ok(script) => script,
+        Err(fault) if fault.kind() == ErrorKind::OutOfMemory => {
+            return Err(Failure::Run(RunFault::NoMemory));
+        }
+        Err(_) => return Err(Failure::File(file)),
+    };
+    match run_script(alloc, script.as_slice(), out) {
+        Ok(()) => Ok(()),
+        Err(fault) => Err(Failure::Run(fault)),
+    }
+}
+
+// The text of help.
+fn help<S: Stream>(text: &Text, out: &mut S) -> Result<(), Failure>
+    ensures done { OnOk result (Appends (S.holds out.old) (S.holds out.new) text.now) }
+    ensures failed { IfErr result (λ failure. (failure ≡ Failure.Run RunFault.Device)
+        × BreaksOff S.takes_all (S.holds out.old) (S.holds out.new) text.now) }
+{
+    match out.put(text.as_str().as_bytes()) {
+        Ok(()) => Ok(()),
+        Err(fault) => Err(Failure::Run(RunFault::from(fault))),
+    }
+}

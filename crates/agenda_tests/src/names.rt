@@ -1,0 +1,72 @@
+use agenda_faults::RunFault;
+use agenda_script::{ScriptCause, ScriptFault};
+use agenda_sources::SourceFault;
+use plan_collect::WriteFault;
+use plan_rules::{LineCause, LineFault, RuleCause, RuleFault};
+use std::fmt::Display;
+use std::process::Abort;
+use std::test::Fail;
+
+// That a fault prints this name.
+fn prints(rt: &(impl Abort + AllocGlobal), fault: &impl Display, name: &str) -> Result<(), Fail> {
+    let text = format!(in rt.alloc(); "{fault}")?;
+    assert!(rt; text.as_str() == name, "{name}");
+    Ok(())
+}
+
+// The fault of a line.
+fn bad(line: u32, cause: LineCause) -> LineFault {
+    LineFault { line, cause }
+}
+
+#[test]
+fn names_of_faults_of_commands(rt: HostRuntime) -> Result<(), Fail> {
+    let (part, line) = (2, 2);
+    let rule = RuleFault {
+        part,
+        cause: RuleCause::WrongParts,
+    };
+    let script = ScriptFault {
+        line,
+        cause: ScriptCause::BadLine,
+    };
+    prints(&rt, &RunFault::NoMemory, "NoMemory")?;
+    prints(&rt, &RunFault::BadCount, "BadCount")?;
+    prints(&rt, &RunFault::Rule(rule), "WrongParts")?;
+    prints(&rt, &RunFault::Script(script), "BadLine")?;
+    prints(&rt, &RunFault::Device, "Device")?;
+    prints(&rt, &WriteFault::Device, "Device")
+}
+
+#[test]
+fn names_of_faults_of_sources(rt: HostRuntime) -> Result<(), Fail> {
+    prints(&rt, &SourceFault::NoMemory, "NoMemory")?;
+    let fault = SourceFault::InCrontab(bad(1, LineCause::NoCommand));
+    prints(&rt, &fault, "NoCommand")?;
+    let fault = SourceFault::InSystem(bad(1, LineCause::BadSetting));
+    prints(&rt, &fault, "BadSetting")?;
+    let fault = SourceFault::InTimer(0, bad(0, LineCause::NoTimerSection));
+    prints(&rt, &fault, "NoTimerSection")?;
+    prints(&rt, &SourceFault::SameName(0), "SameName")?;
+    prints(&rt, &SourceFault::Full, "Full")
+}
+
+// That a cause prints its name, and so does a fault of a script by it.
+fn prints_script(
+    rt: &(impl Abort + AllocGlobal),
+    cause: ScriptCause,
+    name: &str,
+) -> Result<(), Fail> {
+    prints(rt, &cause, name)?;
+    prints(rt, &ScriptFault { line: 1, cause }, name)
+}
+
+#[test]
+fn names_of_faults_of_scripts(rt: HostRuntime) -> Result<(), Fail> {
+    prints_script(&rt, ScriptCause::NoMemory, "NoMemory")?;
+    prints_script(&rt, ScriptCause::NotUtf8, "NotUtf8")?;
+    prints_script(&rt, ScriptCause::TooLarge, "TooLarge")?;
+    prints_script(&rt, ScriptCause::BadLine, "BadLine")?;
+    prints_script(&rt, ScriptCause::BadSize, "BadSize")?;
+    prints_script(&rt, ScriptCause::TooManySteps, "TooManySteps")
+}

@@ -1,0 +1,253 @@
+//! What words leave behind on both streams, and how often a file is opened, where files and streams fail.
+use crate::files::FewFiles;
+use crate::writers::{End, LimitedWriter};
+use agenda_answers::{answer, answer_words, unread_words};
+use std::alloc::Global;
+use std::io::ErrorKind;
+use std::process::Abort;
+use std::sync::Wait;
+use std::test::Fail;
+use std::thread::Threads;
+
+// The words of a command line, with bars between them.
+fn command_line(alloc: Global, words: &str) -> Result<Vec<String>, Fail> {
+    let mut line = Vec::new(alloc);
+    for word in words.split('|') {
+        line.push(String::from_str(alloc, word)?)?;
+    }
+    Ok(line)
+}
+
+// The status of words, over these files and streams.
+fn run(
+    rt: &(impl Threads + Wait + Sync + AllocGlobal),
+    words: &str,
+    files: &mut FewFiles<'_>,
+    out: &mut LimitedWriter,
+    err: &mut LimitedWriter,
+) -> Result<u8, Fail> {
+    let line = command_line(rt.alloc(), words)?;
+    Ok(answer_words(rt, rt.alloc(), line.as_slice(), files, out, err))
+}
+
+// A stream with room for each text of these tests.
+fn ample() -> LimitedWriter {
+    LimitedWriter::new(128, 128, End::Error, false)
+}
+
+// That words end with this status, write these texts to the two streams, and open so many files.
+fn leaves(
+    rt: &(impl Threads + Wait + Sync + Abort + AllocGlobal),
+    words: &str,
+    files: FewFiles<'_>,
+    status: u8,
+    texts: (&str, &str),
+    opened: usize,
+) -> Result<(), Fail> {
+    let (mut files, mut out, mut err) = (files, ample(), ample());
+    let ended = run(rt, words, &mut files, &mut out, &mut err)?;
+    assert_eq!(rt; ended, status, "{words}");
+    assert_eq!(rt; out.bytes(), texts.0.as_bytes(), "{words}");
+    assert_eq!(rt; err.bytes(), texts.1.as_bytes(), "{words}");
+    assert_eq!(rt; files.opened, opened, "{words}");
+    Ok(())
+}
+
+const STEPS: [(&str, &[u8]); 1] = [("a", b"mailbox 1 1\nsend 0 a\nsend 0 b\ntake\n")];
+
+const REPLIES: &str = "sent\nfull b\ntook 0 a\n";
+
+#[test]
+fn a_file_that_gives_some_bytes_at_a_call(rt: HostRuntime) -> Result<(), Fail> {
+    for at_a_call in [1, 2, 4_096] {
+        let files = FewFiles::new(&STEPS, at_a_call, false);
+        leaves(&rt, "agenda|steps|a", files, 0, (REPLIES, ""), 1)?;
+    }
+    Ok(())
+}
+
+#[test]
+fn a_file_that_is_missing_or_fails_in_the_middle(rt: HostRuntime) -> Result<(), Fail> {
+    let files = FewFiles::new(&STEPS, 4_096, false);
+    let line = "agenda: b c: Device\n";
+    leaves(&rt, "agenda|steps|b c", files, 3, ("", line), 1)?;
+    let script = b"mailbox 1 1\ntake\n";
+    for len in 0..script.len() {
+        let held = [("a", &script[..len])];
+        let files = FewFiles::new(&held, 4_096, true);
+        let line = "agenda: a: Device\n";
+        leaves(&rt, "agenda|steps|a", files, 3, ("", line), 1)?;
+    }
+    Ok(())
+}
+
+// What comes behind the first byte too many is a fault, which is never met.
+#[test]
+fn a_script_that_is_too_large(rt: HostRuntime) -> Result<(), Fail> {
+    let script = vec![in rt.alloc(); b'x'; 1_048_577]?;
+    let held = [("a", script.as_slice())];
+    let files = FewFiles::new(&held, 4_096, true);
+    let line = "agenda: script: line 0: TooLarge\n";
+    leaves(&rt, "agenda|steps|a", files, 1, ("", line), 1)
+}
+
+// That words end with status 3 where standard output fails at any byte of their text: it then has the bytes before it.
+fn fails_at_each_byte(
+    rt: &(impl Threads + Wait + Sync + Abort + AllocGlobal),
+    words: &str,
+    text: &[u8],
+) -> Result<(), Fail> {
+    for room in 0..text.len() {
+        let mut files = FewFiles::new(&STEPS, 4_096, false);
+        let mut out = LimitedWriter::new(room, 3, End::Error, false);
+        let mut err = ample();
+        let status = run(rt, words, &mut files, &mut out, &mut err)?;
+        assert_eq!(rt; status, 3, "{room}");
+        assert_eq!(rt; out.bytes(), &text[..room]);
+        assert_eq!(rt; err.bytes(), b"agenda: Device\n".as_slice());
+    }
+    Ok(())
+}
+
+#[test]
+fn standard_output_that_fails_at_each_byte(rt: HostRuntime) -> Result<(), Fail> {
+    fails_at_each_byte(
+        &rt,
+        "agenda|next|--after|2024-01-01T00:00:00Z|--cron|@daily|--count|2",
+        b"2024-01-02T00:00:00Z\n2024-01-03T00:00:00Z\n",
+    )?;
+    fails_at_each_byte(&rt, "agenda|steps|a", REPLIES.as_bytes())
+}
+
+// That words write nothing to standard output, and end with this status where standard error fails at any byte of their
+// line.
+fn faults_at_each_byte(
+    rt: &(impl Threads + Wait + Sync + Abort + AllocGlobal),
+    words: &str,
+    line: &[u8],
+    wanted: u8,
+) -> Result<(), Fail> {
+    for room in 0..line.len() {
+        let mut files = FewFiles::new(&STEPS, 4_096, false);
+        let mut out = ample();
+        let mut err = LimitedWriter::new(room, 5, End::TakesNothing, false);
+        let status = run(rt, words, &mut files, &mut out, &mut err)?;
+        assert_eq!(rt; status, wanted, "{room}");
+        assert_eq!(rt; out.calls, 0);
+        assert_eq!(rt; err.bytes(), &line[..room]);
+    }
+    Ok(())
+}
+
+#[test]
+fn standard_error_that_fails_at_each_byte(rt: HostRuntime) -> Result<(), Fail> {
+    faults_at_each_byte(
+        &rt,
+        "agenda|next|--after|2024-01-01T00:00:00Z|--cron|60 * * * *",
+        b"agenda: rule: part 1: OutOfRange\n",
+        1,
+    )?;
+    faults_at_each_byte(
+        &rt,
+        "agenda|next|--after|2024-01-01T00:00:00Z",
+        b"exactly one of --cron and --calendar\n",
+        2,
+    )?;
+    faults_at_each_byte(&rt, "agenda|steps|b", b"agenda: b: Device\n", 3)
+}
+
+// That words which can't be read end with this status, and this line on standard error alone.
+fn unread(
+    rt: &(impl Threads + Wait + Sync + Abort + AllocGlobal),
+    kind: ErrorKind,
+    wanted: u8,
+    line: &str,
+) {
+    let asked = Err(unread_words(rt.alloc(), kind));
+    let (mut files, mut out, mut err) = (FewFiles::new(&[], 1, false), ample(), ample());
+    let status = answer(rt, rt.alloc(), asked, &mut files, &mut out, &mut err);
+    assert_eq!(rt; status, wanted, "{line}");
+    assert_eq!(rt; out.calls, 0);
+    assert_eq!(rt; err.bytes(), line.as_bytes());
+}
+
+#[test]
+fn words_that_are_not_read(rt: HostRuntime) {
+    let line = "a word of the command line is not UTF-8\n";
+    unread(&rt, ErrorKind::InvalidData, 2, line);
+    unread(&rt, ErrorKind::OutOfMemory, 3, "agenda: NoMemory\n");
+}
+
+// A crontab of which one job starts at midnight, and a timer that does.
+const NIGHTLY: [(&str, &[u8]); 2] = [
+    ("crontab", b"# nightly\nMAILTO=x\n@reboot a\n@daily b\n"),
+    ("timers/rot.timer", b"[Timer]\nOnCalendar=daily\n"),
+];
+
+const NIGHTLY_TEXT: &str =
+    "2024-01-01T00:00:00Z\tcron:4\tb\n2024-01-01T00:00:00Z\trot.timer\trot.service\n";
+
+// That a plan of the nightly jobs from the begin of 2024 leaves these texts behind, and opens so many files.
+fn plans(
+    rt: &(impl Threads + Wait + Sync + Abort + AllocGlobal),
+    upto_and_more: &str,
+    status: u8,
+    texts: (&str, &str),
+    opened: usize,
+) -> Result<(), Fail> {
+    let begin = "agenda|plan|--since|2024-01-01T00:00:00Z|--upto|";
+    let mut words = String::from_str(rt.alloc(), begin)?;
+    words.push_str(upto_and_more)?;
+    let files = FewFiles::new(&NIGHTLY, 4_096, false);
+    leaves(rt, words.as_str(), files, status, texts, opened)
+}
+
+// The moments and the span come before any file, and each path is opened once, up to the first that fails.
+#[test]
+fn which_files_a_plan_opens(rt: HostRuntime) -> Result<(), Fail> {
+    let nightly = "2024-01-02T00:00:00Z|--crontab|crontab|timers/rot.timer";
+    plans(&rt, nightly, 0, (NIGHTLY_TEXT, ""), 2)?;
+    plans(
+        &rt,
+        "2024-01-01T00:00:00Z|--crontab|crontab",
+        0,
+        ("", ""),
+        1,
+    )?;
+    let words = "agenda|plan|--since|2024|--upto|x|timers/rot.timer";
+    let files = FewFiles::new(&NIGHTLY, 4_096, false);
+    leaves(&rt, words, files, 1, ("", "agenda: since: BadForm\n"), 0)?;
+    let line = "agenda: span: Backwards\n";
+    plans(
+        &rt,
+        "2023-12-31T23:59:59Z|--crontab|crontab",
+        1,
+        ("", line),
+        0,
+    )?;
+    let line = "agenda: upto: NoSuchDate\n";
+    plans(
+        &rt,
+        "2024-02-30T00:00:00Z|--crontab|crontab",
+        1,
+        ("", line),
+        0,
+    )?;
+    let missing = "2024-01-02T00:00:00Z|--crontab|crontab|--system-crontab|a b|c.timer";
+    plans(&rt, missing, 3, ("", "agenda: a b: Device\n"), 2)
+}
+
+#[test]
+fn standard_output_that_fails_within_a_plan(rt: HostRuntime) -> Result<(), Fail> {
+    let words =
+        "agenda|plan|--since|2024-01-01T00:00:00Z|--upto|2024-01-02T00:00:00Z|--crontab|crontab";
+    for room in [0, 10, 29] {
+        let mut files = FewFiles::new(&NIGHTLY, 4_096, false);
+        let (mut out, mut err) = (LimitedWriter::new(room, 128, End::Error, false), ample());
+        let status = run(&rt, words, &mut files, &mut out, &mut err)?;
+        assert_eq!(rt; status, 3);
+        assert_eq!(rt; out.bytes(), &NIGHTLY_TEXT.as_bytes()[..room]);
+        assert_eq!(rt; err.bytes(), b"agenda: Device\n".as_slice());
+    }
+    Ok(())
+}

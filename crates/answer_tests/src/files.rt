@@ -1,0 +1,151 @@
+//! Files that give some bytes at a call, and fail where it is wanted.
+use agenda_answers::{Files, read_file};
+use std::alloc::Global;
+use std::io::{self, ErrorKind, Read};
+use std::process::Abort;
+use std::test::Fail;
+
+/// A file that gives some bytes, some at a call, and then ends or fails.
+#[derive(Drop)]
+pub struct LimitedFile<'a> {
+    /// What it gives.
+    bytes: &'a [u8],
+    /// How many bytes it gives at a call.
+    at_a_call: usize,
+    /// Whether it fails in place of ending.
+    fails: bool,
+}
+
+impl Read for LimitedFile<'_> {
+    fn read(&mut self, buffer: &mut [u8]) -> io::Result<usize> {
+        let count = self.bytes.len().min(self.at_a_call).min(buffer.len());
+        if count == 0 && self.fails {
+            return Err(io::Error::from(ErrorKind::Other));
+        }
+        buffer[..count].copy_from_slice(&self.bytes[..count]);
+        self.bytes = &self.bytes[count..];
+        Ok(count)
+    }
+}
+
+/// Files by their paths.
+#[derive(Drop)]
+pub struct FewFiles<'a> {
+    /// Their paths, and what each gives.
+    pub files: &'a [(&'a str, &'a [u8])],
+    /// How many bytes they give at a call.
+    pub at_a_call: usize,
+    /// Whether they fail in place of ending.
+    pub fails: bool,
+    /// How often a file was opened.
+    pub opened: usize,
+}
+
+impl<'a> FewFiles<'a> {
+    /// Files that give so many bytes at a call.
+    pub fn new(files: &'a [(&'a str, &'a [u8])], at_a_call: usize, fails: bool) -> FewFiles<'a> {
+        FewFiles {
+            files,
+            at_a_call,
+            fails,
+            opened: 0,
+        }
+    }
+}
+
+impl<'a> Files for FewFiles<'a> {
+    ghost use Rattle.std.specs.Prelude.{None};
+
+    type File = LimitedFile<'a>;
+
+    ghost held = { λ _ _. None };
+
+    fn open(&mut self, path: &str) -> io::Result<LimitedFile<'a>> {
+        self.opened = self.opened.saturating_add(1);
+        for (name, bytes) in self.files {
+            if *name == path {
+                return Ok(LimitedFile {
+                    bytes,
+                    at_a_call: self.at_a_call,
+                    fails: self.fails,
+                });
+            }
+        }
+        Err(io::Error::from(ErrorKind::NotFound))
+    }
+}
+
+/// Files that all hold the same bytes, which contracts know.
+#[derive(Drop)]
+struct KnownFiles<'a>(&'a [u8]);
+
+impl<'a> Files for KnownFiles<'a> {
+    ghost use Rattle.std.specs.Prelude.{Some};
+
+    type File = &'a [u8];
+
+    ghost held = { λ files _. Some files.0.now };
+
+    fn open(&mut self, _path: &str) -> io::Result<&'a [u8]> {
+        Ok(self.0)
+    }
+}
+
+#[test]
+fn bytes_that_contracts_know(rt: HostRuntime) -> Result<(), Fail> {
+    let bytes = read_file(rt.alloc(), &mut KnownFiles(b"take\n"), "any")?;
+    assert_eq!(rt; bytes.as_slice(), b"take\n".as_slice());
+    Ok(())
+}
+
+// What is read of the file `a` with these bytes, if it can be read.
+fn read_of(
+    alloc: Global,
+    bytes: &[u8],
+    at_a_call: usize,
+    fails: bool,
+    path: &str,
+) -> io::Result<Vec<u8>> {
+    let held = [("a", bytes)];
+    read_file(alloc, &mut FewFiles::new(&held, at_a_call, fails), path)
+}
+
+#[test]
+fn a_file_that_gives_a_byte_at_a_time(rt: HostRuntime) -> Result<(), Fail> {
+    let bytes = read_of(rt.alloc(), b"* * * * * x\n", 1, false, "a")?;
+    assert_eq!(rt; bytes.as_slice(), b"* * * * * x\n".as_slice());
+    Ok(())
+}
+
+#[test]
+fn a_file_that_fails_after_some_bytes(rt: HostRuntime) {
+    for len in 0..12 {
+        let read = read_of(rt.alloc(), &b"* * * * * x\n"[..len], 4_096, true, "a");
+        assert!(rt; read.is_err(), "{len}");
+    }
+    assert!(rt; read_of(rt.alloc(), b"", 4_096, false, "b").is_err());
+}
+
+// That so many bytes are read of a file of so many newlines.
+fn reads(
+    rt: &(impl Abort + AllocGlobal),
+    count: usize,
+    at_a_call: usize,
+    fails: bool,
+    len: usize,
+) -> Result<(), Fail> {
+    let held = vec![in rt.alloc(); b'\n'; count]?;
+    let read = read_of(rt.alloc(), held.as_slice(), at_a_call, fails, "a")?;
+    assert_eq!(rt; read.len(), len);
+    Ok(())
+}
+
+// What comes behind the first three files' bytes is a fault, which is never met.
+#[test]
+fn no_more_than_one_byte_past_the_limit_is_read(rt: HostRuntime) -> Result<(), Fail> {
+    reads(&rt, 1_048_577, 4_096, true, 1_048_577)?;
+    reads(&rt, 1_048_577, 1_048_576, true, 1_048_577)?;
+    reads(&rt, 1_048_577, 7, true, 1_048_577)?;
+    reads(&rt, 1_048_576, 4_096, false, 1_048_576)?;
+    reads(&rt, 1_048_580, 4_096, false, 1_048_577)
+}

@@ -1,0 +1,46 @@
+//! The jobs of a source.
+
+use plan_rules::{Job, Jobs, Kind, crontab, timer};
+use std::alloc::Global;
+
+// The names of the jobs of a timer file.
+const NAMES: [&str; 8] = [
+    "a.timer", "b.timer", "c.timer", "d.timer", "e.timer", "f.timer", "g.timer", "h.timer",
+];
+
+/// How many jobs a source makes, of which they are made so many times.
+pub fn read(alloc: Global, source: &[u8], times: u64) -> Option<u64> {
+    let mut found = 0;
+    for _ in 0..times {
+        found = jobs_of(alloc, source)?.len() as u64;
+    }
+    Some(found)
+}
+
+/// The jobs of a crontab, or 8 of a timer file, which have one rule.
+pub fn jobs_of(alloc: Global, source: &[u8]) -> Option<Jobs> {
+    let mut jobs = Jobs::new(alloc);
+    if is_timer(source) {
+        for name in &NAMES {
+            jobs.add(timer(alloc, name, source).ok()?).ok()?;
+        }
+    } else {
+        for job in crontab(alloc, source, Kind::User).ok()? {
+            jobs.add(job).ok()?;
+        }
+    }
+    Some(jobs)
+}
+
+/// The last job of a crontab, or the job of a timer file.
+pub fn job_of(alloc: Global, source: &[u8]) -> Option<Job> {
+    if is_timer(source) {
+        return timer(alloc, NAMES[0], source).ok();
+    }
+    crontab(alloc, source, Kind::User).ok()?.pop()
+}
+
+// Whether a source is a timer file, which begins with its section.
+fn is_timer(source: &[u8]) -> bool {
+    matches!(source, [b'[', ..])
+}

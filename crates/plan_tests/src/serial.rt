@@ -1,0 +1,80 @@
+ghost use Rattle.std.specs.Prelude.{length, IfOk};
+ghost use Rattle.plan_collect.specs.Agenda.{IsOfJobs};
+
+use crate::collector::{EVERY_MINUTE, assert_entry, span, user_jobs};
+use plan_collect::{Agenda, CollectFault, PlanFault, plan_serial};
+use plan_rules::Jobs;
+use std::alloc::Global;
+use std::process::Abort;
+use std::test::Fail;
+
+// The start of 2024.
+const NEW_YEAR: u64 = 1_704_067_200;
+
+// What one planner makes of jobs over so many minutes from the start of 2024 on.
+pub fn planned(
+    alloc: Global,
+    jobs: &Jobs,
+    minutes: u64,
+    limit: u64,
+) -> Result<Result<Agenda, PlanFault>, Fail>
+    ensures { IfOk result (λ planned. IfOk planned (IsOfJobs (length jobs.now))) }
+{
+    let upto = NEW_YEAR.saturating_add(minutes.saturating_mul(60));
+    let span = span(NEW_YEAR, upto)?;
+    Ok(plan_serial(alloc, jobs, span, limit))
+}
+
+// The agenda has a start in each minute from the start of 2024 on.
+fn assert_minutes(rt: &impl Abort, agenda: &Agenda) {
+    assert!(rt; agenda.is_empty() == (agenda.len() == 0));
+    let mut second = NEW_YEAR;
+    for place in 0..agenda.len() {
+        assert_entry(rt, agenda, place, Some((second, 0)));
+        second = second.saturating_add(60);
+    }
+    assert_entry(rt, agenda, agenda.len(), None);
+}
+
+// One planner makes an agenda of the first minutes, so many of them, or fails so.
+fn assert_planned(
+    rt: &(impl Abort + AllocGlobal),
+    crontab: &str,
+    minutes: u64,
+    limit: u64,
+    wanted: Result<usize, PlanFault>,
+) -> Result<(), Fail> {
+    let jobs = user_jobs(rt.alloc(), crontab)?;
+    let found = match planned(rt.alloc(), &jobs, minutes, limit)? {
+        Ok(agenda) => {
+            assert_minutes(rt, &agenda);
+            Ok(agenda.len())
+        }
+        Err(fault) => Err(fault),
+    };
+    assert!(rt; found == wanted);
+    Ok(())
+}
+
+// 86,400 starts are 84 pieces of 1,024 starts, and one of 384.
+#[test]
+fn agendas_within_the_limit(rt: HostRuntime) -> Result<(), Fail> {
+    assert_planned(&rt, EVERY_MINUTE, 60, 60, Ok(60))?;
+    assert_planned(&rt, EVERY_MINUTE, 60, 1_000_000, Ok(60))?;
+    assert_planned(&rt, EVERY_MINUTE, 86_400, 86_400, Ok(86_400))?;
+    assert_planned(&rt, EVERY_MINUTE, 1_000_000, 1_000_000, Ok(1_000_000))?;
+    assert_planned(&rt, EVERY_MINUTE, 0, 1, Ok(0))?;
+    assert_planned(&rt, "", 60, 1, Ok(0))
+}
+
+#[test]
+fn limits(rt: HostRuntime) -> Result<(), Fail> {
+    let too_many = Err(PlanFault::Collect(CollectFault::TooMany));
+    assert_planned(&rt, EVERY_MINUTE, 60, 59, too_many)?;
+    assert_planned(&rt, EVERY_MINUTE, 60, 1, too_many)?;
+    assert_planned(&rt, EVERY_MINUTE, 86_400, 86_399, too_many)?;
+    assert_planned(&rt, EVERY_MINUTE, 1_000_001, 1_000_000, too_many)?;
+    let bad_limit = Err(PlanFault::BadLimit);
+    assert_planned(&rt, EVERY_MINUTE, 60, 0, bad_limit)?;
+    assert_planned(&rt, EVERY_MINUTE, 60, 1_000_001, bad_limit)
+}

@@ -1,0 +1,142 @@
+# shellcheck shell=bash disable=SC2154
+# Rows of bin/check-examples: what `agenda plan` writes whatever the number of planners and their room: agendas of one piece and of many,
+# up to the largest, and which limits and sizes it refuses.
+
+agendas_folder="$room/agendas"
+
+# Plans in the folder of the files from the start of 2024 up to the moment $1, with these further words.
+agendas_plan() {
+  local upto=$1
+  shift
+  run_in "$agendas_folder" agenda plan --since 2024-01-01T00:00:00Z --upto "$upto" "$@"
+}
+
+# Makes the files that the rows below name.
+agendas_files() {
+  mkdir -p "$agendas_folder"
+  printf '# nightly\nMAILTO=x\n@reboot a\n@daily b\n' >"$agendas_folder/nightly"
+  printf '[Timer]\nOnCalendar=daily\n' >"$agendas_folder/rot.timer"
+  printf '17 * * * * root cd / && run-parts x' >"$agendas_folder/root"
+  printf '# no job\n' >"$agendas_folder/none"
+  printf '* * * * * x' >"$agendas_folder/minutes"
+  yes '* * * * * x' | head -n 1000 >"$agendas_folder/thousand"
+  printf '[Timer]\nOnCalendar=*:*:*\n' >"$agendas_folder/s.timer"
+  # a reset empties the list, and two events at one second are one start
+  printf '[Timer]\nOnCalendar=hourly\nOnCalendar=\nOnCalendar=daily\nOnCalendar=*-*-* 00:00:00\n' \
+    >"$agendas_folder/backup.timer"
+}
+
+# Compares the plan up to the moment $1 with the file `agenda.wanted`, for each number of planners of $2 and each room of $3, with these
+# further words.
+agendas_same() {
+  local upto=$1 planners=$2 rooms=$3 many places
+  shift 3
+  for many in $planners; do
+    for places in $rooms; do
+      agendas_plan "$upto" --planners "$many" --room "$places" "$@"
+      compare "an agenda by $many planners, room $places, up to $upto: $*" "$room/agenda.wanted" /dev/null 0
+    done
+  done
+}
+
+# Rows of standard input: the moment up to which is planned, further words, and the agenda, with an @ for the first day of 2024. Any number
+# of planners makes the same.
+agendas_written() {
+  local upto words agenda
+  while IFS='|' read -r upto words agenda; do
+    printf '%b' "${agenda//@/2024-01-01T}" >"$room/agenda.wanted"
+    # shellcheck disable=SC2086
+    agendas_same "${upto/@/2024-01-01T}" "1 2 3 4 5 6 7 8" "1 1024" $words
+  done
+}
+
+# Rows of standard input: the moment up to which is planned, further words, and the fault of the plan.
+agendas_refused() {
+  local upto words cause
+  while IFS='|' read -r upto words cause; do
+    # shellcheck disable=SC2086
+    agendas_plan "$upto" $words
+    is_refused "no agenda up to $upto: $words" "plan: $cause" 1
+  done
+}
+
+# A start in each minute of an hour, within a limit of as many and within the largest.
+agendas_of_an_hour() {
+  local minute
+  for minute in {00..59}; do
+    echo "2024-01-01T00:$minute:00Z${tab}cron:1${tab}x"
+  done >"$room/agenda.wanted"
+  agendas_same 2024-01-01T01:00:00Z "1 2 8" 1 --limit 60 --crontab minutes
+  agendas_same 2024-01-01T01:00:00Z "1 2 8" 1 --limit 1000000 --crontab minutes
+}
+
+# A day of every second: 84 pieces of 1,024 starts, and one of 384.
+agendas_of_every_second() {
+  local hour minute second
+  for hour in {00..23}; do
+    for minute in {00..59}; do
+      for second in {00..59}; do
+        echo "2024-01-01T$hour:$minute:${second}Z${tab}s.timer${tab}s.service"
+      done
+    done
+  done >"$room/agenda.wanted"
+  agendas_same 2024-01-02T00:00:00Z "1 2 8" "1 1024" --limit 86400 s.timer
+}
+
+# The largest agenda: 1,000 jobs that start in each of 1,000 minutes. Each minute has 24,000 bytes beside the names, and 9 names of 6
+# bytes, 90 of 7, 900 of 8 and one of 9: 31,893,000 bytes in all.
+agendas_of_a_thousand_jobs() {
+  awk 'BEGIN {
+    for (minute = 0; minute < 1000; minute++) {
+      moment = sprintf("2024-01-01T%02d:%02d:00Z", int(minute / 60), minute % 60)
+      for (job = 1; job <= 1000; job++)
+        print moment "\tcron:" job "\tx"
+    }
+  }' >"$room/agenda.wanted"
+  agendas_same 2024-01-01T16:40:00Z "1 8" 1 --limit 1000000 --crontab thousand
+  run_in "$room" wc -c agenda.wanted
+  compare_texts "the bytes of the largest agenda" $'31893000 agenda.wanted\n' '' 0
+}
+
+# A command that is longer than what waits to be written, between two short ones.
+agendas_of_a_long_line() {
+  local long moment="2024-01-01T00:00:00Z"
+  long=$(printf 'x%.0s' {1..9000})
+  printf '@daily a\n@daily %s\n@daily c\n' "$long" >"$agendas_folder/long"
+  printf '%s\tcron:%d\t%s\n' "$moment" 1 a "$moment" 2 "$long" "$moment" 3 c >"$room/agenda.wanted"
+  agendas_same 2024-01-02T00:00:00Z "1 2 8" 1 --limit 3 --crontab long
+}
+
+agendas_files
+
+# In turn: a crontab and a timer; an empty span of them; a system crontab; a timer with a reset; no jobs.
+agendas_written <<'END'
+2024-01-02T00:00:00Z|--limit 10 --crontab nightly rot.timer|@00:00:00Z\tcron:4\tb\n@00:00:00Z\trot.timer\trot.service\n
+@00:00:00Z|--limit 10000 --crontab nightly rot.timer|
+@02:00:00Z|--limit 2 --system-crontab root|@00:17:00Z\tsystem:1\troot cd / && run-parts x\n@01:17:00Z\tsystem:1\troot cd / && run-parts x\n
+2024-01-02T00:00:00Z|--limit 1 backup.timer|@00:00:00Z\tbackup.timer\tbackup.service\n
+2024-01-02T00:00:00Z|--limit 1 --crontab none|
+END
+
+agendas_of_an_hour
+agendas_of_every_second
+agendas_of_a_thousand_jobs
+agendas_of_a_long_line
+
+# Sizes come before limits, and both before what is planned. One start more than the limit is refused; the last row has a minute more than
+# the largest agenda.
+agendas_refused <<'END'
+2024-01-02T00:00:00Z|--limit 0 --planners 0 --room 1 --crontab nightly rot.timer|BadSize
+2024-01-02T00:00:00Z|--limit 0 --planners 9 --room 1 --crontab nightly rot.timer|BadSize
+2024-01-02T00:00:00Z|--limit 0 --planners 1 --room 0 --crontab nightly rot.timer|BadSize
+2024-01-02T00:00:00Z|--limit 0 --planners 1 --room 1025 --crontab nightly rot.timer|BadSize
+2024-01-02T00:00:00Z|--limit 0 --planners 8 --room 1024 --crontab nightly rot.timer|BadLimit
+2024-01-02T00:00:00Z|--limit 1000001 --planners 1 --room 1 --crontab nightly rot.timer|BadLimit
+2024-01-02T00:00:00Z|--limit 1 --planners 2 --room 1 --crontab nightly rot.timer|TooMany
+2024-01-01T01:00:00Z|--limit 59 --crontab minutes|TooMany
+2024-01-01T01:00:00Z|--limit 1 --crontab minutes|TooMany
+2024-01-01T01:00:00Z|--limit 0 --crontab minutes|BadLimit
+2024-01-01T01:00:00Z|--limit 1000001 --crontab minutes|BadLimit
+2024-01-02T00:00:00Z|--limit 86399 s.timer|TooMany
+2024-01-01T16:41:00Z|--limit 1000000 --crontab thousand|TooMany
+END

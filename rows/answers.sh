@@ -1,0 +1,113 @@
+# shellcheck shell=bash disable=SC2154
+# Rows of bin/check-examples: what the program does with what it is asked for: which fault comes first, what of a plan's sources is
+# read, and on which stream the answer goes out.
+
+answers_folder="$room/answers"
+answers_begin="2024-01-01T00:00:00Z"
+mkdir -p "$answers_folder/t"
+printf '* * * * * x\n' >"$answers_folder/minutes"
+printf '# nightly\nMAILTO=x\n@reboot a\n@daily b\n' >"$answers_folder/nightly"
+printf '17 * * * * root cd / && run-parts x\n' >"$answers_folder/hourly"
+printf '[Timer]\nOnCalendar=hourly\nOnCalendar=\nOnCalendar=daily\nOnCalendar=*-*-* 00:00:00\n' >"$answers_folder/t/backup.timer"
+printf '\n60 * * * * x\n' >"$answers_folder/c"
+printf '* * * * * root\n' >"$answers_folder/s"
+printf '[Timer]\nOnCalendar=Mon 12:00:00.5\n' >"$answers_folder/t/bad.timer"
+: >"$answers_folder/t/a@b.timer"
+yes '* * * * * x' | head -n 1001 >"$answers_folder/many"
+
+# Rows of standard input: the words of `next`, with bars between them, and what is printed.
+answers_of_next() {
+  local words starts
+  while IFS='>' read -r words starts; do
+    IFS='|' read -ra words <<<"$words"
+    run_in "$answers_folder" agenda next "${words[@]}"
+    compare_texts "next ${words[*]}" "${starts// /$'\n'}"$'\n' '' 0
+  done
+}
+
+# Rows of standard input: words, with bars between them, and the fault.
+answers_refused() {
+  local words fault
+  while IFS='>' read -r words fault; do
+    IFS='|' read -ra words <<<"$words"
+    run_in "$answers_folder" agenda "${words[@]}"
+    is_refused "${words[*]}" "$fault" 1
+  done
+}
+
+# Rows of standard input: the moment before which a plan from the begin of 2024 ends, its other words, and its lines with a `;` behind
+# each and a `,` for each tab; each line begins with the time of that day.
+answers_of_plan() {
+  local upto words lines
+  while IFS='>' read -r upto words lines; do
+    read -ra words <<<"$words"
+    run_in "$answers_folder" agenda plan --since "$answers_begin" --upto "$upto" "${words[@]}"
+    printf '%s' "$lines" | tr ';,' "\n$tab" | sed 's/^/2024-01-01T/' >"$room/agenda.wanted"
+    compare "plan up to $upto ${words[*]}" "$room/agenda.wanted" /dev/null 0
+  done
+}
+
+# Rows of standard input: the other words of a plan of the first day of 2024, and its fault.
+answers_refused_plan() {
+  local words fault
+  while IFS='>' read -r words fault; do
+    read -ra words <<<"$words"
+    run_in "$answers_folder" agenda plan --since "$answers_begin" --upto 2024-01-02T00:00:00Z "${words[@]}"
+    is_refused "plan ${words[*]}" "$fault" 1
+  done
+}
+
+# One word is a cron rule that is no calendar event, one a calendar event that is no cron rule; weeks begin on a Sunday here, and there on a
+# Monday. After the last moment nothing starts.
+answers_of_next <<'END'
+--calendar|*-02~03|--count|2|--after|2024-01-01T00:00:00Z>2024-02-27T00:00:00Z 2025-02-26T00:00:00Z
+--after|2024-01-01T00:00:00Z|--calendar|weekly>2024-01-08T00:00:00Z
+--after|2024-01-01T00:00:00Z|--cron|@weekly>2024-01-07T00:00:00Z
+--after|2200-01-01T00:00:00Z|--cron|@daily>none
+END
+
+# The moment comes before the count and the rule, and the count before the rule; of a span the first moment comes before the second, that
+# before their order, and all of it before any file.
+answers_refused <<'END'
+next|--after|2024|--cron|* * * * *>after: BadForm
+next|--after|2024-02-30T00:00:00Z|--count|0|--cron|x>after: NoSuchDate
+next|--after|1969-12-31T23:59:59Z|--count|0|--cron|x>after: OutOfYears
+next|--after|2024-01-01T00:00:00Z|--count|0|--cron|x>count: BadCount
+next|--after|2024-01-01T00:00:00Z|--count|1001|--calendar|x>count: BadCount
+next|--after|2024-01-01T00:00:00Z|--cron|weekly>rule: part 0: WrongParts
+plan|--since|2024|--upto|x|there is no file>since: BadForm
+plan|--since|2024-01-01T00:00:00Z|--upto|2024-02-30T00:00:00Z|--crontab|there is no file>upto: NoSuchDate
+plan|--since|2024-01-01T00:00:00Z|--upto|2023-12-31T23:59:59Z|--crontab|there is no file>span: Backwards
+END
+
+# In turn: a span without a second; a reset empties a timer's list; a user's crontab and the system's.
+answers_of_plan <<'END'
+2024-01-01T00:00:00Z>--crontab nightly>
+2024-01-02T00:00:00Z>t/backup.timer>00:00:00Z,backup.timer,backup.service;
+2024-01-01T02:00:00Z>--system-crontab hourly>00:17:00Z,system:1,root cd / && run-parts x;01:17:00Z,system:1,root cd / && run-parts x;
+2024-01-01T01:00:00Z>--crontab nightly --system-crontab hourly>00:00:00Z,cron:4,b;00:17:00Z,system:1,root cd / && run-parts x;
+END
+
+# Sixty starts of an hour: a limit of 60 is enough.
+seq -f "2024-01-01T00:%02.0f:00Z${tab}cron:1${tab}x" 0 59 >"$room/agenda.wanted"
+run_in "$answers_folder" agenda plan --since "$answers_begin" --upto 2024-01-01T01:00:00Z --limit 60 --crontab minutes
+compare "a limit of as many starts as there are" "$room/agenda.wanted" /dev/null 0
+run_in "$answers_folder" agenda plan --since "$answers_begin" --upto 2024-01-01T01:00:00Z --limit 59 --crontab minutes
+is_refused "a limit of one start less" "plan: TooMany" 1
+
+# The sources come before the numbers, and of those the sizes before the limit; the user's crontab comes first, then the system's.
+answers_refused_plan <<'END'
+--planners 0 --crontab minutes>plan: BadSize
+--planners 9 --crontab minutes>plan: BadSize
+--room 0 --crontab minutes>plan: BadSize
+--room 1025 --crontab minutes>plan: BadSize
+--limit 0 --crontab minutes>plan: BadLimit
+--limit 1000001 --crontab minutes>plan: BadLimit
+--limit 0 --room 0 --crontab minutes>plan: BadSize
+--crontab many --room 0>jobs: Full
+--crontab c --system-crontab s t/bad.timer>crontab: line 2: part 1: OutOfRange
+--system-crontab s t/bad.timer>system crontab: line 1: NoCommand
+t/bad.timer>bad.timer: line 2: part 7: Fraction
+t/a@b.timer>a@b.timer: line 0: BadTimerName
+--crontab nightly t/backup.timer t/backup.timer>job backup.timer: SameName
+END

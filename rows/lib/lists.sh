@@ -1,0 +1,75 @@
+# shellcheck shell=bash disable=SC2154
+# Rows of rules with the starts that they have, and of rules that are refused. The tables of rows/ that need it source it.
+#
+# Starts stand with a space between. One that is written shorter has the front of the one before it: `2024-01-01T04:30:00Z
+# 05T04:30:00Z` is at 04:30 of the 1st and of the 5th. Texts are written with the escapes of printf.
+
+# Writes the starts of $1, a line each.
+lists_starts() {
+  local start before=''
+  for start in $1; do
+    if [ "$start" != none ]; then
+      before=${before:0:20-${#start}}$start
+      start=$before
+    fi
+    printf '%s\n' "$start"
+  done
+}
+
+# The starts of the rule $2, by the option $1, that are later than $3 are those of $4, of which the last may be `none`.
+lists_one() {
+  local name="agenda next $1='$2' --after $3"
+  lists_starts "$4" >"$room/starts.wanted"
+  run_in "$room" agenda next "$1=$2" --after "$3" --count "$(wc -l <"$room/starts.wanted")"
+  compare "$name" "$room/starts.wanted" /dev/null 0
+}
+
+# The first 1,000 starts of the rule $3, by the option $1, are those of the rule $2.
+lists_same() {
+  local rule
+  for rule in "$2" "$3"; do
+    mv -f "$room/out" "$room/starts.wanted"
+    run_in "$room" agenda next "$1=$rule" --after 1970-01-01T00:00:00Z --count 1000
+  done
+  compare "'$3' has the starts of '$2'" "$room/starts.wanted" /dev/null 0
+}
+
+# Rows of rules of one meaning, with `;` between them, of a moment, and of the starts later than it. The option $1 hands them in.
+lists_next() {
+  local row after starts text
+  local -a texts
+  while IFS='|' read -r row after starts; do
+    IFS=';' read -ra texts < <(printf '%b\n' "$row")
+    for text in "${texts[@]}"; do
+      lists_one "$1" "$text" "$after" "$starts"
+      [ "$text" = "${texts[0]}" ] || lists_same "$1" "${texts[0]}" "$text"
+    done
+  done
+}
+
+# Rows of a part and a cause, and of a text that is refused by them. The option $1 hands it in.
+lists_refused() {
+  local fault text
+  while IFS='|' read -r fault text; do
+    printf -v text '%b' "$text"
+    run_in "$room" agenda next "$1=$text" --after 2024-01-01T00:00:00Z
+    is_refused "agenda next $1='$text'" "rule: part ${fault/ /: }" 1
+  done
+}
+
+# Writes the timer `rows.timer` of the events of $1, with `;` between them.
+lists_timer() {
+  printf '[Timer]\n'
+  [ -z "$1" ] || printf 'OnCalendar=%s\n' "${1//;/$'\nOnCalendar='}"
+}
+
+# Rows of a timer's events, of a span, and of all starts of the timer in it.
+lists_plan() {
+  local events since upto starts
+  while IFS='|' read -r events since upto starts; do
+    lists_timer "$events" >"$room/rows.timer"
+    lists_starts "$starts" | sed "s/\$/${tab}rows.timer${tab}rows.service/" >"$room/starts.wanted"
+    run_in "$room" agenda plan --since "$since" --upto "$upto" rows.timer
+    compare "a timer of '$events' from $since to $upto" "$room/starts.wanted" /dev/null 0
+  done
+}

@@ -1,0 +1,447 @@
+# shellcheck shell=bash disable=SC2154
+# What the words of the command line ask for: the texts of help, of the version and of usage, and, by what the program does, how it
+# reads each word. In the rows the words have `|` between them; the name of the program isn't among them.
+
+# Runs the program with the words $1.
+words_run() {
+  local words
+  IFS='|' read -ra words <<<"$1"
+  run_in "$room/words" agenda "${words[@]}"
+}
+
+# The files that the rows name: a script says its own name, and a timer is that of its name.
+words_make_files() {
+  local name
+  mkdir -p "$room/words/a b" "$room/words/etc"
+  for name in script "a b/c" skript-ä - --help; do
+    printf 'mailbox 1 1\nsend 0 this is %s\ntake\n' "$name" >"$room/words/$name"
+  done
+  for name in a.timer c.timer --limit.timer --limit; do
+    printf '[Timer]\nOnCalendar=daily\n' >"$room/words/$name"
+  done
+  printf '[Timer]\nOnCalendar=*-*-* 0/12:00\n' >"$room/words/b.timer"
+  printf '[Timer]\nOnCalendar=*:*:*\n' >"$room/words/second.timer"
+  for name in jobs etc/crontab "my jobs-ä"; do
+    printf '@daily root says %s\n' "$name" >"$room/words/$name"
+  done
+}
+
+words_make_help_of_agenda() {
+  cat >"$room/words/agenda.text" <<'END'
+When jobs start, by the rules of cron and of systemd timers
+
+Usage: agenda <COMMAND>
+
+Commands:
+  next   Prints the next starts of one rule
+  plan   Prints which jobs of crontabs and timers start when
+  steps  Prints what a mailbox replies to the steps of a script
+
+Options:
+  -h, --help     Print help
+  -V, --version  Print version
+
+All moments are in UTC and of the years 1970 to 2199. The formats, the limits and
+what each fault line means are described in agenda(1).
+
+Examples:
+  agenda next --cron @daily --after 2024-01-01T00:00:00Z
+  agenda plan --since 2024-01-01T00:00:00Z --upto 2024-01-02T00:00:00Z backup.timer
+  agenda steps script
+END
+}
+
+words_make_help_of_next() {
+  cat >"$room/words/next.text" <<'END'
+Prints the next starts of one rule
+
+Usage: agenda next --after <T> [--count <N>] (--cron <TEXT> | --calendar <TEXT>)
+
+Options:
+      --after <T>        The starts are later than this moment, in UTC, as
+                         2024-01-01T00:00:00Z; the years are 1970 to 2199
+      --count <N>        How many starts, from 1 to 1000 [default: 1]
+      --cron <TEXT>      A cron rule: minute, hour, day of month, month and day
+                         of week, or @hourly, @daily, @weekly, @monthly, @yearly
+      --calendar <TEXT>  A calendar event, as 'Mon..Fri *-*-* 04:30' or daily
+  -h, --help             Print help
+
+Exactly one of --cron and --calendar is given. Prints a moment a line; where the rule
+has fewer starts before the year 2200, the last line is none. Both grammars are
+described in agenda(1).
+
+Example:
+  agenda next --cron '30 4 1,15 * 5' --after 2024-01-01T00:00:00Z --count 4
+END
+}
+
+# That 2 planners with room for 16 messages each are the defaults, no other row can show: neither changes a line.
+words_make_help_of_plan() {
+  cat >"$room/words/plan.text" <<'END'
+Prints which jobs of crontabs and timers start when
+
+Usage: agenda plan [OPTIONS] --since <T> --upto <T> [TIMER]...
+
+Arguments:
+  [TIMER]...  The path of a systemd timer's file, as backup.timer
+
+Options:
+      --since <T>           The first moment of the span, in UTC, as
+                            2024-01-01T00:00:00Z; the years are 1970 to 2199
+      --upto <T>            The moment before which the span ends, written as that
+                            of --since and no earlier
+      --crontab <F>         The path of a user crontab
+      --system-crontab <F>  The path of a system crontab, whose lines name a user
+      --planners <N>        How many planners search, from 1 to 8 [default: 2]
+      --room <N>            How many messages of each planner may wait,
+                            from 1 to 1024 [default: 16]
+      --limit <N>           How many starts there may be in all,
+                            from 1 to 1000000 [default: 10000]
+  -h, --help                Print help
+
+Prints a line for each start in the span: the moment, the job's name and what it runs,
+with a tab between. The lines are in order of moments; at one moment in order of jobs,
+first the user crontab's, then the system crontab's, then the timers as given. Where
+there are more starts than the limit, none is printed. The number of planners and their
+room change no line. The formats of the files are described in agenda(1).
+
+Example:
+  agenda plan --since 2024-01-01T00:00:00Z --upto 2024-01-02T00:00:00Z \
+    --crontab jobs --limit 100 backup.timer rotate.timer
+END
+}
+
+words_make_help_of_steps() {
+  cat >"$room/words/steps.text" <<'END'
+Prints what a mailbox replies to the steps of a script
+
+Usage: agenda steps <FILE>
+
+Arguments:
+  <FILE>  The script: a line that makes the mailbox, and a line for each step
+
+Options:
+  -h, --help  Print help
+
+The first line is mailbox SENDERS ROOM, with 1 to 8 senders and room for 1 to 1024
+messages of each. Each further line is a step, of at most 10000: send S TEXT, take or
+close S, with senders S from 0. The replies are described in agenda(1).
+
+Example:
+  agenda steps script
+END
+}
+
+words_make_version() {
+  cat >"$room/words/version.text" <<'END'
+agenda 0.1.0
+proved with rattle-kit-13b logic dac8208d650f15bf
+END
+}
+
+# Each row has a text and words that ask for it.
+words_tell_help() {
+  local text words
+  while IFS=' ' read -r text words; do
+    words_run "$words"
+    compare "words: $words" "$room/words/$text.text" /dev/null 0
+  done <<'END'
+agenda --help
+agenda -h
+agenda --help|--version
+version --version
+version -V
+version -Vh
+next next|--help
+next next|-h
+next next|--after|2024-01-01T00:00:00Z|-h
+plan plan|--help
+plan plan|-h
+plan plan|--since|2024-01-01T00:00:00Z|-h
+steps steps|--help
+steps steps|-h
+steps steps|script|-h
+END
+}
+
+# The words $1 are no use of the program, and standard input has the text that says so.
+words_tell_usage() {
+  cat >"$room/words/usage"
+  words_run "$1"
+  compare "words: $1" /dev/null "$room/words/usage" 2
+}
+
+words_tell_usage_of_agenda() {
+  words_tell_usage '' <<'END'
+error: 'agenda' requires a subcommand but one was not provided
+  [subcommands: next, plan, steps]
+
+Usage: agenda <COMMAND>
+
+For more information, try '--help'.
+END
+  words_tell_usage 'help' <<'END'
+error: unrecognized subcommand 'help'
+
+Usage: agenda <COMMAND>
+
+For more information, try '--help'.
+END
+  words_tell_usage 'nxt' <<'END'
+error: unrecognized subcommand 'nxt'
+
+  tip: a similar subcommand exists: 'next'
+
+Usage: agenda <COMMAND>
+
+For more information, try '--help'.
+END
+}
+
+words_tell_usage_of_commands() {
+  local words
+  words_tell_usage 'next|--cron|30 4 1,15 * 5' <<'END'
+error: the following required arguments were not provided:
+  --after <T>
+
+Usage: agenda next --after <T> [--count <N>] (--cron <TEXT> | --calendar <TEXT>)
+
+For more information, try '--help'.
+END
+  words_tell_usage 'next|--after|2024-01-01T00:00:00Z|--cron|30 4 1,15 * 5|--count|x' <<'END'
+error: invalid value 'x' for '--count <N>': invalid digit found in string
+
+For more information, try '--help'.
+END
+  words_tell_usage 'steps|script|another' <<'END'
+error: unexpected argument 'another' found
+
+Usage: agenda steps <FILE>
+
+For more information, try '--help'.
+END
+  for words in 'next|--after|2024-01-01T00:00:00Z' 'next|--after|x' \
+    'next|--after|2024-01-01T00:00:00Z|--cron|30 4 1,15 * 5|--calendar|daily'; do
+    words_tell_usage "$words" <<<'exactly one of --cron and --calendar'
+  done
+  # a word that is not UTF-8
+  words_tell_usage $'steps|\xff' <<<'a word of the command line is not UTF-8'
+}
+
+# Each row of standard input has words that are no use of the program, ` => ` and the first lines of the text that says so.
+words_begin_usage() {
+  local row words count
+  while IFS= read -r row; do
+    words=${row%% => *}
+    printf '%b\n' "${row#* => }" >"$room/words/usage"
+    count=$(wc -l <"$room/words/usage")
+    words_run "$words"
+    head -n "$count" "$room/err" >"$room/words/begin"
+    mv -- "$room/words/begin" "$room/err"
+    compare "words: $words" /dev/null "$room/words/usage" 2
+  done
+}
+
+words_begin_usage_of_agenda_next_and_steps() {
+  local after="--after|2024-01-01T00:00:00Z" cron="--cron|30 4 1,15 * 5"
+  words_begin_usage <<END
+version => error: unrecognized subcommand 'version'
+plans => error: unrecognized subcommand 'plans'
+steps => error: the following required arguments were not provided:\n  <FILE>
+steps|a|b => error: unexpected argument 'b' found
+steps|--version => error: unexpected argument '--version' found
+steps|$after => error: unexpected argument '--after' found
+next => error: the following required arguments were not provided:\n  --after <T>
+next|--version => error: unexpected argument '--version' found
+next|$after|--cron => error: a value is required for '--cron <TEXT>' but none was supplied
+next|$after|$cron|daily => error: unexpected argument 'daily' found
+next|$after|$cron|--count|-1 => error: unexpected argument '-1' found
+next|$after|$cron|--count|4294967296 => error: invalid value '4294967296' for '--count <N>': 4294967296 is not in 0..=4294967295
+next|$after|$cron|$cron => error: the argument '--cron <TEXT>' cannot be used multiple times
+next|--after|x|--cron|@daily|--count|x => error: invalid value 'x' for '--count <N>': invalid digit found in string
+END
+}
+
+words_begin_usage_of_plan() {
+  local span="--since|2024-01-01T00:00:00Z|--upto|2024-01-02T00:00:00Z"
+  local missing="error: the following required arguments were not provided:"
+  words_begin_usage <<END
+plan => $missing\n  --since <T>\n  --upto <T>
+plan|--since|x => $missing\n  --upto <T>
+plan|--since|2024-01-01T00:00:00Z|a.timer => $missing\n  --upto <T>
+plan|--upto|2024-01-02T00:00:00Z => $missing\n  --since <T>
+plan|$span|--planners=x => error: invalid value 'x' for '--planners <N>': invalid digit found in string
+plan|$span|--planners= => error: invalid value '' for '--planners <N>': cannot parse integer from empty string
+plan|$span|--planners|-1 => error: unexpected argument '-1' found
+plan|$span|--room=-1 => error: invalid value '-1' for '--room <N>': -1 is not in 0..=4294967295
+plan|$span|--limit=4294967296 => error: invalid value '4294967296' for '--limit <N>': 4294967296 is not in 0..=4294967295
+plan|$span|--count=1 => error: unexpected argument '--count' found
+plan|$span|--after=x => error: unexpected argument '--after' found
+plan|$span|--since=x => error: the argument '--since <T>' cannot be used multiple times
+plan|$span|--version => error: unexpected argument '--version' found
+END
+}
+
+# Each row has words of `next`, ` => ` and the starts that they ask for. Where each second is a start, the next is one after the moment.
+words_ask_for_starts() {
+  local row starts after="--after|2024-01-01T00:00:00Z"
+  while IFS= read -r row; do
+    starts=${row#* => }
+    words_run "${row%% => *}"
+    compare_texts "words: ${row%% => *}" "${starts// /$'\n'}"$'\n' '' 0
+  done <<END
+next|--calendar|*-02~03|$after => 2024-02-27T00:00:00Z
+next|--after|2024-02-28T23:59:58Z|--calendar=*:*:*|--count=2 => 2024-02-28T23:59:59Z 2024-02-29T00:00:00Z
+next|$after|--count|4|--cron|30 4 1,15 * 5 => 2024-01-01T04:30:00Z 2024-01-05T04:30:00Z 2024-01-12T04:30:00Z 2024-01-15T04:30:00Z
+next|$after|--cron|30 4 1,15 * 5 => 2024-01-01T04:30:00Z
+next|--cron=@daily|--count=002|--after=2024-01-01T00:00:00Z => 2024-01-02T00:00:00Z 2024-01-03T00:00:00Z
+next|--cron|* * * * *|$after => 2024-01-01T00:01:00Z
+END
+}
+
+# Each row has words that ask for what is refused, ` => `, the status and the fault.
+words_ask_for_what_is_refused() {
+  local row told after="--after=2024-01-01T00:00:00Z" span="--since=2024-01-01T00:00:00Z|--upto=2024-01-02T00:00:00Z"
+  while IFS= read -r row; do
+    told=${row#* => }
+    words_run "${row%% => *}"
+    is_refused "words: ${row%% => *}" "${told#* }" "${told%% *}"
+  done <<END
+next|--cron=@daily|--count=0|--after= => 1 after: BadForm
+next|--cron=@daily|--count=0|$after => 1 count: BadCount
+next|--cron|* * * * *|--count|4294967295|--after|x => 1 after: BadForm
+next|--cron|* * * * *|--count|4294967295|$after => 1 count: BadCount
+next|--cron|* * * * *|--count|65537|$after => 1 count: BadCount
+next|--cron|daily|$after => 1 rule: part 0: WrongParts
+next|--calendar|@daily|$after => 1 rule: part 0: WrongParts
+plan|c|--since=x|a|b|--upto=|a|--|--limit => 1 since: BadForm
+plan|c|--since=2024-01-01T00:00:00Z|a|b|--upto=|a|--|--limit => 1 upto: BadForm
+plan|--since|2024-01-02T00:00:00Z|--upto|2024-01-01T00:00:00Z => 1 span: Backwards
+plan|c.timer|--since=2024-01-01T00:00:00Z|a.timer|b.timer|--upto=2024-01-02T00:00:00Z|a.timer|--|--limit => 1 job a.timer: SameName
+plan|$span|--|--limit => 1 --limit: line 0: BadTimerName
+plan|$span|--|--room => 3 --room: Device
+plan|$span|--|-- => 3 --: Device
+plan|--planners=0|--room=4294967295|--limit=007|--since=x|--upto=y => 1 since: BadForm
+plan|--planners=0|$span => 1 plan: BadSize
+plan|--planners=9|$span => 1 plan: BadSize
+plan|--planners=65537|$span => 1 plan: BadSize
+plan|--planners=4294967295|$span => 1 plan: BadSize
+plan|--room=0|$span => 1 plan: BadSize
+plan|--room=1025|$span => 1 plan: BadSize
+plan|--room=65537|$span => 1 plan: BadSize
+plan|--room=4294967295|$span => 1 plan: BadSize
+plan|--limit=0|$span => 1 plan: BadLimit
+plan|--limit=1000001|$span => 1 plan: BadLimit
+plan|--limit=4294967295|$span => 1 plan: BadLimit
+plan|--limit|1|$span|b.timer => 1 plan: TooMany
+plan|$span|--crontab|jobs|--system-crontab|etc/crontab|--planners|3|--room|4|--limit|4|b.timer|a.timer => 1 plan: TooMany
+END
+}
+
+# The files of the scripts that are asked for tell which they are.
+words_ask_for_replies() {
+  local words
+  for words in 'steps|script' 'steps|a b/c' 'steps|skript-ä' 'steps|-' 'steps|--|--help' 'steps|--|script'; do
+    words_run "$words"
+    compare_texts "words: $words" "sent"$'\n'"took 0 this is ${words##*|}"$'\n' '' 0
+  done
+}
+
+# The words $1 ask for the agenda that standard input has, with `|` for tabs.
+words_ask_for_agenda() {
+  tr '|' '\t' >"$room/words/agenda"
+  words_run "$1"
+  compare "words: $1" "$room/words/agenda" /dev/null 0
+}
+
+words_ask_for_sources() {
+  local span="--since|2024-01-01T00:00:00Z|--upto|2024-01-02T00:00:00Z" start="2024-01-01T00:00:00Z"
+  words_ask_for_agenda "plan|$span" </dev/null
+  words_ask_for_agenda "plan|$span|--crontab|jobs" <<<"$start|cron:1|root says jobs"
+  words_ask_for_agenda "plan|--system-crontab|jobs|$span" <<<"$start|system:1|root says jobs"
+  words_ask_for_agenda "plan|--crontab=my jobs-ä|$span" <<<"$start|cron:1|root says my jobs-ä"
+  words_ask_for_agenda "plan|--system-crontab=my jobs-ä|$span" <<<"$start|system:1|root says my jobs-ä"
+  words_ask_for_agenda "plan|--system-crontab|etc/crontab|$span|--crontab|jobs" <<END
+$start|cron:1|root says jobs
+$start|system:1|root says etc/crontab
+END
+  words_ask_for_agenda \
+    "plan|$span|--crontab|jobs|--system-crontab|etc/crontab|--planners|3|--room|4|--limit|5|b.timer|a.timer" <<END
+$start|cron:1|root says jobs
+$start|system:1|root says etc/crontab
+$start|b.timer|b.service
+$start|a.timer|a.service
+2024-01-01T12:00:00Z|b.timer|b.service
+END
+}
+
+words_ask_for_timers() {
+  local span="--since|2024-01-01T00:00:00Z|--upto|2024-01-01T00:00:01Z" start="2024-01-01T00:00:00Z"
+  words_ask_for_agenda "plan|$span|b.timer|a.timer" <<END
+$start|b.timer|b.service
+$start|a.timer|a.service
+END
+  words_ask_for_agenda "plan|a.timer|b.timer|$span" <<END
+$start|a.timer|a.service
+$start|b.timer|b.service
+END
+  words_ask_for_agenda "plan|c.timer|--since=$start|a.timer|b.timer|--upto=2024-01-01T00:00:01Z|--|--limit.timer|second.timer" <<END
+$start|c.timer|c.service
+$start|a.timer|a.service
+$start|b.timer|b.service
+$start|--limit.timer|--limit.service
+$start|second.timer|second.service
+END
+  words_ask_for_agenda "plan|--upto|2024-02-29T00:00:01Z|--since|2024-02-28T23:59:59Z|second.timer" <<END
+2024-02-28T23:59:59Z|second.timer|second.service
+2024-02-29T00:00:00Z|second.timer|second.service
+END
+}
+
+# Planners and room change no line: that they aren't taken for each other shows where a number is too large for planners alone.
+words_ask_for_sizes() {
+  local span="--since|2024-01-01T00:00:00Z|--upto|2024-01-02T00:00:00Z" line="2024-01-01T00:00:00Z|a.timer|a.service" words
+  for words in '--planners|1|--room|1' '--planners|8|--room|9' '--room=1024|--planners=8' '--limit=1' '--limit|1000000'; do
+    words_ask_for_agenda "plan|$words|$span|a.timer" <<<"$line"
+  done
+}
+
+# The first $1 seconds of 2024 are the starts, where $2 is the limit's option. One more is refused.
+words_ask_for_limit() {
+  local since="plan${2:+|$2}|--since|2024-01-01T00:00:00Z" upto one_more
+  upto=$(words_moment_after "$1")
+  one_more=$(words_moment_after "$(($1 + 1))")
+  awk -v most="$1" 'BEGIN {
+    for (second = 0; second < most; second++)
+      printf "2024-01-01T%02d:%02d:%02dZ|second.timer|second.service\n", second / 3600, second / 60 % 60, second % 60
+  }' >"$room/words/starts"
+  words_ask_for_agenda "$since|--upto|$upto|second.timer" <"$room/words/starts"
+  words_run "$since|--upto|$one_more|second.timer"
+  is_refused "words: $since|--upto|$one_more|second.timer" "plan: TooMany" 1
+}
+
+# The moment that is so many seconds after the begin of 2024, less than a day.
+words_moment_after() {
+  printf '2024-01-01T%02d:%02d:%02dZ' $(($1 / 3600)) $(($1 / 60 % 60)) $(($1 % 60))
+}
+
+words_make_files
+words_make_help_of_agenda
+words_make_help_of_next
+words_make_help_of_plan
+words_make_help_of_steps
+words_make_version
+words_tell_help
+words_tell_usage_of_agenda
+words_tell_usage_of_commands
+words_begin_usage_of_agenda_next_and_steps
+words_begin_usage_of_plan
+words_ask_for_starts
+words_ask_for_what_is_refused
+words_ask_for_replies
+words_ask_for_sources
+words_ask_for_timers
+words_ask_for_sizes
+words_ask_for_limit 10000 ''
+words_ask_for_limit 7 --limit=007
+words_ask_for_limit 65543 --limit=65543
