@@ -1,4 +1,4 @@
-use crate::writers::{Limited, took};
+use crate::writers::{End, Limited, took};
 use agenda_commands::{run_next, run_script};
 use agenda_faults::RunFault;
 use agenda_words::Asked;
@@ -34,7 +34,7 @@ fn lists(
     text: &str,
 ) -> Result<(), Fail> {
     let asked = Asked::Cron(Text::new(String::from_str(rt.alloc(), rule)?));
-    let mut out = Limited::new(rt.alloc(), room);
+    let mut out = Limited::new(room, 128, End::TakesNothing);
     let done = run_next(rt.alloc(), &asked, after, 1, &mut out);
     assert!(rt; done == wanted, "{text}");
     took(rt, &out, text);
@@ -65,15 +65,15 @@ fn replies_fail(rt: &(impl Abort + AllocGlobal), mut out: Limited) {
 
 #[test]
 fn replies_for_a_writer_that_is_full(rt: HostRuntime) {
-    replies_fail(&rt, Limited::new(rt.alloc(), 0));
-    replies_fail(&rt, Limited::new(rt.alloc(), 10));
-    replies_fail(&rt, Limited::new(rt.alloc(), 11));
-    replies_fail(&rt, Limited::new(rt.alloc(), 80));
+    replies_fail(&rt, Limited::new(0, 128, End::TakesNothing));
+    replies_fail(&rt, Limited::new(10, 128, End::TakesNothing));
+    replies_fail(&rt, Limited::new(11, 128, End::TakesNothing));
+    replies_fail(&rt, Limited::new(80, 128, End::TakesNothing));
 }
 
 #[test]
 fn replies_for_a_writer_whose_flush_fails(rt: HostRuntime) {
-    let mut out = Limited::new(rt.alloc(), 128);
+    let mut out = Limited::ample();
     out.flush_fails = true;
     replies_fail(&rt, out);
 }

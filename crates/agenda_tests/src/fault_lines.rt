@@ -1,4 +1,4 @@
-use crate::writers::{Limited, took};
+use crate::writers::{End, Limited, took};
 use agenda_faults::{Failure, RunFault, fault_line};
 use agenda_script::{ScriptCause, ScriptFault};
 use plan_rules::{RuleCause, RuleFault, Text};
@@ -15,8 +15,8 @@ fn script(line: u32, cause: ScriptCause) -> Failure {
 }
 
 // That a failure ends the program with this status, and writes this line, as far as there is room; a whole one by one write.
-fn writes(rt: &(impl Abort + AllocGlobal), failure: Failure, room: usize, line: &str, status: u8) {
-    let mut out = Limited::new(rt.alloc(), room);
+fn writes(rt: &impl Abort, failure: Failure, room: usize, line: &str, status: u8) {
+    let mut out = Limited::new(room, 128, End::TakesNothing);
     let ended = fault_line(&failure, &[], &mut out);
     let once = room < line.len() || out.calls == 1;
     assert!(rt; ended == status && once, "{line}");

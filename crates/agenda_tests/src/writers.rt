@@ -1,46 +1,78 @@
-use std::alloc::Global;
-use std::io::{self, ErrorKind, Write};
+use std::io::{self, Write};
 use std::process::Abort;
 
-/// A writer that takes a number of bytes.
+/// A writer that takes a number of bytes, some at a call, and then fails.
 #[derive(Drop)]
 pub struct Limited {
-    /// What was written.
-    pub taken: Vec<u8>,
+    /// What was written, in the first `len` places.
+    pub taken: [u8; 128],
+    /// How many bytes were written.
+    pub len: usize,
     /// How many bytes are taken in all.
     pub room: usize,
-    /// How many writes there were.
-    pub calls: usize,
+    /// How many bytes are taken at a call.
+    pub at_a_call: usize,
+    /// What comes once there is no more room.
+    pub end: End,
     /// Whether the flush fails.
     pub flush_fails: bool,
+    /// How many writes there were.
+    pub calls: usize,
+}
+
+/// How a writer fails.
+#[derive(Clone, Copy, Debug, PartialEq, Eq)]
+pub enum End {
+    Error,
+    TakesNothing,
 }
 
 impl Limited {
-    /// A writer that takes so many bytes.
-    pub fn new(alloc: Global, room: usize) -> Limited {
+    /// A writer that takes `room` bytes, at most `at_a_call` at once.
+    pub fn new(room: usize, at_a_call: usize, end: End) -> Limited {
         Limited {
-            taken: Vec::new(alloc),
+            taken: [0; 128],
+            len: 0,
             room,
-            calls: 0,
+            at_a_call,
+            end,
             flush_fails: false,
+            calls: 0,
         }
+    }
+
+    /// A writer with room for each text of these tests.
+    pub fn ample() -> Limited {
+        Limited::new(128, 128, End::Error)
+    }
+
+    /// The bytes that were written.
+    pub fn bytes(&self) -> &[u8] {
+        let len = self.len.min(128);
+        &self.taken[..len]
     }
 }
 
 impl Write for Limited {
     fn write(&mut self, bytes: &[u8]) -> io::Result<usize> {
         self.calls = self.calls.saturating_add(1);
-        let left = self.room.saturating_sub(self.taken.len());
-        let count = bytes.len().min(left);
-        match self.taken.extend_from_slice(&bytes[..count]) {
-            Ok(()) => Ok(count),
-            Err(_) => Err(io::Error::from(ErrorKind::Other)),
+        let left = self.room.saturating_sub(self.len);
+        let count = bytes.len().min(self.at_a_call).min(left);
+        if count == 0 && self.end == End::Error {
+            return Err(io::Error::from(io::ErrorKind::Other));
         }
+        for byte in &bytes[..count] {
+            if self.len < 128 {
+                self.taken[self.len] = *byte;
+                self.len += 1;
+            }
+        }
+        Ok(count)
     }
 
     fn flush(&mut self) -> io::Result<()> {
         if self.flush_fails {
-            return Err(io::Error::from(ErrorKind::Other));
+            return Err(io::Error::from(io::ErrorKind::Other));
         }
         Ok(())
     }
@@ -50,5 +82,5 @@ impl Write for Limited {
 pub fn took(rt: &impl Abort, out: &Limited, text: &str) {
     let bytes = text.as_bytes();
     let first = bytes.get(..bytes.len().min(out.room));
-    assert!(rt; first == Some(out.taken.as_slice()), "{text}");
+    assert!(rt; first == Some(out.bytes()), "{text}");
 }

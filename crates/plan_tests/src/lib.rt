@@ -1,9 +1,16 @@
-//! The tests of what plan_collect and plan_threads offer. They stand in a crate that has nothing else: with tests in it, the gate proves a
-//! crate once more. What the program shows of plans stands in rows/agendas.sh.
+//! The tests of what plan_mailbox, plan_collect and plan_threads offer: mailboxes, the ends of their rings, a mailbox behind a lock, and
+//! plans. They stand in a crate that has nothing else: with tests in it, the gate proves a crate once more. What the program shows of
+//! plans stands in rows/agendas.sh.
 #![tactic(auto)]
 
 #[cfg(test)]
 mod collector;
+#[cfg(test)]
+mod ends;
+#[cfg(test)]
+mod locks;
+#[cfg(test)]
+mod mailboxes;
 #[cfg(test)]
 mod names;
 #[cfg(test)]

@@ -1,6 +1,6 @@
 use Rattle.std.proofs.Common.{◌≡◌}
 use Rattle.plan_mailbox.specs.Ends.{inlet_of}
-use Rattle.mailbox_tests.proofs.ends.take_most.Given as goal
+use Rattle.plan_tests.proofs.ends.take_most.Given as goal
 
 -- the rings stay
 abbrev pub invariant-loop : goal.invariant-loop

@@ -1,6 +1,6 @@
 use Rattle.std.proofs.Common.{◌≡◌}
 use Rattle.plan_mailbox.specs.Ends.{outlet_of}
-use Rattle.mailbox_tests.proofs.ends.send_ten_thousand.Given as goal
+use Rattle.plan_tests.proofs.ends.send_ten_thousand.Given as goal
 
 -- the ring stays
 abbrev pub invariant-loop : goal.invariant-loop

@@ -6,7 +6,7 @@ use Rattle.plan_mailbox.specs.declared.outlet.Outlet.{Outlet}
 use Rattle.plan_mailbox.specs.Ends.{Ring, new_outlets, outlet_of}
 use Rattle.plan_mailbox.specs.Mailbox.{senders_of}
 use Rattle.plan_mailbox.specs.Splits.{rings_of}
-use Rattle.mailbox_tests.proofs.ends.ends_of_two.Goals as goal
+use Rattle.plan_tests.proofs.ends.ends_of_two.Goals as goal
 
 -- a list of two, from its ends
 two_left : {A : Type 0} (all middle rest : List A) (a b : A) → length all ≡ 2 → all ≡ middle ++ b ∷ [] → middle ≡ rest ++ a ∷ [] → all ≡ a ∷ b ∷ []

@@ -1,6 +1,6 @@
 //! What words leave behind on both streams, and how often a file is opened, where files and streams fail.
 use crate::files::FewFiles;
-use crate::writers::{End, LimitedWriter};
+use crate::writers::{End, Limited};
 use agenda_answers::{answer, answer_words, unread_words};
 use std::alloc::Global;
 use std::io::ErrorKind;
@@ -23,16 +23,11 @@ fn run(
     rt: &(impl Threads + Wait + Sync + AllocGlobal),
     words: &str,
     files: &mut FewFiles<'_>,
-    out: &mut LimitedWriter,
-    err: &mut LimitedWriter,
+    out: &mut Limited,
+    err: &mut Limited,
 ) -> Result<u8, Fail> {
     let line = command_line(rt.alloc(), words)?;
     Ok(answer_words(rt, rt.alloc(), line.as_slice(), files, out, err))
-}
-
-// A stream with room for each text of these tests.
-fn ample() -> LimitedWriter {
-    LimitedWriter::new(128, 128, End::Error, false)
 }
 
 // That words end with this status, write these texts to the two streams, and open so many files.
@@ -44,7 +39,7 @@ fn leaves(
     texts: (&str, &str),
     opened: usize,
 ) -> Result<(), Fail> {
-    let (mut files, mut out, mut err) = (files, ample(), ample());
+    let (mut files, mut out, mut err) = (files, Limited::ample(), Limited::ample());
     let ended = run(rt, words, &mut files, &mut out, &mut err)?;
     assert_eq!(rt; ended, status, "{words}");
     assert_eq!(rt; out.bytes(), texts.0.as_bytes(), "{words}");
@@ -99,8 +94,8 @@ fn fails_at_each_byte(
 ) -> Result<(), Fail> {
     for room in 0..text.len() {
         let mut files = FewFiles::new(&STEPS, 4_096, false);
-        let mut out = LimitedWriter::new(room, 3, End::Error, false);
-        let mut err = ample();
+        let mut out = Limited::new(room, 3, End::Error);
+        let mut err = Limited::ample();
         let status = run(rt, words, &mut files, &mut out, &mut err)?;
         assert_eq!(rt; status, 3, "{room}");
         assert_eq!(rt; out.bytes(), &text[..room]);
@@ -129,8 +124,8 @@ fn faults_at_each_byte(
 ) -> Result<(), Fail> {
     for room in 0..line.len() {
         let mut files = FewFiles::new(&STEPS, 4_096, false);
-        let mut out = ample();
-        let mut err = LimitedWriter::new(room, 5, End::TakesNothing, false);
+        let mut out = Limited::ample();
+        let mut err = Limited::new(room, 5, End::TakesNothing);
         let status = run(rt, words, &mut files, &mut out, &mut err)?;
         assert_eq!(rt; status, wanted, "{room}");
         assert_eq!(rt; out.calls, 0);
@@ -164,7 +159,11 @@ fn unread(
     line: &str,
 ) {
     let asked = Err(unread_words(rt.alloc(), kind));
-    let (mut files, mut out, mut err) = (FewFiles::new(&[], 1, false), ample(), ample());
+    let (mut files, mut out, mut err) = (
+        FewFiles::new(&[], 1, false),
+        Limited::ample(),
+        Limited::ample(),
+    );
     let status = answer(rt, rt.alloc(), asked, &mut files, &mut out, &mut err);
     assert_eq!(rt; status, wanted, "{line}");
     assert_eq!(rt; out.calls, 0);
@@ -243,7 +242,7 @@ fn standard_output_that_fails_within_a_plan(rt: HostRuntime) -> Result<(), Fail>
         "agenda|plan|--since|2024-01-01T00:00:00Z|--upto|2024-01-02T00:00:00Z|--crontab|crontab";
     for room in [0, 10, 29] {
         let mut files = FewFiles::new(&NIGHTLY, 4_096, false);
-        let (mut out, mut err) = (LimitedWriter::new(room, 128, End::Error, false), ample());
+        let (mut out, mut err) = (Limited::new(room, 128, End::Error), Limited::ample());
         let status = run(&rt, words, &mut files, &mut out, &mut err)?;
         assert_eq!(rt; status, 3);
         assert_eq!(rt; out.bytes(), &NIGHTLY_TEXT.as_bytes()[..room]);
