@@ -8,6 +8,8 @@
 //! - `piece TIMES UPTO SOURCE` searches for a piece of that job's starts before a second, and finds how many there are.
 //! - `plan LIMIT SECONDS SOURCE` plans its jobs in one thread, and finds how many starts there are, 0 where that is above the limit.
 //! - `ring COUNT ROOM -` and `lock COUNT ROOM -` send messages from one thread to another, and find how many came.
+//!
+//! Other words are refused as invalid input, and so is work that can't be done.
 #![tactic(auto)]
 
 mod plans;
@@ -30,12 +32,15 @@ fn main(rt: HostRuntime) -> io::Result<()> {
     let words: Vec<String> = env::args(&rt)?.collect(rt.alloc())?;
     let mut rest = words.get(1..).unwrap_or(&[]);
     for _ in 0..words.len() {
-        let [work, count, size, source, more @ ..] = rest else {
+        if rest.is_empty() {
             break;
+        }
+        let [work, count, size, source, more @ ..] = rest else {
+            return Err(refused());
         };
-        let numbers = (number(count.as_str()), number(size.as_str()));
+        let numbers = (number(count.as_str())?, number(size.as_str())?);
         let Some(found) = found(&rt, work.as_str(), numbers, source.as_str())? else {
-            return Err(io::Error::from(ErrorKind::InvalidInput));
+            return Err(refused());
         };
         println!(rt; "{work} {source}: {found}")?;
         rest = more;
@@ -43,9 +48,14 @@ fn main(rt: HostRuntime) -> io::Result<()> {
     Ok(())
 }
 
-// The number that a word writes, 0 where it writes none.
-fn number(word: &str) -> u64 {
-    word.parse().unwrap_or(0)
+// What comes of words that ask for no work.
+fn refused() -> io::Error {
+    io::Error::from(ErrorKind::InvalidInput)
+}
+
+// The number that a word writes.
+fn number(word: &str) -> io::Result<u64> {
+    word.parse().or(Err(refused()))
 }
 
 // What a piece of work finds; `None` where there is no such work, or it can't be done.

@@ -1,15 +1,12 @@
 -- How many starts a collector holds.
-use Rattle.std.proofs.Common.{◌≡◌, ℕ, zero, suc, ◌+◌, ◌-◌, ◌<◌, ◌≤◌, Bool, true, false, List, [], ◌∷◌, ◌++◌, length, map, filter, get_or, nat_le, Some, inl, inr, refl, ap, ap₂, ◌∙◌, arith, length-append}
+use Rattle.std.proofs.Common.{◌≡◌, ℕ, zero, suc, ◌+◌, ◌<◌, ◌≤◌, List, [], ◌∷◌, ◌++◌, length, map, get_or, Some, ap, ap₂, ◌∙◌, arith, length-append}
 use Rattle.std.specs.Prelude.{slice_get}
-use Rattle.std.specs.List.{range_with_len}
 use Rattle.std.proofs.Math.ListN.{set}
-use Rattle.std.proofs.lemmas.Bool.{cases_lt, cases_Bool, le-leb, lt-leb}
 use Rattle.std.proofs.lemmas.List.{length-map}
 use Rattle.std.proofs.lemmas.Option.{same_Some}
 use Rattle.plan_match.specs.declared.rule.Rule.{Rule}
-use Rattle.plan_next.specs.Starts.{is_start, starts, passing}
-use Rattle.plan_next.specs.Piece.{piece_end}
-use Rattle.plan_next.specs.StartsLaws.{passing-append, passing-none}
+use Rattle.plan_next.specs.Starts.{is_start, starts}
+use Rattle.plan_next.specs.StartsLaws.{passing-append}
 use Rattle.plan_collect.specs.Collecting.{held_from}
 
 -- a job that is covered further has the starts between beside those that were held

@@ -1,30 +1,28 @@
 -- The sets of a rule that is read lie within their fields' limits.
-use Rattle.std.proofs.Common.{◌≡◌, ℕ, ◌+◌, ◌-◌, ◌&&◌, Bool, true, false, cond, List, [], ◌∷◌, codes, Option, Some, None, Result, Ok, Err, IfOk, IfSome, refl, arith, subst, sym, ◌∙◌}
+use Rattle.std.proofs.Common.{◌≡◌, ℕ, ◌+◌, ◌-◌, ◌&&◌, Bool, true, false, cond, List, [], ◌∷◌, Option, Some, None, Result, Ok, Err, IfOk, IfSome, refl, arith, subst, sym, ◌∙◌}
 use Rattle.std.proofs.lemmas.Bool.Decides.{nat_tests}
 use Rattle.std.proofs.lemmas.List.Elements.{All-nil, All-cons}
 use Rattle.std.specs.Int.{IsInRange}
 use Rattle.std.specs.List.{list_any}
-use Rattle.std.specs.Str.{str_eq_ignore_ascii_case}
 use Rattle.plan_sets.specs.declared.item.Item.{Item}
 use Rattle.plan_sets.specs.declared.item.SetFault.{SetFault}
 use Rattle.plan_sets.specs.Items.{belongs, items_fault, held_values, values_or_fault, set_reading}
 use Rattle.plan_sets.specs.Limits.{first_year, last_year}
-use Rattle.plan_sets.specs.Values.{Values as SetOfValues, has_value, is_among, values_where}
+use Rattle.plan_sets.specs.Values.{Values as SetOfValues, is_among, values_where}
 use Rattle.plan_sets.specs.ValuesLaws.{has_value-values_where}
 use Rattle.plan_texts.specs.declared.fault.RuleFault.{RuleFault}
 use Rattle.plan_texts.specs.Steps.{Reading, ◌>>=◌, Gives}
 use Rattle.plan_texts.specs.Elements.{set_in_part, values_by}
-use Rattle.plan_texts.specs.Text.{words, begins_with}
+use Rattle.plan_texts.specs.Text.{words}
 use Rattle.plan_match.specs.declared.event.DayCount.{DayCount}
 use Rattle.plan_match.specs.declared.event.DayCount.TheVariants.{FromStart, FromEnd}
-use Rattle.plan_match.specs.declared.event.Calendar.{Calendar}
-use Rattle.plan_match.specs.WithinLimits.{LieWithin, CronIsWithinLimits, EventIsWithinLimits, RuleIsWithinLimits}
+use Rattle.plan_match.specs.WithinLimits.{LieWithin, EventIsWithinLimits, RuleIsWithinLimits}
 use Rattle.plan_grammar.specs.declared.field.Field.{Field}
 use Rattle.plan_grammar.specs.declared.field.Field.TheVariants.{Minute, Hour, MonthDay, Month, WeekDay}
 use Rattle.plan_grammar.specs.declared.component.Component.TheVariants as component
 use Rattle.plan_grammar.specs.Cron.{lowest, highest, items_reading, field_reading, has_week_day, week_days_of, five_fields, at_word, found_reading, at_reading, rule_reading, cron_reading}
 use Rattle.plan_grammar.specs.Shape.{ShapeText, shape_reading}
-use Rattle.plan_grammar.specs.Event.{component_items, component_set, component_reading, first_place_fault, is_listed_place, places_reading, weekday_items, weekdays_reading, weekdays_if_given, day_component, event_of, spelled_out, has_zone, last_word, zone_dropped, expression_of, is_unknown_word, lone_word, zoneless, words_reading, has_specifier, event_reading, event_rule_reading}
+use Rattle.plan_grammar.specs.Event.{component_items, component_set, component_reading, first_place_fault, is_listed_place, places_reading, weekday_items, weekdays_reading, weekdays_if_given, day_component, event_of, spelled_out, zone_dropped, expression_of, is_unknown_word, lone_word, zoneless, words_reading, has_specifier, event_reading, event_rule_reading}
 
 -- ---- readings
 

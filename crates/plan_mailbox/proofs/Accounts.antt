@@ -1,13 +1,11 @@
 -- What was taken of a sender that was settled, and what is known to wait.
-use Rattle.std.proofs.Common.{◌≡◌, ℕ, ◌<◌, true, List, [], ◌∷◌, ◌++◌, length, drop, get_or, set, map, Some, refl, sym, ap, ◌∙◌, ⊎_elim, append_assoc, subst, arith}
+use Rattle.std.proofs.Common.{◌≡◌, ℕ, ◌<◌, true, List, [], ◌∷◌, ◌++◌, length, drop, Some, sym, ap, ◌∙◌, ⊎_elim, append_assoc, subst, arith}
 use Rattle.std.specs.List.{slice_get}
 use Rattle.std.proofs.lemmas.Bool.{cases_order}
 use Rattle.std.proofs.lemmas.List.{append-nil, length-map, get_or-set_same, get_or-set_other}
 use Rattle.std.proofs.lemmas.Option.{slice_get_within}
 use Rattle.std.proofs.Math.Seq.{drop-append_seam}
-use Rattle.rtrb.specs.Ring.{received, known_items}
 use Rattle.plan_mailbox.specs.declared.inlet.Inlet.{Inlet}
-use Rattle.plan_mailbox.specs.declared.ring_end.RingEnd.{RingEnd}
 use Rattle.plan_mailbox.specs.Ends.{Receiving, Accounts, IsTake, after_take, inlet_of, is_settled_at, known_at, taken_at}
 use Rattle.plan_mailbox.specs.History.{IsPrefix}
 use Rattle.plan_mailbox.proofs.Places.{slice_get_before}

@@ -1,12 +1,12 @@
 -- The receiver's ends, where one of them changes.
-use Rattle.std.proofs.Common.{◌≡◌, ℕ, ◌<◌, ◌≤◌, List, [], ◌∷◌, ◌++◌, length, get_or, set, drop, map, true, false, refl, sym, ap, ◌∙◌}
+use Rattle.std.proofs.Common.{◌≡◌, ℕ, ◌<◌, ◌≤◌, List, [], ◌∷◌, ◌++◌, length, get_or, set, drop, map, true, false, sym, ap, ◌∙◌}
 use Rattle.std.proofs.lemmas.List.{map-set, length-map, get_or-set_same}
 use Rattle.std.proofs.Math.Seq.{drop-append_seam}
 use mathlib.Core.List.{IsPrefix}
 use Rattle.rtrb.specs.Ring.{received, known_items}
 use Rattle.plan_mailbox.specs.declared.ring_end.RingEnd.{RingEnd}
 use Rattle.plan_mailbox.specs.History as history
-use Rattle.plan_mailbox.specs.Ends.{Ring, consumer_ring, receiving, after_settle, taken_at, known_at, is_settled_at, IsTakeAmong}
+use Rattle.plan_mailbox.specs.Ends.{consumer_ring, receiving, after_settle, taken_at, known_at, is_settled_at, IsTakeAmong}
 use Rattle.plan_mailbox.proofs.Places.{map_read, map_set_same}
 
 -- a list that another begins with

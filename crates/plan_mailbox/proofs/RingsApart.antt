@@ -1,12 +1,12 @@
 -- A mailbox of rings that is taken apart.
-use Rattle.std.proofs.Common.{◌≡◌, ℕ, suc, ◌+◌, All, List, [], ◌∷◌, ◌++◌, length, map, replicate, false, refl, sym, ap, ◌∙◌, subst, add-zero, arith}
+use Rattle.std.proofs.Common.{◌≡◌, ℕ, suc, ◌+◌, All, List, [], ◌∷◌, ◌++◌, length, map, replicate, false, refl, sym, ap, ◌∙◌, add-zero, arith}
 use Rattle.std.specs.List.{enumerate_from}
 use Rattle.std.proofs.lemmas.List.{length-append, length-map, nil_from_length}
 use Rattle.std.proofs.lemmas.List.Elements.{All-head, All-tail}
 use Rattle.rtrb.specs.Ring.{sent, received, known_items}
 use Rattle.plan_mailbox.specs.declared.rings.RingLane.{RingLane}
 use Rattle.plan_mailbox.specs.declared.ring_end.RingEnd.{RingEnd}
-use Rattle.plan_mailbox.specs.Ends.{Ring, Sending, Receiving, consumer_ring, producer_ring, receiving, new_inlet, new_outlets}
+use Rattle.plan_mailbox.specs.Ends.{Ring, Sending, consumer_ring, producer_ring, receiving, new_inlet, new_outlets}
 
 -- the numbers of a list with one more
 pub enumerate_from-push : {A : Type 0} (n : ℕ) (xs : List A) (x : A) → enumerate_from n (xs ++ x ∷ []) ≡ enumerate_from n xs ++ (n + length xs, x) ∷ []

@@ -1,5 +1,5 @@
 -- Rules whose sets hold values of their fields alone.
-use Rattle.std.specs.Prelude.{ℕ, Option, IfSome, IsTrue, List}
+use Rattle.std.specs.Prelude.{ℕ, IfSome, IsTrue}
 use Rattle.std.specs.Int.{IsInRange}
 use Rattle.std.specs.List.{All}
 use Rattle.plan_sets.specs.Limits.{first_year, last_year}

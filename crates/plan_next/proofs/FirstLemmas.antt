@@ -1,7 +1,7 @@
 -- First answers to two tests, or to one in two parts of a range.
-use Rattle.std.proofs.Common.{◌≡◌, ℕ, ◌<◌, ◌≤◌, Bool, Option, Some, None, inl, inr, refl, sym, ◌∙◌, arith}
+use Rattle.std.proofs.Common.{◌≡◌, ℕ, ◌<◌, ◌≤◌, Bool, Option, Some, None, inl, inr, sym, ◌∙◌, arith}
 use Rattle.std.proofs.lemmas.Bool.{cases_lt}
-use Rattle.plan_next.specs.Starts.{NoneIn, IsLeastIn, IsFirstIn}
+use Rattle.plan_next.specs.Starts.{NoneIn, IsFirstIn}
 
 -- a test that passes the same numbers has the same first one
 pub IsFirstIn-same : (test other : ℕ → Bool) (a b : ℕ) (answer : Option ℕ) → ((n : ℕ) → n < b → test n ≡ other n) → IsFirstIn test a b answer → IsFirstIn other a b answer

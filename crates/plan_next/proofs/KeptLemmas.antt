@@ -1,15 +1,14 @@
 -- The next starts that the events of a list keep.
-use Rattle.std.proofs.Common.{◌≡◌, ◌≢◌, ℕ, ◌+◌, ◌/◌, ◌<◌, ◌≤◌, Bool, true, false, ◌&&◌, List, length, get_or, set, get_or-set_other, get_or-set_same, Option, Some, None, inl, inr, Bor, refl, sym, ap, ◌∙◌, subst, arith}
+use Rattle.std.proofs.Common.{◌≡◌, ◌≢◌, ℕ, ◌+◌, ◌<◌, ◌≤◌, true, List, length, get_or, set, get_or-set_other, get_or-set_same, Some, inl, inr, Bor, sym, ap, ◌∙◌, subst, arith}
 use Rattle.std.specs.Prelude.{nat_lt, slice_get, slice_index}
-use Rattle.std.proofs.lemmas.Bool.{cases_lt, cases_order, false≢true, lt-ltb, true≢false}
-use Rattle.plan_sets.specs.Limits.{end_second, seconds_a_day}
-use Rattle.plan_sets.specs.Civil.{civil_fields}
+use Rattle.std.proofs.lemmas.Bool.{cases_lt, lt-ltb, true≢false}
+use Rattle.plan_sets.specs.Limits.{end_second}
 use Rattle.plan_match.specs.declared.cron.CronRule.{CronRule}
 use Rattle.plan_match.specs.declared.event.Calendar.{Calendar}
 use Rattle.plan_match.specs.declared.rule.Rule.{Rule}
 use Rattle.plan_match.specs.declared.rule.Rule.TheVariants as rule
 use Rattle.plan_next.specs.declared.search.Pattern.TheVariants.{Cron, Event}
-use Rattle.plan_next.specs.Next.{matches_at, AreNexts, IsNextIn, KeepsNexts}
+use Rattle.plan_next.specs.Next.{matches_at, IsNextIn, KeepsNexts}
 use Rattle.plan_next.specs.Search.{admits_moment}
 use Rattle.plan_next.specs.Starts.{is_start}
 use Rattle.plan_next.proofs.EventsLemmas.{is_start-event}

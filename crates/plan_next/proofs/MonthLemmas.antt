@@ -1,8 +1,8 @@
 -- The month of a day, by its civil fields.
-use Rattle.std.proofs.Common.{◌≡◌, ℕ, ◌+◌, ◌-◌, ◌*◌, ◌/◌, ◌%◌, ◌<◌, ◌≤◌, refl, sym, ◌∙◌, arith}
+use Rattle.std.proofs.Common.{◌≡◌, ℕ, ◌+◌, ◌-◌, ◌*◌, ◌/◌, ◌%◌, ◌<◌, ◌≤◌, refl, arith}
 use Rattle.std.specs.Int.{IsInRange}
 use Rattle.plan_sets.specs.declared.civil.Civil.{Civil}
-use Rattle.plan_sets.specs.Limits.{end_second, first_year, last_year, seconds_a_day}
+use Rattle.plan_sets.specs.Limits.{first_year, last_year, seconds_a_day}
 use Rattle.plan_sets.specs.Civil.{civil_fields, length_of_month}
 use Rattle.plan_sets.specs.CivilLaws.{IsCivilOf-civil_fields, IsInRange-year}
 use Rattle.plan_sets.specs.Months.{days_of_month, month_number, IsFirstDay}

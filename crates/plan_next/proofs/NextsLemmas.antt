@@ -1,17 +1,8 @@
 -- Next starts: of a rule by those of its events, and each by the one before it.
-use Rattle.std.proofs.Common.{◌≡◌, ◌≢◌, ℕ, ◌+◌, ◌/◌, ◌<◌, ◌≤◌, Bool, true, false, ◌&&◌, ◌||◌, List, length, take, Option, Some, None, inl, inr, Bor, refl, sym, ap, ◌∙◌, subst, arith}
-use Rattle.std.specs.Prelude.{min, nat_lt, slice_get, slice_index, unwrap_or}
-use Rattle.std.proofs.lemmas.Bool.{cases_lt, false≢true, lt-ltb, true≢false}
-use Rattle.plan_sets.specs.Limits.{end_second, seconds_a_day}
-use Rattle.plan_sets.specs.Civil.{civil_fields}
-use Rattle.plan_match.specs.declared.event.Calendar.{Calendar}
-use Rattle.plan_match.specs.declared.rule.Rule.{Rule}
-use Rattle.plan_match.specs.declared.rule.Rule.TheVariants as rule
-use Rattle.plan_match.specs.EventMatch.{event_matches, some_event_matches}
-use Rattle.plan_next.specs.declared.search.Pattern.{Pattern}
-use Rattle.plan_next.specs.Next.{matches_at, AreNexts, IsNextIn, KeepsNexts}
-use Rattle.plan_next.specs.Search.{admits_day, admits_moment}
-use Rattle.plan_next.specs.Starts.{NoneIn, IsLeastIn, IsFirstIn, is_start}
+use Rattle.std.proofs.Common.{◌≡◌, ℕ, ◌<◌, ◌≤◌, Bool, true, Option, Some, None, sym, ap, ◌∙◌, arith}
+use Rattle.std.specs.Prelude.{unwrap_or}
+use Rattle.plan_next.specs.Next.{IsNextIn}
+use Rattle.plan_next.specs.Starts.{NoneIn, IsLeastIn, IsFirstIn}
 
 -- a first answer, or the end of the part
 pub IsNextIn-first : (test : ℕ → Bool) (a b : ℕ) (answer : Option ℕ) → a ≤ b → IsFirstIn test a b answer → IsNextIn test a b (unwrap_or answer b)

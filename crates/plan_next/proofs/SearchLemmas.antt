@@ -4,10 +4,10 @@ use Rattle.std.specs.Prelude.{min}
 use Rattle.std.specs.Int.{IsInRange}
 use Rattle.std.proofs.lemmas.Bool.{cases_lt, cases_Bool, true≢false, false≢true}
 use Rattle.plan_sets.specs.declared.civil.Civil.{Civil}
-use Rattle.plan_sets.specs.Limits.{end_second, seconds_a_day}
+use Rattle.plan_sets.specs.Limits.{seconds_a_day}
 use Rattle.plan_sets.specs.Civil.{civil_fields}
 use Rattle.plan_sets.specs.CivilLaws.{IsCivilOf-civil_fields}
-use Rattle.plan_sets.specs.Months.{days_of_month, month_number, ComesBefore, IsFirstDay}
+use Rattle.plan_sets.specs.Months.{month_number, ComesBefore, IsFirstDay}
 use Rattle.plan_sets.specs.MonthsLaws.{civil_fields-of_month, ComesBefore-first_day, IsFirstDay-le_end, IsFirstDay-next, IsInRange-month_number}
 use Rattle.plan_sets.specs.Values.{has_value}
 use Rattle.plan_next.specs.declared.month.Month.{Month}

@@ -1,5 +1,5 @@
 -- What comes of the notes that are taken.
-use Rattle.std.proofs.Common.{◌≡◌, ℕ, zero, suc, ◌+◌, ◌<◌, ◌≤◌, ◌⊎◌, true, false, ◌==◌, Bool, List, [], ◌∷◌, ◌++◌, length, map, filter, None, Some, Option, Result, Ok, Err, inl, inr, refl, ap, sym, ◌∙◌, subst, arith, append-nil}
+use Rattle.std.proofs.Common.{◌≡◌, ℕ, zero, suc, ◌+◌, ◌<◌, ◌≤◌, ◌⊎◌, true, false, ◌==◌, List, [], ◌∷◌, ◌++◌, length, None, Some, Option, Result, Ok, Err, inl, inr, refl, ap, sym, ◌∙◌, subst, arith, append-nil}
 use Rattle.std.specs.Prelude.{slice_get, slice_set, slice_index_or, MatchResult, OnOk}
 use Rattle.std.specs.declared.thread.PromisedHandle.{PromisedHandle}
 use Rattle.std.proofs.lemmas.Bool.{cases_eq, eq-eqb, ne_eqb}
@@ -18,7 +18,7 @@ use Rattle.plan_collect.specs.Merging.{answer_to, AcceptsMergings}
 use Rattle.plan_collect.specs.Tiling.{notes_of, sent_by, IsMerging}
 use Rattle.plan_mailbox.specs.Ends.{NothingKnown, Receiving, Ring, IsTake, taken_at}
 use Rattle.plan_threads.specs.declared.promise.Sending.{Sending}
-use Rattle.plan_threads.specs.Gathering.{AreOf, ArePlanners, Stands, IsAccounted, IsGathering, IsPlanner, Meets, Steps, IsWhole, Ends, all_notes}
+use Rattle.plan_threads.specs.Gathering.{AreOf, ArePlanners, Stands, IsAccounted, IsGathering, Meets, Steps, IsWhole, Ends, all_notes}
 
 -- ---- one more note
 

@@ -1,10 +1,9 @@
 -- What a planner has sent, and what is left of its notes.
-use Rattle.std.proofs.Common.{◌≡◌, ℕ, zero, suc, ◌+◌, ◌-◌, ◌%◌, ◌<◌, ◌≤◌, ◌⊎◌, true, false, nat_lt, List, [], ◌∷◌, ◌++◌, length, map, drop, None, Some, inl, inr, refl, ap, sym, ◌∙◌, arith, append_assoc, append-nil, subst}
+use Rattle.std.proofs.Common.{◌≡◌, ℕ, zero, suc, ◌+◌, ◌%◌, ◌<◌, ◌≤◌, ◌⊎◌, true, false, nat_lt, List, [], ◌∷◌, ◌++◌, length, map, drop, None, Some, inl, inr, refl, ap, sym, ◌∙◌, arith, append_assoc, append-nil, subst}
 use Rattle.std.specs.Prelude.{slice_get, Result, Ok, Err, OnErr, IsErrAnd}
 use Rattle.std.proofs.Math.Seq.{drop-append_seam}
 use Rattle.std.proofs.lemmas.Bool.{cases_lt, lt-ltb, le-ltb}
 use Rattle.std.proofs.lemmas.List.{length-map}
-use Rattle.std.proofs.lemmas.Option.{slice_get_within}
 use Rattle.plan_match.specs.declared.rule.Rule.{Rule}
 use Rattle.plan_next.specs.Starts.{starts}
 use Rattle.plan_next.specs.Piece.{Part, piece_of, piece_end}
@@ -15,7 +14,7 @@ use Rattle.plan_collect.specs.Agenda.{rules_of}
 use Rattle.plan_collect.specs.Span.{Bounds}
 use Rattle.plan_collect.specs.Limits.{most_starts}
 use Rattle.plan_collect.specs.Tiling.{pieces, parts_from, tiling, starts_in, cut_after, sent_by}
-use Rattle.plan_collect.specs.TilingLaws.{Ends, piece_ends, pieces_stop, pieces_go_on, parts_none, parts_own, parts_other, cut_here, cut_later, cut_none}
+use Rattle.plan_collect.specs.TilingLaws.{pieces_stop, pieces_go_on, parts_none, parts_own, parts_other, cut_here, cut_later, cut_none}
 use Rattle.plan_mailbox.specs.History.{IsPrefix}
 use Rattle.plan_threads.specs.Sending.{cut_rest}
 

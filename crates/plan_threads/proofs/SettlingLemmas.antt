@@ -1,9 +1,8 @@
 -- What is known when planners are joined.
-use Rattle.std.proofs.Common.{◌≡◌, ℕ, ◌+◌, ◌<◌, false, List, [], ◌∷◌, ◌++◌, length, Some, Result, Ok, Err, inl, inr, refl, ap, sym, ◌∙◌, subst, arith}
+use Rattle.std.proofs.Common.{◌≡◌, ℕ, ◌+◌, ◌<◌, false, List, Some, Result, Ok, Err, inl, inr, ap, sym, ◌∙◌, subst, arith}
 use Rattle.std.specs.Prelude.{Bool, slice_get, OnOk, IfErr}
 use Rattle.std.specs.Result.{result_and}
 use Rattle.std.proofs.lemmas.Bool.{cases_eq}
-use Rattle.std.specs.declared.thread.PromisedHandle.{PromisedHandle}
 use Rattle.plan_collect.specs.declared.note.Note.{Note}
 use Rattle.plan_collect.specs.declared.serial.PlanFault.{PlanFault}
 use Rattle.plan_collect.specs.declared.serial.PlanFault.TheVariants as plan
@@ -13,7 +12,7 @@ use Rattle.plan_mailbox.specs.declared.outlet.Receipt.{Receipt}
 use Rattle.plan_mailbox.specs.Ends.{Receiving, Ring, receipt_of}
 use Rattle.plan_threads.specs.declared.promise.Sending.{Sending}
 use Rattle.plan_threads.specs.Promise.{Keeps}
-use Rattle.plan_threads.specs.Gathering.{ArePlanners, IsAccounted, IsPlanner, IsThreadFault, IsUnsettled, all_notes}
+use Rattle.plan_threads.specs.Gathering.{IsAccounted, IsPlanner, IsThreadFault, IsUnsettled, all_notes}
 
 pub planner_ring : (c : Collected) (rings : List Ring) (k : ℕ) (p : Sending) (r : Receipt Note × Bool) → IsPlanner c rings k p → Keeps p r → slice_get rings (receipt_of r.0).sender ≡ Some (receipt_of r.0).ring
 planner_ring c rings k p r is keeps = ap (slice_get rings) (keeps.0 ∙ is.sender) ∙ is.ring ∙ ap Some (sym keeps.1)

@@ -1,4 +1,4 @@
-use Rattle.std.proofs.Common.{◌≡◌, ◌∙◌, ap, subst, sym, List, ℕ, Bor, true, false, true≢false}
+use Rattle.std.proofs.Common.{◌≡◌, ◌∙◌, ap, subst, sym, List, ℕ, Bor, false, true≢false}
 use Rattle.plan_texts.specs.Lines.{is_too_large, lines}
 use Rattle.plan_texts.specs.Steps.{GivesUnless}
 use Rattle.agenda_script.specs.Script.{Meaning, ScriptReading, lines_reading, meaning_of, memory_refused}

@@ -1,4 +1,4 @@
-use Rattle.std.proofs.Common.{◌≤◌, length, arith}
+use Rattle.std.proofs.Common.{◌≤◌, arith}
 use Rattle.std.proofs.lemmas.List.{length-map}
 use Rattle.plan_mailbox.specs.Lanes.{mailbox_of}
 use Rattle.plan_mailbox.specs.Mailbox.{most_senders, senders_of}

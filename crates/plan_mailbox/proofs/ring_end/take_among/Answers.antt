@@ -1,4 +1,4 @@
-use Rattle.std.proofs.Common.{◌≡◌, ℕ, ◌<◌, ◌≤◌, [], length, set, subst, sym, ap, ◌∙◌, arith, below_more}
+use Rattle.std.proofs.Common.{◌≡◌, ◌<◌, ◌≤◌, [], length, set, subst, sym, ap, ◌∙◌, arith, below_more}
 use Rattle.plan_mailbox.specs.Ends.{IsTakeAmong, known_at, receiving}
 use Rattle.plan_mailbox.proofs.Receives.{IsTakeAmong-from, known-was, receiving-same}
 use Rattle.plan_mailbox.proofs.ring_end.take_among.Goals as goal

@@ -1,7 +1,7 @@
 use Rattle.std.proofs.Common.{◌+◌, ◌∙◌, ◌<◌, length, refl, sym, ap, arith}
 use Rattle.std.specs.Option.{option_copied}
 use Rattle.std.proofs.lemmas.Option.{slice_get_within}
-use Rattle.plan_next.proofs.EventsLemmas.{all_nexts, more_nexts, none_past}
+use Rattle.plan_next.proofs.EventsLemmas.{more_nexts, none_past}
 use Rattle.plan_next.proofs.KeptLemmas.{AreKept-more, AreLeft-more}
 use Rattle.plan_next.proofs.nexts.later_of_each.Goals as goal
 use Rattle.plan_next.proofs.nexts.later_of_each.Goals.{in-Some, in_default}

@@ -1,4 +1,3 @@
-use Rattle.std.proofs.Common.{Some}
 use Rattle.plan_next.specs.declared.search.Pattern.TheVariants.{Event}
 use Rattle.plan_next.specs.Next.{matches_at}
 use Rattle.plan_next.specs.Search.{admits_moment}

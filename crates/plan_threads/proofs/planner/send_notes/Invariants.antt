@@ -1,4 +1,4 @@
-use Rattle.std.proofs.Common.{◌≡◌, ◌≤◌, ◌++◌}
+use Rattle.std.proofs.Common.{◌≡◌, ◌≤◌}
 use Rattle.plan_collect.specs.Agenda.{rules_of}
 use Rattle.plan_mailbox.specs.Ends.{outlet_of}
 use Rattle.plan_threads.proofs.SendingLemmas.{IsSentUpTo}

@@ -1,4 +1,4 @@
-use Rattle.std.proofs.Common.{◌+◌, refl, sym, ◌∙◌, subst, arith}
+use Rattle.std.proofs.Common.{refl, sym, ◌∙◌, subst, arith}
 use Rattle.plan_sets.specs.Months.{IsFirstDay}
 use Rattle.plan_sets.specs.MonthsLaws.{IsFirstDay-le_end}
 use Rattle.plan_next.proofs.SearchLemmas.{IsFirstDay-end_of}

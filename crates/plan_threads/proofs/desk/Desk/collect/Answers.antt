@@ -1,4 +1,4 @@
-use Rattle.std.proofs.Common.{◌≡◌, ◌<◌, ◌≤◌, ℕ, length, vec_len, OnOk, sym, ap, ◌∙◌, arith}
+use Rattle.std.proofs.Common.{◌<◌, ℕ, vec_len, sym, ap, ◌∙◌, arith}
 use Rattle.plan_collect.specs.Tiling.{sent_by}
 use Rattle.plan_mailbox.specs.Ends.{inlet_of}
 use Rattle.plan_threads.specs.Gathering.{IsAccounted, IsGathering, IsWhole, all_notes}

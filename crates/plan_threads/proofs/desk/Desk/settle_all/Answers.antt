@@ -1,9 +1,7 @@
-use Rattle.std.proofs.Common.{◌≡◌, ◌<◌, ◌≤◌, ◌+◌, ◌-◌, ◌∷◌, ℕ, length, vec_len, OnOk, IfErr, sym, ap, subst, ◌∙◌, arith}
+use Rattle.std.proofs.Common.{◌≡◌, ◌<◌, ◌+◌, ◌-◌, ◌∷◌, ℕ, length, vec_len, OnOk, IfErr, sym, ap, subst, ◌∙◌, arith}
 use Rattle.std.specs.Vec.Iter.{into_iter_items, into_iter_len}
-use Rattle.std.specs.Result.{result_and}
 use Rattle.plan_mailbox.specs.Ends.{inlet_of, receipt_of}
-use Rattle.plan_threads.specs.Promise.{Keeps}
-use Rattle.plan_threads.specs.Gathering.{ArePlanners, IsAccounted, IsPlanner, IsThreadFault, all_notes}
+use Rattle.plan_threads.specs.Gathering.{ArePlanners, IsAccounted, IsThreadFault, all_notes}
 use Rattle.plan_threads.proofs.SettlingLemmas.{planner_ring, planner_sent, accounts_more, and_ok, and_err}
 use Rattle.plan_threads.proofs.desk.Desk.settle_all.Goals as goal
 use Rattle.std.specs.Prelude.{slice_get}

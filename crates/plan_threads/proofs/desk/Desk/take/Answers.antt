@@ -1,8 +1,7 @@
-use Rattle.std.proofs.Common.{◌≡◌, true, sym, ap, subst, ◌∙◌}
+use Rattle.std.proofs.Common.{sym, ap, subst, ◌∙◌}
 use Rattle.plan_collect.specs.declared.note.Note.{Note}
 use Rattle.plan_mailbox.specs.declared.inlet.Inlet.{Inlet}
-use Rattle.plan_mailbox.specs.Ends.{Accounts, IsTake, Receiving, inlet_of, is_settled_at}
-use Rattle.plan_threads.specs.Gathering.{IsAccounted}
+use Rattle.plan_mailbox.specs.Ends.{IsTake, Receiving, inlet_of, is_settled_at}
 use Rattle.plan_threads.proofs.GatheringLemmas.{gathers_more}
 use Rattle.plan_threads.proofs.desk.Desk.take.Goals as goal
 

@@ -1,9 +1,8 @@
 use Rattle.std.proofs.Common.{◌≡◌, ℕ, List}
 use Rattle.plan_match.specs.declared.rule.Rule.{Rule}
-use Rattle.plan_collect.specs.declared.note.Note.{Note}
 use Rattle.plan_collect.specs.Span.{Bounds}
 use Rattle.plan_mailbox.specs.Ends.{inlet_of}
-use Rattle.plan_threads.specs.Gathering.{IsAccounted, IsGathering}
+use Rattle.plan_threads.specs.Gathering.{IsGathering}
 use Rattle.plan_threads.proofs.desk.Desk.take_until.Given as goal
 
 -- what was known is still so
