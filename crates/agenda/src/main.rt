@@ -1,7 +1,8 @@
 //! The program `agenda`: when jobs start, and what a mailbox replies, from the words of the command line.
 #![tactic(auto)]
 
-use agenda_answers::{Files, answer, answer_words, unread_words};
+use agenda_answers::{Files, OpenFile, answer, answer_words, unread_words};
+use std::alloc::Global;
 use std::fs::File;
 use std::process::ExitCode;
 use std::{env, io};
@@ -10,15 +11,29 @@ use std::{env, io};
 #[derive(Drop)]
 struct HostFiles<'a>(&'a HostRuntime);
 
+// A file of the machine.
+#[derive(Drop)]
+struct HostFile(File);
+
+impl OpenFile for HostFile {
+    ghost use Rattle.agenda_answers.specs.Files.{unknown};
+
+    ghost known = { λ _. unknown };
+
+    fn front(self, alloc: Global) -> io::Result<Vec<u8>> {
+        self.0.front(alloc)
+    }
+}
+
 impl Files for HostFiles<'_> {
-    ghost use Rattle.std.specs.Prelude.{None};
+    ghost use Rattle.agenda_answers.specs.Files.{unknown};
 
-    type File = File;
+    type File = HostFile;
 
-    ghost held = { λ _ _. None };
+    ghost held = { λ _ _. unknown };
 
-    fn open(&mut self, path: &str) -> io::Result<File> {
-        File::open(self.0, path)
+    fn open(&mut self, path: &str) -> io::Result<HostFile> {
+        Ok(HostFile(File::open(self.0, path)?))
     }
 }
 

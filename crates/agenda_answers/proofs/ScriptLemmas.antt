@@ -34,14 +34,14 @@ some_script None = ([], tt)
 some_script (Some whole) = (whole, refl)
 
 pub runs_whole : (bytes script : List ℕ) (old new : Option (List ℕ)) → script_reading script ≡ script_reading bytes → WritesRun bytes old new → WritesRun script old new
-runs_whole bytes script old new same (text, (meaning, replies, reads, many, turn, is), appends) =
-    (text, (meaning, replies, same ∙ reads, many, turn, is), appends)
+runs_whole bytes script old new same (text, (meaning, replies, reads, many, turn, lawful, is), appends) =
+    (text, (meaning, replies, same ∙ reads, many, turn, lawful, is), appends)
 
 pub refuses_whole : (takes_all : Bool) (fault : RunFault) (bytes script : List ℕ) (old new : Option (List ℕ)) → script_reading script ≡ script_reading bytes → RefusesScript takes_all fault bytes old new → RefusesScript takes_all fault script old new
 refuses_whole takes_all (run.Script fault) bytes script old new same (reads, kept) = (same ∙ reads, kept)
 refuses_whole takes_all run.NoMemory bytes script old new same kept = kept
-refuses_whole takes_all run.Device bytes script old new same (text, (meaning, replies, reads, many, turn, is), off) =
-    (text, (meaning, replies, same ∙ reads, many, turn, is), off)
+refuses_whole takes_all run.Device bytes script old new same (text, (meaning, replies, reads, many, turn, lawful, is), off) =
+    (text, (meaning, replies, same ∙ reads, many, turn, lawful, is), off)
 refuses_whole takes_all run.BadCount bytes script old new same none = absurd none
 refuses_whole takes_all (run.Rule fault) bytes script old new same none = absurd none
 refuses_whole takes_all (run.InCrontab fault) bytes script old new same none = absurd none
@@ -52,17 +52,17 @@ refuses_whole takes_all run.Full bytes script old new same none = absurd none
 refuses_whole takes_all (run.Plan fault) bytes script old new same none = absurd none
 
 -- `steps` on a file of which the first bytes were read
-pub does_steps : (held : Held) (file path bytes read : List ℕ) (old new : Option (List ℕ)) → path ≡ file → IsFrontOf (held path) bytes → read ≡ bytes → WritesRun read old new → DoesSteps held file old new
+pub does_steps : (held : Held) (file path bytes read : List ℕ) (old new : Option (List ℕ)) → path ≡ file → IsFrontOf (held path).bytes bytes → read ≡ bytes → WritesRun read old new → DoesSteps held file old new
 does_steps held file path bytes read old new same front is writes =
-    let (script, whole, means) = whole_script (held path) bytes front in
+    let (script, whole, means) = whole_script (held path).bytes bytes front in
     subst (λ p. DoesSteps held p old new) same (script, whole, runs_whole bytes script old new means (subst (λ b. WritesRun b old new) is writes))
 
-pub fails_steps : (takes_all : Bool) (held : Held) (file path bytes read : List ℕ) (fault : RunFault) (old new : Option (List ℕ)) → path ≡ file → IsFrontOf (held path) bytes → read ≡ bytes → RefusesScript takes_all fault read old new → FailsSteps takes_all held file (Run fault) old new
+pub fails_steps : (takes_all : Bool) (held : Held) (file path bytes read : List ℕ) (fault : RunFault) (old new : Option (List ℕ)) → path ≡ file → IsFrontOf (held path).bytes bytes → read ≡ bytes → RefusesScript takes_all fault read old new → FailsSteps takes_all held file (Run fault) old new
 fails_steps takes_all held file path bytes read fault old new same front is refuses =
-    let (script, whole, means) = whole_script (held path) bytes front in
+    let (script, whole, means) = whole_script (held path).bytes bytes front in
     subst (λ p. FailsSteps takes_all held p (Run fault) old new) same
     (script, whole, refuses_whole takes_all fault bytes script old new means (subst (λ b. RefusesScript takes_all fault b old new) is refuses))
 
 -- `steps` without memory to read the file
 pub fails_unread : (takes_all : Bool) (held : Held) (file : List ℕ) (old : Option (List ℕ)) → FailsSteps takes_all held file (Run run.NoMemory) old old
-fails_unread takes_all held file old = let (script, whole) = some_script (held file) in (script, whole, Keeps-refl old)
+fails_unread takes_all held file old = let (script, whole) = some_script (held file).bytes in (script, whole, Keeps-refl old)

@@ -7,8 +7,8 @@ use Rattle.agenda_sources.specs.declared.TimerFile.{TimerFile}
 use Rattle.agenda_faults.specs.declared.faults.RunFault.TheVariants as run
 use Rattle.agenda_faults.specs.declared.faults.Failure.{Failure}
 use Rattle.agenda_faults.specs.declared.faults.Failure.TheVariants.{Usage, After, Since, Upto, Span, Run, File}
-use Rattle.agenda_answers.specs.Files.{Held}
-use Rattle.agenda_answers.specs.Sources.{AreTimersOf, IsAmong, IsTimerOf, IsUnreadIn}
+use Rattle.agenda_answers.specs.Files.{Held, IsUnsure}
+use Rattle.agenda_answers.specs.Sources.{AreTimersOf, IsAmong, IsFailureOf, IsTimerOf, IsUnreadIn}
 
 -- one timer more
 timers_more : (held : Held) (paths : List (List ℕ)) (files : List TimerFile) (path : List ℕ) (file : TimerFile) → AreTimersOf held paths files → IsTimerOf held path file → AreTimersOf held (paths ++ path ∷ []) (files ++ file ∷ [])
@@ -29,7 +29,7 @@ unfolding AreTimersOf
 timers_none held = tt
 
 -- a path of some is one of more
-pub unread_in : (P Q : List ℕ → Type 0) (failure : Failure) → ((path : List ℕ) → P path → Q path) → IsUnreadIn P failure → IsUnreadIn Q failure
+pub unread_in : (P Q : List ℕ → Type 0) (failure : Failure) → ((path : List ℕ) → P path → Q path) → IsFailureOf P failure → IsFailureOf Q failure
 unread_in P Q (File path) more is = more path is
 unread_in P Q (Run run.NoMemory) more is = tt
 unread_in P Q (Run run.BadCount) more is = absurd is
@@ -48,9 +48,15 @@ unread_in P Q (Since fault) more is = absurd is
 unread_in P Q (Upto fault) more is = absurd is
 unread_in P Q (Span fault) more is = absurd is
 
-pub unread_among : (paths : List (List ℕ)) (i : ℕ) (path : List ℕ) (failure : Failure) → i < length paths → path ≡ get_or paths i path → IsUnreadIn (λ unread. unread ≡ path) failure → IsUnreadIn (IsAmong paths) failure
-unread_among paths i path failure within is unread =
-    unread_in (λ p. p ≡ path) (IsAmong paths) failure (λ p same. (i, slice_get-get_or paths i path within ∙ ap (λ q. Some q) (sym is ∙ sym same))) unread
+pub unread_among : (held : Held) (paths : List (List ℕ)) (i : ℕ) (path : List ℕ) (failure : Failure) → i < length paths → path ≡ get_or paths i path → IsUnreadIn held (λ unread. unread ≡ path) failure → IsUnreadIn held (IsAmong paths) failure
+unread_among held paths i path failure within is unread =
+    unread_in (λ p. (p ≡ path) × IsUnsure (held p)) (λ p. IsAmong paths p × IsUnsure (held p)) failure
+    (λ p (same, unsure). ((i, slice_get-get_or paths i path within ∙ ap (λ q. Some q) (sym is ∙ sym same)), unsure)) unread
+
+-- a path that may fail
+pub unread_path : (held : Held) (path read : List ℕ) (failure : Failure) → read ≡ path → IsUnsure (held read) → IsFailureOf (λ unread. unread ≡ path) failure → IsUnreadIn held (λ unread. unread ≡ path) failure
+unread_path held path read failure is unsure unread =
+    unread_in (λ p. p ≡ path) (λ p. (p ≡ path) × IsUnsure (held p)) failure (λ p same. (same, subst (λ q. IsUnsure (held q)) (is ∙ sym same) unsure)) unread
 
 -- what is so of a failure is so where it was handed on
 pub err_as : {A E : Type 0} (result : Result A E) (e : E) (P : E → Type 0) → IsErrAnd result (λ x. x ≡ e) → P e → IfErr result P

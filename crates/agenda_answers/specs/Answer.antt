@@ -18,7 +18,7 @@ use Rattle.plan_collect.specs.Span.{Bounds}
 use Rattle.plan_collect.specs.declared.SpanFault.TheVariants.{Backwards}
 use Rattle.agenda_faults.specs.FaultLines.{fault_text}
 use Rattle.agenda_faults.specs.Faults.{status_of}
-use Rattle.agenda_answers.specs.Files.{Held, IsHeld}
+use Rattle.agenda_answers.specs.Files.{Held, IsHeld, IsUnsure}
 use Rattle.agenda_commands.specs.Next.{WritesNext, RefusesNext}
 use Rattle.agenda_commands.specs.Plan.{WritesPlan, RefusesPlan}
 use Rattle.agenda_commands.specs.Script.{WritesRun, RefusesScript}
@@ -64,10 +64,12 @@ DoesPlan held wanted old new =
     (span : Bounds) × (sources : Sources) × IsSpan wanted.since wanted.upto span × MakesSources held wanted.paths sources
     × WritesPlan sources span wanted.limit wanted.planners wanted.room old new
 
--- when each failure of `plan` comes: the span is looked at first, then the files are read, then the plan is made
+-- when each failure of `plan` comes: the span is looked at first, then the files are read, of which one is the failure only where it may
+-- fail, then the plan is made
 abbrev pub FailsPlan : Bool → Held → Wanted → Failure → (old new : Option (List ℕ)) → Type 0
 FailsPlan takes_all held wanted (File path) old new =
-    (span : Bounds) × IsSpan wanted.since wanted.upto span × IsGiven wanted.paths path × Keeps old new
+    (span : Bounds) × IsSpan wanted.since wanted.upto span × IsGiven wanted.paths path × IsUnsure (held path)
+    × Keeps old new
 FailsPlan takes_all held wanted (Run run.NoMemory) old new =
     (span : Bounds) × IsSpan wanted.since wanted.upto span × Keeps old new
 FailsPlan takes_all held wanted (Run fault) old new =
@@ -77,13 +79,13 @@ FailsPlan takes_all held wanted failure old new = GivesNoSpan wanted.since wante
 
 -- `steps` was done
 abbrev pub DoesSteps : Held → List ℕ → (old new : Option (List ℕ)) → Type 0
-DoesSteps held file old new = (script : List ℕ) × IsHeld (held file) script × WritesRun script old new
+DoesSteps held file old new = (script : List ℕ) × IsHeld (held file).bytes script × WritesRun script old new
 
--- when each failure of `steps` comes: the file is read first
+-- when each failure of `steps` comes: the file is read first, and is the failure only where it may fail
 abbrev pub FailsSteps : Bool → Held → List ℕ → Failure → (old new : Option (List ℕ)) → Type 0
-FailsSteps takes_all held file (File path) old new = (path ≡ file) × Keeps old new
+FailsSteps takes_all held file (File path) old new = (path ≡ file) × IsUnsure (held path) × Keeps old new
 FailsSteps takes_all held file (Run fault) old new =
-    (script : List ℕ) × IsHeld (held file) script × RefusesScript takes_all fault script old new
+    (script : List ℕ) × IsHeld (held file).bytes script × RefusesScript takes_all fault script old new
 FailsSteps takes_all held file failure old new = ⊥
 
 -- what is wanted of `plan`, by what it was given

@@ -1,9 +1,28 @@
 -- What is read of a file. All of it is own.
-use Rattle.std.specs.Prelude.{◌≡◌, ⊤, ℕ, List, take, Option, None, Some}
+use Rattle.std.specs.Prelude.{◌≡◌, ◌≢◌, ⊤, ℕ, Bool, false, List, take, Option, None, Some}
+use Rattle.std.specs.declared.io.ErrorKind.{ErrorKind}
+use Rattle.std.specs.declared.io.ErrorKind.TheVariants.{OutOfMemory}
 
--- what the file of each path holds, where that is known
+-- what is known of a file: what it holds, and whether it is opened and read wherever memory isn't refused
+pub record Known : Type 0 where
+  pub bytes : Option (List ℕ)
+  pub is_readable : Bool
+
+-- nothing is known: it may fail
+abbrev pub unknown : Known
+unknown = record { bytes = None; is_readable = false }
+
+-- what is known of the file of each path
 abbrev pub Held : Type 0
-Held = List ℕ → Option (List ℕ)
+Held = List ℕ → Known
+
+-- a file that may fail, as one that is known to be readable never does
+abbrev pub IsUnsure : Known → Type 0
+IsUnsure known = known.is_readable ≡ false
+
+-- opening or reading a file may give an error of this kind: of another than a want of memory, only where it isn't known to be readable
+abbrev pub MayFail : Known → ErrorKind → Type 0
+MayFail known kind = kind ≢ OutOfMemory → IsUnsure known
 
 -- how many bytes are read at most: one past the limit of every input
 abbrev pub most_read : ℕ

@@ -7,18 +7,18 @@ use Rattle.agenda_faults.specs.declared.faults.RunFault.TheVariants as run
 use Rattle.agenda_faults.specs.declared.faults.Failure.{Failure}
 use Rattle.agenda_faults.specs.declared.faults.Failure.TheVariants.{File, Run}
 use Rattle.agenda_answers.specs.declared.sources.Paths.{Paths}
-use Rattle.agenda_answers.specs.Files.{Held, IsFrontOf}
+use Rattle.agenda_answers.specs.Files.{Held, IsFrontOf, IsUnsure}
 
 -- what was read of a path, if one was given
 abbrev pub IsReadOf : Held → Option (List ℕ) → Option (List ℕ) → Type 0
 IsReadOf held None None = ⊤
-IsReadOf held (Some path) (Some bytes) = IsFrontOf (held path) bytes
+IsReadOf held (Some path) (Some bytes) = IsFrontOf (held path).bytes bytes
 IsReadOf held None (Some bytes) = ⊥
 IsReadOf held (Some path) None = ⊥
 
 -- a timer file that was read, with its name
 abbrev pub IsTimerOf : Held → List ℕ → TimerFile → Type 0
-IsTimerOf held path file = (file.name ≡ timer_name path) × IsFrontOf (held path) file.bytes
+IsTimerOf held path file = (file.name ≡ timer_name path) × IsFrontOf (held path).bytes file.bytes
 
 -- timer files that were read, in the order of their paths
 unfoldable pub AreTimersOf : Held → List (List ℕ) → List TimerFile → Type 0
@@ -45,8 +45,12 @@ IsAmong paths path = (place : ℕ) × (slice_get paths place ≡ Some path)
 abbrev pub IsGiven : Paths → List ℕ → Type 0
 IsGiven paths path = IsGivenIn paths.crontab path ⊎ IsGivenIn paths.system path ⊎ IsAmong paths.timers path
 
--- why sources are not read: one of their paths, or memory was refused
-abbrev pub IsUnreadIn : (List ℕ → Type 0) → Failure → Type 0
-IsUnreadIn IsTheirs (File path) = IsTheirs path
-IsUnreadIn IsTheirs (Run run.NoMemory) = ⊤
-IsUnreadIn IsTheirs other = ⊥
+-- the failure is that of a path for which this is so, or memory was refused
+abbrev pub IsFailureOf : (List ℕ → Type 0) → Failure → Type 0
+IsFailureOf IsTheirs (File path) = IsTheirs path
+IsFailureOf IsTheirs (Run run.NoMemory) = ⊤
+IsFailureOf IsTheirs other = ⊥
+
+-- why sources are not read: the file of one of their paths, which may fail, or memory was refused
+abbrev pub IsUnreadIn : Held → (List ℕ → Type 0) → Failure → Type 0
+IsUnreadIn held IsTheirs failure = IsFailureOf (λ path. IsTheirs path × IsUnsure (held path)) failure

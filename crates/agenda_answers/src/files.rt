@@ -1,38 +1,74 @@
 //! Files: what is opened by its path and read up to a limit.
 
-ghost use Rattle.std.specs.Prelude.{◌≡◌, IfOk};
-ghost use Rattle.agenda_answers.specs.Files.{IsFrontOf};
+ghost use Rattle.std.specs.Prelude.{◌≡◌, IfErr, IfOk};
+ghost use Rattle.std.specs.IoError.{error_kind};
+ghost use Rattle.agenda_answers.specs.Files.{IsFrontOf, MayFail};
 
 use plan_rules::lines::MOST_BYTES;
 use std::alloc::Global;
 use std::io;
 use std::io::Read;
 
+/// A file that was opened.
+pub trait OpenFile {
+    ghost use Rattle.std.specs.Prelude.{IfErr, IfOk};
+    ghost use Rattle.std.specs.IoError.{error_kind};
+    ghost use Rattle.agenda_answers.specs.Files.{Known, IsFrontOf, MayFail};
+
+    /// What is known of it.
+    ghost known: { Self → Known };
+
+    /// Its bytes, of which no more than one past the limit of every input are read: 1,048,577.
+    fn front(self, alloc: Global) -> io::Result<Vec<u8>>
+        ensures bytes { IfOk result (λ bytes. IsFrontOf (known self).bytes bytes.items) }
+        ensures fails { IfErr result (λ fault. MayFail (known self) (error_kind fault)) };
+}
+
+/// Each reader is such a file, which may fail.
+impl<R: Read + Drop> OpenFile for R {
+    ghost use Rattle.std.specs.Prelude.{false};
+
+    ghost known = { λ file. record { bytes = R.remaining file; is_readable = false } };
+
+    fn front(self, alloc: Global) -> io::Result<Vec<u8>> {
+        read_front(alloc, self)
+    }
+}
+
 /// What opens files by their paths.
 pub trait Files {
-    ghost use Rattle.std.specs.Prelude.{◌≡◌, ℕ, List, Option, IfOk};
+    ghost use Rattle.std.specs.Prelude.{◌≡◌, List, ℕ, IfErr, IfOk};
+    ghost use Rattle.std.specs.IoError.{error_kind};
+    ghost use Rattle.agenda_answers.specs.Files.{Known, MayFail};
 
     /// A file that was opened.
-    type File: Read + Drop;
+    type File: OpenFile;
 
-    /// What the file of a path holds, where that is known.
-    ghost held: { Self → List ℕ → Option (List ℕ) };
+    /// What is known of the file of a path.
+    ghost held: { Self → List ℕ → Known };
 
     /// Opens the file of a path, to be read from its first byte.
     fn open(&mut self, path: &str) -> io::Result<Self::File>
-        ensures bytes { IfOk result (λ file. Self.File.remaining file ≡ held self.old path.now) }
+        ensures known { IfOk result (λ file. Self.File.known file ≡ held self.old path.now) }
+        ensures fails { IfErr result (λ fault. MayFail (held self.old path.now) (error_kind fault)) }
         ensures same { held self.new ≡ held self.old };
 }
 
 /// The bytes of a file, of which no more than one past the limit of every input are read: 1,048,577.
 pub fn read_file<F: Files>(alloc: Global, files: &mut F, path: &str) -> io::Result<Vec<u8>>
-    ensures bytes { IfOk result (λ bytes. IsFrontOf (F.held files.old path.now) bytes.items) }
+    ensures bytes { IfOk result (λ bytes. IsFrontOf (F.held files.old path.now).bytes bytes.items) }
+    ensures fails { IfErr result (λ fault. MayFail (F.held files.old path.now) (error_kind fault)) }
     ensures same { F.held files.new ≡ F.held files.old }
 {
+    let file = files.open(path)?;
+    file.front(alloc)
+}
+
+// The bytes of a reader, up to one past the limit.
+fn read_front<R: Read + Drop>(alloc: Global, file: R) -> io::Result<Vec<u8>>
+    ensures { IfOk result (λ bytes. IsFrontOf (R.remaining file) bytes.items) }
+{
     let mut bytes = Vec::new(alloc);
-    files
-        .open(path)?
-        .take(MOST_BYTES as u64 + 1)
-        .read_to_end(&mut bytes)?;
+    file.take(MOST_BYTES as u64 + 1).read_to_end(&mut bytes)?;
     Ok(bytes)
 }

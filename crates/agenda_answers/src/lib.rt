@@ -6,5 +6,5 @@ mod files;
 mod sources;
 
 pub use answers::{answer, answer_words, unread_words};
-pub use files::{Files, read_file};
+pub use files::{Files, OpenFile, read_file};
 pub use sources::{Paths, read_sources};

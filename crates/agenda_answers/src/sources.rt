@@ -2,7 +2,7 @@
 
 ghost use Rattle.std.specs.Prelude.{◌≡◌, IfErr, IfOk};
 ghost use Rattle.agenda_answers.specs.Files.{IsFrontOf};
-ghost use Rattle.agenda_answers.specs.Sources.{AreTimersOf, IsAmong, IsGiven, IsGivenIn, IsReadOf, IsTimerOf, IsUnreadIn, MakesSources};
+ghost use Rattle.agenda_answers.specs.Sources.{AreTimersOf, IsAmong, IsFailureOf, IsGiven, IsGivenIn, IsReadOf, IsTimerOf, IsUnreadIn, MakesSources};
 
 use crate::files::{Files, read_file};
 use agenda_faults::{Failure, RunFault};
@@ -32,7 +32,7 @@ pub fn read_sources<F: Files>(
     paths: &Paths,
 ) -> Result<Sources, Failure>
     ensures read { IfOk result (MakesSources (F.held files.old) paths.now) }
-    ensures unread { IfErr result (IsUnreadIn (IsGiven paths.now)) }
+    ensures unread { IfErr result (IsUnreadIn (F.held files.old) (IsGiven paths.now)) }
 {
     let crontab = read_given(alloc, files, &paths.crontab)?;
     let system = read_given(alloc, files, &paths.system)?;
@@ -51,7 +51,7 @@ fn read_given<F: Files>(
     path: &Option<Text>,
 ) -> Result<Option<Bytes>, Failure>
     ensures read { IfOk result (IsReadOf (F.held files.old) path.now) }
-    ensures unread { IfErr result (IsUnreadIn (IsGivenIn path.now)) }
+    ensures unread { IfErr result (IsUnreadIn (F.held files.old) (IsGivenIn path.now)) }
     ensures same { F.held files.new ≡ F.held files.old }
 {
     match path {
@@ -67,7 +67,7 @@ fn read_timers<F: Files>(
     paths: &[Text],
 ) -> Result<TimerFiles, Failure>
     ensures read { IfOk result (AreTimersOf (F.held files.old) paths.now) }
-    ensures unread { IfErr result (IsUnreadIn (IsAmong paths.now)) }
+    ensures unread { IfErr result (IsUnreadIn (F.held files.old) (IsAmong paths.now)) }
 {
     let mut timers = Vec::new(alloc);
     for path in paths {
@@ -80,7 +80,7 @@ fn read_timers<F: Files>(
 // Reads a timer, and takes its name from its path.
 fn read_timer<F: Files>(alloc: Global, files: &mut F, path: &Text) -> Result<TimerFile, Failure>
     ensures read { IfOk result (IsTimerOf (F.held files.old) path.now) }
-    ensures unread { IfErr result (IsUnreadIn (λ unread. unread ≡ path.now)) }
+    ensures unread { IfErr result (IsUnreadIn (F.held files.old) (λ unread. unread ≡ path.now)) }
     ensures same { F.held files.new ≡ F.held files.old }
 {
     let bytes = read_path(alloc, files, path)?;
@@ -90,8 +90,8 @@ fn read_timer<F: Files>(alloc: Global, files: &mut F, path: &Text) -> Result<Tim
 
 // Reads the file of a path, up to one byte past the limit.
 fn read_path<F: Files>(alloc: Global, files: &mut F, path: &Text) -> Result<Bytes, Failure>
-    ensures read { IfOk result (IsFrontOf (F.held files.old path.now)) }
-    ensures unread { IfErr result (IsUnreadIn (λ unread. unread ≡ path.now)) }
+    ensures read { IfOk result (IsFrontOf (F.held files.old path.now).bytes) }
+    ensures unread { IfErr result (IsUnreadIn (F.held files.old) (λ unread. unread ≡ path.now)) }
     ensures same { F.held files.new ≡ F.held files.old }
 {
     match read_file(alloc, files, path.as_str()) {
@@ -105,7 +105,7 @@ fn read_path<F: Files>(alloc: Global, files: &mut F, path: &Text) -> Result<Byte
 
 // The failure where a path can't be opened or read.
 fn unread_path(alloc: Global, path: &Text) -> Failure
-    ensures { IsUnreadIn (λ unread. unread ≡ path.now) result }
+    ensures { IsFailureOf (λ unread. unread ≡ path.now) result }
 {
     match String::from_str(alloc, path.as_str()) {
         Ok(path) => Failure::File(Text::new(path)),

@@ -34,13 +34,12 @@ abbrev pub WritesPlan : Sources → Bounds → (limit planners room : ℕ) → (
 WritesPlan sources span limit planners room old new =
     (text : List ℕ) × IsTextOfPlan sources span limit planners room text × Appends old new text
 
--- when the agenda of jobs is refused: first for the sizes, then for the limit, then for its entries; or what a planner sent can't be told
+-- when the agenda of jobs is refused: first for the sizes, then for the limit, then for its entries
 abbrev pub RefusesJobs : PlanFault → List JobParts → Bounds → (limit planners room : ℕ) → Type 0
 RefusesJobs plan.BadSize jobs span limit planners room = is_size planners room ≡ false
 RefusesJobs plan.BadLimit jobs span limit planners room = (is_size planners room ≡ true) × (is_limit limit ≡ false)
 RefusesJobs (plan.Collect collect.TooMany) jobs span limit planners room =
     (is_size planners room ≡ true) × (is_limit limit ≡ true) × (limit < length (agenda (rules_of jobs) span))
-RefusesJobs (plan.NotSettled unsettled) jobs span limit planners room = (is_size planners room ≡ true) × (is_limit limit ≡ true)
 RefusesJobs other jobs span limit planners room = ⊥
 
 -- when each fault of a plan comes, and what was written: the sources are read first, then their jobs are planned

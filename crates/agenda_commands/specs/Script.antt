@@ -3,18 +3,20 @@ use Rattle.std.specs.Prelude.{◌≡◌, ℕ, Bool, List, length, Option, Ok, Er
 use Rattle.std.specs.Io.KnownBytes.{Appends, Keeps}
 use Rattle.plan_mailbox.specs.declared.replies.Reply.{Reply}
 use Rattle.plan_mailbox.specs.Reply.{RepliesInTurn}
+use Rattle.plan_mailbox.specs.History.{IsLawful, record_of}
 use Rattle.agenda_script.specs.Script.{Meaning, script_reading, replies_text}
 use Rattle.agenda_faults.specs.declared.faults.RunFault.{RunFault}
 use Rattle.agenda_faults.specs.declared.faults.RunFault.TheVariants as run
 use Rattle.plan_collect.specs.Stream.{BreaksOff}
 
 -- the text of the replies to a script's steps on a new mailbox: one for each step, and each is the one after the history
--- of the steps before it
+-- of the steps before it; and the history that they record is lawful
 abbrev pub IsTextOfRun : List ℕ → List ℕ → Type 0
 IsTextOfRun script text =
     (meaning : Meaning) × (replies : List (Reply (List ℕ))) × (script_reading script ≡ Ok meaning)
     × (length replies ≡ length meaning.steps)
     × RepliesInTurn meaning.senders meaning.room meaning.steps replies
+    × IsLawful meaning.senders meaning.room (record_of meaning.steps replies)
     × (text ≡ replies_text replies)
 
 -- that text was written

@@ -1,6 +1,8 @@
 //! The agenda of the jobs of crontabs and timer files, planned and written.
 
-ghost use Rattle.std.specs.Prelude.{◌≡◌, IfErr, OnOk};
+ghost use Rattle.std.specs.Prelude.{◌≡◌, IfErr, IfSome, OnOk};
+ghost use Rattle.agenda_sources.specs.AtOnce.{fault_at_once};
+ghost use Rattle.agenda_faults.specs.Faults.{fault_of_sources};
 ghost use Rattle.agenda_commands.specs.Plan.{RefusesPlan, WritesPlan};
 
 use agenda_faults::RunFault;
@@ -17,8 +19,8 @@ use std::thread::Threads;
 ///
 /// The faults, in this order: `InCrontab`, `InSystem`, `InTimer`, `SameName` and `Full` where the sources make no list of jobs, the
 /// first that stands in them; `Plan(BadSize)` where the planners or the room are not as said, `Plan(BadLimit)` where the limit
-/// isn't; `Plan(Collect(TooMany))` where the agenda has more entries than the limit. `NoMemory` may come in place of each, and
-/// `Plan(NotSettled)` of the last.
+/// isn't; `Plan(Collect(TooMany))` where the agenda has more entries than the limit. `NoMemory` may come in place of each, but
+/// never of a fault of the first source that `jobs_of_sources` finds at once.
 /// Nothing is written then. `Device` where the stream fails, which then took the first bytes of the text.
 pub fn run_plan<R: Threads + Wait + Sync, S: Stream>(
     rt: &R,
@@ -34,6 +36,9 @@ pub fn run_plan<R: Threads + Wait + Sync, S: Stream>(
         (WritesPlan sources.now span limit planners room (S.holds out.old) (S.holds out.new)) }
     ensures refused { IfErr result
         (λ fault. RefusesPlan S.takes_all fault sources.now span limit planners room (S.holds out.old) (S.holds out.new)) }
+
+    // These are found before any memory is asked for.
+    ensures at_once { IfSome (fault_at_once sources.now) (λ fault. result ≡ Err (fault_of_sources fault)) }
 {
     let jobs = jobs_of_sources(alloc, sources)?;
     let agenda = plan(rt, alloc, &jobs, span, limit, &NoGate, planners, room)?;

@@ -1,6 +1,7 @@
 //! Scripts: a list of steps on a mailbox, and what it replies to them.
 
 ghost use Rattle.std.specs.Prelude.{◌≡◌, IfErr, IfOk, OnOk, vec_len};
+ghost use Rattle.plan_mailbox.specs.History.{IsLawful, record_of};
 ghost use Rattle.plan_mailbox.specs.Lanes.{mailbox_of};
 ghost use Rattle.plan_mailbox.specs.Mailbox.{IsNew, senders_of};
 ghost use Rattle.plan_mailbox.specs.Reply.{RepliesInTurn};
@@ -41,6 +42,8 @@ fn replies_to<M: Drop>(
     ensures as_many { IfOk result (λ replies. vec_len replies ≡ vec_len steps) }
     ensures in_turn { let before = mailbox_of rings.old in IfOk result (λ replies.
         RepliesInTurn (senders_of before) before.room steps.items replies.items) }
+    ensures lawful { let before = mailbox_of rings.old in IfOk result (λ replies.
+        IsLawful (senders_of before) before.room (record_of steps.items replies.items)) }
 {
     run_steps(alloc, rings, steps)
 }

@@ -1,3 +1,4 @@
+pub mod AtOnceLemmas
 pub mod CrontabNames
 pub mod NameLemmas
 pub mod SlashLemmas

@@ -1,3 +1,4 @@
+pub mod AtOnce
 pub mod Faults
 pub mod Name
 pub mod Sources

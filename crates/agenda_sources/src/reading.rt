@@ -1,9 +1,10 @@
 //! How the sources of a plan are read, one after another.
 
-ghost use Rattle.std.specs.Prelude.{◌≡◌, ◌≤◌, All, IfErr, None, length};
+ghost use Rattle.std.specs.Prelude.{◌≡◌, ◌≤◌, [], All, IfErr, IfSome, IsNone, IsOk, None, length, option_and_then};
 ghost use Rattle.plan_texts.specs.Steps.{GivesUnless};
 ghost use Rattle.plan_rules.specs.Limits.{most_jobs};
 ghost use Rattle.plan_rules.specs.Jobs.{number_of, HaveDistinctNames};
+ghost use Rattle.agenda_sources.specs.AtOnce.{HasNoSource, crontab_at_once, fault_at_once, timer_at_once, timers_at_once};
 ghost use Rattle.agenda_sources.specs.Faults.{IsOwnFault};
 ghost use Rattle.agenda_sources.specs.Sources.{HasNoLineOf, with_jobs, with_new_name, with_crontab, with_timer, with_timers, sources_reading};
 
@@ -17,10 +18,15 @@ use std::alloc::Global;
 ///
 /// Each source's jobs are added before the next source is read, and the first fault is the answer: `InCrontab`, `InSystem` and
 /// `InTimer` for the first fault of a source, as `crontab` and `timer` find it; `SameName` where a job has a timer's name;
-/// `Full` where there are more than 1,000 jobs; `NoMemory`, also in place of one that stands in a source's fault.
+/// `Full` where there are more than 1,000 jobs; `NoMemory`, also in place of one that stands in a source's fault, but never in place
+/// of a fault of the first source that is found before its lines are read: `BadTimerName`, `TooLarge` and `NotUtf8`.
 pub fn jobs_of_sources(alloc: Global, sources: &Sources) -> Result<Jobs, SourceFault>
     ensures meaning { GivesUnless SourceFault.NoMemory (λ jobs. jobs) result (sources_reading sources.now) }
     ensures own_fault { IfErr result IsOwnFault }
+
+    // These are found before any memory is asked for.
+    ensures at_once { IfSome (fault_at_once sources.now) (λ fault. result ≡ Err fault) }
+    ensures no_source { HasNoSource sources.now → result ≡ Ok [] }
 {
     let mut jobs = Jobs::new(alloc);
     add_crontab(alloc, &mut jobs, Kind::User, &sources.crontab)?;
@@ -38,7 +44,9 @@ fn add_crontab(
 ) -> Result<(), SourceFault>
     requires few { length jobs.old ≤ most_jobs }
     requires names { HasNoLineOf kind jobs.old }
-    ensures { GivesUnless SourceFault.NoMemory (λ _. jobs.new) result (with_crontab kind jobs.old bytes.now) }
+    ensures meaning { GivesUnless SourceFault.NoMemory (λ _. jobs.new) result (with_crontab kind jobs.old bytes.now) }
+    ensures at_once { IfSome (option_and_then (crontab_at_once kind) bytes.now) (λ fault. result ≡ Err fault) }
+    ensures no_source { IsNone bytes.now → IsOk result }
 {
     let Some(bytes) = bytes else {
         return Ok(());
@@ -70,7 +78,9 @@ fn add_all(jobs: &mut Jobs, more: Vec<Job>) -> Result<(), SourceFault>
 // Adds the jobs of timers, in order.
 fn add_timers(alloc: Global, jobs: &mut Jobs, files: &[TimerFile]) -> Result<(), SourceFault>
     requires { length jobs.old ≤ most_jobs }
-    ensures { GivesUnless SourceFault.NoMemory (λ _. jobs.new) result (with_timers 0 jobs.old files.now) }
+    ensures meaning { GivesUnless SourceFault.NoMemory (λ _. jobs.new) result (with_timers 0 jobs.old files.now) }
+    ensures at_once { IfSome (timers_at_once files.now) (λ fault. result ≡ Err fault) }
+    ensures no_source { files.now ≡ [] → IsOk result }
 {
     for (place, file) in files.iter().enumerate() {
         add_timer(alloc, jobs, place, file)?;
@@ -86,7 +96,8 @@ fn add_timer(
     file: &TimerFile,
 ) -> Result<(), SourceFault>
     requires { length jobs.old ≤ most_jobs }
-    ensures { GivesUnless SourceFault.NoMemory (λ _. jobs.new) result (with_timer place jobs.old file.now) }
+    ensures meaning { GivesUnless SourceFault.NoMemory (λ _. jobs.new) result (with_timer place jobs.old file.now) }
+    ensures at_once { IfSome (timer_at_once place file.now) (λ fault. result ≡ Err fault) }
 {
     match timer(alloc, file.name.as_str(), file.bytes.as_slice()) {
         Ok(job) => add_named(jobs, place, job),

@@ -86,32 +86,67 @@ fn a_script_that_is_too_large(rt: HostRuntime) -> Result<(), Fail> {
     leaves(&rt, "agenda|steps|a", files, 1, ("", line), 1)
 }
 
-// That words end with status 3 where standard output fails at any byte of their text: it then has the bytes before it.
-fn fails_at_each_byte(
+// That words end with this status, over these files, where standard output is such a one: it then has the first bytes of
+// their text, as many as it has room for, and standard error has the line of a device that failed, if it did.
+fn writes_to(
     rt: &(impl Threads + Wait + Sync + Abort + AllocGlobal),
     words: &str,
+    held: &[(&str, &[u8])],
+    out: Limited,
     text: &[u8],
+    status: u8,
 ) -> Result<(), Fail> {
-    for room in 0..text.len() {
-        let mut files = FewFiles::new(&STEPS, 4_096, false);
-        let mut out = Limited::new(room, 3, End::Error);
-        let mut err = Limited::ample();
-        let status = run(rt, words, &mut files, &mut out, &mut err)?;
-        assert_eq!(rt; status, 3, "{room}");
-        assert_eq!(rt; out.bytes(), &text[..room]);
-        assert_eq!(rt; err.bytes(), b"agenda: Device\n".as_slice());
-    }
+    let mut files = FewFiles::new(held, 4_096, false);
+    let (mut out, mut err) = (out, Limited::ample());
+    let ended = run(rt, words, &mut files, &mut out, &mut err)?;
+    let line = if status == 0 { "" } else { "agenda: Device\n" };
+    assert_eq!(rt; ended, status, "{words}");
+    assert_eq!(rt; Some(out.bytes()), text.get(..text.len().min(out.room)));
+    assert_eq!(rt; err.bytes(), line.as_bytes());
     Ok(())
 }
 
+// That words end so where standard output fails at any byte of their text of this length, in each way, or at its flush alone; and
+// that it is enough where it takes one byte at a call.
+fn fails_at_each_byte(
+    rt: &(impl Threads + Wait + Sync + Abort + AllocGlobal),
+    words: &str,
+    held: &[(&str, &[u8])],
+    text: &[u8],
+    len: usize,
+) -> Result<(), Fail> {
+    assert_eq!(rt; text.len(), len);
+    for room in 0..len {
+        for end in [End::Error, End::Interrupted, End::TakesNothing] {
+            writes_to(rt, words, held, Limited::new(room, 3, end), text, 3)?;
+        }
+    }
+    let mut no_flush = Limited::ample();
+    no_flush.flush_fails = true;
+    writes_to(rt, words, held, no_flush, text, 3)?;
+    writes_to(rt, words, held, Limited::new(128, 1, End::Error), text, 0)
+}
+
+const FRIDAYS: &str = "agenda|next|--after|2024-01-01T00:00:00Z|--count|4|--cron|30 4 1,15 * 5";
+
+const FRIDAYS_TEXT: &str =
+    "2024-01-01T04:30:00Z\n2024-01-05T04:30:00Z\n2024-01-12T04:30:00Z\n2024-01-15T04:30:00Z\n";
+
+const TWELVE: [(&str, &[u8]); 1] = [(
+    "a",
+    b"mailbox 2 2\nsend 0 a\nsend 0 b\nsend 0 c\nsend 1 d\ntake\ntake\nclose 0\nsend 0 e\ntake\ntake\nclose 1\ntake\n",
+)];
+
+const TWELVE_TEXT: &str =
+    "sent\nsent\nfull c\nsent\ntook 0 a\ntook 1 d\nshut\nclosed e\ntook 0 b\nnothing\nshut\nended\n";
+
 #[test]
 fn standard_output_that_fails_at_each_byte(rt: HostRuntime) -> Result<(), Fail> {
-    fails_at_each_byte(
-        &rt,
-        "agenda|next|--after|2024-01-01T00:00:00Z|--cron|@daily|--count|2",
-        b"2024-01-02T00:00:00Z\n2024-01-03T00:00:00Z\n",
-    )?;
-    fails_at_each_byte(&rt, "agenda|steps|a", REPLIES.as_bytes())
+    fails_at_each_byte(&rt, FRIDAYS, &[], FRIDAYS_TEXT.as_bytes(), 84)?;
+    fails_at_each_byte(&rt, "agenda|steps|a", &TWELVE, TWELVE_TEXT.as_bytes(), 82)?;
+    let words =
+        "agenda|plan|--since|2024-01-01T00:00:00Z|--upto|2024-01-02T00:00:00Z|--crontab|crontab|timers/rot.timer";
+    fails_at_each_byte(&rt, words, &NIGHTLY, NIGHTLY_TEXT.as_bytes(), 73)
 }
 
 // That words write nothing to standard output, and end with this status where standard error fails at any byte of their
@@ -234,19 +269,4 @@ fn which_files_a_plan_opens(rt: HostRuntime) -> Result<(), Fail> {
     )?;
     let missing = "2024-01-02T00:00:00Z|--crontab|crontab|--system-crontab|a b|c.timer";
     plans(&rt, missing, 3, ("", "agenda: a b: Device\n"), 2)
-}
-
-#[test]
-fn standard_output_that_fails_within_a_plan(rt: HostRuntime) -> Result<(), Fail> {
-    let words =
-        "agenda|plan|--since|2024-01-01T00:00:00Z|--upto|2024-01-02T00:00:00Z|--crontab|crontab";
-    for room in [0, 10, 29] {
-        let mut files = FewFiles::new(&NIGHTLY, 4_096, false);
-        let (mut out, mut err) = (Limited::new(room, 128, End::Error), Limited::ample());
-        let status = run(&rt, words, &mut files, &mut out, &mut err)?;
-        assert_eq!(rt; status, 3);
-        assert_eq!(rt; out.bytes(), &NIGHTLY_TEXT.as_bytes()[..room]);
-        assert_eq!(rt; err.bytes(), b"agenda: Device\n".as_slice());
-    }
-    Ok(())
 }

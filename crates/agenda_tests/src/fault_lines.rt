@@ -1,7 +1,8 @@
 use crate::writers::{End, Limited, took};
 use agenda_faults::{Failure, RunFault, fault_line};
 use agenda_script::{ScriptCause, ScriptFault};
-use plan_rules::{RuleCause, RuleFault, Text};
+use plan_collect::{CollectFault, PlanFault};
+use plan_rules::{LineCause, LineFault, RuleCause, RuleFault, Text};
 use plan_sets::{MomentFault, SetFault};
 use std::process::Abort;
 use std::test::Fail;
@@ -14,13 +15,60 @@ fn script(line: u32, cause: ScriptCause) -> Failure {
     Failure::Run(RunFault::Script(ScriptFault { line, cause }))
 }
 
-// That a failure ends the program with this status, and writes this line, as far as there is room; a whole one by one write.
+// That a failure ends the program with this status, and writes this line, as far as there is room; a whole one by one write
+// and one flush.
 fn writes(rt: &impl Abort, failure: Failure, room: usize, line: &str, status: u8) {
+    writes_of(rt, &failure, &[], room, line, status);
+}
+
+// The same, of a plan with these timers.
+fn writes_of(
+    rt: &impl Abort,
+    failure: &Failure,
+    timers: &[Text],
+    room: usize,
+    line: &str,
+    status: u8,
+) {
     let mut out = Limited::new(room, 128, End::TakesNothing);
-    let ended = fault_line(&failure, &[], &mut out);
-    let once = room < line.len() || out.calls == 1;
+    let ended = fault_line(failure, timers, &mut out);
+    let once = room < line.len() || (out.calls == 1 && out.flushes == 1);
     assert!(rt; ended == status && once, "{line}");
     took(rt, &out, line);
+}
+
+// The fault of a rule on a line of a source.
+fn bad_rule(line: u32, part: u8, cause: RuleCause) -> LineFault {
+    LineFault {
+        line,
+        cause: LineCause::Rule(RuleFault { part, cause }),
+    }
+}
+
+#[test]
+fn a_line_of_a_source_goes_out_by_one_write(rt: HostRuntime) -> Result<(), Fail> {
+    let (line, cause) = (3, LineCause::NoCommand);
+    let fault = RunFault::InCrontab(LineFault { line, cause });
+    let text = "agenda: crontab: line 3: NoCommand\n";
+    writes(&rt, Failure::Run(fault), 128, text, 1);
+    let fault = RunFault::InSystem(bad_rule(12, 4, RuleCause::BadName));
+    let text = "agenda: system crontab: line 12: part 4: BadName\n";
+    writes(&rt, Failure::Run(fault), 128, text, 1);
+    let path = Text::new(String::from_str(rt.alloc(), "a/rot.timer")?);
+    let backwards = RuleCause::Values(SetFault::Backwards);
+    let fault = Failure::Run(RunFault::InTimer(0, bad_rule(2, 1, backwards)));
+    let text = "agenda: rot.timer: line 2: part 1: Backwards\n";
+    let timers = [path];
+    writes_of(&rt, &fault, &timers, 128, text, 1);
+    let text = "agenda: job rot.timer: SameName\n";
+    let fault = Failure::Run(RunFault::SameName(0));
+    writes_of(&rt, &fault, &timers, 128, text, 1);
+    let usage = Text::new(String::from_str(rt.alloc(), "no use\nof agenda\n")?);
+    writes(&rt, Failure::Usage(usage), 128, "no use\nof agenda\n", 2);
+    let too_many = PlanFault::Collect(CollectFault::TooMany);
+    let text = "agenda: plan: TooMany\n";
+    writes(&rt, Failure::Run(RunFault::Plan(too_many)), 128, text, 1);
+    Ok(())
 }
 
 #[test]

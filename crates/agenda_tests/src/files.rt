@@ -54,11 +54,11 @@ impl<'a> FewFiles<'a> {
 }
 
 impl<'a> Files for FewFiles<'a> {
-    ghost use Rattle.std.specs.Prelude.{None};
+    ghost use Rattle.agenda_answers.specs.Files.{unknown};
 
     type File = LimitedFile<'a>;
 
-    ghost held = { λ _ _. None };
+    ghost held = { λ _ _. unknown };
 
     fn open(&mut self, path: &str) -> io::Result<LimitedFile<'a>> {
         self.opened = self.opened.saturating_add(1);
@@ -80,11 +80,11 @@ impl<'a> Files for FewFiles<'a> {
 struct KnownFiles<'a>(&'a [u8]);
 
 impl<'a> Files for KnownFiles<'a> {
-    ghost use Rattle.std.specs.Prelude.{Some};
+    ghost use Rattle.std.specs.Prelude.{Some, false};
 
     type File = &'a [u8];
 
-    ghost held = { λ files _. Some files.0.now };
+    ghost held = { λ files _. record { bytes = Some files.0.now; is_readable = false } };
 
     fn open(&mut self, _path: &str) -> io::Result<&'a [u8]> {
         Ok(self.0)

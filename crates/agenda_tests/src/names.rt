@@ -1,7 +1,7 @@
 use agenda_faults::RunFault;
 use agenda_script::{ScriptCause, ScriptFault};
 use agenda_sources::SourceFault;
-use plan_collect::WriteFault;
+use plan_collect::{CollectFault, PlanFault, WriteFault};
 use plan_rules::{LineCause, LineFault, RuleCause, RuleFault};
 use std::fmt::Display;
 use std::process::Abort;
@@ -34,6 +34,17 @@ fn names_of_faults_of_commands(rt: HostRuntime) -> Result<(), Fail> {
     prints(&rt, &RunFault::BadCount, "BadCount")?;
     prints(&rt, &RunFault::Rule(rule), "WrongParts")?;
     prints(&rt, &RunFault::Script(script), "BadLine")?;
+    let fault = RunFault::InCrontab(bad(1, LineCause::NoCommand));
+    prints(&rt, &fault, "NoCommand")?;
+    let fault = RunFault::InSystem(bad(1, LineCause::BadSetting));
+    prints(&rt, &fault, "BadSetting")?;
+    let fault = RunFault::InTimer(0, bad(0, LineCause::NoTimerSection));
+    prints(&rt, &fault, "NoTimerSection")?;
+    prints(&rt, &RunFault::SameName(0), "SameName")?;
+    prints(&rt, &RunFault::Full, "Full")?;
+    let missing = PlanFault::Collect(CollectFault::Missing);
+    prints(&rt, &RunFault::Plan(missing), "Missing")?;
+    prints(&rt, &RunFault::Plan(PlanFault::BadSize), "BadSize")?;
     prints(&rt, &RunFault::Device, "Device")?;
     prints(&rt, &WriteFault::Device, "Device")
 }

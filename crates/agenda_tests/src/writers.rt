@@ -18,12 +18,15 @@ pub struct Limited {
     pub flush_fails: bool,
     /// How many writes there were.
     pub calls: usize,
+    /// How many flushes there were.
+    pub flushes: usize,
 }
 
 /// How a writer fails.
 #[derive(Clone, Copy, Debug, PartialEq, Eq)]
 pub enum End {
     Error,
+    Interrupted,
     TakesNothing,
 }
 
@@ -38,6 +41,7 @@ impl Limited {
             end,
             flush_fails: false,
             calls: 0,
+            flushes: 0,
         }
     }
 
@@ -58,8 +62,12 @@ impl Write for Limited {
         self.calls = self.calls.saturating_add(1);
         let left = self.room.saturating_sub(self.len);
         let count = bytes.len().min(self.at_a_call).min(left);
-        if count == 0 && self.end == End::Error {
-            return Err(io::Error::from(io::ErrorKind::Other));
+        match self.end {
+            End::Error if count == 0 => return Err(io::Error::from(io::ErrorKind::Other)),
+            End::Interrupted if count == 0 => {
+                return Err(io::Error::from(io::ErrorKind::Interrupted));
+            }
+            _ => {}
         }
         for byte in &bytes[..count] {
             if self.len < 128 {
@@ -71,6 +79,7 @@ impl Write for Limited {
     }
 
     fn flush(&mut self) -> io::Result<()> {
+        self.flushes = self.flushes.saturating_add(1);
         if self.flush_fails {
             return Err(io::Error::from(io::ErrorKind::Other));
         }

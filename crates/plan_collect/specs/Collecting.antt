@@ -90,6 +90,11 @@ refusal c planner note =
     Some Gap)) else
     Some Stranger
 
+-- the note adds no starts to what is held
+abbrev pub AddsNothing : Note → Type 0
+AddsNothing (Part job piece) = starts piece.rule piece.since piece.upto ≡ []
+AddsNothing Last = Unit {0}
+
 -- the answer to a note: a refusal where there is one, else the note is accepted or memory was refused
 abbrev pub Answers : Result (Unit {0}) CollectFault → Option CollectFault → Type 0
 Answers (Ok done) refused = refused ≡ None

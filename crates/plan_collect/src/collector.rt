@@ -1,12 +1,12 @@
 //! The collector: it checks what planners send, keeps the starts, and makes the agenda of them.
 
-ghost use Rattle.std.specs.Prelude.{◌≡◌, ℕ, ◌+◌, ◌%◌, ◌<◌, ◌≤◌, ◌↔◌, ◌++◌, Bool, true, false, ◌&&◌, ◌==◌, nat_lt, nat_le, length, map, slice_get, slice_index, slice_set, IfOk, IfErr, OnOk, OnErr};
+ghost use Rattle.std.specs.Prelude.{◌≡◌, ◌≢◌, ℕ, ◌+◌, ◌%◌, ◌<◌, ◌≤◌, ◌↔◌, [], ◌++◌, Bool, true, false, ◌&&◌, ◌==◌, nat_lt, nat_le, length, map, slice_get, slice_index, slice_set, IfOk, IfErr, IsOk, OnOk, OnErr};
 ghost use Rattle.std.specs.Arc.{arc_value};
 ghost use Rattle.std.specs.List.{list_all};
 ghost use Rattle.plan_next.specs.Starts.{starts};
 ghost use Rattle.plan_collect.specs.Agenda.{agenda, rules_of, IsOfJobs};
 ghost use Rattle.plan_collect.specs.Limits.{is_limit, is_size};
-ghost use Rattle.plan_collect.specs.Collecting.{begun, is_rule_of, belongs, has_ended, adjoins, has_room, refusal, Answers, after, finished, is_complete};
+ghost use Rattle.plan_collect.specs.Collecting.{begun, is_rule_of, belongs, has_ended, adjoins, has_room, refusal, AddsNothing, Answers, after, finished, is_complete};
 
 use crate::agenda::Agenda;
 use crate::note::Note;
@@ -165,11 +165,14 @@ impl Collector {
     /// `AfterLast` where this planner's last note was accepted before;
     /// `Gap` where the piece does not begin where its job is covered to, or ends after the span;
     /// `TooMany` where its starts and those held are more than the limit;
-    /// `NoMemory`.
+    /// `NoMemory`, where the note adds starts.
     pub fn accept(&mut self, planner: usize, note: Note) -> Result<(), CollectFault>
         ensures answer { Answers result (refusal self.old planner note) }
         ensures accepted { OnOk result (self.new ≡ after self.old planner note) }
         ensures unchanged { OnErr result (self.new ≡ self.old) }
+
+        // A note that adds no starts asks for no memory.
+        ensures spared { AddsNothing note → result ≢ Err CollectFault.NoMemory }
 
         // Only an agenda that has more entries than the limit is refused for that.
         ensures too_many { result ≡ Err CollectFault.TooMany
@@ -280,6 +283,7 @@ impl Collector {
         ensures accepted { OnOk result (self.new ≡ record self.old { covered = slice_set self.old.covered job piece.now.upto }) }
         ensures unchanged { OnErr result (self.new ≡ self.old) }
         ensures memory { IfErr result (λ fault. fault ≡ CollectFault.NoMemory) }
+        ensures spared { starts piece.now.rule piece.now.since piece.now.upto ≡ [] → IsOk result }
     {
         append(&mut self.entries, job, piece.starts())?;
         self.covered[job as usize] = piece.upto();
@@ -334,6 +338,7 @@ fn rules_in(alloc: Global, jobs: &Jobs) -> Result<Vec<Arc<Rule>>, AllocError>
 fn append(entries: &mut Vec<(u64, u32)>, job: u32, starts: &[u64]) -> Result<(), AllocError>
     ensures all { OnOk result (entries.new.items ≡ entries.old.items ++ map (λ second. (second, job)) starts.now) }
     ensures none { OnErr result (entries.new.items ≡ entries.old.items) }
+    ensures spared { starts.now ≡ [] → IsOk result }
 {
     entries.reserve(starts.len())?;
     for start in starts {

@@ -25,10 +25,14 @@ pub trait Stream {
     /// Whether it never fails.
     ghost takes_all: { Bool };
 
-    /// Writes a whole text. Takes no memory of its own.
+    /// Writes a whole text, and flushes what it is written to. Takes no memory of its own.
     ///
     /// `Device` where the stream fails; then only the first bytes of the text were written.
     fn put(&mut self, text: &[u8]) -> Result<(), WriteFault>
+        ensures { Puts takes_all result (holds self.old) (holds self.new) text.now };
+
+    /// Writes a whole text that more is to follow, as `put` does, and doesn't flush.
+    fn put_part(&mut self, text: &[u8]) -> Result<(), WriteFault>
         ensures { Puts takes_all result (holds self.old) (holds self.new) text.now };
 }
 
@@ -43,6 +47,10 @@ impl<W: Write> Stream for W {
     fn put(&mut self, text: &[u8]) -> Result<(), WriteFault> {
         write_text(text, self)
     }
+
+    fn put_part(&mut self, text: &[u8]) -> Result<(), WriteFault> {
+        write_bytes(text, self)
+    }
 }
 
 // Writes a text and flushes the writer.
@@ -50,15 +58,24 @@ fn write_text<W: Write>(text: &[u8], out: &mut W) -> Result<(), WriteFault>
     ensures written { OnOk result (Appends (W.contents out.old) (W.contents out.new) text.now) }
     ensures prefix { OnErr result (AppendsPrefix (W.contents out.old) (W.contents out.new) text.now) }
 {
-    let mut rest = text;
+    write_bytes(text, out)?;
+    match out.flush() {
+        Ok(()) => Ok(()),
+        Err(_) => Err(WriteFault::Device),
+    }
+}
+
+// Writes a text.
+fn write_bytes<W: Write>(bytes: &[u8], out: &mut W) -> Result<(), WriteFault>
+    ensures written { OnOk result (Appends (W.contents out.old) (W.contents out.new) bytes.now) }
+    ensures prefix { OnErr result (AppendsPrefix (W.contents out.old) (W.contents out.new) bytes.now) }
+{
+    let mut rest = bytes;
     while !rest.is_empty() {
         match out.write(rest) {
             Ok(taken) if taken > 0 => rest = &rest[taken..],
             _ => return Err(WriteFault::Device),
         }
     }
-    match out.flush() {
-        Ok(()) => Ok(()),
-        Err(_) => Err(WriteFault::Device),
-    }
+    Ok(())
 }

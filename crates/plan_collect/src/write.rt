@@ -16,7 +16,7 @@ use plan_sets::{END_SECOND, moment_text};
 const MOST_WAITING: usize = 8_192;
 
 /// Writes the text of an agenda of these jobs, one line for each entry: the moment, a tab, the job's name, a tab, what it
-/// runs. Takes no memory of its own.
+/// runs. Takes no memory of its own. The stream is flushed once, at the end.
 ///
 /// `Device` where the stream fails; then only the first bytes of the text were written.
 pub fn write_agenda<S: Stream>(agenda: &Agenda, jobs: &Jobs, out: &mut S) -> Result<(), WriteFault>
@@ -79,10 +79,10 @@ fn put<S: Stream>(
     if waiting.try_extend_from_slice(text).is_ok() {
         return Ok(());
     }
-    out.put(waiting.as_slice())?;
+    out.put_part(waiting.as_slice())?;
     waiting.clear();
     if waiting.try_extend_from_slice(text).is_ok() {
         return Ok(());
     }
-    out.put(text)
+    out.put_part(text)
 }

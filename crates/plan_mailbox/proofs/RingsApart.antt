@@ -2,11 +2,12 @@
 use Rattle.std.proofs.Common.{◌≡◌, ℕ, suc, ◌+◌, All, List, [], ◌∷◌, ◌++◌, length, map, replicate, false, refl, sym, ap, ◌∙◌, add-zero, arith}
 use Rattle.std.specs.List.{enumerate_from}
 use Rattle.std.proofs.lemmas.List.{length-append, length-map, nil_from_length}
-use Rattle.std.proofs.lemmas.List.Elements.{All-head, All-tail}
-use Rattle.rtrb.specs.Ring.{sent, received, known_items}
+use Rattle.std.proofs.lemmas.List.Elements.{All-nil, All-cons, All-head, All-tail, All-same}
+use Rattle.rtrb.specs.Ring.{sent, received, known_free, known_items, producer_capacity}
 use Rattle.plan_mailbox.specs.declared.rings.RingLane.{RingLane}
+use Rattle.plan_mailbox.specs.declared.outlet.Outlet.{Outlet}
 use Rattle.plan_mailbox.specs.declared.ring_end.RingEnd.{RingEnd}
-use Rattle.plan_mailbox.specs.Ends.{Ring, Sending, consumer_ring, producer_ring, receiving, new_inlet, new_outlets}
+use Rattle.plan_mailbox.specs.Ends.{Ring, Sending, consumer_ring, free_of, producer_ring, receiving, new_inlet, new_outlets}
 
 -- the numbers of a list with one more
 pub enumerate_from-push : {A : Type 0} (n : ℕ) (xs : List A) (x : A) → enumerate_from n (xs ++ x ∷ []) ≡ enumerate_from n xs ++ (n + length xs, x) ∷ []
@@ -59,6 +60,29 @@ module _ {M : Type 0} where
   settled-apart : (lanes : List (RingLane M)) → map (λ (e : RingEnd M). e.is_settled) (map end_from lanes) ≡ replicate (length lanes) false
   settled-apart [] = refl
   settled-apart (lane ∷ lanes) = ap (λ marks. false ∷ marks) (settled-apart lanes)
+
+  -- how many places the producer of a lane knows to be free
+  abbrev pub free_in : RingLane M → ℕ
+  free_in lane = known_free lane.producer
+
+  lanes-free : (lanes : List (RingLane M)) (room : ℕ) → All IsUnused lanes → All (λ (lane : RingLane M). producer_capacity lane.producer ≡ room) lanes → All (λ n. n ≡ room) (map free_in lanes)
+  lanes-free [] room unused reserved = All-nil (λ n. n ≡ room)
+  lanes-free (lane ∷ lanes) room unused reserved =
+      All-cons (λ n. n ≡ room) (free_in lane) (map free_in lanes)
+      (lane.all_free (nil_from_length _ (All-head IsUnused lane lanes unused)) ∙ All-head (λ (l : RingLane M). producer_capacity l.producer ≡ room) lane lanes reserved)
+      (lanes-free lanes room (All-tail IsUnused lane lanes unused) (All-tail (λ (l : RingLane M). producer_capacity l.producer ≡ room) lane lanes reserved))
+
+  outlets-free : (outlets : List (Outlet M)) (room : ℕ) → All (λ n. n ≡ room) (map free_of outlets) → All (λ (outlet : Outlet M). free_of outlet ≡ room) outlets
+  outlets-free [] room free = All-nil (λ (outlet : Outlet M). free_of outlet ≡ room)
+  outlets-free (outlet ∷ outlets) room free =
+      All-cons (λ (o : Outlet M). free_of o ≡ room) outlet outlets
+      (All-head (λ n. n ≡ room) (free_of outlet) (map free_of outlets) free)
+      (outlets-free outlets room (All-tail (λ n. n ≡ room) (free_of outlet) (map free_of outlets) free))
+
+  -- in the rings of unused lanes each outlet knows all places to be free
+  pub free-apart : (lanes : List (RingLane M)) (outlets : List (Outlet M)) (room : ℕ) → map free_of outlets ≡ map free_in lanes → All IsUnused lanes → All (λ (lane : RingLane M). producer_capacity lane.producer ≡ room) lanes
+      → All (λ (outlet : Outlet M). free_of outlet ≡ room) outlets
+  free-apart lanes outlets room same unused reserved = outlets-free outlets room (All-same (λ n. n ≡ room) (map free_of outlets) (map free_in lanes) same (lanes-free lanes room unused reserved))
 
   -- the receiver's ends of unused lanes are a new inlet
   pub inlet-apart : (lanes : List (RingLane M)) → All IsUnused lanes → receiving 0 (map end_from lanes) ≡ new_inlet (map ring_in lanes)

@@ -4,7 +4,7 @@ use Rattle.std.specs.List.{enumerate_from}
 use Rattle.std.specs.declared.alloc.Global.{Global}
 use denote.RawPtr.{Ptr}
 use Rattle.rtrb.specs.Shared.{Names}
-use Rattle.rtrb.specs.Ring.{sent, received, known_items}
+use Rattle.rtrb.specs.Ring.{sent, received, known_free, known_items}
 use Rattle.rtrb.specs.declared.producer.Producer.{Producer}
 use Rattle.rtrb.specs.declared.consumer.Consumer.{Consumer}
 use Rattle.plan_mailbox.specs.declared.outlet.Outlet.{Outlet}
@@ -33,6 +33,10 @@ pub record Sending (M : Type 0) : Type 0 where
 
 abbrev pub outlet_of : {M : Type 0} → Outlet M → Sending M
 outlet_of outlet = record { sender = outlet.sender; ring = producer_ring outlet.producer; sent = sent outlet.producer }
+
+-- how many places of its ring an outlet knows to be free
+abbrev pub free_of : {M : Type 0} → Outlet M → ℕ
+free_of outlet = known_free outlet.producer
 
 abbrev pub receipt_of : {M : Type 0} → Receipt M → Sending M
 receipt_of receipt = outlet_of receipt.outlet

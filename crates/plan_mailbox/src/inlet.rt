@@ -54,17 +54,16 @@ impl<M> Inlet<M> {
 }
 
 impl<M: Drop> Inlet<M> {
-    ghost use Rattle.std.specs.Prelude.{◌≡◌, OnOk, OnErr, slice_get};
+    ghost use Rattle.std.specs.Prelude.{◌≡◌, IsOk, slice_get};
     ghost use Rattle.plan_mailbox.specs.Ends.{Accounts, after_settle, inlet_of, known_at, receipt_of};
 
-    /// Tells what still waits of the sender whose outlet was closed. It returns at once.
+    /// Tells what still waits of the sender whose outlet was closed. It returns at once, and is `Ok`.
     pub fn settle(&mut self, sender: usize, receipt: Receipt<M>) -> Result<(), NotSettled>
         // The receipt is that of the outlet of this sender of the same split.
         requires { slice_get (inlet_of self.old).rings sender ≡ Some (receipt_of receipt).ring }
-        ensures accounts { OnOk result (Accounts (inlet_of self.new) sender (receipt_of receipt).sent) }
-        ensures settled { OnOk result
-            (inlet_of self.new ≡ after_settle (inlet_of self.old) sender (known_at (inlet_of self.new) sender)) }
-        ensures refused { OnErr result (inlet_of self.new ≡ inlet_of self.old) }
+        ensures succeeds { IsOk result }
+        ensures accounts { Accounts (inlet_of self.new) sender (receipt_of receipt).sent }
+        ensures settled { inlet_of self.new ≡ after_settle (inlet_of self.old) sender (known_at (inlet_of self.new) sender) }
     {
         self.ends[sender].settle(receipt.into_producer());
         Ok(())

@@ -1,5 +1,5 @@
-ghost use Rattle.std.specs.Prelude.{◌≡◌, ◌++◌};
-ghost use Rattle.rtrb.specs.Ring.{IsPair, known_items, producer_capacity, received, sent};
+ghost use Rattle.std.specs.Prelude.{◌≡◌, ◌++◌, []};
+ghost use Rattle.rtrb.specs.Ring.{IsPair, known_free, known_items, producer_capacity, received, sent};
 
 use crate::inlet::Inlet;
 use crate::lane::Lane;
@@ -20,6 +20,7 @@ pub struct RingLane<M> {
     is_shut: bool,
     ghost pair: { IsPair producer consumer },
     ghost fifo: { received consumer ++ known_items consumer ≡ sent producer },
+    ghost all_free: { sent producer ≡ [] → known_free producer ≡ producer_capacity producer },
 }
 
 impl<M: Drop> Lane<M> for RingLane<M> {
@@ -68,13 +69,14 @@ impl<M: Drop> Lane<M> for RingLane<M> {
 }
 
 impl<M: Drop> Lanes<M, RingLane<M>> {
-    ghost use Rattle.std.specs.Prelude.{◌≡◌, IfErr, IfOk, map, vec_len};
-    ghost use Rattle.plan_mailbox.specs.Ends.{inlet_of, new_inlet, new_outlets, outlet_of};
+    ghost use Rattle.std.specs.Prelude.{◌≡◌, All, IfErr, IfOk, map, vec_len};
+    ghost use Rattle.plan_mailbox.specs.Ends.{free_of, inlet_of, new_inlet, new_outlets, outlet_of};
     ghost use Rattle.plan_mailbox.specs.Lanes.{mailbox_of};
     ghost use Rattle.plan_mailbox.specs.Mailbox.{IsNew, senders_of};
     ghost use Rattle.plan_mailbox.specs.Splits.{rings_of};
 
     /// The ends of the rings of a new mailbox: an outlet for each sender, at its place, and the inlet for the receiver.
+    /// Each outlet knows that there is room for as many messages as the mailbox had.
     ///
     /// Room for them is made first. Where memory is refused the rings come back unchanged.
     pub fn split(self, alloc: Global) -> Result<(Vec<Outlet<M>>, Inlet<M>), Self>
@@ -82,6 +84,7 @@ impl<M: Drop> Lanes<M, RingLane<M>> {
         ensures refused { IfErr result (λ back. back ≡ self) }
         ensures as_many { IfOk result (λ ends. vec_len ends.0 ≡ senders_of (mailbox_of self)) }
         ensures outlets { IfOk result (λ ends. map outlet_of ends.0.items ≡ new_outlets (rings_of self)) }
+        ensures room { IfOk result (λ ends. All (λ outlet. free_of outlet ≡ (mailbox_of self).room) ends.0.items) }
         ensures inlet { IfOk result (λ ends. inlet_of ends.1 ≡ new_inlet (rings_of self)) }
     {
         let senders = self.lanes.len();

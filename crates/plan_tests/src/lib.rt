@@ -18,6 +18,8 @@ mod planner;
 #[cfg(test)]
 mod plans;
 #[cfg(test)]
+mod senders;
+#[cfg(test)]
 mod serial;
 #[cfg(test)]
 mod spans;

@@ -42,26 +42,55 @@ fn calls_of_senders_that_are_not_there(rt: HostRuntime) -> Result<(), Fail> {
     Ok(())
 }
 
-/// Sends the numbers up to 999 through sender 0, and closes it.
-fn send_thousand<R: Wait + Abort>(rt: &R, locked: &Locked<u32>) {
+// The first message of a sender: each has a thousand numbers.
+fn first_of(sender: usize) -> usize {
+    sender.saturating_mul(1_000)
+}
+
+/// Sends a thousand numbers through a sender, and closes it.
+fn send_thousand<R: Wait + Abort>(rt: &R, locked: &Locked<usize>, sender: usize) {
     for message in 0..1_000 {
-        assert_reply(rt, locked.send(rt, 0, message), Reply::Sent);
+        let message = first_of(sender).saturating_add(message);
+        assert_reply(rt, locked.send(rt, sender, message), Reply::Sent);
     }
-    assert_reply(rt, locked.close(rt, 0), Reply::Shut);
+    assert_reply(rt, locked.close(rt, sender), Reply::Shut);
+}
+
+/// Takes all numbers of three senders, each sender's in order, until no more will come.
+fn take_thousands<R: Wait + Abort>(rt: &R, locked: &Locked<usize>) {
+    let mut next = [first_of(0), first_of(1), first_of(2)];
+    for _ in 0..3_000 {
+        let reply = locked.take(rt);
+        let Reply::Took(sender, message) = reply else {
+            panic!(rt; "no message: {reply:?}");
+        };
+        assert!(rt; sender < 3);
+        assert_eq!(rt; message, next[sender], "of sender {sender}");
+        next[sender] = message.saturating_add(1);
+    }
+    assert_eq!(rt; next, [first_of(1), first_of(2), first_of(3)]);
+    assert_reply(rt, locked.take(rt), Reply::Ended);
 }
 
 #[test]
-fn a_send_waits_for_room_and_a_take_for_a_message(rt: HostRuntime) -> Result<(), Fail> {
-    let locked = Locked::new(rt.alloc(), 1, 1)?;
+fn three_threads_send_in_order_over_room_for_one(rt: HostRuntime) -> Result<(), Fail> {
+    let locked = Locked::new(rt.alloc(), 3, 1)?;
     let shared = &locked;
     thread::join(
         &rt,
-        || send_thousand(&rt, shared),
+        || send_thousand(&rt, shared, 0),
         || {
-            for message in 0..1_000 {
-                assert_reply(&rt, shared.take(&rt), Reply::Took(0, message));
-            }
-            assert_reply(&rt, shared.take(&rt), Reply::Ended);
+            thread::join(
+                &rt,
+                || send_thousand(&rt, shared, 1),
+                || {
+                    thread::join(
+                        &rt,
+                        || send_thousand(&rt, shared, 2),
+                        || take_thousands(&rt, shared),
+                    );
+                },
+            );
         },
     );
     Ok(())

@@ -1,10 +1,10 @@
-use crate::collector::span;
-use crate::writers::nightly_jobs;
+use crate::collector::{span, user_jobs};
+use plan_collect::{CollectFault, PlanFault};
 use plan_threads::{Gate, plan};
 use std::process::Abort;
 use std::sync::Wait;
-use std::sync::atomic::AtomicBool;
 use std::sync::atomic::Ordering::SeqCst;
+use std::sync::atomic::{AtomicBool, AtomicU64};
 use std::test::Fail;
 use std::thread;
 use std::thread::Threads;
@@ -37,15 +37,20 @@ fn two_flags() -> [AtomicBool; 2] {
     [AtomicBool::new(false), AtomicBool::new(false)]
 }
 
-// How many starts two planners, who meet at this gate, find in a night.
-fn starts_of_a_night<R: Abort + AllocGlobal + Threads + Wait + Sync>(
+// How many starts so many planners, who arrive at this gate, find in a night, or why they make no plan.
+fn starts_of_a_night<R: Abort + AllocGlobal + Threads + Wait + Sync, G: Gate>(
     rt: &R,
-    gate: &Meeting,
-) -> Result<usize, Fail> {
-    let jobs = nightly_jobs(rt.alloc())?;
+    crontab: &str,
+    limit: u64,
+    gate: &G,
+    planners: usize,
+) -> Result<Result<usize, PlanFault>, Fail> {
+    let jobs = user_jobs(rt.alloc(), crontab)?;
     let first_day = span(1_704_067_200, 1_704_153_600)?;
-    let agenda = plan(rt, rt.alloc(), &jobs, first_day, 10, gate, 2, 1)?;
-    Ok(agenda.len())
+    match plan(rt, rt.alloc(), &jobs, first_day, limit, gate, planners, 1) {
+        Ok(agenda) => Ok(Ok(agenda.len())),
+        Err(fault) => Ok(Err(fault)),
+    }
 }
 
 #[test]
@@ -54,8 +59,81 @@ fn two_planners_run_at_the_same_time(rt: HostRuntime) -> Result<(), Fail> {
         arrived: two_flags(),
         met: two_flags(),
     };
-    assert!(rt; starts_of_a_night(&rt, &gate)? == 2);
+    assert!(rt; starts_of_a_night(&rt, "@daily b\n@daily rotate\n", 10, &gate, 2)? == Ok(2));
     assert!(rt; gate.met[0].load(SeqCst));
     assert!(rt; gate.met[1].load(SeqCst));
+    Ok(())
+}
+
+// A gate that counts how often each of eight planners arrives, and any other.
+#[derive(Drop)]
+struct Counts {
+    arrived: [AtomicU64; 8],
+    others: AtomicU64,
+}
+
+impl Gate for Counts {
+    fn arrive(&self, planner: usize) {
+        let count = match self.arrived.get(planner) {
+            Some(count) => count,
+            None => &self.others,
+        };
+        count.fetch_add(1, SeqCst);
+    }
+}
+
+// A gate at which nobody arrived.
+fn no_counts() -> Counts {
+    Counts {
+        arrived: [
+            AtomicU64::new(0),
+            AtomicU64::new(0),
+            AtomicU64::new(0),
+            AtomicU64::new(0),
+            AtomicU64::new(0),
+            AtomicU64::new(0),
+            AtomicU64::new(0),
+            AtomicU64::new(0),
+        ],
+        others: AtomicU64::new(0),
+    }
+}
+
+// So many planners, each with room for one note, make this of a crontab, and each arrives once.
+fn assert_arrive(
+    rt: &(impl Abort + AllocGlobal + Threads + Wait + Sync),
+    crontab: &str,
+    limit: u64,
+    planners: usize,
+    wanted: Result<usize, PlanFault>,
+) -> Result<(), Fail> {
+    let gate = no_counts();
+    let planned = starts_of_a_night(rt, crontab, limit, &gate, planners)?;
+    assert!(rt; planned == wanted, "by {planners}");
+    for planner in 0..8 {
+        let times = if planner < planners { 1 } else { 0 };
+        assert_eq!(rt;
+            gate.arrived[planner].load(SeqCst),
+            times,
+            "{planner} of {planners}"
+        );
+    }
+    assert_eq!(rt; gate.others.load(SeqCst), 0);
+    Ok(())
+}
+
+// Ten jobs that start at midnight.
+const TEN: &str =
+    "@daily a\n@daily b\n@daily c\n@daily d\n@daily e\n@daily f\n@daily g\n@daily h\n@daily i\n@daily j\n";
+
+// Where the second note is one too many, those that are full are still heard to their end.
+#[test]
+fn each_planner_arrives_once_and_a_refusal_ends_the_plan(rt: HostRuntime) -> Result<(), Fail> {
+    for planners in [1, 2, 8] {
+        assert_arrive(&rt, TEN, 10, planners, Ok(10))?;
+        let too_many = PlanFault::Collect(CollectFault::TooMany);
+        assert_arrive(&rt, TEN, 9, planners, Err(too_many))?;
+        assert_arrive(&rt, TEN, 1, planners, Err(too_many))?;
+    }
     Ok(())
 }

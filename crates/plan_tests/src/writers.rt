@@ -8,7 +8,7 @@ use std::process::Abort;
 use std::test::Fail;
 
 // Three jobs, of which two start at midnight.
-pub fn nightly_jobs(alloc: Global) -> Result<Jobs, Fail> {
+fn nightly_jobs(alloc: Global) -> Result<Jobs, Fail> {
     user_jobs(
         alloc,
         "# nightly\nMAILTO=x\n@reboot a\n@daily b\n@daily rotate\n",
@@ -31,10 +31,15 @@ struct LimitedWriter {
     errs: bool,
     // Whether the flush fails.
     flush_fails: bool,
+    // How many writes there were.
+    writes: usize,
+    // How many flushes there were.
+    flushes: usize,
 }
 
 impl Write for LimitedWriter {
     fn write(&mut self, bytes: &[u8]) -> io::Result<usize> {
+        self.writes = self.writes.saturating_add(1);
         let left = self.room.saturating_sub(self.taken.len());
         let count = bytes.len().min(self.at_a_call).min(left);
         if count == 0 && self.errs {
@@ -47,6 +52,7 @@ impl Write for LimitedWriter {
     }
 
     fn flush(&mut self) -> io::Result<()> {
+        self.flushes = self.flushes.saturating_add(1);
         if self.flush_fails {
             return Err(io::Error::from(io::ErrorKind::Other));
         }
@@ -76,6 +82,8 @@ fn assert_writes(
         at_a_call,
         errs,
         flush_fails,
+        writes: 0,
+        flushes: 0,
     };
     let answer = write_nightly(rt.alloc(), &mut out)?;
     assert!(rt; answer == wanted);
@@ -99,5 +107,27 @@ fn writers_that_take_some_bytes_at_a_call(rt: HostRuntime) -> Result<(), Fail> {
         assert_writes(&rt, 65, at_a_call, true, false, Ok(()))?;
         assert_writes(&rt, 65, at_a_call, true, true, Err(WriteFault::Device))?;
     }
+    Ok(())
+}
+
+// The text is 1,440 lines of 30 bytes. A buffer of 8,192 bytes is handed on where the next part of a line, of at most 20 bytes,
+// doesn't fit: so each write but the last has at least 8,173 of the 43,200 bytes.
+#[test]
+fn a_large_text_goes_out_by_few_writes_and_one_flush(rt: HostRuntime) -> Result<(), Fail> {
+    let jobs = user_jobs(rt.alloc(), "* * * * * x")?;
+    let agenda = planned(rt.alloc(), &jobs, 1_440, 1_440)??;
+    let mut out = LimitedWriter {
+        taken: Vec::new(rt.alloc()),
+        room: 43_200,
+        at_a_call: 43_200,
+        errs: true,
+        flush_fails: false,
+        writes: 0,
+        flushes: 0,
+    };
+    assert!(rt; write_agenda(&agenda, &jobs, &mut out).is_ok());
+    assert_eq!(rt; out.taken.len(), 43_200);
+    assert!(rt; out.writes <= 6);
+    assert_eq!(rt; out.flushes, 1);
     Ok(())
 }

@@ -1,18 +1,17 @@
 -- What is known when planners are joined.
 use Rattle.std.proofs.Common.{◌≡◌, ℕ, ◌+◌, ◌<◌, false, List, Some, Result, Ok, Err, inl, inr, ap, sym, ◌∙◌, subst, arith}
-use Rattle.std.specs.Prelude.{Bool, slice_get, OnOk, IfErr}
+use Rattle.std.specs.Prelude.{Bool, slice_get, IsOk, OnOk, IfErr}
 use Rattle.std.specs.Result.{result_and}
 use Rattle.std.proofs.lemmas.Bool.{cases_eq}
 use Rattle.plan_collect.specs.declared.note.Note.{Note}
 use Rattle.plan_collect.specs.declared.serial.PlanFault.{PlanFault}
-use Rattle.plan_collect.specs.declared.serial.PlanFault.TheVariants as plan
 use Rattle.plan_collect.specs.Collecting.{Collected}
 use Rattle.plan_collect.specs.Tiling.{sent_by}
 use Rattle.plan_mailbox.specs.declared.outlet.Receipt.{Receipt}
 use Rattle.plan_mailbox.specs.Ends.{Receiving, Ring, receipt_of}
 use Rattle.plan_threads.specs.declared.promise.Sending.{Sending}
 use Rattle.plan_threads.specs.Promise.{Keeps}
-use Rattle.plan_threads.specs.Gathering.{IsAccounted, IsPlanner, IsThreadFault, IsUnsettled, all_notes}
+use Rattle.plan_threads.specs.Gathering.{IsAccounted, IsPlanner, IsThreadFault, all_notes}
 
 pub planner_ring : (c : Collected) (rings : List Ring) (k : ℕ) (p : Sending) (r : Receipt Note × Bool) → IsPlanner c rings k p → Keeps p r → slice_get rings (receipt_of r.0).sender ≡ Some (receipt_of r.0).ring
 planner_ring c rings k p r is keeps = ap (slice_get rings) (keeps.0 ∙ is.sender) ∙ is.ring ∙ ap Some (sym keeps.1)
@@ -28,16 +27,12 @@ accounts_more all b b' done s sent own is here others before k lt =
       | inr not ↦ others k (all k) (λ e. not (e ∙ own)) (before k (omega arith))
     ]
 
-pub and_ok : (first second : Result (Unit {0}) PlanFault) (A B C : Type 0) → OnOk first A → OnOk second B → (A → B → C) → OnOk (result_and first second) C
+pub and_ok : (first second : Result (Unit {0}) PlanFault) (A B C : Type 0) → OnOk first A → B → (A → B → C) → OnOk (result_and first second) C
 and_ok (Ok x) (Ok y) A B C a b go = go a b
 and_ok (Ok x) (Err f) A B C a b go = tt
 and_ok (Err f) second A B C a b go = tt
 
-pub and_err : (first second : Result (Unit {0}) PlanFault) → IfErr first IsThreadFault → IfErr second IsUnsettled → IfErr (result_and first second) IsThreadFault
+pub and_err : (first second : Result (Unit {0}) PlanFault) → IfErr first IsThreadFault → IsOk second → IfErr (result_and first second) IsThreadFault
 and_err (Ok x) (Ok y) a b = tt
-and_err (Ok x) (Err (plan.NotSettled unsettled)) a b = tt
-and_err (Ok x) (Err plan.NoMemory) a b = tt
-and_err (Ok x) (Err plan.BadSize) a b = absurd b
-and_err (Ok x) (Err (plan.Collect fault)) a b = absurd b
-and_err (Ok x) (Err plan.BadLimit) a b = absurd b
+and_err (Ok x) (Err f) a b = absurd cc
 and_err (Err f) second a b = a

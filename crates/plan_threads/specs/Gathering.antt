@@ -86,13 +86,7 @@ IsWhole c (Some fault) = (fault ≡ TooMany) × (c.limit < length (agenda c.rule
 -- why threads fail, their notes aside
 abbrev pub IsThreadFault : PlanFault → Type 0
 IsThreadFault plan.NoMemory = Unit {0}
-IsThreadFault (plan.NotSettled unsettled) = Unit {0}
 IsThreadFault fault = ⊥
-
--- what a planner sent can't be told
-abbrev pub IsUnsettled : PlanFault → Type 0
-IsUnsettled (plan.NotSettled unsettled) = Unit {0}
-IsUnsettled fault = ⊥
 
 -- the answer to a plan of good size and limit
 abbrev pub Ends : Result (List (ℕ × ℕ)) PlanFault → List Rule → Bounds → (limit : ℕ) → Type 0

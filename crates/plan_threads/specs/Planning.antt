@@ -10,7 +10,8 @@ use Rattle.plan_collect.specs.Span.{Bounds}
 use Rattle.plan_mailbox.specs.Mailbox.{is_size}
 
 -- the answer to a plan for at most `limit` entries by so many planners with this room: the agenda where it has no more, TooMany
--- where it has; a size out of bounds is refused first, then such a limit; NoMemory and NotSettled may come in place of the others
+-- where it has; a size out of bounds is refused first, then such a limit; NoMemory may come in place of the others, and NotSettled
+-- never comes
 abbrev pub PlansBy : Result (List (ℕ × ℕ)) PlanFault → List Rule → Bounds → (limit planners room : ℕ) → Type 0
 PlansBy (Ok entries) rules span limit planners room =
     (is_size planners room ≡ true) × (is_limit limit ≡ true) × (entries ≡ agenda rules span) × (length entries ≤ limit)
@@ -18,5 +19,5 @@ PlansBy (Err NoMemory) rules span limit planners room = (is_size planners room �
 PlansBy (Err BadSize) rules span limit planners room = is_size planners room ≡ false
 PlansBy (Err (Collect fault)) rules span limit planners room =
     (is_size planners room ≡ true) × (is_limit limit ≡ true) × (fault ≡ TooMany) × (limit < length (agenda rules span))
-PlansBy (Err (NotSettled unsettled)) rules span limit planners room = (is_size planners room ≡ true) × (is_limit limit ≡ true)
+PlansBy (Err (NotSettled unsettled)) rules span limit planners room = ⊥
 PlansBy (Err BadLimit) rules span limit planners room = (is_size planners room ≡ true) × (is_limit limit ≡ false)

@@ -1,12 +1,12 @@
 //! The calling thread's desk: what it takes from, and what it accepts into.
 
-ghost use Rattle.std.specs.Prelude.{◌≡◌, ◌≢◌, ◌<◌, ◌≤◌, ℕ, List, true, false, length, Some, slice_get, OnOk, IfErr, vec_len};
+ghost use Rattle.std.specs.Prelude.{◌≡◌, ◌≢◌, ◌<◌, ◌≤◌, ℕ, List, true, false, length, Some, slice_get, IsOk, OnOk, IfErr, vec_len};
 ghost use Rattle.plan_match.specs.declared.rule.Rule.{Rule};
 ghost use Rattle.plan_collect.specs.declared.note.Note.{Note};
 ghost use Rattle.plan_collect.specs.Limits.{is_size};
 ghost use Rattle.plan_collect.specs.Span.{Bounds};
 ghost use Rattle.plan_mailbox.specs.Ends.{inlet_of, receipt_of, NothingKnown};
-ghost use Rattle.plan_threads.specs.Gathering.{ArePlanners, Ends, IsAccounted, IsGathering, IsThreadFault, IsUnsettled, IsWhole, Steps, all_notes};
+ghost use Rattle.plan_threads.specs.Gathering.{ArePlanners, Ends, IsAccounted, IsGathering, IsThreadFault, IsWhole, Steps, all_notes};
 
 use crate::promise::Sending;
 use plan_collect::{Agenda, CollectFault, Collector, Note, PlanFault, accepts_every_merging};
@@ -33,8 +33,8 @@ pub(crate) struct Desk {
 impl Desk {
     /// Collects the notes of these planners, who raise these flags at their ends, and makes the agenda of them.
     ///
-    /// `NoMemory` where memory was refused, or where there are fewer threads than planners; else `NotSettled` where what a
-    /// planner sent can't be told; else `Collect(TooMany)` where the agenda has more entries than the limit.
+    /// `NoMemory` where memory was refused, or where there are fewer threads than planners; else `Collect(TooMany)` where the
+    /// agenda has more entries than the limit.
     pub(crate) fn collect<R: Threads + Wait>(
         self,
         rt: &R,
@@ -81,7 +81,7 @@ impl Desk {
 
     // Joins the planners and settles their receipts.
     //
-    // `NoMemory` where a planner's memory was refused, else `NotSettled` where a receipt did not settle.
+    // `NoMemory` where a planner's memory was refused.
     fn settle_all<R: Threads>(&mut self, rt: &R, planners: Vec<Planner>) -> Result<(), PlanFault>
         requires { ArePlanners self.old.collector (inlet_of self.old.inlet).rings 0 planners.items }
         ensures collector { self.new.collector ≡ self.old.collector }
@@ -110,11 +110,10 @@ impl Desk {
         ensures refused { self.new.refused ≡ self.old.refused }
         ensures rings { (inlet_of self.new.inlet).rings ≡ (inlet_of self.old.inlet).rings }
         ensures taken { (inlet_of self.new.inlet).taken ≡ (inlet_of self.old.inlet).taken }
-        ensures accounts { OnOk result
-            (IsAccounted (inlet_of self.new.inlet) (receipt_of receipt).sender (receipt_of receipt).sent) }
+        ensures succeeds { IsOk result }
+        ensures accounts { IsAccounted (inlet_of self.new.inlet) (receipt_of receipt).sender (receipt_of receipt).sent }
         ensures others { (s : ℕ) (sent : List Note) → s ≢ (receipt_of receipt).sender →
             IsAccounted (inlet_of self.old.inlet) s sent → IsAccounted (inlet_of self.new.inlet) s sent }
-        ensures fault { IfErr result IsUnsettled }
     {
         Ok(self.inlet.settle(receipt.sender(), receipt)?)
     }

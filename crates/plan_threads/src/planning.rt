@@ -29,8 +29,8 @@ use std::thread::Threads;
 /// each with room for 1 to 1,024 notes, and of the calling thread, which collects their notes. It waits for them.
 ///
 /// Faults, the first of these: `BadSize` for other numbers of planners or another room; `BadLimit` for a limit other than 1 to
-/// 1,000,000; `NoMemory` where memory was refused or a thread could not be started; `NotSettled` where what a planner sent
-/// can't be told; `Collect(TooMany)` where the agenda has more entries than the limit.
+/// 1,000,000; `NoMemory` where memory was refused or a thread could not be started; `Collect(TooMany)` where the agenda has
+/// more entries than the limit. `NotSettled` never comes.
 pub fn plan<R: Threads + Wait + Sync, G: Gate>(
     rt: &R,
     alloc: Global,

@@ -1,4 +1,4 @@
-use Rattle.std.proofs.Common.{◌<◌, ℕ, List, length, ◌∙◌, refl, arith, subst}
+use Rattle.std.proofs.Common.{◌≡◌, ◌<◌, ℕ, List, length, ◌∙◌, refl, arith, subst}
 use Rattle.agenda_answers.specs.Sources.{IsTimerOf, IsAmong, IsUnreadIn}
 use Rattle.agenda_answers.proofs.SourcesLemmas.{err_as, timers_none, timers_up_to, unread_among}
 use Rattle.agenda_answers.proofs.sources.read_timers.Goals as goal
@@ -11,9 +11,11 @@ loop-path-init g c = record {
 
 pub returns-in_err-timer-clause-unread : goal.returns-in_err-timer-clause-unread
 returns-in_err-timer-clause-unread g c =
+    let held = g.F.Files.held c.args.files.now in
+    let unread = subst (λ h. IsUnreadIn h (λ p. p ≡ c.path-item.result) c.in_err-timer.field-0.0) c.loop-path.invariant.same c.in_err-timer.ensures.unread in
     let within : c.loop-path.path-index < length c.args.paths.now = omega arith in
-    err_as c.from_residual.result c.in_err-timer.field-0.0 (IsUnreadIn (IsAmong c.args.paths.now)) c.from_residual.ensures.1
-    (unread_among c.args.paths.now c.loop-path.path-index c.path-item.result c.in_err-timer.field-0.0 within c.path-item.is c.in_err-timer.ensures.unread)
+    err_as c.from_residual.result c.in_err-timer.field-0.0 (IsUnreadIn held (IsAmong c.args.paths.now)) c.from_residual.ensures.1
+    (unread_among held c.args.paths.now c.loop-path.path-index c.path-item.result c.in_err-timer.field-0.0 within c.path-item.is unread)
 
 pub loop-path-preserved : goal.loop-path-preserved
 loop-path-preserved g c =

@@ -2,9 +2,9 @@ use Rattle.std.proofs.Common.{◌≡◌, ◌+◌, ◌++◌, [], ◌∷◌, All, 
 use Rattle.std.specs.List.{enumerate_from}
 use Rattle.std.specs.Vec.Iter.{into_iter_items}
 use Rattle.std.proofs.lemmas.List.{append-nil, length-append, map-append, nil_from_length}
-use Rattle.rtrb.specs.Ring.{sent}
-use Rattle.plan_mailbox.specs.Ends.{outlet_of, producer_ring, receiving}
-use Rattle.plan_mailbox.proofs.RingsApart.{IsUnused, end_from, outlet_from, enumerate_from-push, inlet-apart, outlets-apart}
+use Rattle.rtrb.specs.Ring.{known_free, sent}
+use Rattle.plan_mailbox.specs.Ends.{free_of, outlet_of, producer_ring, receiving}
+use Rattle.plan_mailbox.proofs.RingsApart.{IsUnused, end_from, free_in, outlet_from, enumerate_from-push, free-apart, inlet-apart, outlets-apart}
 use Rattle.plan_mailbox.proofs.rings.Lanes+M+RingLane+M.split.Goals as goal
 
 pub loop-lane-preserved : goal.loop-lane-preserved
@@ -14,8 +14,9 @@ loop-lane-preserved g c =
     let lanes = c.loop-lane.yielded in
     let one_more = length-append lanes (lane ∷ []) in
     let number : c.len.result ≡ length lanes = c.len.ensures ∙ before.outlet_count in
-    let outlet : outlet_of c.new.result ≡ outlet_from (0 + length lanes, lane) = c.new.ensures
+    let outlet : outlet_of c.new.result ≡ outlet_from (0 + length lanes, lane) = c.new.ensures.outlet
     ∙ ap (λ p. record { sender = c.len.result; ring = producer_ring p; sent = sent p }) c.into_ends-producer.ensures.producer ∙ ap (λ n. outlet_from (n, lane)) (number ∙ sym (zero-add (length lanes))) in
+    let free : free_of c.new.result ≡ free_in lane = c.new.ensures.free ∙ ap (λ p. known_free p) c.into_ends-producer.ensures.producer in
     record {
       can = search rules;
       ends_once = search rules;
@@ -25,6 +26,7 @@ loop-lane-preserved g c =
       outlet_count = omega (arith, c.push_reserved.ensures.len, one_more);
       end_count = omega (arith, c.push_reserved-in-loop-lane.ensures.len, one_more);
       outlets = rw (c.push_reserved.ensures.items, map-append, before.outlets, enumerate_from-push, map-append, outlet);
+      free = rw (c.push_reserved.ensures.items, map-append, before.free, map-append, free);
       ends = rw (c.push_reserved-in-loop-lane.ensures.items, before.ends, c.new-in-loop-lane.ensures, c.into_ends-producer.ensures.consumer, map-append);
     }
 
@@ -38,6 +40,13 @@ returns-clause-outlets g c =
     let unused : All IsUnused self.lanes.items = self.unused (ap (λ b. b.has_sent) c.requires) in
     let all = all_yielded c.loop-lane.yielded (into_iter_items c.loop-lane.lane-iterator) self.lanes.items c.loop-lane.invariant.left (omega (arith, c.in-None.ensures.steps.0, c.loop-lane.lane-iterator.rest.ok)) in
     c.loop-lane.invariant.outlets ∙ ap (λ lanes. map outlet_from (enumerate_from 0 lanes)) all ∙ outlets-apart self.lanes.items unused
+
+pub returns-clause-room : goal.returns-clause-room
+returns-clause-room g c =
+    let self = c.args.self in
+    let unused : All IsUnused self.lanes.items = self.unused (ap (λ b. b.has_sent) c.requires) in
+    let all = all_yielded c.loop-lane.yielded (into_iter_items c.loop-lane.lane-iterator) self.lanes.items c.loop-lane.invariant.left (omega (arith, c.in-None.ensures.steps.0, c.loop-lane.lane-iterator.rest.ok)) in
+    free-apart self.lanes.items c.loop-lane.outlets.items self.room (c.loop-lane.invariant.free ∙ ap (map free_in) all) unused self.reserved
 
 pub returns-clause-inlet : goal.returns-clause-inlet
 returns-clause-inlet g c =

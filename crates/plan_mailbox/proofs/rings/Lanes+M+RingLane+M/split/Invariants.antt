@@ -1,8 +1,8 @@
 use Rattle.std.proofs.Common.{◌≡◌, ◌≤◌, ◌++◌, length, map, vec_len, vec_capacity}
 use Rattle.std.specs.List.{enumerate_from}
 use Rattle.std.specs.Vec.Iter.{into_iter_items}
-use Rattle.plan_mailbox.specs.Ends.{outlet_of}
-use Rattle.plan_mailbox.proofs.RingsApart.{end_from, outlet_from}
+use Rattle.plan_mailbox.specs.Ends.{free_of, outlet_of}
+use Rattle.plan_mailbox.proofs.RingsApart.{end_from, free_in, outlet_from}
 use Rattle.plan_mailbox.proofs.rings.Lanes+M+RingLane+M.split.Given as goal
 
 -- the ends of the lanes so far were made, and there is room for those of all
@@ -16,5 +16,6 @@ invariant-loop-lane g l = record {
   outlet_count : vec_len l.outlets ≡ length l.yielded;
   end_count : vec_len l.ends ≡ length l.yielded;
   outlets : map outlet_of l.outlets.items ≡ map outlet_from (enumerate_from 0 l.yielded);
+  free : map free_of l.outlets.items ≡ map free_in l.yielded;
   ends : l.ends.items ≡ map end_from l.yielded;
 }

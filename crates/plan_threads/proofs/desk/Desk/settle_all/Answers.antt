@@ -63,6 +63,6 @@ loop-planner-preserved g c =
                 (and_ok c.loop-planner.settled c.settle.result _ _ ((k : ℕ) → k < done → IsAccounted (inlet_of c.settle.new.self.inlet) k (all_notes before.collector k)) was.1 c.settle.ensures.accounts
                 (λ known here. λ k lt. accounts_more (all_notes before.collector) (inlet_of c.loop-planner.self.inlet) (inlet_of c.settle.new.self.inlet) (done - 1) receipt.sender receipt.sent own sent here c.settle.ensures.others known k (omega arith))),
           )),
-      subst (λ r. IfErr r IsThreadFault) (sym c.and-settled.ensures) (and_err c.loop-planner.settled c.settle.result so_far.5 c.settle.ensures.fault),
+      subst (λ r. IfErr r IsThreadFault) (sym c.and-settled.ensures) (and_err c.loop-planner.settled c.settle.result so_far.5 c.settle.ensures.succeeds),
       omega arith,
     )

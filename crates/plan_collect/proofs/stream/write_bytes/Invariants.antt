@@ -1,10 +1,10 @@
 use Rattle.std.proofs.Common.{length}
 use Rattle.plan_collect.proofs.StreamLemmas.{IsPartWritten}
-use Rattle.plan_collect.proofs.stream.write_text.Given as goal
+use Rattle.plan_collect.proofs.stream.write_bytes.Given as goal
 
 abbrev pub invariant-loop-rest : goal.invariant-loop-rest
 invariant-loop-rest g l =
-    IsPartWritten (g.W.Write.contents l.fn.out) (g.W.Write.contents l.out) l.text l.rest
+    IsPartWritten (g.W.Write.contents l.fn.out) (g.W.Write.contents l.out) l.bytes l.rest
 
 abbrev pub decreases-loop-rest : goal.decreases-loop-rest
 decreases-loop-rest g l = length l.rest

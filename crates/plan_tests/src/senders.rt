@@ -1,0 +1,139 @@
+//! A mailbox behind a lock, with two and three senders, and threads that use it at once.
+//!
+//! What a thread does is a text of steps, with a space between them. A step is the digit of a sender, a sign, and the letter of a
+//! message: `1+a` sender 1 sends a; `1!a` the same, but a comes back, since the sender is shut; `1-a` a is taken of sender 1; `1.` sender 1
+//! is shut; `1:` it was shut before; `$` no message will come; `~2` two steps get done, by all threads, and no third within a while.
+use plan_mailbox::{Locked, Reply};
+use std::process::Abort;
+use std::sync::Wait;
+use std::sync::atomic::AtomicU64;
+use std::sync::atomic::Ordering::SeqCst;
+use std::test::Fail;
+use std::thread;
+use std::thread::Threads;
+
+// The number that a digit writes.
+fn number(digit: u8) -> u8 {
+    digit.wrapping_sub(b'0')
+}
+
+// What the mailbox replies to a step, and what it is to reply.
+fn take_step<R: Wait>(rt: &R, locked: &Locked<u8>, step: &[u8]) -> (Reply<u8>, Reply<u8>) {
+    let sender = match step.first() {
+        Some(digit) => usize::from(number(*digit)),
+        None => 0,
+    };
+    match step {
+        [_, b'+', message] => (locked.send(rt, sender, *message), Reply::Sent),
+        [_, b'!', message] => (locked.send(rt, sender, *message), Reply::Closed(*message)),
+        [_, b'-', message] => (locked.take(rt), Reply::Took(sender, *message)),
+        [_, b'.'] => (locked.close(rt, sender), Reply::Shut),
+        [_, b':'] => (locked.close(rt, sender), Reply::AlreadyShut),
+        _ => (locked.take(rt), Reply::Ended),
+    }
+}
+
+// So many steps get done, and no more within a while.
+fn assert_done(rt: &impl Abort, done: &AtomicU64, wanted: u64) {
+    for _ in 0..10_000_000 {
+        if done.load(SeqCst) >= wanted {
+            break;
+        }
+        thread::yield_now();
+    }
+    for _ in 0..10_000 {
+        assert_eq!(rt; done.load(SeqCst), wanted);
+        thread::yield_now();
+    }
+}
+
+// Takes the steps of a text, and counts them when they are done.
+fn play<R: Wait + Abort>(rt: &R, locked: &Locked<u8>, done: &AtomicU64, steps: &str) {
+    for step in steps.split(' ') {
+        if let [b'~', wanted] = step.as_bytes() {
+            assert_done(rt, done, u64::from(number(*wanted)));
+            continue;
+        }
+        let (reply, wanted) = take_step(rt, locked, step.as_bytes());
+        assert_eq!(rt; reply, wanted, "{step} of {steps}");
+        done.fetch_add(1, SeqCst);
+    }
+}
+
+// Three threads take the steps of these texts on a new mailbox, at once.
+fn assert_at_once<R: Threads + Wait + Abort + AllocGlobal + Sync>(
+    rt: &R,
+    senders: usize,
+    room: usize,
+    steps: [&str; 3],
+) -> Result<(), Fail> {
+    let locked = Locked::new(rt.alloc(), senders, room)?;
+    let (shared, done) = (&locked, &AtomicU64::new(0));
+    let [first, second, third] = steps;
+    thread::join(
+        rt,
+        || play(rt, shared, done, first),
+        || {
+            thread::join(
+                rt,
+                || play(rt, shared, done, second),
+                || play(rt, shared, done, third),
+            );
+        },
+    );
+    Ok(())
+}
+
+// One thread takes the steps of a text on a new mailbox.
+fn assert_plays<R: Wait + Abort + AllocGlobal>(
+    rt: &R,
+    senders: usize,
+    room: usize,
+    steps: &str,
+) -> Result<(), Fail> {
+    let locked = Locked::new(rt.alloc(), senders, room)?;
+    play(rt, &locked, &AtomicU64::new(0), steps);
+    Ok(())
+}
+
+// By the rule of the turn: the sender after the one of whom a message was taken is the first that is looked at.
+#[test]
+fn the_turn_goes_round_the_senders(rt: HostRuntime) -> Result<(), Fail> {
+    assert_plays(&rt, 2, 2, "1+c 0+a 0+b 1+d 0-a 1-c 0-b 1-d 0. 1. $")?;
+    assert_plays(
+        &rt,
+        3,
+        2,
+        "2+e 0+a 0+b 1+c 2+f 0-a 1-c 2-e 0-b 2-f 2+g 1+d 1-d 2-g 0. 1. 2. $",
+    )?;
+    assert_plays(&rt, 3, 1, "0+a 0-a 0+b 1+c 1-c 2+e 2-e 1+f 0-b 1-f")
+}
+
+#[test]
+fn room_and_marks_are_those_of_one_sender(rt: HostRuntime) -> Result<(), Fail> {
+    // The others are full, and then shut.
+    assert_plays(&rt, 3, 2, "0+a 0+b 1+c 1+d 2+e 2+f 0-a 0+g 1-c 1+h 2-e 2+i")?;
+    assert_plays(
+        &rt,
+        3,
+        1,
+        "1. 0+a 2+c 1!b 0-a 0+d 0. 0!e 2-c 0-d 2+f 1: 0: 2. 2-f $ $",
+    )?;
+    assert_plays(&rt, 2, 1, "0+a 1+b 0. 1. 0!c 1!d 0-a 1-b $ 0: 1:")
+}
+
+#[test]
+fn who_waits_and_what_wakes(rt: HostRuntime) -> Result<(), Fail> {
+    // A take, until another sender that is open sends.
+    assert_at_once(&rt, 2, 1, ["1-a", "0.", "~1 1+a"])?;
+    // Two takes, until the last sender is shut.
+    assert_at_once(&rt, 2, 1, ["$", "$", "~0 0. ~1 1."])?;
+    // A third message where there is room for two, until one of the same sender is taken.
+    assert_at_once(&rt, 2, 2, ["1+a 1+b 1+c", "0+x", "~3 0-x ~4 1-a 1-b 1-c"])?;
+    // Two sends, each until its own message before is taken; one waits first, or the other.
+    let takes = "2. ~4 0-a ~6 1-c ~8 0-b 1-d";
+    assert_at_once(&rt, 3, 1, ["0+a ~3 2!x 0+b", "1+c 1+d", takes])?;
+    assert_at_once(&rt, 3, 1, ["0+a 0+b", "1+c ~3 2!x 1+d", takes])?;
+    // Two sends, each until its own sender is shut.
+    assert_at_once(&rt, 2, 1, ["0+a 0!b", "1+c 1!d", "~2 1. ~4 0. 0-a 1-c $"])
+}

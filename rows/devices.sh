@@ -1,0 +1,132 @@
+# shellcheck shell=bash disable=SC2154
+# Rows of bin/check-examples: paths that are no plain files, and streams that fail: what has no end is read up to one byte more than a file
+# may have, a pipe may end anywhere, and a status doesn't hang on standard error. The walks of bin/check-examples have more of them.
+
+devices_folder="$room/devices"
+mkdir "$devices_folder"
+ln -s /dev/zero "$devices_folder/zero.timer"
+ln -s loop.timer "$devices_folder/loop.timer"
+printf '@daily a\n' >"$devices_folder/jobs"
+printf '* * * * * x\n' >"$devices_folder/minutes"
+printf '[Timer]\nOnCalendar=daily\n' >"$devices_folder/d.timer"
+printf 'mailbox 1 1\ntake\n' >"$devices_folder/script"
+mkfifo "$devices_folder/pipe" "$devices_folder/pipe.timer"
+devices_day="--since 2024-01-01T00:00:00Z --upto 2024-01-02T00:00:00Z"
+devices_limits='ulimit -c 0; ulimit -t 2; ulimit -s 512; ulimit -d 16384'
+
+# Runs the shell's command $1 in at most 2 s of a processor and 16 MB of memory.
+devices_run() {
+  run_in "$devices_folder" bash -c "$devices_limits; $1"
+}
+
+# Rows of standard input: the shell's command, the status, and the fault line.
+devices_refused() {
+  local command fault wanted
+  while IFS='|' read -r command wanted fault; do
+    devices_run "exec agenda ${command/plan/plan $devices_day}"
+    is_refused "agenda $command" "$fault" "$wanted"
+  done
+}
+
+# Rows of standard input: the shell's command that writes to a pipe, the words of the program that reads it, and the escaped answer: that
+# begins with the status.
+devices_pipes() {
+  local writer words answer
+  while IFS='|' read -r writer words answer; do
+    export WRITER="{ $writer; } >${words##* }"
+    # the writer waits for the program to open the pipe, and no longer than 10 s
+    devices_run "timeout 10 bash -c \"\$WRITER\" & agenda ${words/plan/plan $devices_day}; ended=\$?; wait; exit \$ended"
+    printf '%b' "${answer:2}" >"$room/answer.wanted"
+    case $answer in
+      0*) compare "'$writer' to agenda $words" "$room/answer.wanted" /dev/null 0 ;;
+      *) compare "'$writer' to agenda $words" /dev/null "$room/answer.wanted" 1 ;;
+    esac
+  done
+  unset WRITER
+}
+
+# Rows of standard input: words, the standard error they get, and the status: nothing is told then, and the status is the same.
+devices_untold() {
+  local words redirection wanted
+  while IFS='|' read -r words wanted; do
+    for redirection in '2>&-' '2>/dev/full' '<&- 2>&-' '2>/dev/null'; do
+      devices_run "exec agenda $words $redirection"
+      compare_texts "agenda $words $redirection" '' '' "$wanted"
+    done
+  done
+}
+
+# Standard output fails, whatever else is closed: `Device` where standard error tells it. A fault is told as ever.
+devices_streams() {
+  local start="2024-01-01T00:00:00Z"
+  devices_run 'exec agenda steps script >&- 2>&- <&-'
+  compare_texts "steps, all streams closed" '' '' 3
+  devices_run 'exec agenda steps script >&- <&-'
+  is_refused "steps, standard output and input closed" Device 3
+  devices_run 'exec agenda steps script >&- 2>/dev/full'
+  compare_texts "steps, standard output closed, standard error full" '' '' 3
+  devices_run "exec agenda plan $devices_day --crontab jobs d.timer <&- 2>&-"
+  compare_texts "a plan, standard input and standard error closed" \
+    "$start${tab}cron:1${tab}a"$'\n'"$start${tab}d.timer${tab}d.service"$'\n' '' 0
+  devices_run 'exec agenda steps nothing >&-'
+  is_refused "no script, standard output closed" "nothing: Device" 3
+  devices_run "exec agenda plan $devices_day --limit 1 --crontab minutes >/dev/full"
+  is_refused "too many starts, standard output full" "plan: TooMany" 1
+  # 1,000,000 lines of 30 bytes are more than a pipe holds, and more than waits to be written
+  # shellcheck disable=SC2016
+  run_in "$devices_folder" bash -c 'ulimit -t 2
+    agenda plan --since 1970-01-01T00:00:00Z --upto 1971-11-26T10:40:00Z --limit 1000000 --crontab minutes | head -n 1
+    exit "${PIPESTATUS[0]}"'
+  compare_texts "a pipe whose reader leaves after a line" "1970-01-01T00:00:00Z${tab}cron:1${tab}x"$'\n' $'agenda: Device\n' 3
+}
+
+devices_refused <<'ROWS'
+plan --crontab /dev/zero|1|crontab: line 0: TooLarge
+plan --system-crontab /dev/zero|1|system crontab: line 0: TooLarge
+plan zero.timer|1|zero.timer: line 0: TooLarge
+plan /dev/zero|1|zero: line 0: BadTimerName
+steps /dev/zero|1|script: line 0: TooLarge
+plan --crontab /dev/null --system-crontab .|3|.: Device
+plan --crontab jobs/|3|jobs/: Device
+plan --system-crontab jobs/jobs|3|jobs/jobs: Device
+plan loop.timer|3|loop.timer: Device
+steps /|3|/: Device
+ROWS
+
+if [ -c /dev/full ]; then
+  devices_refused <<'ROWS'
+plan --crontab /dev/full|1|crontab: line 0: TooLarge
+plan --crontab jobs --limit 1 d.timer >/dev/null|1|plan: TooMany
+steps script >/dev/full|3|Device
+ROWS
+fi
+
+# A pipe that ends at once, amid a line, after a pause and never.
+devices_pipes <<'ROWS'
+:|plan --crontab pipe|0
+:|plan --system-crontab pipe|0
+:|plan pipe.timer|1 agenda: pipe.timer: line 0: NoTimerSection\n
+:|steps pipe|1 agenda: script: line 1: BadLine\n
+printf @dai|plan --crontab pipe|1 agenda: crontab: line 1: part 0: UnknownWord\n
+printf @dai; sleep 0.1; printf 'ly a'|plan --crontab pipe|0 2024-01-01T00:00:00Z\tcron:1\ta\n
+printf '@daily u'; sleep 0.1; printf ' a'|plan --system-crontab pipe|0 2024-01-01T00:00:00Z\tsystem:1\tu a\n
+printf '[Timer]\nOnCal'; sleep 0.1; printf 'endar=daily'|plan pipe.timer|0 2024-01-01T00:00:00Z\tpipe.timer\tpipe.service\n
+printf 'mailbox 1 1\ntak'|steps pipe|1 agenda: script: line 2: BadLine\n
+printf 'mailbox 1 1\ntak'; sleep 0.1; printf e|steps pipe|0 nothing\n
+exec cat /dev/zero|plan --crontab pipe|1 agenda: crontab: line 0: TooLarge\n
+exec cat /dev/zero|plan pipe.timer|1 agenda: pipe.timer: line 0: TooLarge\n
+exec cat /dev/zero|steps pipe|1 agenda: script: line 0: TooLarge\n
+ROWS
+
+# Usage, an input that is refused, and a file that can't be read.
+if [ -c /dev/full ]; then
+  devices_untold <<'ROWS'
+next --bad|2
+steps|2
+next --after 2024 --cron x|1
+plan --since 2024-01-01T00:00:00Z --upto 2024-01-01T00:01:00Z zero.timer|1
+steps nothing|3
+plan --since 2024-01-01T00:00:00Z --upto 2024-01-01T00:01:00Z loop.timer|3
+ROWS
+fi
+devices_streams

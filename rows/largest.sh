@@ -1,0 +1,162 @@
+# shellcheck shell=bash disable=SC2154
+# Rows of bin/check-examples: the largest texts and agendas. Each run has 2 s of a processor, and of memory 80 bytes for each byte that it
+# reads, 16 for each start that its limit lets it hold, and 8 MB for the program, its threads and their stacks of 512 KB. A run that needs
+# more memory would answer NoMemory, and one that takes longer is ended.
+
+largest_folder="$room/largest"
+mkdir "$largest_folder"
+largest_since="2024-01-01T00:00:00Z"
+largest_day=(--since "$largest_since" --upto 2024-01-02T00:00:00Z)
+
+# Runs the program with the words from $3 on, in the memory for what it reads of the file $1 and for $2 starts.
+largest_run() {
+  local bytes starts=$2
+  bytes=$(stat -L -c %s "$largest_folder/$1")
+  [ "$bytes" -le 1048577 ] || bytes=1048577
+  shift 2
+  # shellcheck disable=SC2016
+  run_in "$largest_folder" bash -c 'ulimit -c 0; ulimit -t 2; ulimit -s 512; ulimit -d "$0"; exec agenda "$@"' \
+    $((8192 + (80 * bytes + 16 * starts) / 1024)) "$@"
+}
+
+# The file $2, which $1 names, is a crontab or a timer of which the program says on the day $3: a fault line, or lines of the agenda.
+largest_text() {
+  local words=("$2")
+  [ "${2%.timer}" != "$2" ] || words=(--crontab "$2")
+  largest_run "$2" 10000 plan "${largest_day[@]}" "${words[@]}"
+  case $3 in
+    agenda:*) compare_texts "$1" '' "$3"$'\n' 1 ;;
+    *) compare_texts "$1" "${3:+$largest_since$tab$3$'\n'}" '' 0 ;;
+  esac
+}
+
+# Makes the file $1 of standard input up to its byte $2.
+largest_file() {
+  head -c "$2" >"$largest_folder/$1"
+}
+
+# 1,048,576 newlines.
+largest_newlines() {
+  yes '' | largest_file newlines 1048576
+  cp "$largest_folder/newlines" "$largest_folder/newlines.timer"
+  largest_text "a crontab of 1,048,576 newlines" newlines ''
+  largest_text "a timer of 1,048,576 newlines" newlines.timer "agenda: newlines.timer: line 0: NoTimerSection"
+  largest_run newlines 0 steps newlines
+  is_refused "a script of 1,048,576 newlines" "script: line 1: BadLine" 1
+}
+
+# One line has all 1,048,576 bytes, or as many as are left.
+largest_lines() {
+  local long
+  long=$(yes x | tr -d '\n' | head -c 1048569)
+  printf '@daily %s' "$long" >"$largest_folder/line"
+  largest_run line 1 plan "${largest_day[@]}" --crontab line
+  printf '%s\tcron:1\t%s\n' "$largest_since" "$long" >"$room/agenda.wanted"
+  compare "a line of 1,048,576 bytes, most of them the command" "$room/agenda.wanted" /dev/null 0
+  { printf '[Timer]\nOnCalendar=daily\nUnit=' && yes x | tr -d '\n'; } | largest_file line.timer 1048576
+  largest_run line.timer 1 plan "${largest_day[@]}" line.timer
+  printf '%s\tline.timer\t%s\n' "$largest_since" "${long:0:1048546}" >"$room/agenda.wanted"
+  compare "a timer of 1,048,576 bytes, most of them the unit" "$room/agenda.wanted" /dev/null 0
+  yes 1 | tr -d '\n' | largest_file digits 1048576
+  largest_text "a line of 1,048,576 digits" digits "agenda: crontab: line 1: part 0: WrongParts"
+  { yes 1 | tr -d '\n' | head -c 1048566 && printf ' * * * * x'; } | largest_file digits 1048576
+  largest_text "a minute of 1,048,566 digits" digits "agenda: crontab: line 1: part 1: BadNumber"
+  yes x | tr -d '\n' | largest_file letters 1048576
+  largest_text "a line of 1,048,576 letters" letters "agenda: crontab: line 1: BadSetting"
+  largest_run letters 0 steps letters
+  is_refused "a script of one line of 1,048,576 letters" "script: line 1: BadLine" 1
+}
+
+# Settings and the empty ones that reset them, as many as a timer holds (8 bytes of the section and 29 for each pair), and then 200,000.
+largest_resets() {
+  local pair=$'OnCalendar=daily\nOnCalendar='
+  { echo "[Timer]" && yes "$pair" | head -n 72314; } | largest_file reset.timer 1048576
+  largest_text "36,157 events that are reset each" reset.timer ''
+  { echo "[Timer]" && yes "$pair" | head -n 72312 && echo OnCalendar=daily; } | largest_file reset.timer 1048576
+  largest_text "36,156 events that are reset each, and one that isn't" reset.timer "reset.timer${tab}reset.service"
+  { echo "[Timer]" && yes "$pair" | head -n 72312 && echo OnCalendar=x; } | largest_file reset.timer 1048576
+  largest_text "36,156 events that are reset each, and one that is none" reset.timer \
+    "agenda: reset.timer: line 72314: part 0: UnknownWord"
+  { echo "[Timer]" && yes "$pair" | head -n 400000; } >"$largest_folder/reset.timer"
+  largest_text "200,000 events that are reset each, of 5,800,008 bytes" reset.timer "agenda: reset.timer: line 0: TooLarge"
+}
+
+# Lines that go on: the text behind them all, and the number of the first.
+largest_continued() {
+  { printf '[Timer]\nOnCalendar=\\\n' && yes $'\\' | head -n 400000 && echo daily; } | largest_file on.timer 1048576
+  largest_text "400,000 lines that go on, and a word" on.timer "on.timer${tab}on.service"
+  { printf '[Timer]\nOnCalendar=\\\n' && yes $'\\' | head -n 400000 && echo 25:00; } | largest_file on.timer 1048576
+  largest_text "400,000 lines that go on, and a faulty hour" on.timer "agenda: on.timer: line 2: part 5: OutOfRange"
+}
+
+# 1,000 jobs that fill 1,048,576 bytes: each line has 8 bytes beside what is run, and the first 576 have one more than the others.
+largest_jobs() {
+  local planners
+  awk 'BEGIN {
+    for (text = "x"; length(text) < 1041;) text = text "x"
+    for (job = 1; job <= 1000; job++) print "@daily " substr(text, 1, job <= 576 ? 1041 : 1040)
+  }' >"$largest_folder/jobs"
+  awk -v OFS='\t' -v since="$largest_since" '{ print since, "cron:" NR, substr($0, 8) }' "$largest_folder/jobs" >"$room/agenda.wanted"
+  for planners in 1 8; do
+    largest_run jobs 1000 plan "${largest_day[@]}" --limit 1000 --planners "$planners" --room 1 --crontab jobs
+    compare "1,000 jobs of 1,048,576 bytes by $planners planners" "$room/agenda.wanted" /dev/null 0
+  done
+  yes '@daily x' | largest_file jobs 1048572
+  largest_text "116,508 jobs" jobs "agenda: jobs: Full"
+}
+
+# Rows of standard input: the moment up to which is planned, the limit, further words, and the fault of the plan by 1 planner and by 8.
+largest_refused() {
+  local upto limit words cause planners
+  while IFS='|' read -r upto limit words cause; do
+    for planners in 1 8; do
+      # shellcheck disable=SC2086
+      largest_run minutes "$limit" plan --since "$largest_since" --upto "$upto" --planners "$planners" --room 1 \
+        --limit "$limit" $words
+      is_refused "a plan up to $upto of at most $limit starts by $planners planners: $words" "plan: $cause" 1
+    done
+  done
+}
+
+# 1,000 jobs each minute, and a timer each second. Each limit is one start too low, or the largest, which a minute more is past.
+largest_agendas() {
+  local planners
+  yes '* * * * * x' | head -n 1000 >"$largest_folder/minutes"
+  printf '[Timer]\nOnCalendar=*:*:*\n' >"$largest_folder/s.timer"
+  seq -f "$largest_since${tab}cron:%.0f${tab}x" 1000 >"$room/agenda.wanted"
+  largest_run minutes 1000 plan --since "$largest_since" --upto 2024-01-01T00:01:00Z --limit 1000 --planners 8 --room 1 --crontab minutes
+  compare "1,000 jobs of a minute by 8 planners, room 1, limit 1,000" "$room/agenda.wanted" /dev/null 0
+  for planners in 1 8; do
+    largest_run minutes 1000000 plan --since "$largest_since" --upto 2024-01-01T16:40:00Z --limit 1000000 --planners "$planners" \
+      --crontab minutes
+    mv "$room/out" "$largest_folder/out"
+    # shellcheck disable=SC2016
+    run_in "$largest_folder" sh -c 'wc -l <out; cut -f 1 out | uniq -c | sort -k 1,1 -u | awk "{ print \$1 }"; tail -n 1 out'
+    compare_texts "1,000,000 starts by $planners planners, 1,000 in each minute" \
+      $'1000000\n1000\n'"2024-01-01T16:39:00Z${tab}cron:1000${tab}x"$'\n' '' 0
+  done
+  largest_refused <<'ROWS'
+2024-01-01T00:01:00Z|999|--crontab minutes|TooMany
+2024-01-01T16:40:00Z|999999|--crontab minutes|TooMany
+2024-01-01T16:41:00Z|1000000|--crontab minutes|TooMany
+2024-01-01T16:40:00Z|1000001|--crontab minutes|BadLimit
+2024-01-02T00:00:00Z|86399|s.timer|TooMany
+2024-01-02T00:00:00Z|10000|s.timer|TooMany
+ROWS
+  largest_run s.timer 10000 plan "${largest_day[@]}" s.timer
+  is_refused "a start each second, and the limit that is not given" "plan: TooMany" 1
+}
+
+# That the memory is bounded: 8 MB are too little for the largest agenda.
+largest_bound() {
+  largest_run minutes 0 plan --since "$largest_since" --upto 2024-01-01T16:40:00Z --limit 1000000 --crontab minutes
+  is_refused "1,000,000 starts without memory for them" NoMemory 3
+}
+
+largest_newlines
+largest_lines
+largest_resets
+largest_continued
+largest_jobs
+largest_agendas
+largest_bound

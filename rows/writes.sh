@@ -1,0 +1,95 @@
+# shellcheck shell=bash disable=SC2154
+# Rows of bin/check-examples: how many writes a run makes. A fault line goes out by one, whatever told it, and an agenda in pieces of up to
+# 8,192 bytes, each as full as it can be. The kernel counts the calls of a shell and of what it waited for in /proc/self/io; where it counts
+# none these rows are passed over.
+
+writes_folder="$room/writes"
+mkdir "$writes_folder"
+printf '@daily a\n@daily\n' >"$writes_folder/crontab"
+printf '@daily a\n\n* * * * * root\n' >"$writes_folder/system"
+printf '[Timer]\nOnCalendar=daily\n' >"$writes_folder/d.timer"
+printf '[Timer]\nOnCalendar=25:00\n' >"$writes_folder/faulty.timer"
+printf '[Unit]\n' >"$writes_folder/none.timer"
+printf 'mailbox 1 1\ngive\n' >"$writes_folder/script"
+printf '* * * * * x\n' >"$writes_folder/minutes"
+yes '* * * * * x' | head -n 1001 >"$writes_folder/many"
+writes_day=(--since 2024-01-01T00:00:00Z --upto 2024-01-02T00:00:00Z)
+
+# Runs the words, and keeps in the file `writes` how many writes they made.
+writes_run() {
+  # shellcheck disable=SC2016
+  run_in "$writes_folder" bash -c '
+    count() {
+      local name value
+      while read -r name value; do
+        [ "$name" != syscw: ] || calls=$value
+      done </proc/self/io
+    }
+    count
+    before=$calls
+    "$@"
+    ended=$?
+    count
+    echo $((calls - before)) >writes
+    exit $ended' writes "$@"
+}
+
+# The last run, which $1 names, made at least $2 writes and at most $3.
+writes_between() {
+  local writes
+  writes=$(cat "$writes_folder/writes")
+  { [ "$writes" -ge "$2" ] && [ "$writes" -le "$3" ]; } >"$room/told" 2>&1 || echo "$writes writes, and not $2 to $3" >>"$room/told"
+  count "$1"
+}
+
+# Rows of standard input: words, the status, and the fault, of which the line goes out by one write.
+writes_faults() {
+  local words wanted fault
+  while IFS='>' read -r words wanted fault; do
+    IFS='|' read -ra words <<<"$words"
+    [ "${words[0]}" != plan ] || words=(plan "${writes_day[@]}" "${words[@]:1}")
+    writes_run agenda "${words[@]}"
+    is_refused "$fault" "$fault" "$wanted"
+    writes_between "'$fault' by one write" 1 1
+  done
+}
+
+# The lines of an agenda that is the user's $1 in a plan up to the moment $2: each is of 30 bytes, in parts of at most 20, and the next part
+# has no room in a piece that goes out before the end. So each piece but the last has 8,173 to 8,192 bytes.
+writes_agenda() {
+  local bytes
+  writes_run agenda plan --since 2024-01-01T00:00:00Z --upto "$2" --limit 1000000 --crontab "$1"
+  bytes=$(stat -c %s "$room/out")
+  [ "$status" = 0 ] || bytes=0
+  writes_between "an agenda of $3 bytes" $((($3 + 8191) / 8192)) $((1 + ($3 - 1) / 8173))
+  { [ "$bytes" = "$3" ] || echo "$bytes bytes"; } >"$room/told"
+  count "the bytes of an agenda of $3"
+}
+
+writes_rows() {
+  writes_faults <<'ROWS'
+next|--after|2024|--cron|@daily>1>after: BadForm
+next|--after|2024-01-01T00:00:00Z|--count|0|--cron|@daily>1>count: BadCount
+next|--after|2024-01-01T00:00:00Z|--calendar|daily Europe/Oslo>1>rule: part 8: Zone
+plan|--crontab|crontab>1>crontab: line 2: NoCommand
+plan|--system-crontab|system>1>system crontab: line 1: NoCommand
+plan|faulty.timer>1>faulty.timer: line 2: part 5: OutOfRange
+plan|none.timer>1>none.timer: line 0: NoTimerSection
+plan|d.timer|d.timer>1>job d.timer: SameName
+plan|--crontab|many>1>jobs: Full
+plan|d.timer|--room|0>1>plan: BadSize
+plan|--crontab|minutes|--limit|1>1>plan: TooMany
+steps|script>1>script: line 2: BadLine
+plan|--crontab|nothing>3>nothing: Device
+ROWS
+  # 1,024 bytes are the longest line that goes out by one write
+  writes_run agenda steps "$(yes p | tr -d '\n' | head -c 1007)"
+  writes_between "a fault line of 1,024 bytes by one write" 1 1
+  writes_agenda minutes 2024-01-01T00:01:00Z 30
+  writes_agenda minutes 2024-01-01T01:00:00Z 1800
+  writes_agenda minutes 2024-01-02T00:00:00Z 43200
+  writes_agenda minutes 2024-04-01T00:00:00Z 3931200
+}
+
+writes_run /bin/echo counted 2>/dev/null
+[ "$(cat "$writes_folder/writes")" != 1 ] || writes_rows
