@@ -63,7 +63,7 @@ answers_of_next <<'END'
 --calendar|*-02~03|--count|2|--after|2024-01-01T00:00:00Z>2024-02-27T00:00:00Z 2025-02-26T00:00:00Z
 --after|2024-01-01T00:00:00Z|--calendar|weekly>2024-01-08T00:00:00Z
 --after|2024-01-01T00:00:00Z|--cron|@weekly>2024-01-07T00:00:00Z
---after|2200-01-01T00:00:00Z|--cron|@daily>none
+--after|3000-01-01T00:00:00Z|--cron|@daily>none
 END
 
 # The moment comes before the count and the rule, and the count before the rule; of a span the first moment comes before the second, that
@@ -72,11 +72,14 @@ answers_refused <<'END'
 next|--after|2024|--cron|* * * * *>after: BadForm
 next|--after|2024-02-30T00:00:00Z|--count|0|--cron|x>after: NoSuchDate
 next|--after|1969-12-31T23:59:59Z|--count|0|--cron|x>after: OutOfYears
+next|--after|3000-01-01T00:00:01Z|--cron|@daily>after: OutOfYears
 next|--after|2024-01-01T00:00:00Z|--count|0|--cron|x>count: BadCount
 next|--after|2024-01-01T00:00:00Z|--count|1001|--calendar|x>count: BadCount
 next|--after|2024-01-01T00:00:00Z|--cron|weekly>rule: part 0: WrongParts
 plan|--since|2024|--upto|x|there is no file>since: BadForm
 plan|--since|2024-01-01T00:00:00Z|--upto|2024-02-30T00:00:00Z|--crontab|there is no file>upto: NoSuchDate
+plan|--since|3000-01-01T00:00:01Z|--upto|3000-01-01T00:00:01Z>since: OutOfYears
+plan|--since|2999-12-31T23:59:59Z|--upto|3000-01-01T00:00:01Z>upto: OutOfYears
 plan|--since|2024-01-01T00:00:00Z|--upto|2023-12-31T23:59:59Z|--crontab|there is no file>span: Backwards
 END
 

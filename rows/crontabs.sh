@@ -58,8 +58,8 @@ crontabs_rule() {
 crontabs_rules() {
   local since=2024-01-01T00:00:00Z
   : >"$room/jobs.wanted"
-  crontabs_rule user '@reboot a' 1970-01-01T00:00:00Z 2200-01-01T00:00:00Z 1
-  crontabs_rule system '@reboot root a' 1970-01-01T00:00:00Z 2200-01-01T00:00:00Z 1
+  crontabs_rule user '@reboot a' 1970-01-01T00:00:00Z 3000-01-01T00:00:00Z 1
+  crontabs_rule system '@reboot root a' 1970-01-01T00:00:00Z 3000-01-01T00:00:00Z 1
   # each midnight of 2024
   crontabs_starts 1704067200 86400 1735603200 cron:1 b >"$room/jobs.wanted"
   crontabs_rule user '@daily b' "$since" 2025-01-01T00:00:00Z 1

@@ -1,5 +1,5 @@
 # shellcheck shell=bash disable=SC2154
-# Rows of bin/check-examples: the largest texts and agendas. Each run has 2 s of a processor, and of memory 80 bytes for each byte that it
+# Rows of bin/check-examples: the largest texts and agendas. Each run has 2 s of a processor, and of memory 128 bytes for each byte that it
 # reads, 16 for each start that its limit lets it hold, and 8 MB for the program, its threads and their stacks of 512 KB. A run that needs
 # more memory would answer NoMemory, and one that takes longer is ended.
 
@@ -16,7 +16,7 @@ largest_run() {
   shift 2
   # shellcheck disable=SC2016
   run_in "$largest_folder" bash -c 'ulimit -c 0; ulimit -t 2; ulimit -s 512; ulimit -d "$0"; exec agenda "$@"' \
-    $((8192 + (80 * bytes + 16 * starts) / 1024)) "$@"
+    $((8192 + (128 * bytes + 16 * starts) / 1024)) "$@"
 }
 
 # The file $2, which $1 names, is a crontab or a timer of which the program says on the day $3: a fault line, or lines of the agenda.

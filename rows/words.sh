@@ -41,7 +41,7 @@ Options:
   -h, --help     Print help
   -V, --version  Print version
 
-All moments are in UTC and of the years 1970 to 2199. The formats, the limits and
+All moments are in UTC and of the years 1970 to 2999. The formats, the limits and
 what each fault line means are described in agenda(1).
 
 Examples:
@@ -59,7 +59,7 @@ Usage: agenda next --after <T> [--count <N>] (--cron <TEXT> | --calendar <TEXT>)
 
 Options:
       --after <T>        The starts are later than this moment, in UTC, as
-                         2024-01-01T00:00:00Z; the years are 1970 to 2199
+                         2024-01-01T00:00:00Z; the years are 1970 to 2999
       --count <N>        How many starts, from 1 to 1000 [default: 1]
       --cron <TEXT>      A cron rule: minute, hour, day of month, month and day
                          of week, or @hourly, @daily, @weekly, @monthly, @yearly
@@ -67,7 +67,7 @@ Options:
   -h, --help             Print help
 
 Exactly one of --cron and --calendar is given. Prints a moment a line; where the rule
-has fewer starts before the year 2200, the last line is none. Both grammars are
+has fewer starts before the year 3000, the last line is none. Both grammars are
 described in agenda(1).
 
 Example:
@@ -87,7 +87,7 @@ Arguments:
 
 Options:
       --since <T>           The first moment of the span, in UTC, as
-                            2024-01-01T00:00:00Z; the years are 1970 to 2199
+                            2024-01-01T00:00:00Z; the years are 1970 to 2999
       --upto <T>            The moment before which the span ends, written as that
                             of --since and no earlier
       --crontab <F>         The path of a user crontab

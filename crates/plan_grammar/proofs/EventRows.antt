@@ -3,6 +3,7 @@ use Rattle.std.proofs.Common.{◌≡◌, ℕ, Bool, true, false, List, [], ◌�
 use Rattle.plan_sets.specs.declared.item.Item.TheVariants.{One, Onward, Range}
 use Rattle.plan_sets.specs.declared.item.SetFault.TheVariants.{OutOfRange, Backwards, ZeroStep}
 use Rattle.plan_sets.specs.declared.civil.Civil.{Civil}
+use Rattle.plan_sets.specs.Limits.{first_year, last_year}
 use Rattle.plan_sets.specs.Values.{values_where}
 use Rattle.plan_sets.specs.Items.{set_reading, held_values}
 use Rattle.plan_sets.specs.ValuesLaws.{has_value-values_where}
@@ -18,7 +19,7 @@ use Rattle.plan_match.specs.EventMatch.{event_matches}
 
 -- every second of every day
 every_second : event_reading (codes "*:*:*") ≡ Ok (record {
-  years = held_values (Range 1970 2199 1 ∷ []) 1970 2199;
+  years = held_values (Range first_year last_year 1 ∷ []) first_year last_year;
   months = held_values (Range 1 12 1 ∷ []) 1 12;
   days = held_values (Range 1 31 1 ∷ []) 1 31;
   day_count = FromStart;
@@ -32,7 +33,7 @@ every_second = refl
 
 -- weekdays, lists, ranges and steps; missing years are all of them
 lists_ranges_and_steps : event_reading (codes "Sat,Mon..Tue 10-1..7/3 8..9:0/30:15") ≡ Ok (record {
-  years = held_values (Range 1970 2199 1 ∷ []) 1970 2199;
+  years = held_values (Range first_year last_year 1 ∷ []) first_year last_year;
   months = held_values (One 10 ∷ []) 1 12;
   days = held_values (Range 1 7 3 ∷ []) 1 31;
   day_count = FromStart;
@@ -46,7 +47,7 @@ lists_ranges_and_steps = refl
 
 -- days from the month's end
 third_last_of_february : event_rule_reading (codes "*-02~03") ≡ Ok (Events (record {
-  years = held_values (Range 1970 2199 1 ∷ []) 1970 2199;
+  years = held_values (Range first_year last_year 1 ∷ []) first_year last_year;
   months = held_values (One 2 ∷ []) 1 12;
   days = values_where 1 31 (is_listed_place (One 3 ∷ []));
   day_count = FromEnd;

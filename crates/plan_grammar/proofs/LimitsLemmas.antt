@@ -138,7 +138,7 @@ cron text = rule (words text)
 
 year_within : (text : List ℕ) → IfOk (component_reading component.Year text) (LieWithin first_year last_year)
 unfolding component_reading
-year_within text = list_within _ 2 (component_set component.Year) (component_items component.Year text) (λ items. items_within items 1970 2199 230 refl refl)
+year_within text = list_within _ 2 (component_set component.Year) (component_items component.Year text) (λ items. items_within items first_year last_year (last_year + 1 - first_year) refl refl)
 
 month_within : (text : List ℕ) → IfOk (component_reading component.Month text) (LieWithin 1 12)
 unfolding component_reading

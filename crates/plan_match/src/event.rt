@@ -17,7 +17,7 @@ pub enum DayCount {
 /// A calendar event: the values that its components admit (systemd.time(7)).
 #[derive(Debug, Drop, PartialEq, Eq)]
 pub struct Calendar {
-    /// The years, 1970 to 2199.
+    /// The years, `FIRST_YEAR` to `LAST_YEAR`.
     pub years: ValueSet,
     /// The months, 1 to 12.
     pub months: ValueSet,
@@ -40,7 +40,7 @@ impl Calendar {
     ghost use Rattle.plan_sets.specs.Values.{has_value};
     ghost use Rattle.plan_match.specs.EventMatch.{month_day_matches, weekday_matches, event_day_matches, event_matches, HasEventTime};
 
-    /// The years, 1970 to 2199.
+    /// The years, `FIRST_YEAR` to `LAST_YEAR`.
     pub fn years(&self) -> &ValueSet
         ensures { result.now ≡ self.now.years }
     {

@@ -1,6 +1,6 @@
 -- Known seconds, as theorems of the definition of the civil fields.
-use Rattle.std.proofs.Common.{◌≡◌, refl}
-use Rattle.plan_sets.specs.Limits.{end_second}
+use Rattle.std.proofs.Common.{◌≡◌, ◌+◌, refl}
+use Rattle.plan_sets.specs.Limits.{end_second, last_year}
 use Rattle.plan_sets.specs.Civil.{civil_fields, month_and_day, year_and_day}
 
 -- the first second is a Thursday's
@@ -23,7 +23,7 @@ after_february_2100 : civil_fields 4_107_542_400 ≡ record { year = 2100; month
 unfolding civil_fields year_and_day month_and_day
 after_february_2100 = refl
 
--- the second after the last year begins the year 2200
-the_end : civil_fields end_second ≡ record { year = 2200; month = 1; day = 1; weekday = 2; hour = 0; minute = 0; second = 0 }
+-- the second after the last year begins the next one
+the_end : civil_fields end_second ≡ record { year = last_year + 1; month = 1; day = 1; weekday = 2; hour = 0; minute = 0; second = 0 }
 unfolding civil_fields year_and_day month_and_day
 the_end = refl

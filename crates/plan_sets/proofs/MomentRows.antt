@@ -16,7 +16,7 @@ with_a_time : moment_text_of 1_700_000_000 ≡ codes "2023-11-14T22:13:20Z"
 unfolding moment_text_of civil_fields year_and_day month_and_day
 with_a_time = refl
 
-the_end : moment_text_of end_second ≡ codes "2200-01-01T00:00:00Z"
+the_end : moment_text_of end_second ≡ codes "3000-01-01T00:00:00Z"
 unfolding moment_text_of civil_fields year_and_day month_and_day
 the_end = refl
 
@@ -59,7 +59,7 @@ second_before_1970 =
     let w : Written = record { year = 1969; month = 12; day = 31; hour = 23; minute = 59; second = 59 } in
     before_the_years _ w (record { room = search rules; text_is = refl }) (search rules) (omega arith)
 
-second_past_the_end : HasFault (codes "2200-01-01T00:00:01Z") OutOfYears
+second_past_the_end : HasFault (codes "3000-01-01T00:00:01Z") OutOfYears
 second_past_the_end =
-    let w : Written = record { year = 2200; month = 1; day = 1; hour = 0; minute = 0; second = 1 } in
+    let w : Written = record { year = 3000; month = 1; day = 1; hour = 0; minute = 0; second = 1 } in
     (w, record { room = search rules; text_is = refl }, search rules, inr (omega (arith, signed_arith, days_from_civil-end)))

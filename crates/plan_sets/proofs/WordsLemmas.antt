@@ -1,5 +1,5 @@
 -- The bits of a row of words: one more, the first from a place on, and that they tell the words apart.
-use Rattle.std.proofs.Common.{◌≡◌, ℕ, ◌+◌, ◌-◌, ◌*◌, ◌/◌, ◌%◌, ◌^◌, ◌<◌, ◌≤◌, Decides, true, false, ◌||◌, ◌==◌, nat_eq, List, length, get_or, ap, sym, ◌∙◌, arith, inl, inr, bit_or, replicate, get_or-set_same, get_or-set_other}
+use Rattle.std.proofs.Common.{◌≡◌, ℕ, ◌+◌, ◌-◌, ◌*◌, ◌/◌, ◌%◌, ◌^◌, ◌<◌, ◌≤◌, Decides, true, false, ◌||◌, ◌==◌, ◌≢◌, nat_eq, List, length, get_or, ap, sym, ◌∙◌, arith, inl, inr, bit_or, replicate, get_or-set_same, get_or-set_other}
 use lib.ListN.{set as put}
 use Rattle.std.specs.Cmp.Lexicographic.{pointwise, bytes_decides}
 use Rattle.std.specs.Int.{bit_at, trailing_zeros, w128}
@@ -10,12 +10,17 @@ use Rattle.std.proofs.lemmas.Grind.{same_number_lists}
 use Rattle.std.proofs.lemmas.Nat.{or_lt, shr-shr, shr_le}
 use Rattle.std.proofs.lemmas.Nat.Bits.{bit_at-lt, bit_at-trailing_zeros, bit_at-zero, bit_at_above, bit_at_set_other, bit_at_set_same, same_from_bits_below}
 use Rattle.plan_sets.specs.Limits.{set_span}
-use Rattle.plan_sets.specs.Words.{is_marked, word_bits, word_count, AreWords}
+use Rattle.plan_sets.specs.Words.{is_marked, word_bits, word_count, AreUnused, AreWords}
 
 -- past the words no bit is 1
 pub is_marked-past : (words : List ℕ) (k : ℕ) → length words ≤ k / word_bits → is_marked words k ≡ false
 is_marked-past words k past =
     ap (λ w. bit_at w (k % word_bits) == 1) (get_or_past words (k / word_bits) 0 past) ∙ ap (λ b. b == 1) (bit_at-zero (k % word_bits))
+
+-- in a word that is not used none is 1
+pub is_marked-unused : (words : List ℕ) (used k : ℕ) → AreUnused words used → used ≤ k / word_bits → is_marked words k ≡ false
+is_marked-unused words used k unused past =
+    ap (λ w. bit_at w (k % word_bits) == 1) (unused (k / word_bits) past) ∙ ap (λ b. b == 1) (bit_at-zero (k % word_bits))
 
 -- the row with one bit more
 abbrev pub marked_more : List ℕ → ℕ → List ℕ
@@ -117,6 +122,10 @@ get_or-zeros n w =
 pub AreWords-zeros : (n : ℕ) → AreWords (zeros n)
 AreWords-zeros n w = omega (arith, get_or-zeros n w)
 
+-- they use no word
+pub AreUnused-zeros : (n : ℕ) → AreUnused (zeros n) 0
+AreUnused-zeros n w _ = get_or-zeros n w
+
 -- in them no bit is 1
 pub is_marked-zeros : (n k : ℕ) → is_marked (zeros n) k ≡ false
 is_marked-zeros n k =
@@ -135,6 +144,13 @@ AreWords-more words k within are w =
           omega (arith, read, fits)
       | inr other ↦ omega (arith, get_or-set_other words at w more 0 other, are w)
     ]
+
+-- nor does it use a word past its own
+pub AreUnused-more : (words : List ℕ) (used more k : ℕ) → AreUnused words used → used ≤ more → k / word_bits < more → AreUnused (marked_more words k) more
+AreUnused-more words used more k unused no_less within w past =
+    let at = k / word_bits in
+    let other : w ≢ at = λ same. omega (arith, same, past) in
+    omega (arith, get_or-set_other words at w (bit_or (get_or words at 0) (1 * 2 ^ (k % word_bits) % 2 ^ word_bits)) 0 other, unused w (omega (arith, past)))
 
 -- the test of two rows of a set's words tells whether they have the same bits
 pub record SameBits (xs ys : List ℕ) : Type 0 where

@@ -76,7 +76,7 @@ IsInCalendar w = IsDateTime w.year w.month w.day w.hour w.minute w.second
 abbrev pub number_of : Written → ℤ
 number_of w = second_number w.year w.month w.day w.hour w.minute w.second
 
--- the date and time come before 1970, or after 2200-01-01T00:00:00Z (own)
+-- the date and time come before the first year, or after the end (own)
 abbrev pub IsOutOfYears : Written → Type 0
 IsOutOfYears w = (number_of w <ℤ pos 0) ⊎ (pos end_second <ℤ number_of w)
 

@@ -1,5 +1,5 @@
 -- How a value set is kept: a bit for each number that it has room for, in words.
-use Rattle.std.specs.Prelude.{ℕ, ◌/◌, ◌%◌, ◌^◌, ◌<◌, Bool, ◌==◌, List, slice_index}
+use Rattle.std.specs.Prelude.{◌≡◌, ℕ, ◌/◌, ◌%◌, ◌^◌, ◌<◌, ◌≤◌, Bool, ◌==◌, List, slice_index}
 use Rattle.std.specs.Int.{bit_at}
 use Rattle.plan_sets.specs.Limits.{set_span}
 
@@ -14,6 +14,10 @@ word_count = set_span / word_bits
 -- each of them is a word
 abbrev pub AreWords : List ℕ → Type 0
 AreWords words = (k : ℕ) → slice_index words k < 2 ^ word_bits
+
+-- the words from the number `used` on are 0
+abbrev pub AreUnused : List ℕ → ℕ → Type 0
+AreUnused words used = (k : ℕ) → used ≤ k → slice_index words k ≡ 0
 
 -- the bit with the number k of a row of words is 1; the lowest bit of the first word has the number 0
 abbrev pub is_marked : List ℕ → ℕ → Bool

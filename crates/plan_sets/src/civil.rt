@@ -13,10 +13,10 @@ use jiff_core::civil::{Date, days_in_month};
 pub const FIRST_YEAR: u16 = 1970;
 
 /// The last year that the planner knows.
-pub const LAST_YEAR: u16 = 2199;
+pub const LAST_YEAR: u16 = 2999;
 
-/// The second of 2200-01-01T00:00:00Z, the first after `LAST_YEAR`.
-pub const END_SECOND: u64 = 7_258_118_400;
+/// The second after `LAST_YEAR`, at midnight.
+pub const END_SECOND: u64 = 32_503_680_000;
 
 /// How many seconds a day has; no leap seconds are counted.
 pub const SECONDS_A_DAY: u64 = 86_400;
@@ -24,7 +24,7 @@ pub const SECONDS_A_DAY: u64 = 86_400;
 /// The civil fields of a second, in UTC.
 #[derive(Clone, Copy, Debug, PartialEq, Eq)]
 pub struct Civil {
-    /// The year, from 1970 to 2199.
+    /// The year, from `FIRST_YEAR` to `LAST_YEAR`.
     pub year: u16,
     /// The month, from 1 to 12.
     pub month: u8,

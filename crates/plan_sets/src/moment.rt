@@ -15,7 +15,7 @@ pub enum MomentFault {
     /// The calendar of the years 0000 to 9999 has no such date, or a day no such time.
     #[error("NoSuchDate")]
     NoSuchDate,
-    /// The moment comes before 1970, or after 2200-01-01T00:00:00Z.
+    /// The moment comes before `FIRST_YEAR`, or after `END_SECOND`.
     #[error("OutOfYears")]
     OutOfYears,
 }

@@ -8,24 +8,26 @@ ghost use Rattle.plan_sets.specs.Values.{Values, no_values, with_value, has_valu
 use std::marker::Model;
 
 /// How many words hold the members of a set.
-const WORDS: usize = 2;
+const WORDS: usize = 9;
 
 /// How many numbers a word is for, one a bit.
 const WORD_BITS: u16 = 128;
 
-/// A set of numbers from a base `lo` to `lo + 255`.
+/// A set of numbers from a base `lo` to `lo + 1,151`.
 #[derive(Debug, Drop)]
 pub struct ValueSet {
     base: u16,
     /// A bit for each number from the base on, the lowest of the first word for the base itself: 1 for a member.
     words: [u128; WORDS],
+    /// How many of the words can have a member: the ones after them are 0, and no search looks at them.
+    used: u16,
 }
 
 impl Model for ValueSet {
     ghost use Rattle.std.specs.Prelude.{◌+◌, ◌^◌, ◌≤◌};
     ghost use Rattle.plan_sets.specs.Limits.{set_span};
     ghost use Rattle.plan_sets.specs.Values.{Values, values_code, values_at};
-    ghost use Rattle.plan_sets.specs.Words.{is_marked, AreWords};
+    ghost use Rattle.plan_sets.specs.Words.{is_marked, word_count, AreUnused, AreWords};
 
     ghost Value = { Values };
 
@@ -33,7 +35,7 @@ impl Model for ValueSet {
 
     ghost view = { λ s. values_at s.base (is_marked s.words) };
 
-    ghost invariant = { λ s. (s.base + set_span ≤ 2 ^ 16) × AreWords s.words };
+    ghost invariant = { λ s. (s.base + set_span ≤ 2 ^ 16) × AreWords s.words × (s.used ≤ word_count) × AreUnused s.words s.used };
 }
 
 // Equal are sets with the same base and the same members.
@@ -62,7 +64,7 @@ impl Eq for ValueSet {
 }
 
 impl ValueSet {
-    /// The empty set of the numbers from `lo` to `lo + 255`.
+    /// The empty set whose base is `lo`.
     pub fn empty(lo: u16) -> Self
         requires { lo + set_span ≤ 2 ^ 16 }
         ensures { result ≡ no_values lo }
@@ -70,6 +72,7 @@ impl ValueSet {
         ValueSet {
             base: lo,
             words: [0; WORDS],
+            used: 0,
         }
     }
 
@@ -80,7 +83,9 @@ impl ValueSet {
         ensures { self.new ≡ with_value self.old v }
     {
         let offset = v - self.base;
-        self.words[usize::from(offset / WORD_BITS)] |= 1 << (offset % WORD_BITS);
+        let index = offset / WORD_BITS;
+        self.words[usize::from(index)] |= 1 << (offset % WORD_BITS);
+        self.used = self.used.max(index + 1);
     }
 
     /// Whether `v`, any number, is in the set.
@@ -101,7 +106,7 @@ impl ValueSet {
         ensures { IsLeastFrom self.now v result }
     {
         let start = v.saturating_sub(self.base);
-        for index in start / WORD_BITS..WORDS as u16 {
+        for index in start / WORD_BITS..self.used {
             // The word's bits from the start on.
             let passed = start.saturating_sub(index * WORD_BITS);
             let rest = self.words[usize::from(index)] >> passed;

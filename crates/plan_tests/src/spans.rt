@@ -17,15 +17,15 @@ fn assert_span(rt: &impl Abort, since: u64, upto: u64, fault: Option<SpanFault>)
 #[test]
 fn spans(rt: HostRuntime) {
     assert_span(&rt, 5, 4, Some(SpanFault::Backwards));
-    assert_span(&rt, 0, 7_258_118_401, Some(SpanFault::OutOfYears));
+    assert_span(&rt, 0, 32_503_680_001, Some(SpanFault::OutOfYears));
     assert_span(
         &rt,
-        7_258_118_402,
-        7_258_118_401,
+        32_503_680_002,
+        32_503_680_001,
         Some(SpanFault::Backwards),
     );
     assert_span(&rt, 0, 0, None);
     assert_span(&rt, 3, 8, None);
-    assert_span(&rt, 0, 7_258_118_400, None);
-    assert_span(&rt, 7_258_118_400, 7_258_118_400, None);
+    assert_span(&rt, 0, 32_503_680_000, None);
+    assert_span(&rt, 32_503_680_000, 32_503_680_000, None);
 }

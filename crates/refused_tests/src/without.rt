@@ -209,12 +209,12 @@ fn rules_are_read(rt: HostRuntime) -> Result<(), Fail> {
 #[test]
 fn moments_and_spans_are_read(rt: HostRuntime) {
     let ended = ends(rt.alloc());
-    assert!(rt; read_moment("2199-12-31T23:59:59Z") == Ok(7_258_118_399));
+    assert!(rt; read_moment("2999-12-31T23:59:59Z") == Ok(32_503_679_999));
     assert!(rt; read_moment("2024-1-1T00:00:00Z") == Err(MomentFault::BadForm));
     assert!(rt; read_moment("2024-02-30T00:00:00Z") == Err(MomentFault::NoSuchDate));
-    assert!(rt; read_moment("2200-01-01T00:00:01Z") == Err(MomentFault::OutOfYears));
+    assert!(rt; read_moment("3000-01-01T00:00:01Z") == Err(MomentFault::OutOfYears));
     assert!(rt; Span::new(1, 0).err() == Some(SpanFault::Backwards));
-    assert!(rt; Span::new(0, 7_258_118_401).err() == Some(SpanFault::OutOfYears));
+    assert!(rt; Span::new(0, 32_503_680_001).err() == Some(SpanFault::OutOfYears));
     assert_ended(&rt, ended);
 }
 

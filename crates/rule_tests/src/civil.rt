@@ -6,8 +6,8 @@ use std::process::Abort;
 
 #[test]
 fn the_planners_years(rt: HostRuntime) {
-    assert!(rt; FIRST_YEAR == 1970 && LAST_YEAR == 2199);
-    assert!(rt; SECONDS_A_DAY == 86_400 && END_SECOND == 7_258_118_400);
+    assert!(rt; FIRST_YEAR == 1970 && LAST_YEAR == 2999);
+    assert!(rt; SECONDS_A_DAY == 86_400 && END_SECOND == 32_503_680_000);
 }
 
 /// The civil fields of a second before `END_SECOND`.
@@ -98,15 +98,33 @@ fn fields_of_known_seconds(rt: HostRuntime) {
     );
     assert_known(
         &rt,
-        7_258_118_399,
-        "2199-12-31T23:59:59Z",
-        last(midnight(2199, 12, 31, 1)),
+        7_263_215_999,
+        "2200-02-28T23:59:59Z",
+        last(midnight(2200, 2, 28, 4)),
+    );
+    assert_known(
+        &rt,
+        7_263_216_000,
+        "2200-03-01T00:00:00Z",
+        midnight(2200, 3, 1, 5),
+    );
+    assert_known(
+        &rt,
+        13_574_563_200,
+        "2400-02-29T00:00:00Z",
+        midnight(2400, 2, 29, 1),
+    );
+    assert_known(
+        &rt,
+        32_503_679_999,
+        "2999-12-31T23:59:59Z",
+        last(midnight(2999, 12, 31, 1)),
     );
 }
 
 #[test]
 fn the_end_of_the_years(rt: HostRuntime) {
-    let text = "2200-01-01T00:00:00Z";
+    let text = "3000-01-01T00:00:00Z";
     assert!(rt; second(&rt, text) == END_SECOND && is_written(&rt, END_SECOND, text));
 }
 
@@ -118,10 +136,13 @@ fn is_none(year: u16, month: u8, day: u8, hour: u8, minute: u8, second: u8) -> b
 #[test]
 fn no_second_has_these_fields(rt: HostRuntime) {
     assert!(rt; is_none(1969, 12, 31, 23, 59, 59));
-    assert!(rt; is_none(2200, 1, 1, 0, 0, 0));
+    assert!(rt; is_none(3000, 1, 1, 0, 0, 0));
     assert!(rt; is_none(65_535, 1, 1, 0, 0, 0));
     assert!(rt; is_none(2023, 2, 29, 0, 0, 0));
     assert!(rt; is_none(2100, 2, 29, 0, 0, 0));
+    assert!(rt; is_none(2200, 2, 29, 0, 0, 0));
+    assert!(rt; is_none(2300, 2, 29, 0, 0, 0));
+    assert!(rt; is_none(2500, 2, 29, 0, 0, 0));
     assert!(rt; is_none(2024, 0, 1, 0, 0, 0));
     assert!(rt; is_none(2024, 13, 1, 0, 0, 0));
     assert!(rt; is_none(2024, 255, 1, 0, 0, 0));
@@ -135,7 +156,7 @@ fn no_second_has_these_fields(rt: HostRuntime) {
 
 // The length of a month of the planner's years.
 fn length(rt: &impl Abort, year: u16, month: u8) -> u8 {
-    assert!(rt; 1970 <= year && year <= 2199 && 1 <= month && month <= 12);
+    assert!(rt; FIRST_YEAR <= year && year <= LAST_YEAR && 1 <= month && month <= 12);
     month_length(year, month)
 }
 
@@ -157,5 +178,11 @@ fn lengths_of_months(rt: HostRuntime) {
     assert!(rt; length(&rt, 2024, 2) == 29);
     assert!(rt; length(&rt, 2100, 2) == 28);
     assert!(rt; length(&rt, 2196, 2) == 29);
-    assert!(rt; length(&rt, 2199, 12) == 31);
+    assert!(rt; length(&rt, 2200, 2) == 28);
+    assert!(rt; length(&rt, 2300, 2) == 28);
+    assert!(rt; length(&rt, 2400, 2) == 29);
+    assert!(rt; length(&rt, 2500, 2) == 28);
+    assert!(rt; length(&rt, 2800, 2) == 29);
+    assert!(rt; length(&rt, 2996, 2) == 29);
+    assert!(rt; length(&rt, 2999, 12) == 31);
 }

@@ -54,8 +54,8 @@ fn starts_of_two_events(rt: HostRuntime) {
 6:00;7:00|1970-01-01T06:00:00Z|1970-01-01T07:00:00Z
 Fri *-*-13 12:00;*-*~01 12:00|1970-01-01T00:00:00Z|1970-01-31T12:00:00Z
 *-2-30;Fri *-*-13 12:00|1970-01-01T00:00:00Z|1970-02-13T12:00:00Z
-2199-12-31 23:59:59;*-2-30|1970-01-01T00:00:00Z|2199-12-31T23:59:59Z
-2199-12-31 23:59:59;*-2-30|2199-12-31T23:59:59Z|none
+2999-12-31 23:59:59;*-2-30|1970-01-01T00:00:00Z|2999-12-31T23:59:59Z
+2999-12-31 23:59:59;*-2-30|2999-12-31T23:59:59Z|none
 *-2-30;*-2-30|1970-01-01T00:00:00Z|none
 ;|1970-01-01T00:00:00Z|none
 never|1970-01-01T00:00:00Z|none
@@ -162,10 +162,10 @@ fn a_piece_without_starts(rt: HostRuntime) {
     assert_piece(&rt, "never", (5, 9, 1), (0, None, None, 9));
 }
 
-// A leap day in each fourth year from 1972 to 2196, but for 2100: the first is 1972-02-29.
+// A leap day in each fourth year from 1972 to 2996, but for 2100, 2200, 2300, 2500, 2600, 2700 and 2900: the first is 1972-02-29.
 #[test]
 fn a_piece_up_to_the_end_of_all_years(rt: HostRuntime) {
-    let wanted = (56, Some(68_169_600), Some(7_136_985_600), END_SECOND);
+    let wanted = (250, Some(68_169_600), Some(32_382_547_200), END_SECOND);
     assert_piece(&rt, "cron 0 0 29 2 *", (0, END_SECOND, 1_000), wanted);
 }
 

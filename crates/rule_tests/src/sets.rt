@@ -30,11 +30,11 @@ fn assert_others(rt: &impl Abort, set: &ValueSet, others: &[u16]) {
 
 #[test]
 fn a_set_up_to_the_last_number(rt: HostRuntime) {
-    let mut last = ValueSet::empty(65_280);
+    let mut last = ValueSet::empty(64_384);
     assert!(rt; last.is_empty());
     last.insert(65_535);
     assert_eq!(rt; last.first_from(0), Some(65_535));
-    assert!(rt; last.contains(65_535) && !last.contains(65_279));
+    assert!(rt; last.contains(65_535) && !last.contains(64_383));
 }
 
 #[test]
@@ -43,9 +43,11 @@ fn members_at_the_ends_of_words(rt: HostRuntime) {
     set.insert(1_127);
     set.insert(1_128);
     set.insert(1_255);
+    set.insert(2_151);
     set.insert(1_127);
-    assert_members(&rt, &set, &[1_127, 1_128, 1_255]);
-    assert_others(&rt, &set, &[0, 1_126, 1_129, 1_256, 65_535]);
+    set.insert(1_256);
+    assert_members(&rt, &set, &[1_127, 1_128, 1_255, 1_256, 2_151]);
+    assert_others(&rt, &set, &[0, 1_126, 1_129, 2_150, 2_152, 65_535]);
 }
 
 #[test]
@@ -55,15 +57,15 @@ fn equal_sets(rt: HostRuntime) {
     let elsewhere = ValueSet::empty(0);
     assert!(rt; first == second);
     assert!(rt; first != elsewhere);
-    first.insert(200);
+    first.insert(1_000);
     assert!(rt; first != second);
-    second.insert(200);
+    second.insert(1_000);
     assert!(rt; first == second);
 }
 
 // The set of items between limits.
 fn set(rt: &impl Abort, items: &[Item], lo: u16, hi: u16) -> Result<ValueSet, SetFault> {
-    assert!(rt; lo <= hi && hi < 256);
+    assert!(rt; lo <= hi && hi < 10_000 && hi - lo < 1_152);
     set_of(items, lo, hi)
 }
 
@@ -96,4 +98,8 @@ fn values_of_items(rt: HostRuntime) {
     let minutes = set(&rt, &quarters, 0, 59).expect(&rt, "a set");
     assert_members(&rt, &minutes, &[0, 25, 50, 59]);
     assert_others(&rt, &minutes, &[24, 60, 300]);
+    let far_apart = [Item::Range(1970, 2999, 1029)];
+    let years = set(&rt, &far_apart, 1970, 2999).expect(&rt, "a set");
+    assert_members(&rt, &years, &[1970, 2999]);
+    assert_eq!(rt; years.first_from(1971), Some(2999));
 }

@@ -3,7 +3,7 @@
 pub(super) const AGENDA: &str = "When jobs start, by the rules of cron and of systemd timers";
 
 pub(super) const AFTER_AGENDA: &str = "\
-All moments are in UTC and of the years 1970 to 2199. The formats, the limits and
+All moments are in UTC and of the years 1970 to 2999. The formats, the limits and
 what each fault line means are described in agenda(1).
 
 Examples:
@@ -18,7 +18,7 @@ pub(super) const NEXT_USAGE: &str =
 
 pub(super) const AFTER: &str = "\
 The starts are later than this moment, in UTC, as
-2024-01-01T00:00:00Z; the years are 1970 to 2199";
+2024-01-01T00:00:00Z; the years are 1970 to 2999";
 
 pub(super) const COUNT: &str = "How many starts, from 1 to 1000";
 
@@ -30,7 +30,7 @@ pub(super) const CALENDAR: &str = "A calendar event, as 'Mon..Fri *-*-* 04:30' o
 
 pub(super) const AFTER_NEXT: &str = "\
 Exactly one of --cron and --calendar is given. Prints a moment a line; where the rule
-has fewer starts before the year 2200, the last line is none. Both grammars are
+has fewer starts before the year 3000, the last line is none. Both grammars are
 described in agenda(1).
 
 Example:
@@ -40,7 +40,7 @@ pub(super) const PLAN: &str = "Prints which jobs of crontabs and timers start wh
 
 pub(super) const SINCE: &str = "\
 The first moment of the span, in UTC, as
-2024-01-01T00:00:00Z; the years are 1970 to 2199";
+2024-01-01T00:00:00Z; the years are 1970 to 2999";
 
 pub(super) const UPTO: &str = "\
 The moment before which the span ends, written as that

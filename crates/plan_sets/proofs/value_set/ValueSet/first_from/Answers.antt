@@ -6,7 +6,7 @@ use Rattle.plan_sets.specs.Limits.{set_span}
 use Rattle.plan_sets.specs.Values.{has_value}
 use Rattle.plan_sets.specs.Words.{is_marked, word_bits}
 use Rattle.plan_sets.proofs.ValuesLemmas.{has_value-distance, no_value_before, no_value_from}
-use Rattle.plan_sets.proofs.WordsLemmas.{none_in_word, IsFirstBit, IsFirstBit-trailing_zeros}
+use Rattle.plan_sets.proofs.WordsLemmas.{is_marked-unused, none_in_word, IsFirstBit, IsFirstBit-trailing_zeros}
 use Rattle.plan_sets.proofs.value_set.ValueSet.first_from.Goals as goal
 use Rattle.plan_sets.proofs.value_set.ValueSet.first_from.Goals.{Then-rest-ne0}
 
@@ -59,4 +59,11 @@ pub returns : goal.returns
 returns c =
     let fields = c.self.inside in
     no_value_from fields.base (is_marked fields.words) c.args.self.now c.self.view_is c.args.v set_span (omega arith)
-    (λ k from to. c.loop-index.invariant k (omega arith) (omega arith))
+    (λ k from to.
+    elim (cases_lt fields.used (c.saturating_sub-start.result / word_bits)) [
+      | inl past ↦ is_marked-unused fields.words fields.used k c.self.invariant.3 (omega arith)
+      | inr _ ↦ elim (cases_lt k (fields.used * word_bits)) [
+          | inl used ↦ c.loop-index.invariant k (omega arith) (omega arith)
+          | inr after ↦ is_marked-unused fields.words fields.used k c.self.invariant.3 (omega arith)
+        ]
+    ])

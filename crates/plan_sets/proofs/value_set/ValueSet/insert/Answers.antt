@@ -2,7 +2,7 @@
 use Rattle.std.proofs.Common.{◌-◌, ◌/◌, ◌<◌, arith, length}
 use Rattle.plan_sets.specs.Words.{is_marked, word_bits}
 use Rattle.plan_sets.proofs.ValuesLemmas.{base-values_at, values_at-with_value}
-use Rattle.plan_sets.proofs.WordsLemmas.{is_marked-more, marked_more, AreWords-more}
+use Rattle.plan_sets.proofs.WordsLemmas.{is_marked-more, marked_more, AreUnused-more, AreWords-more}
 use Rattle.plan_sets.proofs.value_set.ValueSet.insert.Goals as goal
 
 pub overflow_sub-offset : goal.overflow_sub-offset
@@ -23,7 +23,12 @@ invariant_of-self c =
     let bases = base-values_at fields.base (is_marked fields.words) c.args.self.now c.self.view_is in
     let offset = c.args.v - fields.base in
     let within : offset / word_bits < length fields.words = omega arith in
-    (c.self.invariant.0, rw c.from.ensures (AreWords-more fields.words offset within c.self.invariant.1))
+    (
+      c.self.invariant.0,
+      rw c.from.ensures (AreWords-more fields.words offset within c.self.invariant.1),
+      omega arith,
+      rw c.from.ensures (AreUnused-more fields.words fields.used _ offset c.self.invariant.3 (omega arith) (omega arith)),
+    )
 
 pub returns : goal.returns
 returns c =
