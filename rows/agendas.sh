@@ -26,21 +26,45 @@ agendas_files() {
     >"$agendas_folder/backup.timer"
 }
 
-# Compares the plan up to the moment $1 with the file `agenda.wanted`, for each number of planners of $2 and each room of $3, with these
-# further words.
+# Compares the plan up to the moment $1 with the lines of the file `agenda.wanted`, behind the header, for each number of planners of $2 and
+# each room of $3, with these further words.
 agendas_same() {
   local upto=$1 planners=$2 rooms=$3 many places
   shift 3
   for many in $planners; do
     for places in $rooms; do
       agendas_plan "$upto" --planners "$many" --room "$places" "$@"
-      compare "an agenda by $many planners, room $places, up to $upto: $*" "$room/agenda.wanted" /dev/null 0
+      compare_agenda "an agenda by $many planners, room $places, up to $upto: $*" "$room/agenda.wanted"
     done
   done
 }
 
-# Rows of standard input: the moment up to which is planned, further words, and the agenda, with an @ for the first day of 2024. Any number
-# of planners makes the same.
+# Rows of standard input: the moments from which and up to which is planned, further words, and all that is written, the header too.
+agendas_whole() {
+  local since upto words text
+  while IFS='|' read -r since upto words text; do
+    # shellcheck disable=SC2086
+    run_in "$agendas_folder" agenda plan --since "$since" --upto "$upto" $words
+    printf '%b' "$text" >"$room/agenda.wanted"
+    compare "the whole agenda from $since to $upto: $words" "$room/agenda.wanted" /dev/null 0
+  done
+}
+
+# Rows of standard input: a number of starts, and the moment up to which the timer of each second has as many: the header names the number.
+agendas_counted() {
+  local starts upto
+  while IFS='|' read -r starts upto; do
+    agendas_plan "$upto" --limit 1000000 s.timer
+    tail -n +2 "$room/out" | wc -l >"$room/behind"
+    head -n 1 "$room/out" | cat - "$room/behind" >"$room/counted"
+    mv "$room/counted" "$room/out"
+    compare_texts "a header of $starts starts" \
+      "agenda 2${tab}2024-01-01T00:00:00Z$tab$upto$tab$starts"$'\n'"$starts"$'\n' '' 0
+  done
+}
+
+# Rows of standard input: the moment up to which is planned, further words, and the agenda's lines behind the header, with an @ for the
+# first day of 2024. Any number of planners makes the same.
 agendas_written() {
   local upto words agenda
   while IFS='|' read -r upto words agenda; do
@@ -84,7 +108,7 @@ agendas_of_every_second() {
 }
 
 # The largest agenda: 1,000 jobs that start in each of 1,000 minutes. Each minute has 24,000 bytes beside the names, and 9 names of 6
-# bytes, 90 of 7, 900 of 8 and one of 9: 31,893,000 bytes in all.
+# bytes, 90 of 7, 900 of 8 and one of 9. With a header of 59 bytes that is 31,893,059 in all.
 agendas_of_a_thousand_jobs() {
   awk 'BEGIN {
     for (minute = 0; minute < 1000; minute++) {
@@ -94,8 +118,8 @@ agendas_of_a_thousand_jobs() {
     }
   }' >"$room/agenda.wanted"
   agendas_same 2024-01-01T16:40:00Z "1 8" 1 --limit 1000000 --crontab thousand
-  run_in "$room" wc -c agenda.wanted
-  compare_texts "the bytes of the largest agenda" $'31893000 agenda.wanted\n' '' 0
+  run_in "$room" wc -c agenda.headed
+  compare_texts "the bytes of the largest agenda" $'31893059 agenda.headed\n' '' 0
 }
 
 # A command that is longer than what waits to be written, between two short ones.
@@ -108,6 +132,34 @@ agendas_of_a_long_line() {
 }
 
 agendas_files
+
+# In turn: a crontab and a timer; an empty span of them, which has no more than a header; no start in a span; neither a job nor a start at
+# the ends of the years.
+agendas_whole <<'END'
+2024-01-01T00:00:00Z|2024-01-02T00:00:00Z|--crontab nightly rot.timer|agenda 2\t2024-01-01T00:00:00Z\t2024-01-02T00:00:00Z\t2\n2024-01-01T00:00:00Z\tcron:4\tb\n2024-01-01T00:00:00Z\trot.timer\trot.service\n
+2024-01-01T00:00:00Z|2024-01-01T00:00:00Z|--crontab nightly rot.timer|agenda 2\t2024-01-01T00:00:00Z\t2024-01-01T00:00:00Z\t0\n
+2024-01-01T00:00:01Z|2024-01-01T23:59:59Z|--crontab nightly rot.timer|agenda 2\t2024-01-01T00:00:01Z\t2024-01-01T23:59:59Z\t0\n
+1970-01-01T00:00:00Z|3000-01-01T00:00:00Z||agenda 2\t1970-01-01T00:00:00Z\t3000-01-01T00:00:00Z\t0\n
+3000-01-01T00:00:00Z|3000-01-01T00:00:00Z|--crontab minutes|agenda 2\t3000-01-01T00:00:00Z\t3000-01-01T00:00:00Z\t0\n
+END
+
+# The least and the most of each number of digits, up to the largest agenda.
+agendas_counted <<'END'
+0|2024-01-01T00:00:00Z
+1|2024-01-01T00:00:01Z
+9|2024-01-01T00:00:09Z
+10|2024-01-01T00:00:10Z
+99|2024-01-01T00:01:39Z
+100|2024-01-01T00:01:40Z
+999|2024-01-01T00:16:39Z
+1000|2024-01-01T00:16:40Z
+9999|2024-01-01T02:46:39Z
+10000|2024-01-01T02:46:40Z
+99999|2024-01-02T03:46:39Z
+100000|2024-01-02T03:46:40Z
+999999|2024-01-12T13:46:39Z
+1000000|2024-01-12T13:46:40Z
+END
 
 # In turn: a crontab and a timer; an empty span of them; a system crontab; a timer with a reset; no jobs.
 agendas_written <<'END'

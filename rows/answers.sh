@@ -35,15 +35,15 @@ answers_refused() {
   done
 }
 
-# Rows of standard input: the moment before which a plan from the begin of 2024 ends, its other words, and its lines with a `;` behind
-# each and a `,` for each tab; each line begins with the time of that day.
+# Rows of standard input: the moment before which a plan from the begin of 2024 ends, its other words, and its lines behind the header
+# with a `;` behind each and a `,` for each tab; each line begins with the time of that day.
 answers_of_plan() {
   local upto words lines
   while IFS='>' read -r upto words lines; do
     read -ra words <<<"$words"
     run_in "$answers_folder" agenda plan --since "$answers_begin" --upto "$upto" "${words[@]}"
     printf '%s' "$lines" | tr ';,' "\n$tab" | sed 's/^/2024-01-01T/' >"$room/agenda.wanted"
-    compare "plan up to $upto ${words[*]}" "$room/agenda.wanted" /dev/null 0
+    compare_agenda "plan up to $upto ${words[*]}" "$room/agenda.wanted"
   done
 }
 
@@ -94,7 +94,7 @@ END
 # Sixty starts of an hour: a limit of 60 is enough.
 seq -f "2024-01-01T00:%02.0f:00Z${tab}cron:1${tab}x" 0 59 >"$room/agenda.wanted"
 run_in "$answers_folder" agenda plan --since "$answers_begin" --upto 2024-01-01T01:00:00Z --limit 60 --crontab minutes
-compare "a limit of as many starts as there are" "$room/agenda.wanted" /dev/null 0
+compare_agenda "a limit of as many starts as there are" "$room/agenda.wanted"
 run_in "$answers_folder" agenda plan --since "$answers_begin" --upto 2024-01-01T01:00:00Z --limit 59 --crontab minutes
 is_refused "a limit of one start less" "plan: TooMany" 1
 

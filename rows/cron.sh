@@ -157,8 +157,8 @@ cron_long_fields() {
   { cron_ones 400001 && printf ' * * * * a\n'; } >"$room/long.crontab"
   [ "$(head -c 800002 "$room/long.crontab" | tail -c 2)" = "1 " ] || refuse "no field of 800,001 bytes"
   run_in "$room" agenda plan --since 2024-01-01T00:00:00Z --upto 2024-01-01T02:00:00Z --crontab long.crontab
-  compare_texts "a field of 800,001 bytes" \
-    "2024-01-01T00:01:00Z${tab}cron:1${tab}a"$'\n'"2024-01-01T01:01:00Z${tab}cron:1${tab}a"$'\n' '' 0
+  compare_lines "a field of 800,001 bytes" \
+    "2024-01-01T00:01:00Z${tab}cron:1${tab}a"$'\n'"2024-01-01T01:01:00Z${tab}cron:1${tab}a"$'\n'
 }
 
 # A rule of 200 elements in its first field, which name each minute: it starts as `* * * * *`.

@@ -29,7 +29,7 @@ crontabs_jobs() {
       printf '%s:00Z\t%s\t%b\n' "$minute" "${job%% *}" "${job#* }"
     done >"$room/jobs.wanted"
     crontabs_run "$kind" "$minute:00Z" "$minute:59Z" $((1000 - ${#list[@]}))
-    compare "jobs of the $kind crontab '$text'" "$room/jobs.wanted" /dev/null 0
+    compare_agenda "jobs of the $kind crontab '$text'" "$room/jobs.wanted"
   done
 }
 
@@ -50,7 +50,7 @@ crontabs_refused() {
 crontabs_rule() {
   printf '%b' "$2" >"$crontabs_folder/crontab"
   crontabs_run "$1" "$3" "$4" $((1000 - $5))
-  compare "starts of the $1 crontab '$2' from $3 to $4" "$room/jobs.wanted" /dev/null 0
+  compare_agenda "starts of the $1 crontab '$2' from $3 to $4" "$room/jobs.wanted"
   crontabs_run "$1" "$3" "$4" $((1001 - $5))
   is_refused "jobs of the $1 crontab '$2' are $5" "jobs: Full" 1
 }
@@ -82,7 +82,7 @@ crontabs_user_refused() {
 # The file `crontab` is a user's crontab without a job. The row is named $1.
 crontabs_user_empty() {
   crontabs_run user 2024-01-01T00:00:00Z 2024-01-02T00:00:00Z 1000
-  compare_texts "$1" '' '' 0
+  compare_lines "$1" ''
 }
 
 # 1,048,576 bytes are the most, whatever they are.
@@ -103,7 +103,7 @@ crontabs_sizes() {
   { printf '30 4 * * * x\n@daily y\n#' && yes c | tr -d '\n'; } | head -c 1048576 >"$file"
   printf '2024-01-01T%s\n' "00:00:00Z${tab}cron:2${tab}y" "04:30:00Z${tab}cron:1${tab}x" >"$room/jobs.wanted"
   crontabs_run user 2024-01-01T00:00:00Z 2024-01-02T00:00:00Z 998
-  compare "two jobs of a crontab of 1,048,576 bytes" "$room/jobs.wanted" /dev/null 0
+  compare_agenda "two jobs of a crontab of 1,048,576 bytes" "$room/jobs.wanted"
   printf c >>"$file"
   crontabs_user_refused "two jobs of a crontab of 1,048,577 bytes" "$large"
 }
@@ -113,7 +113,7 @@ crontabs_largest_field() {
   { yes 1, | head -n 400000 | tr -d '\n' && printf '1 * * * * x'; } >"$crontabs_folder/crontab"
   crontabs_starts 1704067260 3600 1735686060 cron:1 x >"$room/jobs.wanted"
   crontabs_run user 2024-01-01T00:00:00Z 2025-01-01T00:00:00Z 999
-  compare "a field of 400,001 elements" "$room/jobs.wanted" /dev/null 0
+  compare_agenda "a field of 400,001 elements" "$room/jobs.wanted"
 }
 
 # 1,000 jobs, more of them, and jobs behind as many lines as there may be.
@@ -122,7 +122,7 @@ crontabs_numbers() {
   yes '30 4 1,15 * 5 x' | head -n 1000 >"$file"
   crontabs_run user "$since" 2024-01-02T00:00:00Z 0
   seq -f "2024-01-01T04:30:00Z${tab}cron:%.0f${tab}x" 1000 >"$room/jobs.wanted"
-  compare "1,000 jobs of one crontab" "$room/jobs.wanted" /dev/null 0
+  compare_agenda "1,000 jobs of one crontab" "$room/jobs.wanted"
   yes '30 4 1,15 * 5 x' | head -n 1001 >"$file"
   crontabs_user_refused "1,001 jobs of one crontab" "jobs: Full"
   yes '* * * * * x' | head -n 87381 >"$file"
@@ -131,10 +131,10 @@ crontabs_numbers() {
   crontabs_user_refused "a line without a command behind 87,380 jobs" "crontab: line 87381: NoCommand"
   { yes '# # # # # #' | head -n 87380 && echo '@daily x'; } >"$file"
   crontabs_run user "$since" 2024-01-02T00:00:00Z 999
-  compare_texts "a job behind 87,380 comments" "$since${tab}cron:87381${tab}x"$'\n' '' 0
+  compare_lines "a job behind 87,380 comments" "$since${tab}cron:87381${tab}x"$'\n'
   { yes '' | head -n 1048568 && printf '@daily x'; } >"$file"
   crontabs_run user "$since" 2024-01-02T00:00:00Z 999
-  compare_texts "a job behind 1,048,568 newlines" "$since${tab}cron:1048569${tab}x"$'\n' '' 0
+  compare_lines "a job behind 1,048,568 newlines" "$since${tab}cron:1048569${tab}x"$'\n'
 }
 
 mkdir "$crontabs_folder"

@@ -29,7 +29,7 @@ devices_refused() {
 }
 
 # Rows of standard input: the shell's command that writes to a pipe, the words of the program that reads it, and the escaped answer: that
-# begins with the status.
+# begins with the status, and of an agenda it has the lines behind the header.
 devices_pipes() {
   local writer words answer
   while IFS='|' read -r writer words answer; do
@@ -37,7 +37,8 @@ devices_pipes() {
     # the writer waits for the program to open the pipe, and no longer than 10 s
     devices_run "timeout 10 bash -c \"\$WRITER\" & agenda ${words/plan/plan $devices_day}; ended=\$?; wait; exit \$ended"
     printf '%b' "${answer:2}" >"$room/answer.wanted"
-    case $answer in
+    case ${answer:0:1}${words%% *} in
+      0plan) compare_agenda "'$writer' to agenda $words" "$room/answer.wanted" ;;
       0*) compare "'$writer' to agenda $words" "$room/answer.wanted" /dev/null 0 ;;
       *) compare "'$writer' to agenda $words" /dev/null "$room/answer.wanted" 1 ;;
     esac
@@ -66,18 +67,21 @@ devices_streams() {
   devices_run 'exec agenda steps script >&- 2>/dev/full'
   compare_texts "steps, standard output closed, standard error full" '' '' 3
   devices_run "exec agenda plan $devices_day --crontab jobs d.timer <&- 2>&-"
-  compare_texts "a plan, standard input and standard error closed" \
-    "$start${tab}cron:1${tab}a"$'\n'"$start${tab}d.timer${tab}d.service"$'\n' '' 0
+  compare_lines "a plan, standard input and standard error closed" \
+    "$start${tab}cron:1${tab}a"$'\n'"$start${tab}d.timer${tab}d.service"$'\n'
   devices_run 'exec agenda steps nothing >&-'
   is_refused "no script, standard output closed" "nothing: Device" 3
   devices_run "exec agenda plan $devices_day --limit 1 --crontab minutes >/dev/full"
   is_refused "too many starts, standard output full" "plan: TooMany" 1
-  # 1,000,000 lines of 30 bytes are more than a pipe holds, and more than waits to be written
+  # 1,000,000 lines of 30 bytes behind the header are more than a pipe holds, and more than waits to be written: a header that names more
+  # lines than follow it tells that the text was cut short
   # shellcheck disable=SC2016
   run_in "$devices_folder" bash -c 'ulimit -t 2
-    agenda plan --since 1970-01-01T00:00:00Z --upto 1971-11-26T10:40:00Z --limit 1000000 --crontab minutes | head -n 1
+    agenda plan --since 1970-01-01T00:00:00Z --upto 1971-11-26T10:40:00Z --limit 1000000 --crontab minutes | head -n 2
     exit "${PIPESTATUS[0]}"'
-  compare_texts "a pipe whose reader leaves after a line" "1970-01-01T00:00:00Z${tab}cron:1${tab}x"$'\n' $'agenda: Device\n' 3
+  compare_texts "a pipe whose reader leaves after a header and a line" \
+    "agenda 2${tab}1970-01-01T00:00:00Z${tab}1971-11-26T10:40:00Z${tab}1000000"$'\n'"1970-01-01T00:00:00Z${tab}cron:1${tab}x"$'\n' \
+    $'agenda: Device\n' 3
 }
 
 devices_refused <<'ROWS'

@@ -27,7 +27,7 @@ hostile_script() {
   printf '%s\n' "|agenda: script: line $((line + 1)): BadLine\n"
 }
 
-# Rows of standard input: a file's name, its escaped text, the words of the program, and the escaped answer.
+# Rows of standard input: a file's name, its escaped text, the words of the program, and the escaped answer, as parts_compare takes it.
 hostile_texts() {
   local name text words answer
   while IFS='|' read -r name text words answer; do

@@ -19,14 +19,15 @@ largest_run() {
     $((8192 + (128 * bytes + 16 * starts) / 1024)) "$@"
 }
 
-# The file $2, which $1 names, is a crontab or a timer of which the program says on the day $3: a fault line, or lines of the agenda.
+# The file $2, which $1 names, is a crontab or a timer of which the program says on the day $3: a fault line, or what stands behind the
+# moment in the line of its one start, or nothing where it has none.
 largest_text() {
   local words=("$2")
   [ "${2%.timer}" != "$2" ] || words=(--crontab "$2")
   largest_run "$2" 10000 plan "${largest_day[@]}" "${words[@]}"
   case $3 in
     agenda:*) compare_texts "$1" '' "$3"$'\n' 1 ;;
-    *) compare_texts "$1" "${3:+$largest_since$tab$3$'\n'}" '' 0 ;;
+    *) compare_lines "$1" "${3:+$largest_since$tab$3$'\n'}" ;;
   esac
 }
 
@@ -52,11 +53,11 @@ largest_lines() {
   printf '@daily %s' "$long" >"$largest_folder/line"
   largest_run line 1 plan "${largest_day[@]}" --crontab line
   printf '%s\tcron:1\t%s\n' "$largest_since" "$long" >"$room/agenda.wanted"
-  compare "a line of 1,048,576 bytes, most of them the command" "$room/agenda.wanted" /dev/null 0
+  compare_agenda "a line of 1,048,576 bytes, most of them the command" "$room/agenda.wanted"
   { printf '[Timer]\nOnCalendar=daily\nUnit=' && yes x | tr -d '\n'; } | largest_file line.timer 1048576
   largest_run line.timer 1 plan "${largest_day[@]}" line.timer
   printf '%s\tline.timer\t%s\n' "$largest_since" "${long:0:1048546}" >"$room/agenda.wanted"
-  compare "a timer of 1,048,576 bytes, most of them the unit" "$room/agenda.wanted" /dev/null 0
+  compare_agenda "a timer of 1,048,576 bytes, most of them the unit" "$room/agenda.wanted"
   yes 1 | tr -d '\n' | largest_file digits 1048576
   largest_text "a line of 1,048,576 digits" digits "agenda: crontab: line 1: part 0: WrongParts"
   { yes 1 | tr -d '\n' | head -c 1048566 && printf ' * * * * x'; } | largest_file digits 1048576
@@ -99,7 +100,7 @@ largest_jobs() {
   awk -v OFS='\t' -v since="$largest_since" '{ print since, "cron:" NR, substr($0, 8) }' "$largest_folder/jobs" >"$room/agenda.wanted"
   for planners in 1 8; do
     largest_run jobs 1000 plan "${largest_day[@]}" --limit 1000 --planners "$planners" --room 1 --crontab jobs
-    compare "1,000 jobs of 1,048,576 bytes by $planners planners" "$room/agenda.wanted" /dev/null 0
+    compare_agenda "1,000 jobs of 1,048,576 bytes by $planners planners" "$room/agenda.wanted"
   done
   yes '@daily x' | largest_file jobs 1048572
   largest_text "116,508 jobs" jobs "agenda: jobs: Full"
@@ -125,15 +126,16 @@ largest_agendas() {
   printf '[Timer]\nOnCalendar=*:*:*\n' >"$largest_folder/s.timer"
   seq -f "$largest_since${tab}cron:%.0f${tab}x" 1000 >"$room/agenda.wanted"
   largest_run minutes 1000 plan --since "$largest_since" --upto 2024-01-01T00:01:00Z --limit 1000 --planners 8 --room 1 --crontab minutes
-  compare "1,000 jobs of a minute by 8 planners, room 1, limit 1,000" "$room/agenda.wanted" /dev/null 0
+  compare_agenda "1,000 jobs of a minute by 8 planners, room 1, limit 1,000" "$room/agenda.wanted"
   for planners in 1 8; do
     largest_run minutes 1000000 plan --since "$largest_since" --upto 2024-01-01T16:40:00Z --limit 1000000 --planners "$planners" \
       --crontab minutes
     mv "$room/out" "$largest_folder/out"
     # shellcheck disable=SC2016
-    run_in "$largest_folder" sh -c 'wc -l <out; cut -f 1 out | uniq -c | sort -k 1,1 -u | awk "{ print \$1 }"; tail -n 1 out'
+    run_in "$largest_folder" sh -c 'head -n 1 out; tail -n +2 out >lines; wc -l <lines
+      cut -f 1 lines | uniq -c | sort -k 1,1 -u | awk "{ print \$1 }"; tail -n 1 lines'
     compare_texts "1,000,000 starts by $planners planners, 1,000 in each minute" \
-      $'1000000\n1000\n'"2024-01-01T16:39:00Z${tab}cron:1000${tab}x"$'\n' '' 0
+      "agenda 2$tab$largest_since${tab}2024-01-01T16:40:00Z${tab}1000000"$'\n1000000\n1000\n'"2024-01-01T16:39:00Z${tab}cron:1000${tab}x"$'\n' '' 0
   done
   largest_refused <<'ROWS'
 2024-01-01T00:01:00Z|999|--crontab minutes|TooMany

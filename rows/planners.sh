@@ -25,9 +25,9 @@ planners_rows() {
   for planners in 1 2 4 8; do
     plan=(agenda plan --planners "$planners" --since 2024-01-01T00:00:00Z --upto)
     run_in "$room" "${plan[@]}" 2024-01-01T00:02:00Z --crontab planners.crontab
-    compare "1,000 jobs each minute by $planners planners" "$room/planners.minutes" /dev/null 0
+    compare_agenda "1,000 jobs each minute by $planners planners" "$room/planners.minutes"
     run_in "$room" "${plan[@]}" 2024-01-01T00:00:03Z {a..h}.timer
-    compare "8 jobs each second by $planners planners" "$room/planners.seconds" /dev/null 0
+    compare_agenda "8 jobs each second by $planners planners" "$room/planners.seconds"
   done
 }
 

@@ -45,7 +45,7 @@ plans_jobs() {
     plans_make "$crontab" "$system" "$timers"
     plans_run "2024-01-01T00:00:01Z"
     printf '%s' "${jobs:+$jobs;}" | tr ';|' "\n$tab" | sed "s/^/$plans_since$tab/" >"$room/agenda.wanted"
-    compare "the jobs of '$crontab', '$system' and '$timers'" "$room/agenda.wanted" /dev/null 0
+    compare_agenda "the jobs of '$crontab', '$system' and '$timers'" "$room/agenda.wanted"
   done
 }
 
@@ -74,8 +74,8 @@ plans_of_a_night() {
   plans_make '# nightly\nMAILTO=x\n@reboot a\n@daily b\n' - rot.timer=OnCalendar=daily
   for planners in 1 2 8; do
     plans_run "2024-01-02T00:00:00Z" --limit 10 --planners "$planners" --room 1
-    compare_texts "a plan by $planners planners" \
-      "$plans_since${tab}cron:4${tab}b"$'\n'"$plans_since${tab}rot.timer${tab}rot.service"$'\n' '' 0
+    compare_lines "a plan by $planners planners" \
+      "$plans_since${tab}cron:4${tab}b"$'\n'"$plans_since${tab}rot.timer${tab}rot.service"$'\n'
   done
   plans_bad_numbers <<'END'
 10|0|1|BadSize
@@ -91,7 +91,7 @@ END
 plans_without_jobs() {
   plans_make '# no job\n' - ''
   plans_run "2024-01-02T00:00:00Z" --limit 1 --planners 8 --room 1
-  compare_texts "a plan without jobs" '' '' 0
+  compare_lines "a plan without jobs" ''
 }
 
 # More than 1,000 jobs are refused before the next source is read; up to there a later source's fault is found.
@@ -101,7 +101,7 @@ plans_of_a_thousand_jobs() {
   plans_make "$lines\n" - ''
   plans_run "2024-01-01T00:00:01Z"
   seq -f "$plans_since${tab}cron:%g${tab}x" 1000 >"$room/agenda.wanted"
-  compare "a thousand jobs" "$room/agenda.wanted" /dev/null 0
+  compare_agenda "a thousand jobs" "$room/agenda.wanted"
   plans_make "$lines\n" x ''
   plans_run "2024-01-01T00:00:01Z"
   is_refused "a thousand jobs, and a faulty source" "system crontab: line 1: BadSetting" 1

@@ -23,7 +23,8 @@ timers_starts() {
   esac
 }
 
-# Prints what `agenda plan` is to print for a year of the timer $1, which starts the unit $2 at the events that follow.
+# Prints the lines that `agenda plan` is to print behind the header, for a year of the timer $1, which starts the unit $2 at the events
+# that follow.
 timers_plan() {
   local name=$1 unit=$2 event
   shift 2
@@ -41,13 +42,13 @@ timers_job() {
   printf '%b' "$4" >"$file"
   timers_plan "$name" "$unit" "${events[@]}" >"$room/plan.wanted"
   run_in "$timers_folder" agenda plan "${timers_year[@]}" "$name"
-  compare "starts of $name '$4'" "$room/plan.wanted" /dev/null 0
+  compare_agenda "starts of $name '$4'" "$room/plan.wanted"
   left=$((64 - ${#events[@]}))
   { printf '\n\n[Timer]\n' && yes "OnCalendar=$last" | head -n "$left"; } >>"$file"
   [ "$left" = 0 ] || events+=("$last")
   timers_plan "$name" "$unit" "${events[@]}" >"$room/plan.wanted"
   run_in "$timers_folder" agenda plan "${timers_year[@]}" "$name"
-  compare "starts of $name '$4' and $left events more" "$room/plan.wanted" /dev/null 0
+  compare_agenda "starts of $name '$4' and $left events more" "$room/plan.wanted"
   echo "OnCalendar=$last" >>"$file"
   run_in "$timers_folder" agenda plan "${timers_year[@]}" "$name"
   is_refused "$name '$4' and $((left + 1)) events more" "$name: line $(wc -l <"$file"): TooManyLines" 1
@@ -123,7 +124,7 @@ timers_numbers() {
   done
   run_in "$folder" agenda plan "${day[@]}" {0..999}.timer
   printf "2024-01-01T00:00:00Z\t%s.timer\tx\n" {0..999} >"$room/plan.wanted"
-  compare "a thousand timers" "$room/plan.wanted" /dev/null 0
+  compare_agenda "a thousand timers" "$room/plan.wanted"
   run_in "$folder" agenda plan "${day[@]}" {0..1000}.timer
   is_refused "a thousand timers and one" "jobs: Full" 1
   run_in "$folder" agenda plan "${day[@]}" {0..999}.timer again/0.timer

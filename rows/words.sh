@@ -99,11 +99,12 @@ Options:
                             from 1 to 1000000 [default: 10000]
   -h, --help                Print help
 
-Prints a line for each start in the span: the moment, the job's name and what it runs,
-with a tab between. The lines are in order of moments; at one moment in order of jobs,
-first the user crontab's, then the system crontab's, then the timers as given. Where
-there are more starts than the limit, none is printed. The number of planners and their
-room change no line. The formats of the files are described in agenda(1).
+Prints a header line with the span and the number of starts, and a line for each start:
+the moment, the job's name and what it runs, with a tab between. The lines are in order
+of moments; at one moment in order of jobs, first the user crontab's, then the system
+crontab's, then the timers as given. Where there are more starts than the limit, nothing
+is printed. The number of planners and their room change no line. The formats of the
+files are described in agenda(1).
 
 Example:
   agenda plan --since 2024-01-01T00:00:00Z --upto 2024-01-02T00:00:00Z \
@@ -347,11 +348,11 @@ words_ask_for_replies() {
   done
 }
 
-# The words $1 ask for the agenda that standard input has, with `|` for tabs.
+# The words $1 ask for the agenda whose lines behind the header standard input has, with `|` for tabs.
 words_ask_for_agenda() {
   tr '|' '\t' >"$room/words/agenda"
   words_run "$1"
-  compare "words: $1" "$room/words/agenda" /dev/null 0
+  compare_agenda "words: $1" "$room/words/agenda"
 }
 
 words_ask_for_sources() {

@@ -54,16 +54,17 @@ writes_faults() {
   done
 }
 
-# The lines of an agenda that is the user's $1 in a plan up to the moment $2: each is of 30 bytes, in parts of at most 20, and the next part
-# has no room in a piece that goes out before the end. So each piece but the last has 8,173 to 8,192 bytes.
+# The agenda that is the user's $1 in a plan up to the moment $2, of $3 starts. The header has 52 bytes beside the digits of their number
+# (9 of `agenda 2` and a tab, 21 of each moment and a tab, and the newline), and each line has 30. Both are in parts of at most 20, and the
+# next part has no room in a piece that goes out before the end. So each piece but the last has 8,173 to 8,192 bytes.
 writes_agenda() {
-  local bytes
+  local bytes wanted=$((52 + ${#3} + 30 * $3))
   writes_run agenda plan --since 2024-01-01T00:00:00Z --upto "$2" --limit 1000000 --crontab "$1"
   bytes=$(stat -c %s "$room/out")
   [ "$status" = 0 ] || bytes=0
-  writes_between "an agenda of $3 bytes" $((($3 + 8191) / 8192)) $((1 + ($3 - 1) / 8173))
-  { [ "$bytes" = "$3" ] || echo "$bytes bytes"; } >"$room/told"
-  count "the bytes of an agenda of $3"
+  writes_between "an agenda of $wanted bytes" $(((wanted + 8191) / 8192)) $((1 + (wanted - 1) / 8173))
+  { [ "$bytes" = "$wanted" ] || echo "$bytes bytes"; } >"$room/told"
+  count "the bytes of an agenda of $wanted"
 }
 
 writes_rows() {
@@ -85,10 +86,12 @@ ROWS
   # 1,024 bytes are the longest line that goes out by one write
   writes_run agenda steps "$(yes p | tr -d '\n' | head -c 1007)"
   writes_between "a fault line of 1,024 bytes by one write" 1 1
-  writes_agenda minutes 2024-01-01T00:01:00Z 30
-  writes_agenda minutes 2024-01-01T01:00:00Z 1800
-  writes_agenda minutes 2024-01-02T00:00:00Z 43200
-  writes_agenda minutes 2024-04-01T00:00:00Z 3931200
+  # in turn 53, 83, 1,854, 43,256 and 3,931,258 bytes
+  writes_agenda minutes 2024-01-01T00:00:00Z 0
+  writes_agenda minutes 2024-01-01T00:01:00Z 1
+  writes_agenda minutes 2024-01-01T01:00:00Z 60
+  writes_agenda minutes 2024-01-02T00:00:00Z 1440
+  writes_agenda minutes 2024-04-01T00:00:00Z 131040
 }
 
 writes_run /bin/echo counted 2>/dev/null

@@ -70,6 +70,6 @@ lists_plan() {
     lists_timer "$events" >"$room/rows.timer"
     lists_starts "$starts" | sed "s/\$/${tab}rows.timer${tab}rows.service/" >"$room/starts.wanted"
     run_in "$room" agenda plan --since "$since" --upto "$upto" rows.timer
-    compare "a timer of '$events' from $since to $upto" "$room/starts.wanted" /dev/null 0
+    compare_agenda "a timer of '$events' from $since to $upto" "$room/starts.wanted"
   done
 }

@@ -3,20 +3,22 @@
 # it source it.
 
 # Compares the last run, which $1 names, with the escaped text $2: where it begins as a fault line it is of standard error, status 1,
-# and else it is of standard output.
+# and else it is of standard output, of `plan` the lines behind the header.
 parts_compare() {
   local answer
   printf '%b' "$2" >"$room/answer.wanted"
   IFS= read -r -d '' -n 8 answer <"$room/answer.wanted"
   if [ "$answer" = "agenda: " ]; then
     compare "$1" /dev/null "$room/answer.wanted" 1
+  elif [ "${ran[1]}" = plan ]; then
+    compare_agenda "$1" "$room/answer.wanted"
   else
     compare "$1" "$room/answer.wanted" /dev/null 0
   fi
 }
 
-# Rows of standard input: a part of a text, and behind a bar the escaped answer at each place of it. The parts after each other are the
-# text, whose file is $2, and which the words from $3 on hand to the program. A part's places are, where $1 says so:
+# Rows of standard input: a part of a text, and behind a bar the escaped answer at each place of it, as parts_compare takes it. The parts
+# after each other are the text, whose file is $2, and which the words from $3 on hand to the program. A part's places are, where $1 says so:
 #   cut    behind each of its bytes: there the text ends. An empty part is the place where it stands
 #   zero   before each of its bytes: there a byte 0 is put in. An empty part is the place where it stands
 parts_rows() {

@@ -3,7 +3,7 @@ use Rattle.std.specs.Prelude.{◌≡◌, ℕ, ◌<◌, ◌≤◌, Bool, true, fa
 use Rattle.std.specs.Io.KnownBytes.{Appends, Keeps}
 use Rattle.plan_rules.specs.Job.{JobParts}
 use Rattle.plan_mailbox.specs.Mailbox.{is_size}
-use Rattle.plan_collect.specs.Agenda.{agenda, rules_of}
+use Rattle.plan_collect.specs.Agenda.{agenda, planned, rules_of}
 use Rattle.plan_collect.specs.Limits.{is_limit}
 use Rattle.plan_collect.specs.Span.{Bounds}
 use Rattle.plan_collect.specs.Stream.{BreaksOff}
@@ -22,7 +22,7 @@ use Rattle.agenda_faults.specs.declared.faults.RunFault.TheVariants.{NoMemory, I
 abbrev pub IsTextFor : List JobParts → Bounds → (limit planners room : ℕ) → List ℕ → Type 0
 IsTextFor jobs span limit planners room text =
     (is_size planners room ≡ true) × (is_limit limit ≡ true) × (length (agenda (rules_of jobs) span) ≤ limit)
-    × (text ≡ agenda_text (agenda (rules_of jobs) span) jobs)
+    × (text ≡ agenda_text (planned (rules_of jobs) span) jobs)
 
 -- what is printed for sources: the agenda of their jobs
 abbrev pub IsTextOfPlan : Sources → Bounds → (limit planners room : ℕ) → List ℕ → Type 0

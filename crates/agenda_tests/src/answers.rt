@@ -146,7 +146,9 @@ fn standard_output_that_fails_at_each_byte(rt: HostRuntime) -> Result<(), Fail> 
     fails_at_each_byte(&rt, "agenda|steps|a", &TWELVE, TWELVE_TEXT.as_bytes(), 82)?;
     let words =
         "agenda|plan|--since|2024-01-01T00:00:00Z|--upto|2024-01-02T00:00:00Z|--crontab|crontab|timers/rot.timer";
-    fails_at_each_byte(&rt, words, &NIGHTLY, NIGHTLY_TEXT.as_bytes(), 73)
+    let ten = Limited::new(10, 3, End::Error);
+    writes_to(&rt, words, &NIGHTLY, ten, b"agenda 2\t2", 3)?;
+    fails_at_each_byte(&rt, words, &NIGHTLY, NIGHTLY_TEXT.as_bytes(), 126)
 }
 
 // That words write nothing to standard output, and end with this status where standard error fails at any byte of their
@@ -218,8 +220,9 @@ const NIGHTLY: [(&str, &[u8]); 2] = [
     ("timers/rot.timer", b"[Timer]\nOnCalendar=daily\n"),
 ];
 
-const NIGHTLY_TEXT: &str =
-    "2024-01-01T00:00:00Z\tcron:4\tb\n2024-01-01T00:00:00Z\trot.timer\trot.service\n";
+// A header of 53 bytes, and lines of 30 and 43.
+const NIGHTLY_TEXT: &str = "agenda 2\t2024-01-01T00:00:00Z\t2024-01-02T00:00:00Z\t2\n\
+    2024-01-01T00:00:00Z\tcron:4\tb\n2024-01-01T00:00:00Z\trot.timer\trot.service\n";
 
 // That a plan of the nightly jobs from the begin of 2024 leaves these texts behind, and opens so many files.
 fn plans(
@@ -241,11 +244,12 @@ fn plans(
 fn which_files_a_plan_opens(rt: HostRuntime) -> Result<(), Fail> {
     let nightly = "2024-01-02T00:00:00Z|--crontab|crontab|timers/rot.timer";
     plans(&rt, nightly, 0, (NIGHTLY_TEXT, ""), 2)?;
+    let header = "agenda 2\t2024-01-01T00:00:00Z\t2024-01-01T00:00:00Z\t0\n";
     plans(
         &rt,
         "2024-01-01T00:00:00Z|--crontab|crontab",
         0,
-        ("", ""),
+        (header, ""),
         1,
     )?;
     let words = "agenda|plan|--since|2024|--upto|x|timers/rot.timer";

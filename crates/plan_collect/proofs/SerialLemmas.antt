@@ -14,7 +14,7 @@ use Rattle.plan_collect.specs.declared.serial.PlanFault.{PlanFault}
 use Rattle.plan_collect.specs.declared.serial.PlanFault.TheVariants as plan
 use Rattle.plan_collect.specs.Span.{Bounds}
 use Rattle.plan_collect.specs.Limits.{is_limit, is_size}
-use Rattle.plan_collect.specs.Agenda.{agenda}
+use Rattle.plan_collect.specs.Agenda.{Planned, agenda, planned}
 use Rattle.plan_collect.specs.Collecting.{Collected, begun, refusal, Answers, after, is_complete, finished}
 use Rattle.plan_collect.specs.Planning.{Plans, PlanFails, of_collect, of_collector}
 
@@ -87,11 +87,11 @@ only_memory collect.Missing is = absurd cc
 pub last_refused : (c : Collected) (fault : CollectFault) → c.ended ≡ false ∷ [] → Answers (Err fault) (refusal c 0 note.Last) → of_collect fault ≡ plan.NoMemory
 last_refused c fault unended answer = ap of_collect (only_memory fault (subst (Answers (Err fault)) (last_open c unended) answer))
 
-complete_finished : (complete : Bool) (entries : List (ℕ × ℕ)) → complete ≡ true → cond complete (Ok entries) (Err collect.Missing) ≡ Ok entries
-complete_finished complete entries is = rw is refl
+complete_finished : (complete : Bool) (made : Planned) → complete ≡ true → cond complete (Ok made) (Err collect.Missing) ≡ Ok made
+complete_finished complete made is = rw is refl
 
 -- after it the collector is complete
-pub finished-all : (rules : List Rule) (span : Bounds) (limit done : ℕ) (c new : Collected) → IsUpTo rules span limit done c → done ≡ length rules → new ≡ after c 0 note.Last → finished new ≡ Ok (agenda rules span)
+pub finished-all : (rules : List Rule) (span : Bounds) (limit done : ℕ) (c new : Collected) → IsUpTo rules span limit done c → done ≡ length rules → new ≡ after c 0 note.Last → finished new ≡ Ok (planned rules span)
 finished-all rules span limit done c new so_far all is =
     let rest : length rules - done ≡ 0 = omega arith in
     let ended : new.ended ≡ true ∷ [] = ap (λ (x : Collected). x.ended) is ∙ ap (λ (xs : List Bool). slice_set xs 0 true) so_far.none_ended in
@@ -101,7 +101,7 @@ finished-all rules span limit done c new so_far all is =
     let own : new.rules ≡ rules = ap (λ (x : Collected). x.rules) is ∙ so_far.rules_are in
     let complete : is_complete new ≡ true =
     (λ i. list_all (λ n. n == (upto i).upto) (covered i) && list_all (λ has_sent_last. has_sent_last) (ended i)) ∙ and_from (list_all (λ n. n == span.upto) (replicate done span.upto)) true (all_run span.upto done) refl in
-    complete_finished (is_complete new) (agenda new.rules new.span) complete ∙ (λ i. Ok (agenda (own i) (upto i)))
+    complete_finished (is_complete new) (planned new.rules new.span) complete ∙ (λ i. Ok (planned (own i) (upto i)))
 
 ok_not_err : (c : Collected) (fault : CollectorFault) → Ok c ≡ Err fault → ⊥
 ok_not_err c fault is = cc

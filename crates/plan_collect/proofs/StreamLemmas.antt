@@ -107,6 +107,9 @@ pub prefix_longer : (a c : Option (List ℕ)) (text rest : List ℕ) → Appends
 prefix_longer a c text rest (k, few, written) =
     (k, omega (arith, length-append text rest), rw (take-append-le k text rest few) written)
 
+pub breaks_off_longer : (takes_all : Bool) (a c : Option (List ℕ)) (text rest : List ℕ) → BreaksOff takes_all a c text → BreaksOff takes_all a c (text ++ rest)
+breaks_off_longer takes_all a c text rest (fails, first) = (fails, prefix_longer a c text rest first)
+
 -- what still waited was written, if not all of it
 pub puts_last : {E : Type 0} (takes_all : Bool) (r : Result (Unit {0}) E) (a b c : Option (List ℕ)) (text waiting : List ℕ) → AppendsAllBut a b text waiting → Puts takes_all r b c waiting → Puts takes_all r a c text
 puts_last takes_all (Ok done) a b c text waiting so_far last =

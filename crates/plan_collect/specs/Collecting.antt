@@ -13,7 +13,7 @@ use Rattle.plan_collect.specs.declared.collector.CollectFault.{CollectFault}
 use Rattle.plan_collect.specs.declared.collector.CollectFault.TheVariants.{NoMemory, Stranger, Gap, TooMany, AfterLast, Missing}
 use Rattle.plan_collect.specs.Span.{Bounds, bounds_code}
 use Rattle.plan_collect.specs.Limits.{is_limit, is_size}
-use Rattle.plan_collect.specs.Agenda.{agenda}
+use Rattle.plan_collect.specs.Agenda.{Planned, planned}
 
 -- what contracts see of a collector: the jobs' rules, the span, the limit of entries, the second before which all starts of each
 -- job are held, and for each planner whether its last note was accepted; which starts are held follows from these
@@ -111,8 +111,8 @@ abbrev pub is_complete : Collected → Bool
 is_complete c = list_all (λ upto. upto == c.span.upto) c.covered && list_all (λ has_sent_last. has_sent_last) c.ended
 
 -- the answer of a collector to which nothing more comes
-abbrev pub finished : Collected → Result (List (ℕ × ℕ)) CollectFault
-finished c = if is_complete c then Ok (agenda c.rules c.span) else Err Missing
+abbrev pub finished : Collected → Result Planned CollectFault
+finished c = if is_complete c then Ok (planned c.rules c.span) else Err Missing
 
 -- the sum of the entries' weights
 abbrev pub weigh : (ℕ × ℕ → ℕ) → List (ℕ × ℕ) → ℕ

@@ -11,13 +11,13 @@ use Rattle.plan_collect.specs.declared.serial.PlanFault.{PlanFault}
 use Rattle.plan_collect.specs.declared.serial.PlanFault.TheVariants.{NoMemory, BadSize, Collect, NotSettled, BadLimit}
 use Rattle.plan_collect.specs.Span.{Bounds}
 use Rattle.plan_collect.specs.Limits.{is_limit}
-use Rattle.plan_collect.specs.Agenda.{agenda}
+use Rattle.plan_collect.specs.Agenda.{Planned, agenda, planned}
 
 -- the answer to a plan for at most `limit` entries: the agenda where it has no more, TooMany where it has; a limit out of bounds is
 -- refused first, and NoMemory may come in place of the others
-abbrev pub Plans : Result (List (ℕ × ℕ)) PlanFault → List Rule → Bounds → (limit : ℕ) → Type 0
-Plans (Ok entries) rules span limit =
-    (is_limit limit ≡ true) × (entries ≡ agenda rules span) × (length entries ≤ limit)
+abbrev pub Plans : Result Planned PlanFault → List Rule → Bounds → (limit : ℕ) → Type 0
+Plans (Ok made) rules span limit =
+    (is_limit limit ≡ true) × (made ≡ planned rules span) × (length made.entries ≤ limit)
 Plans (Err NoMemory) rules span limit = is_limit limit ≡ true
 Plans (Err BadSize) rules span limit = ⊥
 Plans (Err (Collect fault)) rules span limit =

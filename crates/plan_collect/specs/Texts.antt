@@ -1,8 +1,9 @@
 -- The text of an agenda.
-use Rattle.std.specs.Prelude.{ℕ, List, [], ◌++◌, codes, Option, Some, None, slice_get}
+use Rattle.std.specs.Prelude.{ℕ, List, [], ◌++◌, codes, decimal, length, Option, Some, None, slice_get}
 use Rattle.std.specs.List.{flat_map}
 use Rattle.plan_sets.specs.Moment.{moment_text_of}
 use Rattle.plan_rules.specs.Job.{JobParts}
+use Rattle.plan_collect.specs.Agenda.{Planned}
 
 -- the line of an entry (own): the moment, the job's name, what it runs
 abbrev pub line_of : ℕ → Option JobParts → List ℕ
@@ -10,6 +11,16 @@ line_of second None = []
 line_of second (Some job) =
     moment_text_of second ++ (codes "\t" ++ (job.name ++ (codes "\t" ++ (job.what ++ codes "\n"))))
 
--- the agenda's text (own): a line for each entry, in order
-abbrev pub agenda_text : List (ℕ × ℕ) → List JobParts → List ℕ
-agenda_text entries jobs = flat_map (λ entry. line_of entry.0 (slice_get jobs entry.1)) entries
+-- the lines of entries, in order
+abbrev pub lines_of : List (ℕ × ℕ) → List JobParts → List ℕ
+lines_of entries jobs = flat_map (λ entry. line_of entry.0 (slice_get jobs entry.1)) entries
+
+-- the first line of an agenda (own): the second form of this text, the moments with which the span begins and before which it
+-- ends, and how many entries there are, in decimal
+abbrev pub header_of : Planned → List ℕ
+header_of made =
+    codes "agenda 2\t" ++ (moment_text_of made.span.since ++ (codes "\t" ++ (moment_text_of made.span.upto ++ (codes "\t" ++ (decimal (length made.entries) ++ codes "\n")))))
+
+-- the agenda's text (own): the first line, then a line for each entry, in order
+abbrev pub agenda_text : Planned → List JobParts → List ℕ
+agenda_text made jobs = header_of made ++ lines_of made.entries jobs

@@ -1,61 +1,82 @@
 //! The agenda: which job starts when.
 
-ghost use Rattle.std.specs.Prelude.{◌≡◌, ◌↔◌, [], length, slice_get, IsTrue};
+ghost use Rattle.std.specs.Prelude.{◌≡◌, ◌≤◌, ◌↔◌, [], length, slice_get, IsTrue};
 ghost use Rattle.plan_collect.specs.Agenda.{IsInYears};
 
+use crate::span::Span;
+use plan_sets::END_SECOND;
 use std::marker::Model;
 
 /// The starts of jobs in a span: pairs of a second and a job's number, ascending by second and then by job.
 #[derive(Debug, Drop)]
 pub struct Agenda {
+    span: Span,
     entries: Vec<(u64, u32)>,
 }
 
 impl Model for Agenda {
-    ghost use Rattle.std.specs.Prelude.{List, ℕ};
-    ghost use Rattle.plan_collect.specs.Agenda.{IsInYears};
+    ghost use Rattle.plan_collect.specs.Agenda.{Planned, planned_code, IsInYears};
 
-    ghost Value = { List (ℕ × ℕ) };
+    ghost Value = { Planned };
 
-    ghost view = { λ agenda. agenda.entries.items };
+    ghost coded = { planned_code };
+
+    ghost view = { λ agenda. record { span = agenda.span; entries = agenda.entries.items } };
 
     ghost invariant = { λ agenda. IsInYears agenda.entries.items };
 }
 
 impl Agenda {
-    // The agenda of these entries.
-    pub(crate) fn new(entries: Vec<(u64, u32)>) -> Agenda
+    // The agenda of these entries, over a span.
+    pub(crate) fn new(span: Span, entries: Vec<(u64, u32)>) -> Agenda
         requires { IsInYears entries.items }
-        ensures { result ≡ entries.items }
+        ensures { result ≡ record { span = span; entries = entries.items } }
     {
-        Agenda { entries }
+        Agenda { span, entries }
+    }
+
+    /// The second with which the agenda's span begins.
+    pub fn since(&self) -> u64
+        ensures value { result ≡ self.now.span.since }
+        ensures ordered { result ≤ self.now.span.upto }
+    {
+        self.span.since()
+    }
+
+    /// The second before which the agenda's span ends.
+    pub fn upto(&self) -> u64
+        ensures value { result ≡ self.now.span.upto }
+        ensures ordered { self.now.span.since ≤ result }
+        ensures years { result ≤ END_SECOND }
+    {
+        self.span.upto()
     }
 
     /// How many entries there are.
     pub fn len(&self) -> usize
-        ensures { result ≡ length self.now }
+        ensures { result ≡ length self.now.entries }
     {
         self.entries.len()
     }
 
     /// Whether there is no entry.
     pub fn is_empty(&self) -> bool
-        ensures { IsTrue result ↔ (self.now ≡ []) }
+        ensures { IsTrue result ↔ (self.now.entries ≡ []) }
     {
         self.entries.is_empty()
     }
 
     /// The entry at a place, from 0: a second and the number of the job that starts then.
     pub fn entry(&self, place: usize) -> Option<(u64, u32)>
-        ensures { result ≡ slice_get self.now place }
+        ensures { result ≡ slice_get self.now.entries place }
     {
         self.entries.get(place).copied()
     }
 
     // The entries, in order.
     pub(crate) fn entries(&self) -> &[(u64, u32)]
-        ensures entries { result.now ≡ self.now }
-        ensures years { IsInYears self.now }
+        ensures entries { result.now ≡ self.now.entries }
+        ensures years { IsInYears self.now.entries }
     {
         &self.entries
     }

@@ -203,15 +203,16 @@ impl Collector {
     /// Takes no memory.
     pub fn finish(self) -> Result<Agenda, CollectFault>
         ensures agenda { result ≡ finished self }
-        ensures few { IfOk result (λ entries. length entries ≤ self.limit) }
-        ensures jobs { IfOk result (IsOfJobs (length self.rules)) }
+        ensures few { IfOk result (λ made. length made.entries ≤ self.limit) }
+        ensures jobs { IfOk result (λ made. IsOfJobs (length self.rules) made.entries) }
     {
         if !self.is_complete() {
             return Err(CollectFault::Missing);
         }
+        let span = self.span;
         let mut entries = self.entries;
         entries.sort_unstable();
-        Ok(Agenda::new(entries))
+        Ok(Agenda::new(span, entries))
     }
 
     // Whether this planner may send the note.

@@ -97,7 +97,7 @@ impl From<NotSettled> for PlanFault {
 /// that, or `NoMemory`.
 pub fn plan_serial(alloc: Global, jobs: &Jobs, span: Span, limit: u64) -> Result<Agenda, PlanFault>
     ensures planned { Plans result (rules_of jobs.now) span limit }
-    ensures jobs { IfOk result (IsOfJobs (length jobs.now)) }
+    ensures jobs { IfOk result (λ made. IsOfJobs (length jobs.now) made.entries) }
 {
     let mut collector = Collector::new(alloc, jobs, span, 1, limit)?;
     for number in 0..jobs.len() {

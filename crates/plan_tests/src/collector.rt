@@ -112,6 +112,7 @@ fn a_collector_of_one_job(rt: HostRuntime) -> Result<(), Fail> {
     assert_answer(&rt, &mut collector, 0, Note::Last, after_last);
     assert_part(&rt, &mut collector, 0, EVERY, 60, 120, after_last)?;
     let agenda = collector.finish()?;
+    assert!(rt; agenda.since() == 0 && agenda.upto() == 120);
     assert_entry(&rt, &agenda, 0, Some((0, 0)));
     assert_entry(&rt, &agenda, 1, Some((60, 0)));
     assert_entry(&rt, &agenda, 2, None);
@@ -194,6 +195,7 @@ fn assert_arrived(rt: &(impl Abort + AllocGlobal), order: &[u8]) -> Result<(), F
     assert_entry(rt, &agenda, 3, Some((120, 0)));
     assert_entry(rt, &agenda, 4, Some((120, 1)));
     assert_entry(rt, &agenda, 5, None);
+    assert!(rt; agenda.since() == 0 && agenda.upto() == 180);
     Ok(())
 }
 

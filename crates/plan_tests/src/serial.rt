@@ -18,7 +18,7 @@ pub fn planned(
     minutes: u64,
     limit: u64,
 ) -> Result<Result<Agenda, PlanFault>, Fail>
-    ensures { IfOk result (λ planned. IfOk planned (IsOfJobs (length jobs.now))) }
+    ensures { IfOk result (λ planned. IfOk planned (λ made. IsOfJobs (length jobs.now) made.entries)) }
 {
     let upto = NEW_YEAR.saturating_add(minutes.saturating_mul(60));
     let span = span(NEW_YEAR, upto)?;

@@ -15,8 +15,9 @@ fn nightly_jobs(alloc: Global) -> Result<Jobs, Fail> {
     )
 }
 
-// The nightly agenda's text, of 65 bytes.
-const NIGHTLY: &str = "2024-01-01T00:00:00Z\tcron:4\tb\n2024-01-01T00:00:00Z\tcron:5\trotate\n";
+// The nightly agenda's text, of 118 bytes: a header of 53, and lines of 30 and 35.
+const NIGHTLY: &str = "agenda 2\t2024-01-01T00:00:00Z\t2024-01-02T00:00:00Z\t2\n\
+    2024-01-01T00:00:00Z\tcron:4\tb\n2024-01-01T00:00:00Z\tcron:5\trotate\n";
 
 // A writer that takes some bytes at a call, and then fails.
 #[derive(Drop)]
@@ -94,7 +95,7 @@ fn assert_writes(
 #[test]
 fn writers_that_fail_after_some_bytes(rt: HostRuntime) -> Result<(), Fail> {
     let device = Err(WriteFault::Device);
-    for room in 0..65 {
+    for room in 0..118 {
         assert_writes(&rt, room, 7, true, false, device)?;
         assert_writes(&rt, room, 7, false, false, device)?;
     }
@@ -103,30 +104,30 @@ fn writers_that_fail_after_some_bytes(rt: HostRuntime) -> Result<(), Fail> {
 
 #[test]
 fn writers_that_take_some_bytes_at_a_call(rt: HostRuntime) -> Result<(), Fail> {
-    for at_a_call in [1, 64, 65, 100] {
-        assert_writes(&rt, 65, at_a_call, true, false, Ok(()))?;
-        assert_writes(&rt, 65, at_a_call, true, true, Err(WriteFault::Device))?;
+    for at_a_call in [1, 117, 118, 200] {
+        assert_writes(&rt, 118, at_a_call, true, false, Ok(()))?;
+        assert_writes(&rt, 118, at_a_call, true, true, Err(WriteFault::Device))?;
     }
     Ok(())
 }
 
-// The text is 1,440 lines of 30 bytes. A buffer of 8,192 bytes is handed on where the next part of a line, of at most 20 bytes,
-// doesn't fit: so each write but the last has at least 8,173 of the 43,200 bytes.
+// The text is a header of 56 bytes, since 1,440 has four digits, and 1,440 lines of 30 bytes. A buffer of 8,192 bytes is handed on
+// where the next part of a line, of at most 20 bytes, doesn't fit: so each write but the last has at least 8,173 of the 43,256 bytes.
 #[test]
 fn a_large_text_goes_out_by_few_writes_and_one_flush(rt: HostRuntime) -> Result<(), Fail> {
     let jobs = user_jobs(rt.alloc(), "* * * * * x")?;
     let agenda = planned(rt.alloc(), &jobs, 1_440, 1_440)??;
     let mut out = LimitedWriter {
         taken: Vec::new(rt.alloc()),
-        room: 43_200,
-        at_a_call: 43_200,
+        room: 43_256,
+        at_a_call: 43_256,
         errs: true,
         flush_fails: false,
         writes: 0,
         flushes: 0,
     };
     assert!(rt; write_agenda(&agenda, &jobs, &mut out).is_ok());
-    assert_eq!(rt; out.taken.len(), 43_200);
+    assert_eq!(rt; out.taken.len(), 43_256);
     assert!(rt; out.writes <= 6);
     assert_eq!(rt; out.flushes, 1);
     Ok(())

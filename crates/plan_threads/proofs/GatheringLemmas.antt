@@ -10,7 +10,7 @@ use Rattle.plan_collect.specs.declared.note.Note.TheVariants as note
 use Rattle.plan_collect.specs.declared.collector.CollectFault.{CollectFault}
 use Rattle.plan_collect.specs.declared.collector.CollectFault.TheVariants as collect
 use Rattle.plan_collect.specs.declared.serial.PlanFault.{PlanFault}
-use Rattle.plan_collect.specs.Agenda.{agenda}
+use Rattle.plan_collect.specs.Agenda.{Planned, agenda}
 use Rattle.plan_collect.specs.Span.{Bounds}
 use Rattle.plan_collect.specs.Limits.{is_size}
 use Rattle.plan_collect.specs.Collecting.{Collected, begun, refusal, after, is_complete}
@@ -283,7 +283,7 @@ planners_kin c new rings rings' k (thread ∷ threads) own whole most size same 
   planners_kin c new rings rings' (k + 1) threads own whole most size same are.1,
 )
 
-pub ends_kin : (c new : Collected) (r : Result (List (ℕ × ℕ)) PlanFault) → new.rules ≡ c.rules → new.span ≡ c.span → new.limit ≡ c.limit → Ends r new.rules new.span new.limit → Ends r c.rules c.span c.limit
+pub ends_kin : (c new : Collected) (r : Result Planned PlanFault) → new.rules ≡ c.rules → new.span ≡ c.span → new.limit ≡ c.limit → Ends r new.rules new.span new.limit → Ends r c.rules c.span c.limit
 ends_kin c new r own whole most ends = subst (λ (limit : ℕ). Ends r c.rules c.span limit) most (subst (λ (span : Bounds). Ends r c.rules span new.limit) whole (subst (λ (rules : List Rule). Ends r rules new.span new.limit) own ends))
 
 pub ok_map : (r : Result (Unit {0}) PlanFault) (A B : Type 0) → (A → B) → OnOk r A → OnOk r B

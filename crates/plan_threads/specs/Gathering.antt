@@ -7,7 +7,7 @@ use Rattle.plan_collect.specs.declared.collector.CollectFault.TheVariants as col
 use Rattle.plan_collect.specs.declared.collector.CollectFault.TheVariants.{TooMany}
 use Rattle.plan_collect.specs.declared.serial.PlanFault.{PlanFault}
 use Rattle.plan_collect.specs.declared.serial.PlanFault.TheVariants as plan
-use Rattle.plan_collect.specs.Agenda.{agenda, rules_of, IsOfJobs}
+use Rattle.plan_collect.specs.Agenda.{Planned, agenda, planned, rules_of, IsOfJobs}
 use Rattle.plan_collect.specs.Span.{Bounds}
 use Rattle.plan_collect.specs.Collecting.{Collected, begun, refusal, after, is_complete}
 use Rattle.plan_collect.specs.Merging.{answer_to}
@@ -89,8 +89,9 @@ IsThreadFault plan.NoMemory = Unit {0}
 IsThreadFault fault = ⊥
 
 -- the answer to a plan of good size and limit
-abbrev pub Ends : Result (List (ℕ × ℕ)) PlanFault → List Rule → Bounds → (limit : ℕ) → Type 0
-Ends (Ok entries) rules span limit = (entries ≡ agenda rules span) × (length entries ≤ limit) × IsOfJobs (length rules) entries
+abbrev pub Ends : Result Planned PlanFault → List Rule → Bounds → (limit : ℕ) → Type 0
+Ends (Ok made) rules span limit =
+    (made ≡ planned rules span) × (length made.entries ≤ limit) × IsOfJobs (length rules) made.entries
 Ends (Err (plan.Collect fault)) rules span limit = (fault ≡ TooMany) × (limit < length (agenda rules span))
 Ends (Err fault) rules span limit = IsThreadFault fault
 

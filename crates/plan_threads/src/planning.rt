@@ -42,7 +42,7 @@ pub fn plan<R: Threads + Wait + Sync, G: Gate>(
     room: usize,
 ) -> Result<Agenda, PlanFault>
     ensures planned { PlansBy result (rules_of jobs.now) span limit planners room }
-    ensures jobs { IfOk result (IsOfJobs (length jobs.now)) }
+    ensures jobs { IfOk result (λ made. IsOfJobs (length jobs.now) made.entries) }
 {
     if planners < 1 || planners > MOST_PLANNERS || room < 1 || room > MOST_ROOM {
         return Err(PlanFault::BadSize);

@@ -124,17 +124,17 @@ fn ends_send_and_settle(rt: HostRuntime) -> Result<(), Fail> {
     Ok(())
 }
 
-// A writer with room for a line.
+// A writer with room for a header and a line.
 #[derive(Drop)]
-struct Line {
-    bytes: [u8; 64],
+struct Lines {
+    bytes: [u8; 128],
     len: usize,
 }
 
-impl Write for Line {
+impl Write for Lines {
     fn write(&mut self, bytes: &[u8]) -> io::Result<usize> {
-        let len = self.len.min(64);
-        let count = bytes.len().min(64 - len);
+        let len = self.len.min(128);
+        let count = bytes.len().min(128 - len);
         self.bytes[len..len + count].copy_from_slice(&bytes[..count]);
         self.len = len + count;
         Ok(count)
@@ -146,8 +146,8 @@ impl Write for Line {
 }
 
 // A writer has these bytes.
-fn assert_line(rt: &impl Abort, line: &Line, text: &str) {
-    assert!(rt; line.bytes.get(..line.len) == Some(text.as_bytes()));
+fn assert_lines(rt: &impl Abort, lines: &Lines, text: &str) {
+    assert!(rt; lines.bytes.get(..lines.len) == Some(text.as_bytes()));
 }
 
 #[test]
@@ -158,23 +158,26 @@ fn an_agenda_is_written(rt: HostRuntime) -> Result<(), Fail> {
     }
     let agenda = plan_serial(rt.alloc(), &jobs, Span::new(0, 86_400)?, 10)?;
     let (mut out, mut err) = (
-        Line {
-            bytes: [0; 64],
+        Lines {
+            bytes: [0; 128],
             len: 0,
         },
-        Line {
-            bytes: [0; 64],
+        Lines {
+            bytes: [0; 128],
             len: 0,
         },
     );
     let ended = ends(rt.alloc());
     let span = Span::new(5, 86_400).expect(&rt, "a span");
     assert!(rt; span.since() == 5 && span.upto() == 86_400);
+    assert!(rt; agenda.since() == 0 && agenda.upto() == 86_400);
     assert!(rt; agenda.len() == 1 && agenda.entry(0) == Some((0, 0)) && agenda.entry(1).is_none());
     assert!(rt; write_agenda(&agenda, &jobs, &mut out).is_ok());
-    assert_line(&rt, &out, "1970-01-01T00:00:00Z\tcron:1\tb\n");
+    let text = "agenda 2\t1970-01-01T00:00:00Z\t1970-01-02T00:00:00Z\t1\n\
+        1970-01-01T00:00:00Z\tcron:1\tb\n";
+    assert_lines(&rt, &out, text);
     assert!(rt; fault_line(&Failure::Run(RunFault::NoMemory), &[], &mut err) == 3);
-    assert_line(&rt, &err, "agenda: NoMemory\n");
+    assert_lines(&rt, &err, "agenda: NoMemory\n");
     assert_ended(&rt, ended);
     Ok(())
 }

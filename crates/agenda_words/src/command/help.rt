@@ -63,11 +63,12 @@ from 1 to 1000000";
 pub(super) const TIMER: &str = "The path of a systemd timer's file, as backup.timer";
 
 pub(super) const AFTER_PLAN: &str = "\
-Prints a line for each start in the span: the moment, the job's name and what it runs,
-with a tab between. The lines are in order of moments; at one moment in order of jobs,
-first the user crontab's, then the system crontab's, then the timers as given. Where
-there are more starts than the limit, none is printed. The number of planners and their
-room change no line. The formats of the files are described in agenda(1).
+Prints a header line with the span and the number of starts, and a line for each start:
+the moment, the job's name and what it runs, with a tab between. The lines are in order
+of moments; at one moment in order of jobs, first the user crontab's, then the system
+crontab's, then the timers as given. Where there are more starts than the limit, nothing
+is printed. The number of planners and their room change no line. The formats of the
+files are described in agenda(1).
 
 Example:
   agenda plan --since 2024-01-01T00:00:00Z --upto 2024-01-02T00:00:00Z \\

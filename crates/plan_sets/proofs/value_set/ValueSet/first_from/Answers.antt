@@ -63,7 +63,7 @@ returns c =
     elim (cases_lt fields.used (c.saturating_sub-start.result / word_bits)) [
       | inl past ↦ is_marked-unused fields.words fields.used k c.self.invariant.3 (omega arith)
       | inr _ ↦ elim (cases_lt k (fields.used * word_bits)) [
-          | inl used ↦ c.loop-index.invariant k (omega arith) (omega arith)
-          | inr after ↦ is_marked-unused fields.words fields.used k c.self.invariant.3 (omega arith)
-        ]
+        | inl used ↦ c.loop-index.invariant k (omega arith) (omega arith)
+        | inr after ↦ is_marked-unused fields.words fields.used k c.self.invariant.3 (omega arith)
+      ]
     ])

@@ -22,8 +22,7 @@ invariant_of-self c =
     let fields = c.self.inside in
     let bases = base-values_at fields.base (is_marked fields.words) c.args.self.now c.self.view_is in
     let offset = c.args.v - fields.base in
-    let within : offset / word_bits < length fields.words = omega arith in
-    (
+    let within : offset / word_bits < length fields.words = omega arith in (
       c.self.invariant.0,
       rw c.from.ensures (AreWords-more fields.words offset within c.self.invariant.1),
       omega arith,
