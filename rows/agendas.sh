@@ -2,7 +2,7 @@
 # Rows of bin/check-examples: what `agenda plan` writes whatever the number of planners and their room: agendas of one piece and of many,
 # up to the largest, and which limits and sizes it refuses.
 
-agendas_folder="$room/agendas"
+agendas_folder="$work/agendas"
 
 # Plans in the folder of the files from the start of 2024 up to the moment $1, with these further words.
 agendas_plan() {
@@ -29,12 +29,12 @@ agendas_files() {
 # Compares the plan up to the moment $1 with the lines of the file `agenda.wanted`, behind the header, for each number of planners of $2 and
 # each room of $3, with these further words.
 agendas_same() {
-  local upto=$1 planners=$2 rooms=$3 many places
+  local upto=$1 planners=$2 places=$3 many place
   shift 3
   for many in $planners; do
-    for places in $rooms; do
-      agendas_plan "$upto" --planners "$many" --room "$places" "$@"
-      compare_agenda "an agenda by $many planners, room $places, up to $upto: $*" "$room/agenda.wanted"
+    for place in $places; do
+      agendas_plan "$upto" --planners "$many" --room "$place" "$@"
+      compare_agenda "an agenda by $many planners, room $place, up to $upto: $*" "$work/agenda.wanted"
     done
   done
 }
@@ -45,8 +45,8 @@ agendas_whole() {
   while IFS='|' read -r since upto words text; do
     # shellcheck disable=SC2086
     run_in "$agendas_folder" agenda plan --since "$since" --upto "$upto" $words
-    printf '%b' "$text" >"$room/agenda.wanted"
-    compare "the whole agenda from $since to $upto: $words" "$room/agenda.wanted" /dev/null 0
+    printf '%b' "$text" >"$work/agenda.wanted"
+    compare "the whole agenda from $since to $upto: $words" "$work/agenda.wanted" /dev/null 0
   done
 }
 
@@ -55,9 +55,9 @@ agendas_counted() {
   local starts upto
   while IFS='|' read -r starts upto; do
     agendas_plan "$upto" --limit 1000000 s.timer
-    tail -n +2 "$room/out" | wc -l >"$room/behind"
-    head -n 1 "$room/out" | cat - "$room/behind" >"$room/counted"
-    mv "$room/counted" "$room/out"
+    tail -n +2 "$work/out" | wc -l >"$work/behind"
+    head -n 1 "$work/out" | cat - "$work/behind" >"$work/counted"
+    mv "$work/counted" "$work/out"
     compare_texts "a header of $starts starts" \
       "agenda 2${tab}2024-01-01T00:00:00Z$tab$upto$tab$starts"$'\n'"$starts"$'\n' '' 0
   done
@@ -68,7 +68,7 @@ agendas_counted() {
 agendas_written() {
   local upto words agenda
   while IFS='|' read -r upto words agenda; do
-    printf '%b' "${agenda//@/2024-01-01T}" >"$room/agenda.wanted"
+    printf '%b' "${agenda//@/2024-01-01T}" >"$work/agenda.wanted"
     # shellcheck disable=SC2086
     agendas_same "${upto/@/2024-01-01T}" "1 2 3 4 5 6 7 8" "1 1024" $words
   done
@@ -89,7 +89,7 @@ agendas_of_an_hour() {
   local minute
   for minute in {00..59}; do
     echo "2024-01-01T00:$minute:00Z${tab}cron:1${tab}x"
-  done >"$room/agenda.wanted"
+  done >"$work/agenda.wanted"
   agendas_same 2024-01-01T01:00:00Z "1 2 8" 1 --limit 60 --crontab minutes
   agendas_same 2024-01-01T01:00:00Z "1 2 8" 1 --limit 1000000 --crontab minutes
 }
@@ -103,7 +103,7 @@ agendas_of_every_second() {
         echo "2024-01-01T$hour:$minute:${second}Z${tab}s.timer${tab}s.service"
       done
     done
-  done >"$room/agenda.wanted"
+  done >"$work/agenda.wanted"
   agendas_same 2024-01-02T00:00:00Z "1 2 8" "1 1024" --limit 86400 s.timer
 }
 
@@ -116,9 +116,9 @@ agendas_of_a_thousand_jobs() {
       for (job = 1; job <= 1000; job++)
         print moment "\tcron:" job "\tx"
     }
-  }' >"$room/agenda.wanted"
+  }' >"$work/agenda.wanted"
   agendas_same 2024-01-01T16:40:00Z "1 8" 1 --limit 1000000 --crontab thousand
-  run_in "$room" wc -c agenda.headed
+  run_in "$work" wc -c agenda.headed
   compare_texts "the bytes of the largest agenda" $'31893059 agenda.headed\n' '' 0
 }
 
@@ -127,7 +127,7 @@ agendas_of_a_long_line() {
   local long moment="2024-01-01T00:00:00Z"
   long=$(printf 'x%.0s' {1..9000})
   printf '@daily a\n@daily %s\n@daily c\n' "$long" >"$agendas_folder/long"
-  printf '%s\tcron:%d\t%s\n' "$moment" 1 a "$moment" 2 "$long" "$moment" 3 c >"$room/agenda.wanted"
+  printf '%s\tcron:%d\t%s\n' "$moment" 1 a "$moment" 2 "$long" "$moment" 3 c >"$work/agenda.wanted"
   agendas_same 2024-01-02T00:00:00Z "1 2 8" 1 --limit 3 --crontab long
 }
 

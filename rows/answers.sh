@@ -2,7 +2,7 @@
 # Rows of bin/check-examples: what the program does with what it is asked for: which fault comes first, what of a plan's sources is
 # read, and on which stream the answer goes out.
 
-answers_folder="$room/answers"
+answers_folder="$work/answers"
 answers_begin="2024-01-01T00:00:00Z"
 mkdir -p "$answers_folder/t"
 printf '* * * * * x\n' >"$answers_folder/minutes"
@@ -42,8 +42,8 @@ answers_of_plan() {
   while IFS='>' read -r upto words lines; do
     read -ra words <<<"$words"
     run_in "$answers_folder" agenda plan --since "$answers_begin" --upto "$upto" "${words[@]}"
-    printf '%s' "$lines" | tr ';,' "\n$tab" | sed 's/^/2024-01-01T/' >"$room/agenda.wanted"
-    compare_agenda "plan up to $upto ${words[*]}" "$room/agenda.wanted"
+    printf '%s' "$lines" | tr ';,' "\n$tab" | sed 's/^/2024-01-01T/' >"$work/agenda.wanted"
+    compare_agenda "plan up to $upto ${words[*]}" "$work/agenda.wanted"
   done
 }
 
@@ -92,9 +92,9 @@ answers_of_plan <<'END'
 END
 
 # Sixty starts of an hour: a limit of 60 is enough.
-seq -f "2024-01-01T00:%02.0f:00Z${tab}cron:1${tab}x" 0 59 >"$room/agenda.wanted"
+seq -f "2024-01-01T00:%02.0f:00Z${tab}cron:1${tab}x" 0 59 >"$work/agenda.wanted"
 run_in "$answers_folder" agenda plan --since "$answers_begin" --upto 2024-01-01T01:00:00Z --limit 60 --crontab minutes
-compare_agenda "a limit of as many starts as there are" "$room/agenda.wanted"
+compare_agenda "a limit of as many starts as there are" "$work/agenda.wanted"
 run_in "$answers_folder" agenda plan --since "$answers_begin" --upto 2024-01-01T01:00:00Z --limit 59 --crontab minutes
 is_refused "a limit of one start less" "plan: TooMany" 1
 

@@ -154,9 +154,9 @@ cron_ones() {
 # Long fields: one of 100,001 bytes as a word, and one of 800,001 bytes in a file.
 cron_long_fields() {
   lists_one --cron "$(cron_ones 50001) * * * *" 2024-01-01T00:00:00Z '2024-01-01T00:01:00Z 01:01:00Z'
-  { cron_ones 400001 && printf ' * * * * a\n'; } >"$room/long.crontab"
-  [ "$(head -c 800002 "$room/long.crontab" | tail -c 2)" = "1 " ] || refuse "no field of 800,001 bytes"
-  run_in "$room" agenda plan --since 2024-01-01T00:00:00Z --upto 2024-01-01T02:00:00Z --crontab long.crontab
+  { cron_ones 400001 && printf ' * * * * a\n'; } >"$work/long.crontab"
+  [ "$(head -c 800002 "$work/long.crontab" | tail -c 2)" = "1 " ] || refuse "no field of 800,001 bytes"
+  run_in "$work" agenda plan --since 2024-01-01T00:00:00Z --upto 2024-01-01T02:00:00Z --crontab long.crontab
   compare_lines "a field of 800,001 bytes" \
     "2024-01-01T00:01:00Z${tab}cron:1${tab}a"$'\n'"2024-01-01T01:01:00Z${tab}cron:1${tab}a"$'\n'
 }

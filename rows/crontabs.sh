@@ -2,7 +2,7 @@
 # Rows of what `agenda plan` reads of crontabs: names of jobs, what they run, their rules, lines that are refused, sizes, and how many jobs
 # there may be. bin/check-examples runs this file. Texts are written with the escapes of printf's %b.
 
-crontabs_folder="$room/crontabs"
+crontabs_folder="$work/crontabs"
 
 # Runs `agenda plan` from the moment $2 to the moment $3 on the file `crontab`, which is a crontab of kind $1, user or system. The crontab
 # of the other kind has $4 jobs @reboot, which print nothing.
@@ -27,9 +27,9 @@ crontabs_jobs() {
     IFS='|' read -r -a list <<<"$jobs"
     for job in "${list[@]}"; do
       printf '%s:00Z\t%s\t%b\n' "$minute" "${job%% *}" "${job#* }"
-    done >"$room/jobs.wanted"
+    done >"$work/jobs.wanted"
     crontabs_run "$kind" "$minute:00Z" "$minute:59Z" $((1000 - ${#list[@]}))
-    compare_agenda "jobs of the $kind crontab '$text'" "$room/jobs.wanted"
+    compare_agenda "jobs of the $kind crontab '$text'" "$work/jobs.wanted"
   done
 }
 
@@ -50,26 +50,26 @@ crontabs_refused() {
 crontabs_rule() {
   printf '%b' "$2" >"$crontabs_folder/crontab"
   crontabs_run "$1" "$3" "$4" $((1000 - $5))
-  compare_agenda "starts of the $1 crontab '$2' from $3 to $4" "$room/jobs.wanted"
+  compare_agenda "starts of the $1 crontab '$2' from $3 to $4" "$work/jobs.wanted"
   crontabs_run "$1" "$3" "$4" $((1001 - $5))
   is_refused "jobs of the $1 crontab '$2' are $5" "jobs: Full" 1
 }
 
 crontabs_rules() {
   local since=2024-01-01T00:00:00Z
-  : >"$room/jobs.wanted"
+  : >"$work/jobs.wanted"
   crontabs_rule user '@reboot a' 1970-01-01T00:00:00Z 3000-01-01T00:00:00Z 1
   crontabs_rule system '@reboot root a' 1970-01-01T00:00:00Z 3000-01-01T00:00:00Z 1
   # each midnight of 2024
-  crontabs_starts 1704067200 86400 1735603200 cron:1 b >"$room/jobs.wanted"
+  crontabs_starts 1704067200 86400 1735603200 cron:1 b >"$work/jobs.wanted"
   crontabs_rule user '@daily b' "$since" 2025-01-01T00:00:00Z 1
   # the second job's rule
-  crontabs_starts 1704067200 86400 1735603200 cron:4 b >"$room/jobs.wanted"
+  crontabs_starts 1704067200 86400 1735603200 cron:4 b >"$work/jobs.wanted"
   crontabs_rule user '# nightly\nMAILTO=x\n@reboot a\n@daily b' "$since" 2025-01-01T00:00:00Z 2
-  printf '2024-01-01T%s\n' "00:00:00Z${tab}cron:2${tab}y" "04:30:00Z${tab}cron:1${tab}x" >"$room/jobs.wanted"
+  printf '2024-01-01T%s\n' "00:00:00Z${tab}cron:2${tab}y" "04:30:00Z${tab}cron:1${tab}x" >"$work/jobs.wanted"
   crontabs_rule user '30 4 * * * x\n@daily y' "$since" 2024-01-02T00:00:00Z 2
   # 17 minutes past each hour of a day
-  crontabs_starts 1704068220 3600 1704151020 system:1 "root cd / && run-parts x" >"$room/jobs.wanted"
+  crontabs_starts 1704068220 3600 1704151020 system:1 "root cd / && run-parts x" >"$work/jobs.wanted"
   crontabs_rule system '17 * * * * root cd / && run-parts x' "$since" 2024-01-02T00:00:00Z 1
 }
 
@@ -101,9 +101,9 @@ crontabs_sizes() {
   printf '\xff%1048576s' '' >"$file"
   crontabs_user_refused "a crontab of \\xff and 1,048,576 blanks" "$large"
   { printf '30 4 * * * x\n@daily y\n#' && yes c | tr -d '\n'; } | head -c 1048576 >"$file"
-  printf '2024-01-01T%s\n' "00:00:00Z${tab}cron:2${tab}y" "04:30:00Z${tab}cron:1${tab}x" >"$room/jobs.wanted"
+  printf '2024-01-01T%s\n' "00:00:00Z${tab}cron:2${tab}y" "04:30:00Z${tab}cron:1${tab}x" >"$work/jobs.wanted"
   crontabs_run user 2024-01-01T00:00:00Z 2024-01-02T00:00:00Z 998
-  compare_agenda "two jobs of a crontab of 1,048,576 bytes" "$room/jobs.wanted"
+  compare_agenda "two jobs of a crontab of 1,048,576 bytes" "$work/jobs.wanted"
   printf c >>"$file"
   crontabs_user_refused "two jobs of a crontab of 1,048,577 bytes" "$large"
 }
@@ -111,9 +111,9 @@ crontabs_sizes() {
 # 400,001 elements of one field, which are the minute 1 of each hour of 2024.
 crontabs_largest_field() {
   { yes 1, | head -n 400000 | tr -d '\n' && printf '1 * * * * x'; } >"$crontabs_folder/crontab"
-  crontabs_starts 1704067260 3600 1735686060 cron:1 x >"$room/jobs.wanted"
+  crontabs_starts 1704067260 3600 1735686060 cron:1 x >"$work/jobs.wanted"
   crontabs_run user 2024-01-01T00:00:00Z 2025-01-01T00:00:00Z 999
-  compare_agenda "a field of 400,001 elements" "$room/jobs.wanted"
+  compare_agenda "a field of 400,001 elements" "$work/jobs.wanted"
 }
 
 # 1,000 jobs, more of them, and jobs behind as many lines as there may be.
@@ -121,8 +121,8 @@ crontabs_numbers() {
   local file="$crontabs_folder/crontab" since=2024-01-01T00:00:00Z
   yes '30 4 1,15 * 5 x' | head -n 1000 >"$file"
   crontabs_run user "$since" 2024-01-02T00:00:00Z 0
-  seq -f "2024-01-01T04:30:00Z${tab}cron:%.0f${tab}x" 1000 >"$room/jobs.wanted"
-  compare_agenda "1,000 jobs of one crontab" "$room/jobs.wanted"
+  seq -f "2024-01-01T04:30:00Z${tab}cron:%.0f${tab}x" 1000 >"$work/jobs.wanted"
+  compare_agenda "1,000 jobs of one crontab" "$work/jobs.wanted"
   yes '30 4 1,15 * 5 x' | head -n 1001 >"$file"
   crontabs_user_refused "1,001 jobs of one crontab" "jobs: Full"
   yes '* * * * * x' | head -n 87381 >"$file"

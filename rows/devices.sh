@@ -2,7 +2,7 @@
 # Rows of bin/check-examples: paths that are no plain files, and streams that fail: what has no end is read up to one byte more than a file
 # may have, a pipe may end anywhere, and a status doesn't hang on standard error. The walks of bin/check-examples have more of them.
 
-devices_folder="$room/devices"
+devices_folder="$work/devices"
 mkdir "$devices_folder"
 ln -s /dev/zero "$devices_folder/zero.timer"
 ln -s loop.timer "$devices_folder/loop.timer"
@@ -36,11 +36,11 @@ devices_pipes() {
     export WRITER="{ $writer; } >${words##* }"
     # the writer waits for the program to open the pipe, and no longer than 10 s
     devices_run "timeout 10 bash -c \"\$WRITER\" & agenda ${words/plan/plan $devices_day}; ended=\$?; wait; exit \$ended"
-    printf '%b' "${answer:2}" >"$room/answer.wanted"
+    printf '%b' "${answer:2}" >"$work/answer.wanted"
     case ${answer:0:1}${words%% *} in
-      0plan) compare_agenda "'$writer' to agenda $words" "$room/answer.wanted" ;;
-      0*) compare "'$writer' to agenda $words" "$room/answer.wanted" /dev/null 0 ;;
-      *) compare "'$writer' to agenda $words" /dev/null "$room/answer.wanted" 1 ;;
+      0plan) compare_agenda "'$writer' to agenda $words" "$work/answer.wanted" ;;
+      0*) compare "'$writer' to agenda $words" "$work/answer.wanted" /dev/null 0 ;;
+      *) compare "'$writer' to agenda $words" /dev/null "$work/answer.wanted" 1 ;;
     esac
   done
   unset WRITER

@@ -188,9 +188,9 @@ events_long_list() {
     printf '[Timer]\nOnCalendar=%s' "$1"
     yes ',1' | head -n 500000 | tr -d '\n'
     printf '%s\n' "$2"
-  } >"$room/long.timer"
-  [ "$(wc -c <"$room/long.timer")" -gt 1000000 ] || refuse "no list of 1,000,000 bytes"
-  run_in "$room" agenda plan --since 2024-01-01T00:00:00Z --upto 2024-02-01T00:00:00Z long.timer
+  } >"$work/long.timer"
+  [ "$(wc -c <"$work/long.timer")" -gt 1000000 ] || refuse "no list of 1,000,000 bytes"
+  run_in "$work" agenda plan --since 2024-01-01T00:00:00Z --upto 2024-02-01T00:00:00Z long.timer
   compare_lines "a list of 1,000,000 bytes: $1,1,..$2" "$3${tab}long.timer${tab}long.service"$'\n'
 }
 

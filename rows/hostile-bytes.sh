@@ -6,7 +6,7 @@
 # shellcheck source=/dev/null
 . "$top/rows/lib/parts.sh"
 
-hostile_folder="$room/hostile"
+hostile_folder="$work/hostile"
 mkdir "$hostile_folder"
 hostile_week=(--since 2024-01-01T00:00:00Z --upto 2024-01-08T00:00:00Z)
 hostile_hour=(--since 2024-01-01T00:00:00Z --upto 2024-01-01T01:00:00Z)

@@ -3,7 +3,7 @@
 # reads, 16 for each start that its limit lets it hold, and 8 MB for the program, its threads and their stacks of 512 KB. A run that needs
 # more memory would answer NoMemory, and one that takes longer is ended.
 
-largest_folder="$room/largest"
+largest_folder="$work/largest"
 mkdir "$largest_folder"
 largest_since="2024-01-01T00:00:00Z"
 largest_day=(--since "$largest_since" --upto 2024-01-02T00:00:00Z)
@@ -52,12 +52,12 @@ largest_lines() {
   long=$(yes x | tr -d '\n' | head -c 1048569)
   printf '@daily %s' "$long" >"$largest_folder/line"
   largest_run line 1 plan "${largest_day[@]}" --crontab line
-  printf '%s\tcron:1\t%s\n' "$largest_since" "$long" >"$room/agenda.wanted"
-  compare_agenda "a line of 1,048,576 bytes, most of them the command" "$room/agenda.wanted"
+  printf '%s\tcron:1\t%s\n' "$largest_since" "$long" >"$work/agenda.wanted"
+  compare_agenda "a line of 1,048,576 bytes, most of them the command" "$work/agenda.wanted"
   { printf '[Timer]\nOnCalendar=daily\nUnit=' && yes x | tr -d '\n'; } | largest_file line.timer 1048576
   largest_run line.timer 1 plan "${largest_day[@]}" line.timer
-  printf '%s\tline.timer\t%s\n' "$largest_since" "${long:0:1048546}" >"$room/agenda.wanted"
-  compare_agenda "a timer of 1,048,576 bytes, most of them the unit" "$room/agenda.wanted"
+  printf '%s\tline.timer\t%s\n' "$largest_since" "${long:0:1048546}" >"$work/agenda.wanted"
+  compare_agenda "a timer of 1,048,576 bytes, most of them the unit" "$work/agenda.wanted"
   yes 1 | tr -d '\n' | largest_file digits 1048576
   largest_text "a line of 1,048,576 digits" digits "agenda: crontab: line 1: part 0: WrongParts"
   { yes 1 | tr -d '\n' | head -c 1048566 && printf ' * * * * x'; } | largest_file digits 1048576
@@ -97,10 +97,10 @@ largest_jobs() {
     for (text = "x"; length(text) < 1041;) text = text "x"
     for (job = 1; job <= 1000; job++) print "@daily " substr(text, 1, job <= 576 ? 1041 : 1040)
   }' >"$largest_folder/jobs"
-  awk -v OFS='\t' -v since="$largest_since" '{ print since, "cron:" NR, substr($0, 8) }' "$largest_folder/jobs" >"$room/agenda.wanted"
+  awk -v OFS='\t' -v since="$largest_since" '{ print since, "cron:" NR, substr($0, 8) }' "$largest_folder/jobs" >"$work/agenda.wanted"
   for planners in 1 8; do
     largest_run jobs 1000 plan "${largest_day[@]}" --limit 1000 --planners "$planners" --room 1 --crontab jobs
-    compare_agenda "1,000 jobs of 1,048,576 bytes by $planners planners" "$room/agenda.wanted"
+    compare_agenda "1,000 jobs of 1,048,576 bytes by $planners planners" "$work/agenda.wanted"
   done
   yes '@daily x' | largest_file jobs 1048572
   largest_text "116,508 jobs" jobs "agenda: jobs: Full"
@@ -124,13 +124,13 @@ largest_agendas() {
   local planners
   yes '* * * * * x' | head -n 1000 >"$largest_folder/minutes"
   printf '[Timer]\nOnCalendar=*:*:*\n' >"$largest_folder/s.timer"
-  seq -f "$largest_since${tab}cron:%.0f${tab}x" 1000 >"$room/agenda.wanted"
+  seq -f "$largest_since${tab}cron:%.0f${tab}x" 1000 >"$work/agenda.wanted"
   largest_run minutes 1000 plan --since "$largest_since" --upto 2024-01-01T00:01:00Z --limit 1000 --planners 8 --room 1 --crontab minutes
-  compare_agenda "1,000 jobs of a minute by 8 planners, room 1, limit 1,000" "$room/agenda.wanted"
+  compare_agenda "1,000 jobs of a minute by 8 planners, room 1, limit 1,000" "$work/agenda.wanted"
   for planners in 1 8; do
     largest_run minutes 1000000 plan --since "$largest_since" --upto 2024-01-01T16:40:00Z --limit 1000000 --planners "$planners" \
       --crontab minutes
-    mv "$room/out" "$largest_folder/out"
+    mv "$work/out" "$largest_folder/out"
     # shellcheck disable=SC2016
     run_in "$largest_folder" sh -c 'head -n 1 out; tail -n +2 out >lines; wc -l <lines
       cut -f 1 lines | uniq -c | sort -k 1,1 -u | awk "{ print \$1 }"; tail -n 1 lines'

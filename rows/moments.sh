@@ -9,7 +9,7 @@ moments_refused() {
   local cause text
   while IFS='|' read -r cause text; do
     printf -v text '%b' "$text"
-    run_in "$room" agenda next --cron @daily "--after=$text"
+    run_in "$work" agenda next --cron @daily "--after=$text"
     is_refused "agenda next --after='$text'" "after: $cause" 1
   done
 }

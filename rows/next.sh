@@ -3,7 +3,7 @@
 
 # Runs `agenda next` for the rule $3 of the option --$2, after the moment $1 and with the count $4.
 next_run() {
-  run_in "$room" agenda next --after "$1" --count "$4" "--$2" "$3"
+  run_in "$work" agenda next --after "$1" --count "$4" "--$2" "$3"
 }
 
 # Rows of standard input: the option, a rule, a moment and the lines that follow it, as many as are asked for.
@@ -32,9 +32,9 @@ next_thousand_starts() {
     for minute in {00..59}; do
       echo "2024-01-01T$hour:$minute:00Z"
     done
-  done | sed -n 2,1001p >"$room/starts"
+  done | sed -n 2,1001p >"$work/starts"
   next_run "2024-01-01T00:00:00Z" cron "* * * * *" 1000
-  compare "next: a thousand starts" "$room/starts" /dev/null 0
+  compare "next: a thousand starts" "$work/starts" /dev/null 0
 }
 
 # In turn: either day field suffices; a star stands first, so both day fields must match; a step from a star; weekday 7 is Sunday; a

@@ -2,7 +2,7 @@
 # Rows of bin/check-examples: what `agenda plan` makes of its sources and its numbers: how many planners, how much room and which limit,
 # the order of jobs, which fault comes first, and how many jobs there may be.
 
-plans_folder="$room/plans"
+plans_folder="$work/plans"
 plans_since="2024-01-01T00:00:00Z"
 plans_sources=()
 mkdir -p "$plans_folder"
@@ -44,8 +44,8 @@ plans_jobs() {
   while IFS='|' read -r crontab system timers jobs; do
     plans_make "$crontab" "$system" "$timers"
     plans_run "2024-01-01T00:00:01Z"
-    printf '%s' "${jobs:+$jobs;}" | tr ';|' "\n$tab" | sed "s/^/$plans_since$tab/" >"$room/agenda.wanted"
-    compare_agenda "the jobs of '$crontab', '$system' and '$timers'" "$room/agenda.wanted"
+    printf '%s' "${jobs:+$jobs;}" | tr ';|' "\n$tab" | sed "s/^/$plans_since$tab/" >"$work/agenda.wanted"
+    compare_agenda "the jobs of '$crontab', '$system' and '$timers'" "$work/agenda.wanted"
   done
 }
 
@@ -100,8 +100,8 @@ plans_of_a_thousand_jobs() {
   lines=$(yes '* * * * * x' | head -n 1000)
   plans_make "$lines\n" - ''
   plans_run "2024-01-01T00:00:01Z"
-  seq -f "$plans_since${tab}cron:%g${tab}x" 1000 >"$room/agenda.wanted"
-  compare_agenda "a thousand jobs" "$room/agenda.wanted"
+  seq -f "$plans_since${tab}cron:%g${tab}x" 1000 >"$work/agenda.wanted"
+  compare_agenda "a thousand jobs" "$work/agenda.wanted"
   plans_make "$lines\n" x ''
   plans_run "2024-01-01T00:00:01Z"
   is_refused "a thousand jobs, and a faulty source" "system crontab: line 1: BadSetting" 1

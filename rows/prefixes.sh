@@ -5,7 +5,7 @@
 # shellcheck source=/dev/null
 . "$top/rows/lib/parts.sh"
 
-prefixes_folder="$room/prefixes"
+prefixes_folder="$work/prefixes"
 mkdir "$prefixes_folder"
 prefixes_week=(--since 2024-01-01T00:00:00Z --upto 2024-01-08T00:00:00Z)
 

@@ -4,8 +4,8 @@
 
 # Runs the script of the escaped text $1.
 scripts_run() {
-  printf '%b' "$1" >"$room/script"
-  run_in "$room" agenda steps script
+  printf '%b' "$1" >"$work/script"
+  run_in "$work" agenda steps script
 }
 
 # Prints line $2 as many times as $1 says.
@@ -31,16 +31,16 @@ scripts_refused() {
 scripts_replied() {
   local script replies
   while IFS='|' read -r script replies; do
-    printf '%b' "$replies" >"$room/replies"
+    printf '%b' "$replies" >"$work/replies"
     scripts_run "$script"
-    compare "the script '$script'" "$room/replies" /dev/null 0
+    compare "the script '$script'" "$work/replies" /dev/null 0
   done
 }
 
 # That a script of $1 takes, and of the escaped lines $2 behind them, has the fault $3.
 scripts_behind_takes() {
-  { echo "mailbox 1 1" && scripts_many "$1" take && printf '%b' "$2"; } >"$room/script"
-  run_in "$room" agenda steps script
+  { echo "mailbox 1 1" && scripts_many "$1" take && printf '%b' "$2"; } >"$work/script"
+  run_in "$work" agenda steps script
   is_refused "a script of $1 takes, and then '$2'" "script: line $3" 1
 }
 
@@ -48,40 +48,40 @@ scripts_of_ten_thousand_steps() {
   scripts_behind_takes 10000 'take\n' "10002: TooManySteps"
   scripts_behind_takes 10000 'give\n' "10002: TooManySteps"
   scripts_behind_takes 9999 'give\ntake\n' "10001: BadLine"
-  { echo "mailbox 1 1" && scripts_many 10000 take; } >"$room/script"
-  scripts_many 10000 nothing >"$room/replies"
-  run_in "$room" agenda steps script
-  compare "a script of 10,000 takes" "$room/replies" /dev/null 0
-  { echo "mailbox 8 1024" && scripts_many 10000 "send 7 a"; } >"$room/script"
-  { scripts_many 1024 sent && scripts_many 8976 "full a"; } >"$room/replies"
-  run_in "$room" agenda steps script
-  compare "a script of 10,000 messages to the largest mailbox" "$room/replies" /dev/null 0
+  { echo "mailbox 1 1" && scripts_many 10000 take; } >"$work/script"
+  scripts_many 10000 nothing >"$work/replies"
+  run_in "$work" agenda steps script
+  compare "a script of 10,000 takes" "$work/replies" /dev/null 0
+  { echo "mailbox 8 1024" && scripts_many 10000 "send 7 a"; } >"$work/script"
+  { scripts_many 1024 sent && scripts_many 8976 "full a"; } >"$work/replies"
+  run_in "$work" agenda steps script
+  compare "a script of 10,000 messages to the largest mailbox" "$work/replies" /dev/null 0
 }
 
 # Of a script of 1,048,576 bytes whose message is sent, bin/check-examples has a row.
 scripts_of_the_most_bytes() {
   local begin=$'mailbox 1 1\nclose 0\nsend 0 ' message
   message=$((1048576 - ${#begin}))
-  { printf '%s' "$begin" && scripts_letters "$message"; } >"$room/script"
-  { printf 'shut\nclosed ' && scripts_letters "$message" && echo; } >"$room/replies"
-  run_in "$room" agenda steps script
-  compare "a script of 1,048,576 bytes, whose message is refused" "$room/replies" /dev/null 0
-  head -c 1048577 /dev/zero | tr '\0' '\377' >"$room/script"
-  run_in "$room" agenda steps script
+  { printf '%s' "$begin" && scripts_letters "$message"; } >"$work/script"
+  { printf 'shut\nclosed ' && scripts_letters "$message" && echo; } >"$work/replies"
+  run_in "$work" agenda steps script
+  compare "a script of 1,048,576 bytes, whose message is refused" "$work/replies" /dev/null 0
+  head -c 1048577 /dev/zero | tr '\0' '\377' >"$work/script"
+  run_in "$work" agenda steps script
   is_refused "a script of 1,048,577 bytes that are no text" "script: line 0: TooLarge" 1
 }
 
 # A path that can't be opened is named whole; with more than 1,007 bytes its line is longer than the program's buffer.
 scripts_that_are_not_there() {
   local path len
-  mkdir -p "$room/no-scripts"
+  mkdir -p "$work/no-scripts"
   for path in steps.txt "a/b c"; do
-    run_in "$room/no-scripts" agenda steps "$path"
+    run_in "$work/no-scripts" agenda steps "$path"
     is_refused "the script '$path', which isn't there" "$path: Device" 3
   done
   for len in 1007 1008 1009 5000; do
     path=$(scripts_letters "$len")
-    run_in "$room/no-scripts" agenda steps "$path"
+    run_in "$work/no-scripts" agenda steps "$path"
     is_refused "a script with a path of $len letters" "$path: Device" 3
   done
 }

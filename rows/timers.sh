@@ -2,7 +2,7 @@
 # Rows of what `agenda plan` reads of timer files: the events that are left of a file, the unit that is started, names and lines that are
 # refused, sizes, and how many timers there may be. bin/check-examples runs this file. Files are written with the escapes of printf's %b.
 
-timers_folder="$room/timers"
+timers_folder="$work/timers"
 timers_year=(--since 2024-01-01T00:00:00Z --upto 2025-01-01T00:00:00Z)
 
 # Prints the moments from the second $1 of 1970 on, every $2 seconds, as long as it is 2024.
@@ -40,15 +40,15 @@ timers_job() {
   IFS=+ read -r -a events <<<"$2"
   printf -v unit '%b' "$3"
   printf '%b' "$4" >"$file"
-  timers_plan "$name" "$unit" "${events[@]}" >"$room/plan.wanted"
+  timers_plan "$name" "$unit" "${events[@]}" >"$work/plan.wanted"
   run_in "$timers_folder" agenda plan "${timers_year[@]}" "$name"
-  compare_agenda "starts of $name '$4'" "$room/plan.wanted"
+  compare_agenda "starts of $name '$4'" "$work/plan.wanted"
   left=$((64 - ${#events[@]}))
   { printf '\n\n[Timer]\n' && yes "OnCalendar=$last" | head -n "$left"; } >>"$file"
   [ "$left" = 0 ] || events+=("$last")
-  timers_plan "$name" "$unit" "${events[@]}" >"$room/plan.wanted"
+  timers_plan "$name" "$unit" "${events[@]}" >"$work/plan.wanted"
   run_in "$timers_folder" agenda plan "${timers_year[@]}" "$name"
-  compare_agenda "starts of $name '$4' and $left events more" "$room/plan.wanted"
+  compare_agenda "starts of $name '$4' and $left events more" "$work/plan.wanted"
   echo "OnCalendar=$last" >>"$file"
   run_in "$timers_folder" agenda plan "${timers_year[@]}" "$name"
   is_refused "$name '$4' and $((left + 1)) events more" "$name: line $(wc -l <"$file"): TooManyLines" 1
@@ -76,7 +76,7 @@ timers_refused() {
 timers_longest_name() {
   local name
   name=$(printf 'n%.0s' {1..249}).timer
-  { [ ${#name} = 255 ] || echo "${#name} bytes"; } >"$room/told"
+  { [ ${#name} = 255 ] || echo "${#name} bytes"; } >"$work/told"
   count "the longest name of a timer"
   timers_job "$name" '' "${name%.timer}.service" '[Timer]'
 }
@@ -117,14 +117,14 @@ timers_sizes() {
 
 # 1,000 timers are as many as there may be. A name that is there comes before that.
 timers_numbers() {
-  local number folder="$room/timers.1000"
+  local number folder="$work/timers.1000"
   mkdir "$folder" "$folder/again"
   for number in {0..1000} again/0; do
     printf '[Timer]\nOnCalendar=daily\nUnit=x\n' >"$folder/$number.timer"
   done
   run_in "$folder" agenda plan "${day[@]}" {0..999}.timer
-  printf "2024-01-01T00:00:00Z\t%s.timer\tx\n" {0..999} >"$room/plan.wanted"
-  compare_agenda "a thousand timers" "$room/plan.wanted"
+  printf "2024-01-01T00:00:00Z\t%s.timer\tx\n" {0..999} >"$work/plan.wanted"
+  compare_agenda "a thousand timers" "$work/plan.wanted"
   run_in "$folder" agenda plan "${day[@]}" {0..1000}.timer
   is_refused "a thousand timers and one" "jobs: Full" 1
   run_in "$folder" agenda plan "${day[@]}" {0..999}.timer again/0.timer

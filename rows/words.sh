@@ -6,28 +6,28 @@
 words_run() {
   local words
   IFS='|' read -ra words <<<"$1"
-  run_in "$room/words" agenda "${words[@]}"
+  run_in "$work/words" agenda "${words[@]}"
 }
 
 # The files that the rows name: a script says its own name, and a timer is that of its name.
 words_make_files() {
   local name
-  mkdir -p "$room/words/a b" "$room/words/etc"
+  mkdir -p "$work/words/a b" "$work/words/etc"
   for name in script "a b/c" skript-ä - --help; do
-    printf 'mailbox 1 1\nsend 0 this is %s\ntake\n' "$name" >"$room/words/$name"
+    printf 'mailbox 1 1\nsend 0 this is %s\ntake\n' "$name" >"$work/words/$name"
   done
   for name in a.timer c.timer --limit.timer --limit; do
-    printf '[Timer]\nOnCalendar=daily\n' >"$room/words/$name"
+    printf '[Timer]\nOnCalendar=daily\n' >"$work/words/$name"
   done
-  printf '[Timer]\nOnCalendar=*-*-* 0/12:00\n' >"$room/words/b.timer"
-  printf '[Timer]\nOnCalendar=*:*:*\n' >"$room/words/second.timer"
+  printf '[Timer]\nOnCalendar=*-*-* 0/12:00\n' >"$work/words/b.timer"
+  printf '[Timer]\nOnCalendar=*:*:*\n' >"$work/words/second.timer"
   for name in jobs etc/crontab "my jobs-ä"; do
-    printf '@daily root says %s\n' "$name" >"$room/words/$name"
+    printf '@daily root says %s\n' "$name" >"$work/words/$name"
   done
 }
 
 words_make_help_of_agenda() {
-  cat >"$room/words/agenda.text" <<'END'
+  cat >"$work/words/agenda.text" <<'END'
 When jobs start, by the rules of cron and of systemd timers
 
 Usage: agenda <COMMAND>
@@ -52,7 +52,7 @@ END
 }
 
 words_make_help_of_next() {
-  cat >"$room/words/next.text" <<'END'
+  cat >"$work/words/next.text" <<'END'
 Prints the next starts of one rule
 
 Usage: agenda next --after <T> [--count <N>] (--cron <TEXT> | --calendar <TEXT>)
@@ -77,7 +77,7 @@ END
 
 # That 2 planners with room for 16 messages each are the defaults, no other row can show: neither changes a line.
 words_make_help_of_plan() {
-  cat >"$room/words/plan.text" <<'END'
+  cat >"$work/words/plan.text" <<'END'
 Prints which jobs of crontabs and timers start when
 
 Usage: agenda plan [OPTIONS] --since <T> --upto <T> [TIMER]...
@@ -113,7 +113,7 @@ END
 }
 
 words_make_help_of_steps() {
-  cat >"$room/words/steps.text" <<'END'
+  cat >"$work/words/steps.text" <<'END'
 Prints what a mailbox replies to the steps of a script
 
 Usage: agenda steps <FILE>
@@ -134,7 +134,7 @@ END
 }
 
 words_make_version() {
-  cat >"$room/words/version.text" <<'END'
+  cat >"$work/words/version.text" <<'END'
 agenda 0.1.0
 proved with rattle-kit-13b logic dac8208d650f15bf
 END
@@ -145,7 +145,7 @@ words_tell_help() {
   local text words
   while IFS=' ' read -r text words; do
     words_run "$words"
-    compare "words: $words" "$room/words/$text.text" /dev/null 0
+    compare "words: $words" "$work/words/$text.text" /dev/null 0
   done <<'END'
 agenda --help
 agenda -h
@@ -167,9 +167,9 @@ END
 
 # The words $1 are no use of the program, and standard input has the text that says so.
 words_tell_usage() {
-  cat >"$room/words/usage"
+  cat >"$work/words/usage"
   words_run "$1"
-  compare "words: $1" /dev/null "$room/words/usage" 2
+  compare "words: $1" /dev/null "$work/words/usage" 2
 }
 
 words_tell_usage_of_agenda() {
@@ -234,12 +234,12 @@ words_begin_usage() {
   local row words count
   while IFS= read -r row; do
     words=${row%% => *}
-    printf '%b\n' "${row#* => }" >"$room/words/usage"
-    count=$(wc -l <"$room/words/usage")
+    printf '%b\n' "${row#* => }" >"$work/words/usage"
+    count=$(wc -l <"$work/words/usage")
     words_run "$words"
-    head -n "$count" "$room/err" >"$room/words/begin"
-    mv -- "$room/words/begin" "$room/err"
-    compare "words: $words" /dev/null "$room/words/usage" 2
+    head -n "$count" "$work/err" >"$work/words/begin"
+    mv -- "$work/words/begin" "$work/err"
+    compare "words: $words" /dev/null "$work/words/usage" 2
   done
 }
 
@@ -350,9 +350,9 @@ words_ask_for_replies() {
 
 # The words $1 ask for the agenda whose lines behind the header standard input has, with `|` for tabs.
 words_ask_for_agenda() {
-  tr '|' '\t' >"$room/words/agenda"
+  tr '|' '\t' >"$work/words/agenda"
   words_run "$1"
-  compare_agenda "words: $1" "$room/words/agenda"
+  compare_agenda "words: $1" "$work/words/agenda"
 }
 
 words_ask_for_sources() {
@@ -415,8 +415,8 @@ words_ask_for_limit() {
   awk -v most="$1" 'BEGIN {
     for (second = 0; second < most; second++)
       printf "2024-01-01T%02d:%02d:%02dZ|second.timer|second.service\n", second / 3600, second / 60 % 60, second % 60
-  }' >"$room/words/starts"
-  words_ask_for_agenda "$since|--upto|$upto|second.timer" <"$room/words/starts"
+  }' >"$work/words/starts"
+  words_ask_for_agenda "$since|--upto|$upto|second.timer" <"$work/words/starts"
   words_run "$since|--upto|$one_more|second.timer"
   is_refused "words: $since|--upto|$one_more|second.timer" "plan: TooMany" 1
 }

@@ -3,7 +3,7 @@
 # 8,192 bytes, each as full as it can be. The kernel counts the calls of a shell and of what it waited for in /proc/self/io; where it counts
 # none these rows are passed over.
 
-writes_folder="$room/writes"
+writes_folder="$work/writes"
 mkdir "$writes_folder"
 printf '@daily a\n@daily\n' >"$writes_folder/crontab"
 printf '@daily a\n\n* * * * * root\n' >"$writes_folder/system"
@@ -38,7 +38,7 @@ writes_run() {
 writes_between() {
   local writes
   writes=$(cat "$writes_folder/writes")
-  { [ "$writes" -ge "$2" ] && [ "$writes" -le "$3" ]; } >"$room/told" 2>&1 || echo "$writes writes, and not $2 to $3" >>"$room/told"
+  { [ "$writes" -ge "$2" ] && [ "$writes" -le "$3" ]; } >"$work/told" 2>&1 || echo "$writes writes, and not $2 to $3" >>"$work/told"
   count "$1"
 }
 
@@ -60,10 +60,10 @@ writes_faults() {
 writes_agenda() {
   local bytes wanted=$((52 + ${#3} + 30 * $3))
   writes_run agenda plan --since 2024-01-01T00:00:00Z --upto "$2" --limit 1000000 --crontab "$1"
-  bytes=$(stat -c %s "$room/out")
+  bytes=$(stat -c %s "$work/out")
   [ "$status" = 0 ] || bytes=0
   writes_between "an agenda of $wanted bytes" $(((wanted + 8191) / 8192)) $((1 + (wanted - 1) / 8173))
-  { [ "$bytes" = "$wanted" ] || echo "$bytes bytes"; } >"$room/told"
+  { [ "$bytes" = "$wanted" ] || echo "$bytes bytes"; } >"$work/told"
   count "the bytes of an agenda of $wanted"
 }
 

@@ -1,5 +1,9 @@
-# shellcheck shell=bash disable=SC2154
-# The header of an agenda, its first line. bin/check-examples and bin/refuse-memory source this file.
+# shellcheck shell=bash disable=SC2034,SC2154
+# What all rows of agendas share: a span, the mark between the parts of a line, and the header, which is an agenda's first line.
+# bin/check-examples and bin/refuse-memory source this file.
+
+day=(--since 2024-01-01T00:00:00Z --upto 2024-01-02T00:00:00Z)
+tab=$'\t'
 
 # Puts the header of an agenda before its other lines, which standard input has: the form of the text, the span that the words of the
 # program name, $1 and those behind it, and how many lines there are.
@@ -17,7 +21,7 @@ headed() {
     esac
     before=$word
   done
-  cat >"$room/lines"
-  printf 'agenda 2\t%s\t%s\t%d\n' "$since" "$upto" "$(wc -l <"$room/lines")"
-  cat "$room/lines"
+  cat >"$work/lines"
+  printf 'agenda 2\t%s\t%s\t%d\n' "$since" "$upto" "$(wc -l <"$work/lines")"
+  cat "$work/lines"
 }

@@ -19,19 +19,19 @@ lists_starts() {
 # The starts of the rule $2, by the option $1, that are later than $3 are those of $4, of which the last may be `none`.
 lists_one() {
   local name="agenda next $1='$2' --after $3"
-  lists_starts "$4" >"$room/starts.wanted"
-  run_in "$room" agenda next "$1=$2" --after "$3" --count "$(wc -l <"$room/starts.wanted")"
-  compare "$name" "$room/starts.wanted" /dev/null 0
+  lists_starts "$4" >"$work/starts.wanted"
+  run_in "$work" agenda next "$1=$2" --after "$3" --count "$(wc -l <"$work/starts.wanted")"
+  compare "$name" "$work/starts.wanted" /dev/null 0
 }
 
 # The first 1,000 starts of the rule $3, by the option $1, are those of the rule $2.
 lists_same() {
   local rule
   for rule in "$2" "$3"; do
-    mv -f "$room/out" "$room/starts.wanted"
-    run_in "$room" agenda next "$1=$rule" --after 1970-01-01T00:00:00Z --count 1000
+    mv -f "$work/out" "$work/starts.wanted"
+    run_in "$work" agenda next "$1=$rule" --after 1970-01-01T00:00:00Z --count 1000
   done
-  compare "'$3' has the starts of '$2'" "$room/starts.wanted" /dev/null 0
+  compare "'$3' has the starts of '$2'" "$work/starts.wanted" /dev/null 0
 }
 
 # Rows of rules of one meaning, with `;` between them, of a moment, and of the starts later than it. The option $1 hands them in.
@@ -52,7 +52,7 @@ lists_refused() {
   local fault text
   while IFS='|' read -r fault text; do
     printf -v text '%b' "$text"
-    run_in "$room" agenda next "$1=$text" --after 2024-01-01T00:00:00Z
+    run_in "$work" agenda next "$1=$text" --after 2024-01-01T00:00:00Z
     is_refused "agenda next $1='$text'" "rule: part ${fault/ /: }" 1
   done
 }
@@ -67,9 +67,9 @@ lists_timer() {
 lists_plan() {
   local events since upto starts
   while IFS='|' read -r events since upto starts; do
-    lists_timer "$events" >"$room/rows.timer"
-    lists_starts "$starts" | sed "s/\$/${tab}rows.timer${tab}rows.service/" >"$room/starts.wanted"
-    run_in "$room" agenda plan --since "$since" --upto "$upto" rows.timer
-    compare_agenda "a timer of '$events' from $since to $upto" "$room/starts.wanted"
+    lists_timer "$events" >"$work/rows.timer"
+    lists_starts "$starts" | sed "s/\$/${tab}rows.timer${tab}rows.service/" >"$work/starts.wanted"
+    run_in "$work" agenda plan --since "$since" --upto "$upto" rows.timer
+    compare_agenda "a timer of '$events' from $since to $upto" "$work/starts.wanted"
   done
 }

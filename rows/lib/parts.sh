@@ -6,14 +6,14 @@
 # and else it is of standard output, of `plan` the lines behind the header.
 parts_compare() {
   local answer
-  printf '%b' "$2" >"$room/answer.wanted"
-  IFS= read -r -d '' -n 8 answer <"$room/answer.wanted"
+  printf '%b' "$2" >"$work/answer.wanted"
+  IFS= read -r -d '' -n 8 answer <"$work/answer.wanted"
   if [ "$answer" = "agenda: " ]; then
-    compare "$1" /dev/null "$room/answer.wanted" 1
+    compare "$1" /dev/null "$work/answer.wanted" 1
   elif [ "${ran[1]}" = plan ]; then
-    compare_agenda "$1" "$room/answer.wanted"
+    compare_agenda "$1" "$work/answer.wanted"
   else
-    compare "$1" "$room/answer.wanted" /dev/null 0
+    compare "$1" "$work/answer.wanted" /dev/null 0
   fi
 }
 
