@@ -13,8 +13,9 @@ use std::alloc::Global;
 use std::sync::Wait;
 use std::thread::Threads;
 
-/// Writes the agenda of the jobs of sources over a span: its header line, then one line for each start, by time and then by job. At most `limit` starts, 1 to 1,000,000; `planners`, 1 to 8, each in a thread of its own, with
-/// room for `room` messages of each, 1 to 1,024. It waits for the planners.
+/// Writes the agenda of the jobs of sources over a span: its header line, then one line for each start, by time and then by job.
+/// At most `limit` starts, 1 to 1,000,000; `planners`, 1 to 8, each in a thread of its own, with room for `room` messages of each,
+/// 1 to 1,024. It waits for the planners.
 ///
 /// The faults, in this order: `InCrontab`, `InSystem`, `InTimer`, `SameName` and `Full` where the sources make no list of jobs, the
 /// first that stands in them; `Plan(BadSize)` where the planners or the room are not as said, `Plan(BadLimit)` where the limit
