@@ -1,7 +1,9 @@
--- What the program answers, from what its parts answer.
+-- What the program answers, from what its parts answer: for `answer_plan`, and for `answer` of refused words.
+-- `Answers` has two sides: what was asked was done with status 0, or a failure has its status and its line. Which it is
+-- comes from the case of `done`. Refused words are a failure by themselves, and standard output stays.
 use Rattle.std.proofs.Common.{◌≡◌, ℕ, Bool, List, [], Option, Result, Ok, Err, OnOk, IfErr, inl, inr, refl, subst}
 use Rattle.std.specs.Io.KnownBytes.{Keeps}
-use Rattle.plan_collect.specs.Stream.{PutsOrBreaksOff}
+use Rattle.plan_streams.specs.Stream.{PutsOrBreaksOff}
 use Rattle.std.proofs.KnownBytes.{Keeps-refl}
 use Rattle.agenda_words.specs.declared.UsageFault.TheVariants as usage
 use Rattle.agenda_faults.specs.declared.faults.RunFault.TheVariants as run
@@ -14,7 +16,8 @@ use Rattle.agenda_faults.specs.Faults.{status_of}
 use Rattle.agenda_answers.specs.Answer.{Answers, DoesPlan, FailsPlan, Stream, asked_plan}
 
 -- `plan` was done, or was not, and then its line was written
-pub plan_answers : (held : Held) (wanted : Wanted) (names : List (List ℕ)) (status : ℕ) (out err : Stream) (done : Result (Unit {0}) Failure)
+pub plan_answers :
+    (held : Held) (wanted : Wanted) (names : List (List ℕ)) (status : ℕ) (out err : Stream) (done : Result (Unit {0}) Failure)
     → OnOk done (DoesPlan held wanted out.old out.new)
     → IfErr done (λ failure. FailsPlan out.takes_all held wanted failure out.old out.new)
     → names ≡ wanted.paths.timers

@@ -15,6 +15,7 @@ use Rattle.agenda_faults.specs.declared.faults.Failure.TheVariants.{Usage, After
 use Rattle.agenda_answers.specs.declared.answers.Wanted.{Wanted}
 use Rattle.agenda_sources.specs.declared.Sources.{Sources}
 use Rattle.plan_collect.specs.Span.{Bounds}
+use Rattle.plan_collect.specs.declared.Sizes.{Sizes}
 use Rattle.plan_collect.specs.declared.SpanFault.TheVariants.{Backwards}
 use Rattle.agenda_faults.specs.FaultLines.{fault_text}
 use Rattle.agenda_faults.specs.Faults.{status_of}
@@ -23,7 +24,7 @@ use Rattle.agenda_commands.specs.Next.{WritesNext, RefusesNext}
 use Rattle.agenda_commands.specs.Plan.{WritesPlan, RefusesPlan}
 use Rattle.agenda_commands.specs.Script.{WritesRun, RefusesScript}
 use Rattle.agenda_answers.specs.Sources.{IsGiven, MakesSources}
-use Rattle.plan_collect.specs.Stream.{BreaksOff, PutsOrBreaksOff}
+use Rattle.plan_streams.specs.Stream.{BreaksOff, PutsOrBreaksOff}
 
 -- memory aside, the text of usage where a word of the command line isn't UTF-8
 abbrev pub SaysNotUtf8 : UsageFault → Type 0
@@ -62,7 +63,7 @@ GivesNoSpan since upto other = ⊥
 abbrev pub DoesPlan : Held → Wanted → (old new : Option (List ℕ)) → Type 0
 DoesPlan held wanted old new =
     (span : Bounds) × (sources : Sources) × IsSpan wanted.since wanted.upto span × MakesSources held wanted.paths sources
-    × WritesPlan sources span wanted.limit wanted.planners wanted.room old new
+    × WritesPlan sources span wanted.sizes old new
 
 -- when each failure of `plan` comes: the span is looked at first, then the files are read, of which one is the failure only where it may
 -- fail, then the plan is made
@@ -74,7 +75,7 @@ FailsPlan takes_all held wanted (Run run.NoMemory) old new =
     (span : Bounds) × IsSpan wanted.since wanted.upto span × Keeps old new
 FailsPlan takes_all held wanted (Run fault) old new =
     (span : Bounds) × (sources : Sources) × IsSpan wanted.since wanted.upto span × MakesSources held wanted.paths sources
-    × RefusesPlan takes_all fault sources span wanted.limit wanted.planners wanted.room old new
+    × RefusesPlan takes_all fault sources span wanted.sizes old new
 FailsPlan takes_all held wanted failure old new = GivesNoSpan wanted.since wanted.upto failure × Keeps old new
 
 -- `steps` was done
@@ -89,34 +90,31 @@ FailsSteps takes_all held file (Run fault) old new =
 FailsSteps takes_all held file failure old new = ⊥
 
 -- what is wanted of `plan`, by what it was given
-abbrev pub wanted_of : (since upto : List ℕ) → (crontab system : Option (List ℕ)) → (planners room limit : ℕ) → List (List ℕ) → Wanted
-wanted_of since upto crontab system planners room limit timers = record {
+abbrev pub wanted_of : (since upto : List ℕ) → (crontab system : Option (List ℕ)) → Sizes → List (List ℕ) → Wanted
+wanted_of since upto crontab system sizes timers = record {
   since = since;
   upto = upto;
   paths = record { crontab = crontab; system = system; timers = timers };
-  planners = planners;
-  room = room;
-  limit = limit;
+  sizes = sizes;
 }
 
 -- `plan`, by what is wanted of it
 abbrev pub asked_plan : Wanted → Ask
 asked_plan wanted =
-    Plan wanted.since wanted.upto wanted.paths.crontab wanted.paths.system wanted.planners wanted.room wanted.limit
-    wanted.paths.timers
+    Plan wanted.since wanted.upto wanted.paths.crontab wanted.paths.system wanted.sizes wanted.paths.timers
 
 -- what standard output holds after a command that was done
 abbrev pub Does : Held → Ask → (old new : Option (List ℕ)) → Type 0
 Does held (Next after count rule) old new = DoesNext after count rule old new
-Does held (Plan since upto crontab system planners room limit timers) old new =
-    DoesPlan held (wanted_of since upto crontab system planners room limit timers) old new
+Does held (Plan since upto crontab system sizes timers) old new =
+    DoesPlan held (wanted_of since upto crontab system sizes timers) old new
 Does held (Steps file) old new = DoesSteps held file old new
 
 -- when each failure of a command comes, and what standard output then holds
 abbrev pub Fails : Bool → Held → Ask → Failure → (old new : Option (List ℕ)) → Type 0
 Fails takes_all held (Next after count rule) failure old new = FailsNext takes_all after count rule failure old new
-Fails takes_all held (Plan since upto crontab system planners room limit timers) failure old new =
-    FailsPlan takes_all held (wanted_of since upto crontab system planners room limit timers) failure old new
+Fails takes_all held (Plan since upto crontab system sizes timers) failure old new =
+    FailsPlan takes_all held (wanted_of since upto crontab system sizes timers) failure old new
 Fails takes_all held (Steps file) failure old new = FailsSteps takes_all held file failure old new
 
 -- what standard output holds after what was asked was done: a command, or help
@@ -136,7 +134,7 @@ Stops takes_all held (Err usage.NoMemory) failure old new = (failure ≡ Run run
 
 -- the paths of the timers that were given
 abbrev pub timers_of : Result Ask UsageFault → List (List ℕ)
-timers_of (Ok (Plan since upto crontab system planners room limit timers)) = timers
+timers_of (Ok (Plan since upto crontab system sizes timers)) = timers
 timers_of other = []
 
 -- a stream: whether it takes all, and what it held before and after

@@ -5,30 +5,29 @@ ghost use Rattle.std.specs.Io.KnownBytes.{Appends, Keeps};
 ghost use Rattle.agenda_faults.specs.FaultLines.{fault_text};
 ghost use Rattle.agenda_faults.specs.Faults.{status_of as failure_status};
 ghost use Rattle.agenda_answers.specs.Answer.{Answers, AnswersWords, asked_plan, DoesNext, DoesPlan, DoesSteps, FailsNext, FailsPlan, FailsSteps, GivesNoSpan, IsSpan, SaysNotUtf8};
-ghost use Rattle.plan_collect.specs.Stream.{BreaksOff, PutsOrBreaksOff};
+ghost use Rattle.plan_streams.specs.Stream.{BreaksOff, PutsOrBreaksOff};
 
 use crate::files::{Files, read_file};
 use crate::sources::{Paths, read_sources};
 use agenda_commands::{run_next, run_plan, run_script};
 use agenda_faults::{Failure, RunFault, fault_line};
 use agenda_words::{Ask, Asked, UsageFault, read_words};
-use plan_collect::{Span, Stream};
+use plan_collect::{Sizes, Span};
 use plan_rules::Text;
 use plan_sets::read_moment;
+use plan_streams::Stream;
 use std::alloc::Global;
 use std::io::ErrorKind;
 use std::sync::Wait;
 use std::thread::Threads;
 
-// What is wanted of `plan`: the texts of two moments, the paths of its sources, and three numbers.
+// What is wanted of `plan`: the texts of two moments, the paths of its sources, and its sizes.
 #[derive(Drop)]
 struct Wanted {
     since: Text,
     upto: Text,
     paths: Paths,
-    planners: u32,
-    room: u32,
-    limit: u32,
+    sizes: Sizes,
 }
 
 // The status of what was done, and of help.
@@ -80,9 +79,7 @@ pub fn answer<R: Threads + Wait + Sync, F: Files, O: Stream, E: Stream>(
                 upto,
                 crontab,
                 system,
-                planners,
-                room,
-                limit,
+                sizes,
                 timers,
             },
         ) => {
@@ -94,9 +91,7 @@ pub fn answer<R: Threads + Wait + Sync, F: Files, O: Stream, E: Stream>(
                     system,
                     timers,
                 },
-                planners,
-                room,
-                limit,
+                sizes,
             };
             answer_plan(rt, alloc, &wanted, files, out, err)
         }
@@ -188,17 +183,7 @@ fn plan<R: Threads + Wait + Sync, F: Files, S: Stream>(
 {
     let span = span_between(&wanted.since, &wanted.upto)?;
     let sources = read_sources(alloc, files, &wanted.paths)?;
-    let (planners, room) = (wanted.planners as usize, wanted.room as usize);
-    match run_plan(
-        rt,
-        alloc,
-        &sources,
-        span,
-        u64::from(wanted.limit),
-        planners,
-        room,
-        out,
-    ) {
+    match run_plan(rt, alloc, &sources, span, wanted.sizes, out) {
         Ok(()) => Ok(()),
         Err(fault) => Err(Failure::Run(fault)),
     }

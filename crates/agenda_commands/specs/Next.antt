@@ -7,13 +7,13 @@ use Rattle.plan_sets.specs.Moment.{moment_text_of}
 use Rattle.plan_rules.specs.declared.Rule.{Rule}
 use Rattle.plan_rules.specs.Cron.{cron_reading}
 use Rattle.plan_rules.specs.Event.{event_rule_reading}
-use Rattle.plan_rules.specs.Steps.{Reading}
+use Rattle.plan_rules.specs.Readings.{Reading}
 use Rattle.plan_next.specs.Starts.{starts}
 use Rattle.agenda_words.specs.declared.Asked.{Asked}
 use Rattle.agenda_words.specs.declared.Asked.TheVariants.{Cron, Event}
 use Rattle.agenda_faults.specs.declared.faults.RunFault.{RunFault}
 use Rattle.agenda_faults.specs.declared.faults.RunFault.TheVariants.{NoMemory, BadCount, Rule as BadRule, Device}
-use Rattle.plan_collect.specs.Stream.{BreaksOff}
+use Rattle.plan_streams.specs.Stream.{BreaksOff}
 
 -- the line of a moment (own)
 abbrev pub moment_line : ℕ → List ℕ

@@ -6,11 +6,12 @@ use Rattle.plan_mailbox.specs.Mailbox.{is_size}
 use Rattle.plan_collect.specs.Agenda.{agenda, planned, rules_of}
 use Rattle.plan_collect.specs.Limits.{is_limit}
 use Rattle.plan_collect.specs.Span.{Bounds}
-use Rattle.plan_collect.specs.Stream.{BreaksOff}
+use Rattle.plan_streams.specs.Stream.{BreaksOff}
 use Rattle.plan_collect.specs.Texts.{agenda_text}
 use Rattle.plan_collect.specs.declared.CollectFault.TheVariants as collect
-use Rattle.plan_collect.specs.declared.PlanFault.{PlanFault}
-use Rattle.plan_collect.specs.declared.PlanFault.TheVariants as plan
+use Rattle.plan_serial.specs.declared.PlanFault.{PlanFault}
+use Rattle.plan_serial.specs.declared.PlanFault.TheVariants as plan
+use Rattle.plan_collect.specs.declared.Sizes.{Sizes}
 use Rattle.agenda_sources.specs.Sources.{sources_reading}
 use Rattle.agenda_sources.specs.declared.Sources.{Sources}
 use Rattle.agenda_sources.specs.declared.SourceFault.TheVariants as source
@@ -19,45 +20,45 @@ use Rattle.agenda_faults.specs.declared.faults.RunFault.TheVariants.{NoMemory, I
 
 -- what is printed for jobs: their agenda over the span, where the sizes and the limit are good ones, and it has no more entries
 -- than that
-abbrev pub IsTextFor : List JobParts → Bounds → (limit planners room : ℕ) → List ℕ → Type 0
-IsTextFor jobs span limit planners room text =
-    (is_size planners room ≡ true) × (is_limit limit ≡ true) × (length (agenda (rules_of jobs) span) ≤ limit)
+abbrev pub IsTextFor : List JobParts → Bounds → Sizes → List ℕ → Type 0
+IsTextFor jobs span sizes text =
+    (is_size sizes.planners sizes.room ≡ true) × (is_limit sizes.limit ≡ true) × (length (agenda (rules_of jobs) span) ≤ sizes.limit)
     × (text ≡ agenda_text (planned (rules_of jobs) span) jobs)
 
 -- what is printed for sources: the agenda of their jobs
-abbrev pub IsTextOfPlan : Sources → Bounds → (limit planners room : ℕ) → List ℕ → Type 0
-IsTextOfPlan sources span limit planners room text =
-    (jobs : List JobParts) × (sources_reading sources ≡ Ok jobs) × IsTextFor jobs span limit planners room text
+abbrev pub IsTextOfPlan : Sources → Bounds → Sizes → List ℕ → Type 0
+IsTextOfPlan sources span sizes text =
+    (jobs : List JobParts) × (sources_reading sources ≡ Ok jobs) × IsTextFor jobs span sizes text
 
 -- that text was written
-abbrev pub WritesPlan : Sources → Bounds → (limit planners room : ℕ) → (old new : Option (List ℕ)) → Type 0
-WritesPlan sources span limit planners room old new =
-    (text : List ℕ) × IsTextOfPlan sources span limit planners room text × Appends old new text
+abbrev pub WritesPlan : Sources → Bounds → Sizes → (old new : Option (List ℕ)) → Type 0
+WritesPlan sources span sizes old new =
+    (text : List ℕ) × IsTextOfPlan sources span sizes text × Appends old new text
 
 -- when the agenda of jobs is refused: first for the sizes, then for the limit, then for its entries
-abbrev pub RefusesJobs : PlanFault → List JobParts → Bounds → (limit planners room : ℕ) → Type 0
-RefusesJobs plan.BadSize jobs span limit planners room = is_size planners room ≡ false
-RefusesJobs plan.BadLimit jobs span limit planners room = (is_size planners room ≡ true) × (is_limit limit ≡ false)
-RefusesJobs (plan.Collect collect.TooMany) jobs span limit planners room =
-    (is_size planners room ≡ true) × (is_limit limit ≡ true) × (limit < length (agenda (rules_of jobs) span))
-RefusesJobs other jobs span limit planners room = ⊥
+abbrev pub RefusesJobs : PlanFault → List JobParts → Bounds → Sizes → Type 0
+RefusesJobs plan.BadSize jobs span sizes = is_size sizes.planners sizes.room ≡ false
+RefusesJobs plan.BadLimit jobs span sizes = (is_size sizes.planners sizes.room ≡ true) × (is_limit sizes.limit ≡ false)
+RefusesJobs (plan.Collect collect.TooMany) jobs span sizes =
+    (is_size sizes.planners sizes.room ≡ true) × (is_limit sizes.limit ≡ true) × (sizes.limit < length (agenda (rules_of jobs) span))
+RefusesJobs other jobs span sizes = ⊥
 
 -- when each fault of a plan comes, and what was written: the sources are read first, then their jobs are planned
-abbrev pub RefusesPlan : Bool → RunFault → Sources → Bounds → (limit planners room : ℕ) → (old new : Option (List ℕ)) → Type 0
-RefusesPlan takes_all NoMemory sources span limit planners room old new = Keeps old new
-RefusesPlan takes_all (InCrontab fault) sources span limit planners room old new =
+abbrev pub RefusesPlan : Bool → RunFault → Sources → Bounds → Sizes → (old new : Option (List ℕ)) → Type 0
+RefusesPlan takes_all NoMemory sources span sizes old new = Keeps old new
+RefusesPlan takes_all (InCrontab fault) sources span sizes old new =
     (sources_reading sources ≡ Err (source.InCrontab fault)) × Keeps old new
-RefusesPlan takes_all (InSystem fault) sources span limit planners room old new =
+RefusesPlan takes_all (InSystem fault) sources span sizes old new =
     (sources_reading sources ≡ Err (source.InSystem fault)) × Keeps old new
-RefusesPlan takes_all (InTimer place fault) sources span limit planners room old new =
+RefusesPlan takes_all (InTimer place fault) sources span sizes old new =
     (sources_reading sources ≡ Err (source.InTimer place fault)) × Keeps old new
-RefusesPlan takes_all (SameName place) sources span limit planners room old new =
+RefusesPlan takes_all (SameName place) sources span sizes old new =
     (sources_reading sources ≡ Err (source.SameName place)) × Keeps old new
-RefusesPlan takes_all Full sources span limit planners room old new =
+RefusesPlan takes_all Full sources span sizes old new =
     (sources_reading sources ≡ Err source.Full) × Keeps old new
-RefusesPlan takes_all (Plan fault) sources span limit planners room old new =
-    (jobs : List JobParts) × (sources_reading sources ≡ Ok jobs) × RefusesJobs fault jobs span limit planners room
+RefusesPlan takes_all (Plan fault) sources span sizes old new =
+    (jobs : List JobParts) × (sources_reading sources ≡ Ok jobs) × RefusesJobs fault jobs span sizes
     × Keeps old new
-RefusesPlan takes_all Device sources span limit planners room old new =
-    (text : List ℕ) × IsTextOfPlan sources span limit planners room text × BreaksOff takes_all old new text
-RefusesPlan takes_all other sources span limit planners room old new = ⊥
+RefusesPlan takes_all Device sources span sizes old new =
+    (text : List ℕ) × IsTextOfPlan sources span sizes text × BreaksOff takes_all old new text
+RefusesPlan takes_all other sources span sizes old new = ⊥

@@ -7,7 +7,7 @@ use Rattle.plan_mailbox.specs.History.{IsLawful, record_of}
 use Rattle.agenda_script.specs.Script.{Meaning, script_reading, replies_text}
 use Rattle.agenda_faults.specs.declared.faults.RunFault.{RunFault}
 use Rattle.agenda_faults.specs.declared.faults.RunFault.TheVariants as run
-use Rattle.plan_collect.specs.Stream.{BreaksOff}
+use Rattle.plan_streams.specs.Stream.{BreaksOff}
 
 -- the text of the replies to a script's steps on a new mailbox: one for each step, and each is the one after the history
 -- of the steps before it; and the history that they record is lawful

@@ -2,14 +2,14 @@
 
 ghost use Rattle.std.specs.Prelude.{◌≡◌, IfOk, IfErr, OnOk};
 ghost use Rattle.agenda_commands.specs.Next.{next_text, WritesNext, RefusesNext, IsCount, asked_reading};
-ghost use Rattle.plan_rules.specs.Steps.{Gives};
+ghost use Rattle.plan_rules.specs.Readings.{Gives};
 
 use agenda_faults::RunFault;
 use agenda_words::Asked;
-use plan_collect::Stream;
 use plan_next::next_start;
 use plan_rules::{Rule, RuleFault, calendar_rule, cron_rule};
 use plan_sets::moment_text;
+use plan_streams::Stream;
 use std::alloc::{AllocError, Global};
 
 /// How many starts may be asked for at most.

@@ -7,19 +7,19 @@ ghost use Rattle.agenda_commands.specs.Plan.{RefusesPlan, WritesPlan};
 
 use agenda_faults::RunFault;
 use agenda_sources::{Sources, jobs_of_sources};
-use plan_collect::{Span, Stream, write_agenda};
+use plan_collect::{Sizes, Span, write_agenda};
+use plan_streams::Stream;
 use plan_threads::{NoGate, plan};
 use std::alloc::Global;
 use std::sync::Wait;
 use std::thread::Threads;
 
 /// Writes the agenda of the jobs of sources over a span: its header line, then one line for each start, by time and then by job.
-/// At most `limit` starts, 1 to 1,000,000; `planners`, 1 to 8, each in a thread of its own, with room for `room` messages of each,
-/// 1 to 1,024. It waits for the planners.
+/// The planners of `sizes` search, each in a thread of its own. It waits for them.
 ///
 /// The faults, in this order: `InCrontab`, `InSystem`, `InTimer`, `SameName` and `Full` where the sources make no list of jobs, the
-/// first that stands in them; `Plan(BadSize)` where the planners or the room are not as said, `Plan(BadLimit)` where the limit
-/// isn't; `Plan(Collect(TooMany))` where the agenda has more entries than the limit. `NoMemory` may come in place of each, but
+/// first that stands in them; `Plan(BadSize)` where the planners or the room are out of their ranges, `Plan(BadLimit)` where the
+/// limit is; `Plan(Collect(TooMany))` where the agenda has more entries than the limit. `NoMemory` may come in place of each, but
 /// never of a fault of the first source that `jobs_of_sources` finds at once.
 /// Nothing is written then. `Device` where the stream fails, which then took the first bytes of the text.
 pub fn run_plan<R: Threads + Wait + Sync, S: Stream>(
@@ -27,21 +27,19 @@ pub fn run_plan<R: Threads + Wait + Sync, S: Stream>(
     alloc: Global,
     sources: &Sources,
     span: Span,
-    limit: u64,
-    planners: usize,
-    room: usize,
+    sizes: Sizes,
     out: &mut S,
 ) -> Result<(), RunFault>
     ensures written { OnOk result
-        (WritesPlan sources.now span limit planners room (S.holds out.old) (S.holds out.new)) }
+        (WritesPlan sources.now span sizes (S.holds out.old) (S.holds out.new)) }
     ensures refused { IfErr result
-        (λ fault. RefusesPlan S.takes_all fault sources.now span limit planners room (S.holds out.old) (S.holds out.new)) }
+        (λ fault. RefusesPlan S.takes_all fault sources.now span sizes (S.holds out.old) (S.holds out.new)) }
 
     // These are found before any memory is asked for.
     ensures at_once { IfSome (fault_at_once sources.now) (λ fault. result ≡ Err (fault_of_sources fault)) }
 {
     let jobs = jobs_of_sources(alloc, sources)?;
-    let agenda = plan(rt, alloc, &jobs, span, limit, &NoGate, planners, room)?;
+    let agenda = plan(rt, alloc, &jobs, span, sizes, &NoGate)?;
     write_agenda(&agenda, &jobs, out)?;
     Ok(())
 }

@@ -9,8 +9,8 @@ ghost use Rattle.agenda_commands.specs.Script.{RefusesScript, WritesRun};
 
 use agenda_faults::RunFault;
 use agenda_script::{Script, read_script, replies_text};
-use plan_collect::Stream;
 use plan_mailbox::{Reply, Rings, Step, run_steps};
+use plan_streams::Stream;
 use std::alloc::Global;
 
 /// Takes the steps of a script on a new mailbox, and writes one line for each reply.

@@ -1,4 +1,6 @@
--- The lines of faults whose cause is known not to be a want of memory.
+-- The lines of faults whose cause is known not to be a want of memory: for `put_rule_fault`, `put_script_fault`,
+-- `put_source_rule_fault`, `put_source_fault` and `put_collect_fault`, in their last branch. By the cases of the cause:
+-- `NoMemory` is ruled out, and `Rule` for the line of a source. For each other one the definition computes.
 use Rattle.std.proofs.Common.{◌≡◌, ◌≢◌, ℕ, List, ◌++◌, codes, decimal, refl, sym}
 use Rattle.plan_rules.specs.declared.RuleCause.{RuleCause}
 use Rattle.plan_rules.specs.declared.RuleCause.TheVariants as cause
@@ -9,47 +11,72 @@ use Rattle.plan_rules.specs.declared.LineCause.{LineCause}
 use Rattle.plan_rules.specs.declared.LineCause.TheVariants as on_line
 use Rattle.plan_collect.specs.declared.CollectFault.{CollectFault}
 use Rattle.plan_collect.specs.declared.CollectFault.TheVariants as collect
-use Rattle.agenda_faults.specs.Causes.{collect_cause, line_cause, rule_cause, script_cause}
+use Rattle.agenda_script.specs.Causes.{script_cause}
+use Rattle.plan_collect.specs.Causes.{collect_cause}
+use Rattle.plan_grammar.specs.Causes.{rule_cause}
+use Rattle.plan_rules.specs.Causes.{line_cause}
 use Rattle.agenda_faults.specs.FaultLines.{collect_line, rule_line, script_line, source_line, source_rule_line, text_of_line, text_of_part}
 
-pub rule_line-refused : (part : ℕ) (refused : RuleCause) → refused ≢ cause.NoMemory → rule_line part refused ≡ codes "agenda: rule: part " ++ (decimal part ++ (codes ": " ++ (rule_cause refused ++ codes "\n")))
+pub rule_line-refused :
+    (part : ℕ) (refused : RuleCause) → refused ≢ cause.NoMemory →
+    rule_line part refused ≡ codes "agenda: rule: part " ++ (decimal part ++ (codes ": " ++ (rule_cause refused ++ codes "\n")))
 rule_line-refused part cause.NoMemory not = absurd (not refl)
 rule_line-refused part other not = refl
 
-pub script_line-refused : (line : ℕ) (refused : ScriptCause) → refused ≢ script.NoMemory → script_line line refused ≡ codes "agenda: script: line " ++ (decimal line ++ (codes ": " ++ (script_cause refused ++ codes "\n")))
+pub script_line-refused :
+    (line : ℕ) (refused : ScriptCause) → refused ≢ script.NoMemory →
+    script_line line refused ≡ codes "agenda: script: line " ++ (decimal line ++ (codes ": " ++ (script_cause refused ++ codes "\n")))
 script_line-refused line script.NoMemory not = absurd (not refl)
 script_line-refused line other not = refl
 
 -- their pieces
-pub rule_line-pieces : (part : ℕ) (refused : RuleCause) (digits name : List ℕ) → refused ≢ cause.NoMemory → digits ≡ decimal part → name ≡ rule_cause refused → codes "agenda: rule: part " ++ (digits ++ (codes ": " ++ (name ++ codes "\n"))) ≡ rule_line part refused
+pub rule_line-pieces :
+    (part : ℕ) (refused : RuleCause) (digits name : List ℕ) → refused ≢ cause.NoMemory → digits ≡ decimal part → name ≡ rule_cause refused →
+    codes "agenda: rule: part " ++ (digits ++ (codes ": " ++ (name ++ codes "\n"))) ≡ rule_line part refused
 rule_line-pieces part refused digits name not part_is name_is = rw (part_is, name_is) (sym (rule_line-refused part refused not))
 
-pub script_line-pieces : (line : ℕ) (refused : ScriptCause) (digits name : List ℕ) → refused ≢ script.NoMemory → digits ≡ decimal line → name ≡ script_cause refused → codes "agenda: script: line " ++ (digits ++ (codes ": " ++ (name ++ codes "\n"))) ≡ script_line line refused
+pub script_line-pieces :
+    (line : ℕ) (refused : ScriptCause) (digits name : List ℕ) → refused ≢ script.NoMemory → digits ≡ decimal line →
+    name ≡ script_cause refused →
+    codes "agenda: script: line " ++ (digits ++ (codes ": " ++ (name ++ codes "\n"))) ≡ script_line line refused
 script_line-pieces line refused digits name not line_is name_is = rw (line_is, name_is) (sym (script_line-refused line refused not))
 
 -- the line of a rule in a source
-source_rule_line-refused : (source : List ℕ) (line part : ℕ) (refused : RuleCause) → refused ≢ cause.NoMemory → source_rule_line source line part refused ≡ text_of_part source (decimal line) (decimal part) (rule_cause refused)
+source_rule_line-refused :
+    (source : List ℕ) (line part : ℕ) (refused : RuleCause) → refused ≢ cause.NoMemory →
+    source_rule_line source line part refused ≡ text_of_part source (decimal line) (decimal part) (rule_cause refused)
 source_rule_line-refused source line part cause.NoMemory not = absurd (not refl)
 source_rule_line-refused source line part other not = refl
 
-pub source_rule_line-text : (source digits more name : List ℕ) (line part : ℕ) (refused : RuleCause) → refused ≢ cause.NoMemory → digits ≡ decimal line → more ≡ decimal part → name ≡ rule_cause refused → text_of_part source digits more name ≡ source_rule_line source line part refused
+pub source_rule_line-text :
+    (source digits more name : List ℕ) (line part : ℕ) (refused : RuleCause) → refused ≢ cause.NoMemory → digits ≡ decimal line →
+    more ≡ decimal part → name ≡ rule_cause refused → text_of_part source digits more name ≡ source_rule_line source line part refused
 source_rule_line-text source digits more name line part refused not line_is part_is name_is =
     rw (line_is, part_is, name_is) (sym (source_rule_line-refused source line part refused not))
 
 -- the line of a source
-source_line-refused : (source : List ℕ) (line : ℕ) (refused : LineCause) → refused ≢ on_line.NoMemory → ((fault : RuleFault) → refused ≢ on_line.Rule fault) → source_line source line refused ≡ text_of_line source (decimal line) (line_cause refused)
+source_line-refused :
+    (source : List ℕ) (line : ℕ) (refused : LineCause) → refused ≢ on_line.NoMemory → ((fault : RuleFault) → refused ≢ on_line.Rule fault) →
+    source_line source line refused ≡ text_of_line source (decimal line) (line_cause refused)
 source_line-refused source line on_line.NoMemory not no_rule = absurd (not refl)
 source_line-refused source line (on_line.Rule fault) not no_rule = absurd (no_rule fault refl)
 source_line-refused source line other not no_rule = refl
 
-pub source_line-text : (source digits name : List ℕ) (line : ℕ) (refused : LineCause) → refused ≢ on_line.NoMemory → ((fault : RuleFault) → refused ≢ on_line.Rule fault) → digits ≡ decimal line → name ≡ line_cause refused → text_of_line source digits name ≡ source_line source line refused
+pub source_line-text :
+    (source digits name : List ℕ) (line : ℕ) (refused : LineCause) → refused ≢ on_line.NoMemory →
+    ((fault : RuleFault) → refused ≢ on_line.Rule fault) → digits ≡ decimal line → name ≡ line_cause refused →
+    text_of_line source digits name ≡ source_line source line refused
 source_line-text source digits name line refused not no_rule line_is name_is =
     rw (line_is, name_is) (sym (source_line-refused source line refused not no_rule))
 
 -- the line of what a collector refused
-collect_line-refused : (refused : CollectFault) → refused ≢ collect.NoMemory → collect_line refused ≡ codes "agenda: plan: " ++ (collect_cause refused ++ codes "\n")
+collect_line-refused :
+    (refused : CollectFault) → refused ≢ collect.NoMemory →
+    collect_line refused ≡ codes "agenda: plan: " ++ (collect_cause refused ++ codes "\n")
 collect_line-refused collect.NoMemory not = absurd (not refl)
 collect_line-refused other not = refl
 
-pub collect_line-text : (refused : CollectFault) (name : List ℕ) → refused ≢ collect.NoMemory → name ≡ collect_cause refused → codes "agenda: plan: " ++ (name ++ codes "\n") ≡ collect_line refused
+pub collect_line-text :
+    (refused : CollectFault) (name : List ℕ) → refused ≢ collect.NoMemory → name ≡ collect_cause refused →
+    codes "agenda: plan: " ++ (name ++ codes "\n") ≡ collect_line refused
 collect_line-text refused name not name_is = rw name_is (sym (collect_line-refused refused not))

@@ -12,9 +12,13 @@ use Rattle.plan_rules.specs.declared.LineCause.{LineCause}
 use Rattle.plan_rules.specs.declared.LineCause.TheVariants as on_line
 use Rattle.plan_collect.specs.declared.CollectFault.{CollectFault}
 use Rattle.plan_collect.specs.declared.CollectFault.TheVariants as collect
-use Rattle.plan_collect.specs.declared.PlanFault.{PlanFault}
-use Rattle.plan_collect.specs.declared.PlanFault.TheVariants as plan
-use Rattle.agenda_faults.specs.Causes.{moment_cause, rule_cause, line_cause, span_cause, collect_cause, script_cause}
+use Rattle.plan_serial.specs.declared.PlanFault.{PlanFault}
+use Rattle.plan_serial.specs.declared.PlanFault.TheVariants as plan
+use Rattle.agenda_script.specs.Causes.{script_cause}
+use Rattle.plan_collect.specs.Causes.{span_cause, collect_cause}
+use Rattle.plan_grammar.specs.Causes.{rule_cause}
+use Rattle.plan_rules.specs.Causes.{line_cause}
+use Rattle.plan_sets.specs.Causes.{moment_cause}
 use Rattle.agenda_sources.specs.Name.{timer_name}
 
 -- memory was refused

@@ -5,17 +5,16 @@ ghost use Rattle.std.specs.List.{flat_map};
 ghost use Rattle.agenda_faults.specs.Faults.{status_of};
 ghost use Rattle.agenda_faults.specs.FaultLines.{collect_line, fault_text, name_at, plan_line, rule_line, run_line};
 ghost use Rattle.agenda_faults.specs.FaultLines.{script_line, source_line, source_rule_line, text_of_line, text_of_part};
-ghost use Rattle.plan_collect.specs.Stream.{Puts, PutsOrBreaksOff};
+ghost use Rattle.plan_streams.specs.Stream.{Puts, PutsOrBreaksOff};
 
-use crate::causes::{
-    collect_cause, line_cause, moment_cause, rule_cause, script_cause, span_cause,
-};
 use crate::faults::{Failure, RunFault};
 use agenda_script::{ScriptCause, ScriptFault};
 use agenda_sources::timer_name;
 use itoa::Buffer;
-use plan_collect::{CollectFault, PlanFault, Stream, WriteFault};
+use plan_collect::CollectFault;
 use plan_rules::{LineCause, LineFault, RuleCause, RuleFault, Text};
+use plan_serial::PlanFault;
+use plan_streams::{Stream, WriteFault};
 
 // How many bytes of a line go out by one write: all but those with a very long path.
 const LINE_ROOM: usize = 1_024;
@@ -48,16 +47,22 @@ fn put_failure<S: Stream>(
     match failure {
         Failure::Usage(text) => stream.put(text.as_str().as_bytes()),
         Failure::After(cause) => {
-            put_joined(&[b"agenda: after: ", moment_cause(*cause), b"\n"], stream)
+            put_joined(
+                &[b"agenda: after: ", cause.name().as_bytes(), b"\n"],
+                stream,
+            )
         }
         Failure::Since(cause) => {
-            put_joined(&[b"agenda: since: ", moment_cause(*cause), b"\n"], stream)
+            put_joined(
+                &[b"agenda: since: ", cause.name().as_bytes(), b"\n"],
+                stream,
+            )
         }
         Failure::Upto(cause) => {
-            put_joined(&[b"agenda: upto: ", moment_cause(*cause), b"\n"], stream)
+            put_joined(&[b"agenda: upto: ", cause.name().as_bytes(), b"\n"], stream)
         }
         Failure::Span(cause) => {
-            put_joined(&[b"agenda: span: ", span_cause(*cause), b"\n"], stream)
+            put_joined(&[b"agenda: span: ", cause.name().as_bytes(), b"\n"], stream)
         }
         Failure::Run(fault) => put_run_fault(fault, timers, stream),
         Failure::File(path) => {
@@ -133,7 +138,7 @@ fn put_collect_fault<S: Stream>(fault: CollectFault, stream: &mut S) -> Result<(
 {
     match fault {
         CollectFault::NoMemory => stream.put(MEMORY_LINE),
-        fault => put_joined(&[b"agenda: plan: ", collect_cause(fault), b"\n"], stream),
+        fault => put_joined(&[b"agenda: plan: ", fault.name().as_bytes(), b"\n"], stream),
     }
 }
 
@@ -151,7 +156,7 @@ fn put_source_fault<S: Stream>(
     match fault.cause {
         LineCause::NoMemory => stream.put(MEMORY_LINE),
         LineCause::Rule(rule) => put_source_rule_fault(source, fault.line, rule, stream),
-        cause => put_line(source, line, line_cause(cause), stream),
+        cause => put_line(source, line, cause.name().as_bytes(), stream),
     }
 }
 
@@ -170,7 +175,7 @@ fn put_source_rule_fault<S: Stream>(
     let part = more_digits.format(fault.part).as_bytes();
     match fault.cause {
         RuleCause::NoMemory => stream.put(MEMORY_LINE),
-        cause => put_part(source, line, part, rule_cause(cause), stream),
+        cause => put_part(source, line, part, cause.name().as_bytes(), stream),
     }
 }
 
@@ -231,7 +236,7 @@ fn put_rule_fault<S: Stream>(fault: RuleFault, stream: &mut S) -> Result<(), Wri
                 b"agenda: rule: part ",
                 part,
                 b": ",
-                rule_cause(cause),
+                cause.name().as_bytes(),
                 b"\n",
             ],
             stream,
@@ -253,7 +258,7 @@ fn put_script_fault<S: Stream>(fault: ScriptFault, stream: &mut S) -> Result<(),
                 b"agenda: script: line ",
                 line,
                 b": ",
-                script_cause(cause),
+                cause.name().as_bytes(),
                 b"\n",
             ],
             stream,

@@ -1,4 +1,6 @@
 -- How the steps of a script are read from top to bottom.
+-- For the loop of `read_steps`, whose invariant is `AreRead`, and for `read_script`, where bytes are a text or none.
+-- The lines are numbered from 2 on; a turn is a law of `each` on the line at its place.
 use Rattle.std.proofs.Common.{◌≡◌, ℕ, ◌+◌, ◌<◌, ◌≤◌, List, [], ◌∷◌, ◌++◌, length, take, get_or, Ok, Err, refl, ap, ap₂, sym, ◌∙◌, arith, map, Bor, Bool, true, false, true≢false}
 use Rattle.std.proofs.lemmas.List.{take_more, take_all, get_or-map, length-map}
 use Rattle.std.proofs.lemmas.List.FromFn.{length-enumerate_from, get_or-enumerate_from}
@@ -17,15 +19,14 @@ use Rattle.agenda_script.specs.Script.{fault_on, lines_reading, numbered_step, s
 pub record AreRead (lines : List (List ℕ)) (k : ℕ) (steps : List (Step (List ℕ))) : Type 0 where
   pub so_far : each numbered_step (take k (enumerate_from 2 lines)) ≡ Ok steps
 
-pub none_read : (lines : List (List ℕ)) → AreRead lines 0 []
-none_read lines = record { so_far = refl }
-
 -- the texts of some lines
 abbrev pub texts : List (Bor (List ℕ)) → List (List ℕ)
 texts lines = map (λ line. line.now) lines
 
 -- the text of the line at a place
-pub line_is : (lines : List (Bor (List ℕ))) (k : ℕ) (line : List ℕ) (other : Bor (List ℕ)) → k < length lines → line ≡ (get_or lines k other).now → line ≡ get_or (texts lines) k line
+pub line_is :
+    (lines : List (Bor (List ℕ))) (k : ℕ) (line : List ℕ) (other : Bor (List ℕ)) → k < length lines →
+    line ≡ (get_or lines k other).now → line ≡ get_or (texts lines) k line
 line_is lines k line other inside is = is ∙ sym (get_or-map (λ (l : Bor (List ℕ)). l.now) lines k other line inside)
 
 pub inside_texts : (lines : List (Bor (List ℕ))) (k : ℕ) → k < length lines → k < length (texts lines)
@@ -41,28 +42,40 @@ past_texts lines k past =
 inside_all : (lines : List (List ℕ)) (k : ℕ) → k < length lines → k < length (enumerate_from 2 lines)
 inside_all lines k inside = omega (arith, length-enumerate_from 2 lines)
 
-found : (lines : List (List ℕ)) (k number : ℕ) (line : List ℕ) → k < length lines → line ≡ get_or lines k line → number ≡ k + 2 → get_or (enumerate_from 2 lines) k (number, line) ≡ (number, line)
+found :
+    (lines : List (List ℕ)) (k number : ℕ) (line : List ℕ) → k < length lines → line ≡ get_or lines k line → number ≡ k + 2 →
+    get_or (enumerate_from 2 lines) k (number, line) ≡ (number, line)
 found lines k number line inside is place =
     let n : 2 + k ≡ number = omega arith in
     get_or-enumerate_from 2 lines k (number, line) inside ∙ ap₂ (λ (a : ℕ) (b : List ℕ). (a, b)) n (sym is)
 
 -- one line more was read
-pub one_more_read : (lines : List (List ℕ)) (k number : ℕ) (line : List ℕ) (steps : List (Step (List ℕ))) (step : Step (List ℕ)) → k < length lines → line ≡ get_or lines k line → number ≡ k + 2 → AreRead lines k steps → step_on number line ≡ Ok step → AreRead lines (k + 1) (steps ++ step ∷ [])
+pub one_more_read :
+    (lines : List (List ℕ)) (k number : ℕ) (line : List ℕ) (steps : List (Step (List ℕ))) (step : Step (List ℕ)) →
+    k < length lines → line ≡ get_or lines k line → number ≡ k + 2 → AreRead lines k steps → step_on number line ≡ Ok step →
+    AreRead lines (k + 1) (steps ++ step ∷ [])
 one_more_read lines k number line steps step inside is place read here =
     let all = enumerate_from 2 lines in
     let within : k < length (enumerate_from 2 lines) = inside_all lines k inside in
     record {
-      so_far = ap (each numbered_step) (take_more all k (number, line) within ∙ ap (λ x. take k all ++ x ∷ []) (found lines k number line inside is place))
+      so_far = ap (each numbered_step)
+          (take_more all k (number, line) within ∙ ap (λ x. take k all ++ x ∷ []) (found lines k number line inside is place))
           ∙ each-push numbered_step (take k all) steps (number, line) step read.so_far here;
     }
 
 -- the next line is faulty
-pub fault_read : (lines : List (List ℕ)) (k number : ℕ) (line : List ℕ) (steps : List (Step (List ℕ))) (fault : ScriptFault) → k < length lines → line ≡ get_or lines k line → number ≡ k + 2 → AreRead lines k steps → step_on number line ≡ Err fault → steps_reading lines ≡ Err fault
+pub fault_read :
+    (lines : List (List ℕ)) (k number : ℕ) (line : List ℕ) (steps : List (Step (List ℕ))) (fault : ScriptFault) → k < length lines →
+    line ≡ get_or lines k line → number ≡ k + 2 → AreRead lines k steps → step_on number line ≡ Err fault →
+    steps_reading lines ≡ Err fault
 fault_read lines k number line steps fault inside is place read here =
-    each-fault numbered_step (enumerate_from 2 lines) k steps (number, line) fault (inside_all lines k inside) (sym (found lines k number line inside is place)) read.so_far here
+    each-fault numbered_step (enumerate_from 2 lines) k steps (number, line) fault (inside_all lines k inside)
+    (sym (found lines k number line inside is place)) read.so_far here
 
 -- all lines were read
-pub all_read : (lines : List (List ℕ)) (k : ℕ) (steps : List (Step (List ℕ))) → length lines ≤ k → AreRead lines k steps → steps_reading lines ≡ Ok steps
+pub all_read :
+    (lines : List (List ℕ)) (k : ℕ) (steps : List (Step (List ℕ))) → length lines ≤ k → AreRead lines k steps →
+    steps_reading lines ≡ Ok steps
 all_read lines k steps past read =
     let whole : length (enumerate_from 2 lines) ≤ k = omega (arith, length-enumerate_from 2 lines) in
     ap (each numbered_step) (sym (take_all k (enumerate_from 2 lines) whole)) ∙ read.so_far

@@ -6,25 +6,39 @@ use thiserror::Error;
 
 /// What is wrong with a script.
 #[derive(Clone, Copy, Debug, PartialEq, Eq, Error)]
+#[error("{}", self.name())]
 pub enum ScriptCause {
     /// 1: memory was refused; its line is 0.
-    #[error("NoMemory")]
     NoMemory,
     /// 2: the bytes are not UTF-8; the line is 0.
-    #[error("NotUtf8")]
     NotUtf8,
     /// 3: the script is longer than 1,048,576 bytes; the line is 0.
-    #[error("TooLarge")]
     TooLarge,
     /// 4: the line has none of a script's forms, or the first line is missing.
-    #[error("BadLine")]
     BadLine,
     /// 5: the first line asks for no number of senders from 1 to 8, or for no room from 1 to 1,024.
-    #[error("BadSize")]
     BadSize,
     /// 6: the script has more than 10,000 steps; the line is 10,002.
-    #[error("TooManySteps")]
     TooManySteps,
+}
+
+impl ScriptCause {
+    ghost use Rattle.std.specs.Prelude.{◌≡◌};
+    ghost use Rattle.agenda_script.specs.Causes.{script_cause};
+
+    /// Its name, as fault lines show it.
+    pub fn name(&self) -> &'static str
+        ensures { result.now ≡ script_cause self.now }
+    {
+        match self {
+            ScriptCause::NoMemory => "NoMemory",
+            ScriptCause::NotUtf8 => "NotUtf8",
+            ScriptCause::TooLarge => "TooLarge",
+            ScriptCause::BadLine => "BadLine",
+            ScriptCause::BadSize => "BadSize",
+            ScriptCause::TooManySteps => "TooManySteps",
+        }
+    }
 }
 
 /// The first fault of a script.

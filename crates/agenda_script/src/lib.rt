@@ -1,4 +1,6 @@
 //! Scripts: how their bytes are read as steps on a mailbox, and the text of what the mailbox replies.
+//!
+//! It stands on plan_mailbox, whose steps and replies they are, and on plan_texts. Open `reader` first.
 #![tactic(auto)]
 
 mod fault;

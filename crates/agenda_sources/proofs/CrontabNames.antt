@@ -1,4 +1,6 @@
--- The names of a crontab's jobs: each is that of a line, and no two jobs have one.
+-- The names of a crontab's jobs: each is that of a line, and no two jobs have one. For the `requires` of `add_all` in
+-- `add_crontab`, and of `add_crontab` in `jobs_of_sources`. By induction over the lines: the later jobs are named by
+-- later lines, and the names of two lines differ, as their numbers fit a word (`few_enough`).
 use Rattle.std.proofs.Common.{◌≡◌, ◌≢◌, ℕ, ◌+◌, ◌<◌, ◌≤◌, ◌^◌, Bool, true, false, cond, eqb, nat_le, List, [], ◌∷◌, length, map, codes, Option, Some, None, Result, Ok, Err, IfOk, refl, ap, sym, ◌∙◌, arith, get_or}
 use Rattle.std.proofs.lemmas.Fmt.{decimal_injective}
 use Rattle.std.proofs.lemmas.List.{append_cancel_left}
@@ -26,7 +28,9 @@ use Rattle.agenda_sources.proofs.NameLemmas.{other_name, AllFail, none_from_fail
 
 -- ---- what is true of each reading
 
-steps : {A B E : Type 0} (P : A → Type 0) (Q : B → Type 0) (r : Result A E) (next : A → Result B E) → IfOk r P → ((x : A) → P x → IfOk (next x) Q) → IfOk (r >>= next) Q
+steps :
+    {A B E : Type 0} (P : A → Type 0) (Q : B → Type 0) (r : Result A E) (next : A → Result B E) → IfOk r P →
+    ((x : A) → P x → IfOk (next x) Q) → IfOk (r >>= next) Q
 steps P Q (Ok x) next first after = after x first
 steps P Q (Err fault) next first after = tt
 
@@ -57,7 +61,8 @@ name_in_entry kind number (first ∷ rest) =
     choice (IsNamedBy kind number) (eqb first 35) _ _ tt
     (choice (IsNamedBy kind number) (begins_setting first) _ _
     (choice (IsNamedBy kind number) (list_any (λ b. eqb b 61) (first ∷ rest)) (Ok None) _ tt tt)
-    (steps (λ j. j.name ≡ job_name kind number) (IsNamedBy kind number) (job_reading kind number (first ∷ rest)) _ (name_of_job kind number (first ∷ rest)) (λ j named. named)))
+    (steps (λ j. j.name ≡ job_name kind number) (IsNamedBy kind number) (job_reading kind number (first ∷ rest)) _
+    (name_of_job kind number (first ∷ rest)) (λ j named. named)))
 
 name_in_line : (kind : Kind) (number : ℕ) (text : List ℕ) → IfOk (line_reading kind number text) (IsNamedBy kind number)
 unfolding line_reading
@@ -87,19 +92,26 @@ pub record IsLineBehind (kind : Kind) (low : ℕ) (job : JobParts) : Type 0 wher
 abbrev pub AreLinesBehind : Kind → ℕ → List JobParts → Type 0
 AreLinesBehind kind low jobs = AllByRecursion (IsLineBehind kind low) jobs × HaveDistinctNames jobs
 
-lower : (kind : Kind) (low : ℕ) (jobs : List JobParts) → AllByRecursion (IsLineBehind kind (low + 1)) jobs → AllByRecursion (IsLineBehind kind low) jobs
+lower :
+    (kind : Kind) (low : ℕ) (jobs : List JobParts) → AllByRecursion (IsLineBehind kind (low + 1)) jobs →
+    AllByRecursion (IsLineBehind kind low) jobs
 lower kind low [] all = tt
 lower kind low (j ∷ jobs) (here, all) =
     (record { number = here.number; behind = omega (arith, here.behind); fits = here.fits; named = here.named }, lower kind low jobs all)
 
-apart : (kind : Kind) (number : ℕ) (name : List ℕ) (jobs : List JobParts) → number < 2 ^ 64 → name ≡ job_name kind number → AllByRecursion (IsLineBehind kind number) jobs → AllByRecursion (λ other. bytes_eq name other ≡ false) (map (λ j. j.name) jobs)
+apart :
+    (kind : Kind) (number : ℕ) (name : List ℕ) (jobs : List JobParts) → number < 2 ^ 64 → name ≡ job_name kind number →
+    AllByRecursion (IsLineBehind kind number) jobs → AllByRecursion (λ other. bytes_eq name other ≡ false) (map (λ j. j.name) jobs)
 apart kind number name [] small named all = tt
 apart kind number name (j ∷ jobs) small named (here, all) = (
-  other_name name j.name (λ same. let one = same_line kind number here.number small here.fits (sym named ∙ same ∙ here.named) in omega (arith, here.behind)),
+  other_name name j.name (λ same. let one = same_line kind number here.number small here.fits (sym named ∙ same ∙ here.named) in
+      omega (arith, here.behind)),
   apart kind number name jobs small named all,
 )
 
-one_more : (kind : Kind) (low : ℕ) (found : Option JobParts) (jobs : List JobParts) → low + 1 < 2 ^ 64 → IsNamedBy kind (low + 1) found → AreLinesBehind kind (low + 1) jobs → AreLinesBehind kind low (cons_option found jobs)
+one_more :
+    (kind : Kind) (low : ℕ) (found : Option JobParts) (jobs : List JobParts) → low + 1 < 2 ^ 64 → IsNamedBy kind (low + 1) found →
+    AreLinesBehind kind (low + 1) jobs → AreLinesBehind kind low (cons_option found jobs)
 unfolding IsDistinct
 one_more kind low None jobs small named (all, distinct) = (lower kind low jobs all, distinct)
 one_more kind low (Some j) jobs small named (all, distinct) = (
@@ -108,19 +120,25 @@ one_more kind low (Some j) jobs small named (all, distinct) = (
 )
 
 -- the jobs of lines, of which the first has this place
-each_line : (kind : Kind) (place : ℕ) (texts : List (List ℕ)) → place + length texts < 2 ^ 64 → IfOk (each (numbered_reading kind) (enumerate_from place texts)) (λ found. AreLinesBehind kind place (filter_map (λ j. j) found))
+each_line :
+    (kind : Kind) (place : ℕ) (texts : List (List ℕ)) → place + length texts < 2 ^ 64 →
+    IfOk (each (numbered_reading kind) (enumerate_from place texts)) (λ found. AreLinesBehind kind place (filter_map (λ j. j) found))
 unfolding IsDistinct
 each_line kind place [] small = (tt, tt)
 each_line kind place (text ∷ texts) small =
-    steps (IsNamedBy kind (place + 1)) (λ found. AreLinesBehind kind place (filter_map (λ j. j) found)) (numbered_reading kind (place, text)) _
+    steps (IsNamedBy kind (place + 1)) (λ found. AreLinesBehind kind place (filter_map (λ j. j) found))
+    (numbered_reading kind (place, text)) _
     (on (IsNamedBy kind (place + 1)) (place + 1) (line_reading kind (place + 1) text) (name_in_line kind (place + 1) text))
-    (λ found named. steps (λ found. AreLinesBehind kind (place + 1) (filter_map (λ j. j) found)) (λ found. AreLinesBehind kind place (filter_map (λ j. j) found)) (each (numbered_reading kind) (enumerate_from (place + 1) texts)) _
-    (each_line kind (place + 1) texts (omega arith)) (λ more behind. one_more kind place found (filter_map (λ j. j) more) (omega arith) named behind))
+    (λ found named. steps (λ found. AreLinesBehind kind (place + 1) (filter_map (λ j. j) found))
+    (λ found. AreLinesBehind kind place (filter_map (λ j. j) found)) (each (numbered_reading kind) (enumerate_from (place + 1) texts)) _
+    (each_line kind (place + 1) texts (omega arith))
+    (λ more behind. one_more kind place found (filter_map (λ j. j) more) (omega arith) named behind))
 
 all_lines : (kind : Kind) (texts : List (List ℕ)) → length texts < 2 ^ 64 → IfOk (jobs_reading kind texts) (AreLinesBehind kind 0)
 unfolding jobs_reading
 all_lines kind texts small =
-    steps (λ found. AreLinesBehind kind 0 (filter_map (λ j. j) found)) (AreLinesBehind kind 0) (each (numbered_reading kind) (enumerate_from 0 texts)) _
+    steps (λ found. AreLinesBehind kind 0 (filter_map (λ j. j) found)) (AreLinesBehind kind 0)
+    (each (numbered_reading kind) (enumerate_from 0 texts)) _
     (each_line kind 0 texts (omega arith)) (λ found behind. behind)
 
 -- ---- how many lines there are
@@ -133,7 +151,12 @@ no_more (first ∷ next ∷ more) = omega (arith, no_more (next ∷ more))
 few_lines : (text : List ℕ) → length (lines text) ≤ length text + 1
 unfolding lines
 few_lines text =
-    omega (arith, no_more (slice_split (λ b. eqb b 10) text), length-slice_split (λ b. eqb b 10) text, count_by-le-length (λ b. eqb b 10) text)
+    omega (
+      arith,
+      no_more (slice_split (λ b. eqb b 10) text),
+      length-slice_split (λ b. eqb b 10) text,
+      count_by-le-length (λ b. eqb b 10) text,
+    )
 
 few_enough : (bytes : List ℕ) → is_too_large bytes ≡ false → length (lines bytes) < 2 ^ 64
 few_enough bytes small =
@@ -142,7 +165,9 @@ few_enough bytes small =
 
 -- ---- the jobs of a crontab
 
-by_size : {A E : Type 0} (P : A → Type 0) (large utf8 : Bool) (x y z : Result A E) → IfOk x P → (large ≡ false → IfOk y P) → IfOk z P → IfOk (cond large x (cond utf8 y z)) P
+by_size :
+    {A E : Type 0} (P : A → Type 0) (large utf8 : Bool) (x y z : Result A E) → IfOk x P → (large ≡ false → IfOk y P) → IfOk z P →
+    IfOk (cond large x (cond utf8 y z)) P
 by_size P true utf8 x y z first second third = first
 by_size P false true x y z first second third = second refl
 by_size P false false x y z first second third = third
@@ -150,25 +175,33 @@ by_size P false false x y z first second third = third
 -- each has the name of a line, and no two have one
 pub crontab_names : (kind : Kind) (bytes : List ℕ) → IfOk (crontab_reading kind bytes) (AreLinesBehind kind 0)
 crontab_names kind bytes =
-    by_size (AreLinesBehind kind 0) (is_too_large bytes) (is_utf8 bytes) _ (jobs_reading kind (lines bytes)) _ tt (λ small. all_lines kind (lines bytes) (few_enough bytes small)) tt
+    by_size (AreLinesBehind kind 0) (is_too_large bytes) (is_utf8 bytes) _ (jobs_reading kind (lines bytes)) _ tt
+    (λ small. all_lines kind (lines bytes) (few_enough bytes small)) tt
 
 -- so they are new where no line of such a crontab was read
-new_names : (kind : Kind) (old jobs : List JobParts) → HasNoLineOf kind old → AllByRecursion (IsLineBehind kind 0) jobs → AllByRecursion (λ job. number_of job.name old ≡ None) jobs
+new_names :
+    (kind : Kind) (old jobs : List JobParts) → HasNoLineOf kind old → AllByRecursion (IsLineBehind kind 0) jobs →
+    AllByRecursion (λ job. number_of job.name old ≡ None) jobs
 new_names kind old [] none all = tt
 new_names kind old (j ∷ jobs) none (here, all) =
     (ap (λ name. number_of name old) here.named ∙ none here.number, new_names kind old jobs none all)
 
-pub crontab_is_new : (kind : Kind) (bytes : List ℕ) (old jobs : List JobParts) → HasNoLineOf kind old → crontab_reading kind bytes ≡ Ok jobs → All (λ job. number_of job.name old ≡ None) jobs
+pub crontab_is_new :
+    (kind : Kind) (bytes : List ℕ) (old jobs : List JobParts) → HasNoLineOf kind old → crontab_reading kind bytes ≡ Ok jobs →
+    All (λ job. number_of job.name old ≡ None) jobs
 crontab_is_new kind bytes old jobs none is =
     let names = IfOk-at_ok (AreLinesBehind kind 0) is (crontab_names kind bytes) in
     All-from_recursion (λ job. number_of job.name old ≡ None) jobs (new_names kind old jobs none names.0)
 
-pub crontab_is_distinct : (kind : Kind) (bytes : List ℕ) (jobs : List JobParts) → crontab_reading kind bytes ≡ Ok jobs → HaveDistinctNames jobs
+pub crontab_is_distinct :
+    (kind : Kind) (bytes : List ℕ) (jobs : List JobParts) → crontab_reading kind bytes ≡ Ok jobs → HaveDistinctNames jobs
 crontab_is_distinct kind bytes jobs is = (IfOk-at_ok (AreLinesBehind kind 0) is (crontab_names kind bytes)).1
 
 -- ---- the jobs of a user's crontab alone
 
-not_named : (number : ℕ) (jobs : List JobParts) → AllByRecursion (IsLineBehind User 0) jobs → AllFail (λ other. bytes_eq (job_name System number) other.name) jobs
+not_named :
+    (number : ℕ) (jobs : List JobParts) → AllByRecursion (IsLineBehind User 0) jobs →
+    AllFail (λ other. bytes_eq (job_name System number) other.name) jobs
 not_named number [] all = tt
 not_named number (j ∷ jobs) (here, all) =
     (other_name (job_name System number) j.name (λ same. other_kind number here.number (same ∙ here.named)), not_named number jobs all)
@@ -181,5 +214,7 @@ in_a_source P (Err fault) names = tt
 pub users_alone : (bytes : Option (List ℕ)) → IfOk (with_crontab User [] bytes) (HasNoLineOf System)
 users_alone None = λ number. refl
 users_alone (Some bytes) =
-    steps (AreLinesBehind User 0) (HasNoLineOf System) (in_source (crontab_fault User) (crontab_reading User bytes)) _ (in_a_source (AreLinesBehind User 0) (crontab_reading User bytes) (crontab_names User bytes))
-    (λ more names. choice (HasNoLineOf System) (nat_le (length more) most_jobs) (Ok more) (Err Full) (λ number. none_from_fail (λ other. bytes_eq (job_name System number) other.name) more (not_named number more names.0)) tt)
+    steps (AreLinesBehind User 0) (HasNoLineOf System) (in_source (crontab_fault User) (crontab_reading User bytes)) _
+    (in_a_source (AreLinesBehind User 0) (crontab_reading User bytes) (crontab_names User bytes))
+    (λ more names. choice (HasNoLineOf System) (nat_le (length more) most_jobs) (Ok more) (Err Full)
+    (λ number. none_from_fail (λ other. bytes_eq (job_name System number) other.name) more (not_named number more names.0)) tt)

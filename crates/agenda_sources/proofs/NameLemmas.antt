@@ -1,4 +1,6 @@
--- Names that no job of a list has.
+-- Names that no job of a list has: for `add_all`, where `SameName` can't come, and for CrontabNames.antt.
+-- That a list has no such job is turned into `AllFail`, which holds of two joined lists where it holds of both. So
+-- `next_is_new` splits: no old job has the name, and none of the jobs that were added before, as all differ.
 use Rattle.std.proofs.Common.{◌≡◌, ◌≢◌, ℕ, ◌+◌, ◌≤◌, Bool, true, false, not, cond, List, [], ◌∷◌, ◌++◌, length, map, position, Option, Some, None, refl, ap, sym, ◌∙◌, arith, subst, IsSome}
 use Rattle.std.proofs.lemmas.Bool.{false_from_ne_true, ltb-false, le-ltb}
 use Rattle.std.proofs.lemmas.List.Elements.{recursion_from_All}
@@ -56,31 +58,41 @@ before : {A : Type 0} (P : A → Type 0) (xs : List A) (x : A) (ys : List A) →
 before P [] x ys all = all.0
 before P (y ∷ xs) x ys all = before P xs x ys all.1
 
-names_before : (name : List ℕ) (jobs : List JobParts) (job : JobParts) (more : List JobParts) → AllByRecursion (λ other. bytes_eq name other ≡ false) (map (λ j. j.name) (jobs ++ job ∷ more)) → bytes_eq name job.name ≡ false
+names_before :
+    (name : List ℕ) (jobs : List JobParts) (job : JobParts) (more : List JobParts) →
+    AllByRecursion (λ other. bytes_eq name other ≡ false) (map (λ j. j.name) (jobs ++ job ∷ more)) → bytes_eq name job.name ≡ false
 names_before name [] job more apart = apart.0
 names_before name (j ∷ jobs) job more apart = names_before name jobs job more apart.1
 
 -- none of the jobs before it has its name
-pub distinct_before : (jobs : List JobParts) (job : JobParts) (more : List JobParts) → HaveDistinctNames (jobs ++ job ∷ more) → AllFail (λ other. bytes_eq job.name other.name) jobs
+pub distinct_before :
+    (jobs : List JobParts) (job : JobParts) (more : List JobParts) → HaveDistinctNames (jobs ++ job ∷ more) →
+    AllFail (λ other. bytes_eq job.name other.name) jobs
 unfolding IsDistinct
 distinct_before [] job more distinct = tt
 distinct_before (j ∷ jobs) job more distinct =
     (turned j.name job.name (names_before j.name jobs job more distinct.0), distinct_before jobs job more distinct.1)
 
 -- the next of some jobs with new names has a new name
-pub next_is_new : (old done : List JobParts) (job : JobParts) (more all : List JobParts) → done ++ job ∷ more ≡ all → All (λ j. number_of j.name old ≡ None) all → HaveDistinctNames all → number_of job.name (old ++ done) ≡ None
+pub next_is_new :
+    (old done : List JobParts) (job : JobParts) (more all : List JobParts) → done ++ job ∷ more ≡ all →
+    All (λ j. number_of j.name old ≡ None) all → HaveDistinctNames all → number_of job.name (old ++ done) ≡ None
 next_is_new old done job more all is new distinct =
     let IsNew : JobParts → Type 0 = λ j. number_of j.name old ≡ None in
-    let here : number_of job.name old ≡ None = before IsNew done job more (subst (AllByRecursion IsNew) (sym is) (recursion_from_All IsNew all new)) in
+    let here : number_of job.name old ≡ None = before IsNew done job more
+    (subst (AllByRecursion IsNew) (sym is) (recursion_from_All IsNew all new)) in
     let apart : HaveDistinctNames (done ++ job ∷ more) = subst HaveDistinctNames (sym is) distinct in
     none_from_fail (λ other. bytes_eq job.name other.name) (old ++ done)
-    (fail_behind (λ other. bytes_eq job.name other.name) old done (fail_from_none (λ other. bytes_eq job.name other.name) old here) (distinct_before done job more apart))
+    (fail_behind (λ other. bytes_eq job.name other.name) old done (fail_from_none (λ other. bytes_eq job.name other.name) old here)
+    (distinct_before done job more apart))
 
 nothing_there : (o : Option ℕ) → o ≡ None → IsSome o → ⊥
 nothing_there None none there = cc
 nothing_there (Some number) none there = cc
 
 -- so it isn't there
-pub not_there : (name : List ℕ) (old done jobs : List JobParts) → jobs ≡ old ++ done → number_of name (old ++ done) ≡ None → IsSome (number_of name jobs) → ⊥
+pub not_there :
+    (name : List ℕ) (old done jobs : List JobParts) → jobs ≡ old ++ done → number_of name (old ++ done) ≡ None →
+    IsSome (number_of name jobs) → ⊥
 not_there name old done jobs is none there =
     nothing_there (number_of name jobs) (ap (number_of name) is ∙ none) there

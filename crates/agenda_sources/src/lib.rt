@@ -1,4 +1,6 @@
 //! The sources of a plan, and the jobs that they make: a user's crontab, the system's crontab, and timer files.
+//!
+//! It stands on plan_rules, which reads each of them. Open `sources` first, then `reading`.
 #![tactic(auto)]
 
 mod bytes;

@@ -1,8 +1,9 @@
 use crate::writers::{End, Limited, took};
 use agenda_faults::{Failure, RunFault, fault_line};
 use agenda_script::{ScriptCause, ScriptFault};
-use plan_collect::{CollectFault, PlanFault};
+use plan_collect::CollectFault;
 use plan_rules::{LineCause, LineFault, RuleCause, RuleFault, Text};
+use plan_serial::PlanFault;
 use plan_sets::{MomentFault, SetFault};
 use std::process::Abort;
 use std::test::Fail;

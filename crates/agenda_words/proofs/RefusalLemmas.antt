@@ -1,4 +1,6 @@
 -- The kinds of error that clap leaves open at the words of `agenda` are answered alike.
+-- For `read_words`, where clap refuses the words. One lemma for each of clap's definitions of faults, from one use of
+-- an argument up to the whole command; the walk goes by induction over the words. Only `stray` has two kinds.
 use Rattle.std.proofs.Common.{◌≡◌, ◌∙◌, ◌&&◌, ◌||◌, ◌⊎◌, ◌==◌, ◌+◌, ℕ, Bool, true, false, zero, suc, List, [], ◌∷◌, Option, Some, None, Result, Err, ap, sym, subst, inl, inr, refl, not, cond, min, drop, length, nat_lt, codes}
 use Rattle.std.specs.Prelude.{encode_utf8, find, if◌then◌else◌, is_some, slice_get}
 use Rattle.std.specs.List.{list_all}
@@ -91,7 +93,8 @@ request_alike action.SetTrue = none
 request_alike action.SetFalse = none
 request_alike action.Count = none
 
-action_alike : (action : ArgAction) (again : Bool) (a : Rule) (values : List Text) (rows : List Row) → Alike (action_fault action again a values rows)
+action_alike :
+    (action : ArgAction) (again : Bool) (a : Rule) (values : List Text) (rows : List Row) → Alike (action_fault action again a values rows)
 action_alike action.Set again a values rows = set_alike again a values rows
 action_alike action.SetTrue again a values rows = set_alike again a values rows
 action_alike action.SetFalse again a values rows = set_alike again a values rows
@@ -130,7 +133,8 @@ long_alike c again None v h = one kind.UnknownArgument
 long_alike c again (Some a) v h = choice (takes_values a) _ _ (option_alike c again a v h)
     (choice (is_some v) (kind.TooManyValues ∷ []) _ (one kind.TooManyValues) (react_alike c again a [] h))
 
-short_alike : (c : List Rule) (again : Bool) (a : Option Rule) (rest : Text) (h : Held) (more : Held → Kinds) → ((g : Held) → Alike (more g))
+short_alike :
+    (c : List Rule) (again : Bool) (a : Option Rule) (rest : Text) (h : Held) (more : Held → Kinds) → ((g : Held) → Alike (more g))
     → Alike (short_fault c again a rest h more)
 short_alike c again None rest h more p = one kind.UnknownArgument
 short_alike c again (Some a) rest h more p = choice (takes_values a) _ _ (option_alike c again a (attached_value rest) h)
@@ -150,7 +154,9 @@ flags_alike c again zero flags skip h = none
 flags_alike c again (suc k) flags skip h =
     bundle_step_alike c again (slice_get (chars flags) 0) flags skip h (flags_fault c again k) (flags_alike c again k)
 
-flag_word_alike : (c : List Rule) (again : Bool) (long : Option (Text × Option Text)) (word : Text) (h : Held) → Alike (flag_word_fault c again long word h)
+flag_word_alike :
+    (c : List Rule) (again : Bool) (long : Option (Text × Option Text)) (word : Text) (h : Held) →
+    Alike (flag_word_fault c again long word h)
 flag_word_alike c again (Some p) word h = long_alike c again (arg_by_long c p.0) p.1 h
 flag_word_alike c again None word h =
     mapped _ (short_of word) [] (λ flags. flags_alike c again (length flags) flags h.skip (record h { skip = 0 })) none
@@ -160,7 +166,8 @@ never true = refl
 never false = refl
 
 -- with no subcommand `help`
-other_alike : (s : Shape) → s.disable_help_subcommand ≡ true → (met : Option Text) (word : Text) (h : Held) → Alike (other_fault s met word h)
+other_alike :
+    (s : Shape) → s.disable_help_subcommand ≡ true → (met : Option Text) (word : Text) (h : Held) → Alike (other_fault s met word h)
 other_alike s plain (Some name) word h = rw (plain, never (bytes_eq name (codes "help"))) none
 other_alike s plain None word h =
     choice (bytes_eq word (45 ∷ 45 ∷ [])) [] _ none (flag_word_alike s.rules s.args_override_self (long_of word) word h)
@@ -178,12 +185,15 @@ turn_alike s plain names w word =
     let met = word_met s.rules names w.is_trailing w.waiting w.position word w.held in
     choice (is_some w.stopped) [] _ none
     (either (word_fault s names w.is_trailing w.waiting word w.held) (step_fault s w.position met.0 met.1)
-    (choice w.is_trailing [] _ none (other_alike s plain (subcommand_met names w.waiting word) word w.held)) (step_alike s w.position met.0 met.1))
+    (choice w.is_trailing [] _ none (other_alike s plain (subcommand_met names w.waiting word) word w.held))
+    (step_alike s w.position met.0 met.1))
 
-walk_alike : (s : Shape) → s.disable_help_subcommand ≡ true → (names : Names) (w : Walk) (words : List Text) → Alike (walk_fault s names w words)
+walk_alike :
+    (s : Shape) → s.disable_help_subcommand ≡ true → (names : Names) (w : Walk) (words : List Text) → Alike (walk_fault s names w words)
 unfolding walk_fault
 walk_alike s plain names w [] = none
-walk_alike s plain names w (word ∷ rest) = either _ _ (turn_alike s plain names w word) (walk_alike s plain names (walked s.rules names w word) rest)
+walk_alike s plain names w (word ∷ rest) = either _ _ (turn_alike s plain names w word)
+    (walk_alike s plain names (walked s.rules names w word) rest)
 
 -- ---- after the walk
 
@@ -201,7 +211,9 @@ check_alike a b c = choice a (kind.DisplayHelpOnMissingArgumentOrSubcommand ∷ 
     (choice b (kind.MissingSubcommand ∷ []) _ (one kind.MissingSubcommand)
     (choice c (kind.MissingRequiredArgument ∷ []) [] (one kind.MissingRequiredArgument) none))
 
-level_alike : (s : Shape) → s.disable_help_subcommand ≡ true → (names : Names) (h : Held) (words : List Text) (has : Bool) (below : Kinds) → Alike below
+level_alike :
+    (s : Shape) → s.disable_help_subcommand ≡ true → (names : Names) (h : Held) (words : List Text) (has : Bool) (below : Kinds) →
+    Alike below
     → Alike (level_fault s names h words has below)
 level_alike s plain names h words has below p =
     let end = (walk s.rules names h words).held in

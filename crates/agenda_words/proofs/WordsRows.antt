@@ -1,8 +1,11 @@
 -- Worked rows of the command line, by the definition of what its words ask for.
+-- They answer no function, but try `asked_by`, which is unfolded with clap's definitions and computed. One row holds of
+-- any two plain words (`any_moment_and_rule`): it rests on how clap reads them.
 use Rattle.std.proofs.Common.{◌≡◌, List, ℕ, [], ◌∷◌, false, None, Some, Ok, Err, codes, refl}
 use Rattle.std.specs.Str.{bytes_eq}
 use Rattle.clap.specs.Lexer.{long_of, short_of}
 use Rattle.clap.proofs.OnLiterals.{clap_on_literals}
+use Rattle.plan_collect.specs.declared.Sizes.{Sizes}
 use Rattle.agenda_words.specs.declared.ask.Ask.TheVariants.{Next, Plan, Steps}
 use Rattle.agenda_words.specs.declared.ask.Asked.TheVariants.{Cron, Event}
 use Rattle.agenda_words.specs.Words.{asked_by, is_usage, wants_help}
@@ -111,21 +114,24 @@ plans_is_no_subcommand = refl
 abbrev plan_with : List (List ℕ) → List (List ℕ)
 plan_with words = codes "agenda" ∷ codes "plan" ∷ codes "--since" ∷ moment ∷ codes "--upto" ∷ codes "u" ∷ words
 
+abbrev sized : (planners room limit : ℕ) → Sizes
+sized planners room limit = record { planners = planners; room = room; limit = limit }
+
 -- a span alone: no crontab, no timer, and each number by its default
-a_span_is_given : asked_by (plan_with []) ≡ Ok (Plan moment (codes "u") None None 2 16 10000 [])
+a_span_is_given : asked_by (plan_with []) ≡ Ok (Plan moment (codes "u") None None (sized 2 16 10000) [])
 unfolding asked_by clap_on_literals
 a_span_is_given = refl
 
 -- every option
 all_is_given : asked_by (plan_with (codes "--crontab" ∷ codes "c" ∷ codes "--system-crontab" ∷ codes "s" ∷ codes "--planners" ∷ codes "3"
     ∷ codes "--room" ∷ codes "4" ∷ codes "--limit" ∷ codes "5" ∷ []))
-    ≡ Ok (Plan moment (codes "u") (Some (codes "c")) (Some (codes "s")) 3 4 5 [])
+    ≡ Ok (Plan moment (codes "u") (Some (codes "c")) (Some (codes "s")) (sized 3 4 5) [])
 unfolding asked_by clap_on_literals
 all_is_given = refl
 
 -- timers, also between options, in the order of the words
 timers_are_given : asked_by (plan_with (codes "b.timer" ∷ codes "--room=1" ∷ codes "a.timer" ∷ codes "--" ∷ codes "-c" ∷ []))
-    ≡ Ok (Plan moment (codes "u") None None 2 1 10000 (codes "b.timer" ∷ codes "a.timer" ∷ codes "-c" ∷ []))
+    ≡ Ok (Plan moment (codes "u") None None (sized 2 1 10000) (codes "b.timer" ∷ codes "a.timer" ∷ codes "-c" ∷ []))
 unfolding asked_by clap_on_literals
 timers_are_given = refl
 

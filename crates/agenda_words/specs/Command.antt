@@ -1,6 +1,6 @@
 -- The command line of the program, as clap reads it.
-use Rattle.std.specs.Prelude.{ℕ, true, pos, List, [], ◌∷◌, Some, codes}
-use Rattle.clap.specs.Words.{App, Rule, new_app, new_rule, with_subcommand}
+use Rattle.std.specs.Prelude.{ℕ, true, pos, List, [], ◌∷◌, ◌++◌, Some, codes}
+use Rattle.clap.specs.Words.{App, Rule, new_app, new_rule, with_rule, with_subcommand}
 use Rattle.clap.specs.Simple.{on_top}
 use Rattle.clap.specs.declared.builder.action.ArgAction.TheVariants.{Append}
 use Rattle.clap.specs.declared.builder.value_parser.ValueParser.TheVariants as parser
@@ -32,9 +32,18 @@ file_argument = record (argument_named (codes "file")) { required = true }
 abbrev pub timers_argument : Rule
 timers_argument = record (argument_named (codes "timer")) { action = Some Append }
 
+-- own: a subcommand with further options and arguments
+abbrev pub with_rules : App → List Rule → App
+with_rules app rules = on_top (λ s. record s { rules = s.rules ++ rules }) app
+
 -- own: a subcommand with these options and arguments
 abbrev pub subcommand_with : List ℕ → List Rule → App
-subcommand_with name rules = on_top (λ s. record s { rules = rules }) (new_app name)
+subcommand_with name rules = with_rules (new_app name) rules
+
+-- own: where jobs come from: `[--crontab F] [--system-crontab F] [TIMER ..]`
+abbrev pub with_sources : App → App
+with_sources app = with_rule (with_rule (with_rule app (option_named (codes "crontab"))) (option_named (codes "system-crontab")))
+    timers_argument
 
 -- own: `next --after T [--count N] (--cron TEXT or --calendar TEXT)`; that exactly one of the last two is there is tested
 -- after the parse
@@ -42,12 +51,11 @@ abbrev pub next : App
 next = subcommand_with (codes "next") (moment_option (codes "after") ∷ number_option (codes "count") (codes "1")
     ∷ option_named (codes "cron") ∷ option_named (codes "calendar") ∷ [])
 
--- own: `plan --since T --upto T [--crontab F] [--system-crontab F] [--planners N] [--room N] [--limit N] [TIMER ..]`
+-- own: `plan --since T --upto T [--crontab F] [--system-crontab F] [TIMER ..] [--planners N] [--room N] [--limit N]`
 abbrev pub plan : App
-plan = subcommand_with (codes "plan") (moment_option (codes "since") ∷ moment_option (codes "upto")
-    ∷ option_named (codes "crontab") ∷ option_named (codes "system-crontab")
-    ∷ number_option (codes "planners") (codes "2") ∷ number_option (codes "room") (codes "16")
-    ∷ number_option (codes "limit") (codes "10000") ∷ timers_argument ∷ [])
+plan = with_rules (with_sources (subcommand_with (codes "plan") (moment_option (codes "since") ∷ moment_option (codes "upto") ∷ [])))
+    (number_option (codes "planners") (codes "2") ∷ number_option (codes "room") (codes "16")
+    ∷ number_option (codes "limit") (codes "10000") ∷ [])
 
 -- own: `steps FILE`
 abbrev pub steps : App

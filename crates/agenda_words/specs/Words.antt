@@ -8,6 +8,7 @@ use Rattle.clap.specs.Words.{Kinds, Row, all_of, fault_of, first_of, one_of, sub
 use Rattle.clap.specs.declared.builder.value_parser.ValueParser.TheVariants as parser
 use Rattle.clap.specs.declared.error.kind.ErrorKind.{ErrorKind}
 use Rattle.clap.specs.declared.error.kind.ErrorKind.TheVariants.{DisplayHelp, DisplayVersion, OutOfMemory}
+use Rattle.plan_collect.specs.declared.Sizes.{Sizes}
 use Rattle.agenda_words.specs.declared.ask.Ask.{Ask}
 use Rattle.agenda_words.specs.declared.ask.Ask.TheVariants.{Next, Plan, Steps}
 use Rattle.agenda_words.specs.declared.ask.Asked.{Asked}
@@ -55,15 +56,21 @@ asked_by_next rows = do
   rule ← one_rule (first_of (codes "cron") rows) (first_of (codes "calendar") rows)
   Ok (Next after count rule)
 
+-- own: the sizes of a plan, in the order in which they are looked at
+abbrev pub sizes_in : List Row → Result Sizes Refusal
+sizes_in rows = do
+  planners ← wanted (number_in (one_of (codes "planners") rows))
+  room ← wanted (number_in (one_of (codes "room") rows))
+  limit ← wanted (number_in (one_of (codes "limit") rows))
+  Ok (record { planners = planners; room = room; limit = limit })
+
 -- own: the values that `plan` was given; the crontabs may be missing, and there may be any number of timers
 abbrev pub asked_by_plan : List Row → Result Ask Refusal
 asked_by_plan rows = do
   since ← wanted (first_of (codes "since") rows)
   upto ← wanted (first_of (codes "upto") rows)
-  planners ← wanted (number_in (one_of (codes "planners") rows))
-  room ← wanted (number_in (one_of (codes "room") rows))
-  limit ← wanted (number_in (one_of (codes "limit") rows))
-  Ok (Plan since upto (first_of (codes "crontab") rows) (first_of (codes "system-crontab") rows) planners room limit
+  sizes ← sizes_in rows
+  Ok (Plan since upto (first_of (codes "crontab") rows) (first_of (codes "system-crontab") rows) sizes
       (unwrap_or (all_of (codes "timer") rows) []))
 
 -- own: the file that `steps` was given

@@ -1,6 +1,7 @@
 //! What the words of the command line ask for.
 
 use crate::texts::Texts;
+use plan_collect::Sizes;
 use plan_texts::Text;
 use std::alloc::AllocError;
 use thiserror::Error;
@@ -27,12 +28,8 @@ pub enum Ask {
         crontab: Option<Text>,
         /// The path of the system crontab.
         system: Option<Text>,
-        /// How many planners.
-        planners: u32,
-        /// How many messages of each planner may wait.
-        room: u32,
-        /// How many starts at most.
-        limit: u32,
+        /// How many planners, with how much room each, and how many starts at most.
+        sizes: Sizes,
         /// The paths of timers, in the order of the words.
         timers: Texts,
     },

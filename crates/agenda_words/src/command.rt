@@ -1,10 +1,10 @@
 //! The command line, as `clap` reads it.
 ghost use Rattle.std.specs.Prelude.{◌≡◌, [], ◌∷◌, IfOk, false};
-ghost use Rattle.clap.specs.Words.{app_of, items_of, rule_of};
+ghost use Rattle.clap.specs.Words.{app_of, items_of, rule_of, with_rule, with_subcommand};
 ghost use Rattle.clap.specs.declared.builder.command.Command.TheViews.{out-Command};
 ghost use Rattle.agenda_words.specs.Command.{agenda, argument_named, file_argument, moment_option, next};
 ghost use Rattle.agenda_words.specs.Command.{number_option, option_named, plan, steps};
-ghost use Rattle.agenda_words.specs.Command.{timers_argument};
+ghost use Rattle.agenda_words.specs.Command.{timers_argument, with_sources};
 
 mod help;
 
@@ -12,69 +12,102 @@ use clap::{Arg, ArgAction, Command, value_parser};
 use std::alloc::{AllocError, Global};
 
 // The version of the program, which stands here alone, and what it was proved with.
-const VERSION: &str = "0.1.0\nproved with rattle-kit-13b logic dac8208d650f15bf";
+const VERSION: &str = "0.1.0\nproved with rattle-kit-13f logic dac8208d650f15bf";
 
 /// The command line of the program.
 pub(crate) fn agenda_command<'a>(alloc: Global) -> Result<Command<'a>, AllocError>
     ensures { IfOk result (λ command. app_of command ≡ agenda) }
 {
-    Command::new(alloc, "agenda")
+    let command = Command::new(alloc, "agenda")
         .bin_name("agenda")?
         .version(VERSION)
         .about(help::AGENDA)
         .after_help(help::AFTER_AGENDA)
         .subcommand_required(true)
-        .disable_help_subcommand(true)
-        .subcommand(next_command(alloc)?)?
-        .subcommand(plan_command(alloc)?)?
-        .subcommand(steps_command(alloc)?)
+        .disable_help_subcommand(true);
+    let command = with_command(command, next_command(alloc)?)?;
+    let command = with_command(command, plan_command(alloc)?)?;
+    let command = with_command(command, steps_command(alloc)?)?;
+    Ok(command)
 }
 
 fn next_command<'a>(alloc: Global) -> Result<Command<'a>, AllocError>
     ensures app { IfOk result (λ command. app_of command ≡ next) }
     ensures local { IfOk result (λ command. (out-Command command).has_globals ≡ false) }
 {
-    let options = vec![in alloc;
-        moment_option(alloc, "after", help::AFTER),
-        number_option(alloc, "count", "1", help::COUNT),
-        text_option(alloc, "cron", "TEXT", help::CRON),
-        text_option(alloc, "calendar", "TEXT", help::CALENDAR),
-    ]?;
-    Command::new(alloc, "next")
+    let command = Command::new(alloc, "next")
         .about(help::NEXT)
         .override_usage(help::NEXT_USAGE)
-        .after_help(help::AFTER_NEXT)
-        .args(options)
+        .after_help(help::AFTER_NEXT);
+    let command = with_argument(command, moment_option(alloc, "after", help::AFTER))?;
+    let command = with_argument(command, number_option(alloc, "count", "1", help::COUNT))?;
+    let command = with_argument(command, text_option(alloc, "cron", "TEXT", help::CRON))?;
+    let command = with_argument(
+        command,
+        text_option(alloc, "calendar", "TEXT", help::CALENDAR),
+    )?;
+    Ok(command)
 }
 
 fn plan_command<'a>(alloc: Global) -> Result<Command<'a>, AllocError>
     ensures app { IfOk result (λ command. app_of command ≡ plan) }
     ensures local { IfOk result (λ command. (out-Command command).has_globals ≡ false) }
 {
-    let arguments = vec![in alloc;
-        moment_option(alloc, "since", help::SINCE),
-        moment_option(alloc, "upto", help::UPTO),
-        text_option(alloc, "crontab", "F", help::CRONTAB),
-        text_option(alloc, "system-crontab", "F", help::SYSTEM_CRONTAB),
-        number_option(alloc, "planners", "2", help::PLANNERS),
-        number_option(alloc, "room", "16", help::ROOM),
-        number_option(alloc, "limit", "10000", help::LIMIT),
-        timers_argument(alloc),
-    ]?;
-    Command::new(alloc, "plan")
+    let command = Command::new(alloc, "plan")
         .about(help::PLAN)
-        .after_help(help::AFTER_PLAN)
-        .args(arguments)
+        .after_help(help::AFTER_PLAN);
+    let command = with_argument(command, moment_option(alloc, "since", help::SINCE))?;
+    let command = with_argument(command, moment_option(alloc, "upto", help::UPTO))?;
+    let command = with_sources(alloc, command)?;
+    let command = with_argument(
+        command,
+        number_option(alloc, "planners", "2", help::PLANNERS),
+    )?;
+    let command = with_argument(command, number_option(alloc, "room", "16", help::ROOM))?;
+    let command = with_argument(command, number_option(alloc, "limit", "10000", help::LIMIT))?;
+    Ok(command)
 }
 
 fn steps_command<'a>(alloc: Global) -> Result<Command<'a>, AllocError>
     ensures app { IfOk result (λ command. app_of command ≡ steps) }
     ensures local { IfOk result (λ command. (out-Command command).has_globals ≡ false) }
 {
-    Command::new(alloc, "steps")
+    let command = Command::new(alloc, "steps")
         .about(help::STEPS)
-        .after_help(help::AFTER_STEPS)
-        .arg(file_argument(alloc))
+        .after_help(help::AFTER_STEPS);
+    let command = with_argument(command, file_argument(alloc))?;
+    Ok(command)
+}
+
+// The command with one more subcommand.
+fn with_command<'a>(command: Command<'a>, below: Command<'a>) -> Result<Command<'a>, AllocError>
+    requires local { (out-Command below).has_globals ≡ false }
+    ensures { IfOk result (λ new. app_of new ≡ with_subcommand (app_of command.entry) (app_of below.entry).top) }
+{
+    command.subcommand(below)
+}
+
+// The command with the arguments that name where its jobs come from.
+fn with_sources<'a>(alloc: Global, command: Command<'a>) -> Result<Command<'a>, AllocError>
+    requires local { (out-Command command).has_globals ≡ false }
+    ensures app { IfOk result (λ new. app_of new ≡ with_sources (app_of command.entry)) }
+    ensures local { IfOk result (λ new. (out-Command new).has_globals ≡ false) }
+{
+    let command = with_argument(command, text_option(alloc, "crontab", "F", help::CRONTAB))?;
+    let system = text_option(alloc, "system-crontab", "F", help::SYSTEM_CRONTAB);
+    let command = with_argument(command, system)?;
+    let command = with_argument(command, timers_argument(alloc))?;
+    Ok(command)
+}
+
+// The command with one more argument, which is its own and no subcommand's.
+fn with_argument<'a>(command: Command<'a>, argument: Arg<'a>) -> Result<Command<'a>, AllocError>
+    requires own { argument.global ≡ false }
+    requires local { (out-Command command).has_globals ≡ false }
+    ensures app { IfOk result (λ new. app_of new ≡ with_rule (app_of command.entry) (rule_of argument.entry)) }
+    ensures local { IfOk result (λ new. (out-Command new).has_globals ≡ false) }
+{
+    command.arg(argument)
 }
 
 // `FILE`, which has to be there.

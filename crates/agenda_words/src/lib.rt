@@ -1,4 +1,7 @@
 //! The words of the command line: what they ask for, or the text of help or of usage.
+//!
+//! It stands on the kit's `clap`, and on plan_texts for texts that are kept. Open `words` first, then `command`, the command line in
+//! clap's words, with its `help`.
 #![tactic(auto)]
 
 mod ask;

@@ -2,13 +2,14 @@
 ghost use Rattle.std.specs.Prelude.{IfOk, map, string_bytes};
 ghost use Rattle.clap.specs.Words.{found_of, kind_of, rows_of, subcommand_rows_of};
 ghost use Rattle.agenda_words.specs.Words.{Gives, IsAnswerTo, asked_by, asked_by_next};
-ghost use Rattle.agenda_words.specs.Words.{asked_by_plan, asked_by_steps, asked_by_subcommand};
+ghost use Rattle.agenda_words.specs.Words.{asked_by_plan, asked_by_steps, asked_by_subcommand, sizes_in};
 
 use crate::ask::{Ask, Asked, UsageFault};
 use crate::command::agenda_command;
 use crate::values::{number_of, text, text_if_given, text_of, texts_of};
 use clap::ArgMatches;
 use clap::error::ErrorKind;
+use plan_collect::Sizes;
 use plan_texts::Text;
 use std::alloc::{AllocError, Global};
 
@@ -67,19 +68,29 @@ fn asked_by_plan(alloc: Global, given: &ArgMatches<'_>) -> Result<Ask, UsageFaul
     let upto = text_of(alloc, given, "upto")?;
     let crontab = text_if_given(alloc, given, "crontab")?;
     let system = text_if_given(alloc, given, "system-crontab")?;
-    let planners = number_of(alloc, given, "planners")?;
-    let room = number_of(alloc, given, "room")?;
-    let limit = number_of(alloc, given, "limit")?;
+    let sizes = sizes_of(alloc, given)?;
     let timers = texts_of(alloc, given, "timer")?;
     Ok(Ask::Plan {
         since,
         upto,
         crontab,
         system,
-        planners,
-        room,
-        limit,
+        sizes,
         timers,
+    })
+}
+
+// The sizes of a plan. The numbers of the words have 32 bits; here they become a plan's, as which they go on.
+fn sizes_of(alloc: Global, given: &ArgMatches<'_>) -> Result<Sizes, UsageFault>
+    ensures { Gives result (sizes_in (rows_of (found_of given.now))) }
+{
+    let planners = number_of(alloc, given, "planners")?;
+    let room = number_of(alloc, given, "room")?;
+    let limit = number_of(alloc, given, "limit")?;
+    Ok(Sizes {
+        planners: planners as usize,
+        room: room as usize,
+        limit: u64::from(limit),
     })
 }
 

@@ -1,4 +1,6 @@
--- An agenda ascends.
+-- An agenda ascends: for `Collector::finish`, by HoldsLemmas.antt, where the sorted entries are shown to be the agenda.
+-- By induction over the seconds, and in each row over the rules. In a row the jobs ascend, and no entry of a later row
+-- comes before one of an earlier second.
 use Rattle.std.proofs.Common.{◌≡◌, ℕ, zero, suc, ◌+◌, ◌-◌, ◌<◌, ◌≤◌, Bool, true, false, cond, List, [], ◌∷◌, ◌++◌, arith}
 use Rattle.std.specs.List.{range_with_len, flat_map}
 use Rattle.plan_match.specs.declared.rule.Rule.{Rule}
@@ -19,33 +21,43 @@ none_step false x y row here none = none
 NoneBefore-row : (n j job : ℕ) (rules : List Rule) → j ≤ job → NoneBefore (n, j) (row_from job rules n)
 NoneBefore-row n j job [] low = tt
 NoneBefore-row n j job (rule ∷ rules) low =
-    none_step (is_start rule n) (n, j) (n, job) (row_from (job + 1) rules n) (before_false (n, job) (n, j) (omega arith, λ same. low)) (NoneBefore-row n j (job + 1) rules (omega arith))
+    none_step (is_start rule n) (n, j) (n, job) (row_from (job + 1) rules n)
+    (before_false (n, job) (n, j) (omega arith, λ same. low)) (NoneBefore-row n j (job + 1) rules (omega arith))
 
 -- nor before one of an earlier second
 NoneBefore-later : (m j n job : ℕ) (rules : List Rule) → m < n → NoneBefore (m, j) (row_from job rules n)
 NoneBefore-later m j n job [] lt = tt
 NoneBefore-later m j n job (rule ∷ rules) lt =
-    none_step (is_start rule n) (m, j) (n, job) (row_from (job + 1) rules n) (before_false (n, job) (m, j) (omega arith, λ same. absurd (omega arith))) (NoneBefore-later m j n (job + 1) rules lt)
+    none_step (is_start rule n) (m, j) (n, job) (row_from (job + 1) rules n)
+    (before_false (n, job) (m, j) (omega arith, λ same. absurd (omega arith))) (NoneBefore-later m j n (job + 1) rules lt)
 
 NoneBefore-rows : (m j : ℕ) (rules : List Rule) (a k : ℕ) → m < a → NoneBefore (m, j) (flat_map (row_from 0 rules) (range_with_len a k))
 NoneBefore-rows m j rules a zero lt = tt
 NoneBefore-rows m j rules a (suc k) lt =
-    NoneBefore-append (m, j) (row_from 0 rules a) (flat_map (row_from 0 rules) (range_with_len (a + 1) k)) (NoneBefore-later m j a 0 rules lt) (NoneBefore-rows m j rules (a + 1) k (omega arith))
+    NoneBefore-append (m, j) (row_from 0 rules a) (flat_map (row_from 0 rules) (range_with_len (a + 1) k))
+    (NoneBefore-later m j a 0 rules lt) (NoneBefore-rows m j rules (a + 1) k (omega arith))
 
-ascends_step : (is : Bool) (x : ℕ × ℕ) (row ys : List (ℕ × ℕ)) → NoneBefore x (row ++ ys) → Ascends (row ++ ys) → Ascends (cond is (x ∷ row) row ++ ys)
+ascends_step :
+    (is : Bool) (x : ℕ × ℕ) (row ys : List (ℕ × ℕ)) → NoneBefore x (row ++ ys) → Ascends (row ++ ys) →
+    Ascends (cond is (x ∷ row) row ++ ys)
 ascends_step true x row ys none up = (none, up)
 ascends_step false x row ys none up = up
 
 -- a row before later entries
-Ascends-row : (n job : ℕ) (rules : List Rule) (ys : List (ℕ × ℕ)) → ((j : ℕ) → NoneBefore (n, j) ys) → Ascends ys → Ascends (row_from job rules n ++ ys)
+Ascends-row :
+    (n job : ℕ) (rules : List Rule) (ys : List (ℕ × ℕ)) → ((j : ℕ) → NoneBefore (n, j) ys) → Ascends ys →
+    Ascends (row_from job rules n ++ ys)
 Ascends-row n job [] ys none up = up
 Ascends-row n job (rule ∷ rules) ys none up =
-    ascends_step (is_start rule n) (n, job) (row_from (job + 1) rules n) ys (NoneBefore-append (n, job) (row_from (job + 1) rules n) ys (NoneBefore-row n job (job + 1) rules (omega arith)) (none job)) (Ascends-row n (job + 1) rules ys none up)
+    ascends_step (is_start rule n) (n, job) (row_from (job + 1) rules n) ys
+    (NoneBefore-append (n, job) (row_from (job + 1) rules n) ys (NoneBefore-row n job (job + 1) rules (omega arith)) (none job))
+    (Ascends-row n (job + 1) rules ys none up)
 
 Ascends-rows : (rules : List Rule) (a k : ℕ) → Ascends (flat_map (row_from 0 rules) (range_with_len a k))
 Ascends-rows rules a zero = tt
 Ascends-rows rules a (suc k) =
-    Ascends-row a 0 rules (flat_map (row_from 0 rules) (range_with_len (a + 1) k)) (λ j. NoneBefore-rows a j rules (a + 1) k (omega arith)) (Ascends-rows rules (a + 1) k)
+    Ascends-row a 0 rules (flat_map (row_from 0 rules) (range_with_len (a + 1) k))
+    (λ j. NoneBefore-rows a j rules (a + 1) k (omega arith)) (Ascends-rows rules (a + 1) k)
 
 pub Ascends-agenda : (rules : List Rule) (span : Bounds) → Ascends (agenda rules span)
 unfolding agenda

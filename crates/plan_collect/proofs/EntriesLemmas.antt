@@ -1,4 +1,6 @@
--- Lists of entries: what they weigh, and when one is the other in order.
+-- Lists of entries: what they weigh, and when one is the other in order. For `Collector::finish`, by HoldsLemmas.antt.
+-- The aim is `Ascends-unique`, by induction over both lists. Hard is that they begin alike: weigh 1 what comes before
+-- y, the first of one list. That list weighs 0, as it ascends, so the other does, and its first isn't before y.
 use Rattle.std.proofs.Common.{◌≡◌, ℕ, suc, ◌+◌, ◌<◌, ◌≤◌, Bool, true, false, cond, List, [], ◌∷◌, ◌++◌, length, refl, ap, sym, ◌∙◌, inl, inr, arith}
 use Rattle.std.specs.Prelude.{nat_lt, ◌==◌, IsPermutation}
 use Rattle.std.specs.List.{sum_by}
@@ -117,7 +119,9 @@ pub Ascends-sorted : (xs : List (ℕ × ℕ)) → IsSorted (λ x y. ordering_the
 Ascends-sorted [] sorted = tt
 Ascends-sorted (x ∷ []) sorted = (tt, tt)
 Ascends-sorted (x ∷ y ∷ ys) sorted =
-    let later : Ascends (y ∷ ys) = Ascends-sorted (y ∷ ys) (λ k d low high. (let place : suc k + 1 ≡ suc (k + 1) = omega arith in rw place at (sorted (suc k) d (omega arith) (omega arith)))) in
+    let later : Ascends (y ∷ ys) = Ascends-sorted (y ∷ ys)
+    (λ k d low high. (let place : suc k + 1 ≡ suc (k + 1) = omega arith in rw place at
+    (sorted (suc k) d (omega arith) (omega arith)))) in
     let first : is_before y x ≡ false = sorted 0 x (omega arith) (omega arith) in
     ((first, NoneBefore-trans x y ys first later.0), later)
 
@@ -153,7 +157,8 @@ Ascends-unique [] [] same up rises = refl
 Ascends-unique [] (y ∷ ys) same up rises = let none = SameEntries-length [] (y ∷ ys) same in absurd (omega arith)
 Ascends-unique (x ∷ xs) [] same up rises = let none = SameEntries-length (x ∷ xs) [] same in absurd (omega arith)
 Ascends-unique (x ∷ xs) (y ∷ ys) same up rises =
-    let first : x ≡ y = neither_before x y (first_not_before x y xs ys same rises) (first_not_before y x ys xs (SameEntries-sym (x ∷ xs) (y ∷ ys) same) up) in
+    let first : x ≡ y = neither_before x y (first_not_before x y xs ys same rises)
+    (first_not_before y x ys xs (SameEntries-sym (x ∷ xs) (y ∷ ys) same) up) in
     let rest : SameEntries xs ys = λ weight. (let both = same weight in let heads : weight x ≡ weight y = ap weight first in omega arith) in
     let later : xs ≡ ys = Ascends-unique xs ys rest up.1 rises.1 in
     λ i. first i ∷ later i

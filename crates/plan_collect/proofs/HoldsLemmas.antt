@@ -1,4 +1,6 @@
--- What a collector holds as it begins, takes a piece and ends.
+-- What a collector holds as it begins, takes a piece and ends: for the invariant of the type, `Holds`, in
+-- `Collector::new` and `keep`, and for `has_room` and `finish`. By any weights, what is held with a piece is what was
+-- held and the piece's starts (`with_piece`), within the agenda: so it passes the limit where a piece has no room.
 use Rattle.std.proofs.Common.{◌≡◌, ℕ, ◌+◌, ◌-◌, ◌<◌, ◌≤◌, ◌%◌, Bool, true, false, ◌&&◌, ◌==◌, List, [], ◌∷◌, ◌++◌, length, Option, None, Some, inl, inr, refl, ap, sym, subst, ◌∙◌, arith, length-append, length-set, get_or-set_same, get_or-set_other}
 use Rattle.std.specs.Prelude.{slice_get, slice_index, slice_set, replicate, nat_lt, nat_le, IsPermutation}
 use Rattle.std.specs.List.{list_all}
@@ -33,12 +35,18 @@ nothing_held job since (rule ∷ rules) =
     rw none (nothing_held (job + 1) since rules)
 
 -- a new collector holds nothing
-pub Holds-begun : (rules : List Rule) (span : Bounds) (limit planners : ℕ) (covered : List ℕ) (ended : List Bool) (entries : List (ℕ × ℕ)) (many first : ℕ) → covered ≡ replicate many first → many ≡ length rules → first ≡ span.since → ended ≡ replicate planners false → is_size planners ≡ true → is_limit limit ≡ true → span.since ≤ span.upto → entries ≡ [] → Holds (record { rules = rules; span = span; limit = limit; covered = covered; ended = ended }) entries
+pub Holds-begun :
+    (rules : List Rule) (span : Bounds) (limit planners : ℕ) (covered : List ℕ) (ended : List Bool) (entries : List (ℕ × ℕ))
+    (many first : ℕ) →
+    covered ≡ replicate many first → many ≡ length rules → first ≡ span.since → ended ≡ replicate planners false →
+    is_size planners ≡ true → is_limit limit ≡ true → span.since ≤ span.upto → entries ≡ [] →
+    Holds (record { rules = rules; span = span; limit = limit; covered = covered; ended = ended }) entries
 Holds-begun rules span limit planners covered ended entries many first all many_is first_is none_ended size limited ordered none =
     let is : covered ≡ replicate (length rules) span.since = all ∙ (λ i. replicate (many_is i) (first_is i)) in
     let long : length covered ≡ length rules = ap length is ∙ length-replicate (length rules) span.since in
     let senders : length ended ≡ planners = ap length none_ended ∙ length-replicate planners false in
-    let each : (job : ℕ) → job < length covered → slice_index covered job ≡ span.since = λ job lt. ap (λ xs. slice_index xs job) is ∙ get_or-replicate (length rules) job span.since 0 (omega arith) in
+    let each : (job : ℕ) → job < length covered → slice_index covered job ≡ span.since = λ job lt. ap (λ xs. slice_index xs job) is
+    ∙ get_or-replicate (length rules) job span.since 0 (omega arith) in
     record {
       same = λ weight. ap (weigh weight) (none ∙ sym (ap (held_from 0 span.since rules) is ∙ nothing_held 0 span.since rules));
       few = (let empty : length entries ≡ 0 = ap length none in omega arith);
@@ -55,7 +63,8 @@ rule_of_some None rule h = absurd (false≢true h)
 rule_of_some (Some own) rule h = ap Some ((same_rule-Decides own rule).0 h)
 
 -- the job of a piece that belongs is there, and has its rule
-pub known_rule : (rules : List Rule) (job : ℕ) (rule : Rule) → is_rule_of (slice_get rules job) rule ≡ true → slice_get rules job ≡ Some rule
+pub known_rule :
+    (rules : List Rule) (job : ℕ) (rule : Rule) → is_rule_of (slice_get rules job) rule ≡ true → slice_get rules job ≡ Some rule
 known_rule rules job rule is = rule_of_some (slice_get rules job) rule is
 
 -- what a piece that adjoins adds
@@ -65,7 +74,9 @@ record Fits (c : Collected) (job : ℕ) (piece : Part) : Type 0 where
   begins : slice_index c.covered job ≡ piece.since
   ends : piece.upto ≤ c.span.upto
 
-fits : (c : Collected) (entries : List (ℕ × ℕ)) (job : ℕ) (piece : Part) → Holds c entries → is_rule_of (slice_get c.rules job) piece.rule ≡ true → adjoins c (note.Part job piece) ≡ true → Fits c job piece
+fits :
+    (c : Collected) (entries : List (ℕ × ℕ)) (job : ℕ) (piece : Part) → Holds c entries →
+    is_rule_of (slice_get c.rules job) piece.rule ≡ true → adjoins c (note.Part job piece) ≡ true → Fits c job piece
 fits c entries job piece holds belongs adjoins =
     let known = known_rule c.rules job piece.rule belongs in
     let there : job < length c.rules = slice_get_within c.rules job piece.rule known in
@@ -79,7 +90,11 @@ fits c entries job piece holds belongs adjoins =
     }
 
 -- what is held with a piece, by any weights
-with_piece : (weight : ℕ × ℕ → ℕ) (c : Collected) (entries : List (ℕ × ℕ)) (job : ℕ) (piece : Part) → Holds c entries → Fits c job piece → piece.since ≤ piece.upto → weigh weight (held_from 0 c.span.since c.rules (slice_set c.covered job piece.upto)) ≡ weigh weight (held c) + weigh weight (entries_of job (starts piece.rule piece.since piece.upto))
+with_piece :
+    (weight : ℕ × ℕ → ℕ) (c : Collected) (entries : List (ℕ × ℕ)) (job : ℕ) (piece : Part) → Holds c entries → Fits c job piece →
+    piece.since ≤ piece.upto →
+    weigh weight (held_from 0 c.span.since c.rules (slice_set c.covered job piece.upto)) ≡ weigh weight (held c) + weigh weight
+    (entries_of job (starts piece.rule piece.since piece.upto))
 with_piece weight c entries job piece holds fit forward =
     let begins = fit.begins in
     let from : c.span.since ≤ slice_index c.covered job = holds.since job fit.there in
@@ -88,7 +103,12 @@ with_piece weight c entries job piece holds fit forward =
     rw (number, begins) at more
 
 -- a collector holds what it held and the starts of an accepted piece
-pub Holds-more : (c : Collected) (entries new : List (ℕ × ℕ)) (job : ℕ) (piece : Part) → Holds c entries → is_rule_of (slice_get c.rules job) piece.rule ≡ true → adjoins c (note.Part job piece) ≡ true → has_room c (note.Part job piece) ≡ true → piece.since ≤ piece.upto → new ≡ entries ++ entries_of job (starts piece.rule piece.since piece.upto) → Holds (record c { covered = slice_set c.covered job piece.upto }) new
+pub Holds-more :
+    (c : Collected) (entries new : List (ℕ × ℕ)) (job : ℕ) (piece : Part) → Holds c entries →
+    is_rule_of (slice_get c.rules job) piece.rule ≡ true → adjoins c (note.Part job piece) ≡ true →
+    has_room c (note.Part job piece) ≡ true → piece.since ≤ piece.upto →
+    new ≡ entries ++ entries_of job (starts piece.rule piece.since piece.upto) →
+    Holds (record c { covered = slice_set c.covered job piece.upto }) new
 Holds-more c entries new job piece holds belongs adjoins room forward is =
     let fit = fits c entries job piece holds belongs adjoins in
     let added = starts piece.rule piece.since piece.upto in
@@ -99,7 +119,9 @@ Holds-more c entries new job piece holds belongs adjoins room forward is =
     let there = fit.there in
     let as_many = holds.jobs in
     record {
-      same = λ weight. ap (weigh weight) is ∙ weigh-append weight entries (entries_of job added) ∙ ap (λ n. n + weigh weight (entries_of job added)) (holds.same weight) ∙ sym (with_piece weight c entries job piece holds fit forward);
+      same = λ weight. ap (weigh weight) is ∙ weigh-append weight entries (entries_of job added) ∙ ap
+          (λ n. n + weigh weight (entries_of job added)) (holds.same weight) ∙ sym
+          (with_piece weight c entries job piece holds fit forward);
       few = (
           let fewer : length (held c) + length added ≤ c.limit = leb-true (length (held c) + length added) c.limit room in
           let same : length entries ≡ length (held c) = SameEntries-length entries (held c) holds.same in
@@ -109,12 +131,16 @@ Holds-more c entries new job piece holds belongs adjoins room forward is =
       size = holds.size;
       jobs = omega arith;
       since = λ k lt. elim (cases_eq k job) [
-        | inl here ↦ (let is : slice_index (slice_set c.covered job piece.upto) k ≡ piece.upto = ap (slice_index (slice_set c.covered job piece.upto)) here ∙ get_or-set_same c.covered job piece.upto 0 fit.there in omega arith)
-        | inr other ↦ (let is : slice_index (slice_set c.covered job piece.upto) k ≡ slice_index c.covered k = get_or-set_other c.covered job k piece.upto 0 other in let low = holds.since k (omega arith) in omega arith)
+        | inl here ↦ (let is : slice_index (slice_set c.covered job piece.upto) k ≡ piece.upto = ap
+            (slice_index (slice_set c.covered job piece.upto)) here ∙ get_or-set_same c.covered job piece.upto 0 fit.there in omega arith)
+        | inr other ↦ (let is : slice_index (slice_set c.covered job piece.upto) k ≡ slice_index c.covered k =
+            get_or-set_other c.covered job k piece.upto 0 other in let low = holds.since k (omega arith) in omega arith)
       ];
       upto = λ k lt. elim (cases_eq k job) [
-        | inl here ↦ (let is : slice_index (slice_set c.covered job piece.upto) k ≡ piece.upto = ap (slice_index (slice_set c.covered job piece.upto)) here ∙ get_or-set_same c.covered job piece.upto 0 fit.there in omega arith)
-        | inr other ↦ (let is : slice_index (slice_set c.covered job piece.upto) k ≡ slice_index c.covered k = get_or-set_other c.covered job k piece.upto 0 other in let high = holds.upto k (omega arith) in omega arith)
+        | inl here ↦ (let is : slice_index (slice_set c.covered job piece.upto) k ≡ piece.upto = ap
+            (slice_index (slice_set c.covered job piece.upto)) here ∙ get_or-set_same c.covered job piece.upto 0 fit.there in omega arith)
+        | inr other ↦ (let is : slice_index (slice_set c.covered job piece.upto) k ≡ slice_index c.covered k =
+            get_or-set_other c.covered job k piece.upto 0 other in let high = holds.upto k (omega arith) in omega arith)
       ];
       ordered = holds.ordered;
     }
@@ -127,7 +153,10 @@ held_within c within =
     omega (arith, le, weigh-length (held c), weigh-length (agenda c.rules c.span))
 
 -- where a piece has no room, the agenda has more entries than the limit
-pub too_many : (c : Collected) (entries : List (ℕ × ℕ)) (job : ℕ) (piece : Part) → Holds c entries → is_rule_of (slice_get c.rules job) piece.rule ≡ true → adjoins c (note.Part job piece) ≡ true → has_room c (note.Part job piece) ≡ false → c.limit < length (agenda c.rules c.span)
+pub too_many :
+    (c : Collected) (entries : List (ℕ × ℕ)) (job : ℕ) (piece : Part) → Holds c entries →
+    is_rule_of (slice_get c.rules job) piece.rule ≡ true → adjoins c (note.Part job piece) ≡ true →
+    has_room c (note.Part job piece) ≡ false → c.limit < length (agenda c.rules c.span)
 too_many c entries job piece holds belongs adjoins room =
     let fit = fits c entries job piece holds belongs adjoins in
     let added = starts piece.rule piece.since piece.upto in
@@ -135,7 +164,8 @@ too_many c entries job piece holds belongs adjoins room =
     let same : length entries ≡ length (held c) = SameEntries-length entries (held c) holds.same in
     let few = holds.few in
     elim (cases_lt piece.upto piece.since) [
-      | inl backward ↦ (let none : length added ≡ 0 = ap length (no_starts piece.rule piece.since piece.upto (omega arith)) in absurd (omega arith))
+      | inl backward ↦ (let none : length added ≡ 0 = ap length (no_starts piece.rule piece.since piece.upto (omega arith)) in
+          absurd (omega arith))
       | inr forward ↦ (
           let after : Collected = record c { covered = slice_set c.covered job piece.upto } in
           let all = with_piece (λ _. 1) c entries job piece holds fit forward in
@@ -146,55 +176,92 @@ too_many c entries job piece holds belongs adjoins room =
           let there = fit.there in
           let within = AreWithin-each c.span after.covered
           (λ k lt. elim (cases_eq k job) [
-            | inl here ↦ (let is : slice_index (slice_set c.covered job piece.upto) k ≡ piece.upto = ap (slice_index (slice_set c.covered job piece.upto)) here ∙ get_or-set_same c.covered job piece.upto 0 fit.there in omega arith)
-            | inr other ↦ (let is : slice_index (slice_set c.covered job piece.upto) k ≡ slice_index c.covered k = get_or-set_other c.covered job k piece.upto 0 other in let low = holds.since k (omega arith) in omega arith)
+            | inl here ↦ (let is : slice_index (slice_set c.covered job piece.upto) k ≡ piece.upto = ap
+                (slice_index (slice_set c.covered job piece.upto)) here ∙ get_or-set_same c.covered job piece.upto 0 fit.there in
+                omega arith)
+            | inr other ↦ (let is : slice_index (slice_set c.covered job piece.upto) k ≡ slice_index c.covered k =
+                get_or-set_other c.covered job k piece.upto 0 other in let low = holds.since k (omega arith) in omega arith)
           ])
           (λ k lt. elim (cases_eq k job) [
-            | inl here ↦ (let is : slice_index (slice_set c.covered job piece.upto) k ≡ piece.upto = ap (slice_index (slice_set c.covered job piece.upto)) here ∙ get_or-set_same c.covered job piece.upto 0 fit.there in omega arith)
-            | inr other ↦ (let is : slice_index (slice_set c.covered job piece.upto) k ≡ slice_index c.covered k = get_or-set_other c.covered job k piece.upto 0 other in let high = holds.upto k (omega arith) in omega arith)
+            | inl here ↦ (let is : slice_index (slice_set c.covered job piece.upto) k ≡ piece.upto = ap
+                (slice_index (slice_set c.covered job piece.upto)) here ∙ get_or-set_same c.covered job piece.upto 0 fit.there in
+                omega arith)
+            | inr other ↦ (let is : slice_index (slice_set c.covered job piece.upto) k ≡ slice_index c.covered k =
+                get_or-set_other c.covered job k piece.upto 0 other in let high = holds.upto k (omega arith) in omega arith)
           ]) in
           let most = held_within after within in
-          omega (arith, all, most, weigh-length (held after), weigh-length (held c), weigh-length (entries_of job added), length-entries_of job added))
+          omega (
+            arith,
+            all,
+            most,
+            weigh-length (held after),
+            weigh-length (held c),
+            weigh-length
+                (entries_of job added),
+            length-entries_of job added,
+          ))
     ]
 
 -- what a complete collector holds, sorted, is the agenda
-pub agenda_held : (c : Collected) (entries sorted : List (ℕ × ℕ)) → Holds c entries → is_complete c ≡ true → IsPermutation entries sorted → IsSorted (λ x y. ordering_then (nat_cmp x.0 y.0) (nat_cmp x.1 y.1)) sorted → sorted ≡ agenda c.rules c.span
+pub agenda_held :
+    (c : Collected) (entries sorted : List (ℕ × ℕ)) → Holds c entries → is_complete c ≡ true → IsPermutation entries sorted →
+    IsSorted (λ x y. ordering_then (nat_cmp x.0 y.0) (nat_cmp x.1 y.1)) sorted → sorted ≡ agenda c.rules c.span
 unfolding agenda
 agenda_held c entries sorted holds complete moved up =
     let both = and_parts (list_all (λ upto. upto == c.span.upto) c.covered) (list_all (λ has_sent_last. has_sent_last) c.ended) complete in
-    let all : SameEntries entries (agenda c.rules c.span) = λ weight. holds.same weight ∙ held-complete weight 0 c.span c.rules c.covered holds.jobs both.0 in
-    Ascends-unique sorted (agenda c.rules c.span) (SameEntries-permutation entries sorted (agenda c.rules c.span) moved all) (Ascends-sorted sorted up) (Ascends-agenda c.rules c.span)
+    let all : SameEntries entries (agenda c.rules c.span) = λ weight. holds.same weight
+    ∙ held-complete weight 0 c.span c.rules c.covered holds.jobs both.0 in
+    Ascends-unique sorted (agenda c.rules c.span) (SameEntries-permutation entries sorted (agenda c.rules c.span) moved all)
+    (Ascends-sorted sorted up) (Ascends-agenda c.rules c.span)
 
 -- the same of the value that contracts see, which is that of the fields
-pub Holds-kept : (view c : Collected) (entries new : List (ℕ × ℕ)) (job : ℕ) (piece : Part) (found : List ℕ) (end : ℕ) → view ≡ c → Holds view entries → is_rule_of (slice_get c.rules job) piece.rule ≡ true → adjoins c (note.Part job piece) ≡ true → has_room c (note.Part job piece) ≡ true → found ≡ starts piece.rule piece.since piece.upto → end ≡ piece.upto → piece.since ≤ end → new ≡ entries ++ entries_of job found → Holds (record view { covered = slice_set view.covered job end }) new
+pub Holds-kept :
+    (view c : Collected) (entries new : List (ℕ × ℕ)) (job : ℕ) (piece : Part) (found : List ℕ) (end : ℕ) → view ≡ c →
+    Holds view entries → is_rule_of (slice_get c.rules job) piece.rule ≡ true → adjoins c (note.Part job piece) ≡ true →
+    has_room c (note.Part job piece) ≡ true → found ≡ starts piece.rule piece.since piece.upto → end ≡ piece.upto →
+    piece.since ≤ end → new ≡ entries ++ entries_of job found →
+    Holds (record view { covered = slice_set view.covered job end }) new
 Holds-kept view c entries new job piece found end e holds belongs adjoining room all last forward is =
     let belongs' = subst (λ v. is_rule_of (slice_get v.rules job) piece.rule ≡ true) (sym e) belongs in
     let adjoining' = subst (λ v. adjoins v (note.Part job piece) ≡ true) (sym e) adjoining in
     let room' = subst (λ v. has_room v (note.Part job piece) ≡ true) (sym e) room in
-    let kept = Holds-more view entries new job piece holds belongs' adjoining' room' (omega arith) (is ∙ ap (λ xs. entries ++ entries_of job xs) all) in
+    let kept = Holds-more view entries new job piece holds belongs' adjoining' room' (omega arith)
+    (is ∙ ap (λ xs. entries ++ entries_of job xs) all) in
     subst (λ n. Holds (record view { covered = slice_set view.covered job n }) new) (sym last) kept
 
 -- the test of room by the entries that are there
-pub room_is : (view c : Collected) (entries : List (ℕ × ℕ)) (job : ℕ) (piece : Part) (found : List ℕ) (many : ℕ) → view ≡ c → Holds view entries → found ≡ starts piece.rule piece.since piece.upto → many ≡ length entries → nat_le (length found) (view.limit - many) ≡ has_room c (note.Part job piece)
+pub room_is :
+    (view c : Collected) (entries : List (ℕ × ℕ)) (job : ℕ) (piece : Part) (found : List ℕ) (many : ℕ) → view ≡ c →
+    Holds view entries → found ≡ starts piece.rule piece.since piece.upto → many ≡ length entries →
+    nat_le (length found) (view.limit - many) ≡ has_room c (note.Part job piece)
 room_is view c entries job piece found many e holds all is =
     let same : length entries ≡ length (held view) = SameEntries-length entries (held view) holds.same in
     let few = holds.few in
     let long : length found ≡ length (starts piece.rule piece.since piece.upto) = ap length all in
     let by_view : nat_le (length found) (view.limit - many) ≡ has_room view (note.Part job piece) =
     elim (cases_lt view.limit (length (held view) + length (starts piece.rule piece.since piece.upto))) [
-      | inl more ↦ lt-leb (length found) (view.limit - many) (omega arith) ∙ sym (lt-leb (length (held view) + length (starts piece.rule piece.since piece.upto)) view.limit more)
-      | inr room ↦ le-leb (length found) (view.limit - many) (omega arith) ∙ sym (le-leb (length (held view) + length (starts piece.rule piece.since piece.upto)) view.limit room)
+      | inl more ↦ lt-leb (length found) (view.limit - many) (omega arith) ∙ sym
+          (lt-leb (length (held view) + length (starts piece.rule piece.since piece.upto)) view.limit more)
+      | inr room ↦ le-leb (length found) (view.limit - many) (omega arith) ∙ sym
+          (le-leb (length (held view) + length (starts piece.rule piece.since piece.upto)) view.limit room)
     ] in
     by_view ∙ ap (λ v. has_room v (note.Part job piece)) e
 
 -- where there is no room for a piece that belongs and adjoins, the agenda has more entries than the limit
-pub no_room : (view c : Collected) (entries : List (ℕ × ℕ)) (planner job : ℕ) (piece : Part) → view ≡ c → Holds view entries → belongs c planner (note.Part job piece) ≡ true → adjoins c (note.Part job piece) ≡ true → has_room c (note.Part job piece) ≡ false → c.limit < length (agenda c.rules c.span)
+pub no_room :
+    (view c : Collected) (entries : List (ℕ × ℕ)) (planner job : ℕ) (piece : Part) → view ≡ c → Holds view entries →
+    belongs c planner (note.Part job piece) ≡ true → adjoins c (note.Part job piece) ≡ true →
+    has_room c (note.Part job piece) ≡ false → c.limit < length (agenda c.rules c.span)
 no_room view c entries planner job piece e holds belonging adjoining room =
-    let there = and_parts (nat_lt planner (length c.ended)) (job % length c.ended == planner && is_rule_of (slice_get c.rules job) piece.rule) belonging in
+    let there = and_parts (nat_lt planner (length c.ended))
+    (job % length c.ended == planner && is_rule_of (slice_get c.rules job) piece.rule) belonging in
     let own = and_parts (job % length c.ended == planner) (is_rule_of (slice_get c.rules job) piece.rule) there.1 in
     too_many c entries job piece (subst (λ v. Holds v entries) e holds) own.1 adjoining room
 
 -- what a complete collector has sorted is the agenda
-pub agenda_sorted : (view c : Collected) (entries sorted : List (ℕ × ℕ)) (complete : Bool) → view ≡ c → Holds view entries → complete ≡ is_complete c → complete ≡ true → IsPermutation entries sorted → IsSorted (λ x y. ordering_then (nat_cmp x.0 y.0) (nat_cmp x.1 y.1)) sorted → sorted ≡ agenda c.rules c.span
+pub agenda_sorted :
+    (view c : Collected) (entries sorted : List (ℕ × ℕ)) (complete : Bool) → view ≡ c → Holds view entries →
+    complete ≡ is_complete c → complete ≡ true → IsPermutation entries sorted →
+    IsSorted (λ x y. ordering_then (nat_cmp x.0 y.0) (nat_cmp x.1 y.1)) sorted → sorted ≡ agenda c.rules c.span
 agenda_sorted view c entries sorted complete e holds is whole moved up =
     agenda_held c entries sorted (subst (λ v. Holds v entries) e holds) (sym is ∙ whole) moved up

@@ -1,4 +1,5 @@
--- The rules of jobs, one after the other.
+-- The rules of jobs, one after the other: for the loop of `rules_in`, and for that of `plan_serial`, in which each
+-- number has a job. `rules_more` is `rules_of` of a list with one more. The others go by induction over the list.
 use Rattle.std.proofs.Common.{◌≡◌, ℕ, ◌+◌, ◌<◌, Bool, true, List, [], ◌∷◌, ◌++◌, length, take, get_or, None, Some, ap, sym, ◌∙◌, arith, suc, zero}
 use Rattle.std.specs.Prelude.{slice_get}
 use Rattle.std.specs.List.{list_all}
@@ -10,7 +11,9 @@ use Rattle.plan_rules.specs.Job.{JobParts}
 use Rattle.plan_collect.specs.Agenda.{rules_of}
 
 -- one more job
-pub rules_more : (jobs : List JobParts) (n : ℕ) (job : JobParts) (rules : List Rule) (rule : Rule) → rules ≡ rules_of (take n jobs) → Some job ≡ slice_get jobs n → rule ≡ job.rule → rules ++ rule ∷ [] ≡ rules_of (take (n + 1) jobs)
+pub rules_more :
+    (jobs : List JobParts) (n : ℕ) (job : JobParts) (rules : List Rule) (rule : Rule) → rules ≡ rules_of (take n jobs) →
+    Some job ≡ slice_get jobs n → rule ≡ job.rule → rules ++ rule ∷ [] ≡ rules_of (take (n + 1) jobs)
 rules_more jobs n job rules rule so_far is own =
     let lt = slice_get_within jobs n job (sym is) in
     let here = get_or_from_slice_get jobs n job job (sym is) in
@@ -25,9 +28,3 @@ past_end (job ∷ jobs) (suc n) none lt = past_end jobs n none (omega arith)
 -- each number below the number of jobs has a job
 pub job_there : (jobs : List JobParts) (n : ℕ) → None ≡ slice_get jobs n → n < length jobs → ⊥
 job_there jobs n none lt = past_end jobs n none lt
-
--- what all pass is passed by each
-pub list_all_each : {X : Type 0} (test : X → Bool) (xs : List X) (i : ℕ) (d : X) → list_all test xs ≡ true → i < length xs → test (get_or xs i d) ≡ true
-list_all_each test [] i d all lt = absurd (omega arith)
-list_all_each test (x ∷ xs) zero d all lt = (and_parts (test x) (list_all test xs) all).0
-list_all_each test (x ∷ xs) (suc i) d all lt = list_all_each test xs i d (and_parts (test x) (list_all test xs) all).1 (omega arith)

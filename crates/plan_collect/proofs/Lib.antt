@@ -1,11 +1,9 @@
 pub mod AgendaOrder
-pub mod CollectLemmas
 pub mod EntriesLemmas
 pub mod HeldLemmas
 pub mod HoldsLemmas
 pub mod JobsLemmas
 pub mod StreamLemmas
-pub mod SerialLemmas
 pub mod PiecesLemmas
 pub mod MergingLemmas
 pub mod TilingLemmas

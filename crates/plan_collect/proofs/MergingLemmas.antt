@@ -1,4 +1,6 @@
 -- What a collector answers does not depend on the order in which the notes of different planners arrive.
+-- For `accepts_every_merging`, by TilingLemmas.antt. `merged` goes by induction over the arrivals: of each planner what
+-- is left fits, or brings too many starts (`Sends`), and a note changes nothing for other planners (`alike_other`).
 use Rattle.std.proofs.Common.{◌≡◌, ◌≢◌, ℕ, suc, ◌+◌, ◌%◌, ◌<◌, ◌≤◌, ◌⊎◌, Bool, true, false, ◌&&◌, ◌==◌, nat_lt, nat_le, List, [], ◌∷◌, length, get_or, Some, None, Result, Err, inl, inr, refl, ap, ap₂, sym, ◌∙◌, subst, arith}
 use Rattle.std.specs.Prelude.{slice_get, slice_index, if◌then◌else◌, unwrap_or, Option, MatchResult}
 use Rattle.std.specs.List.{list_all}
@@ -60,16 +62,20 @@ record IsAlike (k : ℕ) (c d : Collected) : Type 0 where
   pub ended : has_ended c k ≡ has_ended d k
 
 -- a job's number is the planner's
-own_job : (c : Collected) (k job : ℕ) (rule : Option Rule) (fits : Bool) → (nat_lt k (length c.ended) && (job % length c.ended == k && fits)) ≡ true → job % length c.ended ≡ k
+own_job :
+    (c : Collected) (k job : ℕ) (rule : Option Rule) (fits : Bool) →
+    (nat_lt k (length c.ended) && (job % length c.ended == k && fits)) ≡ true → job % length c.ended ≡ k
 own_job c k job rule fits is = eqb-true _ _ (and_parts _ _ (and_parts _ _ is).1).0
 
 alike_fits : (k : ℕ) (c d : Collected) (note : Note) → IsAlike k c d → Fits k c note → Fits k d note
 alike_fits k c d (Part job piece) alike fits =
     let own : job % length c.ended ≡ k = own_job c k job (slice_get c.rules job) _ fits.own in
     record {
-      own = sym (ap₂ (λ n rules. nat_lt k n && (job % n == k && is_rule_of (slice_get rules job) piece.rule)) alike.size alike.rules) ∙ fits.own;
+      own = sym (ap₂ (λ n rules. nat_lt k n && (job % n == k && is_rule_of (slice_get rules job) piece.rule)) alike.size
+          alike.rules) ∙ fits.own;
       early = sym alike.ended ∙ fits.early;
-      next = sym (ap₂ (λ reached span. reached == piece.since && nat_le piece.upto (Bounds.upto span)) (alike.covered job own) alike.span) ∙ fits.next;
+      next = sym (ap₂ (λ reached span. reached == piece.since && nat_le piece.upto (Bounds.upto span))
+          (alike.covered job own) alike.span) ∙ fits.next;
       ordered = fits.ordered;
     }
 alike_fits k c d Last alike fits = record {
@@ -80,7 +86,9 @@ alike_fits k c d Last alike fits = record {
 }
 
 -- the same write to two lists that read alike at a place
-set_alike : (xs ys : List ℕ) (i j v : ℕ) → length xs ≡ length ys → get_or xs j 0 ≡ get_or ys j 0 → get_or (set xs i v) j 0 ≡ get_or (set ys i v) j 0
+set_alike :
+    (xs ys : List ℕ) (i j v : ℕ) → length xs ≡ length ys → get_or xs j 0 ≡ get_or ys j 0 →
+    get_or (set xs i v) j 0 ≡ get_or (set ys i v) j 0
 set_alike xs ys i j v size same =
     elim (cases_eq j i) [
       | inl is ↦ (elim (cases_lt j (length xs)) [
@@ -130,7 +138,8 @@ alike_other k other c (Part job piece) not fits =
       span = refl;
       size = refl;
       jobs = sym (length-set c.covered job piece.upto);
-      covered = λ j is. sym (get_or-set_other c.covered job j piece.upto 0 (λ same. not (sym is ∙ ap (λ n. n % length c.ended) same ∙ own)));
+      covered = λ j is. sym (get_or-set_other c.covered job j piece.upto 0
+          (λ same. not (sym is ∙ ap (λ n. n % length c.ended) same ∙ own)));
       ended = refl;
     }
 alike_other k other c Last not fits = record {
@@ -139,7 +148,8 @@ alike_other k other c Last not fits = record {
   size = sym (length-set c.ended k true);
   jobs = refl;
   covered = λ j is. refl;
-  ended = unwrap_or-slice_get c.ended other false ∙ sym (get_or-set_other c.ended k other true false not) ∙ sym (unwrap_or-slice_get (set c.ended k true) other false);
+  ended = unwrap_or-slice_get c.ended other false ∙ sym (get_or-set_other c.ended k other true false not) ∙ sym
+      (unwrap_or-slice_get (set c.ended k true) other false);
 }
 
 alike_ready : (k : ℕ) (notes : List Note) (c d : Collected) → IsAlike k c d → Ready k c notes → Ready k d notes
@@ -154,10 +164,15 @@ alike_ready k [] c d alike done = record {
 alike_ready k (note ∷ notes) c d alike (fits, rest) =
     (alike_fits k c d note alike fits, alike_ready k notes (after c k note) (after d k note) (alike_after k c d note alike fits) rest)
 
-alike_over : (limit count k : ℕ) (notes : List Note) (c d : Collected) → IsAlike k c d → Over limit count k c notes → Over limit count k d notes
+alike_over :
+    (limit count k : ℕ) (notes : List Note) (c d : Collected) → IsAlike k c d → Over limit count k c notes →
+    Over limit count k d notes
 alike_over limit count k [] c d alike more = more
-alike_over limit count k (note ∷ notes) c d alike (fits, rest) =
-    (alike_fits k c d note alike fits, alike_over limit (count + starts_in note) k notes (after c k note) (after d k note) (alike_after k c d note alike fits) rest)
+alike_over limit count k (note ∷ notes) c d alike (fits, rest) = (
+  alike_fits k c d note alike fits,
+  alike_over limit (count + starts_in note) k notes (after c k note) (after d k note)
+      (alike_after k c d note alike fits) rest,
+)
 
 -- ---- what is held
 
@@ -175,9 +190,12 @@ found (Some own) rule is = ap (λ r. Some r) ((same_rule-Decides own rule).0 is)
 rule_is : (k size job : ℕ) (known : Bool) → (nat_lt k size && (job % size == k && known)) ≡ true → known ≡ true
 rule_is k size job known is = (and_parts (job % size == k) known (and_parts (nat_lt k size) (job % size == k && known) is).1).1
 
-held_after : (k : ℕ) (c : Collected) (note : Note) → IsSound c → Fits k c note → length (held (after c k note)) ≡ length (held c) + starts_in note
+held_after :
+    (k : ℕ) (c : Collected) (note : Note) → IsSound c → Fits k c note →
+    length (held (after c k note)) ≡ length (held c) + starts_in note
 held_after k c (Part job piece) sound fits =
-    let known : slice_get c.rules job ≡ Some piece.rule = found (slice_get c.rules job) piece.rule (rule_is k (length c.ended) job (is_rule_of (slice_get c.rules job) piece.rule) fits.own) in
+    let known : slice_get c.rules job ≡ Some piece.rule = found (slice_get c.rules job) piece.rule
+    (rule_is k (length c.ended) job (is_rule_of (slice_get c.rules job) piece.rule) fits.own) in
     let jobs = sound.jobs in
     let among : job < length c.rules = slice_get_within c.rules job piece.rule known in
     let inside : job < length c.covered = omega arith in
@@ -200,12 +218,14 @@ sound_after k c (Part job piece) sound fits room =
             let within : job < length c.covered = omega arith in
             let low = sound.since job within in
             let now : get_or (set c.covered job piece.upto) job 0 ≡ piece.upto = get_or-set_same c.covered job piece.upto 0 within in
-            let same : get_or (set c.covered job piece.upto) j 0 ≡ piece.upto = ap (λ place. get_or (set c.covered job piece.upto) place 0) is ∙ now in
+            let same : get_or (set c.covered job piece.upto) j 0 ≡ piece.upto = ap
+            (λ place. get_or (set c.covered job piece.upto) place 0) is ∙ now in
             let ordered : piece.since ≤ piece.upto = fits.ordered in
             omega arith)
         | inr not ↦ (
             let old = sound.since j (omega arith) in
-            let same : get_or (set c.covered job piece.upto) j 0 ≡ get_or c.covered j 0 = get_or-set_other c.covered job j piece.upto 0 not in
+            let same : get_or (set c.covered job piece.upto) j 0 ≡ get_or c.covered j 0 =
+            get_or-set_other c.covered job j piece.upto 0 not in
             omega arith)
       ]);
       few = omega arith;
@@ -218,7 +238,9 @@ sound_after k c Last sound fits room = record { jobs = sound.jobs; since = sound
 abbrev pub Sends : ℕ → Collected → List Note → Type 0
 Sends k c notes = Ready k c notes ⊎ ((count : ℕ) × ((count ≤ length (held c)) × Over c.limit count k c notes))
 
-all_of : {X : Type 0} (test : X → Bool) (xs : List X) (d : X) → ((i : ℕ) → i < length xs → test (get_or xs i d) ≡ true) → list_all test xs ≡ true
+all_of :
+    {X : Type 0} (test : X → Bool) (xs : List X) (d : X) → ((i : ℕ) → i < length xs → test (get_or xs i d) ≡ true) →
+    list_all test xs ≡ true
 all_of test [] d each = refl
 all_of test (x ∷ xs) d each = and_from _ _ (each 0 (omega arith)) (all_of test xs d (λ i inside. each (suc i) (omega arith)))
 
@@ -248,15 +270,20 @@ fits_of k c note notes (inl (fits, rest)) = fits
 fits_of k c note notes (inr (count, (few, (fits, rest)))) = fits
 
 -- what is left to send after a note was accepted
-sends_own : (k : ℕ) (c : Collected) (note : Note) (notes : List Note) → IsSound c → Sends k c (note ∷ notes) → Sends k (after c k note) notes
+sends_own :
+    (k : ℕ) (c : Collected) (note : Note) (notes : List Note) → IsSound c → Sends k c (note ∷ notes) →
+    Sends k (after c k note) notes
 sends_own k c note notes sound (inl (fits, rest)) = inl rest
 sends_own k c (Part job piece) notes sound (inr (count, (few, (fits, rest)))) =
     let new = held_after k c (Part job piece) sound fits in
     inr (count + starts_in (Part job piece), (omega arith, rest))
 sends_own k c Last notes sound (inr (count, (few, (fits, rest)))) = inr (count + 0, (omega arith, rest))
 
-sends_other : (k other : ℕ) (c : Collected) (note : Note) (notes : List Note) → other ≢ k → IsSound c → Fits k c note → Sends other c notes → Sends other (after c k note) notes
-sends_other k other c note notes not sound fits (inl rest) = inl (alike_ready other notes c (after c k note) (alike_other k other c note not fits) rest)
+sends_other :
+    (k other : ℕ) (c : Collected) (note : Note) (notes : List Note) → other ≢ k → IsSound c → Fits k c note → Sends other c notes →
+    Sends other (after c k note) notes
+sends_other k other c note notes not sound fits (inl rest) =
+    inl (alike_ready other notes c (after c k note) (alike_other k other c note not fits) rest)
 sends_other k other c (Part job piece) notes not sound fits (inr (count, (few, rest))) =
     let new = held_after k c (Part job piece) sound fits in
     let alike = alike_other k other c (Part job piece) not fits in
@@ -277,10 +304,14 @@ size_after : (k : ℕ) (c : Collected) (note : Note) → length (after c k note)
 size_after k c (Part job piece) = refl
 size_after k c Last = length-set c.ended k true
 
-answer_accepted : (c : Collected) (sent : ℕ × Note) (history : List (ℕ × Note)) → refusal c sent.0 sent.1 ≡ None → answer_to c (sent ∷ history) ≡ answer_to (after c sent.0 sent.1) history
+answer_accepted :
+    (c : Collected) (sent : ℕ × Note) (history : List (ℕ × Note)) → refusal c sent.0 sent.1 ≡ None →
+    answer_to c (sent ∷ history) ≡ answer_to (after c sent.0 sent.1) history
 answer_accepted c sent history is = rw (is, answer_to) refl
 
-answer_refused : (c : Collected) (sent : ℕ × Note) (history : List (ℕ × Note)) (fault : CollectFault) → refusal c sent.0 sent.1 ≡ Some fault → answer_to c (sent ∷ history) ≡ Err fault
+answer_refused :
+    (c : Collected) (sent : ℕ × Note) (history : List (ℕ × Note)) (fault : CollectFault) → refusal c sent.0 sent.1 ≡ Some fault →
+    answer_to c (sent ∷ history) ≡ Err fault
 answer_refused c sent history fault is = rw (is, answer_to) refl
 
 -- the collector accepted all and is complete, or it has no more room
@@ -288,7 +319,9 @@ abbrev pub IsFair : Result Collected CollectFault → Type 0
 IsFair answer = MatchResult answer (λ d. is_complete d ≡ true) (λ fault. fault ≡ TooMany)
 
 -- for every order of arrival
-pub merged : (history : List (ℕ × Note)) (c : Collected) → IsSound c → 0 < length c.ended → AllOf (length c.ended) history → ((k : ℕ) → k < length c.ended → Sends k c (notes_of k history)) → IsFair (answer_to c history)
+pub merged :
+    (history : List (ℕ × Note)) (c : Collected) → IsSound c → 0 < length c.ended → AllOf (length c.ended) history →
+    ((k : ℕ) → k < length c.ended → Sends k c (notes_of k history)) → IsFair (answer_to c history)
 merged [] c sound some known each = complete_of c sound some each
 merged (sent ∷ history) c sound some known each =
     let k = sent.0 in
@@ -300,10 +333,12 @@ merged (sent ∷ history) c sound some known each =
       | inl room ↦ (
           let size : length (after c k note).ended ≡ length c.ended = size_after k c note in
           let accepted : refusal c k note ≡ None = refused ∙ (rw room refl) in
-          subst IsFair (sym (answer_accepted c sent history accepted)) (merged history (after c k note) (sound_after k c note sound fits room) (omega arith)
+          subst IsFair (sym (answer_accepted c sent history accepted))
+          (merged history (after c k note) (sound_after k c note sound fits room) (omega arith)
           (subst (λ n. AllOf n history) (sym size) known.1)
           (λ other among. elim (cases_eq other k) [
-            | inl is ↦ subst (λ planner. Sends planner (after c k note) (notes_of planner history)) (sym is) (sends_own k c note (notes_of k history) sound mine)
+            | inl is ↦ subst (λ planner. Sends planner (after c k note) (notes_of planner history)) (sym is)
+                (sends_own k c note (notes_of k history) sound mine)
             | inr not ↦ sends_other k other c note (notes_of other history) not sound fits
                 (rw (notes_other other sent history (λ same. not (sym same))) at (each other (omega arith)))
           ])))

@@ -1,4 +1,6 @@
--- A text that is written piece by piece.
+-- A text that is written piece by piece: for `put`, `put_all` and `write_agenda` of write.rt.
+-- `AppendsAllBut` cuts a text into what was written and what waits. A lemma takes it a step further, or makes a prefix of
+-- the whole text of it, for an error.
 use Rattle.std.proofs.Common.{◌≡◌, ℕ, ◌+◌, ◌-◌, ◌<◌, ◌≤◌, List, [], ◌∷◌, ◌++◌, length, take, drop, get_or, Option, None, Some, Result, Ok, Err, OnErr, IsErr, Bool, is_ok, true, false, refl, ap, sym, subst, ◌∙◌, arith, append_assoc, append-nil, take_all, length-append, length-drop}
 use Rattle.std.specs.List.{flat_map}
 use Rattle.std.proofs.Math.Seq.{take-add, take-append-add}
@@ -7,51 +9,7 @@ use Rattle.std.proofs.lemmas.Bool.{true≢false}
 use Rattle.std.proofs.lemmas.Grind.{flat_map-append}
 use Rattle.std.proofs.KnownBytes.{Appends-trans, Appends-nil}
 use Rattle.std.specs.Io.KnownBytes.{Appends, Keeps}
-use Rattle.plan_collect.specs.Stream.{AppendsPrefix, AppendsAllBut, BreaksOff, Puts, PutsAllBut}
-
--- the first k bytes of the text were written, and the rest is left
-pub record IsWrittenTo (old new : Option (List ℕ)) (text rest : List ℕ) (k : ℕ) : Type 0 where
-  pub within : k ≤ length text
-  pub left : rest ≡ drop k text
-  pub front : Appends old new (take k text)
-
-abbrev pub IsPartWritten : Option (List ℕ) → Option (List ℕ) → List ℕ → List ℕ → Type 0
-IsPartWritten old new text rest = (k : ℕ) × IsWrittenTo old new text rest k
-
-pub part_written_none : (old : Option (List ℕ)) (text : List ℕ) → IsPartWritten old old text text
-part_written_none old text = (0, record { within = omega arith; left = refl; front = Appends-nil old })
-
--- a write took n bytes of the rest
-pub part_written_more : (a b c : Option (List ℕ)) (text rest : List ℕ) (n : ℕ) → IsPartWritten a b text rest → n ≤ length rest → Appends b c (take n rest) → IsPartWritten a c text (take (length rest - n) (drop n rest))
-part_written_more a b c text rest n (k, so_far) most more =
-    let long : length rest ≡ length text - k = ap length so_far.left ∙ length-drop k text in
-    let within : k ≤ length text = so_far.within in
-    let all : take (length rest - n) (drop n rest) ≡ drop n rest = take_all (length rest - n) (drop n rest) (omega (arith, length-drop n rest)) in
-    let front : take n rest ≡ take n (drop k text) = ap (take n) so_far.left in (
-      k + n,
-      record {
-        within = omega arith;
-        left = all ∙ ap (drop n) so_far.left ∙ drop-drop n k text;
-        front = rw (take-add k n text) (Appends-trans a b c (take k text) (take n (drop k text)) so_far.front (subst (Appends b c) front more));
-      },
-    )
-
-appends_kept : (a b c : Option (List ℕ)) (bs : List ℕ) → Appends a b bs → Keeps b c → Appends a c bs
-appends_kept None b c bs p q = tt
-appends_kept (Some x) None c bs p q = absurd p
-appends_kept (Some x) (Some y) None bs p q = absurd q
-appends_kept (Some x) (Some y) (Some z) bs p q = q ∙ p
-
--- what was written so far is a prefix
-pub prefix_from_part : (a b c : Option (List ℕ)) (text rest : List ℕ) → IsPartWritten a b text rest → Keeps b c → AppendsPrefix a c text
-prefix_from_part a b c text rest (k, so_far) kept = (k, so_far.within, appends_kept a b c (take k text) so_far.front kept)
-
--- once nothing is left, all was written
-pub whole_from_part : (a b c : Option (List ℕ)) (text rest : List ℕ) → IsPartWritten a b text rest → length rest ≡ 0 → Keeps b c → Appends a c text
-whole_from_part a b c text rest (k, so_far) none kept =
-    let long : length rest ≡ length text - k = ap length so_far.left ∙ length-drop k text in
-    let all : take k text ≡ text = take_all k text (omega arith) in
-    subst (Appends a c) all (appends_kept a b c (take k text) so_far.front kept)
+use Rattle.plan_streams.specs.Stream.{AppendsPrefix, AppendsAllBut, BreaksOff, Puts, PutsAllBut}
 
 -- what is so of a refusal is so where the call was refused
 pub refused : {T E : Type 0} (r : Result T E) (P : Type 0) → is_ok r ≡ false → OnErr r P → P
@@ -59,22 +17,29 @@ refused (Ok x) P is h = absurd (true≢false is)
 refused (Err e) P is h = h
 
 -- at an error the stream broke off
-pub all_but_err : {T E : Type 0} (takes_all : Bool) (r : Result T E) (old new : Option (List ℕ)) (text waiting : List ℕ) → IsErr r → BreaksOff takes_all old new text → PutsAllBut takes_all r old new text waiting
+pub all_but_err :
+    {T E : Type 0} (takes_all : Bool) (r : Result T E) (old new : Option (List ℕ)) (text waiting : List ℕ) → IsErr r →
+    BreaksOff takes_all old new text → PutsAllBut takes_all r old new text waiting
 all_but_err takes_all (Ok x) old new text waiting is off = absurd (let no : false ≡ true = is in cc)
 all_but_err takes_all (Err e) old new text waiting is off = off
 
-pub puts_err : {T E : Type 0} (takes_all : Bool) (r : Result T E) (old new : Option (List ℕ)) (text : List ℕ) → IsErr r → BreaksOff takes_all old new text → Puts takes_all r old new text
+pub puts_err :
+    {T E : Type 0} (takes_all : Bool) (r : Result T E) (old new : Option (List ℕ)) (text : List ℕ) → IsErr r →
+    BreaksOff takes_all old new text → Puts takes_all r old new text
 puts_err takes_all (Ok x) old new text is off = absurd (let no : false ≡ true = is in cc)
 puts_err takes_all (Err e) old new text is off = off
 
 -- what waited was written, and then some of a text
-prefix_after : (a b c : Option (List ℕ)) (front text : List ℕ) → Appends a b front → AppendsPrefix b c text → AppendsPrefix a c (front ++ text)
+prefix_after :
+    (a b c : Option (List ℕ)) (front text : List ℕ) → Appends a b front → AppendsPrefix b c text → AppendsPrefix a c (front ++ text)
 prefix_after a b c front text first (k, few, second) =
     let both : take (length front + k) (front ++ text) ≡ front ++ take k text = take-append-add front text k in
     (length front + k, omega (arith, length-append front text), rw both (Appends-trans a b c front (take k text) first second))
 
 -- what waited was written, and then a text, if not all of it
-pub put_behind : {E : Type 0} (takes_all : Bool) (r : Result (Unit {0}) E) (a b c : Option (List ℕ)) (waiting text rest : List ℕ) → Appends a b waiting → Puts takes_all r b c text → rest ≡ [] → PutsAllBut takes_all r a c (waiting ++ text) rest
+pub put_behind :
+    {E : Type 0} (takes_all : Bool) (r : Result (Unit {0}) E) (a b c : Option (List ℕ)) (waiting text rest : List ℕ) →
+    Appends a b waiting → Puts takes_all r b c text → rest ≡ [] → PutsAllBut takes_all r a c (waiting ++ text) rest
 put_behind takes_all (Ok done) a b c waiting text rest first second none = record {
   front = waiting ++ text;
   all = sym (ap (λ xs. (waiting ++ text) ++ xs) none ∙ append-nil (waiting ++ text));
@@ -82,12 +47,10 @@ put_behind takes_all (Ok done) a b c waiting text rest first second none = recor
 }
 put_behind takes_all (Err e) a b c waiting text rest first (fails, second) none = (fails, prefix_after a b c waiting text first second)
 
--- nothing was written yet
-pub all_but_none : (a : Option (List ℕ)) (waiting : List ℕ) → AppendsAllBut a a waiting waiting
-all_but_none a waiting = record { front = []; all = refl; written = Appends-nil a }
-
 -- one more text
-pub all_but_more : (a b c : Option (List ℕ)) (before text waiting after : List ℕ) → AppendsAllBut a b before waiting → AppendsAllBut b c (waiting ++ text) after → AppendsAllBut a c (before ++ text) after
+pub all_but_more :
+    (a b c : Option (List ℕ)) (before text waiting after : List ℕ) → AppendsAllBut a b before waiting →
+    AppendsAllBut b c (waiting ++ text) after → AppendsAllBut a c (before ++ text) after
 all_but_more a b c before text waiting after so_far more = record {
   front = so_far.front ++ more.front;
   all =
@@ -97,9 +60,12 @@ all_but_more a b c before text waiting after so_far more = record {
 }
 
 -- one more text, of which only some was written
-pub prefix_more : (a b c : Option (List ℕ)) (before text waiting : List ℕ) → AppendsAllBut a b before waiting → AppendsPrefix b c (waiting ++ text) → AppendsPrefix a c (before ++ text)
+pub prefix_more :
+    (a b c : Option (List ℕ)) (before text waiting : List ℕ) → AppendsAllBut a b before waiting →
+    AppendsPrefix b c (waiting ++ text) → AppendsPrefix a c (before ++ text)
 prefix_more a b c before text waiting so_far more =
-    let all : so_far.front ++ (waiting ++ text) ≡ before ++ text = sym (append_assoc so_far.front waiting text) ∙ ap (λ xs. xs ++ text) (sym so_far.all) in
+    let all : so_far.front ++ (waiting ++ text) ≡ before ++ text = sym (append_assoc so_far.front waiting text) ∙ ap
+    (λ xs. xs ++ text) (sym so_far.all) in
     subst (AppendsPrefix a c) all (prefix_after a b c so_far.front (waiting ++ text) so_far.written more)
 
 -- a prefix of a text is one of a longer text
@@ -107,37 +73,55 @@ pub prefix_longer : (a c : Option (List ℕ)) (text rest : List ℕ) → Appends
 prefix_longer a c text rest (k, few, written) =
     (k, omega (arith, length-append text rest), rw (take-append-le k text rest few) written)
 
-pub breaks_off_longer : (takes_all : Bool) (a c : Option (List ℕ)) (text rest : List ℕ) → BreaksOff takes_all a c text → BreaksOff takes_all a c (text ++ rest)
+pub breaks_off_longer :
+    (takes_all : Bool) (a c : Option (List ℕ)) (text rest : List ℕ) → BreaksOff takes_all a c text →
+    BreaksOff takes_all a c (text ++ rest)
 breaks_off_longer takes_all a c text rest (fails, first) = (fails, prefix_longer a c text rest first)
 
 -- what still waited was written, if not all of it
-pub puts_last : {E : Type 0} (takes_all : Bool) (r : Result (Unit {0}) E) (a b c : Option (List ℕ)) (text waiting : List ℕ) → AppendsAllBut a b text waiting → Puts takes_all r b c waiting → Puts takes_all r a c text
+pub puts_last :
+    {E : Type 0} (takes_all : Bool) (r : Result (Unit {0}) E) (a b c : Option (List ℕ)) (text waiting : List ℕ) →
+    AppendsAllBut a b text waiting → Puts takes_all r b c waiting → Puts takes_all r a c text
 puts_last takes_all (Ok done) a b c text waiting so_far last =
     subst (Appends a c) (sym so_far.all) (Appends-trans a b c so_far.front waiting so_far.written last)
 puts_last takes_all (Err e) a b c text waiting so_far (fails, last) =
     (fails, subst (AppendsPrefix a c) (sym so_far.all) (prefix_after a b c so_far.front waiting so_far.written last))
 
-next_part : {X : Type 0} (f : X → List ℕ) (xs : List X) (i : ℕ) (d : X) (start : List ℕ) → i < length xs → (start ++ flat_map f (take i xs)) ++ f (get_or xs i d) ≡ start ++ flat_map f (take (i + 1) xs)
+next_part :
+    {X : Type 0} (f : X → List ℕ) (xs : List X) (i : ℕ) (d : X) (start : List ℕ) → i < length xs →
+    (start ++ flat_map f (take i xs)) ++ f (get_or xs i d) ≡ start ++ flat_map f (take (i + 1) xs)
 next_part f xs i d start lt =
     append_assoc start (flat_map f (take i xs)) (f (get_or xs i d))
-    ∙ ap (λ ys. start ++ ys) (ap (λ ys. flat_map f (take i xs) ++ ys) (sym (append-nil (f (get_or xs i d)))) ∙ sym (flat_map-append f (take i xs) (get_or xs i d ∷ [])) ∙ ap (flat_map f) (sym (take_more xs i d lt)))
+    ∙ ap (λ ys. start ++ ys) (ap (λ ys. flat_map f (take i xs) ++ ys) (sym (append-nil (f (get_or xs i d)))) ∙ sym
+    (flat_map-append f (take i xs) (get_or xs i d ∷ [])) ∙ ap (flat_map f) (sym (take_more xs i d lt)))
 
 -- a loop over parts of a text comes one part further
-pub loop_more : {X : Type 0} (f : X → List ℕ) (xs : List X) (i : ℕ) (d : X) (a b c : Option (List ℕ)) (start waiting after : List ℕ) → AppendsAllBut a b (start ++ flat_map f (take i xs)) waiting → i < length xs → AppendsAllBut b c (waiting ++ f (get_or xs i d)) after → AppendsAllBut a c (start ++ flat_map f (take (i + 1) xs)) after
+pub loop_more :
+    {X : Type 0} (f : X → List ℕ) (xs : List X) (i : ℕ) (d : X) (a b c : Option (List ℕ)) (start waiting after : List ℕ) →
+    AppendsAllBut a b (start ++ flat_map f (take i xs)) waiting → i < length xs →
+    AppendsAllBut b c (waiting ++ f (get_or xs i d)) after → AppendsAllBut a c (start ++ flat_map f (take (i + 1) xs)) after
 loop_more f xs i d a b c start waiting after so_far lt more =
     let both = all_but_more a b c (start ++ flat_map f (take i xs)) (f (get_or xs i d)) waiting after so_far more in
     subst (λ text. AppendsAllBut a c text after) (next_part f xs i d start lt) both
 
 -- and where the part could not be written, a prefix of the whole text was
-pub loop_prefix : {X : Type 0} (f : X → List ℕ) (xs : List X) (i : ℕ) (d : X) (a b c : Option (List ℕ)) (start waiting : List ℕ) → AppendsAllBut a b (start ++ flat_map f (take i xs)) waiting → i < length xs → AppendsPrefix b c (waiting ++ f (get_or xs i d)) → AppendsPrefix a c (start ++ flat_map f xs)
+pub loop_prefix :
+    {X : Type 0} (f : X → List ℕ) (xs : List X) (i : ℕ) (d : X) (a b c : Option (List ℕ)) (start waiting : List ℕ) →
+    AppendsAllBut a b (start ++ flat_map f (take i xs)) waiting → i < length xs →
+    AppendsPrefix b c (waiting ++ f (get_or xs i d)) → AppendsPrefix a c (start ++ flat_map f xs)
 loop_prefix f xs i d a b c start waiting so_far lt more =
     let some = prefix_more a b c (start ++ flat_map f (take i xs)) (f (get_or xs i d)) waiting so_far more in
     let front = subst (AppendsPrefix a c) (next_part f xs i d start lt) some in
     let longer = prefix_longer a c (start ++ flat_map f (take (i + 1) xs)) (flat_map f (drop (i + 1) xs)) front in
     let all : (start ++ flat_map f (take (i + 1) xs)) ++ flat_map f (drop (i + 1) xs) ≡ start ++ flat_map f xs =
     append_assoc start (flat_map f (take (i + 1) xs)) (flat_map f (drop (i + 1) xs))
-    ∙ ap (λ ys. start ++ ys) (sym (flat_map-append f (take (i + 1) xs) (drop (i + 1) xs)) ∙ ap (flat_map f) (take-append-drop (i + 1) xs)) in
+    ∙ ap (λ ys. start ++ ys) (sym (flat_map-append f (take (i + 1) xs) (drop (i + 1) xs)) ∙ ap (flat_map f)
+    (take-append-drop (i + 1) xs)) in
     subst (AppendsPrefix a c) all longer
 
-pub loop_breaks_off : {X : Type 0} (f : X → List ℕ) (xs : List X) (i : ℕ) (d : X) (takes_all : Bool) (a b c : Option (List ℕ)) (start waiting : List ℕ) → AppendsAllBut a b (start ++ flat_map f (take i xs)) waiting → i < length xs → BreaksOff takes_all b c (waiting ++ f (get_or xs i d)) → BreaksOff takes_all a c (start ++ flat_map f xs)
-loop_breaks_off f xs i d takes_all a b c start waiting so_far lt (fails, more) = (fails, loop_prefix f xs i d a b c start waiting so_far lt more)
+pub loop_breaks_off :
+    {X : Type 0} (f : X → List ℕ) (xs : List X) (i : ℕ) (d : X) (takes_all : Bool) (a b c : Option (List ℕ)) (start waiting : List ℕ) →
+    AppendsAllBut a b (start ++ flat_map f (take i xs)) waiting → i < length xs →
+    BreaksOff takes_all b c (waiting ++ f (get_or xs i d)) → BreaksOff takes_all a c (start ++ flat_map f xs)
+loop_breaks_off f xs i d takes_all a b c start waiting so_far lt (fails, more) =
+    (fails, loop_prefix f xs i d a b c start waiting so_far lt more)

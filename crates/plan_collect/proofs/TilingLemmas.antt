@@ -1,4 +1,6 @@
--- What a planner sends fits, note by note.
+-- What a planner sends fits, note by note: for `accepts_every_merging`, whose clause is `accepts`.
+-- `ready_parts` goes by induction over the jobs, with `IsAt` for how far the planner is, and `ready_pieces` by the
+-- seconds that are left of a job. `cut_ready` cuts that after the limit, and `merged` of MergingLemmas.antt ends it.
 use Rattle.std.proofs.Common.{◌≡◌, ℕ, zero, suc, ◌+◌, ◌-◌, ◌%◌, ◌<◌, ◌≤◌, ◌⊎◌, true, false, nat_lt, nat_le, List, [], ◌∷◌, ◌++◌, length, map, replicate, get_or, Some, inl, inr, refl, ap, sym, ◌∙◌, subst, arith, append_assoc}
 use Rattle.std.specs.Prelude.{slice_get, slice_index}
 use Rattle.std.proofs.Math.ListN.{set}
@@ -37,7 +39,9 @@ record IsAtJob (k job : ℕ) (rule : Rule) (c : Collected) : Type 0 where
 abbrev covering : Collected → (job upto : ℕ) → Collected
 covering c job upto = record c { covered = set c.covered job upto }
 
-fits_next : (k job : ℕ) (rule : Rule) (c : Collected) (from upto : ℕ) → IsAtJob k job rule c → slice_index c.covered job ≡ from → from ≤ upto → upto ≤ c.span.upto → Fits k c (note.Part job (record { rule = rule; since = from; upto = upto }))
+fits_next :
+    (k job : ℕ) (rule : Rule) (c : Collected) (from upto : ℕ) → IsAtJob k job rule c → slice_index c.covered job ≡ from →
+    from ≤ upto → upto ≤ c.span.upto → Fits k c (note.Part job (record { rule = rule; since = from; upto = upto }))
 fits_next k job rule c from upto here reached low high = record {
   own = and_from _ _ (lt-ltb _ _ here.planner) (and_from _ _ (eq-eqb _ _ here.own) (rw here.known ((same_rule-Decides rule rule).1 refl)));
   early = here.early;
@@ -52,30 +56,44 @@ at_job_covering k job rule c upto here =
     record { planner = here.planner; own = here.own; known = here.known; early = here.early; inside = omega arith }
 
 -- the pieces of a job fit, one after another, and cover it
-ready_pieces : (seconds k job : ℕ) (rule : Rule) (c : Collected) (from : ℕ) (rest : List Note) → IsAtJob k job rule c → slice_index c.covered job ≡ from → from ≤ c.span.upto → c.span.upto - from ≤ seconds → Ready k (covering c job c.span.upto) rest → Ready k c (map (note.Part job) (pieces_within seconds rule from c.span.upto) ++ rest)
+ready_pieces :
+    (seconds k job : ℕ) (rule : Rule) (c : Collected) (from : ℕ) (rest : List Note) → IsAtJob k job rule c →
+    slice_index c.covered job ≡ from → from ≤ c.span.upto → c.span.upto - from ≤ seconds →
+    Ready k (covering c job c.span.upto) rest →
+    Ready k c (map (note.Part job) (pieces_within seconds rule from c.span.upto) ++ rest)
 ready_pieces zero k job rule c from rest here reached part few ready =
     let whole : from ≡ c.span.upto = omega arith in
-    let end : piece_end rule from c.span.upto most_starts ≡ c.span.upto = ap (λ since. piece_end rule since c.span.upto most_starts) whole ∙ piece_of_nothing rule c.span.upto most_starts in
-    let all : Ready k c (note.Part job (record { rule = rule; since = from; upto = c.span.upto }) ∷ rest) = (fits_next k job rule c from c.span.upto here reached part (omega arith), ready) in
-    subst (λ ps. Ready k c (map (note.Part job) ps ++ rest)) (sym (pieces_one rule from c.span.upto)) (subst (λ upto. Ready k c (note.Part job (record { rule = rule; since = from; upto = upto }) ∷ rest)) (sym end) all)
+    let end : piece_end rule from c.span.upto most_starts ≡ c.span.upto = ap
+    (λ since. piece_end rule since c.span.upto most_starts) whole ∙ piece_of_nothing rule c.span.upto most_starts in
+    let all : Ready k c (note.Part job (record { rule = rule; since = from; upto = c.span.upto }) ∷ rest) =
+    (fits_next k job rule c from c.span.upto here reached part (omega arith), ready) in
+    subst (λ ps. Ready k c (map (note.Part job) ps ++ rest)) (sym (pieces_one rule from c.span.upto))
+    (subst (λ upto. Ready k c (note.Part job (record { rule = rule; since = from; upto = upto }) ∷ rest)) (sym end) all)
 ready_pieces (suc seconds) k job rule c from rest here reached part few ready =
     let end = piece_end rule from c.span.upto most_starts in
     let ends : Ends from c.span.upto end = piece_ends rule from c.span.upto most_starts (omega arith) part in
-    let fits : Fits k c (note.Part job (piece_of rule from c.span.upto most_starts)) = fits_next k job rule c from end here reached ends.from ends.to in
+    let fits : Fits k c (note.Part job (piece_of rule from c.span.upto most_starts)) =
+    fits_next k job rule c from end here reached ends.from ends.to in
     elim (cases_lt end c.span.upto) [
       | inl more ↦ (
           let go_on : nat_lt end c.span.upto ≡ true = lt-ltb _ _ more in
           let now : slice_index (covering c job end).covered job ≡ end = get_or-set_same c.covered job end 0 here.inside in
           let moves = ends.moves in
-          let again : Ready k (covering (covering c job end) job c.span.upto) rest = subst (λ covered. Ready k (record c { covered = covered }) rest) (sym (set_again c.covered job end c.span.upto)) ready in
-          let all : Ready k c (note.Part job (piece_of rule from c.span.upto most_starts) ∷ (map (note.Part job) (pieces_within seconds rule end c.span.upto) ++ rest)) =
-          (fits, ready_pieces seconds k job rule (covering c job end) end rest (at_job_covering k job rule c end here) now ends.to (omega arith) again) in
+          let again : Ready k (covering (covering c job end) job c.span.upto) rest = subst
+          (λ covered. Ready k (record c { covered = covered }) rest) (sym (set_again c.covered job end c.span.upto)) ready in
+          let all : Ready k c (note.Part job
+          (piece_of rule from c.span.upto most_starts) ∷ (map (note.Part job) (pieces_within seconds rule end c.span.upto) ++ rest)) = (
+            fits,
+            ready_pieces seconds k job rule (covering c job end) end rest (at_job_covering k job rule c end here) now ends.to
+                (omega arith) again,
+          ) in
           subst (λ ps. Ready k c (map (note.Part job) ps ++ rest)) (sym (pieces_more seconds rule from c.span.upto go_on)) all)
       | inr no_more ↦ (
           let stop : nat_lt end c.span.upto ≡ false = le-ltb _ _ no_more in
           let to = ends.to in
           let is : c.span.upto ≡ end = omega arith in
-          let all : Ready k c (note.Part job (piece_of rule from c.span.upto most_starts) ∷ rest) = (fits, subst (λ upto. Ready k (covering c job upto) rest) is ready) in
+          let all : Ready k c (note.Part job (piece_of rule from c.span.upto most_starts) ∷ rest) =
+          (fits, subst (λ upto. Ready k (covering c job upto) rest) is ready) in
           subst (λ ps. Ready k c (map (note.Part job) ps ++ rest)) (sym (pieces_last seconds rule from c.span.upto stop)) all)
     ]
 
@@ -103,7 +121,9 @@ ready_last k job c here =
     )
 
 -- after a job of the planner, the next
-at_next_own : (k job : ℕ) (rule : Rule) (rules : List Rule) (c : Collected) → IsAt k job (rule ∷ rules) c → IsAt k (job + 1) rules (covering c job c.span.upto)
+at_next_own :
+    (k job : ℕ) (rule : Rule) (rules : List Rule) (c : Collected) → IsAt k job (rule ∷ rules) c →
+    IsAt k (job + 1) rules (covering c job c.span.upto)
 at_next_own k job rule rules c here =
     let size = length-set c.covered job c.span.upto in
     let jobs = here.jobs in
@@ -115,13 +135,16 @@ at_next_own k job rule rules c here =
       part = here.part;
       coming = λ j low inside. get_or-set_other c.covered job j c.span.upto 0 (omega arith) ∙ here.coming j (omega arith) (omega arith);
       done = λ j low own. elim (cases_eq j job) [
-        | inl is ↦ ap (λ place. get_or (set c.covered job c.span.upto) place 0) is ∙ get_or-set_same c.covered job c.span.upto 0 (omega arith)
+        | inl is ↦ ap (λ place. get_or (set c.covered job c.span.upto) place 0) is ∙ get_or-set_same c.covered job c.span.upto 0
+            (omega arith)
         | inr not ↦ get_or-set_other c.covered job j c.span.upto 0 not ∙ here.done j (omega arith) own
       ];
     }
 
 -- after a job of another planner, the next
-at_next_other : (k job : ℕ) (rule : Rule) (rules : List Rule) (c : Collected) → (job % length c.ended ≡ k → ⊥) → IsAt k job (rule ∷ rules) c → IsAt k (job + 1) rules c
+at_next_other :
+    (k job : ℕ) (rule : Rule) (rules : List Rule) (c : Collected) → (job % length c.ended ≡ k → ⊥) → IsAt k job (rule ∷ rules) c →
+    IsAt k (job + 1) rules c
 at_next_other k job rule rules c other here =
     let jobs = here.jobs in
     record {
@@ -138,8 +161,11 @@ at_next_other k job rule rules c other here =
     }
 
 -- what is left of a tiling from a job on fits
-ready_parts : (rules : List Rule) (k job : ℕ) (c : Collected) → IsAt k job rules c → Ready k c (parts_from job k (length c.ended) rules c.span ++ note.Last ∷ [])
-ready_parts [] k job c here = subst (λ notes. Ready k c (notes ++ note.Last ∷ [])) (sym (parts_none job k (length c.ended) c.span)) (ready_last k job c here)
+ready_parts :
+    (rules : List Rule) (k job : ℕ) (c : Collected) → IsAt k job rules c →
+    Ready k c (parts_from job k (length c.ended) rules c.span ++ note.Last ∷ [])
+ready_parts [] k job c here = subst (λ notes. Ready k c (notes ++ note.Last ∷ [])) (sym (parts_none job k (length c.ended) c.span))
+    (ready_last k job c here)
 ready_parts (rule ∷ rules) k job c here =
     let later = parts_from (job + 1) k (length c.ended) rules c.span in
     let jobs = here.jobs in
@@ -148,10 +174,14 @@ ready_parts (rule ∷ rules) k job c here =
           let inside : job < length c.covered = omega arith in
           let zeroth : job + 0 ≡ job = omega arith in
           let known : slice_get c.rules job ≡ Some rule = rw zeroth at (here.known 0 rule refl) in
-          let at_job : IsAtJob k job rule c = record { planner = here.planner; own = own; known = known; early = here.early; inside = inside } in
-          let rest : Ready k (covering c job c.span.upto) (later ++ note.Last ∷ []) = ready_parts rules k (job + 1) (covering c job c.span.upto) (at_next_own k job rule rules c here) in
+          let at_job : IsAtJob k job rule c =
+          record { planner = here.planner; own = own; known = known; early = here.early; inside = inside } in
+          let rest : Ready k (covering c job c.span.upto) (later ++ note.Last ∷ []) = ready_parts rules k (job + 1)
+          (covering c job c.span.upto) (at_next_own k job rule rules c here) in
           let mine = map (note.Part job) (pieces rule c.span.since c.span.upto) in
-          let all : Ready k c (mine ++ (later ++ note.Last ∷ [])) = ready_pieces (c.span.upto - c.span.since) k job rule c c.span.since (later ++ note.Last ∷ []) at_job (here.coming job (omega arith) inside) here.part (omega arith) rest in
+          let all : Ready k c (mine ++ (later ++ note.Last ∷ [])) = ready_pieces
+          (c.span.upto - c.span.since) k job rule c c.span.since (later ++ note.Last ∷ []) at_job
+          (here.coming job (omega arith) inside) here.part (omega arith) rest in
           subst (λ notes. Ready k c (notes ++ note.Last ∷ [])) (sym (parts_own job k (length c.ended) rule rules c.span own))
           (subst (λ notes. Ready k c notes) (sym (append_assoc mine later (note.Last ∷ []))) all))
       | inr other ↦ subst (λ notes. Ready k c (notes ++ note.Last ∷ [])) (sym (parts_other job k (length c.ended) rule rules c.span other))
@@ -161,7 +191,9 @@ ready_parts (rule ∷ rules) k job c here =
 -- ---- a tiling that is cut
 
 -- notes that fit to the end, cut after the limit, fit, or bring more starts than the limit
-cut_ready : (limit count k : ℕ) (notes : List Note) (c : Collected) → Ready k c notes → Ready k c (cut_after limit count notes) ⊎ Over limit count k c (cut_after limit count notes)
+cut_ready :
+    (limit count k : ℕ) (notes : List Note) (c : Collected) → Ready k c notes →
+    Ready k c (cut_after limit count notes) ⊎ Over limit count k c (cut_after limit count notes)
 cut_ready limit count k [] c done = rw (cut_none limit count) (inl done)
 cut_ready limit count k (first ∷ notes) c (fits, rest) =
     elim (cases_lt limit (count + starts_in first)) [
@@ -174,7 +206,9 @@ cut_ready limit count k (first ∷ notes) c (fits, rest) =
 
 -- ---- a new collector
 
-at_begin : (k planners limit : ℕ) (rules : List Rule) (span : Bounds) → k < planners → span.since ≤ span.upto → IsAt k 0 rules (begun rules span planners limit)
+at_begin :
+    (k planners limit : ℕ) (rules : List Rule) (span : Bounds) → k < planners → span.since ≤ span.upto →
+    IsAt k 0 rules (begun rules span planners limit)
 at_begin k planners limit rules span few part =
     let size = length-replicate planners false in
     let jobs = length-replicate (length rules) span.since in
@@ -188,11 +222,15 @@ at_begin k planners limit rules span few part =
       done = λ j low own. absurd (omega arith);
     }
 
-sends_at_begin : (k planners limit : ℕ) (rules : List Rule) (span : Bounds) → k < planners → span.since ≤ span.upto → Sends k (begun rules span planners limit) (sent_by k planners limit rules span)
+sends_at_begin :
+    (k planners limit : ℕ) (rules : List Rule) (span : Bounds) → k < planners → span.since ≤ span.upto →
+    Sends k (begun rules span planners limit) (sent_by k planners limit rules span)
 sends_at_begin k planners limit rules span few part =
     let c = begun rules span planners limit in
-    let ready : Ready k c (parts_from 0 k (length c.ended) rules span ++ note.Last ∷ []) = ready_parts rules k 0 c (at_begin k planners limit rules span few part) in
-    let whole : Ready k c (tiling k planners rules span) = subst (λ n. Ready k c (parts_from 0 k n rules span ++ note.Last ∷ [])) (length-replicate planners false) ready in
+    let ready : Ready k c (parts_from 0 k (length c.ended) rules span ++ note.Last ∷ []) = ready_parts rules k 0 c
+    (at_begin k planners limit rules span few part) in
+    let whole : Ready k c (tiling k planners rules span) = subst (λ n. Ready k c (parts_from 0 k n rules span ++ note.Last ∷ []))
+    (length-replicate planners false) ready in
     elim (cut_ready limit 0 k (tiling k planners rules span) c whole) [
       | inl all ↦ inl all
       | inr over ↦ inr (0, (omega arith, over))
@@ -211,11 +249,15 @@ sound_at_begin planners limit rules span =
     let none = held_at_begin rules 0 span.since in
     record {
       jobs = size;
-      since = λ j inside. (let is : get_or (replicate (length rules) span.since) j 0 ≡ span.since = get_or-replicate (length rules) j span.since 0 (omega arith) in omega arith);
+      since = λ j inside. (let is : get_or (replicate (length rules) span.since) j 0 ≡ span.since = get_or-replicate
+          (length rules) j span.since 0 (omega arith) in omega arith);
       few = omega arith;
     }
 
-all_of_places : (planners : ℕ) (history : List (ℕ × Note)) → ((place planner : ℕ) (note : Note) → slice_get history place ≡ Some (planner, note) → planner < planners) → AllOf planners history
+all_of_places :
+    (planners : ℕ) (history : List (ℕ × Note)) →
+    ((place planner : ℕ) (note : Note) → slice_get history place ≡ Some (planner, note) → planner < planners) →
+    AllOf planners history
 all_of_places planners [] known = tt
 all_of_places planners (sent ∷ history) known =
     (known 0 sent.0 sent.1 refl, all_of_places planners history (λ place planner note is. known (suc place) planner note is))

@@ -15,15 +15,20 @@ use Rattle.plan_collect.specs.Span.{Bounds}
 use Rattle.plan_collect.specs.Agenda.{row_from, agenda, rules_of, IsInYears, IsOfJobs}
 
 -- what is so of each entry of a row is so of all entries of all rows
-step : (test : ℕ × ℕ → Bool) (is : Bool) (entry : ℕ × ℕ) (row : List (ℕ × ℕ)) → (is ≡ true → test entry ≡ true) → list_all test row ≡ true → list_all test (cond is (entry ∷ row) row) ≡ true
+step :
+    (test : ℕ × ℕ → Bool) (is : Bool) (entry : ℕ × ℕ) (row : List (ℕ × ℕ)) → (is ≡ true → test entry ≡ true) →
+    list_all test row ≡ true → list_all test (cond is (entry ∷ row) row) ≡ true
 step test true entry row here later = and_from (test entry) (list_all test row) (here refl) later
 step test false entry row here later = later
 
-rows : (test : ℕ × ℕ → Bool) (rules : List Rule) (seconds : List ℕ) → ((second : ℕ) → list_all test (row_from 0 rules second) ≡ true) → list_all test (flat_map (row_from 0 rules) seconds) ≡ true
+rows :
+    (test : ℕ × ℕ → Bool) (rules : List Rule) (seconds : List ℕ) → ((second : ℕ) → list_all test (row_from 0 rules second) ≡ true) →
+    list_all test (flat_map (row_from 0 rules) seconds) ≡ true
 rows test rules [] row = refl
 rows test rules (second ∷ seconds) row =
     list_all-append test (row_from 0 rules second) (flat_map (row_from 0 rules) seconds)
-    ∙ and_from (list_all test (row_from 0 rules second)) (list_all test (flat_map (row_from 0 rules) seconds)) (row second) (rows test rules seconds row)
+    ∙ and_from (list_all test (row_from 0 rules second)) (list_all test (flat_map (row_from 0 rules) seconds)) (row second)
+    (rows test rules seconds row)
 
 row_in_years : (job : ℕ) (rules : List Rule) (second : ℕ) → IsInYears (row_from job rules second)
 row_in_years job [] second = refl
@@ -47,7 +52,8 @@ row_of_jobs job jobs (rule ∷ rules) second few =
 pub agenda-of_rules : (rules : List Rule) (span : Bounds) → IsOfJobs (length rules) (agenda rules span)
 unfolding agenda
 agenda-of_rules rules span =
-    rows (λ entry. nat_lt entry.1 (length rules)) rules (range_with_len span.since (span.upto - span.since)) (λ second. row_of_jobs 0 (length rules) rules second (omega arith))
+    rows (λ entry. nat_lt entry.1 (length rules)) rules (range_with_len span.since (span.upto - span.since))
+    (λ second. row_of_jobs 0 (length rules) rules second (omega arith))
 
 pub agenda-of_jobs : (jobs : List JobParts) (span : Bounds) → IsOfJobs (length jobs) (agenda (rules_of jobs) span)
 agenda-of_jobs jobs span =

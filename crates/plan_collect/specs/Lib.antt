@@ -7,10 +7,9 @@ pub mod Agenda
 pub mod AgendaLaws
 pub mod Collecting
 pub mod Limits
-pub mod Stream
-pub mod Planning
 pub mod Span
 pub mod Texts
 pub mod Tiling
 pub mod TilingLaws
 pub mod Merging
+pub mod Causes

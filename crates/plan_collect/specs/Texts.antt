@@ -19,7 +19,8 @@ lines_of entries jobs = flat_map (λ entry. line_of entry.0 (slice_get jobs entr
 -- ends, and how many entries there are, in decimal
 abbrev pub header_of : Planned → List ℕ
 header_of made =
-    codes "agenda 2\t" ++ (moment_text_of made.span.since ++ (codes "\t" ++ (moment_text_of made.span.upto ++ (codes "\t" ++ (decimal (length made.entries) ++ codes "\n")))))
+    codes "agenda 2\t" ++ (moment_text_of
+    made.span.since ++ (codes "\t" ++ (moment_text_of made.span.upto ++ (codes "\t" ++ (decimal (length made.entries) ++ codes "\n")))))
 
 -- the agenda's text (own): the first line, then a line for each entry, in order
 abbrev pub agenda_text : Planned → List JobParts → List ℕ

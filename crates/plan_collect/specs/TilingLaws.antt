@@ -19,13 +19,17 @@ record IsWithin (a end n : ℕ) : Type 0 where
   pub from : a ≤ n
   pub to : n < end
 
-place : (a end : ℕ) (xs : List ℕ) (i : ℕ) → a < end → ((k : ℕ) → k < length xs → IsWithin (a + 1) end (get_or xs k 0)) → i < length (a ∷ xs) → IsWithin a end (get_or (a ∷ xs) i 0)
+place :
+    (a end : ℕ) (xs : List ℕ) (i : ℕ) → a < end → ((k : ℕ) → k < length xs → IsWithin (a + 1) end (get_or xs k 0)) →
+    i < length (a ∷ xs) → IsWithin a end (get_or (a ∷ xs) i 0)
 place a end xs zero before rest lt = record { from = omega arith; to = before }
 place a end xs (suc i) before rest lt =
     let later : IsWithin (a + 1) end (get_or xs i 0) = rest i (omega arith) in
     record { from = omega (arith, later.from); to = later.to }
 
-in_range : (test : ℕ → Bool) (n a end : ℕ) → a + n ≡ end → (i : ℕ) → i < length (filter test (range_with_len a n)) → IsWithin a end (get_or (filter test (range_with_len a n)) i 0)
+in_range :
+    (test : ℕ → Bool) (n a end : ℕ) → a + n ≡ end → (i : ℕ) → i < length (filter test (range_with_len a n)) →
+    IsWithin a end (get_or (filter test (range_with_len a n)) i 0)
 in_range test zero a end is i lt = absurd (omega arith)
 in_range test (suc n) a end is i lt =
     let rest = in_range test n (a + 1) end (omega arith) in
@@ -45,7 +49,10 @@ pub record Ends (since upto end : ℕ) : Type 0 where
   pub to : end ≤ upto
   pub moves : since < upto → since < end
 
-ends_at : (xs : List ℕ) (since upto most : ℕ) → 1 ≤ most → since ≤ upto → ((i : ℕ) → i < length xs → IsWithin since upto (get_or xs i 0)) → most < length xs → Ends since upto (get_or xs (most - 1) 0 + 1)
+ends_at :
+    (xs : List ℕ) (since upto most : ℕ) → 1 ≤ most → since ≤ upto →
+    ((i : ℕ) → i < length xs → IsWithin since upto (get_or xs i 0)) → most < length xs →
+    Ends since upto (get_or xs (most - 1) 0 + 1)
 ends_at xs since upto most some part within more =
     let last : IsWithin since upto (get_or xs (most - 1) 0) = within (most - 1) (omega arith) in
     record { from = omega (arith, last.from); to = omega (arith, last.to); moves = λ before. omega (arith, last.from) }
@@ -57,7 +64,8 @@ piece_ends rule since upto most some part =
     elim (cases_lt most (length all)) [
       | inl more ↦ (
           let not : nat_le (length all) most ≡ false = lt-leb _ _ more in
-          rw not (ends_at all since upto most some part (λ i lt. in_range (is_start rule) (upto - since) since upto (omega arith) i lt) more))
+          rw not (ends_at all since upto most some part
+          (λ i lt. in_range (is_start rule) (upto - since) since upto (omega arith) i lt) more))
       | inr few ↦ (
           let is : nat_le (length all) most ≡ true = le-leb _ _ few in
           rw is (record { from = part; to = omega arith; moves = λ before. before }))
@@ -73,11 +81,16 @@ piece_of_nothing rule second most =
 -- ---- the pieces of a rule
 
 -- the first of some pieces, and whether others follow
-pub pieces_last : (seconds : ℕ) (rule : Rule) (since upto : ℕ) → nat_lt (piece_end rule since upto most_starts) upto ≡ false → pieces_within (suc seconds) rule since upto ≡ piece_of rule since upto most_starts ∷ []
+pub pieces_last :
+    (seconds : ℕ) (rule : Rule) (since upto : ℕ) → nat_lt (piece_end rule since upto most_starts) upto ≡ false →
+    pieces_within (suc seconds) rule since upto ≡ piece_of rule since upto most_starts ∷ []
 unfolding pieces_within
 pieces_last seconds rule since upto is = rw (is, pieces_within) refl
 
-pub pieces_more : (seconds : ℕ) (rule : Rule) (since upto : ℕ) → nat_lt (piece_end rule since upto most_starts) upto ≡ true → pieces_within (suc seconds) rule since upto ≡ piece_of rule since upto most_starts ∷ pieces_within seconds rule (piece_end rule since upto most_starts) upto
+pub pieces_more :
+    (seconds : ℕ) (rule : Rule) (since upto : ℕ) → nat_lt (piece_end rule since upto most_starts) upto ≡ true →
+    pieces_within (suc seconds) rule since upto ≡ piece_of rule since upto most_starts ∷ pieces_within seconds rule
+    (piece_end rule since upto most_starts) upto
 unfolding pieces_within
 pieces_more seconds rule since upto is = rw (is, pieces_within) refl
 
@@ -86,15 +99,19 @@ unfolding pieces_within
 pieces_one rule since upto = refl
 
 -- more seconds than there are make no difference
-pieces_enough : (m n : ℕ) (rule : Rule) (since upto : ℕ) → since ≤ upto → upto - since ≤ m → upto - since ≤ n → pieces_within m rule since upto ≡ pieces_within n rule since upto
+pieces_enough :
+    (m n : ℕ) (rule : Rule) (since upto : ℕ) → since ≤ upto → upto - since ≤ m → upto - since ≤ n →
+    pieces_within m rule since upto ≡ pieces_within n rule since upto
 pieces_enough zero zero rule since upto part few enough = refl
 pieces_enough zero (suc n) rule since upto part few enough =
     let whole : since ≡ upto = omega arith in
-    let end : piece_end rule since upto most_starts ≡ upto = ap (λ from. piece_end rule from upto most_starts) whole ∙ piece_of_nothing rule upto most_starts in
+    let end : piece_end rule since upto most_starts ≡ upto = ap (λ from. piece_end rule from upto most_starts) whole
+    ∙ piece_of_nothing rule upto most_starts in
     pieces_one rule since upto ∙ sym (pieces_last n rule since upto (le-ltb _ _ (omega arith)))
 pieces_enough (suc m) zero rule since upto part few enough =
     let whole : since ≡ upto = omega arith in
-    let end : piece_end rule since upto most_starts ≡ upto = ap (λ from. piece_end rule from upto most_starts) whole ∙ piece_of_nothing rule upto most_starts in
+    let end : piece_end rule since upto most_starts ≡ upto = ap (λ from. piece_end rule from upto most_starts) whole
+    ∙ piece_of_nothing rule upto most_starts in
     pieces_last m rule since upto (le-ltb _ _ (omega arith)) ∙ sym (pieces_one rule since upto)
 pieces_enough (suc m) (suc n) rule since upto part few enough =
     let end = piece_end rule since upto most_starts in
@@ -104,27 +121,34 @@ pieces_enough (suc m) (suc n) rule since upto part few enough =
           let go_on : nat_lt end upto ≡ true = lt-ltb _ _ more in
           let from = ends.from in
           let moves : since < end = ends.moves (omega arith) in
-          let rest : pieces_within m rule end upto ≡ pieces_within n rule end upto = pieces_enough m n rule end upto ends.to (omega arith) (omega arith) in
-          pieces_more m rule since upto go_on ∙ ap (λ ps. piece_of rule since upto most_starts ∷ ps) rest ∙ sym (pieces_more n rule since upto go_on))
+          let rest : pieces_within m rule end upto ≡ pieces_within n rule end upto = pieces_enough m n rule end upto ends.to
+          (omega arith) (omega arith) in
+          pieces_more m rule since upto go_on ∙ ap (λ ps. piece_of rule since upto most_starts ∷ ps) rest ∙ sym
+          (pieces_more n rule since upto go_on))
       | inr no_more ↦ (
           let stop : nat_lt end upto ≡ false = le-ltb _ _ no_more in
           pieces_last m rule since upto stop ∙ sym (pieces_last n rule since upto stop))
     ]
 
 -- the pieces of a part are its first, and where that ends early those of the rest
-pub pieces_stop : (rule : Rule) (since upto : ℕ) → since ≤ upto → upto ≤ piece_end rule since upto most_starts → pieces rule since upto ≡ piece_of rule since upto most_starts ∷ []
+pub pieces_stop :
+    (rule : Rule) (since upto : ℕ) → since ≤ upto → upto ≤ piece_end rule since upto most_starts →
+    pieces rule since upto ≡ piece_of rule since upto most_starts ∷ []
 pieces_stop rule since upto part reached =
     pieces_enough (upto - since) (suc (upto - since)) rule since upto part (omega arith) (omega arith)
     ∙ pieces_last (upto - since) rule since upto (le-ltb _ _ reached)
 
-pub pieces_go_on : (rule : Rule) (since upto : ℕ) → since ≤ upto → piece_end rule since upto most_starts < upto → pieces rule since upto ≡ piece_of rule since upto most_starts ∷ pieces rule (piece_end rule since upto most_starts) upto
+pub pieces_go_on :
+    (rule : Rule) (since upto : ℕ) → since ≤ upto → piece_end rule since upto most_starts < upto →
+    pieces rule since upto ≡ piece_of rule since upto most_starts ∷ pieces rule (piece_end rule since upto most_starts) upto
 pieces_go_on rule since upto part more =
     let end = piece_end rule since upto most_starts in
     let ends : Ends since upto end = piece_ends rule since upto most_starts (omega arith) part in
     let from = ends.from in
     pieces_enough (upto - since) (suc (upto - since)) rule since upto part (omega arith) (omega arith)
     ∙ pieces_more (upto - since) rule since upto (lt-ltb _ _ more)
-    ∙ ap (λ ps. piece_of rule since upto most_starts ∷ ps) (pieces_enough (upto - since) (upto - end) rule end upto ends.to (omega arith) (omega arith))
+    ∙ ap (λ ps. piece_of rule since upto most_starts ∷ ps)
+    (pieces_enough (upto - since) (upto - end) rule end upto ends.to (omega arith) (omega arith))
 
 -- ---- the pieces of jobs
 
@@ -132,21 +156,30 @@ pub parts_none : (job k planners : ℕ) (span : Bounds) → parts_from job k pla
 unfolding parts_from
 parts_none job k planners span = refl
 
-pub parts_own : (job k planners : ℕ) (rule : Rule) (rules : List Rule) (span : Bounds) → job % planners ≡ k → parts_from job k planners (rule ∷ rules) span ≡ map (note.Part job) (pieces rule span.since span.upto) ++ parts_from (job + 1) k planners rules span
+pub parts_own :
+    (job k planners : ℕ) (rule : Rule) (rules : List Rule) (span : Bounds) → job % planners ≡ k →
+    parts_from job k planners (rule ∷ rules) span ≡ map (note.Part job) (pieces rule span.since span.upto) ++ parts_from
+    (job + 1) k planners rules span
 unfolding parts_from
 parts_own job k planners rule rules span own = let is : (job % planners == k) ≡ true = eq-eqb _ _ own in rw (is, parts_from) refl
 
-pub parts_other : (job k planners : ℕ) (rule : Rule) (rules : List Rule) (span : Bounds) → (job % planners ≡ k → ⊥) → parts_from job k planners (rule ∷ rules) span ≡ parts_from (job + 1) k planners rules span
+pub parts_other :
+    (job k planners : ℕ) (rule : Rule) (rules : List Rule) (span : Bounds) → (job % planners ≡ k → ⊥) →
+    parts_from job k planners (rule ∷ rules) span ≡ parts_from (job + 1) k planners rules span
 unfolding parts_from
 parts_other job k planners rule rules span other = let is : (job % planners == k) ≡ false = ne_eqb _ _ other in rw (is, parts_from) refl
 
 -- ---- a tiling that is cut
 
-pub cut_here : (limit count : ℕ) (note : Note) (notes : List Note) → limit < count + starts_in note → cut_after limit count (note ∷ notes) ≡ note ∷ []
+pub cut_here :
+    (limit count : ℕ) (note : Note) (notes : List Note) → limit < count + starts_in note →
+    cut_after limit count (note ∷ notes) ≡ note ∷ []
 unfolding cut_after
 cut_here limit count note notes more = let is : nat_lt limit (count + starts_in note) ≡ true = lt-ltb _ _ more in rw (is, cut_after) refl
 
-pub cut_later : (limit count : ℕ) (note : Note) (notes : List Note) → count + starts_in note ≤ limit → cut_after limit count (note ∷ notes) ≡ note ∷ cut_after limit (count + starts_in note) notes
+pub cut_later :
+    (limit count : ℕ) (note : Note) (notes : List Note) → count + starts_in note ≤ limit →
+    cut_after limit count (note ∷ notes) ≡ note ∷ cut_after limit (count + starts_in note) notes
 unfolding cut_after
 cut_later limit count note notes few = let is : nat_lt limit (count + starts_in note) ≡ false = le-ltb _ _ few in rw (is, cut_after) refl
 

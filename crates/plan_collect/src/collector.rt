@@ -41,25 +41,39 @@ pub enum CollectorFault {
 
 /// Why a collector refuses a note, or to finish.
 #[derive(Clone, Copy, Debug, PartialEq, Eq, Error)]
+#[error("{}", self.name())]
 pub enum CollectFault {
     /// 1: memory was refused.
-    #[error("NoMemory")]
     NoMemory,
     /// 2: there is no such planner; or no such job, or it is not this planner's, or it has another rule than the piece.
-    #[error("Stranger")]
     Stranger,
     /// 3: the piece does not begin where its job is covered to, or ends after the span.
-    #[error("Gap")]
     Gap,
     /// 4: there are more starts than the limit.
-    #[error("TooMany")]
     TooMany,
     /// 5: the planner's last note was accepted before.
-    #[error("AfterLast")]
     AfterLast,
     /// 6: a job is not covered to the span's end, or a planner's last note is missing.
-    #[error("Missing")]
     Missing,
+}
+
+impl CollectFault {
+    ghost use Rattle.std.specs.Prelude.{◌≡◌};
+    ghost use Rattle.plan_collect.specs.Causes.{collect_cause};
+
+    /// Its name, as fault lines show it.
+    pub fn name(&self) -> &'static str
+        ensures { result.now ≡ collect_cause self.now }
+    {
+        match self {
+            CollectFault::NoMemory => "NoMemory",
+            CollectFault::Stranger => "Stranger",
+            CollectFault::Gap => "Gap",
+            CollectFault::TooMany => "TooMany",
+            CollectFault::AfterLast => "AfterLast",
+            CollectFault::Missing => "Missing",
+        }
+    }
 }
 
 impl From<AllocError> for CollectorFault {

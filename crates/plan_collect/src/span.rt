@@ -8,13 +8,27 @@ use thiserror::Error;
 
 /// Why two moments bound no span: the first of these that holds.
 #[derive(Clone, Copy, Debug, PartialEq, Eq, Error)]
+#[error("{}", self.name())]
 pub enum SpanFault {
     /// 1: the span ends before it begins.
-    #[error("Backwards")]
     Backwards,
     /// 2: the span ends after `END_SECOND`.
-    #[error("OutOfYears")]
     OutOfYears,
+}
+
+impl SpanFault {
+    ghost use Rattle.std.specs.Prelude.{◌≡◌};
+    ghost use Rattle.plan_collect.specs.Causes.{span_cause};
+
+    /// Its name, as fault lines show it.
+    pub fn name(&self) -> &'static str
+        ensures { result.now ≡ span_cause self.now }
+    {
+        match self {
+            SpanFault::Backwards => "Backwards",
+            SpanFault::OutOfYears => "OutOfYears",
+        }
+    }
 }
 
 /// The seconds from one moment on, another excluded, both in seconds since 1970-01-01T00:00:00Z and at most `END_SECOND`.

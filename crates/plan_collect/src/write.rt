@@ -3,15 +3,15 @@
 ghost use Rattle.std.specs.Prelude.{◌≡◌, ◌≤◌, ◌++◌, length, slice_get};
 ghost use Rattle.std.specs.List.{flat_map};
 ghost use Rattle.plan_collect.specs.Agenda.{IsOfJobs};
-ghost use Rattle.plan_collect.specs.Stream.{Puts, PutsAllBut};
+ghost use Rattle.plan_streams.specs.Stream.{Puts, PutsAllBut};
 ghost use Rattle.plan_collect.specs.Texts.{agenda_text, header_of, line_of};
 
 use crate::agenda::Agenda;
-use crate::stream::{Stream, WriteFault};
 use arrayvec::ArrayVec;
 use itoa::Buffer;
 use plan_rules::Jobs;
 use plan_sets::{END_SECOND, moment_text};
+use plan_streams::{Stream, WriteFault};
 
 // How many bytes wait at most until they are written together.
 const MOST_WAITING: usize = 8_192;

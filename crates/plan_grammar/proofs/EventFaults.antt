@@ -1,9 +1,11 @@
--- The words of a calendar event are never refused for want of memory or for a specifier: the definitions give no such fault.
+-- An event's words are never refused for want of memory or for a specifier: no definition gives such a fault.
+-- `all_words` is for the clauses `memory` and `specifier` of `calendar_event`. One lemma for each definition of an
+-- event's reading, from a component's number up, which is unfolded; TextFaults puts parts together.
 use Rattle.std.proofs.Common.{ℕ, ◌||◌, not, List, [], ◌∷◌, codes, length, eqb, Option, Some, None}
 use Rattle.std.specs.Str.{str_eq_ignore_ascii_case}
-use Rattle.plan_texts.specs.declared.fault.RuleCause.TheVariants.{BadName}
-use Rattle.plan_texts.specs.declared.element.Side.{Side}
-use Rattle.plan_texts.specs.declared.element.Side.TheVariants.{Star, Value, Between}
+use Rattle.plan_grammar.specs.declared.fault.RuleCause.TheVariants.{BadName}
+use Rattle.plan_grammar.specs.declared.element.Side.{Side}
+use Rattle.plan_grammar.specs.declared.element.Side.TheVariants.{Star, Value, Between}
 use Rattle.plan_grammar.specs.declared.component.Component.{Component}
 use Rattle.plan_grammar.specs.declared.component.Component.TheVariants.{Year, Month, Day, Place, Hour, Minute, Second}
 use Rattle.plan_texts.specs.Text.{words, pieces, cut_at}
@@ -51,7 +53,8 @@ item_form Second left n = tt
 item : (component : Component) (text : List ℕ) → IsTextFault (component_item component text)
 unfolding component_item
 item component text =
-    cut_item (component_side component) (component_number component) (component_item_of component) (side component) (digits component) (item_form component) text (cut_at (codes "/") text)
+    cut_item (component_side component) (component_number component) (component_item_of component) (side component)
+    (digits component) (item_form component) text (cut_at (codes "/") text)
 
 items : (component : Component) (text : List ℕ) → IsTextFault (component_items component text)
 unfolding component_items
@@ -59,7 +62,8 @@ items component text = elements (component_item component) (item component) (pie
 
 values : (component : Component) (text : List ℕ) → IsTextFault (component_reading component text)
 unfolding component_reading
-values component text = list_values (component_part component) (component_set component) (component_items component text) (items component text)
+values component text = list_values (component_part component) (component_set component) (component_items component text)
+    (items component text)
 
 weekday : (name : List ℕ) → IsTextFault (weekday_reading name)
 unfolding weekday_reading

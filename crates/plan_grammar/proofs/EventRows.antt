@@ -1,4 +1,6 @@
 -- Worked rows of systemd.time(7), read by the definitions alone.
+-- They answer no function, but try `event_reading` and `event_matches`. Each text is computed, with the definitions
+-- unfolded; whether a day matches needs `has_value-values_where` too.
 use Rattle.std.proofs.Common.{◌≡◌, ℕ, Bool, true, false, List, [], ◌∷◌, map, codes, Some, None, Ok, Err, refl}
 use Rattle.plan_sets.specs.declared.item.Item.TheVariants.{One, Onward, Range}
 use Rattle.plan_sets.specs.declared.item.SetFault.TheVariants.{OutOfRange, Backwards, ZeroStep}
@@ -7,12 +9,12 @@ use Rattle.plan_sets.specs.Limits.{first_year, last_year}
 use Rattle.plan_sets.specs.Values.{values_where}
 use Rattle.plan_sets.specs.Items.{set_reading, held_values}
 use Rattle.plan_sets.specs.ValuesLaws.{has_value-values_where}
-use Rattle.plan_texts.specs.declared.fault.RuleCause.TheVariants.{WrongParts, BadNumber, BadName, Values, Fraction, Zone, UnknownWord, Specifier}
+use Rattle.plan_grammar.specs.declared.fault.RuleCause.TheVariants.{WrongParts, BadNumber, BadName, Values, Fraction, Zone, UnknownWord, Specifier}
 use Rattle.plan_match.specs.declared.event.DayCount.TheVariants.{FromStart, FromEnd}
 use Rattle.plan_match.specs.declared.event.Calendar.{Calendar}
 use Rattle.plan_match.specs.declared.rule.Rule.TheVariants.{Events}
 use Rattle.plan_texts.specs.Text.{words, cut_at, number_of}
-use Rattle.plan_texts.specs.Steps.{Reading, refused}
+use Rattle.plan_grammar.specs.Readings.{Reading, refused}
 use Rattle.plan_grammar.specs.Shape.{date_reading, time_reading, dated, shape_reading}
 use Rattle.plan_grammar.specs.Event.{component_number, component_value, component_side, component_item, component_items, places_reading, is_listed_place, component_reading, weekday_of, weekday_reading, weekday_item, weekday_items, weekdays_reading, event_of, spelled_out, zone_dropped, expression_of, zoneless, words_reading, event_reading, event_rule_reading}
 use Rattle.plan_match.specs.EventMatch.{event_matches}
@@ -28,7 +30,9 @@ every_second : event_reading (codes "*:*:*") ≡ Ok (record {
   seconds = held_values (Range 0 59 1 ∷ []) 0 59;
   weekdays = None;
 })
-unfolding words cut_at number_of set_reading date_reading time_reading dated shape_reading component_number component_value component_side component_item component_items places_reading component_reading weekday_of weekday_reading weekday_item weekday_items weekdays_reading event_of spelled_out zone_dropped expression_of zoneless words_reading
+unfolding words cut_at number_of set_reading date_reading time_reading dated shape_reading component_number component_value
+    component_side component_item component_items places_reading component_reading weekday_of weekday_reading weekday_item
+    weekday_items weekdays_reading event_of spelled_out zone_dropped expression_of zoneless words_reading
 every_second = refl
 
 -- weekdays, lists, ranges and steps; missing years are all of them
@@ -42,7 +46,9 @@ lists_ranges_and_steps : event_reading (codes "Sat,Mon..Tue 10-1..7/3 8..9:0/30:
   seconds = held_values (One 15 ∷ []) 0 59;
   weekdays = Some (held_values (One 5 ∷ Range 0 1 1 ∷ []) 0 6);
 })
-unfolding words cut_at number_of set_reading date_reading time_reading dated shape_reading component_number component_value component_side component_item component_items places_reading component_reading weekday_of weekday_reading weekday_item weekday_items weekdays_reading event_of spelled_out zone_dropped expression_of zoneless words_reading
+unfolding words cut_at number_of set_reading date_reading time_reading dated shape_reading component_number component_value
+    component_side component_item component_items places_reading component_reading weekday_of weekday_reading weekday_item
+    weekday_items weekdays_reading event_of spelled_out zone_dropped expression_of zoneless words_reading
 lists_ranges_and_steps = refl
 
 -- days from the month's end
@@ -56,13 +62,18 @@ third_last_of_february : event_rule_reading (codes "*-02~03") ≡ Ok (Events (re
   seconds = held_values (One 0 ∷ []) 0 59;
   weekdays = None;
 } ∷ []))
-unfolding words cut_at number_of set_reading date_reading time_reading dated shape_reading component_number component_value component_side component_item component_items places_reading component_reading weekday_of weekday_reading weekday_item weekday_items weekdays_reading event_of spelled_out zone_dropped expression_of zoneless words_reading
+unfolding words cut_at number_of set_reading date_reading time_reading dated shape_reading component_number component_value
+    component_side component_item component_items places_reading component_reading weekday_of weekday_reading weekday_item
+    weekday_items weekdays_reading event_of spelled_out zone_dropped expression_of zoneless words_reading
 third_last_of_february = refl
 
 -- a word of the table in any case, before the zone
 words_of_the_table : map event_reading (codes "weekly" ∷ codes "qUARTERLY utc" ∷ codes "Wed, 17:48 UTC" ∷ codes "Mon..mon" ∷ [])
-    ≡ map event_reading (codes "Mon *-*-* 00:00:00" ∷ codes "*-01,04,07,10-01" ∷ codes "wednesday *-* 17:48:00" ∷ codes "monday..Monday" ∷ [])
-unfolding words cut_at number_of set_reading date_reading time_reading dated shape_reading component_number component_value component_side component_item component_items places_reading component_reading weekday_of weekday_reading weekday_item weekday_items weekdays_reading event_of spelled_out zone_dropped expression_of zoneless words_reading
+    ≡ map event_reading (codes "Mon *-*-* 00:00:00" ∷ codes "*-01,04,07,10-01" ∷ codes "wednesday *-* 17:48:00" ∷ codes
+    "monday..Monday" ∷ [])
+unfolding words cut_at number_of set_reading date_reading time_reading dated shape_reading component_number component_value
+    component_side component_item component_items places_reading component_reading weekday_of weekday_reading weekday_item
+    weekday_items weekdays_reading event_of spelled_out zone_dropped expression_of zoneless words_reading
 words_of_the_table = refl
 
 -- refused texts, each with its one fault
@@ -109,7 +120,9 @@ refusals : map event_reading
     ∷ refused 0 WrongParts
     ∷ refused 3 (Values OutOfRange)
     ∷ []
-unfolding words cut_at number_of set_reading date_reading time_reading dated shape_reading component_number component_value component_side component_item component_items places_reading component_reading weekday_of weekday_reading weekday_item weekday_items weekdays_reading event_of spelled_out zone_dropped expression_of zoneless words_reading
+unfolding words cut_at number_of set_reading date_reading time_reading dated shape_reading component_number component_value
+    component_side component_item component_items places_reading component_reading weekday_of weekday_reading weekday_item
+    weekday_items weekdays_reading event_of spelled_out zone_dropped expression_of zoneless words_reading
 refusals = refl
 
 -- the order of reading: specifier, zone, shape, weekdays, and then the components from the year on
@@ -144,7 +157,9 @@ first_faults : map event_reading
     ∷ refused 4 BadNumber
     ∷ refused 4 BadNumber
     ∷ []
-unfolding words cut_at number_of set_reading date_reading time_reading dated shape_reading component_number component_value component_side component_item component_items places_reading component_reading weekday_of weekday_reading weekday_item weekday_items weekdays_reading event_of spelled_out zone_dropped expression_of zoneless words_reading
+unfolding words cut_at number_of set_reading date_reading time_reading dated shape_reading component_number component_value
+    component_side component_item component_items places_reading component_reading weekday_of weekday_reading weekday_item
+    weekday_items weekdays_reading event_of spelled_out zone_dropped expression_of zoneless words_reading
 first_faults = refl
 
 -- civil fields of a second
@@ -165,21 +180,34 @@ match_reading (Ok event) civil = event_matches event civil
 match_reading (Err fault) civil = false
 
 -- the third last day of February is the 27th in 2024 and the 26th in 2025
-from_the_end : map (match_reading (event_reading (codes "*-02~03"))) (at_time 2024 2 27 1 0 0 0 ∷ at_time 2025 2 26 2 0 0 0 ∷ at_time 2024 2 26 0 0 0 0 ∷ at_time 2024 3 29 4 0 0 0 ∷ at_time 2024 2 27 1 0 0 1 ∷ []) ≡ true ∷ true ∷ false ∷ false ∷ false ∷ []
-unfolding words cut_at number_of set_reading date_reading time_reading dated shape_reading component_number component_value component_side component_item component_items places_reading component_reading weekday_of weekday_reading weekday_item weekday_items weekdays_reading event_of spelled_out zone_dropped expression_of zoneless words_reading at_time
+from_the_end : map (match_reading (event_reading (codes "*-02~03")))
+    (at_time 2024 2 27 1 0 0 0 ∷ at_time 2025 2 26 2 0 0 0 ∷ at_time 2024 2 26 0 0 0 0 ∷ at_time 2024 3 29 4 0 0 0 ∷ at_time 2024 2
+    27 1 0 0 1 ∷ []) ≡ true ∷ true ∷ false ∷ false ∷ false ∷ []
+unfolding words cut_at number_of set_reading date_reading time_reading dated shape_reading component_number component_value
+    component_side component_item component_items places_reading component_reading weekday_of weekday_reading weekday_item
+    weekday_items weekdays_reading event_of spelled_out zone_dropped expression_of zoneless words_reading at_time
 from_the_end = simp has_value-values_where
 
 -- the last Monday of May is among the last seven days
-last_monday_of_may : map (match_reading (event_reading (codes "Mon *-05~07/1"))) (at_time 2024 5 27 0 0 0 0 ∷ at_time 2024 5 20 0 0 0 0 ∷ at_time 2024 5 28 1 0 0 0 ∷ []) ≡ true ∷ false ∷ false ∷ []
-unfolding words cut_at number_of set_reading date_reading time_reading dated shape_reading component_number component_value component_side component_item component_items places_reading component_reading weekday_of weekday_reading weekday_item weekday_items weekdays_reading event_of spelled_out zone_dropped expression_of zoneless words_reading at_time
+last_monday_of_may : map (match_reading (event_reading (codes "Mon *-05~07/1")))
+    (at_time 2024 5 27 0 0 0 0 ∷ at_time 2024 5 20 0 0 0 0 ∷ at_time 2024 5 28 1 0 0 0 ∷ []) ≡ true ∷ false ∷ false ∷ []
+unfolding words cut_at number_of set_reading date_reading time_reading dated shape_reading component_number component_value
+    component_side component_item component_items places_reading component_reading weekday_of weekday_reading weekday_item
+    weekday_items weekdays_reading event_of spelled_out zone_dropped expression_of zoneless words_reading at_time
 last_monday_of_may = simp has_value-values_where
 
 -- a range after `~` runs either way, and its steps go from the greater place down
-either_way : map (match_reading (event_reading (codes "*-*~1..3/2 12:00"))) (at_time 2024 2 27 1 12 0 0 ∷ at_time 2024 2 28 2 12 0 0 ∷ at_time 2024 2 29 3 12 0 0 ∷ []) ≡ true ∷ false ∷ true ∷ []
-unfolding words cut_at number_of set_reading date_reading time_reading dated shape_reading component_number component_value component_side component_item component_items places_reading component_reading weekday_of weekday_reading weekday_item weekday_items weekdays_reading event_of spelled_out zone_dropped expression_of zoneless words_reading at_time
+either_way : map (match_reading (event_reading (codes "*-*~1..3/2 12:00")))
+    (at_time 2024 2 27 1 12 0 0 ∷ at_time 2024 2 28 2 12 0 0 ∷ at_time 2024 2 29 3 12 0 0 ∷ []) ≡ true ∷ false ∷ true ∷ []
+unfolding words cut_at number_of set_reading date_reading time_reading dated shape_reading component_number component_value
+    component_side component_item component_items places_reading component_reading weekday_of weekday_reading weekday_item
+    weekday_items weekdays_reading event_of spelled_out zone_dropped expression_of zoneless words_reading at_time
 either_way = simp has_value-values_where
 
 -- two digits stand for 1970 to 2069
-two_digits : map (λ (text : List ℕ). match_reading (event_reading text) (at_time 1999 2 3 2 4 5 0)) (codes "99-2-3 4:5" ∷ codes "1999-2-3 4:5" ∷ codes "69-2-3 4:5" ∷ []) ≡ true ∷ true ∷ false ∷ []
-unfolding words cut_at number_of set_reading date_reading time_reading dated shape_reading component_number component_value component_side component_item component_items places_reading component_reading weekday_of weekday_reading weekday_item weekday_items weekdays_reading event_of spelled_out zone_dropped expression_of zoneless words_reading at_time
+two_digits : map (λ (text : List ℕ). match_reading (event_reading text) (at_time 1999 2 3 2 4 5 0))
+    (codes "99-2-3 4:5" ∷ codes "1999-2-3 4:5" ∷ codes "69-2-3 4:5" ∷ []) ≡ true ∷ true ∷ false ∷ []
+unfolding words cut_at number_of set_reading date_reading time_reading dated shape_reading component_number component_value
+    component_side component_item component_items places_reading component_reading weekday_of weekday_reading weekday_item
+    weekday_items weekdays_reading event_of spelled_out zone_dropped expression_of zoneless words_reading at_time
 two_digits = simp has_value-values_where

@@ -1,4 +1,6 @@
 -- The sets of a rule that is read lie within their fields' limits.
+-- For clause `within` of `cron_rule` and `calendar_event`. A set is made of the values of its span that pass a test
+-- (`span`), so it lies there; `steps` carries that through each definition of a reading.
 use Rattle.std.proofs.Common.{◌≡◌, ℕ, ◌+◌, ◌-◌, ◌&&◌, Bool, true, false, cond, List, [], ◌∷◌, Option, Some, None, Result, Ok, Err, IfOk, IfSome, refl, arith, subst, sym, ◌∙◌}
 use Rattle.std.proofs.lemmas.Bool.Decides.{nat_tests}
 use Rattle.std.proofs.lemmas.List.Elements.{All-nil, All-cons}
@@ -10,9 +12,10 @@ use Rattle.plan_sets.specs.Items.{belongs, items_fault, held_values, values_or_f
 use Rattle.plan_sets.specs.Limits.{first_year, last_year}
 use Rattle.plan_sets.specs.Values.{Values as SetOfValues, is_among, values_where}
 use Rattle.plan_sets.specs.ValuesLaws.{has_value-values_where}
-use Rattle.plan_texts.specs.declared.fault.RuleFault.{RuleFault}
-use Rattle.plan_texts.specs.Steps.{Reading, ◌>>=◌, Gives}
-use Rattle.plan_texts.specs.Elements.{set_in_part, values_by}
+use Rattle.plan_grammar.specs.declared.fault.RuleFault.{RuleFault}
+use Rattle.plan_texts.specs.Steps.{◌>>=◌}
+use Rattle.plan_grammar.specs.Readings.{Reading, Gives}
+use Rattle.plan_grammar.specs.Elements.{set_in_part, values_by}
 use Rattle.plan_texts.specs.Text.{words}
 use Rattle.plan_match.specs.declared.event.DayCount.{DayCount}
 use Rattle.plan_match.specs.declared.event.DayCount.TheVariants.{FromStart, FromEnd}
@@ -30,7 +33,9 @@ any_value : {A : Type 0} (r : Reading A) → IfOk r (λ x. Unit {0})
 any_value (Ok x) = tt
 any_value (Err fault) = tt
 
-steps : {A B : Type 0} (Q : A → Type 0) (P : B → Type 0) (r : Reading A) (next : A → Reading B) → IfOk r Q → ((x : A) → Q x → IfOk (next x) P) → IfOk (r >>= next) P
+steps :
+    {A B : Type 0} (Q : A → Type 0) (P : B → Type 0) (r : Reading A) (next : A → Reading B) → IfOk r Q →
+    ((x : A) → Q x → IfOk (next x) P) → IfOk (r >>= next) P
 steps Q P (Ok x) next first later = later x first
 steps Q P (Err fault) next first later = tt
 
@@ -42,7 +47,9 @@ choice P true x y first second = first
 choice P false x y first second = second
 
 -- what is true of a reading is true of a call's answer that gives it
-pub answered : {A : Type 0} (P : A → Type 0) (answer : Result A RuleFault) (reading : Reading A) → Gives answer reading → IfOk reading P → IfOk answer P
+pub answered :
+    {A : Type 0} (P : A → Type 0) (answer : Result A RuleFault) (reading : Reading A) → Gives answer reading → IfOk reading P →
+    IfOk answer P
 answered P (Ok x) reading gives own = let Q : Reading _ → Type 0 = λ r. IfOk r P in subst Q gives own
 answered P (Err fault) reading gives own = tt
 
@@ -60,12 +67,15 @@ span : (first count last : ℕ) (test : ℕ → Bool) → last + 1 ≡ first + c
 span first count last test ends = λ v has.
     among first count last v ends (both (is_among first count v) (test v) (sym (has_value-values_where first count test v) ∙ has))
 
-unless_fault : (P : SetOfValues → Type 0) (values : SetOfValues) (fault : Option SetFault) → P values → IfOk (values_or_fault values fault) P
+unless_fault :
+    (P : SetOfValues → Type 0) (values : SetOfValues) (fault : Option SetFault) → P values → IfOk (values_or_fault values fault) P
 unless_fault P values None own = own
 unless_fault P values (Some fault) own = tt
 
 -- so do the values of items
-items_within : (items : List Item) (first last count : ℕ) → last + 1 - first ≡ count → last + 1 ≡ first + count → IfOk (set_reading items first last) (LieWithin first last)
+items_within :
+    (items : List Item) (first last count : ℕ) → last + 1 - first ≡ count → last + 1 ≡ first + count →
+    IfOk (set_reading items first last) (LieWithin first last)
 unfolding set_reading
 items_within items first last count counted ends =
     unless_fault (LieWithin first last) (held_values items first last) (items_fault first last items)
@@ -76,18 +86,25 @@ in_part : (P : SetOfValues → Type 0) (part : ℕ) (r : Result SetOfValues SetF
 in_part P part (Ok values) own = own
 in_part P part (Err fault) own = tt
 
-list_within : (P : SetOfValues → Type 0) (part : ℕ) (set : List Item → Result SetOfValues SetFault) (forms : Reading (List Item)) → ((items : List Item) → IfOk (set items) P) → IfOk (values_by part set forms) P
+list_within :
+    (P : SetOfValues → Type 0) (part : ℕ) (set : List Item → Result SetOfValues SetFault) (forms : Reading (List Item)) →
+    ((items : List Item) → IfOk (set items) P) → IfOk (values_by part set forms) P
 list_within P part set forms own = then P forms (λ items. set_in_part part (set items)) (λ items. in_part P part (set items) (own items))
 
 -- ---- cron rules
 
 field_within : (field : Field) (text : List ℕ) → IfOk (field_reading field text) (LieWithin (lowest field) (highest field))
 unfolding field_reading
-field_within Minute text = list_within _ 1 (λ items. set_reading items 0 59) (items_reading Minute text) (λ items. items_within items 0 59 60 refl refl)
-field_within Hour text = list_within _ 2 (λ items. set_reading items 0 23) (items_reading Hour text) (λ items. items_within items 0 23 24 refl refl)
-field_within MonthDay text = list_within _ 3 (λ items. set_reading items 1 31) (items_reading MonthDay text) (λ items. items_within items 1 31 31 refl refl)
-field_within Month text = list_within _ 4 (λ items. set_reading items 1 12) (items_reading Month text) (λ items. items_within items 1 12 12 refl refl)
-field_within WeekDay text = list_within _ 5 (λ items. set_reading items 0 7) (items_reading WeekDay text) (λ items. items_within items 0 7 8 refl refl)
+field_within Minute text = list_within _ 1 (λ items. set_reading items 0 59) (items_reading Minute text)
+    (λ items. items_within items 0 59 60 refl refl)
+field_within Hour text = list_within _ 2 (λ items. set_reading items 0 23) (items_reading Hour text)
+    (λ items. items_within items 0 23 24 refl refl)
+field_within MonthDay text = list_within _ 3 (λ items. set_reading items 1 31) (items_reading MonthDay text)
+    (λ items. items_within items 1 31 31 refl refl)
+field_within Month text = list_within _ 4 (λ items. set_reading items 1 12) (items_reading Month text)
+    (λ items. items_within items 1 12 12 refl refl)
+field_within WeekDay text = list_within _ 5 (λ items. set_reading items 0 7) (items_reading WeekDay text)
+    (λ items. items_within items 0 7 8 refl refl)
 
 week_days_within : (written : SetOfValues) → LieWithin 0 6 (week_days_of written)
 unfolding week_days_of
@@ -138,33 +155,40 @@ cron text = rule (words text)
 
 year_within : (text : List ℕ) → IfOk (component_reading component.Year text) (LieWithin first_year last_year)
 unfolding component_reading
-year_within text = list_within _ 2 (component_set component.Year) (component_items component.Year text) (λ items. items_within items first_year last_year (last_year + 1 - first_year) refl refl)
+year_within text = list_within _ 2 (component_set component.Year) (component_items component.Year text)
+    (λ items. items_within items first_year last_year (last_year + 1 - first_year) refl refl)
 
 month_within : (text : List ℕ) → IfOk (component_reading component.Month text) (LieWithin 1 12)
 unfolding component_reading
-month_within text = list_within _ 3 (component_set component.Month) (component_items component.Month text) (λ items. items_within items 1 12 12 refl refl)
+month_within text = list_within _ 3 (component_set component.Month) (component_items component.Month text)
+    (λ items. items_within items 1 12 12 refl refl)
 
 places_within : (items : List Item) → IfOk (places_reading items) (LieWithin 1 31)
 unfolding places_reading
 places_within items =
-    unless_fault (LieWithin 1 31) (values_where 1 31 (is_listed_place items)) (first_place_fault items) (span 1 31 31 (is_listed_place items) refl)
+    unless_fault (LieWithin 1 31) (values_where 1 31 (is_listed_place items)) (first_place_fault items)
+    (span 1 31 31 (is_listed_place items) refl)
 
 day_within : (count : DayCount) (text : List ℕ) → IfOk (component_reading (day_component count) text) (LieWithin 1 31)
 unfolding component_reading
-day_within FromStart text = list_within _ 4 (component_set component.Day) (component_items component.Day text) (λ items. items_within items 1 31 31 refl refl)
+day_within FromStart text = list_within _ 4 (component_set component.Day) (component_items component.Day text)
+    (λ items. items_within items 1 31 31 refl refl)
 day_within FromEnd text = list_within _ 4 (component_set component.Place) (component_items component.Place text) places_within
 
 hour_within : (text : List ℕ) → IfOk (component_reading component.Hour text) (LieWithin 0 23)
 unfolding component_reading
-hour_within text = list_within _ 5 (component_set component.Hour) (component_items component.Hour text) (λ items. items_within items 0 23 24 refl refl)
+hour_within text = list_within _ 5 (component_set component.Hour) (component_items component.Hour text)
+    (λ items. items_within items 0 23 24 refl refl)
 
 minute_within : (text : List ℕ) → IfOk (component_reading component.Minute text) (LieWithin 0 59)
 unfolding component_reading
-minute_within text = list_within _ 6 (component_set component.Minute) (component_items component.Minute text) (λ items. items_within items 0 59 60 refl refl)
+minute_within text = list_within _ 6 (component_set component.Minute) (component_items component.Minute text)
+    (λ items. items_within items 0 59 60 refl refl)
 
 second_within : (text : List ℕ) → IfOk (component_reading component.Second text) (LieWithin 0 59)
 unfolding component_reading
-second_within text = list_within _ 7 (component_set component.Second) (component_items component.Second text) (λ items. items_within items 0 59 60 refl refl)
+second_within text = list_within _ 7 (component_set component.Second) (component_items component.Second text)
+    (λ items. items_within items 0 59 60 refl refl)
 
 weekday_list : (text : List ℕ) → IfOk (weekdays_reading text) (LieWithin 0 6)
 unfolding weekdays_reading
@@ -177,13 +201,20 @@ weekdays_within (Some text) = steps (LieWithin 0 6) _ (weekdays_reading text) _ 
 parts : (form : ShapeText) → IfOk (event_of form) EventIsWithinLimits
 unfolding event_of
 parts form =
-    steps (λ weekdays. IfSome weekdays (LieWithin 0 6)) EventIsWithinLimits (weekdays_if_given form.weekdays) _ (weekdays_within form.weekdays)
-    (λ weekdays in_weekdays. steps (LieWithin first_year last_year) EventIsWithinLimits (component_reading component.Year form.date.year) _ (year_within form.date.year)
-    (λ years in_years. steps (LieWithin 1 12) EventIsWithinLimits (component_reading component.Month form.date.month) _ (month_within form.date.month)
-    (λ months in_months. steps (LieWithin 1 31) EventIsWithinLimits (component_reading (day_component form.date.count) form.date.day) _ (day_within form.date.count form.date.day)
-    (λ days in_days. steps (LieWithin 0 23) EventIsWithinLimits (component_reading component.Hour form.time.hour) _ (hour_within form.time.hour)
-    (λ hours in_hours. steps (LieWithin 0 59) EventIsWithinLimits (component_reading component.Minute form.time.minute) _ (minute_within form.time.minute)
-    (λ minutes in_minutes. steps (LieWithin 0 59) EventIsWithinLimits (component_reading component.Second form.time.second) _ (second_within form.time.second)
+    steps (λ weekdays. IfSome weekdays (LieWithin 0 6)) EventIsWithinLimits (weekdays_if_given form.weekdays) _
+    (weekdays_within form.weekdays)
+    (λ weekdays in_weekdays. steps (LieWithin first_year last_year) EventIsWithinLimits
+    (component_reading component.Year form.date.year) _ (year_within form.date.year)
+    (λ years in_years. steps (LieWithin 1 12) EventIsWithinLimits (component_reading component.Month form.date.month) _
+    (month_within form.date.month)
+    (λ months in_months. steps (LieWithin 1 31) EventIsWithinLimits
+    (component_reading (day_component form.date.count) form.date.day) _ (day_within form.date.count form.date.day)
+    (λ days in_days. steps (LieWithin 0 23) EventIsWithinLimits (component_reading component.Hour form.time.hour) _
+    (hour_within form.time.hour)
+    (λ hours in_hours. steps (LieWithin 0 59) EventIsWithinLimits (component_reading component.Minute form.time.minute) _
+    (minute_within form.time.minute)
+    (λ minutes in_minutes. steps (LieWithin 0 59) EventIsWithinLimits (component_reading component.Second form.time.second) _
+    (second_within form.time.second)
     (λ seconds in_seconds. record {
       years = in_years;
       months = in_months;
@@ -215,9 +246,3 @@ all_words texts = then EventIsWithinLimits (zone_dropped texts) _ no_zone
 -- the sets of a calendar event that a text means lie within the limits of their components
 pub event : (text : List ℕ) → IfOk (event_reading text) EventIsWithinLimits
 event text = choice EventIsWithinLimits (has_specifier text) _ _ tt (all_words (words text))
-
--- and so do those of the rule with the event
-pub event_rule : (text : List ℕ) → IfOk (event_rule_reading text) RuleIsWithinLimits
-event_rule text =
-    steps EventIsWithinLimits RuleIsWithinLimits (event_reading text) _ (event text)
-    (λ e own. All-cons EventIsWithinLimits e [] own (All-nil EventIsWithinLimits))

@@ -1,12 +1,14 @@
 -- How a name is found in a table.
+-- For `named_value` of a field, for `at_word`, and for `rule_of` (`other_at_words`). The code searches a table of lent
+-- texts, the definition one of texts: by induction over the table both find the same place or row.
 use Rattle.std.proofs.Common.{◌≡◌, ℕ, ◌+◌, ◌<◌, arith, get_or, Bool, true, false, cond, List, [], ◌∷◌, length, ◌==◌, map, find, position, Option, Some, None, refl, ap, sym, ◌∙◌}
 use Rattle.std.proofs.lemmas.List.{length-map}
 use Rattle.std.specs.List.{prefix_len}
 use Rattle.std.specs.Option.{option_map}
 use Rattle.std.specs.Str.{bytes_eq, str_eq_ignore_ascii_case}
-use Rattle.plan_texts.specs.declared.fault.RuleCause.TheVariants.{UnknownWord}
+use Rattle.plan_grammar.specs.declared.fault.RuleCause.TheVariants.{UnknownWord}
 use Rattle.plan_grammar.specs.declared.field.Field.{Field}
-use Rattle.plan_texts.specs.Steps.{refused}
+use Rattle.plan_grammar.specs.Readings.{refused}
 use Rattle.plan_texts.specs.Text.{begins_with}
 use Rattle.plan_grammar.specs.Cron.{lowest, names_of, named_value, at_words, at_word, rule_reading}
 
@@ -21,26 +23,38 @@ find-map : {X Y : Type 0} (p : Y → Bool) (v : X → Y) (xs : List X) → optio
 find-map p v [] = refl
 find-map p v (x ∷ xs) = choice (p (v x)) (find-map p v xs)
   where
-    choice : (b : Bool) → option_map v (find (λ y. p (v y)) xs) ≡ find p (map v xs) → option_map v (cond b (Some x) (find (λ y. p (v y)) xs)) ≡ cond b (Some (v x)) (find p (map v xs))
-    choice b later = elim b as (λ b. option_map v (cond b (Some x) (find (λ y. p (v y)) xs)) ≡ cond b (Some (v x)) (find p (map v xs))) [ true ↦ refl | false ↦ later ]
+    choice :
+        (b : Bool) → option_map v (find (λ y. p (v y)) xs) ≡ find p (map v xs) →
+        option_map v (cond b (Some x) (find (λ y. p (v y)) xs)) ≡ cond b (Some (v x)) (find p (map v xs))
+    choice b later = elim b as (λ b. option_map v (cond b (Some x) (find (λ y. p (v y)) xs)) ≡ cond b (Some (v x))
+        (find p (map v xs))) [ true ↦ refl | false ↦ later ]
 
 -- the place of a name among the names that are lent
-pub named_by_place : {A : Type 0} (v : A → List ℕ) (field : Field) (name : List ℕ) (names : List A) (place : Option ℕ) → map v names ≡ names_of field → place ≡ position (λ known. str_eq_ignore_ascii_case name (v known)) names → option_map (λ n. lowest field + n) place ≡ named_value field name
+pub named_by_place :
+    {A : Type 0} (v : A → List ℕ) (field : Field) (name : List ℕ) (names : List A) (place : Option ℕ) →
+    map v names ≡ names_of field → place ≡ position (λ known. str_eq_ignore_ascii_case name (v known)) names →
+    option_map (λ n. lowest field + n) place ≡ named_value field name
 named_by_place v field name names place shown is =
-    ap (option_map (λ n. lowest field + n)) (is ∙ sym (position-map (str_eq_ignore_ascii_case name) v names) ∙ ap (position (str_eq_ignore_ascii_case name)) shown)
+    ap (option_map (λ n. lowest field + n))
+    (is ∙ sym (position-map (str_eq_ignore_ascii_case name) v names) ∙ ap (position (str_eq_ignore_ascii_case name)) shown)
 
 twice : {X Y Z : Type 0} (v : X → Y) (w : Y → Z) (o : Option X) → option_map (λ x. w (v x)) o ≡ option_map w (option_map v o)
 twice v w None = refl
 twice v w (Some x) = refl
 
 -- what stands beside a word among the words that are lent
-pub found_by_word : {A : Type 0} (v : A → List ℕ × Option (List ℕ)) (word : List ℕ) (known : List A) (found : Option A) → map v known ≡ at_words → found ≡ find (λ row. bytes_eq ((v row).0) word) known → option_map (λ row. (v row).1) found ≡ at_word word
+pub found_by_word :
+    {A : Type 0} (v : A → List ℕ × Option (List ℕ)) (word : List ℕ) (known : List A) (found : Option A) → map v known ≡ at_words →
+    found ≡ find (λ row. bytes_eq ((v row).0) word) known → option_map (λ row. (v row).1) found ≡ at_word word
 found_by_word v word known found shown is =
     twice v (λ row. row.1) found
-    ∙ ap (option_map (λ row. row.1)) (ap (option_map v) is ∙ find-map (λ row. bytes_eq (row.0) word) v known ∙ ap (find (λ row. bytes_eq (row.0) word)) shown)
+    ∙ ap (option_map (λ row. row.1))
+    (ap (option_map v) is ∙ find-map (λ row. bytes_eq (row.0) word) v known ∙ ap (find (λ row. bytes_eq (row.0) word)) shown)
 
 -- more words than one, of which the first begins with `@`
-pub other_at_words : {A : Type 0} (v : A → List ℕ) (words : List A) (d : A) → 1 < length words → begins_with (λ b. b == 64) (v (get_or words 0 d)) ≡ true → rule_reading (map v words) ≡ refused 0 UnknownWord
+pub other_at_words :
+    {A : Type 0} (v : A → List ℕ) (words : List A) (d : A) → 1 < length words →
+    begins_with (λ b. b == 64) (v (get_or words 0 d)) ≡ true → rule_reading (map v words) ≡ refused 0 UnknownWord
 unfolding rule_reading
 other_at_words v [] d many at = absurd (omega arith)
 other_at_words v (word ∷ []) d many at = absurd (omega arith)

@@ -1,4 +1,6 @@
 -- The places that a list of items names, looked at one by one.
+-- For the loops of `first_fault` (`first_place_fault-push`, `-found`) and of `listed_places` (the rest). Faults go by
+-- induction over the items: the first stays the first. Places go by whether a value is the place of the turn.
 use Rattle.std.proofs.Common.{◌≡◌, ℕ, ◌+◌, Bool, true, false, ◌&&◌, ◌||◌, nat_eq, List, [], ◌∷◌, ◌++◌, take, drop, Option, Some, None, refl, ap, sym, ◌∙◌, arith, inl, inr, take-append-drop, ◌⊎◌}
 use Rattle.std.proofs.lemmas.Bool.{cases_eq}
 use Rattle.std.proofs.lemmas.Bool.Decides.{nat_tests}
@@ -18,7 +20,8 @@ cases_fault None = inl refl
 cases_fault (Some fault) = inr (fault, refl)
 
 -- one item more
-pub first_place_fault-push : (items : List Item) (item : Item) → first_place_fault items ≡ None → first_place_fault (items ++ item ∷ []) ≡ place_fault item
+pub first_place_fault-push :
+    (items : List Item) (item : Item) → first_place_fault items ≡ None → first_place_fault (items ++ item ∷ []) ≡ place_fault item
 first_place_fault-push [] item none = fault_or-None (place_fault item)
 first_place_fault-push (i ∷ items) item none =
     elim (cases_fault (place_fault i)) [
@@ -29,7 +32,9 @@ first_place_fault-push (i ∷ items) item none =
     ]
 
 -- a fault stays the first, whatever follows
-first_place_fault-append : (items more : List Item) (fault : SetFault) → first_place_fault items ≡ Some fault → first_place_fault (items ++ more) ≡ Some fault
+first_place_fault-append :
+    (items more : List Item) (fault : SetFault) → first_place_fault items ≡ Some fault →
+    first_place_fault (items ++ more) ≡ Some fault
 first_place_fault-append [] more fault is = cc
 first_place_fault-append (i ∷ items) more fault is =
     elim (cases_fault (place_fault i)) [
@@ -42,7 +47,9 @@ first_place_fault-append (i ∷ items) more fault is =
     ]
 
 -- the fault of a list whose items are faultless up to a faulty one
-pub first_place_fault-found : (items : List Item) (k : ℕ) (item : Item) (fault : SetFault) → take (k + 1) items ≡ take k items ++ item ∷ [] → first_place_fault (take k items) ≡ None → place_fault item ≡ Some fault → first_place_fault items ≡ Some fault
+pub first_place_fault-found :
+    (items : List Item) (k : ℕ) (item : Item) (fault : SetFault) → take (k + 1) items ≡ take k items ++ item ∷ [] →
+    first_place_fault (take k items) ≡ None → place_fault item ≡ Some fault → first_place_fault items ≡ Some fault
 first_place_fault-found items k item fault more none is =
     let whole : take (k + 1) items ++ drop (k + 1) items ≡ items = take-append-drop (k + 1) items in
     let front : first_place_fault (take (k + 1) items) ≡ Some fault =
@@ -54,7 +61,9 @@ pub none_yet : (b : Bool) (v : ℕ) → false ≡ (is_among 1 0 v && b)
 none_yet b v = grind (arith, nat_tests)
 
 -- one place more that is listed
-pub place_added : (b : Bool) (test : ℕ → Bool) (n v : ℕ) → test (n + 1) ≡ true → b ≡ (is_among 1 n v && test v) → (nat_eq v (n + 1) || b) ≡ (is_among 1 (n + 1) v && test v)
+pub place_added :
+    (b : Bool) (test : ℕ → Bool) (n v : ℕ) → test (n + 1) ≡ true → b ≡ (is_among 1 n v && test v) →
+    (nat_eq v (n + 1) || b) ≡ (is_among 1 (n + 1) v && test v)
 place_added b test n v passes is =
     rw is (elim (cases_eq v (n + 1)) [
       | inl same ↦ rw (same, passes) (grind (arith, nat_tests))
@@ -62,7 +71,9 @@ place_added b test n v passes is =
     ])
 
 -- one place more that is not
-pub place_passed : (b : Bool) (test : ℕ → Bool) (n v : ℕ) → test (n + 1) ≡ false → b ≡ (is_among 1 n v && test v) → b ≡ (is_among 1 (n + 1) v && test v)
+pub place_passed :
+    (b : Bool) (test : ℕ → Bool) (n v : ℕ) → test (n + 1) ≡ false → b ≡ (is_among 1 n v && test v) →
+    b ≡ (is_among 1 (n + 1) v && test v)
 place_passed b test n v fails is =
     rw is (elim (cases_eq v (n + 1)) [
       | inl same ↦ rw (same, fails) (grind (arith, nat_tests))
@@ -70,7 +81,9 @@ place_passed b test n v fails is =
     ])
 
 -- the places that were collected up to the last
-pub places_collected : (test : ℕ → Bool) (n : ℕ) (places : Values) → places.base ≡ 1 → ((v : ℕ) → has_value places v ≡ (is_among 1 n v && test v)) → places ≡ values_where 1 n test
+pub places_collected :
+    (test : ℕ → Bool) (n : ℕ) (places : Values) → places.base ≡ 1 → ((v : ℕ) → has_value places v ≡ (is_among 1 n v && test v)) →
+    places ≡ values_where 1 n test
 places_collected test n places base members =
     same_values places (values_where 1 n test) (base ∙ sym (base-values_where 1 n test))
     (λ v. members v ∙ sym (has_value-values_where 1 n test v))

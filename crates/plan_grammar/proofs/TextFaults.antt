@@ -1,21 +1,24 @@
--- No text is refused for want of memory, and none for a specifier once its words are read: the definitions give no such fault.
+-- No text is refused for want of memory, nor for a specifier once its words are read: no definition gives such a fault.
+-- For clause `memory` of `cron_rule`, and for `memory` and `specifier` of `calendar_event`. One lemma for each
+-- definition of a cron text's reading, which is unfolded; `steps`, `elements` and `choice` put the parts together.
 use Rattle.std.proofs.Common.{◌≡◌, ◌≢◌, ℕ, Bool, true, false, cond, List, [], ◌∷◌, codes, length, eqb, Option, Some, None, Result, Ok, Err, ok_or, IfErr, ap, subst, inl, inr}
 use Rattle.std.proofs.lemmas.Bool.{cases_eq}
 use Rattle.std.specs.Str.{bytes_eq}
 use Rattle.std.specs.Char.{is_ascii_alphabetic}
 use Rattle.plan_sets.specs.declared.item.SetFault.{SetFault}
 use Rattle.plan_sets.specs.Values.{Values as SetOfValues}
-use Rattle.plan_texts.specs.declared.fault.RuleFault.{RuleFault}
-use Rattle.plan_texts.specs.declared.fault.RuleCause.{RuleCause}
-use Rattle.plan_texts.specs.declared.fault.RuleCause.TheVariants.{NoMemory, BadName, Specifier}
+use Rattle.plan_grammar.specs.declared.fault.RuleFault.{RuleFault}
+use Rattle.plan_grammar.specs.declared.fault.RuleCause.{RuleCause}
+use Rattle.plan_grammar.specs.declared.fault.RuleCause.TheVariants.{NoMemory, BadName, Specifier}
 use Rattle.plan_grammar.specs.declared.field.Field.{Field}
 use Rattle.plan_grammar.specs.declared.field.Field.TheVariants.{Minute, Hour, MonthDay, Month, WeekDay}
-use Rattle.plan_texts.specs.declared.element.Side.{Side}
-use Rattle.plan_texts.specs.declared.element.Side.TheVariants.{Star, Value, Between}
+use Rattle.plan_grammar.specs.declared.element.Side.{Side}
+use Rattle.plan_grammar.specs.declared.element.Side.TheVariants.{Star, Value, Between}
 use Rattle.plan_texts.specs.Text.{words, begins_with, cut_at, number_of, pieces}
-use Rattle.plan_texts.specs.Steps.{Reading, ◌>>=◌, each, Gives}
+use Rattle.plan_texts.specs.Steps.{◌>>=◌, each}
+use Rattle.plan_grammar.specs.Readings.{Reading, Gives}
 use Rattle.plan_grammar.specs.Cron.{part_of, named_value, value_reading, step_reading, side_reading, item_of, item_reading, items_reading, field_reading, five_fields, at_reading, rule_reading, cron_reading, at_word, found_reading}
-use Rattle.plan_texts.specs.Elements.{number_reading, span_by, side_by, cut_item_by, set_in_part, values_by}
+use Rattle.plan_grammar.specs.Elements.{number_reading, span_by, side_by, cut_item_by, set_in_part, values_by}
 use Rattle.plan_sets.specs.declared.item.Item.{Item}
 
 -- a cause that words and their parts may have
@@ -29,7 +32,9 @@ abbrev pub IsTextFault : {A : Type 0} → Reading A → Type 0
 IsTextFault (Ok x) = Unit {0}
 IsTextFault (Err fault) = IsTextCause fault.cause
 
-pub steps : {A B : Type 0} (r : Reading A) (next : A → Reading B) → IsTextFault r → ((x : A) → IsTextFault (next x)) → IsTextFault (r >>= next)
+pub steps :
+    {A B : Type 0} (r : Reading A) (next : A → Reading B) → IsTextFault r → ((x : A) → IsTextFault (next x)) →
+    IsTextFault (r >>= next)
 steps (Ok x) next first later = later x
 steps (Err fault) next first later = first
 
@@ -49,17 +54,25 @@ or_fault (Some x) fault other = tt
 pub number : (part : ℕ) (text : List ℕ) → IsTextFault (number_reading part text)
 number part text = choice (eqb (length text) 0) _ _ tt (or_fault (number_of text) _ tt)
 
-span : (value : List ℕ → Reading ℕ) → ((t : List ℕ) → IsTextFault (value t)) → (text : List ℕ) (cut : Option (List ℕ × List ℕ)) → IsTextFault (span_by value text cut)
+span :
+    (value : List ℕ → Reading ℕ) → ((t : List ℕ) → IsTextFault (value t)) → (text : List ℕ) (cut : Option (List ℕ × List ℕ)) →
+    IsTextFault (span_by value text cut)
 span value own text None = steps (value text) _ (own text) (λ a. tt)
 span value own text (Some ends) =
     steps (value ends.0) _ (own ends.0) (λ a. steps (value ends.1) _ (own ends.1) (λ b. tt))
 
 -- what stands before a step, by how a value is read
-pub side_of : (value : List ℕ → Reading ℕ) → ((t : List ℕ) → IsTextFault (value t)) → (mark text : List ℕ) → IsTextFault (side_by value mark text)
+pub side_of :
+    (value : List ℕ → Reading ℕ) → ((t : List ℕ) → IsTextFault (value t)) → (mark text : List ℕ) →
+    IsTextFault (side_by value mark text)
 side_of value own mark text = choice (bytes_eq text (codes "*")) _ _ tt (span value own text (cut_at mark text))
 
 -- an element, by how its two sides are read and what they mean
-pub cut_item : (side : List ℕ → Reading Side) (step : List ℕ → Reading ℕ) (meaning : Side → Option ℕ → Reading Item) → ((t : List ℕ) → IsTextFault (side t)) → ((t : List ℕ) → IsTextFault (step t)) → ((s : Side) (n : Option ℕ) → IsTextFault (meaning s n)) → (text : List ℕ) (cut : Option (List ℕ × List ℕ)) → IsTextFault (cut_item_by side step meaning text cut)
+pub cut_item :
+    (side : List ℕ → Reading Side) (step : List ℕ → Reading ℕ) (meaning : Side → Option ℕ → Reading Item) →
+    ((t : List ℕ) → IsTextFault (side t)) → ((t : List ℕ) → IsTextFault (step t)) →
+    ((s : Side) (n : Option ℕ) → IsTextFault (meaning s n)) → (text : List ℕ) (cut : Option (List ℕ × List ℕ)) →
+    IsTextFault (cut_item_by side step meaning text cut)
 cut_item side step meaning own_side own_step own text None = steps (side text) _ (own_side text) (λ left. own left None)
 cut_item side step meaning own_side own_step own text (Some cut) =
     steps (side cut.0) _ (own_side cut.0)
@@ -70,14 +83,17 @@ set_form part (Ok s) = tt
 set_form part (Err fault) = tt
 
 -- the values of a list
-pub list_values : (part : ℕ) (set : List Item → Result SetOfValues SetFault) (forms : Reading (List Item)) → IsTextFault forms → IsTextFault (values_by part set forms)
+pub list_values :
+    (part : ℕ) (set : List Item → Result SetOfValues SetFault) (forms : Reading (List Item)) → IsTextFault forms →
+    IsTextFault (values_by part set forms)
 list_values part set forms own = steps forms _ own (λ xs. set_form part (set xs))
 
 value : (field : Field) (text : List ℕ) → IsTextFault (value_reading field text)
 unfolding value_reading
 value field text =
     choice (eqb (length text) 0) _ _ tt
-    (choice (begins_with is_ascii_alphabetic text) _ _ (or_fault (named_value field text) (record { part = part_of field; cause = BadName }) tt) (or_fault (number_of text) _ tt))
+    (choice (begins_with is_ascii_alphabetic text) _ _
+    (or_fault (named_value field text) (record { part = part_of field; cause = BadName }) tt) (or_fault (number_of text) _ tt))
 
 step : (field : Field) (text : List ℕ) → IsTextFault (step_reading field text)
 unfolding step_reading
@@ -98,7 +114,8 @@ item_form field (Between a b) (Some n) = tt
 item : (field : Field) (text : List ℕ) → IsTextFault (item_reading field text)
 unfolding item_reading
 item field text =
-    cut_item (side_reading field) (step_reading field) (item_of field) (side field) (step field) (item_form field) text (cut_at (codes "/") text)
+    cut_item (side_reading field) (step_reading field) (item_of field) (side field) (step field) (item_form field) text
+    (cut_at (codes "/") text)
 
 items : (field : Field) (text : List ℕ) → IsTextFault (items_reading field text)
 unfolding items_reading
@@ -143,22 +160,30 @@ rule (first ∷ others) =
 pub cron : (text : List ℕ) → IsTextFault (cron_reading text)
 cron text = rule (words text)
 
-without_cause : {A : Type 0} (cause : RuleCause) → (IsTextCause cause → ⊥) → (reading : Reading A) (fault : RuleFault) → IsTextFault reading → reading ≡ Err fault → fault.cause ≢ cause
+without_cause :
+    {A : Type 0} (cause : RuleCause) → (IsTextCause cause → ⊥) → (reading : Reading A) (fault : RuleFault) → IsTextFault reading →
+    reading ≡ Err fault → fault.cause ≢ cause
 without_cause cause none (Ok x) fault own is = absurd cc
 without_cause cause none (Err other) fault own is = λ e. let same : other.cause ≡ cause = cc in none (subst IsTextCause same own)
 
 -- so a call that gives such a reading answers that memory was refused with no part
-pub part_of_memory : {A : Type 0} (answer : Result A RuleFault) (reading : Reading A) → Gives answer reading → IsTextFault reading → IfErr answer (λ fault. fault.cause ≡ NoMemory → fault.part ≡ 0)
+pub part_of_memory :
+    {A : Type 0} (answer : Result A RuleFault) (reading : Reading A) → Gives answer reading → IsTextFault reading →
+    IfErr answer (λ fault. fault.cause ≡ NoMemory → fault.part ≡ 0)
 part_of_memory (Ok x) reading gives own = tt
 part_of_memory (Err fault) reading gives own = λ is.
     elim (cases_eq fault.part 0) [
       | inl none ↦ none
-      | inr some ↦ absurd (without_cause NoMemory (λ no. no) reading fault own (gives (λ same. some (ap (λ (f : RuleFault). f.part) same))) is)
+      | inr some ↦ absurd (without_cause NoMemory (λ no. no) reading fault own
+          (gives (λ same. some (ap (λ (f : RuleFault). f.part) same))) is)
     ]
 
 -- and never that there is a specifier
-pub no_specifier : {A : Type 0} (answer : Result A RuleFault) (reading : Reading A) (fault : RuleFault) → Gives answer reading → IsTextFault reading → fault.cause ≡ Specifier → answer ≢ Err fault
+pub no_specifier :
+    {A : Type 0} (answer : Result A RuleFault) (reading : Reading A) (fault : RuleFault) → Gives answer reading →
+    IsTextFault reading → fault.cause ≡ Specifier → answer ≢ Err fault
 no_specifier (Ok x) reading fault gives own is same = cc
 no_specifier (Err other) reading fault gives own is same =
     let here : other.cause ≡ Specifier = cc in
-    without_cause Specifier (λ no. no) reading other own (gives (λ memory. let there : other.cause ≡ NoMemory = ap (λ (f : RuleFault). f.cause) memory in cc)) here
+    without_cause Specifier (λ no. no) reading other own
+    (gives (λ memory. let there : other.cause ≡ NoMemory = ap (λ (f : RuleFault). f.cause) memory in cc)) here

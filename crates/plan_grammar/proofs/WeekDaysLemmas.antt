@@ -1,4 +1,6 @@
 -- The days of a week, collected day by day.
+-- For the loop of `week_days` (`day_added`, `day_passed`) and its end (`collected`). A turn goes by whether a value is
+-- the day of the turn; at the end `week_days_of` is unfolded, and two sets with the same members are one.
 use Rattle.std.proofs.Common.{◌≡◌, ℕ, ◌+◌, Bool, true, false, ◌&&◌, ◌||◌, nat_eq, nat_lt, ap, sym, ◌∙◌, arith, inl, inr}
 use Rattle.std.proofs.lemmas.Bool.{cases_eq}
 use Rattle.std.proofs.lemmas.Bool.Decides.{nat_tests}
@@ -10,7 +12,9 @@ below : (v : ℕ) → nat_lt v 7 ≡ is_among 0 7 v
 below v = grind (arith, nat_tests)
 
 -- the days below 7 that were written are the days of the week
-pub collected : (written days : Values) → days.base ≡ 0 → ((v : ℕ) → has_value days v ≡ (nat_lt v 7 && has_week_day written v)) → days ≡ week_days_of written
+pub collected :
+    (written days : Values) → days.base ≡ 0 → ((v : ℕ) → has_value days v ≡ (nat_lt v 7 && has_week_day written v)) →
+    days ≡ week_days_of written
 unfolding week_days_of
 collected written days base members =
     same_values days (values_where 0 7 (has_week_day written)) (base ∙ sym (base-values_where 0 7 (has_week_day written)))
@@ -20,7 +24,9 @@ collected written days base members =
     among v = ap (λ b. b && has_week_day written v) (below v)
 
 -- one day more that was written
-pub day_added : (b : Bool) (test : ℕ → Bool) (day v : ℕ) → test day ≡ true → b ≡ (nat_lt v day && test v) → (nat_eq v day || b) ≡ (nat_lt v (day + 1) && test v)
+pub day_added :
+    (b : Bool) (test : ℕ → Bool) (day v : ℕ) → test day ≡ true → b ≡ (nat_lt v day && test v) →
+    (nat_eq v day || b) ≡ (nat_lt v (day + 1) && test v)
 day_added b test day v passes is =
     rw is (elim (cases_eq v day) [
       | inl same ↦ rw (same, passes) (grind (arith, nat_tests))
@@ -28,7 +34,8 @@ day_added b test day v passes is =
     ])
 
 -- one day more that was not
-pub day_passed : (b : Bool) (test : ℕ → Bool) (day v : ℕ) → test day ≡ false → b ≡ (nat_lt v day && test v) → b ≡ (nat_lt v (day + 1) && test v)
+pub day_passed :
+    (b : Bool) (test : ℕ → Bool) (day v : ℕ) → test day ≡ false → b ≡ (nat_lt v day && test v) → b ≡ (nat_lt v (day + 1) && test v)
 day_passed b test day v fails is =
     is ∙ elim (cases_eq v day) [
       | inl same ↦ rw (same, fails) (grind (arith, nat_tests))

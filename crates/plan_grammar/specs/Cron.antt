@@ -7,16 +7,17 @@ use Rattle.plan_sets.specs.declared.item.Item.{Item}
 use Rattle.plan_sets.specs.declared.item.Item.TheVariants.{One, Range}
 use Rattle.plan_sets.specs.Values.{Values as SetOfValues, has_value, values_where}
 use Rattle.plan_sets.specs.Items.{set_reading}
-use Rattle.plan_texts.specs.declared.fault.RuleCause.TheVariants.{WrongParts, BadNumber, BadName, UnknownWord}
+use Rattle.plan_grammar.specs.declared.fault.RuleCause.TheVariants.{WrongParts, BadNumber, BadName, UnknownWord}
 use Rattle.plan_grammar.specs.declared.field.Field.{Field}
 use Rattle.plan_grammar.specs.declared.field.Field.TheVariants.{Minute, Hour, MonthDay, Month, WeekDay}
-use Rattle.plan_texts.specs.declared.element.Side.{Side}
-use Rattle.plan_texts.specs.declared.element.Side.TheVariants.{Star, Value, Between}
+use Rattle.plan_grammar.specs.declared.element.Side.{Side}
+use Rattle.plan_grammar.specs.declared.element.Side.TheVariants.{Star, Value, Between}
 use Rattle.plan_match.specs.declared.rule.Rule.{Rule}
 use Rattle.plan_match.specs.declared.rule.Rule.TheVariants.{Cron, Never}
 use Rattle.plan_texts.specs.Text.{words, pieces, begins_with, cut_at, number_of}
-use Rattle.plan_texts.specs.Steps.{Reading, refused, ◌>>=◌, each}
-use Rattle.plan_texts.specs.Elements.{number_reading, side_by, cut_item_by, values_by}
+use Rattle.plan_texts.specs.Steps.{◌>>=◌, each}
+use Rattle.plan_grammar.specs.Readings.{Reading, refused}
+use Rattle.plan_grammar.specs.Elements.{number_reading, side_by, cut_item_by, values_by}
 
 -- the place of a field in the text, from 1 (crontab(5), fields)
 abbrev pub part_of : Field → ℕ

@@ -11,9 +11,9 @@ use Rattle.plan_sets.specs.declared.item.SetFault.TheVariants.{OutOfRange, ZeroS
 use Rattle.plan_sets.specs.Limits.{first_year, last_year}
 use Rattle.plan_sets.specs.Values.{Values as SetOfValues, values_where}
 use Rattle.plan_sets.specs.Items.{is_within, fault_or, values_or_fault, set_reading}
-use Rattle.plan_texts.specs.declared.fault.RuleCause.TheVariants.{WrongParts, BadName, Fraction, Zone, UnknownWord, Specifier}
-use Rattle.plan_texts.specs.declared.element.Side.{Side}
-use Rattle.plan_texts.specs.declared.element.Side.TheVariants.{Star, Value, Between}
+use Rattle.plan_grammar.specs.declared.fault.RuleCause.TheVariants.{WrongParts, BadName, Fraction, Zone, UnknownWord, Specifier}
+use Rattle.plan_grammar.specs.declared.element.Side.{Side}
+use Rattle.plan_grammar.specs.declared.element.Side.TheVariants.{Star, Value, Between}
 use Rattle.plan_grammar.specs.declared.component.Component.{Component}
 use Rattle.plan_grammar.specs.declared.component.Component.TheVariants.{Year, Month, Day, Place, Hour, Minute, Second}
 use Rattle.plan_match.specs.declared.event.DayCount.{DayCount}
@@ -22,8 +22,9 @@ use Rattle.plan_match.specs.declared.event.Calendar.{Calendar}
 use Rattle.plan_match.specs.declared.rule.Rule.{Rule}
 use Rattle.plan_match.specs.declared.rule.Rule.TheVariants.{Events}
 use Rattle.plan_texts.specs.Text.{words, pieces, begins_with, cut_at}
-use Rattle.plan_texts.specs.Steps.{Reading, refused, ◌>>=◌, each}
-use Rattle.plan_texts.specs.Elements.{number_reading, side_by, cut_item_by, values_by}
+use Rattle.plan_texts.specs.Steps.{◌>>=◌, each}
+use Rattle.plan_grammar.specs.Readings.{Reading, refused}
+use Rattle.plan_grammar.specs.Elements.{number_reading, side_by, cut_item_by, values_by}
 use Rattle.plan_grammar.specs.Shape.{ShapeText, shape_reading}
 
 -- whether a byte stands in a text

@@ -1,4 +1,7 @@
+pub mod Readings
+pub mod Elements
 pub mod Cron
 pub mod Shape
 pub mod Event
 pub mod Rows
+pub mod Causes

@@ -4,14 +4,15 @@ use Rattle.std.specs.Char.{is_ascii_alphabetic}
 use Rattle.std.specs.List.{list_any}
 use Rattle.std.specs.Option.{option_map}
 use Rattle.std.specs.Str.{byte}
-use Rattle.plan_texts.specs.declared.fault.RuleCause.TheVariants.{WrongParts}
+use Rattle.plan_grammar.specs.declared.fault.RuleCause.TheVariants.{WrongParts}
 use Rattle.plan_match.specs.declared.event.DayCount.{DayCount}
 use Rattle.plan_match.specs.declared.event.DayCount.TheVariants.{FromStart, FromEnd}
 use Rattle.plan_grammar.specs.declared.shape.Date.{Date}
 use Rattle.plan_grammar.specs.declared.shape.Time.{Time}
 use Rattle.plan_grammar.specs.declared.shape.Shape.{Shape}
 use Rattle.plan_texts.specs.Text.{pieces, begins_with, cut_at}
-use Rattle.plan_texts.specs.Steps.{Reading, refused, ◌>>=◌}
+use Rattle.plan_texts.specs.Steps.{◌>>=◌}
+use Rattle.plan_grammar.specs.Readings.{Reading, refused}
 
 -- the components of a date, as they are written
 pub record DateText : Type 0 where

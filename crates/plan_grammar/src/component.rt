@@ -2,12 +2,14 @@
 
 ghost use Rattle.std.specs.Prelude.{◌≡◌, ◌<◌, ◌^◌, IfOk};
 ghost use Rattle.plan_texts.specs.Limits.{most_digits};
-ghost use Rattle.plan_texts.specs.Steps.{Gives, GivesBy};
+ghost use Rattle.plan_grammar.specs.Readings.{Gives, GivesBy};
 ghost use Rattle.plan_grammar.specs.Event.{component_part, least_of, greatest_of, component_number, full_year, component_value, component_side, spread_item, component_item_of, component_item, component_items, component_set, component_reading};
 
+use crate::element::{Side, number_in};
+use crate::fault::{RuleCause, RuleFault};
 use crate::places::places_of;
 use plan_sets::{FIRST_YEAR, Item, LAST_YEAR, SetFault, ValueSet, set_of};
-use plan_texts::{RuleCause, RuleFault, Side, cut, number_in};
+use plan_texts::cut;
 use std::alloc::Global;
 
 /// A component of a calendar event.

@@ -2,14 +2,15 @@
 
 ghost use Rattle.std.specs.Prelude.{◌≡◌, IfErr, IfOk, map};
 ghost use Rattle.std.specs.Option.{option_map};
-ghost use Rattle.plan_texts.specs.Steps.{Gives};
+ghost use Rattle.plan_grammar.specs.Readings.{Gives};
 ghost use Rattle.plan_match.specs.WithinLimits.{RuleIsWithinLimits};
 ghost use Rattle.plan_grammar.specs.Cron.{has_week_day, week_days_of, five_fields, at_words, at_word, found_reading, rule_reading, cron_reading};
 
+use crate::fault::{RuleCause, RuleFault};
 use crate::field::{Field, is_restricted};
 use plan_match::{CronRule, Rule};
 use plan_sets::ValueSet;
-use plan_texts::{RuleCause, RuleFault, begins_with, words};
+use plan_texts::{begins_with, words};
 use std::alloc::Global;
 
 // The words that begin with `@`, each with the five fields that it stands for (crontab(5), extensions). `@reboot` stands for

@@ -5,18 +5,19 @@ ghost use Rattle.std.specs.Char.{is_ascii_alphabetic};
 ghost use Rattle.std.specs.List.{list_all};
 ghost use Rattle.std.specs.Option.{option_map};
 ghost use Rattle.std.specs.Str.{str_eq_ignore_ascii_case};
-ghost use Rattle.plan_texts.specs.Steps.{Gives, GivesBy};
+ghost use Rattle.plan_grammar.specs.Readings.{Gives, GivesBy};
 ghost use Rattle.plan_grammar.specs.Shape.{shape_text};
 ghost use Rattle.plan_texts.specs.Text.{words};
 ghost use Rattle.plan_match.specs.WithinLimits.{EventIsWithinLimits, RuleIsWithinLimits};
 ghost use Rattle.plan_grammar.specs.Event.{weekdays_if_given, day_component, event_of, spelled_out, zone_dropped, expression_of, is_unknown_word, zoneless, words_reading, has_specifier, event_reading, event_rule_reading};
 
 use crate::component::Component;
+use crate::fault::{RuleCause, RuleFault};
 use crate::shape::{Shape, shape_of};
 use crate::weekdays::{weekday_of, weekdays};
 use plan_match::{Calendar, DayCount, Events, Rule};
 use plan_sets::ValueSet;
-use plan_texts::{RuleCause, RuleFault, begins_with_letter, words};
+use plan_texts::{begins_with_letter, words};
 use std::alloc::Global;
 
 /// The calendar event that a text means (systemd.time(7)): weekdays, a date, a time of day and the zone `UTC`, each of

@@ -2,11 +2,13 @@
 
 ghost use Rattle.std.specs.Prelude.{◌≡◌, Bool, IsTrue, map};
 ghost use Rattle.std.specs.Str.{bytes_eq};
-ghost use Rattle.plan_texts.specs.Steps.{Gives, GivesBy};
+ghost use Rattle.plan_grammar.specs.Readings.{Gives, GivesBy};
 ghost use Rattle.plan_grammar.specs.Cron.{part_of, lowest, highest, names_of, named_value, value_reading, step_reading, side_reading, item_of, item_reading, items_reading, field_reading, is_restricted};
 
+use crate::element::{Side, number_in};
+use crate::fault::{RuleCause, RuleFault};
 use plan_sets::{Item, ValueSet, set_of};
-use plan_texts::{RuleCause, RuleFault, Side, begins_with, cut, number, number_in};
+use plan_texts::{begins_with, cut, number};
 use std::alloc::Global;
 
 // The names of the months, from 1 on (crontab(5), names).

@@ -2,11 +2,12 @@
 
 ghost use Rattle.std.specs.Prelude.{◌≡◌, map};
 ghost use Rattle.std.specs.Option.{option_map};
-ghost use Rattle.plan_texts.specs.Steps.{GivesBy};
+ghost use Rattle.plan_grammar.specs.Readings.{GivesBy};
 ghost use Rattle.plan_grammar.specs.Shape.{date_text, time_text, shape_text, date_from_start, date_from_end, date_reading, time_of_pieces, time_reading, every_day, midnight, is_time, one_word, two_words, dated, shape_reading};
 
+use crate::fault::{RuleCause, RuleFault};
 use plan_match::DayCount;
-use plan_texts::{RuleCause, RuleFault, begins_with_letter, cut, pieces};
+use plan_texts::{begins_with_letter, cut, pieces};
 use std::alloc::Global;
 
 /// The components of a date, as they are written.

@@ -1,11 +1,12 @@
 //! The weekday part of a calendar event (systemd.time(7)).
 
 ghost use Rattle.std.specs.Prelude.{◌≡◌};
-ghost use Rattle.plan_texts.specs.Steps.{Gives, GivesBy};
+ghost use Rattle.plan_grammar.specs.Readings.{Gives, GivesBy};
 ghost use Rattle.plan_grammar.specs.Event.{names_weekday, weekday_of, weekday_reading, weekday_item, without_comma, weekday_items, weekdays_reading};
 
+use crate::fault::{RuleCause, RuleFault};
 use plan_sets::{Item, ValueSet, set_of};
-use plan_texts::{RuleCause, RuleFault, cut};
+use plan_texts::cut;
 use std::alloc::Global;
 
 /// The part of the text that the weekdays are.

@@ -1,4 +1,6 @@
--- What a mailbox replies, by cases.
+-- What a mailbox replies, by cases: for `send`, `take` and `is_new` of `Lanes`, and for `is_new` of `Lanes::new`.
+-- Each lemma puts what the code found into the tests of the definition. In `next-found-in` and `next-none-in` the code
+-- searched the lanes, and the definition the mailbox's lists of the same length: Lines.antt does the rest.
 use Rattle.std.proofs.Common.{◌≡◌, ℕ, zero, suc, ◌<◌, Bool, true, false, not, ◌||◌, cond, eqb, ltb, List, [], ◌∷◌, length, map, replicate, None, Some, find, refl, subst, sym, ap, ◌∙◌}
 use Rattle.std.specs.List.{list_any, list_all, slice_get, AllPass}
 use Rattle.std.proofs.lemmas.List.{length-map, length-replicate}
@@ -12,11 +14,14 @@ use Rattle.plan_mailbox.specs.Reply.{taking}
 use Rattle.plan_mailbox.proofs.Lines.{next-found, next-none}
 
 -- a message is sent where nothing refuses it
-pub send_reply-sent : {M : Type 0} (b : Mailbox M) (s : ℕ) (m : M) → s < senders_of b → is_shut_at b s ≡ false → (length (waiting_at b s) ≡ b.room → ⊥) → send_reply b s m ≡ Sent
+pub send_reply-sent :
+    {M : Type 0} (b : Mailbox M) (s : ℕ) (m : M) → s < senders_of b → is_shut_at b s ≡ false →
+    (length (waiting_at b s) ≡ b.room → ⊥) → send_reply b s m ≡ Sent
 send_reply-sent b s m known open' fits =
     let room = cond (eqb (length (waiting_at b s)) b.room) (Full m) Sent in
     cond-true (ltb s (senders_of b)) (cond (is_shut_at b s) (Closed m) room) (NoSender m) (lt-ltb s (senders_of b) known)
-    ∙ cond-false (is_shut_at b s) (Closed m) room open' ∙ cond-false (eqb (length (waiting_at b s)) b.room) (Full m) Sent (ne_eqb (length (waiting_at b s)) b.room fits)
+    ∙ cond-false (is_shut_at b s) (Closed m) room open' ∙ cond-false (eqb (length (waiting_at b s)) b.room) (Full m) Sent
+    (ne_eqb (length (waiting_at b s)) b.room fits)
 
 -- marks none of which is set
 pub none_marked : (marks : List Bool) → list_any (λ x. x) marks ≡ false → marks ≡ replicate (length marks) false
@@ -36,7 +41,9 @@ none_marked-pass (x ∷ marks) pass =
     ap (λ y. y || list_any (λ z. z) marks) here ∙ none_marked-pass marks (All-tail (λ y. not y ≡ true) x marks pass)
 
 -- who is next in line, by a search through the lanes
-pub next-found-in : {M L : Type 0} (waiting : L → List M) (lanes seen : List L) (turn s : ℕ) (m : M) (rest : List M) → seen ≡ lanes → waiting_in waiting lanes s ≡ m ∷ rest
+pub next-found-in :
+    {M L : Type 0} (waiting : L → List M) (lanes seen : List L) (turn s : ℕ) (m : M) (rest : List M) → seen ≡ lanes →
+    waiting_in waiting lanes s ≡ m ∷ rest
     → Some s ≡ find (λ t. ltb 0 (length (waiting_in waiting seen t))) (in_turn (length seen) turn)
     → slice_get (line_of (waiting_in waiting lanes) (in_turn (length (map waiting lanes)) turn)) 0 ≡ Some (s, m)
 next-found-in waiting lanes seen turn s m rest same waits e =
@@ -53,7 +60,8 @@ next-none-in waiting lanes seen turn same e =
     ∙ ap (λ n. find (λ t. ltb 0 (length (waiting_in waiting lanes t))) (in_turn n turn)) (sym (length-map lanes waiting))))
 
 -- where none waits, the reply is by whether all are shut
-pub take_reply-none : {M : Type 0} (b : Mailbox M) (all : Bool) → next_of b ≡ None → list_all (λ x. x) b.shut ≡ all → take_reply b ≡ taking None all
+pub take_reply-none :
+    {M : Type 0} (b : Mailbox M) (all : Bool) → next_of b ≡ None → list_all (λ x. x) b.shut ≡ all → take_reply b ≡ taking None all
 take_reply-none b all none shut = ap (λ next. taking next (list_all (λ x. x) b.shut)) none ∙ ap (taking None) shut
 
 pub take_reply-found : {M : Type 0} (b : Mailbox M) (s : ℕ) (m : M) → next_of b ≡ Some (s, m) → take_reply b ≡ Took s m
@@ -65,7 +73,9 @@ list_any-map f [] = refl
 list_any-map f (x ∷ xs) = ap (λ b. f x || b) (list_any-map f xs)
 
 -- a mailbox whose parts are those of a new one
-pub IsNew-from : {M : Type 0} (b : Mailbox M) → b.waiting ≡ replicate (senders_of b) [] → b.shut ≡ replicate (senders_of b) false → b.turn ≡ 0 → b.has_sent ≡ false → IsNew b
+pub IsNew-from :
+    {M : Type 0} (b : Mailbox M) → b.waiting ≡ replicate (senders_of b) [] → b.shut ≡ replicate (senders_of b) false → b.turn ≡ 0 →
+    b.has_sent ≡ false → IsNew b
 IsNew-from b waiting shut turn sent =
     let n = senders_of b in
     ap (λ ws. record b { waiting = ws }) waiting ∙ ap (λ marks. record b { waiting = replicate n []; shut = marks }) shut

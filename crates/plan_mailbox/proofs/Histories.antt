@@ -1,4 +1,6 @@
--- A history with one more event.
+-- A history with one more event: for Steps.antt. `in_order-whole` is also for `prefix` of `takes_what_was_sent`.
+-- A moment of the longer history is one of the shorter or the whole, so `IsLawful-push` needs of the new event only
+-- what `IsAllowed` says of the whole. For what waits, `Leaves-push` cuts what was sent behind what was taken.
 use Rattle.std.proofs.Common.{◌≡◌, ℕ, ◌+◌, ◌%◌, ◌<◌, ◌≤◌, Bool, true, false, cond, ◌||◌, eqb, List, [], ◌∷◌, ◌++◌, length, take, drop, None, refl, sym, ap, ◌∙◌, inl, inr, ⊎_elim, subst, arith, add-zero, zero-add}
 use Rattle.std.specs.Prelude.{flat_map, count_by}
 use Rattle.std.specs.List.{list_any, last_or}
@@ -50,24 +52,35 @@ Leaves-from : {M : Type 0} (h : List (Event M)) (s : ℕ) (zs : List M) → sent
 Leaves-from h s zs e = record { in_order = IsPrefix-from (taken_of h s) (sent_of h s) zs e; waits = waiting_of-from h s zs e }
 
 -- one more event, by what it adds to either list
-Leaves-push : {M : Type 0} (h : List (Event M)) (e : Event M) (s : ℕ) (zs : List M) → sent_of h s ++ sent_by s e ≡ taken_of h s ++ taken_by s e ++ zs → Leaves (h ++ e ∷ []) s zs
+Leaves-push :
+    {M : Type 0} (h : List (Event M)) (e : Event M) (s : ℕ) (zs : List M) →
+    sent_of h s ++ sent_by s e ≡ taken_of h s ++ taken_by s e ++ zs → Leaves (h ++ e ∷ []) s zs
 Leaves-push h e s zs eq = Leaves-from (h ++ e ∷ []) s zs (sent_of-push h e s ∙ eq ∙ ap (λ r. r ++ zs) (sym (taken_of-push h e s)))
 
-pub Leaves-sends : {M : Type 0} (h : List (Event M)) (t : ℕ) (m : M) (s : ℕ) → IsPrefix (taken_of h s) (sent_of h s) → Leaves (h ++ Sends t m ∷ []) s (waiting_of h s ++ sent_by s (Sends t m))
+pub Leaves-sends :
+    {M : Type 0} (h : List (Event M)) (t : ℕ) (m : M) (s : ℕ) → IsPrefix (taken_of h s) (sent_of h s) →
+    Leaves (h ++ Sends t m ∷ []) s (waiting_of h s ++ sent_by s (Sends t m))
 Leaves-sends h t m s p = Leaves-push h (Sends t m) s _
     (ap (λ r. r ++ sent_by s (Sends t m)) p ∙ append_assoc (taken_of h s) (waiting_of h s) (sent_by s (Sends t m))
     ∙ ap (λ r. r ++ (waiting_of h s ++ sent_by s (Sends t m))) (sym (append-nil (taken_of h s))))
 
-pub Leaves-takes_other : {M : Type 0} (h : List (Event M)) (t : ℕ) (m : M) (s : ℕ) → eqb t s ≡ false → IsPrefix (taken_of h s) (sent_of h s) → Leaves (h ++ Takes t m ∷ []) s (waiting_of h s)
+pub Leaves-takes_other :
+    {M : Type 0} (h : List (Event M)) (t : ℕ) (m : M) (s : ℕ) → eqb t s ≡ false → IsPrefix (taken_of h s) (sent_of h s) →
+    Leaves (h ++ Takes t m ∷ []) s (waiting_of h s)
 Leaves-takes_other h t m s ne p = Leaves-push h (Takes t m) s _
-    (append-nil (sent_of h s) ∙ p ∙ ap (λ r. r ++ waiting_of h s) (sym (ap (λ b. taken_of h s ++ cond b (m ∷ []) []) ne ∙ append-nil (taken_of h s))))
+    (append-nil (sent_of h s) ∙ p ∙ ap (λ r. r ++ waiting_of h s)
+    (sym (ap (λ b. taken_of h s ++ cond b (m ∷ []) []) ne ∙ append-nil (taken_of h s))))
 
-pub Leaves-takes : {M : Type 0} (h : List (Event M)) (s : ℕ) (m : M) (rest : List M) → waiting_of h s ≡ m ∷ rest → IsPrefix (taken_of h s) (sent_of h s) → Leaves (h ++ Takes s m ∷ []) s rest
+pub Leaves-takes :
+    {M : Type 0} (h : List (Event M)) (s : ℕ) (m : M) (rest : List M) → waiting_of h s ≡ m ∷ rest →
+    IsPrefix (taken_of h s) (sent_of h s) → Leaves (h ++ Takes s m ∷ []) s rest
 Leaves-takes h s m rest w p = Leaves-push h (Takes s m) s _
     (append-nil (sent_of h s) ∙ p ∙ ap (λ r. taken_of h s ++ r) w ∙ sym (append_assoc (taken_of h s) (m ∷ []) rest)
     ∙ ap (λ b. taken_of h s ++ cond b (m ∷ []) [] ++ rest) (sym (eq-eqb s s refl)))
 
-pub Leaves-shuts : {M : Type 0} (h : List (Event M)) (t s : ℕ) → IsPrefix (taken_of h s) (sent_of h s) → Leaves (h ++ Shuts t ∷ []) s (waiting_of h s)
+pub Leaves-shuts :
+    {M : Type 0} (h : List (Event M)) (t s : ℕ) → IsPrefix (taken_of h s) (sent_of h s) →
+    Leaves (h ++ Shuts t ∷ []) s (waiting_of h s)
 Leaves-shuts h t s p = Leaves-push h (Shuts t) s _
     (append-nil (sent_of h s) ∙ p ∙ ap (λ r. r ++ waiting_of h s) (sym (append-nil (taken_of h s))))
 
@@ -76,13 +89,19 @@ count_of_none : {M : Type 0} (h : List (Event M)) (s : ℕ) → was_shut h s ≡
 count_of_none [] s none = refl
 count_of_none (e ∷ h) s none =
     let parts = or_parts (shuts s e) (was_shut h s) none in
-    sum_by-cons (λ x. cond (shuts s x) 1 0) e h ∙ ap (λ b. cond b 1 0 + count_by (shuts s) h) parts.0 ∙ zero-add (count_by (shuts s) h) ∙ count_of_none h s parts.1
+    sum_by-cons (λ x. cond (shuts s x) 1 0) e h ∙ ap (λ b. cond b 1 0 + count_by (shuts s) h) parts.0 ∙ zero-add
+    (count_by (shuts s) h) ∙ count_of_none h s parts.1
 
-count_by-push : {M : Type 0} (h : List (Event M)) (e : Event M) (s : ℕ) → count_by (shuts s) (h ++ e ∷ []) ≡ count_by (shuts s) h + cond (shuts s e) 1 0
-count_by-push h e s = sum_by-append (λ x. cond (shuts s x) 1 0) h (e ∷ []) ∙ ap (λ n. count_by (shuts s) h + n) (sum_by-cons (λ x. cond (shuts s x) 1 0) e [] ∙ add-zero (cond (shuts s e) 1 0))
+count_by-push :
+    {M : Type 0} (h : List (Event M)) (e : Event M) (s : ℕ) →
+    count_by (shuts s) (h ++ e ∷ []) ≡ count_by (shuts s) h + cond (shuts s e) 1 0
+count_by-push h e s = sum_by-append (λ x. cond (shuts s x) 1 0) h (e ∷ []) ∙ ap (λ n. count_by (shuts s) h + n)
+    (sum_by-cons (λ x. cond (shuts s x) 1 0) e [] ∙ add-zero (cond (shuts s e) 1 0))
 
 -- a moment of a history with one more event is one of the history before it, or the whole
-moment_before : {M : Type 0} (h : List (Event M)) (e : Event M) (P : List (Event M) → Type 0) → ((k : ℕ) → P (take k h)) → P (h ++ e ∷ []) → (k : ℕ) → P (take k (h ++ e ∷ []))
+moment_before :
+    {M : Type 0} (h : List (Event M)) (e : Event M) (P : List (Event M) → Type 0) → ((k : ℕ) → P (take k h)) → P (h ++ e ∷ []) →
+    (k : ℕ) → P (take k (h ++ e ∷ []))
 moment_before h e P before whole k =
     ⊎_elim (λ (lt : k < length h + 1). let le : k ≤ length h = omega arith in subst P (sym (take-append-le k h (e ∷ []) le)) (before k))
     (λ (ge : length h + 1 ≤ k). subst P (sym (take_all k (h ++ e ∷ []) (omega (arith, length-append h (e ∷ []))))) whole)
@@ -108,38 +127,51 @@ IsLawful-nil senders room = record {
 -- a sender that was shut at a moment was shut
 was_shut-take : {M : Type 0} (h : List (Event M)) (k s : ℕ) → was_shut (take k h) s ≡ true → was_shut h s ≡ true
 was_shut-take h k s shut =
-    ap (λ p. was_shut p s) (sym (take-append-drop k h)) ∙ list_any-append (shuts s) (take k h) (drop k h) ∙ or_left (was_shut (take k h) s) (was_shut (drop k h) s) shut
+    ap (λ p. was_shut p s) (sym (take-append-drop k h)) ∙ list_any-append (shuts s) (take k h) (drop k h) ∙ or_left
+    (was_shut (take k h) s) (was_shut (drop k h) s) shut
 
-pub IsLawful-push : {M : Type 0} (senders room : ℕ) (h : List (Event M)) (e : Event M) → IsLawful senders room h → IsAllowed senders room h e → IsLawful senders room (h ++ e ∷ [])
+pub IsLawful-push :
+    {M : Type 0} (senders room : ℕ) (h : List (Event M)) (e : Event M) → IsLawful senders room h → IsAllowed senders room h e →
+    IsLawful senders room (h ++ e ∷ [])
 IsLawful-push senders room h e l a = record {
   in_order = λ k s. moment_before h e (λ p. IsPrefix (taken_of p s) (sent_of p s)) (λ j. l.in_order j s) (a.in_order s) k;
   roomy = λ k s. moment_before h e (λ p. length (waiting_of p s) ≤ room) (λ j. l.roomy j s) (a.roomy s) k;
   shut_once = λ s. rw (count_by-push h e s) (
       elim (cases_Bool (was_shut h s)) [
         | inl shut ↦ let e0 = ap (λ b. cond {A = ℕ} b 1 0) (a.shut_once s shut) in omega (arith, l.shut_once s)
-        | inr open' ↦ let none = count_of_none h s open' in cond_both (shuts s e) 1 0 (λ n. count_by (shuts s) h + n ≤ 1) (λ _. omega arith) (λ _. omega arith)
+        | inr open' ↦ let none = count_of_none h s open' in cond_both (shuts s e) 1 0 (λ n. count_by (shuts s) h + n ≤ 1)
+            (λ _. omega arith) (λ _. omega arith)
       ]);
   closed = λ k s.
       ⊎_elim (λ (lt : k < length h + 1). λ shut.
       let le : k ≤ length h = omega arith in
       let before : was_shut (take k h) s ≡ true = ap (λ p. was_shut p s) (sym (take-append-le k h (e ∷ []) le)) ∙ shut in
-      ap (λ p. sent_of p s) (drop-append-le k h (e ∷ []) le) ∙ sent_of-push (drop k h) e s ∙ ap (λ r. r ++ sent_by s e) (l.closed k s before) ∙ a.closed s (was_shut-take h k s before))
+      ap (λ p. sent_of p s) (drop-append-le k h (e ∷ []) le) ∙ sent_of-push (drop k h) e s ∙ ap (λ r. r ++ sent_by s e)
+      (l.closed k s before) ∙ a.closed s (was_shut-take h k s before))
       (λ (ge : length h + 1 ≤ k). λ shut. ap (λ p. sent_of p s) (drop_all k (h ++ e ∷ []) (omega (arith, length-append h (e ∷ [])))))
       (cases_lt k (length h + 1));
-  known = All-append (λ x. sender_of x < senders) h (e ∷ []) l.known (All-cons (λ x. sender_of x < senders) e [] a.known (All-nil (λ x. sender_of x < senders)));
+  known = All-append (λ x. sender_of x < senders) h (e ∷ []) l.known
+      (All-cons (λ x. sender_of x < senders) e [] a.known (All-nil (λ x. sender_of x < senders)));
 }
 
 -- the whole of a history is a moment of it
-pub in_order-whole : {M : Type 0} (senders room : ℕ) (h : List (Event M)) → IsLawful senders room h → (s : ℕ) → IsPrefix (taken_of h s) (sent_of h s)
-in_order-whole senders room h l s = subst (λ p. IsPrefix (taken_of p s) (sent_of p s)) (take_all (length h) h (omega arith)) (l.in_order (length h) s)
+pub in_order-whole :
+    {M : Type 0} (senders room : ℕ) (h : List (Event M)) → IsLawful senders room h → (s : ℕ) → IsPrefix (taken_of h s) (sent_of h s)
+in_order-whole senders room h l s = subst (λ p. IsPrefix (taken_of p s) (sent_of p s)) (take_all (length h) h (omega arith))
+    (l.in_order (length h) s)
 
 pub roomy-whole : {M : Type 0} (senders room : ℕ) (h : List (Event M)) → IsLawful senders room h → (s : ℕ) → length (waiting_of h s) ≤ room
 roomy-whole senders room h l s = subst (λ p. length (waiting_of p s) ≤ room) (take_all (length h) h (omega arith)) (l.roomy (length h) s)
 
 -- the turn after one more event
-pub turn_of-takes : {M : Type 0} (senders : ℕ) (h : List (Event M)) (s : ℕ) (m : M) → turn_of senders (h ++ Takes s m ∷ []) ≡ (s + 1) % senders
-turn_of-takes senders h s m = ap (turn_after senders) (ap (last_or None) (flat_map_push giver_of h (Takes s m)) ∙ last_or_push None (flat_map giver_of h) s)
+pub turn_of-takes :
+    {M : Type 0} (senders : ℕ) (h : List (Event M)) (s : ℕ) (m : M) → turn_of senders (h ++ Takes s m ∷ []) ≡ (s + 1) % senders
+turn_of-takes senders h s m = ap (turn_after senders)
+    (ap (last_or None) (flat_map_push giver_of h (Takes s m)) ∙ last_or_push None (flat_map giver_of h) s)
 
-pub turn_of-other : {M : Type 0} (senders : ℕ) (h : List (Event M)) (e : Event M) → giver_of e ≡ [] → turn_of senders (h ++ e ∷ []) ≡ turn_of senders h
+pub turn_of-other :
+    {M : Type 0} (senders : ℕ) (h : List (Event M)) (e : Event M) → giver_of e ≡ [] →
+    turn_of senders (h ++ e ∷ []) ≡ turn_of senders h
 turn_of-other senders h e none =
-    ap (λ xs. turn_after senders (last_or None xs)) (flat_map_push giver_of h e ∙ ap (λ r. flat_map giver_of h ++ r) none ∙ append-nil (flat_map giver_of h))
+    ap (λ xs. turn_after senders (last_or None xs))
+    (flat_map_push giver_of h e ∙ ap (λ r. flat_map giver_of h ++ r) none ∙ append-nil (flat_map giver_of h))

@@ -1,4 +1,6 @@
--- What a mailbox behind a lock replies.
+-- What a mailbox behind a lock replies: for `reply` and `answer` of `next` in locked.rt, where it isn't `Nothing`.
+-- By the cases of `taking`. The sender of a message is below 8, since it is one of the mailbox's: past them nothing
+-- waits, and what is first in line does.
 use Rattle.std.proofs.Common.{◌≡◌, ℕ, ◌<◌, ◌≤◌, Bool, true, false, List, [], ◌∷◌, Option, None, Some, refl, sym, ap, subst, ◌∙◌, ⊎_elim, arith}
 use Rattle.std.specs.List.{list_all}
 use Rattle.std.proofs.lemmas.Bool.{cases_lt}
@@ -18,16 +20,22 @@ nil_is_no_cons x xs e = cc
 next-known : {M : Type 0} (b : Mailbox M) (next : ℕ × M) → next_of b ≡ Some next → next.0 < senders_of b
 next-known b next e =
     let waits = first_in_line (waiting_at b) (in_turn (senders_of b) b.turn) next e in
-    ⊎_elim (λ known. known) (λ past. absurd (nil_is_no_cons next.1 waits.0 (sym (get_or_past b.waiting next.0 [] past) ∙ waits.1))) (cases_lt next.0 (senders_of b))
+    ⊎_elim (λ known. known) (λ past. absurd (nil_is_no_cons next.1 waits.0 (sym (get_or_past b.waiting next.0 [] past) ∙ waits.1)))
+    (cases_lt next.0 (senders_of b))
 
-taking-replies : {M : Type 0} (found : Option (ℕ × M)) (all : Bool) → ((next : ℕ × M) → found ≡ Some next → next.0 < most_senders) → (taking found all ≡ Nothing → ⊥)
+taking-replies :
+    {M : Type 0} (found : Option (ℕ × M)) (all : Bool) → ((next : ℕ × M) → found ≡ Some next → next.0 < most_senders) →
+    (taking found all ≡ Nothing → ⊥)
     → IsTakeReply (taking found all) × (Some (taking found all) ≡ answer_to_take (taking found all))
 taking-replies (Some next) all known goes_on = (known next refl, refl)
 taking-replies None true known goes_on = (tt, refl)
 taking-replies None false known goes_on = absurd (goes_on refl)
 
 -- the replies to a take, but for that a message may still come
-pub take-replies : {M : Type 0} (b : Mailbox M) (reply : Reply M) → senders_of b ≤ most_senders → reply ≡ take_reply b → (reply ≡ Nothing → ⊥) → IsTakeReply reply × (Some reply ≡ answer_to_take (take_reply b))
+pub take-replies :
+    {M : Type 0} (b : Mailbox M) (reply : Reply M) → senders_of b ≤ most_senders → reply ≡ take_reply b → (reply ≡ Nothing → ⊥) →
+    IsTakeReply reply × (Some reply ≡ answer_to_take (take_reply b))
 take-replies b reply few e goes_on =
-    let both = taking-replies (next_of b) (list_all (λ is_shut. is_shut) b.shut) (λ next found. let known = next-known b next found in omega arith) (λ none. goes_on (e ∙ none)) in
+    let both = taking-replies (next_of b) (list_all (λ is_shut. is_shut) b.shut)
+    (λ next found. let known = next-known b next found in omega arith) (λ none. goes_on (e ∙ none)) in
     (subst (λ r. IsTakeReply r) (sym e) both.0, ap Some e ∙ both.1)

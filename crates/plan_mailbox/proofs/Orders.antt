@@ -1,4 +1,6 @@
--- What a lawful history says of the order of its events.
+-- What a lawful history says of the order of its events: for `in_order` and `closed` of `takes_what_was_sent`.
+-- In order: what was taken is a prefix of what was sent. Closed: a send behind its close would stand in the history
+-- from the close on, where `closed` of `IsLawful` says that the sender sent nothing.
 use Rattle.std.proofs.Common.{◌≡◌, ℕ, zero, suc, ◌+◌, ◌-◌, ◌<◌, ◌≤◌, Bool, true, cond, eqb, List, [], ◌∷◌, ◌++◌, length, get_or, take, drop, Some, refl, sym, ap, ◌∙◌, ⊎_elim, arith}
 use Rattle.std.specs.Prelude.{flat_map}
 use Rattle.std.specs.List.{list_any, slice_get}
@@ -26,19 +28,25 @@ empty_part f (y ∷ ys) (suc k) x at_k e = empty_part f ys k x at_k (empty_right
 -- an event that is met at a place has happened after it
 met : {X : Type 0} (p : X → Bool) (xs : List X) (i : ℕ) (x : X) → slice_get xs i ≡ Some x → p x ≡ true → list_any p (take (i + 1) xs) ≡ true
 met p xs i x at_i holds =
-    list_any_more p xs i x (slice_get_within xs i x at_i) ∙ or_right (list_any p (take i xs)) (p (get_or xs i x)) (ap p (get_or_from_slice_get xs i x x at_i) ∙ holds)
+    list_any_more p xs i x (slice_get_within xs i x at_i) ∙ or_right (list_any p (take i xs)) (p (get_or xs i x))
+    (ap p (get_or_from_slice_get xs i x x at_i) ∙ holds)
 
 -- in a lawful history messages are taken in the order in which they were sent, each once
 pub IsInOrder-lawful : {M : Type 0} (senders room : ℕ) (h : List (Event M)) → IsLawful senders room h → IsInOrder h
 IsInOrder-lawful senders room h l s k m e =
-    ap (λ ms. slice_get ms k) (in_order-whole senders room h l s) ∙ slice_get_before (taken_of h s) (drop (length (taken_of h s)) (sent_of h s)) k (slice_get_within (taken_of h s) k m e) ∙ e
+    ap (λ ms. slice_get ms k) (in_order-whole senders room h l s) ∙ slice_get_before (taken_of h s)
+    (drop (length (taken_of h s)) (sent_of h s)) k (slice_get_within (taken_of h s) k m e) ∙ e
 
 -- and nothing is sent after a close
-not_after : {M : Type 0} (senders room : ℕ) (h : List (Event M)) → IsLawful senders room h → (s i j : ℕ) (m : M) → slice_get h i ≡ Some (Shuts s) → slice_get h j ≡ Some (Sends s m) → i < j → ⊥
+not_after :
+    {M : Type 0} (senders room : ℕ) (h : List (Event M)) → IsLawful senders room h → (s i j : ℕ) (m : M) →
+    slice_get h i ≡ Some (Shuts s) → slice_get h j ≡ Some (Sends s m) → i < j → ⊥
 not_after senders room h l s i j m close send later =
     let shut : was_shut (take (i + 1) h) s ≡ true = met (shuts s) h i (Shuts s) close (eq-eqb s s refl) in
-    let at_rest : slice_get (drop (i + 1) h) (j - (i + 1)) ≡ Some (Sends s m) = slice_get-drop (i + 1) h (j - (i + 1)) ∙ ap (slice_get h) (omega arith) ∙ send in
-    let none : cond (eqb s s) (m ∷ []) [] ≡ [] = empty_part (sent_by s) (drop (i + 1) h) (j - (i + 1)) (Sends s m) at_rest (l.closed (i + 1) s shut) in
+    let at_rest : slice_get (drop (i + 1) h) (j - (i + 1)) ≡ Some (Sends s m) = slice_get-drop (i + 1) h (j - (i + 1)) ∙ ap
+    (slice_get h) (omega arith) ∙ send in
+    let none : cond (eqb s s) (m ∷ []) [] ≡ [] = empty_part (sent_by s) (drop (i + 1) h) (j - (i + 1)) (Sends s m) at_rest
+    (l.closed (i + 1) s shut) in
     let some : cond (eqb s s) (m ∷ []) [] ≡ m ∷ [] = ap (λ b. cond b (m ∷ []) []) (eq-eqb s s refl) in
     cc
 

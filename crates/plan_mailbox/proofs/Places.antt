@@ -1,4 +1,6 @@
--- Lists by their places.
+-- Lists by their places: for the calls of `Lanes`, which write to one lane at most, and for lemmas on histories.
+-- By induction over the list, or from the library's lemmas. Used most is `map_set_same`: a write leaves a mapped list
+-- as it was, where the function gives the same of the new element as of the old.
 use Rattle.std.proofs.Common.{◌≡◌, ℕ, zero, suc, ◌+◌, ◌<◌, Bool, false, cond, eqb, List, [], ◌∷◌, ◌++◌, length, get_or, set, map, replicate, drop, Option, Some, refl, sym, ap, ◌∙◌, arith, add-zero, get_or-set_other}
 use Rattle.std.specs.List.{All, list_all, range_with_len, last_or, slice_get}
 use Rattle.std.proofs.lemmas.List.{get_or-map, map-set, set-get_or}
@@ -13,30 +15,42 @@ last_or_push o [] x = refl
 last_or_push o (y ∷ ys) x = last_or_push (Some y) ys x
 
 -- the marks in a row all pass, where the test of their places does
-pub all_by_places : (xs : List Bool) (p : ℕ → Bool) (a : ℕ) → ((k : ℕ) → get_or xs k false ≡ p (a + k)) → list_all (λ x. x) xs ≡ list_all p (range_with_len a (length xs))
+pub all_by_places :
+    (xs : List Bool) (p : ℕ → Bool) (a : ℕ) → ((k : ℕ) → get_or xs k false ≡ p (a + k)) →
+    list_all (λ x. x) xs ≡ list_all p (range_with_len a (length xs))
 all_by_places [] p a h = refl
 all_by_places (x ∷ xs) p a h =
     let here : x ≡ p a = h 0 ∙ ap p (add-zero a) in
-    let rest : list_all (λ x. x) xs ≡ list_all p (range_with_len (a + 1) (length xs)) = all_by_places xs p (a + 1) (λ k. h (suc k) ∙ ap p (omega arith)) in
+    let rest : list_all (λ x. x) xs ≡ list_all p (range_with_len (a + 1) (length xs)) = all_by_places xs p (a + 1)
+    (λ k. h (suc k) ∙ ap p (omega arith)) in
     cc
 
 -- what stands at a place of a list after a write
-pub get_or-set : {A : Type 0} (xs : List A) (i : ℕ) (y : A) (k : ℕ) (d : A) → i < length xs → get_or (set xs i y) k d ≡ cond (eqb i k) y (get_or xs k d)
+pub get_or-set :
+    {A : Type 0} (xs : List A) (i : ℕ) (y : A) (k : ℕ) (d : A) → i < length xs →
+    get_or (set xs i y) k d ≡ cond (eqb i k) y (get_or xs k d)
 get_or-set xs i y k d h = grind (arith, nat_tests, get_or-set_at, get_or-set_other)
 
 -- a list whose elements all give one value is that value over and over
-pub map_replicate : {A B : Type 0} (f : A → B) (y : B) (xs : List A) (n : ℕ) → length xs ≡ n → All (λ x. f x ≡ y) xs → map f xs ≡ replicate n y
+pub map_replicate :
+    {A B : Type 0} (f : A → B) (y : B) (xs : List A) (n : ℕ) → length xs ≡ n → All (λ x. f x ≡ y) xs → map f xs ≡ replicate n y
 map_replicate f y [] n e h = ap (λ k. replicate k y) e
 map_replicate f y (x ∷ xs) n e h =
-    ap (λ z. z ∷ map f xs) (All-head (λ x. f x ≡ y) x xs h) ∙ ap (λ zs. y ∷ zs) (map_replicate f y xs (length xs) refl (All-tail (λ x. f x ≡ y) x xs h)) ∙ ap (λ k. replicate k y) e
+    ap (λ z. z ∷ map f xs) (All-head (λ x. f x ≡ y) x xs h) ∙ ap (λ zs. y ∷ zs)
+    (map_replicate f y xs (length xs) refl (All-tail (λ x. f x ≡ y) x xs h)) ∙ ap (λ k. replicate k y) e
 
 -- what a function gives at a place that was read
-pub map_read : {A B : Type 0} (f : A → B) (xs : List A) (i : ℕ) (y : A) (d : B) → i < length xs → y ≡ get_or xs i y → get_or (map f xs) i d ≡ f y
+pub map_read :
+    {A B : Type 0} (f : A → B) (xs : List A) (i : ℕ) (y : A) (d : B) → i < length xs → y ≡ get_or xs i y →
+    get_or (map f xs) i d ≡ f y
 map_read f xs i y d within e = get_or-map f xs i y d within ∙ ap f (sym e)
 
 -- a write that the function does not see
-pub map_set_same : {A B : Type 0} (f : A → B) (xs : List A) (i : ℕ) (x y : A) → i < length xs → y ≡ get_or xs i y → f x ≡ f y → map f (set xs i x) ≡ map f xs
-map_set_same f xs i x y within e same = map-set f xs i x ∙ ap (set (map f xs) i) (same ∙ sym (map_read f xs i y (f y) within e)) ∙ set-get_or (map f xs) i (f y)
+pub map_set_same :
+    {A B : Type 0} (f : A → B) (xs : List A) (i : ℕ) (x y : A) → i < length xs → y ≡ get_or xs i y → f x ≡ f y →
+    map f (set xs i x) ≡ map f xs
+map_set_same f xs i x y within e same = map-set f xs i x ∙ ap (set (map f xs) i) (same ∙ sym (map_read f xs i y (f y) within e))
+    ∙ set-get_or (map f xs) i (f y)
 
 -- what stands at a place of a list with one more
 pub slice_get_before : {A : Type 0} (xs ys : List A) (i : ℕ) → i < length xs → slice_get (xs ++ ys) i ≡ slice_get xs i

@@ -1,4 +1,6 @@
--- The receiver's ends, where one of them changes.
+-- The receiver's ends, where one of them changes: for `take_among` and for `accounts` and `settled` of `Inlet::settle`.
+-- `receiving` maps functions over the ends, so a write to one end is a write to each of these lists, or none where the
+-- function gives what it gave (`map_set_same`). `receiving-take` and the two others do so for all four lists.
 use Rattle.std.proofs.Common.{◌≡◌, ℕ, ◌<◌, ◌≤◌, List, [], ◌∷◌, ◌++◌, length, get_or, set, drop, map, true, false, sym, ap, ◌∙◌}
 use Rattle.std.proofs.lemmas.List.{map-set, length-map, get_or-set_same}
 use Rattle.std.proofs.Math.Seq.{drop-append_seam}
@@ -13,7 +15,8 @@ use Rattle.plan_mailbox.proofs.Places.{map_read, map_set_same}
 pub IsPrefix-rest : {A : Type 0} (xs ys : List A) → IsPrefix xs ys → history.IsPrefix xs ys
 IsPrefix-rest xs ys p = sym p.1 ∙ ap (λ rest. xs ++ rest) (sym (drop-append_seam xs p.0) ∙ ap (drop (length xs)) p.1)
 
-module _ {M : Type 0} (turn : ℕ) (ends : List (RingEnd M)) (s : ℕ) (now was : RingEnd M) (within : s < length ends) (read : was ≡ get_or ends s was) where
+module _ {M : Type 0} (turn : ℕ) (ends : List (RingEnd M)) (s : ℕ) (now was : RingEnd M) (within : s < length ends)
+    (read : was ≡ get_or ends s was) where
   -- what is seen of the end before and after
   pub taken-was : taken_at (receiving turn ends) s ≡ received was.consumer
   taken-was = map_read (λ (e : RingEnd M). received e.consumer) ends s was [] within read
@@ -26,15 +29,19 @@ module _ {M : Type 0} (turn : ℕ) (ends : List (RingEnd M)) (s : ℕ) (now was 
 
   pub taken-now : taken_at (receiving turn (set ends s now)) s ≡ received now.consumer
   taken-now = let within_map : s < length (map (λ (e : RingEnd M). received e.consumer) ends) = rw length-map within in
-      ap (λ xs. get_or xs s []) (map-set (λ (e : RingEnd M). received e.consumer) ends s now) ∙ get_or-set_same _ s (received now.consumer) [] within_map
+      ap (λ xs. get_or xs s []) (map-set (λ (e : RingEnd M). received e.consumer) ends s now) ∙ get_or-set_same _ s
+      (received now.consumer) [] within_map
 
   pub known-now : known_at (receiving turn (set ends s now)) s ≡ known_items now.consumer
   known-now = let within_map : s < length (map (λ (e : RingEnd M). known_items e.consumer) ends) = rw length-map within in
-      ap (λ xs. get_or xs s []) (map-set (λ (e : RingEnd M). known_items e.consumer) ends s now) ∙ get_or-set_same _ s (known_items now.consumer) [] within_map
+      ap (λ xs. get_or xs s []) (map-set (λ (e : RingEnd M). known_items e.consumer) ends s now) ∙ get_or-set_same _ s
+      (known_items now.consumer) [] within_map
 
   module _ (ring : consumer_ring now.consumer ≡ consumer_ring was.consumer) where
     -- an end of which nothing changes
-    pub receiving-same : received now.consumer ≡ received was.consumer → known_items now.consumer ≡ known_items was.consumer → now.is_settled ≡ was.is_settled → receiving turn (set ends s now) ≡ receiving turn ends
+    pub receiving-same :
+        received now.consumer ≡ received was.consumer → known_items now.consumer ≡ known_items was.consumer →
+        now.is_settled ≡ was.is_settled → receiving turn (set ends s now) ≡ receiving turn ends
     receiving-same taken known settled =
         rw (
           map_set_same (λ (e : RingEnd M). consumer_ring e.consumer) ends s now was within read ring,
@@ -45,7 +52,11 @@ module _ {M : Type 0} (turn : ℕ) (ends : List (RingEnd M)) (s : ℕ) (now was 
 
     -- an end of which a message was taken
     pub receiving-take : (m : M) → now.is_settled ≡ was.is_settled → received now.consumer ≡ received was.consumer ++ m ∷ []
-        → receiving turn (set ends s now) ≡ record (receiving turn ends) { taken = set (receiving turn ends).taken s (taken_at (receiving turn ends) s ++ m ∷ []); known = set (receiving turn ends).known s (known_at (receiving turn (set ends s now)) s) }
+        → receiving turn (set ends s now) ≡ record (receiving turn ends) {
+          taken = set (receiving turn ends).taken s (taken_at (receiving turn ends) s ++ m ∷ []);
+          known = set
+              (receiving turn ends).known s (known_at (receiving turn (set ends s now)) s);
+        }
     receiving-take m settled taken =
         rw (
           known-now,
@@ -71,9 +82,12 @@ module _ {M : Type 0} (turn : ℕ) (ends : List (RingEnd M)) (s : ℕ) (now was 
         )
 
     -- a take, where the senders from one on and up to another were looked at
-    pub IsTakeAmong-from : (from upto : ℕ) (m : M) → now.is_settled ≡ was.is_settled → received now.consumer ≡ received was.consumer ++ m ∷ []
-        → IsPrefix (known_items was.consumer) (m ∷ known_items now.consumer) → (was.is_settled ≡ true → known_items was.consumer ≡ m ∷ known_items now.consumer)
-        → from ≤ s → s < upto → ((k : ℕ) → from ≤ k → k < s → known_at (receiving turn ends) k ≡ []) → IsTakeAmong from upto (receiving turn ends) s m (receiving turn (set ends s now))
+    pub IsTakeAmong-from :
+        (from upto : ℕ) (m : M) → now.is_settled ≡ was.is_settled → received now.consumer ≡ received was.consumer ++ m ∷ []
+        → IsPrefix (known_items was.consumer) (m ∷ known_items now.consumer) →
+        (was.is_settled ≡ true → known_items was.consumer ≡ m ∷ known_items now.consumer)
+        → from ≤ s → s < upto → ((k : ℕ) → from ≤ k → k < s → known_at (receiving turn ends) k ≡ []) → IsTakeAmong from upto
+        (receiving turn ends) s m (receiving turn (set ends s now))
     IsTakeAmong-from from upto m settled taken oldest all_known low high passed = record {
       known_sender = (low, high);
       taken = receiving-take m settled taken;

@@ -1,4 +1,6 @@
--- A mailbox of rings that is taken apart.
+-- A mailbox of rings that is taken apart: for `outlets`, `room` and `inlet` of `Rings::split`, and for its loop.
+-- By induction over the lanes. Nothing was sent on an unused lane, so by its `fifo` nothing was received and nothing is
+-- known to wait, and by its `all_free` all its places are known to be free.
 use Rattle.std.proofs.Common.{◌≡◌, ℕ, suc, ◌+◌, All, List, [], ◌∷◌, ◌++◌, length, map, replicate, false, refl, sym, ap, ◌∙◌, add-zero, arith}
 use Rattle.std.specs.List.{enumerate_from}
 use Rattle.std.proofs.lemmas.List.{length-append, length-map, nil_from_length}
@@ -10,10 +12,12 @@ use Rattle.plan_mailbox.specs.declared.ring_end.RingEnd.{RingEnd}
 use Rattle.plan_mailbox.specs.Ends.{Ring, Sending, consumer_ring, free_of, producer_ring, receiving, new_inlet, new_outlets}
 
 -- the numbers of a list with one more
-pub enumerate_from-push : {A : Type 0} (n : ℕ) (xs : List A) (x : A) → enumerate_from n (xs ++ x ∷ []) ≡ enumerate_from n xs ++ (n + length xs, x) ∷ []
+pub enumerate_from-push :
+    {A : Type 0} (n : ℕ) (xs : List A) (x : A) → enumerate_from n (xs ++ x ∷ []) ≡ enumerate_from n xs ++ (n + length xs, x) ∷ []
 enumerate_from-push n [] x = ap (λ k. (k, x) ∷ []) (sym (add-zero n))
 enumerate_from-push n (y ∷ xs) x =
-    ap (λ ps. (n, y) ∷ ps) (enumerate_from-push (n + 1) xs x) ∙ (let e : n + 1 + length xs ≡ n + suc (length xs) = omega arith in ap (λ k. (n, y) ∷ (enumerate_from (n + 1) xs ++ (k, x) ∷ [])) e)
+    ap (λ ps. (n, y) ∷ ps) (enumerate_from-push (n + 1) xs x) ∙
+    (let e : n + 1 + length xs ≡ n + suc (length xs) = omega arith in ap (λ k. (n, y) ∷ (enumerate_from (n + 1) xs ++ (k, x) ∷ [])) e)
 
 module _ {M : Type 0} where
   -- the ring of a lane
@@ -33,28 +37,37 @@ module _ {M : Type 0} where
   end_from lane = record { consumer = lane.consumer; is_settled = false }
 
   nothing_received : (lane : RingLane M) → IsUnused lane → received lane.consumer ≡ []
-  nothing_received lane unused = nil_from_length _ (omega (arith, unused, ap length lane.fifo, length-append (received lane.consumer) (known_items lane.consumer)))
+  nothing_received lane unused = nil_from_length _
+      (omega (arith, unused, ap length lane.fifo, length-append (received lane.consumer) (known_items lane.consumer)))
 
   nothing_known : (lane : RingLane M) → IsUnused lane → known_items lane.consumer ≡ []
-  nothing_known lane unused = nil_from_length _ (omega (arith, unused, ap length lane.fifo, length-append (received lane.consumer) (known_items lane.consumer)))
+  nothing_known lane unused = nil_from_length _
+      (omega (arith, unused, ap length lane.fifo, length-append (received lane.consumer) (known_items lane.consumer)))
 
   one_ring : (lane : RingLane M) → consumer_ring lane.consumer ≡ ring_in lane
   one_ring lane = rw (lane.pair.0, lane.pair.1, lane.pair.2, lane.pair.3)
 
   rings-apart : (lanes : List (RingLane M)) → map (λ (e : RingEnd M). consumer_ring e.consumer) (map end_from lanes) ≡ map ring_in lanes
   rings-apart [] = refl
-  rings-apart (lane ∷ lanes) = ap (λ ring. ring ∷ map (λ (e : RingEnd M). consumer_ring e.consumer) (map end_from lanes)) (one_ring lane) ∙ ap (λ rings. ring_in lane ∷ rings) (rings-apart lanes)
+  rings-apart (lane ∷ lanes) = ap (λ ring. ring ∷ map (λ (e : RingEnd M). consumer_ring e.consumer) (map end_from lanes))
+      (one_ring lane) ∙ ap (λ rings. ring_in lane ∷ rings) (rings-apart lanes)
 
-  taken-apart : (lanes : List (RingLane M)) → All IsUnused lanes → map (λ (e : RingEnd M). received e.consumer) (map end_from lanes) ≡ replicate (length lanes) []
+  taken-apart :
+      (lanes : List (RingLane M)) → All IsUnused lanes →
+      map (λ (e : RingEnd M). received e.consumer) (map end_from lanes) ≡ replicate (length lanes) []
   taken-apart [] unused = refl
   taken-apart (lane ∷ lanes) unused =
-      ap (λ taken. taken ∷ map (λ (e : RingEnd M). received e.consumer) (map end_from lanes)) (nothing_received lane (All-head IsUnused lane lanes unused))
+      ap (λ taken. taken ∷ map (λ (e : RingEnd M). received e.consumer) (map end_from lanes))
+      (nothing_received lane (All-head IsUnused lane lanes unused))
       ∙ ap (λ taken. [] ∷ taken) (taken-apart lanes (All-tail IsUnused lane lanes unused))
 
-  known-apart : (lanes : List (RingLane M)) → All IsUnused lanes → map (λ (e : RingEnd M). known_items e.consumer) (map end_from lanes) ≡ replicate (length lanes) []
+  known-apart :
+      (lanes : List (RingLane M)) → All IsUnused lanes →
+      map (λ (e : RingEnd M). known_items e.consumer) (map end_from lanes) ≡ replicate (length lanes) []
   known-apart [] unused = refl
   known-apart (lane ∷ lanes) unused =
-      ap (λ known. known ∷ map (λ (e : RingEnd M). known_items e.consumer) (map end_from lanes)) (nothing_known lane (All-head IsUnused lane lanes unused))
+      ap (λ known. known ∷ map (λ (e : RingEnd M). known_items e.consumer) (map end_from lanes))
+      (nothing_known lane (All-head IsUnused lane lanes unused))
       ∙ ap (λ known. [] ∷ known) (known-apart lanes (All-tail IsUnused lane lanes unused))
 
   settled-apart : (lanes : List (RingLane M)) → map (λ (e : RingEnd M). e.is_settled) (map end_from lanes) ≡ replicate (length lanes) false
@@ -65,14 +78,20 @@ module _ {M : Type 0} where
   abbrev pub free_in : RingLane M → ℕ
   free_in lane = known_free lane.producer
 
-  lanes-free : (lanes : List (RingLane M)) (room : ℕ) → All IsUnused lanes → All (λ (lane : RingLane M). producer_capacity lane.producer ≡ room) lanes → All (λ n. n ≡ room) (map free_in lanes)
+  lanes-free :
+      (lanes : List (RingLane M)) (room : ℕ) → All IsUnused lanes →
+      All (λ (lane : RingLane M). producer_capacity lane.producer ≡ room) lanes → All (λ n. n ≡ room) (map free_in lanes)
   lanes-free [] room unused reserved = All-nil (λ n. n ≡ room)
   lanes-free (lane ∷ lanes) room unused reserved =
       All-cons (λ n. n ≡ room) (free_in lane) (map free_in lanes)
-      (lane.all_free (nil_from_length _ (All-head IsUnused lane lanes unused)) ∙ All-head (λ (l : RingLane M). producer_capacity l.producer ≡ room) lane lanes reserved)
-      (lanes-free lanes room (All-tail IsUnused lane lanes unused) (All-tail (λ (l : RingLane M). producer_capacity l.producer ≡ room) lane lanes reserved))
+      (lane.all_free (nil_from_length _ (All-head IsUnused lane lanes unused)) ∙ All-head
+      (λ (l : RingLane M). producer_capacity l.producer ≡ room) lane lanes reserved)
+      (lanes-free lanes room (All-tail IsUnused lane lanes unused)
+      (All-tail (λ (l : RingLane M). producer_capacity l.producer ≡ room) lane lanes reserved))
 
-  outlets-free : (outlets : List (Outlet M)) (room : ℕ) → All (λ n. n ≡ room) (map free_of outlets) → All (λ (outlet : Outlet M). free_of outlet ≡ room) outlets
+  outlets-free :
+      (outlets : List (Outlet M)) (room : ℕ) → All (λ n. n ≡ room) (map free_of outlets) →
+      All (λ (outlet : Outlet M). free_of outlet ≡ room) outlets
   outlets-free [] room free = All-nil (λ (outlet : Outlet M). free_of outlet ≡ room)
   outlets-free (outlet ∷ outlets) room free =
       All-cons (λ (o : Outlet M). free_of o ≡ room) outlet outlets
@@ -80,20 +99,35 @@ module _ {M : Type 0} where
       (outlets-free outlets room (All-tail (λ n. n ≡ room) (free_of outlet) (map free_of outlets) free))
 
   -- in the rings of unused lanes each outlet knows all places to be free
-  pub free-apart : (lanes : List (RingLane M)) (outlets : List (Outlet M)) (room : ℕ) → map free_of outlets ≡ map free_in lanes → All IsUnused lanes → All (λ (lane : RingLane M). producer_capacity lane.producer ≡ room) lanes
+  pub free-apart :
+      (lanes : List (RingLane M)) (outlets : List (Outlet M)) (room : ℕ) → map free_of outlets ≡ map free_in lanes →
+      All IsUnused lanes → All (λ (lane : RingLane M). producer_capacity lane.producer ≡ room) lanes
       → All (λ (outlet : Outlet M). free_of outlet ≡ room) outlets
-  free-apart lanes outlets room same unused reserved = outlets-free outlets room (All-same (λ n. n ≡ room) (map free_of outlets) (map free_in lanes) same (lanes-free lanes room unused reserved))
+  free-apart lanes outlets room same unused reserved = outlets-free outlets room
+      (All-same (λ n. n ≡ room) (map free_of outlets) (map free_in lanes) same (lanes-free lanes room unused reserved))
 
   -- the receiver's ends of unused lanes are a new inlet
   pub inlet-apart : (lanes : List (RingLane M)) → All IsUnused lanes → receiving 0 (map end_from lanes) ≡ new_inlet (map ring_in lanes)
-  inlet-apart lanes unused = rw (rings-apart lanes, taken-apart lanes unused, known-apart lanes unused, settled-apart lanes, length-map lanes ring_in)
+  inlet-apart lanes unused = rw (
+    rings-apart lanes,
+    taken-apart lanes unused,
+    known-apart lanes unused,
+    settled-apart lanes,
+    length-map lanes ring_in,
+  )
 
   -- and the senders' are new outlets
-  outlets-from : (n : ℕ) (lanes : List (RingLane M)) → All IsUnused lanes → map outlet_from (enumerate_from n lanes) ≡ map (λ p. record { sender = p.0; ring = p.1; sent = [] }) (enumerate_from n (map ring_in lanes))
+  outlets-from :
+      (n : ℕ) (lanes : List (RingLane M)) → All IsUnused lanes →
+      map outlet_from (enumerate_from n lanes) ≡ map (λ p. record { sender = p.0; ring = p.1; sent = [] })
+      (enumerate_from n (map ring_in lanes))
   outlets-from n [] unused = refl
   outlets-from n (lane ∷ lanes) unused =
-      ap (λ sent. record { sender = n; ring = ring_in lane; sent = sent } ∷ map outlet_from (enumerate_from (n + 1) lanes)) (nil_from_length _ (All-head IsUnused lane lanes unused))
-      ∙ ap (λ outlets. record { sender = n; ring = ring_in lane; sent = [] } ∷ outlets) (outlets-from (n + 1) lanes (All-tail IsUnused lane lanes unused))
+      ap (λ sent. record { sender = n; ring = ring_in lane; sent = sent } ∷ map outlet_from (enumerate_from (n + 1) lanes))
+      (nil_from_length _ (All-head IsUnused lane lanes unused))
+      ∙ ap (λ outlets. record { sender = n; ring = ring_in lane; sent = [] } ∷ outlets)
+      (outlets-from (n + 1) lanes (All-tail IsUnused lane lanes unused))
 
-  pub outlets-apart : (lanes : List (RingLane M)) → All IsUnused lanes → map outlet_from (enumerate_from 0 lanes) ≡ new_outlets (map ring_in lanes)
+  pub outlets-apart :
+      (lanes : List (RingLane M)) → All IsUnused lanes → map outlet_from (enumerate_from 0 lanes) ≡ new_outlets (map ring_in lanes)
   outlets-apart lanes unused = outlets-from 0 lanes unused

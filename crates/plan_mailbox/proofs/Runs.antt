@@ -1,4 +1,6 @@
--- A run of steps, one step on.
+-- A run of steps, one step on: `IsRun` is in the invariant of the loop of `run_steps`, and gives its clauses at `Ok`.
+-- In `IsRun-push` a reply at an earlier place is as it was, since its history is. The last one is that after the whole
+-- history, because the mailbox is what that left (`reply_of-left`).
 use Rattle.std.proofs.Common.{◌≡◌, ℕ, ◌+◌, ◌<◌, ◌≤◌, List, [], ◌∷◌, ◌++◌, length, take, Some, refl, sym, ap, ◌∙◌, inl, inr, subst, arith}
 use Rattle.std.proofs.lemmas.List.{append-nil, append_assoc, length-append, take-append-le, take_at}
 use Rattle.std.proofs.lemmas.Option.{same_Some, none-some, slice_get_within}
@@ -12,11 +14,14 @@ use Rattle.plan_mailbox.proofs.Places.{slice_get_before, slice_get_last}
 use Rattle.plan_mailbox.proofs.Steps.{Keeps, Keeps-step, Keeps-new, reply_of-left}
 
 -- what one more step records
-record_of-push : {M : Type 0} (xs : List (Step M)) (rs : List (Reply M)) (x : Step M) (r : Reply M) → length rs ≡ length xs → record_of (xs ++ x ∷ []) (rs ++ r ∷ []) ≡ record_of xs rs ++ event_of x r
+record_of-push :
+    {M : Type 0} (xs : List (Step M)) (rs : List (Reply M)) (x : Step M) (r : Reply M) → length rs ≡ length xs →
+    record_of (xs ++ x ∷ []) (rs ++ r ∷ []) ≡ record_of xs rs ++ event_of x r
 record_of-push [] [] x r e = append-nil (event_of x r)
 record_of-push [] (s ∷ rs) x r e = absurd (omega arith)
 record_of-push (y ∷ xs) [] x r e = absurd (omega arith)
-record_of-push (y ∷ xs) (s ∷ rs) x r e = ap (λ h. event_of y s ++ h) (record_of-push xs rs x r (omega arith)) ∙ sym (append_assoc (event_of y s) (record_of xs rs) (event_of x r))
+record_of-push (y ∷ xs) (s ∷ rs) x r e = ap (λ h. event_of y s ++ h) (record_of-push xs rs x r (omega arith)) ∙ sym
+    (append_assoc (event_of y s) (record_of xs rs) (event_of x r))
 
 -- the steps got these replies, and the mailbox is what they left
 pub record IsRun {M : Type 0} (senders room : ℕ) (steps : List (Step M)) (replies : List (Reply M)) (b : Mailbox M) : Type 0 where
@@ -33,7 +38,9 @@ IsRun-nil {M} b new = record {
 }
 
 -- and one more step
-pub IsRun-push : {M : Type 0} (senders room : ℕ) (xs : List (Step M)) (rs : List (Reply M)) (b : Mailbox M) (x : Step M) → IsRun senders room xs rs b → IsRun senders room (xs ++ x ∷ []) (rs ++ reply_of b x ∷ []) (after b x)
+pub IsRun-push :
+    {M : Type 0} (senders room : ℕ) (xs : List (Step M)) (rs : List (Reply M)) (b : Mailbox M) (x : Step M) →
+    IsRun senders room xs rs b → IsRun senders room (xs ++ x ∷ []) (rs ++ reply_of b x ∷ []) (after b x)
 IsRun-push {M} senders room xs rs b x run =
     let r = reply_of b x in
     record {
@@ -42,17 +49,22 @@ IsRun-push {M} senders room xs rs b x run =
           elim (cases_lt i (length xs)) [
             | inl lt ↦
                 let le : i ≤ length xs = omega arith in
-                slice_get_before rs (r ∷ []) i (omega (arith, run.as_many)) ∙ run.in_turn i step (sym (slice_get_before xs (x ∷ []) i lt) ∙ e)
+                slice_get_before rs (r ∷ []) i (omega (arith, run.as_many)) ∙ run.in_turn i step
+                (sym (slice_get_before xs (x ∷ []) i lt) ∙ e)
                 ∙ ap (λ p. Some (reply_after senders room (record_of p (take i rs)) step)) (sym (take-append-le i xs (x ∷ []) le))
-                ∙ ap (λ p. Some (reply_after senders room (record_of (take i (xs ++ x ∷ [])) p) step)) (sym (take-append-le i rs (r ∷ []) (omega (arith, run.as_many))))
+                ∙ ap (λ p. Some (reply_after senders room (record_of (take i (xs ++ x ∷ [])) p) step))
+                (sym (take-append-le i rs (r ∷ []) (omega (arith, run.as_many))))
             | inr ge ↦
                 let small : i < length xs + 1 = omega (arith, slice_get_within (xs ++ x ∷ []) i step e, length-append xs (x ∷ [])) in
                 let here : i ≡ length xs = omega arith in
                 let same : x ≡ step = same_Some x step (sym (slice_get_last xs x i here) ∙ e) in
-                slice_get_last rs r i (omega (arith, run.as_many)) ∙ ap (λ s. Some s) (reply_of-left senders room (record_of xs rs) b run.keeps.left x)
+                slice_get_last rs r i (omega (arith, run.as_many)) ∙ ap (λ s. Some s)
+                (reply_of-left senders room (record_of xs rs) b run.keeps.left x)
                 ∙ ap (λ s. Some (reply_after senders room (record_of xs rs) s)) same
                 ∙ ap (λ p. Some (reply_after senders room (record_of p rs) step)) (sym (take_at xs (x ∷ []) i (sym here)))
-                ∙ ap (λ p. Some (reply_after senders room (record_of (take i (xs ++ x ∷ [])) p) step)) (sym (take_at rs (r ∷ []) i (omega (arith, run.as_many))))
+                ∙ ap (λ p. Some (reply_after senders room (record_of (take i (xs ++ x ∷ [])) p) step))
+                (sym (take_at rs (r ∷ []) i (omega (arith, run.as_many))))
           ];
-      keeps = subst (λ h. Keeps senders room h (after b x)) (sym (record_of-push xs rs x r run.as_many)) (Keeps-step senders room (record_of xs rs) b x run.keeps);
+      keeps = subst (λ h. Keeps senders room h (after b x)) (sym (record_of-push xs rs x r run.as_many))
+          (Keeps-step senders room (record_of xs rs) b x run.keeps);
     }

@@ -1,4 +1,6 @@
--- A mailbox that a history left, one step on.
+-- A mailbox that a history left, one step on: for `in_turn`, `lawful` and `left` of `run_steps`, by way of Runs.antt.
+-- `Keeps-step` goes through the tests of the reply in their order. A refused step records no event. The others have a
+-- lemma each, `Keeps-sends`, `Keeps-takes` and `Keeps-shuts`, that sees to the step's own sender and to all others.
 use Rattle.std.proofs.Common.{◌≡◌, ℕ, ◌≢◌, ◌+◌, ◌%◌, ◌<◌, ◌≤◌, Bool, true, false, cond, ◌||◌, eqb, ltb, List, [], ◌∷◌, ◌++◌, length, drop, set, get_or, replicate, Option, None, Some, refl, sym, ap, ◌∙◌, inl, inr, ⊎_elim, subst, arith}
 use Rattle.std.specs.List.{list_all, list_any, slice_get, range_with_len}
 use Rattle.std.proofs.lemmas.List.{append-nil, length-append, length-set, length-replicate, get_or-replicate, get_or_past, set-get_or, set_past}
@@ -16,7 +18,9 @@ use Rattle.plan_mailbox.proofs.Places.{all_by_places, get_or-set}
 use Rattle.plan_mailbox.proofs.Histories.{or_false, any_send-push, was_shut-push, Leaves-sends, Leaves-takes, Leaves-takes_other, Leaves-shuts, IsLawful-nil, IsLawful-push, in_order-whole, roomy-whole, turn_of-takes, turn_of-other}
 
 -- the mailbox replies what the history says
-pub reply_of-left : {M : Type 0} (senders room : ℕ) (h : List (Event M)) (b : Mailbox M) → IsLeftBy senders room h b → (step : Step M) → reply_of b step ≡ reply_after senders room h step
+pub reply_of-left :
+    {M : Type 0} (senders room : ℕ) (h : List (Event M)) (b : Mailbox M) → IsLeftBy senders room h b → (step : Step M) →
+    reply_of b step ≡ reply_after senders room h step
 reply_of-left senders room h b l (Send s m) =
     let e1 = l.senders_stay in let e2 = l.shut_is s in let e3 = l.waits s in let e4 = l.room_stays in cc
 reply_of-left senders room h b l Take =
@@ -24,8 +28,10 @@ reply_of-left senders room h b l Take =
     line_of-same (waiting_at b) (waiting_of h) l.waits (in_turn (senders_of b) b.turn)
     ∙ ap (λ n. line_of (waiting_of h) (in_turn n b.turn)) l.senders_stay ∙ ap (λ t. line_of (waiting_of h) (in_turn senders t)) l.turn_is in
     let all : list_all (λ x. x) b.shut ≡ list_all (was_shut h) (range_with_len 0 senders) =
-    all_by_places b.shut (was_shut h) 0 (λ k. l.shut_is k ∙ ap (was_shut h) (omega arith)) ∙ ap (λ n. list_all (was_shut h) (range_with_len 0 n)) l.marks_stay in
-    ap (λ xs. taking (slice_get xs 0) (list_all (λ x. x) b.shut)) line ∙ ap (taking (slice_get (line_of (waiting_of h) (in_turn senders (turn_of senders h))) 0)) all
+    all_by_places b.shut (was_shut h) 0 (λ k. l.shut_is k ∙ ap (was_shut h) (omega arith)) ∙ ap
+    (λ n. list_all (was_shut h) (range_with_len 0 n)) l.marks_stay in
+    ap (λ xs. taking (slice_get xs 0) (list_all (λ x. x) b.shut)) line ∙ ap
+    (taking (slice_get (line_of (waiting_of h) (in_turn senders (turn_of senders h))) 0)) all
 reply_of-left senders room h b l (Close s) =
     let e1 = l.senders_stay in let e2 = l.shut_is s in cc
 
@@ -45,7 +51,9 @@ or_cond false true = refl
 or_cond false false = refl
 
 -- a message is sent
-Keeps-sends : {M : Type 0} (senders room : ℕ) (h : List (Event M)) (b : Mailbox M) (s : ℕ) (m : M) → Keeps senders room h b → s < senders → was_shut h s ≡ false → eqb (length (waiting_of h s)) room ≡ false
+Keeps-sends :
+    {M : Type 0} (senders room : ℕ) (h : List (Event M)) (b : Mailbox M) (s : ℕ) (m : M) → Keeps senders room h b → s < senders →
+    was_shut h s ≡ false → eqb (length (waiting_of h s)) room ≡ false
     → Keeps senders room (h ++ Sends s m ∷ []) (sending b s m Sent)
 Keeps-sends senders room h b s m k known open' fits =
     let l = k.left in
@@ -63,7 +71,8 @@ Keeps-sends senders room h b s m k known open' fits =
               | inr e ↦ rw (e, append-nil (waiting_of h t)) (roomy-whole senders room h k.lawful t)
             ]);
         shut_once = λ t shut. refl;
-        closed = λ t shut. cond_both (eqb s t) (m ∷ []) [] (λ r. r ≡ []) (λ e. absurd (both_ways _ open' (ap (was_shut h) (eqb-true s t e) ∙ shut))) (λ _. refl);
+        closed = λ t shut. cond_both (eqb s t) (m ∷ []) [] (λ r. r ≡ [])
+            (λ e. absurd (both_ways _ open' (ap (was_shut h) (eqb-true s t e) ∙ shut))) (λ _. refl);
         known = known;
       };
       left = record {
@@ -71,7 +80,8 @@ Keeps-sends senders room h b s m k known open' fits =
         marks_stay = l.marks_stay;
         room_stays = l.room_stays;
         waits = λ t. get_or-set b.waiting s (waiting_at b s ++ m ∷ []) t [] within ∙ sym ((leaves t).waits ∙
-            elim (cases_Bool (eqb s t)) as (λ _. waiting_of h t ++ cond (eqb s t) (m ∷ []) [] ≡ cond (eqb s t) (waiting_at b s ++ m ∷ []) (waiting_at b t)) [
+            elim (cases_Bool (eqb s t)) as (λ _. waiting_of h t ++ cond (eqb s t) (m ∷ []) [] ≡ cond (eqb s t)
+            (waiting_at b s ++ m ∷ []) (waiting_at b t)) [
               | inl e ↦ rw e (ap (λ ws. ws ++ m ∷ []) (sym (l.waits s ∙ ap (waiting_of h) (eqb-true s t e))))
               | inr e ↦ rw e (append-nil (waiting_of h t) ∙ sym (l.waits t))
             ]);
@@ -82,7 +92,9 @@ Keeps-sends senders room h b s m k known open' fits =
     }
 
 -- a message is taken
-Keeps-takes : {M : Type 0} (senders room : ℕ) (h : List (Event M)) (b : Mailbox M) (s : ℕ) (m : M) (rest : List M) → Keeps senders room h b → s < senders → waiting_of h s ≡ m ∷ rest
+Keeps-takes :
+    {M : Type 0} (senders room : ℕ) (h : List (Event M)) (b : Mailbox M) (s : ℕ) (m : M) (rest : List M) → Keeps senders room h b →
+    s < senders → waiting_of h s ≡ m ∷ rest
     → Keeps senders room (h ++ Takes s m ∷ []) (taking_from b (Took s m))
 Keeps-takes senders room h b s m rest k known w =
     let l = k.left in
@@ -92,11 +104,13 @@ Keeps-takes senders room h b s m rest k known w =
     record {
       lawful = IsLawful-push senders room h (Takes s m) k.lawful record {
         in_order = λ t. elim (cases_Bool (eqb s t)) [
-          | inl e ↦ subst (λ u. IsPrefix (taken_of (h ++ Takes s m ∷ []) u) (sent_of (h ++ Takes s m ∷ []) u)) (eqb-true s t e) taken.in_order
+          | inl e ↦ subst (λ u. IsPrefix (taken_of (h ++ Takes s m ∷ []) u) (sent_of (h ++ Takes s m ∷ []) u))
+              (eqb-true s t e) taken.in_order
           | inr e ↦ (others t e).in_order
         ];
         roomy = λ t. elim (cases_Bool (eqb s t)) [
-          | inl e ↦ subst (λ u. length (waiting_of (h ++ Takes s m ∷ []) u) ≤ room) (eqb-true s t e) (rw taken.waits (omega (arith, ap length w, roomy-whole senders room h k.lawful s)))
+          | inl e ↦ subst (λ u. length (waiting_of (h ++ Takes s m ∷ []) u) ≤ room) (eqb-true s t e)
+              (rw taken.waits (omega (arith, ap length w, roomy-whole senders room h k.lawful s)))
           | inr e ↦ rw (others t e).waits (roomy-whole senders room h k.lawful t)
         ];
         shut_once = λ t shut. refl;
@@ -108,7 +122,8 @@ Keeps-takes senders room h b s m rest k known w =
         marks_stay = l.marks_stay;
         room_stays = l.room_stays;
         waits = λ t. get_or-set b.waiting s (drop 1 (waiting_at b s)) t [] within ∙
-            elim (cases_Bool (eqb s t)) as (λ _. cond (eqb s t) (drop 1 (waiting_at b s)) (waiting_at b t) ≡ waiting_of (h ++ Takes s m ∷ []) t) [
+            elim (cases_Bool (eqb s t)) as (λ _. cond (eqb s t) (drop 1 (waiting_at b s)) (waiting_at b t) ≡ waiting_of
+            (h ++ Takes s m ∷ []) t) [
               | inl e ↦ rw e (ap (drop 1) (l.waits s ∙ w) ∙ sym taken.waits ∙ ap (waiting_of (h ++ Takes s m ∷ [])) (eqb-true s t e))
               | inr e ↦ rw e (l.waits t ∙ sym (others t e).waits)
             ];
@@ -119,7 +134,9 @@ Keeps-takes senders room h b s m rest k known w =
     }
 
 -- a sender is shut
-Keeps-shuts : {M : Type 0} (senders room : ℕ) (h : List (Event M)) (b : Mailbox M) (s : ℕ) → Keeps senders room h b → s < senders → was_shut h s ≡ false
+Keeps-shuts :
+    {M : Type 0} (senders room : ℕ) (h : List (Event M)) (b : Mailbox M) (s : ℕ) → Keeps senders room h b → s < senders →
+    was_shut h s ≡ false
     → Keeps senders room (h ++ Shuts s ∷ []) (after_close b s)
 Keeps-shuts senders room h b s k known open' =
     let l = k.left in
@@ -138,48 +155,60 @@ Keeps-shuts senders room h b s k known open' =
         marks_stay = length-set b.shut s true ∙ l.marks_stay;
         room_stays = l.room_stays;
         waits = λ t. l.waits t ∙ sym (leaves t).waits;
-        shut_is = λ t. get_or-set b.shut s true t false within ∙ sym (was_shut-push h (Shuts s) t ∙ ap (λ c. c || eqb s t) (sym (l.shut_is t)) ∙ or_cond (is_shut_at b t) (eqb s t));
+        shut_is = λ t. get_or-set b.shut s true t false within ∙ sym
+            (was_shut-push h (Shuts s) t ∙ ap (λ c. c || eqb s t) (sym (l.shut_is t)) ∙ or_cond (is_shut_at b t) (eqb s t));
         turn_is = l.turn_is ∙ sym (turn_of-other senders h (Shuts s) refl);
         sent_is = l.sent_is ∙ sym (any_send-push h (Shuts s) ∙ or_false (list_any is_send h));
       };
     }
 
 -- whatever the step and its reply, the history that they record goes on
-Keeps-take : {M : Type 0} (senders room : ℕ) (h : List (Event M)) (b : Mailbox M) (found : Option (ℕ × M)) (all : Bool) → next_of b ≡ found → Keeps senders room h b
+Keeps-take :
+    {M : Type 0} (senders room : ℕ) (h : List (Event M)) (b : Mailbox M) (found : Option (ℕ × M)) (all : Bool) → next_of b ≡ found →
+    Keeps senders room h b
     → Keeps senders room (h ++ event_of Take (taking found all)) (taking_from b (taking found all))
 Keeps-take senders room h b None true e k = Keeps-same senders room h b k
 Keeps-take senders room h b None false e k = Keeps-same senders room h b k
 Keeps-take senders room h b (Some next) all e k =
     let first = first_in_line (waiting_at b) (in_turn (senders_of b) b.turn) next e in
     let known : next.0 < senders_of b =
-    ⊎_elim (λ (lt : next.0 < senders_of b). lt) (λ (ge : senders_of b ≤ next.0). let none = get_or_past b.waiting next.0 [] ge in absurd (omega (arith, ap length (sym none ∙ first.1)))) (cases_lt next.0 (senders_of b)) in
+    ⊎_elim (λ (lt : next.0 < senders_of b). lt)
+    (λ (ge : senders_of b ≤ next.0). let none = get_or_past b.waiting next.0 [] ge in absurd
+    (omega (arith, ap length (sym none ∙ first.1)))) (cases_lt next.0 (senders_of b)) in
     Keeps-takes senders room h b next.0 next.1 first.0 k (omega (arith, k.left.senders_stay)) (sym (k.left.waits next.0) ∙ first.1)
 
-pub Keeps-step : {M : Type 0} (senders room : ℕ) (h : List (Event M)) (b : Mailbox M) (step : Step M) → Keeps senders room h b → Keeps senders room (h ++ event_of step (reply_of b step)) (after b step)
+pub Keeps-step :
+    {M : Type 0} (senders room : ℕ) (h : List (Event M)) (b : Mailbox M) (step : Step M) → Keeps senders room h b →
+    Keeps senders room (h ++ event_of step (reply_of b step)) (after b step)
 Keeps-step {M} senders room h b (Send s m) k =
     let P : Reply M → Type 0 = λ r. Keeps senders room (h ++ event_of (Send s m) r) (sending b s m r) in
     let same = Keeps-same senders room h b k in
     let l = k.left in
-    cond_both (ltb s (senders_of b)) (cond (is_shut_at b s) (Closed m) (cond (eqb (length (waiting_at b s)) b.room) (Full m) Sent)) (NoSender m) P
+    cond_both (ltb s (senders_of b)) (cond (is_shut_at b s) (Closed m) (cond (eqb (length (waiting_at b s)) b.room) (Full m) Sent))
+    (NoSender m) P
     (λ known. cond_both (is_shut_at b s) (Closed m) (cond (eqb (length (waiting_at b s)) b.room) (Full m) Sent) P (λ _. same)
     (λ open'. cond_both (eqb (length (waiting_at b s)) b.room) (Full m) Sent P (λ _. same)
-    (λ fits. Keeps-sends senders room h b s m k (let lt = ltb-true s (senders_of b) known in omega (arith, l.senders_stay)) (sym (l.shut_is s) ∙ open')
+    (λ fits. Keeps-sends senders room h b s m k (let lt = ltb-true s (senders_of b) known in omega (arith, l.senders_stay))
+    (sym (l.shut_is s) ∙ open')
     (ap (λ ws. eqb (length ws) room) (sym (l.waits s)) ∙ ap (eqb (length (waiting_at b s))) (sym l.room_stays) ∙ fits))))
     (λ _. same)
 Keeps-step senders room h b Take k = Keeps-take senders room h b (next_of b) (list_all (λ x. x) b.shut) refl k
 Keeps-step {M} senders room h b (Close s) k =
     let P : Reply M → Type 0 = λ r. Keeps senders room (h ++ event_of (Close s) r) (after_close b s) in
     let l = k.left in
-    let same = λ (e : set b.shut s true ≡ b.shut). subst (λ marks. Keeps senders room (h ++ []) (record b { shut = marks })) (sym e) (Keeps-same senders room h b k) in
+    let same = λ (e : set b.shut s true ≡ b.shut). subst (λ marks. Keeps senders room (h ++ []) (record b { shut = marks })) (sym e)
+    (Keeps-same senders room h b k) in
     cond_both (ltb s (senders_of b)) (cond (is_shut_at b s) AlreadyShut Shut) Unknown P
     (λ known. cond_both (is_shut_at b s) AlreadyShut Shut P
     (λ shut. same (ap (set b.shut s) (sym shut) ∙ set-get_or b.shut s false))
-    (λ open'. Keeps-shuts senders room h b s k (let lt = ltb-true s (senders_of b) known in omega (arith, l.senders_stay)) (sym (l.shut_is s) ∙ open')))
+    (λ open'. Keeps-shuts senders room h b s k (let lt = ltb-true s (senders_of b) known in omega (arith, l.senders_stay))
+    (sym (l.shut_is s) ∙ open')))
     (λ past. same (set_past b.shut s true (let ge = ltb-false s (senders_of b) past in omega (arith, l.senders_stay, l.marks_stay))))
 
 -- a new mailbox is what no event leaves
 get_or-replicate_same : {A : Type 0} (n k : ℕ) (x : A) → get_or (replicate n x) k x ≡ x
-get_or-replicate_same n k x = ⊎_elim (λ (lt : k < n). get_or-replicate n k x x lt) (λ (ge : n ≤ k). get_or_past (replicate n x) k x (omega (arith, length-replicate n x))) (cases_lt k n)
+get_or-replicate_same n k x = ⊎_elim (λ (lt : k < n). get_or-replicate n k x x lt)
+    (λ (ge : n ≤ k). get_or_past (replicate n x) k x (omega (arith, length-replicate n x))) (cases_lt k n)
 
 pub Keeps-new : {M : Type 0} (senders room : ℕ) → Keeps {M = M} senders room [] (new_mailbox senders room)
 Keeps-new senders room = record {

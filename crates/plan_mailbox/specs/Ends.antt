@@ -132,7 +132,8 @@ after_settle b s rest = record b { known = slice_set b.known s rest; settled = s
 -- message m of sender s was taken, the turn aside, where the senders from one on and up to another were looked at
 pub record IsTakeAmong {M : Type 0} (from upto : ℕ) (before : Receiving M) (s : ℕ) (m : M) (after : Receiving M) : Type 0 where
   pub known_sender : (from ≤ s) × (s < upto)
-  pub taken : after ≡ record before { taken = slice_set before.taken s (taken_at before s ++ m ∷ []); known = slice_set before.known s (known_at after s) }
+  pub taken : after ≡ record before
+      { taken = slice_set before.taken s (taken_at before s ++ m ∷ []); known = slice_set before.known s (known_at after s) }
   pub oldest : IsPrefix (known_at before s) (m ∷ known_at after s)
   pub all_known : is_settled_at before s ≡ true → known_at before s ≡ m ∷ known_at after s
   pub passed : (k : ℕ) → from ≤ k → k < s → known_at before k ≡ []

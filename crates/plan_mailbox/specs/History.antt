@@ -77,7 +77,8 @@ turn_of senders h = turn_after senders (last_or None (flat_map giver_of h))
 abbrev pub IsPrefix : {M : Type 0} → List M → List M → Type 0
 IsPrefix xs ys = ys ≡ xs ++ drop (length xs) ys
 
--- A history is lawful for a mailbox of so many senders, each with room for so many messages. The first k events, for any k, are a moment of it.
+-- A history is lawful for a mailbox of so many senders, each with room for so many messages.
+-- The first k events, for any k, are a moment of it.
 pub record IsLawful {M : Type 0} (senders room : ℕ) (h : List (Event M)) : Type 0 where
   -- at each moment what was taken of a sender is a prefix of what it sent,
   pub in_order : (k s : ℕ) → IsPrefix (taken_of (take k h) s) (sent_of (take k h) s)

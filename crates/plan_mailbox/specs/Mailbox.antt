@@ -36,7 +36,14 @@ is_shut_at b s = slice_index_or b.shut s false
 
 -- a new mailbox: nothing waits, no sender is shut, the first has the turn, and no message was sent
 abbrev pub new_mailbox : {M : Type 0} → ℕ → ℕ → Mailbox M
-new_mailbox senders room = record { room = room; waiting = replicate senders []; shut = replicate senders false; turn = 0; has_sent = false }
+new_mailbox senders room = record {
+  room = room;
+  waiting = replicate senders [];
+  shut = replicate senders false;
+  turn =
+      0;
+  has_sent = false;
+}
 
 -- the most senders of a mailbox
 abbrev pub most_senders : ℕ
@@ -60,7 +67,8 @@ IsUnused b = (b.has_sent ≡ false) × AllPass not b.shut
 
 -- the reply to a send, in this order: no such sender, it is shut, its room is full, sent
 abbrev pub send_reply : {M : Type 0} → Mailbox M → ℕ → M → Reply M
-send_reply b s m = if nat_lt s (senders_of b) then (if is_shut_at b s then Closed m else (if length (waiting_at b s) == b.room then Full m else Sent)) else NoSender m
+send_reply b s m = if nat_lt s (senders_of b)
+    then (if is_shut_at b s then Closed m else (if length (waiting_at b s) == b.room then Full m else Sent)) else NoSender m
 
 -- the mailbox after a send with this reply: where it was sent, the message waits behind the others of its sender
 abbrev pub sending : {M : Type 0} → Mailbox M → ℕ → M → Reply M → Mailbox M

@@ -17,13 +17,17 @@ taking None false = Nothing
 -- The reply to a step after the history h, where the mailbox has so many senders, each with room for so many messages.
 abbrev pub reply_after : {M : Type 0} → ℕ → ℕ → List (Event M) → Step M → Reply M
 -- a send is refused without such a sender, then where it is shut, then where as many of its messages wait as there is room for
-reply_after senders room h (Send s m) = if nat_lt s senders then (if was_shut h s then Closed m else (if length (waiting_of h s) == room then Full m else Sent)) else NoSender m
+reply_after senders room h (Send s m) = if nat_lt s senders
+    then (if was_shut h s then Closed m else (if length (waiting_of h s) == room then Full m else Sent)) else NoSender m
 -- a take gives the oldest message of the first sender, from the turn on, of which one waits
-reply_after senders room h Take = taking (slice_get (line_of (waiting_of h) (in_turn senders (turn_of senders h))) 0) (list_all (was_shut h) (range_with_len 0 senders))
+reply_after senders room h Take = taking (slice_get (line_of (waiting_of h) (in_turn senders (turn_of senders h))) 0)
+    (list_all (was_shut h) (range_with_len 0 senders))
 -- a close is refused without such a sender, and then where it is shut
 reply_after senders room h (Close s) = if nat_lt s senders then (if was_shut h s then AlreadyShut else Shut) else Unknown
 
 -- each reply is the one after the history that the steps before it record
 abbrev pub RepliesInTurn : {M : Type 0} → ℕ → ℕ → List (Step M) → List (Reply M) → Type 0
 RepliesInTurn {M} senders room steps replies =
-    (i : ℕ) (step : Step M) → slice_get steps i ≡ Some step → slice_get replies i ≡ Some (reply_after senders room (record_of (take i steps) (take i replies)) step)
+    (i :
+    ℕ) (step : Step M) → slice_get steps i ≡ Some step → slice_get replies i ≡ Some
+    (reply_after senders room (record_of (take i steps) (take i replies)) step)

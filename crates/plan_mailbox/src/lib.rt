@@ -3,6 +3,9 @@
 //! `Post` is what every mailbox does, and `run_steps` takes a list of steps on any of them. Its replies are those after the
 //! history of the steps before, and that history is lawful: of each sender what is taken is a prefix of what it sent, each
 //! message once and in order, and nothing is sent after its close. `Core` keeps a queue for each sender, and `Rings` a ring.
+//!
+//! It stands on no crate of the project, and on the kit's `rtrb` for the rings. Open `mailbox` first, then `lanes`, the one body that
+//! `Core` and `Rings` share; `outlet` and `inlet` are the ends that threads hold.
 #![tactic(auto)]
 
 mod faults;

@@ -1,4 +1,6 @@
 //! Rules as values: which seconds they match, and when two are equal.
+//!
+//! It stands on plan_sets, and knows nothing of texts. Open `rule` first, then `cron` and `event`, the two kinds that match by fields.
 #![tactic(auto)]
 
 mod cron;

@@ -1,22 +1,22 @@
 -- The starts of a list of events are those of its events.
-use Rattle.std.proofs.Common.{◌≡◌, ℕ, ◌+◌, zero, suc, length, ◌≤◌, Bool, true, false, ◌||◌, List, [], ◌∷◌, ◌++◌, Option, None, Some, inl, inr, Bor, take, take_all, refl, ap, sym, ◌∙◌, arith}
-use Rattle.std.specs.Prelude.{min, nat_lt, slice_get, unwrap_or}
+-- For the loops of `first_of_each`, `next_of_each` and `first_within`: one event more than those so far. The next of
+-- two tests is the lesser of both; where the second is searched up to the first answer only, there are four cases.
+use Rattle.std.proofs.Common.{◌≡◌, ℕ, ◌+◌, zero, suc, length, ◌≤◌, Bool, true, false, ◌||◌, List, [], ◌∷◌, ◌++◌, Option, None, Some, inl, inr, Bor, take, refl, ap, sym, ◌∙◌, arith}
+use Rattle.std.specs.Prelude.{min, slice_get, unwrap_or}
 use Rattle.std.specs.Option.{option_or}
-use Rattle.std.proofs.lemmas.Bool.{cases_lt, lt-ltb}
+use Rattle.std.proofs.lemmas.Bool.{cases_lt}
 use Rattle.std.proofs.lemmas.List.{take_more}
 use Rattle.std.proofs.lemmas.List.Folds.{list_any-append}
 use Rattle.std.proofs.lemmas.Option.{slice_get_within, get_or_from_slice_get}
-use Rattle.plan_sets.specs.Limits.{end_second}
 use Rattle.plan_sets.specs.Civil.{civil_fields}
 use Rattle.plan_match.specs.declared.event.Calendar.{Calendar}
-use Rattle.plan_match.specs.declared.rule.Rule.TheVariants as rule
 use Rattle.plan_match.specs.EventMatch.{event_matches, some_event_matches}
 use Rattle.plan_next.specs.declared.search.Pattern.TheVariants.{Event}
-use Rattle.plan_next.specs.Next.{matches_at, IsNextIn}
+use Rattle.plan_next.specs.Next.{matches_at, IsFirstOrEnd}
 use Rattle.plan_next.specs.Search.{admits_moment}
-use Rattle.plan_next.specs.Starts.{IsFirstIn, is_start}
+use Rattle.plan_next.specs.Starts.{IsFirstIn}
 use Rattle.plan_next.proofs.FirstLemmas.{IsFirstIn-same}
-use Rattle.plan_next.proofs.NextsLemmas.{IsNextIn-same}
+use Rattle.plan_next.proofs.NextsLemmas.{IsFirstOrEnd-same}
 use Rattle.plan_next.proofs.StartsLemmas.{event_matches-moment}
 
 or_false : (a b : Bool) → a ≡ false → b ≡ false → (a || b) ≡ false
@@ -30,7 +30,9 @@ or_right true b h = refl
 or_right false b h = h
 
 -- where the second answer is searched up to the first one, it is the first of both tests where there is one
-IsFirstIn-narrowed : (p q : ℕ → Bool) (a b : ℕ) (first second : Option ℕ) → IsFirstIn p a b first → IsFirstIn q a (unwrap_or first b) second → IsFirstIn (λ n. p n || q n) a b (option_or second first)
+IsFirstIn-narrowed :
+    (p q : ℕ → Bool) (a b : ℕ) (first second : Option ℕ) → IsFirstIn p a b first → IsFirstIn q a (unwrap_or first b) second →
+    IsFirstIn (λ n. p n || q n) a b (option_or second first)
 IsFirstIn-narrowed p q a b None None h k = λ n low high. or_false (p n) (q n) (h n low high) (k n low high)
 IsFirstIn-narrowed p q a b None (Some m) h (low, high, is, none) =
     (low, high, or_right (p m) (q m) is, λ n from to. or_false (p n) (q n) (h n from (omega arith)) (none n from to))
@@ -40,8 +42,9 @@ IsFirstIn-narrowed p q a b (Some m) (Some k) (low, high, is, none) (low₂, high
     (low₂, omega arith, or_right (p k) (q k) is₂, λ n from to. or_false (p n) (q n) (none n from (omega arith)) (none₂ n from to))
 
 -- the earlier of two next numbers is the next of both tests
-IsNextIn-min : (p q : ℕ → Bool) (a b n m : ℕ) → IsNextIn p a b n → IsNextIn q a b m → IsNextIn (λ k. p k || q k) a b (min n m)
-IsNextIn-min p q a b n m first second =
+IsFirstOrEnd-min :
+    (p q : ℕ → Bool) (a b n m : ℕ) → IsFirstOrEnd p a b n → IsFirstOrEnd q a b m → IsFirstOrEnd (λ k. p k || q k) a b (min n m)
+IsFirstOrEnd-min p q a b n m first second =
     let from = first.from in
     let from_second = second.from in
     let to = first.to in
@@ -59,44 +62,53 @@ IsNextIn-min p q a b n m first second =
 abbrev pub matched_by : List Calendar → ℕ → Bool
 matched_by events n = some_event_matches events (civil_fields n)
 
-one_more : (events : List Calendar) (i : ℕ) (event : Calendar) → slice_get events i ≡ Some event → take (i + 1) events ≡ take i events ++ event ∷ []
+one_more :
+    (events : List Calendar) (i : ℕ) (event : Calendar) → slice_get events i ≡ Some event →
+    take (i + 1) events ≡ take i events ++ event ∷ []
 one_more events i event is =
-    take_more events i event (slice_get_within events i event is) ∙ ap (λ e. take i events ++ e ∷ []) (get_or_from_slice_get events i event event is)
+    take_more events i event (slice_get_within events i event is) ∙ ap (λ e. take i events ++ e ∷ [])
+    (get_or_from_slice_get events i event event is)
 
 or_none : (b : Bool) → (b || false) ≡ b
 or_none true = refl
 or_none false = refl
 
-matched_by-more : (events : List Calendar) (i n : ℕ) (event : Calendar) → slice_get events i ≡ Some event → (matched_by (take i events) n || matches_at event n) ≡ matched_by (take (i + 1) events) n
+matched_by-more :
+    (events : List Calendar) (i n : ℕ) (event : Calendar) → slice_get events i ≡ Some event →
+    (matched_by (take i events) n || matches_at event n) ≡ matched_by (take (i + 1) events) n
 matched_by-more events i n event is =
     sym (ap (λ xs. matched_by xs n) (one_more events i event is)
     ∙ list_any-append (λ e. event_matches e (civil_fields n)) (take i events) (event ∷ [])
     ∙ ap (λ b. matched_by (take i events) n || b) (or_none (matches_at event n)))
 
 -- one more event, searched up to the first start so far
-pub more_events : (events : List Calendar) (i since end : ℕ) (event : Bor Calendar) (first found : Option ℕ) → slice_get events i ≡ Some event.now → IsFirstIn (matched_by (take i events)) since end first → IsFirstIn (admits_moment (Event event)) since (unwrap_or first end) found → IsFirstIn (matched_by (take (i + 1) events)) since end (option_or found first)
+pub more_events :
+    (events : List Calendar) (i since end : ℕ) (event : Bor Calendar) (first found : Option ℕ) →
+    slice_get events i ≡ Some event.now → IsFirstIn (matched_by (take i events)) since end first →
+    IsFirstIn (admits_moment (Event event)) since (unwrap_or first end) found →
+    IsFirstIn (matched_by (take (i + 1) events)) since end (option_or found first)
 more_events events i since end event first found is so_far next =
     let both = IsFirstIn-narrowed (matched_by (take i events)) (admits_moment (Event event)) since end first found so_far next in
-    IsFirstIn-same (λ n. matched_by (take i events) n || admits_moment (Event event) n) (matched_by (take (i + 1) events)) since end (option_or found first)
+    IsFirstIn-same (λ n. matched_by (take i events) n || admits_moment (Event event) n) (matched_by (take (i + 1) events)) since end
+    (option_or found first)
     (λ n h. ap (λ b. matched_by (take i events) n || b) (event_matches-moment event n) ∙ matched_by-more events i n event.now is)
     both
 
 -- one more event, whose next start is known
-pub more_nexts : (events : List Calendar) (i from end earliest next : ℕ) (event : Calendar) → slice_get events i ≡ Some event → IsNextIn (matched_by (take i events)) from end earliest → IsNextIn (matches_at event) from end next → IsNextIn (matched_by (take (i + 1) events)) from end (min earliest next)
+pub more_nexts :
+    (events : List Calendar) (i from end earliest next : ℕ) (event : Calendar) → slice_get events i ≡ Some event →
+    IsFirstOrEnd (matched_by (take i events)) from end earliest → IsFirstOrEnd (matches_at event) from end next →
+    IsFirstOrEnd (matched_by (take (i + 1) events)) from end (min earliest next)
 more_nexts events i from end earliest next event is so_far more =
-    IsNextIn-same (λ n. matched_by (take i events) n || matches_at event n) (matched_by (take (i + 1) events)) from end (min earliest next)
+    IsFirstOrEnd-same (λ n. matched_by (take i events) n || matches_at event n) (matched_by (take (i + 1) events)) from end
+    (min earliest next)
     (λ n h. matched_by-more events i n event is)
-    (IsNextIn-min (matched_by (take i events)) (matches_at event) from end earliest next so_far more)
-
--- all events
-pub all_nexts : (events : List Calendar) (i from end n : ℕ) → length events ≤ i → end ≤ end_second → IsNextIn (matched_by (take i events)) from end n → IsNextIn (is_start (rule.Events events)) from end n
-all_nexts events i from end n all years so_far =
-    IsNextIn-same (matched_by (take i events)) (is_start (rule.Events events)) from end n
-    (λ k h. let known : nat_lt k end_second ≡ true = lt-ltb _ _ (omega arith) in rw (known, take_all i events all) refl)
-    so_far
+    (IsFirstOrEnd-min (matched_by (take i events)) (matches_at event) from end earliest next so_far more)
 
 -- an event of the list that matches is a start
-pub is_start-event : (events : List Calendar) (k n : ℕ) (event : Calendar) → slice_get events k ≡ Some event → matches_at event n ≡ true → matched_by events n ≡ true
+pub is_start-event :
+    (events : List Calendar) (k n : ℕ) (event : Calendar) → slice_get events k ≡ Some event → matches_at event n ≡ true →
+    matched_by events n ≡ true
 is_start-event [] k n event is h = absurd (cc)
 is_start-event (first ∷ events) zero n event is h =
     let same : first ≡ event = cc in

@@ -4,13 +4,17 @@ use Rattle.std.proofs.lemmas.Bool.{cases_lt}
 use Rattle.plan_next.specs.Starts.{NoneIn, IsFirstIn}
 
 -- a test that passes the same numbers has the same first one
-pub IsFirstIn-same : (test other : ℕ → Bool) (a b : ℕ) (answer : Option ℕ) → ((n : ℕ) → n < b → test n ≡ other n) → IsFirstIn test a b answer → IsFirstIn other a b answer
+pub IsFirstIn-same :
+    (test other : ℕ → Bool) (a b : ℕ) (answer : Option ℕ) → ((n : ℕ) → n < b → test n ≡ other n) → IsFirstIn test a b answer →
+    IsFirstIn other a b answer
 IsFirstIn-same test other a b None same none = λ n low high. sym (same n high) ∙ none n low high
 IsFirstIn-same test other a b (Some n) same (low, high, is, none) =
     (low, high, sym (same n high) ∙ is, λ k from to. sym (same k (omega arith)) ∙ none k from to)
 
 -- where none passes in an earlier part, the first of the later part is the first of both
-pub IsFirstIn-later : (test : ℕ → Bool) (a b c : ℕ) (answer : Option ℕ) → a ≤ b → NoneIn test a b → IsFirstIn test b c answer → IsFirstIn test a c answer
+pub IsFirstIn-later :
+    (test : ℕ → Bool) (a b c : ℕ) (answer : Option ℕ) → a ≤ b → NoneIn test a b → IsFirstIn test b c answer →
+    IsFirstIn test a c answer
 IsFirstIn-later test a b c None le none first = λ n low high.
     elim (cases_lt n b) [
       | inl before ↦ none n low before

@@ -1,18 +1,21 @@
 -- Next starts: of a rule by those of its events, and each by the one before it.
+-- For `first_of_event`, `next_of_event` and `first_starts`, KeptLemmas and EventsLemmas. `IsFirstOrEnd` is the first number that
+-- passes, or the end of the part: each lemma builds one such record from others.
 use Rattle.std.proofs.Common.{◌≡◌, ℕ, ◌<◌, ◌≤◌, Bool, true, Option, Some, None, sym, ap, ◌∙◌, arith}
 use Rattle.std.specs.Prelude.{unwrap_or}
-use Rattle.plan_next.specs.Next.{IsNextIn}
+use Rattle.plan_next.specs.Next.{IsFirstOrEnd}
 use Rattle.plan_next.specs.Starts.{NoneIn, IsLeastIn, IsFirstIn}
 
 -- a first answer, or the end of the part
-pub IsNextIn-first : (test : ℕ → Bool) (a b : ℕ) (answer : Option ℕ) → a ≤ b → IsFirstIn test a b answer → IsNextIn test a b (unwrap_or answer b)
-IsNextIn-first test a b None le none = record {
+pub IsFirstOrEnd-first :
+    (test : ℕ → Bool) (a b : ℕ) (answer : Option ℕ) → a ≤ b → IsFirstIn test a b answer → IsFirstOrEnd test a b (unwrap_or answer b)
+IsFirstOrEnd-first test a b None le none = record {
   from = le;
   to = omega arith;
   none = none;
   is = λ lt. absurd (omega arith);
 }
-IsNextIn-first test a b (Some n) le (low, high, is, none) = record {
+IsFirstOrEnd-first test a b (Some n) le (low, high, is, none) = record {
   from = low;
   to = omega arith;
   none = none;
@@ -20,24 +23,25 @@ IsNextIn-first test a b (Some n) le (low, high, is, none) = record {
 }
 
 -- the least of those that pass, where the next one isn't the end
-pub IsLeastIn-next : (test : ℕ → Bool) (a b n : ℕ) → IsNextIn test a b n → n < b → IsLeastIn test a b n
+pub IsLeastIn-next : (test : ℕ → Bool) (a b n : ℕ) → IsFirstOrEnd test a b n → n < b → IsLeastIn test a b n
 IsLeastIn-next test a b n next lt = (next.from, lt, next.is lt, next.none)
 
 -- and where it is, there is none
-pub NoneIn-next : (test : ℕ → Bool) (a b n : ℕ) → IsNextIn test a b n → b ≤ n → NoneIn test a b
+pub NoneIn-next : (test : ℕ → Bool) (a b n : ℕ) → IsFirstOrEnd test a b n → b ≤ n → NoneIn test a b
 NoneIn-next test a b n next le k low high = next.none k low (omega arith)
 
 -- a part that begins later, and not after the next number
-pub IsNextIn-later : (test : ℕ → Bool) (a b n later : ℕ) → IsNextIn test a b n → a ≤ later → later ≤ n → IsNextIn test later b n
-IsNextIn-later test a b n later next low high = record {
+pub IsFirstOrEnd-later : (test : ℕ → Bool) (a b n later : ℕ) → IsFirstOrEnd test a b n → a ≤ later → later ≤ n → IsFirstOrEnd test later b n
+IsFirstOrEnd-later test a b n later next low high = record {
   from = high;
   to = next.to;
   none = λ k from until. next.none k (omega arith) until;
   is = next.is;
 }
 
-pub IsNextIn-same : (test other : ℕ → Bool) (a b n : ℕ) → ((k : ℕ) → k < b → test k ≡ other k) → IsNextIn test a b n → IsNextIn other a b n
-IsNextIn-same test other a b n same next =
+pub IsFirstOrEnd-same :
+    (test other : ℕ → Bool) (a b n : ℕ) → ((k : ℕ) → k < b → test k ≡ other k) → IsFirstOrEnd test a b n → IsFirstOrEnd other a b n
+IsFirstOrEnd-same test other a b n same next =
     let to = next.to in
     record {
       from = next.from;
@@ -47,7 +51,7 @@ IsNextIn-same test other a b n same next =
     }
 
 -- a part begins with the next number, which then passes
-pub passes-next : (test : ℕ → Bool) (a b n : ℕ) → IsNextIn test a b n → n ≤ a → a < b → test a ≡ true
+pub passes-next : (test : ℕ → Bool) (a b n : ℕ) → IsFirstOrEnd test a b n → n ≤ a → a < b → test a ≡ true
 passes-next test a b n next le lt =
     let from = next.from in
     let same : n ≡ a = omega arith in

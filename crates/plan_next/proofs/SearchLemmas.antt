@@ -1,4 +1,6 @@
 -- What is searched month by month is searched as a whole.
+-- For `first_day_in` and `first_later_day`, and for `date` and `later` of `Month`. Days and months are compared by the
+-- first day of a month (`ComesBefore-day`). Hard is `none_later`, on the months passed over.
 use Rattle.std.proofs.Common.{◌≡◌, ℕ, ◌+◌, ◌-◌, ◌*◌, ◌/◌, ◌%◌, ◌<◌, ◌≤◌, Bool, true, false, ◌&&◌, Option, Some, None, inl, inr, refl, ap, sym, ◌∙◌, subst, arith}
 use Rattle.std.specs.Prelude.{min}
 use Rattle.std.specs.Int.{IsInRange}
@@ -47,14 +49,18 @@ HasMonth-date (Event event) civil h = record {
 
 -- ---- days and months
 
-month_here : (pattern : Pattern) (year month : ℕ) → IsInRange 1 12 month → admits_year pattern year ≡ true → admits_month pattern month ≡ true → admits_month_number pattern (12 * year + (month - 1)) ≡ true
+month_here :
+    (pattern : Pattern) (year month : ℕ) → IsInRange 1 12 month → admits_year pattern year ≡ true →
+    admits_month pattern month ≡ true → admits_month_number pattern (12 * year + (month - 1)) ≡ true
 month_here pattern year month (low, high) has_year has_month =
     let same : (12 * year + (month - 1)) / 12 ≡ year = omega arith in
     let same_month : (12 * year + (month - 1)) % 12 + 1 ≡ month = omega arith in
     rw (same, same_month, has_year, has_month) refl
 
 -- no day of a month that isn't admitted is admitted
-no_day_of_month : (pattern : Pattern) (day : ℕ) → day < end_day → admits_month_number pattern (month_of_day day) ≡ false → admits_day pattern day ≡ false
+no_day_of_month :
+    (pattern : Pattern) (day : ℕ) → day < end_day → admits_month_number pattern (month_of_day day) ≡ false →
+    admits_day pattern day ≡ false
 no_day_of_month pattern day h none =
     elim (cases_Bool (admits_day pattern day)) [
       | inl some ↦
@@ -69,7 +75,9 @@ day_of_first_second : (day : ℕ) → day * seconds_a_day / seconds_a_day ≡ da
 day_of_first_second day = omega arith
 
 -- the first day of a month against any day
-ComesBefore-day : (month first day : ℕ) → month ≤ end_month → IsFirstDay month first → day < end_day → ComesBefore month first day (civil_fields (day * seconds_a_day))
+ComesBefore-day :
+    (month first day : ℕ) → month ≤ end_month → IsFirstDay month first → day < end_day →
+    ComesBefore month first day (civil_fields (day * seconds_a_day))
 ComesBefore-day month first day known is h =
     let fact = ComesBefore-first_day month first (day * seconds_a_day) (omega arith) is (omega arith) in
     subst (λ d. ComesBefore month first d (civil_fields (day * seconds_a_day))) (day_of_first_second day) fact
@@ -108,12 +116,15 @@ month_before month day is until known =
 month_in_years : (day : ℕ) → day < end_day → month_of_day day < end_month
 month_in_years day h = (IsInRange-month_number (day * seconds_a_day) (omega arith)).1
 
-day_of : (month : Month) (day : ℕ) → IsMonth month → month.first ≤ day → day < month.end → (civil_fields (day * seconds_a_day)).day ≡ day - month.first + 1
+day_of :
+    (month : Month) (day : ℕ) → IsMonth month → month.first ≤ day → day < month.end →
+    (civil_fields (day * seconds_a_day)).day ≡ day - month.first + 1
 day_of month day is from to =
     let known = ends_in_years month is in
     let last = is.to in
     let length = is.end_is in
-    ap (λ (c : Civil). c.day) (civil_fields-of_month month.number month.first day (omega arith) is.first_day from (omega arith) (omega arith))
+    ap (λ (c : Civil). c.day) (civil_fields-of_month month.number month.first day (omega arith) is.first_day from (omega arith)
+    (omega arith))
 
 -- the search of a month from `from` on has come to a day, and knows where the days of the month go on
 pub record IsOpen (pattern : Pattern) (month : Month) (from day : ℕ) (place : Option ℕ) : Type 0 where
@@ -124,7 +135,9 @@ pub record IsOpen (pattern : Pattern) (month : Month) (from day : ℕ) (place : 
   pub goes_on : IsFirstOpen pattern (day - month.first + 1) place
 
 -- no day of a month before the next open one is admitted
-pub not_open : (pattern : Pattern) (month : Month) (from day first k : ℕ) → IsOpen pattern month from day (Some first) → from ≤ k → k < month.first + (first - 1) → k < month.end → admits_day pattern k ≡ false
+pub not_open :
+    (pattern : Pattern) (month : Month) (from day first k : ℕ) → IsOpen pattern month from day (Some first) → from ≤ k →
+    k < month.first + (first - 1) → k < month.end → admits_day pattern k ≡ false
 not_open pattern month from day first k is low before within =
     let start = is.start in
     let from_low = is.low in
@@ -134,7 +147,9 @@ not_open pattern month from day first k is low before within =
       | inr after ↦ is.goes_on.1 (civil_fields (k * seconds_a_day)) (omega arith) (omega arith)
     ]
 
-pub none_open : (pattern : Pattern) (month : Month) (from day end : ℕ) → IsOpen pattern month from day None → NoneIn (admits_day pattern) from (min end month.end)
+pub none_open :
+    (pattern : Pattern) (month : Month) (from day end : ℕ) → IsOpen pattern month from day None →
+    NoneIn (admits_day pattern) from (min end month.end)
 none_open pattern month from day end is k low high =
     let start = is.start in
     let from_low = is.low in
@@ -152,7 +167,10 @@ pub record IsReached (pattern : Pattern) (begin : ℕ) (month : Month) (from : �
   pub low : begin ≤ from
   pub none : NoneIn (admits_day pattern) begin from
 
-none_of_month : (pattern : Pattern) (begin from end day : ℕ) (month : Month) → IsReached pattern begin month from → NoneIn (admits_day pattern) from (min end month.end) → begin ≤ day → day < end → day < month.end → admits_day pattern day ≡ false
+none_of_month :
+    (pattern : Pattern) (begin from end day : ℕ) (month : Month) → IsReached pattern begin month from →
+    NoneIn (admits_day pattern) from (min end month.end) → begin ≤ day → day < end → day < month.end →
+    admits_day pattern day ≡ false
 none_of_month pattern begin from end day month reached none low high until =
     elim (cases_lt day from) [
       | inl before ↦ reached.none day low before
@@ -160,16 +178,23 @@ none_of_month pattern begin from end day month reached none low high until =
     ]
 
 -- a day before the month `upto`, where no month from the next one on, before that, is admitted
-none_later : (pattern : Pattern) (begin from end upto day : ℕ) (month : Month) → IsReached pattern begin month from → NoneIn (admits_day pattern) from (min end month.end) → NoneIn (admits_month_number pattern) (month.number + 1) upto → begin ≤ day → (day < month.end → day < end) → day < end_day → month_of_day day < upto → admits_day pattern day ≡ false
+none_later :
+    (pattern : Pattern) (begin from end upto day : ℕ) (month : Month) → IsReached pattern begin month from →
+    NoneIn (admits_day pattern) from (min end month.end) → NoneIn (admits_month_number pattern) (month.number + 1) upto →
+    begin ≤ day → (day < month.end → day < end) → day < end_day → month_of_day day < upto → admits_day pattern day ≡ false
 none_later pattern begin from end upto day month reached none months low high known lt =
     elim (cases_lt day month.end) [
       | inl before ↦ none_of_month pattern begin from end day month reached none low (high before) before
       | inr after ↦ no_day_of_month pattern day known (months (month_of_day day) (month_past month day reached.known after known) lt)
     ]
 
-pub no_month_left : (pattern : Pattern) (begin from end : ℕ) (month : Month) → IsReached pattern begin month from → NoneIn (admits_day pattern) from (min end month.end) → NoneIn (admits_month_number pattern) (month.number + 1) end_month → end ≤ end_day → NoneIn (admits_day pattern) begin end
+pub no_month_left :
+    (pattern : Pattern) (begin from end : ℕ) (month : Month) → IsReached pattern begin month from →
+    NoneIn (admits_day pattern) from (min end month.end) → NoneIn (admits_month_number pattern) (month.number + 1) end_month →
+    end ≤ end_day → NoneIn (admits_day pattern) begin end
 no_month_left pattern begin from end month reached none months known day low high =
-    none_later pattern begin from end end_month day month reached none months low (λ _. high) (omega arith) (month_in_years day (omega arith))
+    none_later pattern begin from end end_month day month reached none months low (λ _. high) (omega arith)
+    (month_in_years day (omega arith))
 
 -- a month ends before a later one begins
 ends_before : (month later : Month) → IsMonth month → IsMonth later → month.number < later.number → month.end ≤ later.first
@@ -189,7 +214,11 @@ ends_before month later is is_later lt =
     ]
 
 -- the search goes on with the first day of the next month that is admitted
-pub month_reached : (pattern : Pattern) (begin from end next : ℕ) (month later : Month) → IsReached pattern begin month from → NoneIn (admits_day pattern) from (min end month.end) → month.end < end → IsLeastIn (admits_month_number pattern) (month.number + 1) end_month next → IsMonth later → later.number ≡ next → IsReached pattern begin later later.first
+pub month_reached :
+    (pattern : Pattern) (begin from end next : ℕ) (month later : Month) → IsReached pattern begin month from →
+    NoneIn (admits_day pattern) from (min end month.end) → month.end < end →
+    IsLeastIn (admits_month_number pattern) (month.number + 1) end_month next → IsMonth later → later.number ≡ next →
+    IsReached pattern begin later later.first
 month_reached pattern begin from end next month later reached none within (low, high, is_next, months) is number =
     let start = reached.low in
     let until = reached.until in

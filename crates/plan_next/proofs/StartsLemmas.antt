@@ -1,4 +1,6 @@
 -- What a pattern of a rule admits are the starts of the rule.
+-- For `first_of_cron`, `next_of_cron`, `first_of_event`, `next_of_event`, KeptLemmas and EventsLemmas. The pattern looks at
+-- the day and at the second of the day, the rule at the civil fields: both see the same (`admits_moment-fields`).
 use Rattle.std.proofs.Common.{◌≡◌, ℕ, ◌*◌, ◌/◌, ◌%◌, ◌<◌, Bool, true, ◌&&◌, nat_lt, Bor, refl, ◌∙◌, arith}
 use Rattle.std.proofs.lemmas.Bool.{lt-ltb}
 use Rattle.plan_sets.specs.Civil.{civil_fields}
@@ -25,7 +27,9 @@ abbrev pub admits_fields : Pattern → Civil → Bool
 admits_fields pattern c =
     admits_date pattern c && (admits_hour pattern c.hour && (admits_minute pattern c.minute && admits_second pattern c.second))
 
-month_day-same : (count : DayCount) (days : SetOfValues) (a b : Civil) → SameDate a b → month_day_matches count days a ≡ month_day_matches count days b
+month_day-same :
+    (count : DayCount) (days : SetOfValues) (a b : Civil) → SameDate a b →
+    month_day_matches count days a ≡ month_day_matches count days b
 month_day-same FromStart days a b same = rw same.day refl
 month_day-same FromEnd days a b same = rw (same.year, same.month, same.day) refl
 
@@ -48,7 +52,8 @@ admits_moment-fields pattern n =
     let time = n % seconds_a_day in
     let is = IsTime-civil_fields n in
     let midnight : n / seconds_a_day * seconds_a_day / seconds_a_day ≡ n / seconds_a_day = omega arith in
-    let date : admits_day pattern (n / seconds_a_day) ≡ admits_date pattern c = admits_date-same pattern _ _ (SameDate-day (n / seconds_a_day * seconds_a_day) n midnight) in
+    let date : admits_day pattern (n / seconds_a_day) ≡ admits_date pattern c = admits_date-same pattern _ _
+    (SameDate-day (n / seconds_a_day * seconds_a_day) n midnight) in
     let minute : time % 3600 / 60 ≡ c.minute = omega arith in
     let second : time % 3600 % 60 ≡ c.second = omega arith in
     let hour : time / 3600 ≡ c.hour = omega arith in
@@ -64,7 +69,8 @@ is_start-cron cron n before =
     let known : nat_lt n end_second ≡ true = lt-ltb _ _ before in
     let c = civil_fields n in
     let pattern = Cron cron in
-    rw known (admits_moment-fields pattern n ∙ turned (admits_date pattern c) (admits_hour pattern c.hour) (admits_minute pattern c.minute) (admits_second pattern c.second))
+    rw known (admits_moment-fields pattern n ∙ turned (admits_date pattern c) (admits_hour pattern c.hour)
+    (admits_minute pattern c.minute) (admits_second pattern c.second))
 
 -- the seconds that an event's pattern admits are those whose fields it matches
 pub event_matches-moment : (event : Bor Calendar) (n : ℕ) → admits_moment (Event event) n ≡ event_matches event.now (civil_fields n)

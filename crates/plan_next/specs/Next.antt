@@ -12,7 +12,7 @@ abbrev pub most_kept : ℕ
 most_kept = 64
 
 -- n is the least number from a on, b excluded, that passes the test, and b where no number does
-pub record IsNextIn (test : ℕ → Bool) (a b n : ℕ) : Type 0 where
+pub record IsFirstOrEnd (test : ℕ → Bool) (a b n : ℕ) : Type 0 where
   pub from : a ≤ n
   pub to : n ≤ b
   pub none : NoneIn test a n
@@ -26,7 +26,7 @@ matches_at event n = event_matches event (civil_fields n)
 abbrev pub AreNexts : List Calendar → (from end : ℕ) → List ℕ → Type 0
 AreNexts events from end kept =
     (k : ℕ) → (event : Calendar) → slice_get events k ≡ Some event
-    → IsNextIn (matches_at event) from end (slice_index kept k)
+    → IsFirstOrEnd (matches_at event) from end (slice_index kept k)
 
 -- a list of events that isn't too long keeps the next start of each
 abbrev pub KeepsNexts : Rule → (from end : ℕ) → List ℕ → Type 0

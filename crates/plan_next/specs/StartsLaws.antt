@@ -27,7 +27,8 @@ unfolding passing
 passing-append test a b c low high =
     let sum : c - a ≡ b - a + (c - b) = omega arith in
     let place : a + (b - a) ≡ b = omega arith in
-    let cut : range_with_len a (c - a) ≡ range_with_len a (b - a) ++ range_with_len b (c - b) = rw sum (range-append a (b - a) (c - b) ∙ (rw place refl)) in
+    let cut : range_with_len a (c - a) ≡ range_with_len a (b - a) ++ range_with_len b (c - b) = rw sum
+    (range-append a (b - a) (c - b) ∙ (rw place refl)) in
     ap (filter test) cut ∙ filter-append test (range_with_len a (b - a)) (range_with_len b (c - b))
 
 -- where none passes

@@ -1,4 +1,7 @@
 //! The next start of a rule, found by jumps from field to field, and pieces: all starts of a rule in a part of time.
+//!
+//! It stands on plan_match, which says what a rule admits, and on plan_sets. Open `next` first, whose head says how starts are named
+//! here; `search` has the jumps, and `piece` what planners send.
 #![tactic(auto)]
 
 mod month;

@@ -1,4 +1,8 @@
-//! The next start of a rule.
+//! The next start of a rule, by the kind of rule.
+//!
+//! Within the crate `first_..` is the first start from a second on, and `next_..` the first after a start, both before an end. What
+//! the crate offers ends with the planner's years: `next_from` finds the first start from a second on, and `next_start` the first
+//! later than it.
 
 ghost use Rattle.std.specs.Prelude.{◌≡◌, ◌+◌, ◌≤◌, slice_get};
 ghost use Rattle.plan_sets.specs.Limits.{end_second};

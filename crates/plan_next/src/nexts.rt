@@ -1,10 +1,10 @@
 //! The starts of a rule one after the other: each follows from the one before it, and no event is searched again while its
-//! next start is known.
+//! next start is known. A number is kept for each event, so the end of the part stands for none.
 
 ghost use Rattle.std.specs.Prelude.{◌≡◌, ◌+◌, ◌<◌, ◌≤◌, true, length};
 ghost use Rattle.plan_sets.specs.Limits.{end_second};
 ghost use Rattle.plan_next.specs.Starts.{is_start, IsFirstIn};
-ghost use Rattle.plan_next.specs.Next.{matches_at, most_kept, AreNexts, IsNextIn, KeepsNexts};
+ghost use Rattle.plan_next.specs.Next.{matches_at, most_kept, AreNexts, IsFirstOrEnd, KeepsNexts};
 
 use crate::next::{first_of_cron, first_of_events};
 use crate::search::Pattern;
@@ -15,10 +15,10 @@ pub(crate) const MOST_KEPT: usize = 64;
 
 /// The first start of a rule from `from` on, or `end` where it has none before that. Where its events aren't too many, `kept`
 /// then holds the same of each.
-pub(crate) fn first_next(rule: &Rule, from: u64, end: u64, kept: &mut [u64; MOST_KEPT]) -> u64
+pub(crate) fn first_or_end(rule: &Rule, from: u64, end: u64, kept: &mut [u64; MOST_KEPT]) -> u64
     requires part { from ≤ end }
     requires years { end ≤ end_second }
-    ensures next { IsNextIn (is_start rule.now) from end result }
+    ensures next { IsFirstOrEnd (is_start rule.now) from end result }
     ensures kept { KeepsNexts rule.now from end kept.new }
 {
     match rule {
@@ -31,26 +31,26 @@ pub(crate) fn first_next(rule: &Rule, from: u64, end: u64, kept: &mut [u64; MOST
 
 /// The start of a rule after its start `start`, or `end` where it has none before that. `kept` holds what each event has from
 /// `start` on, and then what it has after it.
-pub(crate) fn later_next(rule: &Rule, start: u64, end: u64, kept: &mut [u64; MOST_KEPT]) -> u64
+pub(crate) fn next_or_end(rule: &Rule, start: u64, end: u64, kept: &mut [u64; MOST_KEPT]) -> u64
     requires part { start < end }
     requires years { end ≤ end_second }
     requires start { is_start rule.now start ≡ true }
     requires kept { KeepsNexts rule.now start end kept.old }
-    ensures next { IsNextIn (is_start rule.now) (start + 1) end result }
+    ensures next { IsFirstOrEnd (is_start rule.now) (start + 1) end result }
     ensures kept { KeepsNexts rule.now (start + 1) end kept.new }
 {
     match rule {
-        Rule::Cron(rule) => later_of_cron(rule, start, end).unwrap_or(end),
+        Rule::Cron(rule) => next_of_cron(rule, start, end).unwrap_or(end),
         Rule::Never => end,
         Rule::Events(events) if events.len() <= MOST_KEPT => {
-            later_of_each(events, start, end, kept)
+            next_of_each(events, start, end, kept)
         }
         Rule::Events(events) => first_of_events(events, start + 1, end).unwrap_or(end),
     }
 }
 
 // The first start of a cron rule after `start`, before `end`.
-fn later_of_cron(rule: &CronRule, start: u64, end: u64) -> Option<u64>
+fn next_of_cron(rule: &CronRule, start: u64, end: u64) -> Option<u64>
     requires part { start < end }
     requires years { end ≤ end_second }
     requires start { is_start (Rule.Cron rule.now) start ≡ true }
@@ -64,13 +64,13 @@ fn first_of_each(events: &Events, from: u64, end: u64, kept: &mut [u64; MOST_KEP
     requires part { from ≤ end }
     requires years { end ≤ end_second }
     requires room { length events.now ≤ most_kept }
-    ensures next { IsNextIn (is_start (Rule.Events events.now)) from end result }
+    ensures next { IsFirstOrEnd (is_start (Rule.Events events.now)) from end result }
     ensures kept { AreNexts events.now from end kept.new }
 {
     let mut earliest = end;
     for i in 0..events.len() {
         if let Some(event) = events.get(i) {
-            let next = start_from(event, from, end);
+            let next = first_of_event(event, from, end);
             kept[i] = next;
             earliest = earliest.min(next);
         }
@@ -79,18 +79,18 @@ fn first_of_each(events: &Events, from: u64, end: u64, kept: &mut [u64; MOST_KEP
 }
 
 // Moves those events on that start at `start`, and answers the earliest of their next starts.
-fn later_of_each(events: &Events, start: u64, end: u64, kept: &mut [u64; MOST_KEPT]) -> u64
+fn next_of_each(events: &Events, start: u64, end: u64, kept: &mut [u64; MOST_KEPT]) -> u64
     requires part { start < end }
     requires years { end ≤ end_second }
     requires room { length events.now ≤ most_kept }
     requires kept { AreNexts events.now start end kept.old }
-    ensures next { IsNextIn (is_start (Rule.Events events.now)) (start + 1) end result }
+    ensures next { IsFirstOrEnd (is_start (Rule.Events events.now)) (start + 1) end result }
     ensures kept { AreNexts events.now (start + 1) end kept.new }
 {
     let mut earliest = end;
     for i in 0..events.len() {
         if let Some(event) = events.get(i) {
-            let next = start_after(event, start, kept[i], end);
+            let next = next_of_event(event, start, kept[i], end);
             kept[i] = next;
             earliest = earliest.min(next);
         }
@@ -99,20 +99,20 @@ fn later_of_each(events: &Events, start: u64, end: u64, kept: &mut [u64; MOST_KE
 }
 
 // The first start of an event from `from` on, or `end` where it has none before that.
-fn start_from(event: &Calendar, from: u64, end: u64) -> u64
+fn first_of_event(event: &Calendar, from: u64, end: u64) -> u64
     requires part { from ≤ end }
     requires years { end ≤ end_second }
-    ensures { IsNextIn (matches_at event.now) from end result }
+    ensures { IsFirstOrEnd (matches_at event.now) from end result }
 {
     Pattern::Event(event).first_moment(from, end).unwrap_or(end)
 }
 
 // The first start of an event after `start`, or `end` where it has none before that; `next` is the same from `start` on.
-fn start_after(event: &Calendar, start: u64, next: u64, end: u64) -> u64
+fn next_of_event(event: &Calendar, start: u64, next: u64, end: u64) -> u64
     requires part { start < end }
     requires years { end ≤ end_second }
-    requires next { IsNextIn (matches_at event.now) start end next }
-    ensures { IsNextIn (matches_at event.now) (start + 1) end result }
+    requires next { IsFirstOrEnd (matches_at event.now) start end next }
+    ensures { IsFirstOrEnd (matches_at event.now) (start + 1) end result }
 {
     if next > start {
         return next;

@@ -6,7 +6,7 @@ ghost use Rattle.plan_sets.specs.Limits.{end_second};
 ghost use Rattle.plan_next.specs.Starts.{starts};
 ghost use Rattle.plan_next.specs.Piece.{piece_end, piece_of};
 
-use crate::nexts::{MOST_KEPT, first_next, later_next};
+use crate::nexts::{MOST_KEPT, first_or_end, next_or_end};
 use plan_match::Rule;
 use std::alloc::{AllocError, AllocFailed, Global};
 use std::marker::Model;
@@ -138,14 +138,14 @@ fn first_starts(
     let mut found = Vec::new(alloc);
     let mut kept = [upto; MOST_KEPT];
     let mut reached = since;
-    let mut next = first_next(rule, since, upto, &mut kept);
+    let mut next = first_or_end(rule, since, upto, &mut kept);
     while next < upto {
         if found.len() == most {
             return Ok((found, reached));
         }
         found.push(next)?;
         reached = next + 1;
-        next = later_next(rule, next, upto, &mut kept);
+        next = next_or_end(rule, next, upto, &mut kept);
     }
     Ok((found, upto))
 }

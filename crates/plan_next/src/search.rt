@@ -1,5 +1,9 @@
 //! The search for the least second that a pattern admits: the least year, month, day, hour, minute and second in turn, and
 //! one field back where a field has none left.
+//!
+//! Three names for each unit, of which each stands on those of the smaller units: `first_UNIT` finds the first admitted one from a
+//! number on; `next_UNIT` the first after an admitted one, whose greater fields need no look; `first_of_later_UNITS` goes on where a
+//! unit has none left. A moment is a day and a time; a time is an hour, a minute and a second.
 
 ghost use Rattle.std.specs.Prelude.{◌≡◌, ◌+◌, ◌*◌, ◌/◌, ◌<◌, ◌≤◌, true, min};
 ghost use Rattle.plan_sets.specs.Limits.{end_second, last_year, seconds_a_day};
@@ -40,7 +44,7 @@ impl Pattern<'_> {
         if from == end {
             return None;
         }
-        self.first_of_days(from, end.div_ceil(SECONDS_A_DAY))
+        self.first_before_day(from, end.div_ceil(SECONDS_A_DAY))
             .filter(|moment| *moment < end)
     }
 
@@ -51,12 +55,12 @@ impl Pattern<'_> {
         requires admitted { admits_moment self moment ≡ true }
         ensures { IsFirstIn (admits_moment self.entry) (moment + 1) end result }
     {
-        self.next_of_days(moment, end.div_ceil(SECONDS_A_DAY))
+        self.next_before_day(moment, end.div_ceil(SECONDS_A_DAY))
             .filter(|moment| *moment < end)
     }
 
     // The first admitted second from `from` on, before the day `end`.
-    fn first_of_days(self, from: u64, end: u64) -> Option<u64>
+    fn first_before_day(self, from: u64, end: u64) -> Option<u64>
         requires part { from < end * seconds_a_day }
         requires years { end ≤ end_day }
         ensures { IsFirstIn (admits_moment self.entry) from (end * seconds_a_day) result }
@@ -71,15 +75,34 @@ impl Pattern<'_> {
         self.first_of_later_days(today, &civil, end)
     }
 
-    // The first admitted second after an admitted one, before the day `end`.
-    fn next_of_days(self, moment: u64, end: u64) -> Option<u64>
+    // The first admitted second after an admitted one, before the day `end`: most often one of its hour.
+    fn next_before_day(self, moment: u64, end: u64) -> Option<u64>
         requires part { moment < end * seconds_a_day }
         requires years { end ≤ end_day }
         requires admitted { admits_moment self moment ≡ true }
         ensures { IsFirstIn (admits_moment self.entry) (moment + 1) (end * seconds_a_day) result }
     {
+        let second = (moment % u64::from(SECONDS_AN_HOUR)) as u16;
+        if let Some(next) = self.next_in_hour(second) {
+            return Some(moment - u64::from(second) + u64::from(next));
+        }
+        self.first_after_hour(moment, end)
+    }
+
+    // The first admitted second after the hour of an admitted one, before the day `end`.
+    #[inline(never)]
+    fn first_after_hour(self, moment: u64, end: u64) -> Option<u64>
+        requires part { moment < end * seconds_a_day }
+        requires years { end ≤ end_day }
+        requires admitted { admits_moment self moment ≡ true }
+        ensures { IsFirstIn (admits_moment self.entry)
+            ((moment / SECONDS_AN_HOUR + 1) * SECONDS_AN_HOUR)
+            (end * seconds_a_day)
+            result }
+    {
         let today = moment / SECONDS_A_DAY;
-        if let Some(time) = self.next_time((moment % SECONDS_A_DAY) as u32) {
+        let hour = (moment % SECONDS_A_DAY) as u32 / SECONDS_AN_HOUR;
+        if let Some(time) = self.first_of_later_hours(hour as u16) {
             return Some(today * SECONDS_A_DAY + u64::from(time));
         }
         self.first_of_later_days(today, &civil_of(today * SECONDS_A_DAY), end)
@@ -191,19 +214,6 @@ impl Pattern<'_> {
         if self.has_hour(hour)
             && let Some(rest) = self.first_in_hour((from % SECONDS_AN_HOUR) as u16)
         {
-            return Some(u32::from(hour) * SECONDS_AN_HOUR + u32::from(rest));
-        }
-        self.first_of_later_hours(hour)
-    }
-
-    // The first admitted time of day after an admitted one, in seconds.
-    fn next_time(self, time: u32) -> Option<u32>
-        requires day { time < seconds_a_day }
-        requires admitted { admits_time self time ≡ true }
-        ensures { IsFirstIn (admits_time self.entry) (time + 1) seconds_a_day result }
-    {
-        let hour = (time / SECONDS_AN_HOUR) as u16;
-        if let Some(rest) = self.next_in_hour((time % SECONDS_AN_HOUR) as u16) {
             return Some(u32::from(hour) * SECONDS_AN_HOUR + u32::from(rest));
         }
         self.first_of_later_hours(hour)

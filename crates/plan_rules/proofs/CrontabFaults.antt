@@ -1,4 +1,6 @@
 -- Which faults a crontab has: a want of memory is of line 0, and it never stands inside a rule's fault.
+-- For all clauses of `crontab`, and in part for `timer`. `line` and `jobs` follow the definition: each step, choice and
+-- element keeps that its faults are such. `answered` leads that to an answer, which may be a want of memory instead.
 use Rattle.std.proofs.Common.{◌≡◌, ◌≢◌, ℕ, ◌+◌, ◌≤◌, Bool, true, false, cond, eqb, List, [], ◌∷◌, length, Option, Some, None, Result, Ok, Err, IfErr, refl, ap, sym, ◌∙◌, inl, inr, subst, arith}
 use Rattle.std.proofs.lemmas.Bool.{cases_eq}
 use Rattle.std.proofs.lemmas.Bool.Decides.{nat_tests}
@@ -7,13 +9,14 @@ use Rattle.std.specs.List.{enumerate_from, list_any}
 use Rattle.std.specs.Str.{IsUtf8, is_utf8}
 use Rattle.plan_rules.specs.declared.crontabs.Kind.{Kind}
 use Rattle.plan_rules.specs.declared.crontabs.Kind.TheVariants.{User, System}
-use Rattle.plan_texts.specs.declared.fault.RuleFault.{RuleFault}
-use Rattle.plan_texts.specs.declared.fault.RuleCause.{RuleCause}
-use Rattle.plan_texts.specs.declared.fault.RuleCause.TheVariants as cause
+use Rattle.plan_grammar.specs.declared.fault.RuleFault.{RuleFault}
+use Rattle.plan_grammar.specs.declared.fault.RuleCause.{RuleCause}
+use Rattle.plan_grammar.specs.declared.fault.RuleCause.TheVariants as cause
 use Rattle.plan_rules.specs.declared.line_fault.LineCause.{LineCause}
 use Rattle.plan_rules.specs.declared.line_fault.LineCause.TheVariants.{NoMemory, NotUtf8, TooLarge, Rule, BadSetting, BadTimerName}
 use Rattle.plan_rules.specs.declared.line_fault.LineFault.{LineFault}
-use Rattle.plan_texts.specs.Steps.{Reading, ◌>>=◌, each, GivesUnless}
+use Rattle.plan_texts.specs.Steps.{◌>>=◌, each, GivesUnless}
+use Rattle.plan_grammar.specs.Readings.{Reading}
 use Rattle.plan_texts.specs.Lines.{is_too_large, lines, after_blanks, cut_word}
 use Rattle.plan_rules.specs.LineFaults.{LineReading, TextReading, IsOwnCause, cause_by_cause, in_line, on_line, fault_on_line, want_of_memory}
 use Rattle.plan_rules.specs.Crontab.{rule_in_front, command_reading, user_and_command, what_reading, job_reading, begins_setting, entry_reading, line_reading, numbered_reading, jobs_reading, crontab_reading}
@@ -34,7 +37,9 @@ own_cause other own = tt
 abbrev pub IsOwnFault : LineFault → Type 0
 IsOwnFault fault = (fault.cause ≡ NoMemory → fault.line ≡ 0) × IsLineCause fault.cause
 
-pub steps : {A B E : Type 0} (P : E → Type 0) (r : Result A E) (next : A → Result B E) → IfErr r P → ((x : A) → IfErr (next x) P) → IfErr (r >>= next) P
+pub steps :
+    {A B E : Type 0} (P : E → Type 0) (r : Result A E) (next : A → Result B E) → IfErr r P → ((x : A) → IfErr (next x) P) →
+    IfErr (r >>= next) P
 steps P (Ok x) next first later = later x
 steps P (Err fault) next first later = first
 
@@ -100,12 +105,16 @@ pub jobs : (kind : Kind) (texts : List (List ℕ)) → IfErr (jobs_reading kind 
 unfolding jobs_reading
 jobs kind texts =
     steps IsOwnFault (each (numbered_reading kind) (enumerate_from 0 texts)) _
-    (elements IsOwnFault (numbered_reading kind) (λ text. on (text.0 + 1) (line_reading kind (text.0 + 1) text.1) (line kind (text.0 + 1) text.1)) (enumerate_from 0 texts))
+    (elements IsOwnFault (numbered_reading kind) (λ text. on (text.0 + 1) (line_reading kind (text.0 + 1) text.1)
+    (line kind (text.0 + 1) text.1)) (enumerate_from 0 texts))
     (λ found. tt)
 
 -- ---- so each fault that a call answers
 
-unless_memory : (number : ℕ) (c : LineCause) → ((record { line = number; cause = c }) ≢ want_of_memory → IsOwnFault (record { line = number; cause = c })) → IsOwnFault (record { line = number; cause = c })
+unless_memory :
+    (number : ℕ) (c : LineCause) →
+    ((record { line = number; cause = c }) ≢ want_of_memory → IsOwnFault (record { line = number; cause = c })) →
+    IsOwnFault (record { line = number; cause = c })
 unless_memory number NoMemory other =
     elim (cases_eq number 0) [
       | inl none ↦ (λ is. none, tt)
@@ -113,7 +122,9 @@ unless_memory number NoMemory other =
     ]
 unless_memory number c other = other (λ same. cc (ap (λ (f : LineFault). f.cause) same))
 
-pub answered : {A B : Type 0} (view : A → B) (answer : Result A LineFault) (reading : TextReading B) → GivesUnless want_of_memory view answer reading → IfErr reading IsOwnFault → IfErr answer IsOwnFault
+pub answered :
+    {A B : Type 0} (view : A → B) (answer : Result A LineFault) (reading : TextReading B) → GivesUnless want_of_memory view answer reading →
+    IfErr reading IsOwnFault → IfErr answer IsOwnFault
 answered view (Ok x) reading gives own = tt
 answered view (Err fault) reading gives own =
     unless_memory fault.line fault.cause (λ other. at_fault reading (gives other) own)
@@ -123,12 +134,16 @@ answered view (Err fault) reading gives own =
     at_fault (Err e) is own = let same : e ≡ fault = cc in rw (sym same) own
 
 -- a fault of the whole text is none of them
-pub no_other : {A : Type 0} (answer : Result A LineFault) (fault : LineFault) → IfErr answer IsOwnFault → (IsLineCause fault.cause → ⊥) → answer ≢ Err fault
+pub no_other :
+    {A : Type 0} (answer : Result A LineFault) (fault : LineFault) → IfErr answer IsOwnFault → (IsLineCause fault.cause → ⊥) →
+    answer ≢ Err fault
 no_other (Ok x) fault own none same = cc
 no_other (Err e) fault own none same = let is : e.cause ≡ fault.cause = cc in none (subst IsLineCause is own.1)
 
 -- nor is a want of memory
-pub no_memory : {A : Type 0} (answer : Result A LineFault) (memory fault : LineFault) → answer ≡ Err memory → memory ≡ want_of_memory → fault.cause ≢ NoMemory → answer ≢ Err fault
+pub no_memory :
+    {A : Type 0} (answer : Result A LineFault) (memory fault : LineFault) → answer ≡ Err memory → memory ≡ want_of_memory →
+    fault.cause ≢ NoMemory → answer ≢ Err fault
 no_memory answer memory fault gave is other same =
     let here : memory ≡ fault = cc in
     other (ap (λ (f : LineFault). f.cause) (sym here ∙ is))
@@ -146,8 +161,12 @@ pub not_utf8 : (b : Bool) (bytes : List ℕ) → is_utf8 bytes ≡ b → (IsUtf8
 not_utf8 true bytes is other = absurd (other (IsUtf8-from_is_utf8 bytes is))
 not_utf8 false bytes is other = refl
 
-pub crontab_of_text : (kind : Kind) (bytes : List ℕ) → is_too_large bytes ≡ false → IsUtf8 bytes → crontab_reading kind bytes ≡ jobs_reading kind (lines bytes)
+pub crontab_of_text :
+    (kind : Kind) (bytes : List ℕ) → is_too_large bytes ≡ false → IsUtf8 bytes →
+    crontab_reading kind bytes ≡ jobs_reading kind (lines bytes)
 crontab_of_text kind bytes few utf8 = rw (few, is_utf8-from_IsUtf8 bytes utf8) refl
 
-pub crontab_of_no_text : (kind : Kind) (bytes : List ℕ) → is_too_large bytes ≡ false → (IsUtf8 bytes → ⊥) → crontab_reading kind bytes ≡ Err (fault_on_line 0 NotUtf8)
+pub crontab_of_no_text :
+    (kind : Kind) (bytes : List ℕ) → is_too_large bytes ≡ false → (IsUtf8 bytes → ⊥) →
+    crontab_reading kind bytes ≡ Err (fault_on_line 0 NotUtf8)
 crontab_of_no_text kind bytes few other = rw (few, not_utf8 (is_utf8 bytes) bytes refl other) refl

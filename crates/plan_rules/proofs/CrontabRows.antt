@@ -1,4 +1,6 @@
--- Worked rows of crontabs, read by the definitions alone.
+-- Worked rows of crontabs, read by the definitions alone. No proof uses them: they show what `crontab` is to mean.
+-- A row is `refl` once the definitions that it names are unfolded. The row of a set's members needs a law of sets, and
+-- that of a text that is too large takes the text's length as given.
 use Rattle.std.proofs.Common.{◌≡◌, ℕ, Bool, true, false, List, [], ◌∷◌, length, map, codes, Ok, Err, refl}
 use Rattle.std.specs.Fmt.{digits}
 use Rattle.std.specs.Str.{chars, is_utf8}
@@ -6,8 +8,8 @@ use Rattle.plan_sets.specs.declared.item.SetFault.TheVariants.{OutOfRange, Backw
 use Rattle.plan_sets.specs.Items.{set_reading}
 use Rattle.plan_sets.specs.ValuesLaws.{has_value-values_where}
 use Rattle.plan_rules.specs.declared.crontabs.Kind.TheVariants.{User, System}
-use Rattle.plan_texts.specs.declared.fault.RuleCause.{RuleCause}
-use Rattle.plan_texts.specs.declared.fault.RuleCause.TheVariants.{WrongParts, BadNumber, BadName, Values, UnknownWord}
+use Rattle.plan_grammar.specs.declared.fault.RuleCause.{RuleCause}
+use Rattle.plan_grammar.specs.declared.fault.RuleCause.TheVariants.{WrongParts, BadNumber, BadName, Values, UnknownWord}
 use Rattle.plan_rules.specs.declared.line_fault.LineCause.{LineCause}
 use Rattle.plan_rules.specs.declared.line_fault.LineCause.TheVariants.{NotUtf8, TooLarge, BadSetting, Rule, NoCommand}
 use Rattle.plan_texts.specs.Text.{words, cut_at, number_of}
@@ -48,7 +50,8 @@ parts_of (Ok jobs) = map (λ job. (job.name, job.what)) jobs
 parts_of (Err fault) = []
 
 reboot_and_daily : parts_of (crontab_reading User nightly) ≡ (codes "cron:3", codes "a") ∷ (codes "cron:4", codes "b") ∷ []
-unfolding is_utf8 chars lib.Utf8.encode digits lines cut_word words at_word_in_front what_reading job_reading line_reading jobs_reading cut_at number_of set_reading rule_reading five_fields field_reading items_reading item_reading side_reading value_reading step_reading
+unfolding is_utf8 chars lib.Utf8.encode digits lines cut_word words at_word_in_front what_reading job_reading line_reading jobs_reading
+    cut_at number_of set_reading rule_reading five_fields field_reading items_reading item_reading side_reading value_reading step_reading
 reboot_and_daily = refl
 
 -- the system's crontab: the user, a space and the command
@@ -56,7 +59,8 @@ abbrev parts_hourly : List ℕ
 parts_hourly = codes "17 * * * * root cd / && run-parts x"
 
 run_parts : parts_of (crontab_reading System parts_hourly) ≡ (codes "system:1", codes "root cd / && run-parts x") ∷ []
-unfolding is_utf8 chars lib.Utf8.encode digits lines cut_word words fields_in_front what_reading job_reading line_reading jobs_reading cut_at number_of set_reading rule_reading five_fields field_reading items_reading item_reading side_reading value_reading step_reading
+unfolding is_utf8 chars lib.Utf8.encode digits lines cut_word words fields_in_front what_reading job_reading line_reading jobs_reading
+    cut_at number_of set_reading rule_reading five_fields field_reading items_reading item_reading side_reading value_reading step_reading
 run_parts = refl
 
 -- whether the first job of a text matches civil fields
@@ -66,7 +70,9 @@ first_matches other times = []
 
 -- at 00:17:00 and 01:17:00, not at 00:00:00
 run_parts_hourly : first_matches (crontab_reading System parts_hourly) ((0, 17) ∷ (1, 17) ∷ (0, 0) ∷ []) ≡ true ∷ true ∷ false ∷ []
-unfolding is_utf8 chars lib.Utf8.encode digits lines cut_word words fields_in_front what_reading job_reading line_reading jobs_reading cut_at number_of set_reading rule_reading five_fields field_reading items_reading item_reading side_reading value_reading step_reading week_days_of at_minute
+unfolding is_utf8 chars lib.Utf8.encode digits lines cut_word words fields_in_front what_reading job_reading line_reading jobs_reading
+    cut_at number_of set_reading rule_reading five_fields field_reading items_reading item_reading side_reading value_reading step_reading
+    week_days_of at_minute
 run_parts_hourly = simp has_value-values_where
 
 -- what a user's job runs is kept as it is written, after the blanks in front of it
@@ -75,7 +81,8 @@ kept_as_written : map (λ text. parts_of (crontab_reading User text))
     ≡ ((codes "cron:3", codes "a # b % ") ∷ [])
     ∷ ((codes "cron:2", codes "a\r") ∷ [])
     ∷ []
-unfolding is_utf8 chars lib.Utf8.encode digits lines cut_word words at_word_in_front what_reading job_reading line_reading jobs_reading cut_at number_of set_reading rule_reading five_fields field_reading items_reading item_reading side_reading value_reading step_reading
+unfolding is_utf8 chars lib.Utf8.encode digits lines cut_word words at_word_in_front what_reading job_reading line_reading jobs_reading
+    cut_at number_of set_reading rule_reading five_fields field_reading items_reading item_reading side_reading value_reading step_reading
 kept_as_written = refl
 
 -- refused texts of a user, each with its one fault
@@ -108,12 +115,18 @@ user_refusals : map (crontab_reading User)
     ∷ on 3 (part 1 (Values OutOfRange))
     ∷ on 0 NotUtf8
     ∷ []
-unfolding on part is_utf8 chars lib.Utf8.encode digits lines cut_word words fields_in_front at_word_in_front what_reading job_reading line_reading jobs_reading cut_at number_of set_reading rule_reading five_fields field_reading items_reading item_reading side_reading value_reading step_reading
+unfolding on part is_utf8 chars lib.Utf8.encode digits lines cut_word words fields_in_front at_word_in_front what_reading job_reading
+    line_reading jobs_reading cut_at number_of set_reading rule_reading five_fields field_reading items_reading item_reading side_reading
+    value_reading step_reading
 user_refusals = refl
 
 -- a user without a command
-user_alone : map (crontab_reading System) (codes "* * * * * root" ∷ codes "@daily root \t" ∷ codes "@daily" ∷ []) ≡ on 1 NoCommand ∷ on 1 NoCommand ∷ on 1 NoCommand ∷ []
-unfolding on is_utf8 chars lib.Utf8.encode digits lines cut_word words fields_in_front at_word_in_front what_reading job_reading line_reading jobs_reading cut_at number_of set_reading rule_reading five_fields field_reading items_reading item_reading side_reading value_reading step_reading
+user_alone :
+    map (crontab_reading System) (codes "* * * * * root" ∷ codes "@daily root \t" ∷ codes "@daily" ∷ []) ≡
+    on 1 NoCommand ∷ on 1 NoCommand ∷ on 1 NoCommand ∷ []
+unfolding on is_utf8 chars lib.Utf8.encode digits lines cut_word words fields_in_front at_word_in_front what_reading job_reading
+    line_reading jobs_reading cut_at number_of set_reading rule_reading five_fields field_reading items_reading item_reading side_reading
+    value_reading step_reading
 user_alone = refl
 
 -- a byte too many

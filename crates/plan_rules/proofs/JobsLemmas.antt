@@ -1,4 +1,6 @@
 -- Jobs by their names: the entries of a map, whose keys are the names of its values.
+-- For `distinct` of `Jobs::len`, for `number_of` and for `add`. `KeysAreNames` is the type's invariant: by it the place
+-- of a key is that of a job, as a search in a mapped list stops at the same place (`position-map`).
 use Rattle.std.proofs.Common.{◌≡◌, ℕ, ◌+◌, Bool, false, cond, not, nat_lt, List, [], ◌∷◌, ◌++◌, map, Option, Some, None, is_some, String, Global, string_bytes, position, refl, ap, sym, ◌∙◌, true≢false, subst}
 use Rattle.std.proofs.lemmas.List.{map-append, length-map}
 use Rattle.std.specs.List.{prefix_len, IsDistinct, AllByRecursion}
@@ -26,23 +28,29 @@ abbrev pub KeysAreNames : List (String Global × JobParts) → Type 0
 KeysAreNames es = map (λ key. string_bytes key) (keys_of es) ≡ map (λ job. job.name) (values_of es)
 
 -- so the place of a key is the number of a job
-pub number_of-keys : (name : List ℕ) (es : List (String Global × JobParts)) → KeysAreNames es → position (λ key. bytes_eq name (string_bytes key)) (keys_of es) ≡ number_of name (values_of es)
+pub number_of-keys :
+    (name : List ℕ) (es : List (String Global × JobParts)) → KeysAreNames es →
+    position (λ key. bytes_eq name (string_bytes key)) (keys_of es) ≡ number_of name (values_of es)
 number_of-keys name es same =
     sym (position-map (bytes_eq name) (λ key. string_bytes key) (keys_of es))
     ∙ ap (position (bytes_eq name)) same
     ∙ position-map (bytes_eq name) (λ job. job.name) (values_of es)
 
-apart : {A B : Type 0} (e : B → B → Bool) (f : A → B) (x : A) (xs : List A) → AllByRecursion (λ y. e (f x) (f y) ≡ false) xs → AllByRecursion (λ y. e (f x) y ≡ false) (map f xs)
+apart :
+    {A B : Type 0} (e : B → B → Bool) (f : A → B) (x : A) (xs : List A) → AllByRecursion (λ y. e (f x) (f y) ≡ false) xs →
+    AllByRecursion (λ y. e (f x) y ≡ false) (map f xs)
 apart e f x [] h = tt
 apart e f x (y ∷ ys) h = (h.0, apart e f x ys h.1)
 
-IsDistinct-map : {A B : Type 0} (e : B → B → Bool) (f : A → B) (xs : List A) → IsDistinct (λ x y. e (f x) (f y)) xs → IsDistinct e (map f xs)
+IsDistinct-map :
+    {A B : Type 0} (e : B → B → Bool) (f : A → B) (xs : List A) → IsDistinct (λ x y. e (f x) (f y)) xs → IsDistinct e (map f xs)
 unfolding IsDistinct
 IsDistinct-map e f [] h = tt
 IsDistinct-map e f (x ∷ xs) h = (apart e f x xs h.0, IsDistinct-map e f xs h.1)
 
 -- and the names are distinct, as the keys are
-pub HaveDistinctNames-keys : (es : List (String Global × JobParts)) → KeysAreNames es → IsDistinct string_eq (keys_of es) → HaveDistinctNames (values_of es)
+pub HaveDistinctNames-keys :
+    (es : List (String Global × JobParts)) → KeysAreNames es → IsDistinct string_eq (keys_of es) → HaveDistinctNames (values_of es)
 HaveDistinctNames-keys es same distinct =
     let P : List (List ℕ) → Type 0 = IsDistinct bytes_eq in
     subst P same (IsDistinct-map bytes_eq (λ key. string_bytes key) (keys_of es) distinct)
@@ -52,14 +60,19 @@ none_there None h = refl
 none_there (Some x) h = absurd (true≢false h)
 
 -- a job whose name no job has goes last
-pub insert_entry-job : {S : Type 0} (m : IndexMap (String Global) JobParts S) (key : String Global) (job : JobParts) → KeysAreNames m.entries → string_bytes key ≡ job.name → is_some (number_of job.name (values_of m.entries)) ≡ false → insert_entry string_eq m.entries key job ≡ m.entries ++ (key, job) ∷ []
+pub insert_entry-job :
+    {S : Type 0} (m : IndexMap (String Global) JobParts S) (key : String Global) (job : JobParts) → KeysAreNames m.entries →
+    string_bytes key ≡ job.name → is_some (number_of job.name (values_of m.entries)) ≡ false →
+    insert_entry string_eq m.entries key job ≡ m.entries ++ (key, job) ∷ []
 insert_entry-job m key job same named absent =
     insert_entry-new string_eq m key job
     (none_there _ (sym (some_index (string_eq key) m.entries) ∙ ap is_some (number_of-keys (string_bytes key) m.entries same)
     ∙ ap (λ name. is_some (number_of name (values_of m.entries))) named ∙ absent))
 
 -- and then the keys still are the names
-pub KeysAreNames-push : (es : List (String Global × JobParts)) (key : String Global) (job : JobParts) → KeysAreNames es → string_bytes key ≡ job.name → KeysAreNames (es ++ (key, job) ∷ [])
+pub KeysAreNames-push :
+    (es : List (String Global × JobParts)) (key : String Global) (job : JobParts) → KeysAreNames es → string_bytes key ≡ job.name →
+    KeysAreNames (es ++ (key, job) ∷ [])
 KeysAreNames-push es key job same named =
     ap (map (λ k. string_bytes k)) (map-append (λ e. e.0) es ((key, job) ∷ []))
     ∙ map-append (λ k. string_bytes k) (keys_of es) (key ∷ [])

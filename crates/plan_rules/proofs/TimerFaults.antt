@@ -43,7 +43,8 @@ unfolding is_timer_name
 boundary_of_name name is =
     let long : 7 ≤ length name = name_long name is in
     let later = and_second (nat_le 7 (length name)) _ is in
-    let ends : ends_with nat_eq name (codes ".timer") ≡ true = and_first (ends_with nat_eq name (codes ".timer")) _ (and_second (nat_le (length name) 255) _ later) in
+    let ends : ends_with nat_eq name (codes ".timer") ≡ true = and_first (ends_with nat_eq name (codes ".timer")) _
+    (and_second (nat_le (length name) 255) _ later) in
     let tail : codes ".timer" ≡ drop (length name - 6) name = (bytes_decides (codes ".timer") (drop (length name - 6) name)).0 ends in
     let shift : length name - 6 + 0 ≡ length name - 6 = omega arith in
     let dot : get_or name (length name - 6) 0 ≡ 46 =
@@ -55,7 +56,8 @@ boundary_of_name name is =
 event_fault : (event : ℕ × (ℕ × List ℕ)) → IfErr (event_at event) IsOwnFault
 event_fault event =
     on event.1.0 (cond (nat_lt event.0 most_events) (in_line (event_reading event.1.1)) (Err TooManyLines))
-    (choice IsLineCause (nat_lt event.0 most_events) (in_line (event_reading event.1.1)) (Err TooManyLines) (rule_in (event_reading event.1.1)) tt)
+    (choice IsLineCause (nat_lt event.0 most_events) (in_line (event_reading event.1.1)) (Err TooManyLines)
+    (rule_in (event_reading event.1.1)) tt)
 
 group_fault : (group : List (ℕ × List ℕ)) → IfErr (group_reading group) IsOwnFault
 group_fault group = elements IsOwnFault event_at event_fault (enumerate_from 0 group)
@@ -64,7 +66,8 @@ events_fault : (effects : List (ℕ × Effect)) → IfErr (events_reading effect
 events_fault effects =
     steps IsOwnFault (each group_reading (groups effects)) _ (elements IsOwnFault group_reading group_fault (groups effects)) (λ found. tt)
 
-job_fault : (found : Bool) (name : List ℕ) (unit : Option (List ℕ)) (events : List Calendar) → IfErr (job_with found name unit events) IsOwnFault
+job_fault :
+    (found : Bool) (name : List ℕ) (unit : Option (List ℕ)) (events : List Calendar) → IfErr (job_with found name unit events) IsOwnFault
 job_fault true name unit events = tt
 job_fault false name unit events = on {A = JobParts} 0 (Err NoTimerSection) tt
 
@@ -76,14 +79,21 @@ lines_fault name lines =
 
 -- ---- the bytes
 
-pub timer_of_text : (name bytes : List ℕ) → is_timer_name name ≡ true → is_too_large bytes ≡ false → IsUtf8 bytes → timer_reading name bytes ≡ timer_of_lines name (map (λ line. (line.0, trimmed line.1)) (whole_lines bytes))
+pub timer_of_text :
+    (name bytes : List ℕ) → is_timer_name name ≡ true → is_too_large bytes ≡ false → IsUtf8 bytes →
+    timer_reading name bytes ≡ timer_of_lines name (map (λ line. (line.0, trimmed line.1)) (whole_lines bytes))
 timer_of_text name bytes named few utf8 = rw (named, few, is_utf8-from_IsUtf8 bytes utf8) refl
 
-pub timer_of_no_text : (name bytes : List ℕ) → is_timer_name name ≡ true → is_too_large bytes ≡ false → (IsUtf8 bytes → ⊥) → timer_reading name bytes ≡ Err (fault_on_line 0 NotUtf8)
+pub timer_of_no_text :
+    (name bytes : List ℕ) → is_timer_name name ≡ true → is_too_large bytes ≡ false → (IsUtf8 bytes → ⊥) →
+    timer_reading name bytes ≡ Err (fault_on_line 0 NotUtf8)
 timer_of_no_text name bytes named few other =
     rw (named, few, not_utf8 (is_utf8 bytes) bytes refl other) refl
 
 -- the whole lines that are held, without blanks at their ends
-pub trimmed_lines : (lines : List WholeLine) → map {B = ℕ × List ℕ} (λ line. (line.number, trimmed (string_bytes line.text))) lines ≡ map {B = ℕ × List ℕ} (λ line. (line.0, trimmed line.1)) (map whole_text lines)
+pub trimmed_lines :
+    (lines : List WholeLine) →
+    map {B = ℕ × List ℕ} (λ line. (line.number, trimmed (string_bytes line.text))) lines ≡
+    map {B = ℕ × List ℕ} (λ line. (line.0, trimmed line.1)) (map whole_text lines)
 trimmed_lines [] = refl
 trimmed_lines (line ∷ more) = ap (λ rest. (line.number, trimmed (string_bytes line.text)) ∷ rest) (trimmed_lines more)

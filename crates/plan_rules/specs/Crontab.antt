@@ -6,11 +6,12 @@ use Rattle.std.specs.List.{list_any, filter_map, enumerate_from}
 use Rattle.std.specs.Str.{byte, is_utf8}
 use Rattle.plan_rules.specs.declared.crontabs.Kind.{Kind}
 use Rattle.plan_rules.specs.declared.crontabs.Kind.TheVariants.{User, System}
-use Rattle.plan_texts.specs.declared.fault.RuleCause.TheVariants.{WrongParts}
+use Rattle.plan_grammar.specs.declared.fault.RuleCause.TheVariants.{WrongParts}
 use Rattle.plan_rules.specs.declared.line_fault.LineCause.TheVariants.{TooLarge, NotUtf8, BadSetting, NoCommand}
 use Rattle.plan_match.specs.declared.rule.Rule.{Rule}
 use Rattle.plan_texts.specs.Text.{begins_with}
-use Rattle.plan_texts.specs.Steps.{Reading, ◌>>=◌, each}
+use Rattle.plan_texts.specs.Steps.{◌>>=◌, each}
+use Rattle.plan_grammar.specs.Readings.{Reading}
 use Rattle.plan_grammar.specs.Cron.{five_fields, at_word, found_reading}
 use Rattle.plan_texts.specs.Lines.{is_too_large, lines, after_blanks, cut_word}
 use Rattle.plan_rules.specs.LineFaults.{LineReading, TextReading, in_line, on_line}

@@ -6,6 +6,7 @@ pub use Rattle.plan_match.specs.EventMatch
 pub use Rattle.plan_match.specs.Match
 pub use Rattle.plan_match.specs.WithinLimits
 pub use Rattle.plan_match.specs.Equal
+pub use Rattle.plan_grammar.specs.Readings
 pub use Rattle.plan_grammar.specs.Cron
 pub use Rattle.plan_grammar.specs.Event
 pub mod Limits
@@ -15,3 +16,4 @@ pub mod Crontab
 pub mod Jobs
 pub mod Timer
 pub mod TimerSteps
+pub mod Causes

@@ -1,12 +1,13 @@
 -- What a line means or what is wrong with it.
 use Rattle.std.specs.Prelude.{◌≢◌, ℕ, Result, Ok, Err}
-use Rattle.plan_texts.specs.declared.fault.RuleFault.{RuleFault}
-use Rattle.plan_texts.specs.declared.fault.RuleCause.{RuleCause}
-use Rattle.plan_texts.specs.declared.fault.RuleCause.TheVariants as cause
+use Rattle.plan_grammar.specs.declared.fault.RuleFault.{RuleFault}
+use Rattle.plan_grammar.specs.declared.fault.RuleCause.{RuleCause}
+use Rattle.plan_grammar.specs.declared.fault.RuleCause.TheVariants as cause
 use Rattle.plan_rules.specs.declared.line_fault.LineCause.{LineCause}
 use Rattle.plan_rules.specs.declared.line_fault.LineCause.TheVariants.{NoMemory, Rule}
 use Rattle.plan_rules.specs.declared.line_fault.LineFault.{LineFault}
-use Rattle.plan_texts.specs.Steps.{Reading, GivesUnless}
+use Rattle.plan_texts.specs.Steps.{GivesUnless}
+use Rattle.plan_grammar.specs.Readings.{Reading}
 
 -- ---- faults of lines
 

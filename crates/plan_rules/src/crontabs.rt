@@ -4,17 +4,18 @@ ghost use Rattle.std.specs.Prelude.{◌≡◌, ◌≤◌, ◌↔◌, Bool, false
 ghost use Rattle.std.specs.Result.{result_map_both};
 ghost use Rattle.std.specs.Str.{is_utf8};
 ghost use Rattle.plan_texts.specs.Limits.{most_bytes};
-ghost use Rattle.plan_texts.specs.Steps.{GivesBy, GivesUnless};
+ghost use Rattle.plan_texts.specs.Steps.{GivesUnless};
+ghost use Rattle.plan_grammar.specs.Readings.{GivesBy};
 ghost use Rattle.plan_texts.specs.Lines.{after_blanks, is_too_large};
 ghost use Rattle.plan_rules.specs.LineFaults.{on_line, of_whole, want_of_memory, GivesLine, IsOwnCause};
 ghost use Rattle.plan_rules.specs.Crontab.{rule_in_front, at_word_in_front, fields_in_front, command_reading, what_reading, job_name, job_reading, begins_setting, setting_reading, line_reading, jobs_reading, crontab_reading};
 
 use crate::job::Job;
 use crate::line_fault::{LineCause, LineFault};
-use plan_grammar::{WRONG_PARTS, at_rule, five_fields};
+use plan_grammar::{RuleFault, WRONG_PARTS, at_rule, five_fields};
 use plan_match::Rule;
+use plan_texts::begins_with;
 use plan_texts::lines::{after_blanks, cut_word, is_too_large, lines};
-use plan_texts::{RuleFault, begins_with};
 use std::alloc::{AllocError, Global};
 use std::sync::Arc;
 

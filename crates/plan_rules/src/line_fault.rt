@@ -1,38 +1,30 @@
 //! Why a text of lines is refused: its first bad line, and what is wrong with it.
 
-use plan_texts::{RuleCause, RuleFault};
+use plan_grammar::{RuleCause, RuleFault};
 use std::alloc::{AllocError, AllocFailed};
 use thiserror::Error;
 
 /// What is wrong with a line.
 #[derive(Clone, Copy, Debug, PartialEq, Eq, Error)]
+#[error("{}", self.name())]
 pub enum LineCause {
     /// 1: memory was refused; its line is 0.
-    #[error("NoMemory")]
     NoMemory,
     /// 2: the bytes are no UTF-8; its line is 0.
-    #[error("NotUtf8")]
     NotUtf8,
     /// 3: there are more than 1,048,576 bytes; its line is 0.
-    #[error("TooLarge")]
     TooLarge,
     /// 4: a setting holds no `=`.
-    #[error("BadSetting")]
     BadSetting,
     /// 5: a cron rule or a calendar event is refused, with its fault, whose cause is never `NoMemory`.
-    #[error("{0}")]
     Rule(RuleFault),
     /// 6: a job has no command, or no user and command.
-    #[error("NoCommand")]
     NoCommand,
     /// 7: the file's name is no name of a timer; its line is 0.
-    #[error("BadTimerName")]
     BadTimerName,
     /// 8: a timer file has no `[Timer]` section; its line is 0.
-    #[error("NoTimerSection")]
     NoTimerSection,
     /// 9: the list of a timer's events would hold more than 64.
-    #[error("TooManyLines")]
     TooManyLines,
 }
 
@@ -49,6 +41,24 @@ pub struct LineFault {
 impl LineCause {
     ghost use Rattle.std.specs.Prelude.{◌≡◌};
     ghost use Rattle.plan_rules.specs.LineFaults.{fault_on_line};
+    ghost use Rattle.plan_rules.specs.Causes.{line_cause};
+
+    /// Its name, as fault lines show it; that of a rule is the name of what is wrong with it.
+    pub fn name(&self) -> &'static str
+        ensures { result.now ≡ line_cause self.now }
+    {
+        match self {
+            LineCause::NoMemory => "NoMemory",
+            LineCause::NotUtf8 => "NotUtf8",
+            LineCause::TooLarge => "TooLarge",
+            LineCause::BadSetting => "BadSetting",
+            LineCause::Rule(fault) => fault.cause.name(),
+            LineCause::NoCommand => "NoCommand",
+            LineCause::BadTimerName => "BadTimerName",
+            LineCause::NoTimerSection => "NoTimerSection",
+            LineCause::TooManyLines => "TooManyLines",
+        }
+    }
 
     // The fault of a line, from 1, or of the whole text, 0. A want of memory is the whole text's.
     pub(crate) fn on_line(self, line: u32) -> LineFault

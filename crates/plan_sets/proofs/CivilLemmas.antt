@@ -1,4 +1,6 @@
 -- What jiff gives is the civil fields, and their numbers fit where they are cast.
+-- For `date_of_day`, `day_number`, `fields_of`, `second_of`, and the cast of `read_moment`. The day numbers of the
+-- first and the last year bound those between, and a cast keeps a number that fits (`to_z-of_z`).
 use Rattle.std.proofs.Common.{◌≡◌, ℕ, ◌+◌, ◌/◌, ◌%◌, ◌≤◌, refl, arith, FitsSigned, of_z, to_z, to_z-of_z, w64, ℤ, pos, negsuc, ◌<ℤ◌, ◌≤ℤ◌, unsigned_abs}
 use Rattle.std.proofs.lemmas.Int.{by_lt_z}
 use Rattle.jiff_core.specs.Calendar.{IsCivilDate, IsDate}
@@ -11,7 +13,9 @@ use Rattle.plan_sets.specs.Civil.{second_number, IsCivilOf, IsDateTime, IsDateTi
 use Rattle.plan_sets.specs.CivilLaws.{days_from_civil-before_year, days_from_civil-end, days_from_civil-first, days_from_civil-from_year}
 
 -- a date and time in the planner's years is one of its seconds
-pub second_number-bounds : (year month day hour minute second : ℕ) → IsDateTimeInYears year month day hour minute second → (pos 0 ≤ℤ second_number year month day hour minute second) × (second_number year month day hour minute second <ℤ pos end_second)
+pub second_number-bounds :
+    (year month day hour minute second : ℕ) → IsDateTimeInYears year month day hour minute second →
+    (pos 0 ≤ℤ second_number year month day hour minute second) × (second_number year month day hour minute second <ℤ pos end_second)
 second_number-bounds year month day hour minute second h =
     let low = days_from_civil-from_year first_year year month day h.1.0 h.0.0 in
     let high = days_from_civil-before_year year month day (last_year + 1) h.1.0 (omega arith) in
@@ -28,7 +32,14 @@ epoch_day-epoch d (year, month, day) =
 pub year-from_epoch : (d : Date) (n : ℕ) → epoch_day d ≡ pos n → pos 0 ≤ℤ d.year
 year-from_epoch d n e =
     by_lt_z d.year (pos first_year)
-    (λ lt. absurd (omega (arith, signed_arith, days_from_civil-day_count, days_from_civil-first, day_count-lt_year d.year d.month d.day (pos first_year) 1 1 (d.year_in, d.month_in, d.day_in) (omega arith) lt)))
+    (λ lt. absurd (omega (
+      arith,
+      signed_arith,
+      days_from_civil-day_count,
+      days_from_civil-first,
+      day_count-lt_year d.year d.month
+          d.day (pos first_year) 1 1 (d.year_in, d.month_in, d.day_in) (omega arith) lt,
+    )))
     (λ le. omega (arith, signed_arith))
 
 pos-unsigned_abs : (z : ℤ) → pos 0 ≤ℤ z → pos (unsigned_abs z) ≡ z
@@ -49,7 +60,18 @@ IsCast-second z low high =
     record { back = back; same = rw back same; fits = rw back (omega (arith, signed_arith)) }
 
 -- the date with a second's day number gives its fields
-pub IsCivilOf-date : (n : ℕ) (d : Date) → epoch_day d ≡ pos (n / seconds_a_day) → IsCivilOf n (record { year = unsigned_abs d.year; month = d.month; day = d.day; weekday = (n / seconds_a_day + 3) % 7; hour = n % seconds_a_day / 3600; minute = n % seconds_a_day / 60 % 60; second = n % seconds_a_day % 60 })
+pub IsCivilOf-date :
+    (n : ℕ) (d : Date) → epoch_day d ≡ pos (n / seconds_a_day) →
+    IsCivilOf n (record {
+      year = unsigned_abs d.year;
+      month = d.month;
+      day = d.day;
+      weekday = (n / seconds_a_day + 3) % 7;
+      hour =
+          n % seconds_a_day / 3600;
+      minute = n % seconds_a_day / 60 % 60;
+      second = n % seconds_a_day % 60;
+    })
 IsCivilOf-date n d e =
     let low = year-from_epoch d (n / seconds_a_day) e in
     let year = pos-unsigned_abs d.year low in
@@ -67,14 +89,19 @@ same_civil_date y y₂ m m₂ d d₂ year month day h = rw (← year, ← month,
 -- a date's year, month and day are ones that the calendar has
 pub IsCivilDate-date : (date : Date) (year month day : ℕ) → IsYmd (pos year) (pos month) (pos day) date → IsCivilDate (pos year) month day
 IsCivilDate-date date year month day (same_year, same_month, same_day) =
-    same_civil_date _ _ _ _ _ _ same_year (omega (arith, signed_arith)) (omega (arith, signed_arith)) (date.year_in, date.month_in, date.day_in)
+    same_civil_date _ _ _ _ _ _ same_year (omega (arith, signed_arith)) (omega (arith, signed_arith))
+    (date.year_in, date.month_in, date.day_in)
 
 -- and what the calendar has, the constructor of dates takes
-pub IsDate-civil : (y m d : ℤ) (year month day : ℕ) → y ≡ pos year → m ≡ pos month → d ≡ pos day → IsCivilDate (pos year) month day → IsDate y m d
+pub IsDate-civil :
+    (y m d : ℤ) (year month day : ℕ) → y ≡ pos year → m ≡ pos month → d ≡ pos day → IsCivilDate (pos year) month day → IsDate y m d
 IsDate-civil y m d year month day same_year same_month same_day h =
-    rw (same_year, same_month, same_day) (h.0, (omega (arith, signed_arith), omega (arith, signed_arith)), (omega (arith, signed_arith), omega (arith, signed_arith)))
+    rw (same_year, same_month, same_day)
+    (h.0, (omega (arith, signed_arith), omega (arith, signed_arith)), (omega (arith, signed_arith), omega (arith, signed_arith)))
 
 -- the number of any date and time fits 64 bits
-pub second_number-fits : (year month day hour minute second : ℕ) → IsDateTime year month day hour minute second → FitsSigned w64 (second_number year month day hour minute second)
+pub second_number-fits :
+    (year month day hour minute second : ℕ) → IsDateTime year month day hour minute second →
+    FitsSigned w64 (second_number year month day hour minute second)
 second_number-fits year month day hour minute second is =
     omega (arith, signed_arith, days_from_civil-day_count, day_count_bounds (pos year) month day is.0)

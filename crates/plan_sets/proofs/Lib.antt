@@ -1,5 +1,6 @@
 pub mod CivilLemmas
 mod CivilRows
+pub mod FirstLemmas
 pub mod ItemsLemmas
 pub mod MomentLemmas
 mod MomentRows

@@ -1,4 +1,6 @@
 -- What a text of a moment's form says, and that it says one thing alone.
+-- For `read_moment`, clauses `ok` and `accepted`, and `Fields::read`, clause `some` (two digits as a number). The bytes
+-- at known places give each number back; `moment_text_of` is unfolded to the text that the civil fields write.
 use Rattle.std.proofs.Common.{◌≡◌, ℕ, ◌+◌, ◌/◌, ◌%◌, ◌<◌, ◌≤◌, List, [], ◌∷◌, get_or, ap, arith, pos, refl, subst, sym, ◌∙◌}
 use Rattle.jiff_core.proofs.CalendarLemmas.{days_in_month_bounds}
 use Rattle.plan_sets.specs.Limits.{end_second}
@@ -19,9 +21,13 @@ AreDigits-two_digits tens ones n (small, same) = record {
   ones_is = ap (λ (l : List ℕ). get_or l 1 0) same;
 }
 
-same_written : (v w : Written) → v.year ≡ w.year → v.month ≡ w.month → v.day ≡ w.day → v.hour ≡ w.hour → v.minute ≡ w.minute → v.second ≡ w.second → v ≡ w
+same_written :
+    (v w : Written) → v.year ≡ w.year → v.month ≡ w.month → v.day ≡ w.day → v.hour ≡ w.hour → v.minute ≡ w.minute →
+    v.second ≡ w.second → v ≡ w
 same_written v w year month day hour minute second =
-    let same : ◌≡◌ {A = Written} (record { year = v.year; month = v.month; day = v.day; hour = v.hour; minute = v.minute; second = v.second }) w = rw (year, month, day, hour, minute, second) refl in
+    let same : ◌≡◌ {A = Written} (record
+    { year = v.year; month = v.month; day = v.day; hour = v.hour; minute = v.minute; second = v.second }) w = rw
+    (year, month, day, hour, minute, second) refl in
     same
 
 same_number : (a b : ℕ) → 48 + a / 10 ≡ 48 + b / 10 → 48 + a % 10 ≡ 48 + b % 10 → a ≡ b
@@ -34,7 +40,8 @@ Says-unique text v w p q =
     let at : (k : ℕ) → get_or (written_text v) k 0 ≡ get_or (written_text w) k 0 = λ k. ap (λ (l : List ℕ). get_or l k 0) e in
     let century = same_number (v.year / 100) (w.year / 100) (at 0) (at 1) in
     let rest = same_number (v.year % 100) (w.year % 100) (at 2) (at 3) in
-    same_written v w (omega arith) (same_number _ _ (at 5) (at 6)) (same_number _ _ (at 8) (at 9)) (same_number _ _ (at 11) (at 12)) (same_number _ _ (at 14) (at 15)) (same_number _ _ (at 17) (at 18))
+    same_written v w (omega arith) (same_number _ _ (at 5) (at 6)) (same_number _ _ (at 8) (at 9)) (same_number _ _ (at 11) (at 12))
+    (same_number _ _ (at 14) (at 15)) (same_number _ _ (at 17) (at 18))
 
 -- the text of a second says its fields
 pub Says-moment_text_of : (text : List ℕ) (n : ℕ) → n ≤ end_second → text ≡ moment_text_of n → Says text (written_of (civil_fields n))
@@ -47,7 +54,9 @@ Says-moment_text_of text n h e =
     record { room = omega arith; text_is = e }
 
 -- so a text of a second that says a date and time says one that exists, with that number
-pub Says-second : (text : List ℕ) (n : ℕ) (w : Written) → n ≤ end_second → text ≡ moment_text_of n → Says text w → IsInCalendar w × (number_of w ≡ pos n)
+pub Says-second :
+    (text : List ℕ) (n : ℕ) (w : Written) → n ≤ end_second → text ≡ moment_text_of n → Says text w →
+    IsInCalendar w × (number_of w ≡ pos n)
 Says-second text n w h e says =
     let is = IsCivilOf-civil_fields n h in
     let same : w ≡ written_of (civil_fields n) = Says-unique text w (written_of (civil_fields n)) says (Says-moment_text_of text n h e) in
@@ -55,9 +64,12 @@ Says-second text n w h e says =
     subst P (sym same) ((is.date, is.time), second_number-civil n (civil_fields n) is)
 
 -- and a text that says a date and time with the number of a second is its text
-pub moment_text_of-number : (text : List ℕ) (n : ℕ) (w : Written) → n ≤ end_second → Says text w → IsInCalendar w → pos n ≡ number_of w → text ≡ moment_text_of n
+pub moment_text_of-number :
+    (text : List ℕ) (n : ℕ) (w : Written) → n ≤ end_second → Says text w → IsInCalendar w → pos n ≡ number_of w →
+    text ≡ moment_text_of n
 unfolding moment_text_of
 moment_text_of-number text n w h says exists e =
     let shows = Shows-civil_fields n w.year w.month w.day w.hour w.minute w.second h exists e in
-    let same : written_of (civil_fields n) ≡ w = same_written (written_of (civil_fields n)) w shows.0 shows.1 shows.2 shows.3 shows.4 shows.5 in
+    let same : written_of (civil_fields n) ≡ w = same_written (written_of (civil_fields n)) w shows.0 shows.1 shows.2 shows.3
+    shows.4 shows.5 in
     says.text_is ∙ ap written_text (sym same)

@@ -1,4 +1,6 @@
 -- Known moments, and texts that are none, as theorems of the definitions.
+-- They answer no function, but try `moment_text_of` and `HasFault` themselves. The texts of seconds are computed; a
+-- text is refused by its length, by one of its bytes, or by the date and time that it says.
 use Rattle.std.proofs.Common.{◌≡◌, ℕ, ◌<◌, List, ap, arith, get_or, inl, inr, length, refl, rules}
 use Rattle.std.specs.Prelude.{codes}
 use Rattle.jiff_core.proofs.SignedLemmas.{signed_arith}

@@ -1,4 +1,6 @@
 -- What a set holds whose members are the numbers of its span that pass a test on their distance from the base.
+-- For the functions of `ValueSet` and its `==`, where the test is that a bit is 1. All rests on `has_value-values_at`:
+-- a member lies in the span and passes. The cases are below the base, within the span, and past it.
 use Rattle.std.proofs.Common.{◌≡◌, ℕ, ◌+◌, ◌-◌, ◌<◌, ◌≤◌, Bool, true, false, ◌&&◌, ◌||◌, nat_eq, refl, ap, sym, ◌∙◌, arith, inl, inr}
 use Rattle.std.specs.Ordering.{nat_cmp}
 use Rattle.std.specs.FinSet as set
@@ -42,7 +44,8 @@ module _ (lo : ℕ) (test : ℕ → Bool) (s : Values) (is : values_at lo test �
       ]
 
   -- where no distance from v on up to an end passes, no member lies there
-  pub no_value_before : (v end : ℕ) → ((k : ℕ) → v - lo ≤ k → k < end → test k ≡ false) → (u : ℕ) → v ≤ u → u < lo + end → has_value s u ≡ false
+  pub no_value_before :
+      (v end : ℕ) → ((k : ℕ) → v - lo ≤ k → k < end → test k ≡ false) → (u : ℕ) → v ≤ u → u < lo + end → has_value s u ≡ false
   no_value_before v end none u from to =
       elim (cases_lt u lo) [
         | inl below ↦ has_value-below u below
@@ -50,7 +53,8 @@ module _ (lo : ℕ) (test : ℕ → Bool) (s : Values) (is : values_at lo test �
       ]
 
   -- and where the whole span was looked at, none lies from v on
-  pub no_value_from : (v end : ℕ) → set_span ≤ end → ((k : ℕ) → v - lo ≤ k → k < end → test k ≡ false) → (u : ℕ) → v ≤ u → has_value s u ≡ false
+  pub no_value_from :
+      (v end : ℕ) → set_span ≤ end → ((k : ℕ) → v - lo ≤ k → k < end → test k ≡ false) → (u : ℕ) → v ≤ u → has_value s u ≡ false
   no_value_from v end whole none u from =
       elim (cases_lt u (lo + end)) [
         | inl before ↦ no_value_before v end none u from before
@@ -71,7 +75,9 @@ module _ (lo : ℕ) (test : ℕ → Bool) (s : Values) (is : values_at lo test �
       sym (has_value-distance k room) ∙ ap (λ m. set.contains m (lo + k)) empty ∙ set.contains-empty nat_cmp (lo + k)
 
   -- a test that one distance more passes is for the set with that number more
-  pub values_at-with_value : (v : ℕ) (more : ℕ → Bool) → lo ≤ v → v < lo + set_span → ((k : ℕ) → more k ≡ (nat_eq k (v - lo) || test k)) → values_at lo more ≡ with_value s v
+  pub values_at-with_value :
+      (v : ℕ) (more : ℕ → Bool) → lo ≤ v → v < lo + set_span → ((k : ℕ) → more k ≡ (nat_eq k (v - lo) || test k)) →
+      values_at lo more ≡ with_value s v
   values_at-with_value v more from to added =
       same_values _ _ (base-values_where lo set_span (λ u. more (u - lo)) ∙ sym base-values_at)
       (λ u. has_value-values_where lo set_span (λ w. more (w - lo)) u
@@ -80,7 +86,9 @@ module _ (lo : ℕ) (test : ℕ → Bool) (s : Values) (is : values_at lo test �
       ∙ ap (λ b. nat_eq u v || b) (sym (has_value-values_at u))
       ∙ sym (has_value-with_value s v u))
     where
-      member : (u : ℕ) (b : Bool) → (is_among lo set_span u && (nat_eq (u - lo) (v - lo) || b)) ≡ (nat_eq u v || (is_among lo set_span u && b))
+      member :
+          (u : ℕ) (b : Bool) →
+          (is_among lo set_span u && (nat_eq (u - lo) (v - lo) || b)) ≡ (nat_eq u v || (is_among lo set_span u && b))
       member u b =
           elim (cases_Bool (is_among lo set_span u)) [
             | inl among ↦ rw among (grind (arith, nat_tests))
@@ -88,10 +96,13 @@ module _ (lo : ℕ) (test : ℕ → Bool) (s : Values) (is : values_at lo test �
           ]
 
 -- two such sets with one base are the same where the same distances within the span pass their tests
-pub same_tests : (lo lo₂ : ℕ) (test test₂ : ℕ → Bool) (s t : Values) → values_at lo test ≡ s → values_at lo₂ test₂ ≡ t → lo ≡ lo₂ → ((k : ℕ) → k < set_span → test k ≡ test₂ k) → s ≡ t
+pub same_tests :
+    (lo lo₂ : ℕ) (test test₂ : ℕ → Bool) (s t : Values) → values_at lo test ≡ s → values_at lo₂ test₂ ≡ t → lo ≡ lo₂ →
+    ((k : ℕ) → k < set_span → test k ≡ test₂ k) → s ≡ t
 same_tests lo lo₂ test test₂ s t is_s is_t bases same =
     same_values s t (base-values_at lo test s is_s ∙ bases ∙ sym (base-values_at lo₂ test₂ t is_t))
-    (λ u. has_value-values_at lo test s is_s u ∙ within u ∙ ap (λ b. is_among b set_span u && test₂ (u - b)) bases ∙ sym (has_value-values_at lo₂ test₂ t is_t u))
+    (λ u. has_value-values_at lo test s is_s u ∙ within u ∙ ap (λ b. is_among b set_span u && test₂ (u - b)) bases ∙ sym
+    (has_value-values_at lo₂ test₂ t is_t u))
   where
     within : (u : ℕ) → (is_among lo set_span u && test (u - lo)) ≡ (is_among lo set_span u && test₂ (u - lo))
     within u =

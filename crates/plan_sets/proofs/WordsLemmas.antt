@@ -1,4 +1,6 @@
 -- The bits of a row of words: one more, the first from a place on, and that they tell the words apart.
+-- For `ValueSet`: one more for `insert`, the first for `first_from`, `Decides-words` for `==` and `is_empty`. Bit k is
+-- bit k % word_bits of word k / word_bits; where one is set, the case to look at is another bit of the same word.
 use Rattle.std.proofs.Common.{◌≡◌, ℕ, ◌+◌, ◌-◌, ◌*◌, ◌/◌, ◌%◌, ◌^◌, ◌<◌, ◌≤◌, Decides, true, false, ◌||◌, ◌==◌, ◌≢◌, nat_eq, List, length, get_or, ap, sym, ◌∙◌, arith, inl, inr, bit_or, replicate, get_or-set_same, get_or-set_other}
 use lib.ListN.{set as put}
 use Rattle.std.specs.Cmp.Lexicographic.{pointwise, bytes_decides}
@@ -27,7 +29,9 @@ abbrev pub marked_more : List ℕ → ℕ → List ℕ
 marked_more words k =
     put words (k / word_bits) (bit_or (get_or words (k / word_bits) 0) (1 * 2 ^ (k % word_bits) % 2 ^ word_bits))
 
-pub is_marked-more : (words : List ℕ) (k j : ℕ) → k / word_bits < length words → is_marked (marked_more words k) j ≡ (nat_eq j k || is_marked words j)
+pub is_marked-more :
+    (words : List ℕ) (k j : ℕ) → k / word_bits < length words →
+    is_marked (marked_more words k) j ≡ (nat_eq j k || is_marked words j)
 is_marked-more words k j within =
     let at = k / word_bits in
     let bit = k % word_bits in
@@ -35,7 +39,8 @@ is_marked-more words k j within =
     let more = bit_or word (1 * 2 ^ bit % 2 ^ word_bits) in
     elim (cases_eq (j / word_bits) at) [
       | inl same ↦
-          let read : get_or (put words at more) (j / word_bits) 0 ≡ more = ap (λ i. get_or (put words at more) i 0) same ∙ get_or-set_same words at more 0 within in
+          let read : get_or (put words at more) (j / word_bits) 0 ≡ more = ap (λ i. get_or (put words at more) i 0) same
+          ∙ get_or-set_same words at more 0 within in
           let before : get_or words (j / word_bits) 0 ≡ word = ap (λ i. get_or words i 0) same in
           elim (cases_eq (j % word_bits) bit) [
             | inl here ↦
@@ -43,7 +48,8 @@ is_marked-more words k j within =
                 let this : nat_eq j k ≡ true = grind (arith, nat_tests) in
                 ap (λ w. bit_at w (j % word_bits) == 1) read ∙ ap (λ b. b == 1) one ∙ sym (ap (λ b. b || is_marked words j) this)
             | inr apart ↦
-                let kept : bit_at more (j % word_bits) ≡ bit_at word (j % word_bits) = bit_at_set_other w128 word bit (omega arith) (j % word_bits) apart in
+                let kept : bit_at more (j % word_bits) ≡ bit_at word (j % word_bits) = bit_at_set_other w128 word bit (omega arith)
+                (j % word_bits) apart in
                 let other : nat_eq j k ≡ false = grind (arith, nat_tests) in
                 ap (λ w. bit_at w (j % word_bits) == 1) read ∙ ap (λ b. b == 1) kept ∙ ap (λ w. bit_at w (j % word_bits) == 1) (sym before)
                 ∙ sym (ap (λ b. b || is_marked words j) other)
@@ -59,11 +65,14 @@ bit_at-shr : (n below i : ℕ) → bit_at (n / 2 ^ below) i ≡ bit_at n (below 
 bit_at-shr n below i = ap (λ x. x % 2) (shr-shr n below i)
 
 -- a word with nothing from a place on has no bit there
-pub none_in_word : (words : List ℕ) (k below j : ℕ) → get_or words k 0 / 2 ^ below ≡ 0 → j / word_bits ≡ k → below ≤ j % word_bits → is_marked words j ≡ false
+pub none_in_word :
+    (words : List ℕ) (k below j : ℕ) → get_or words k 0 / 2 ^ below ≡ 0 → j / word_bits ≡ k → below ≤ j % word_bits →
+    is_marked words j ≡ false
 none_in_word words k below j none same from =
     let i = j % word_bits in
     let place : below + (i - below) ≡ i = omega arith in
-    let zero_there : bit_at (get_or words k 0) i ≡ 0 = ap (bit_at (get_or words k 0)) (sym place) ∙ sym (bit_at-shr (get_or words k 0) below (i - below)) ∙ ap (λ w. bit_at w (i - below)) none ∙ bit_at-zero (i - below) in
+    let zero_there : bit_at (get_or words k 0) i ≡ 0 = ap (bit_at (get_or words k 0)) (sym place) ∙ sym
+    (bit_at-shr (get_or words k 0) below (i - below)) ∙ ap (λ w. bit_at w (i - below)) none ∙ bit_at-zero (i - below) in
     ap (λ a. bit_at (get_or words a 0) i == 1) same ∙ ap (λ b. b == 1) zero_there
 
 -- the first bit of a word from a place on
@@ -73,7 +82,9 @@ pub record IsFirstBit (word below bit : ℕ) : Type 0 where
   pub is_one : bit_at word bit ≡ 1
   pub none : (i : ℕ) → below ≤ i → i < bit → bit_at word i ≡ 0
 
-pub IsFirstBit-trailing_zeros : (word below : ℕ) → word < 2 ^ word_bits → 0 < word / 2 ^ below → IsFirstBit word below (below + trailing_zeros w128 (word / 2 ^ below))
+pub IsFirstBit-trailing_zeros :
+    (word below : ℕ) → word < 2 ^ word_bits → 0 < word / 2 ^ below →
+    IsFirstBit word below (below + trailing_zeros w128 (word / 2 ^ below))
 IsFirstBit-trailing_zeros word below fits some =
     let rest = word / 2 ^ below in
     let t = trailing_zeros w128 rest in
@@ -96,7 +107,9 @@ same_bit : (a b i : ℕ) → (bit_at a i == 1) ≡ (bit_at b i == 1) → bit_at 
 same_bit a b i same = grind (arith, nat_tests, bit_at-lt a i, bit_at-lt b i)
 
 -- rows with the same bits are the same
-pub same_words : (xs ys : List ℕ) → length xs ≡ length ys → AreWords xs → AreWords ys → ((k : ℕ) → k < length xs * word_bits → is_marked xs k ≡ is_marked ys k) → xs ≡ ys
+pub same_words :
+    (xs ys : List ℕ) → length xs ≡ length ys → AreWords xs → AreWords ys →
+    ((k : ℕ) → k < length xs * word_bits → is_marked xs k ≡ is_marked ys k) → xs ≡ ys
 same_words xs ys long fits_x fits_y each =
     same_number_lists xs ys long (λ w within.
     same_from_bits_below word_bits (get_or xs w 0) (get_or ys w 0) (fits_x w) (fits_y w) (λ i low.
@@ -122,10 +135,6 @@ get_or-zeros n w =
 pub AreWords-zeros : (n : ℕ) → AreWords (zeros n)
 AreWords-zeros n w = omega (arith, get_or-zeros n w)
 
--- they use no word
-pub AreUnused-zeros : (n : ℕ) → AreUnused (zeros n) 0
-AreUnused-zeros n w _ = get_or-zeros n w
-
 -- in them no bit is 1
 pub is_marked-zeros : (n k : ℕ) → is_marked (zeros n) k ≡ false
 is_marked-zeros n k =
@@ -140,23 +149,33 @@ AreWords-more words k within are w =
     let fits : more < 2 ^ word_bits = or_lt word_bits _ _ (are at) mask in
     elim (cases_eq w at) [
       | inl same ↦
-          let read : get_or (put words at more) w 0 ≡ more = ap (λ i. get_or (put words at more) i 0) same ∙ get_or-set_same words at more 0 within in
+          let read : get_or (put words at more) w 0 ≡ more = ap (λ i. get_or (put words at more) i 0) same
+          ∙ get_or-set_same words at more 0 within in
           omega (arith, read, fits)
       | inr other ↦ omega (arith, get_or-set_other words at w more 0 other, are w)
     ]
 
 -- nor does it use a word past its own
-pub AreUnused-more : (words : List ℕ) (used more k : ℕ) → AreUnused words used → used ≤ more → k / word_bits < more → AreUnused (marked_more words k) more
+pub AreUnused-more :
+    (words : List ℕ) (used more k : ℕ) → AreUnused words used → used ≤ more → k / word_bits < more →
+    AreUnused (marked_more words k) more
 AreUnused-more words used more k unused no_less within w past =
     let at = k / word_bits in
     let other : w ≢ at = λ same. omega (arith, same, past) in
-    omega (arith, get_or-set_other words at w (bit_or (get_or words at 0) (1 * 2 ^ (k % word_bits) % 2 ^ word_bits)) 0 other, unused w (omega (arith, past)))
+    omega (
+      arith,
+      get_or-set_other words at w (bit_or (get_or words at 0) (1 * 2 ^ (k % word_bits) % 2 ^ word_bits)) 0 other,
+      unused
+          w (omega (arith, past)),
+    )
 
 -- the test of two rows of a set's words tells whether they have the same bits
 pub record SameBits (xs ys : List ℕ) : Type 0 where
   pub each : (k : ℕ) → k < set_span → is_marked xs k ≡ is_marked ys k
 
-pub Decides-words : (xs ys : List ℕ) → length xs ≡ word_count → length ys ≡ word_count → AreWords xs → AreWords ys → Decides (pointwise ◌==◌ xs ys) (SameBits xs ys)
+pub Decides-words :
+    (xs ys : List ℕ) → length xs ≡ word_count → length ys ≡ word_count → AreWords xs → AreWords ys →
+    Decides (pointwise ◌==◌ xs ys) (SameBits xs ys)
 Decides-words xs ys long_x long_y are_x are_y =
     let d = bytes_decides xs ys in (
       λ yes. let same : xs ≡ ys = d.0 yes in record { each = λ k _. ap (λ l. is_marked l k) same },

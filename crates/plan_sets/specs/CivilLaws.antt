@@ -22,7 +22,9 @@ record IsInYear (year day : ℕ) (found : ℕ × ℕ) : Type 0 where
 day_count-suc_year : (year : ℕ) → day_count (pos (suc year)) 1 1 ≡ day_count (pos year) 1 1 + days_in_year (pos year)
 day_count-suc_year year = day_count-next_year (pos year) (pos (suc year)) (omega (arith, signed_arith)) (omega (arith, signed_arith))
 
-IsInYear-later : (year day : ℕ) (found : ℕ × ℕ) → days_in_year (pos year) ≤ day → IsInYear (suc year) (day - days_in_year (pos year)) found → IsInYear year day found
+IsInYear-later :
+    (year day : ℕ) (found : ℕ × ℕ) → days_in_year (pos year) ≤ day → IsInYear (suc year) (day - days_in_year (pos year)) found →
+    IsInYear year day found
 IsInYear-later year day found le later = record {
   from = omega arith;
   within = later.within;
@@ -39,7 +41,9 @@ year_and_day-is zero year day h = record {
 }
 year_and_day-is (suc most) year day h =
     let len = days_in_year (pos year) in
-    let step : (b : Bool) → nat_lt day len ≡ b → IsInYear year day (elim b [ true ↦ (year, day) | false ↦ year_and_day most (suc year) (day - len) ]) = λ b. elim b as (λ v. nat_lt day len ≡ v → IsInYear year day (elim v [ true ↦ (year, day) | false ↦ year_and_day most (suc year) (day - len) ])) [
+    let step : (b : Bool) → nat_lt day len ≡ b → IsInYear year day
+    (elim b [ true ↦ (year, day) | false ↦ year_and_day most (suc year) (day - len) ]) = λ b. elim b as
+    (λ v. nat_lt day len ≡ v → IsInYear year day (elim v [ true ↦ (year, day) | false ↦ year_and_day most (suc year) (day - len) ])) [
       | true ↦ λ e. record { from = omega arith; within = (Decides-ltb day len).0 e; count = refl }
       | false ↦ λ e. let le : len ≤ day = omega (arith, not_from_Decides (ltb day len) (Decides-ltb day len) e) in
           IsInYear-later year day _ le (year_and_day-is most (suc year) (day - len) (omega (arith, days_in_year_bounds (pos year))))
@@ -52,7 +56,9 @@ record IsInMonth (year : ℤ) (day : ℕ) (found : ℕ × ℕ) : Type 0 where
   day_in : IsInRange 1 (days_in_month year found.0) found.1
   count : day_of_year year found.0 found.1 ≡ day + 1
 
-month_and_day-is : (most : ℕ) (year : ℤ) (month day before whole : ℕ) → 1 ≤ month → month + most ≡ 12 → before ≡ days_of_months year (month - 1) → before + day ≡ whole → whole < days_in_year year → IsInMonth year whole (month_and_day most year month day)
+month_and_day-is :
+    (most : ℕ) (year : ℤ) (month day before whole : ℕ) → 1 ≤ month → month + most ≡ 12 → before ≡ days_of_months year (month - 1) →
+    before + day ≡ whole → whole < days_in_year year → IsInMonth year whole (month_and_day most year month day)
 unfolding month_and_day
 month_and_day-is zero year month day before whole low sum start place within =
     let last : month ≡ 12 = omega arith in
@@ -63,17 +69,29 @@ month_and_day-is (suc most) year month day before whole low sum start place with
     let len = days_in_month year month in
     let more = days_of_months_more year month low in
     let back : suc month - 1 ≡ month = omega arith in
-    let step : (b : Bool) → nat_lt day len ≡ b → IsInMonth year whole (elim b [ true ↦ (month, day + 1) | false ↦ month_and_day most year (suc month) (day - len) ]) = λ b. elim b as (λ v. nat_lt day len ≡ v → IsInMonth year whole (elim v [ true ↦ (month, day + 1) | false ↦ month_and_day most year (suc month) (day - len) ])) [
+    let step : (b : Bool) → nat_lt day len ≡ b → IsInMonth year whole
+    (elim b [ true ↦ (month, day + 1) | false ↦ month_and_day most year (suc month) (day - len) ]) = λ b. elim b as
+    (λ v. nat_lt day len ≡ v → IsInMonth year whole
+    (elim v [ true ↦ (month, day + 1) | false ↦ month_and_day most year (suc month) (day - len) ])) [
       | true ↦ λ e. let lt = (Decides-ltb day len).0 e in record { month_in = omega arith; day_in = omega arith; count = omega arith }
       | false ↦ λ e. let le : len ≤ day = omega (arith, not_from_Decides (ltb day len) (Decides-ltb day len) e) in
-          month_and_day-is most year (suc month) (day - len) (days_of_months year month) whole (omega arith) (omega arith) (rw back refl) (omega arith) within
+          month_and_day-is most year (suc month) (day - len) (days_of_months year month) whole (omega arith) (omega arith)
+          (rw back refl) (omega arith) within
     ] in
     step (nat_lt day len) refl
 
 -- a date before a year has a smaller day number than the year's first day
-pub days_from_civil-before_year : (year month day later : ℕ) → IsCivilDate (pos year) month day → year < later → days_from_civil (pos year) month day <ℤ days_from_civil (pos later) 1 1
+pub days_from_civil-before_year :
+    (year month day later : ℕ) → IsCivilDate (pos year) month day → year < later →
+    days_from_civil (pos year) month day <ℤ days_from_civil (pos later) 1 1
 days_from_civil-before_year year month day later date lt =
-    omega (arith, signed_arith, days_from_civil-day_count, day_count-lt_year (pos year) month day (pos later) 1 1 date (omega arith) (omega (arith, signed_arith)))
+    omega (
+      arith,
+      signed_arith,
+      days_from_civil-day_count,
+      day_count-lt_year (pos year) month day (pos later) 1 1 date (omega arith)
+          (omega (arith, signed_arith)),
+    )
 
 first_of_later_year : (first year : ℕ) → first ≤ year → day_count (pos first) 1 1 ≤ day_count (pos year) 1 1
 first_of_later_year first year le =
@@ -83,9 +101,18 @@ first_of_later_year first year le =
     ]
 
 -- and one from a year on has none smaller
-pub days_from_civil-from_year : (first year month day : ℕ) → IsCivilDate (pos year) month day → first ≤ year → days_from_civil (pos first) 1 1 ≤ℤ days_from_civil (pos year) month day
+pub days_from_civil-from_year :
+    (first year month day : ℕ) → IsCivilDate (pos year) month day → first ≤ year →
+    days_from_civil (pos first) 1 1 ≤ℤ days_from_civil (pos year) month day
 days_from_civil-from_year first year month day date le =
-    omega (arith, signed_arith, days_from_civil-day_count, first_of_later_year first year le, day_count-day_of_year (pos year) month day date.2.0)
+    omega (
+      arith,
+      signed_arith,
+      days_from_civil-day_count,
+      first_of_later_year first year le,
+      day_count-day_of_year
+          (pos year) month day date.2.0,
+    )
 
 -- the first and the last second begin years
 pub days_from_civil-first : days_from_civil (pos first_year) 1 1 ≡ pos 0
@@ -104,9 +131,19 @@ IsInYear-le_end : (n : ℕ) (found : ℕ × ℕ) → n ≤ end_second → IsInYe
 IsInYear-le_end n found h in_year =
     elim (cases_lt (last_year + 1) found.0) [
       | inl lt ↦
-          let later = day_count-later_year (pos (last_year + 1)) (pos found.0) (omega (arith, signed_arith)) (omega (arith, signed_arith)) in
+          let later = day_count-later_year (pos (last_year + 1)) (pos found.0) (omega (arith, signed_arith))
+          (omega (arith, signed_arith)) in
           let longer = days_in_year_bounds (pos (last_year + 1)) in
-          absurd (omega (arith, signed_arith, days_from_civil-day_count, days_from_civil-end, days_from_civil-first, days_before_end n h, in_year.count))
+          absurd (omega (
+            arith,
+            signed_arith,
+            days_from_civil-day_count,
+            days_from_civil-end,
+            days_from_civil-first,
+            days_before_end
+                n h,
+            in_year.count,
+          ))
       | inr le ↦ le
     ]
 
@@ -119,11 +156,21 @@ IsCivilOf-civil_fields n h =
     let in_year : IsInYear first_year days found = year_and_day-is days first_year days (omega arith) in
     let zeroth = days_of_months-zero (pos found.0) in
     let placed = month_and_day 11 (pos found.0) 1 found.1 in
-    let in_month : IsInMonth (pos found.0) found.1 placed = month_and_day-is 11 (pos found.0) 1 found.1 0 found.1 (omega arith) (omega arith) (sym zeroth) (omega arith) in_year.within in
+    let in_month : IsInMonth (pos found.0) found.1 placed = month_and_day-is 11 (pos found.0) 1 found.1 0 found.1 (omega arith)
+    (omega arith) (sym zeroth) (omega arith) in_year.within in
     let known = IsInYear-le_end n found h in_year in
     record {
       date = ((omega (arith, signed_arith), omega (arith, signed_arith)), in_month.month_in, in_month.day_in);
-      day_number = omega (arith, signed_arith, days_from_civil-day_count, days_from_civil-first, day_count-day_of_year (pos found.0) placed.0 placed.1 in_month.day_in.0, in_month.count, in_year.count);
+      day_number = omega (
+        arith,
+        signed_arith,
+        days_from_civil-day_count,
+        days_from_civil-first,
+        day_count-day_of_year
+            (pos found.0) placed.0 placed.1 in_month.day_in.0,
+        in_month.count,
+        in_year.count,
+      );
       weekday = refl;
       time = omega arith;
       time_of_day = omega arith;
@@ -140,7 +187,9 @@ as_date year month day date = record {
 }
 
 -- two dates with one day number are one date
-pub same_date : (y m d y₂ m₂ d₂ : ℕ) → IsCivilDate (pos y) m d → IsCivilDate (pos y₂) m₂ d₂ → days_from_civil (pos y) m d ≡ days_from_civil (pos y₂) m₂ d₂ → (y ≡ y₂) × (m ≡ m₂) × (d ≡ d₂)
+pub same_date :
+    (y m d y₂ m₂ d₂ : ℕ) → IsCivilDate (pos y) m d → IsCivilDate (pos y₂) m₂ d₂ →
+    days_from_civil (pos y) m d ≡ days_from_civil (pos y₂) m₂ d₂ → (y ≡ y₂) × (m ≡ m₂) × (d ≡ d₂)
 unfolding as_date
 same_date y m d y₂ m₂ d₂ date date₂ e =
     let same = epoch_day_injective (as_date y m d date) (as_date y₂ m₂ d₂ date₂) e in
@@ -154,14 +203,25 @@ IsCivilOf-unique n a b p q =
     let hour : a.hour ≡ b.hour = omega arith in
     let minute : a.minute ≡ b.minute = omega arith in
     let second : a.second ≡ b.second = omega arith in
-    let same : ◌≡◌ {A = Civil} (record { year = a.year; month = a.month; day = a.day; weekday = a.weekday; hour = a.hour; minute = a.minute; second = a.second }) b = rw (date.0, date.1, date.2, weekday, hour, minute, second) refl in
+    let same : ◌≡◌ {A = Civil} (record
+    { year = a.year; month = a.month; day = a.day; weekday = a.weekday; hour = a.hour; minute = a.minute; second = a.second })
+    b = rw (date.0, date.1, date.2, weekday, hour, minute, second) refl in
     same
 
 -- each of the planner's seconds is in its years, but for the end
-pub IsInRange-year : (n : ℕ) (c : Civil) → IsCivilOf n c → n ≤ end_second → IsInRange first_year (last_year + 1) c.year × (n < end_second → c.year ≤ last_year)
+pub IsInRange-year :
+    (n : ℕ) (c : Civil) → IsCivilOf n c → n ≤ end_second →
+    IsInRange first_year (last_year + 1) c.year × (n < end_second → c.year ≤ last_year)
 IsInRange-year n c h le =
     let low : first_year ≤ c.year = elim (cases_lt c.year first_year) [
-      | inl lt ↦ absurd (omega (arith, signed_arith, h.day_number, days_from_civil-first, days_from_civil-before_year c.year c.month c.day first_year h.date lt))
+      | inl lt ↦ absurd (omega (
+        arith,
+        signed_arith,
+        h.day_number,
+        days_from_civil-first,
+        days_from_civil-before_year c.year c.month
+            c.day first_year h.date lt,
+      ))
       | inr ge ↦ ge
     ] in
     let high : c.year ≤ last_year + 1 = elim (cases_lt (last_year + 1) c.year) [
@@ -173,7 +233,14 @@ IsInRange-year n c h le =
       | inr ge ↦ ge
     ] in
     let before_end : n < end_second → c.year ≤ last_year = λ lt. elim (cases_lt last_year c.year) [
-      | inl late ↦ absurd (omega (arith, signed_arith, h.day_number, days_from_civil-end, days_from_civil-from_year (last_year + 1) c.year c.month c.day h.date (omega arith)))
+      | inl late ↦ absurd (omega (
+        arith,
+        signed_arith,
+        h.day_number,
+        days_from_civil-end,
+        days_from_civil-from_year
+            (last_year + 1) c.year c.month c.day h.date (omega arith),
+      ))
       | inr ge ↦ ge
     ] in
     ((low, high), before_end)
@@ -183,7 +250,9 @@ pub second_number-civil : (n : ℕ) (c : Civil) → IsCivilOf n c → second_num
 second_number-civil n c h = rw h.day_number (omega (arith, signed_arith, h.time_of_day))
 
 -- the fields of a second from the epoch to a date and time are these
-pub Shows-civil_fields : (n year month day hour minute second : ℕ) → n ≤ end_second → IsDateTime year month day hour minute second → pos n ≡ second_number year month day hour minute second → Shows (civil_fields n) year month day hour minute second
+pub Shows-civil_fields :
+    (n year month day hour minute second : ℕ) → n ≤ end_second → IsDateTime year month day hour minute second →
+    pos n ≡ second_number year month day hour minute second → Shows (civil_fields n) year month day hour minute second
 Shows-civil_fields n year month day hour minute second h is e =
     let c = IsCivilOf-civil_fields n h in
     let days : days_from_civil (pos year) month day ≡ pos (n / seconds_a_day) = omega (arith, signed_arith) in

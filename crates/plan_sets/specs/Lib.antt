@@ -8,3 +8,4 @@ pub mod MonthsLaws
 pub mod Values
 pub mod ValuesLaws
 pub mod Words
+pub mod Causes

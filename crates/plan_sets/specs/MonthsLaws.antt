@@ -13,43 +13,83 @@ use Rattle.plan_sets.specs.CivilLaws.{days_from_civil-before_year, days_from_civ
 
 -- the month's first day is a date
 IsCivilDate-first : (month : ℕ) → month < 120000 → IsCivilDate (pos (month / 12)) (month % 12 + 1) 1
-IsCivilDate-first month h =
-    ((omega (arith, signed_arith), omega (arith, signed_arith)), (omega arith, omega arith), (omega arith, omega (arith, days_in_month_bounds (pos (month / 12)) (month % 12 + 1))))
+IsCivilDate-first month h = (
+  (omega (arith, signed_arith), omega (arith, signed_arith)),
+  (omega arith, omega arith),
+  (omega arith, omega (arith, days_in_month_bounds (pos (month / 12)) (month % 12 + 1))),
+)
 
 -- a date of an earlier month comes before the first day of a later one
-before_first : (month y m d : ℕ) → IsCivilDate (pos y) m d → 12 * y + (m - 1) < month → days_from_civil (pos y) m d <ℤ days_from_civil (pos (month / 12)) (month % 12 + 1) 1
+before_first :
+    (month y m d : ℕ) → IsCivilDate (pos y) m d → 12 * y + (m - 1) < month →
+    days_from_civil (pos y) m d <ℤ days_from_civil (pos (month / 12)) (month % 12 + 1) 1
 before_first month y m d date lt =
     elim (cases_lt y (month / 12)) [
       | inl earlier ↦
-          omega (arith, signed_arith, days_from_civil-day_count, day_count-lt_year (pos y) m d (pos (month / 12)) (month % 12 + 1) 1 date (omega arith) (omega (arith, signed_arith)))
+          omega (
+            arith,
+            signed_arith,
+            days_from_civil-day_count,
+            day_count-lt_year (pos y) m d (pos (month / 12))
+                (month % 12 + 1) 1 date (omega arith) (omega (arith, signed_arith)),
+          )
       | inr from ↦
           let low : 1 ≤ m = date.1.0 in
           let high : m ≤ 12 = date.1.1 in
           let same : month / 12 ≡ y = omega arith in
-          rw same (omega (arith, signed_arith, days_from_civil-day_count, day_count-lt_month (pos y) m d (month % 12 + 1) 1 date (omega arith) (omega arith)))
+          rw same (omega (
+            arith,
+            signed_arith,
+            days_from_civil-day_count,
+            day_count-lt_month (pos y) m d (month % 12 + 1) 1 date
+                (omega arith) (omega arith),
+          ))
     ]
 
 -- and one of that month or a later one does not
-from_first : (month y m d : ℕ) → month < 120000 → IsCivilDate (pos y) m d → month ≤ 12 * y + (m - 1) → days_from_civil (pos (month / 12)) (month % 12 + 1) 1 ≤ℤ days_from_civil (pos y) m d
+from_first :
+    (month y m d : ℕ) → month < 120000 → IsCivilDate (pos y) m d → month ≤ 12 * y + (m - 1) →
+    days_from_civil (pos (month / 12)) (month % 12 + 1) 1 ≤ℤ days_from_civil (pos y) m d
 from_first month y m d known date le =
     let first = IsCivilDate-first month known in
     let low : 1 ≤ m = date.1.0 in
     let high : m ≤ 12 = date.1.1 in
     elim (cases_lt (month / 12) y) [
       | inl later ↦
-          omega (arith, signed_arith, days_from_civil-day_count, day_count-lt_year (pos (month / 12)) (month % 12 + 1) 1 (pos y) m d first date.2.0 (omega (arith, signed_arith)))
+          omega (
+            arith,
+            signed_arith,
+            days_from_civil-day_count,
+            day_count-lt_year (pos (month / 12)) (month % 12 + 1) 1
+                (pos y) m d first date.2.0 (omega (arith, signed_arith)),
+          )
       | inr until ↦
           let same : month / 12 ≡ y = omega arith in
           elim (cases_lt (month % 12 + 1) m) [
             | inl later ↦
-                rw same (omega (arith, signed_arith, days_from_civil-day_count, day_count-lt_month (pos y) (month % 12 + 1) 1 m d (rw same at first) date.2.0 later))
+                rw same (omega (
+                  arith,
+                  signed_arith,
+                  days_from_civil-day_count,
+                  day_count-lt_month (pos y) (month % 12 + 1) 1 m d
+                      (rw same at first) date.2.0 later,
+                ))
             | inr here ↦
                 let same_month : month % 12 + 1 ≡ m = omega arith in
-                rw (same, same_month) (omega (arith, signed_arith, days_from_civil-day_count, day_count-day (pos y) m d 1 date.2.0 (omega arith), date.2.0))
+                rw (same, same_month) (omega (
+                  arith,
+                  signed_arith,
+                  days_from_civil-day_count,
+                  day_count-day (pos y) m d 1 date.2.0
+                      (omega arith),
+                  date.2.0,
+                ))
           ]
     ]
 
-pub ComesBefore-first_day : (month first n : ℕ) → month < 120000 → IsFirstDay month first → n ≤ end_second → ComesBefore month first (n / seconds_a_day) (civil_fields n)
+pub ComesBefore-first_day :
+    (month first n : ℕ) → month < 120000 → IsFirstDay month first → n ≤ end_second →
+    ComesBefore month first (n / seconds_a_day) (civil_fields n)
 ComesBefore-first_day month first n known is h =
     let c = civil_fields n in
     let fields = IsCivilOf-civil_fields n h in
@@ -59,7 +99,8 @@ ComesBefore-first_day month first n known is h =
     }
 
 -- the first day of a month of the planner's years is a date of them
-pub IsDateTimeInYears-first : (month : ℕ) → first_year * 12 ≤ month → month < (last_year + 1) * 12 → IsDateTimeInYears (month / 12) (month % 12 + 1) 1 0 0 0
+pub IsDateTimeInYears-first :
+    (month : ℕ) → first_year * 12 ≤ month → month < (last_year + 1) * 12 → IsDateTimeInYears (month / 12) (month % 12 + 1) 1 0 0 0
 IsDateTimeInYears-first month low high =
     ((omega arith, omega arith), (IsCivilDate-first month (omega arith), (omega arith, omega arith, omega arith)))
 
@@ -83,12 +124,23 @@ month_number-mono n later le h =
     let high : a.month ≤ 12 = fields.date.1.1 in
     elim (cases_lt (month_number b) (month_number a)) [
       | inl before ↦
-          absurd (omega (arith, signed_arith, fields.day_number, fields_later.day_number, before_first (month_number a) b.year b.month b.day fields_later.date before, from_first (month_number a) a.year a.month a.day (omega arith) fields.date (omega arith)))
+          absurd (omega (
+            arith,
+            signed_arith,
+            fields.day_number,
+            fields_later.day_number,
+            before_first
+                (month_number a) b.year b.month b.day fields_later.date before,
+            from_first (month_number a) a.year a.month a.day
+                (omega arith) fields.date (omega arith),
+          ))
       | inr from ↦ from
     ]
 
 -- the months of the planner's seconds
-pub IsInRange-month_number : (n : ℕ) → n < end_second → (first_year * 12 ≤ month_number (civil_fields n)) × (month_number (civil_fields n) < (last_year + 1) * 12)
+pub IsInRange-month_number :
+    (n : ℕ) → n < end_second →
+    (first_year * 12 ≤ month_number (civil_fields n)) × (month_number (civil_fields n) < (last_year + 1) * 12)
 IsInRange-month_number n h =
     let c = civil_fields n in
     let fields = IsCivilOf-civil_fields n (omega arith) in
@@ -104,7 +156,13 @@ pub IsFirstDay-le_end : (month first : ℕ) → month ≤ (last_year + 1) * 12 �
 IsFirstDay-le_end month first known is =
     elim (cases_lt (month / 12) (last_year + 1)) [
       | inl before ↦
-          omega (arith, signed_arith, days_from_civil-end, days_from_civil-before_year (month / 12) (month % 12 + 1) 1 (last_year + 1) (IsCivilDate-first month (omega arith)) before)
+          omega (
+            arith,
+            signed_arith,
+            days_from_civil-end,
+            days_from_civil-before_year (month / 12) (month % 12 + 1) 1
+                (last_year + 1) (IsCivilDate-first month (omega arith)) before,
+          )
       | inr end ↦
           let at_end : month ≡ (last_year + 1) * 12 = omega arith in
           omega (arith, signed_arith, IsFirstDay-end month at_end)
@@ -117,17 +175,34 @@ IsFirstDay-next month first known is =
       | inl within ↦
           let same : (month + 1) / 12 ≡ month / 12 = omega arith in
           let next : (month + 1) % 12 + 1 ≡ month % 12 + 1 + 1 = omega arith in
-          rw (same, next) (omega (arith, signed_arith, days_from_civil-day_count, day_count-next_month (pos (month / 12)) (month % 12 + 1) (omega arith)))
+          rw (same, next) (omega (
+            arith,
+            signed_arith,
+            days_from_civil-day_count,
+            day_count-next_month (pos (month / 12))
+                (month % 12 + 1) (omega arith),
+          ))
       | inr december ↦
           let next : (month + 1) / 12 ≡ month / 12 + 1 = omega arith in
           let january : (month + 1) % 12 + 1 ≡ 1 = omega arith in
           let last : month % 12 + 1 ≡ 12 = omega arith in
           let begun = rw last at is in
-          rw (next, january, last) (omega (arith, signed_arith, days_from_civil-day_count, day_count-last_of_year (pos (month / 12)), day_count-day (pos (month / 12)) 12 31 1 (omega arith) (omega arith), day_count-next_year (pos (month / 12)) (pos (month / 12 + 1)) (omega (arith, signed_arith)) (omega (arith, signed_arith))))
+          rw (next, january, last) (omega (
+            arith,
+            signed_arith,
+            days_from_civil-day_count,
+            day_count-last_of_year (pos (month / 12)),
+            day_count-day
+                (pos (month / 12)) 12 31 1 (omega arith) (omega arith),
+            day_count-next_year (pos (month / 12)) (pos (month / 12 + 1))
+                (omega (arith, signed_arith)) (omega (arith, signed_arith)),
+          ))
     ]
 
 -- within a month the day follows from the day number by counting
-pub day-of_month : (month first n : ℕ) → n ≤ end_second → IsFirstDay month first → month_number (civil_fields n) ≡ month → (civil_fields n).day + first ≡ n / seconds_a_day + 1
+pub day-of_month :
+    (month first n : ℕ) → n ≤ end_second → IsFirstDay month first → month_number (civil_fields n) ≡ month →
+    (civil_fields n).day + first ≡ n / seconds_a_day + 1
 day-of_month month first n h is here =
     let c = civil_fields n in
     let fields = IsCivilOf-civil_fields n h in
@@ -136,14 +211,22 @@ day-of_month month first n h is here =
     let year : month / 12 ≡ c.year = omega arith in
     let of_year : month % 12 + 1 ≡ c.month = omega arith in
     let begun = rw (year, of_year) at is in
-    omega (arith, signed_arith, days_from_civil-day_count, fields.day_number, day_count-day (pos c.year) c.month c.day 1 fields.date.2.0 (omega arith))
+    omega (
+      arith,
+      signed_arith,
+      days_from_civil-day_count,
+      fields.day_number,
+      day_count-day
+          (pos c.year) c.month c.day 1 fields.date.2.0 (omega arith),
+    )
 
 -- the month of a second begins as many days before it as its day says
 pub record IsDayOf (n first : ℕ) (c : Civil) : Type 0 where
   pub from : c.day ≤ n / seconds_a_day + 1
   pub first_day : IsFirstDay (month_number c) first
 
-pub IsDayOf-civil_fields : (n first : ℕ) → n < end_second → first ≡ n / seconds_a_day + 1 - (civil_fields n).day → IsDayOf n first (civil_fields n)
+pub IsDayOf-civil_fields :
+    (n first : ℕ) → n < end_second → first ≡ n / seconds_a_day + 1 - (civil_fields n).day → IsDayOf n first (civil_fields n)
 IsDayOf-civil_fields n first h is =
     let c = civil_fields n in
     let fields = IsCivilOf-civil_fields n (omega arith) in
@@ -162,7 +245,9 @@ IsDayOf-civil_fields n first h is =
     }
 
 -- and so the days of a month are known by their numbers
-pub civil_fields-of_month : (month first day : ℕ) → month < 120000 → IsFirstDay month first → first ≤ day → day < first + days_of_month month → day * seconds_a_day ≤ end_second → civil_fields (day * seconds_a_day) ≡ day_of_month month first day
+pub civil_fields-of_month :
+    (month first day : ℕ) → month < 120000 → IsFirstDay month first → first ≤ day → day < first + days_of_month month →
+    day * seconds_a_day ≤ end_second → civil_fields (day * seconds_a_day) ≡ day_of_month month first day
 civil_fields-of_month month first day known is from to h =
     let n = day * seconds_a_day in
     let day_is : n / seconds_a_day ≡ day = omega arith in
@@ -181,7 +266,10 @@ civil_fields-of_month month first day known is from to h =
     IsCivilOf-unique n (civil_fields n) (day_of_month month first day) (IsCivilOf-civil_fields n h) here
 
 -- a day later within the month
-pub civil_fields-day_after : (n later : ℕ) → later ≡ n + seconds_a_day → later ≤ end_second → (civil_fields n).day < length_of_month (civil_fields n).year (civil_fields n).month → civil_fields later ≡ day_after (civil_fields n)
+pub civil_fields-day_after :
+    (n later : ℕ) → later ≡ n + seconds_a_day → later ≤ end_second →
+    (civil_fields n).day < length_of_month (civil_fields n).year (civil_fields n).month →
+    civil_fields later ≡ day_after (civil_fields n)
 civil_fields-day_after n later is h room =
     let c = civil_fields n in
     let fields = IsCivilOf-civil_fields n (omega arith) in
@@ -189,7 +277,14 @@ civil_fields-day_after n later is h room =
     let same_time : later % seconds_a_day ≡ n % seconds_a_day = omega arith in
     let here : IsCivilOf later (day_after c) = record {
       date = (fields.date.0, fields.date.1, (omega arith, omega arith));
-      day_number = rw day_is (omega (arith, signed_arith, days_from_civil-day_count, fields.day_number, day_count-day (pos c.year) c.month (c.day + 1) c.day (omega arith) fields.date.2.0));
+      day_number = rw day_is (omega (
+        arith,
+        signed_arith,
+        days_from_civil-day_count,
+        fields.day_number,
+        day_count-day
+            (pos c.year) c.month (c.day + 1) c.day (omega arith) fields.date.2.0,
+      ));
       weekday = rw day_is (omega (arith, fields.weekday));
       time = fields.time;
       time_of_day = fields.time_of_day ∙ sym same_time;

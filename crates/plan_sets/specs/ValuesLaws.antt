@@ -9,18 +9,23 @@ use Rattle.std.proofs.lemmas.Bool.{cases_order}
 use Rattle.std.proofs.lemmas.Bool.Decides.{nat_tests}
 use Rattle.plan_sets.specs.Values.{Values, has_value, is_among, listing, values_where, no_values, with_value}
 
-any_by_test : (b : Bool) (x v : ℕ) (xs : List ℕ) → list_any (λ y. nat_eq y v) (cond b (x ∷ xs) xs) ≡ ((b && nat_eq x v) || list_any (λ y. nat_eq y v) xs)
+any_by_test :
+    (b : Bool) (x v : ℕ) (xs : List ℕ) →
+    list_any (λ y. nat_eq y v) (cond b (x ∷ xs) xs) ≡ ((b && nat_eq x v) || list_any (λ y. nat_eq y v) xs)
 any_by_test true x v xs = refl
 any_by_test false x v xs = refl
 
-first_or_later : (test : ℕ → Bool) (lo n v : ℕ) → ((test lo && nat_eq lo v) || (is_among (lo + 1) n v && test v)) ≡ (is_among lo (suc n) v && test v)
+first_or_later :
+    (test : ℕ → Bool) (lo n v : ℕ) →
+    ((test lo && nat_eq lo v) || (is_among (lo + 1) n v && test v)) ≡ (is_among lo (suc n) v && test v)
 first_or_later test lo n v =
     elim (cases_order lo v) [
       | inl same ↦ rw same (grind (arith, nat_tests))
       | inr apart ↦ grind (arith, nat_tests)
     ]
 
-pub any_in_range : (test : ℕ → Bool) (lo n v : ℕ) → list_any (λ y. nat_eq y v) (filter test (range_with_len lo n)) ≡ (is_among lo n v && test v)
+pub any_in_range :
+    (test : ℕ → Bool) (lo n v : ℕ) → list_any (λ y. nat_eq y v) (filter test (range_with_len lo n)) ≡ (is_among lo n v && test v)
 any_in_range test lo zero v = grind (arith, nat_tests)
 any_in_range test lo (suc n) v =
     any_by_test (test lo) lo v (filter test (range_with_len (lo + 1) n))
@@ -60,7 +65,8 @@ tails x y xs ys e = cc
 same_from_listing : (s t : Values) → listing s ≡ listing t → s ≡ t
 same_from_listing s t e =
     same_values s t (heads _ _ _ _ e)
-    (λ v. set.contains-items s.members v ∙ ap (λ xs. list_any (eq_by_cmp nat_cmp v) xs) (tails _ _ _ _ e) ∙ sym (set.contains-items t.members v))
+    (λ v. set.contains-items s.members v ∙ ap (λ xs. list_any (eq_by_cmp nat_cmp v) xs) (tails _ _ _ _ e) ∙ sym
+    (set.contains-items t.members v))
 
 -- the test of two listings decides whether the sets are equal
 pub Decides-listing : (s t : Values) → Decides (pointwise ◌==◌ (listing s) (listing t)) (s ≡ t)

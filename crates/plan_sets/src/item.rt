@@ -21,19 +21,33 @@ pub enum Item {
 
 /// Why a list of items is no set.
 #[derive(Clone, Copy, Debug, PartialEq, Eq, Error)]
+#[error("{}", self.name())]
 pub enum SetFault {
     /// The list is empty.
-    #[error("NoItem")]
     NoItem,
     /// A value lies outside the limits of the field.
-    #[error("OutOfRange")]
     OutOfRange,
     /// A range ends before it begins.
-    #[error("Backwards")]
     Backwards,
     /// A step is 0.
-    #[error("ZeroStep")]
     ZeroStep,
+}
+
+impl SetFault {
+    ghost use Rattle.std.specs.Prelude.{◌≡◌};
+    ghost use Rattle.plan_sets.specs.Causes.{set_cause};
+
+    /// Its name, as fault lines show it.
+    pub fn name(&self) -> &'static str
+        ensures { result.now ≡ set_cause self.now }
+    {
+        match self {
+            SetFault::NoItem => "NoItem",
+            SetFault::OutOfRange => "OutOfRange",
+            SetFault::Backwards => "Backwards",
+            SetFault::ZeroStep => "ZeroStep",
+        }
+    }
 }
 
 impl Item {
@@ -83,10 +97,13 @@ fn add_steps(values: &mut ValueSet, first: u16, last: u16, step: u16)
     ensures base { values.new.base ≡ values.old.base }
     ensures added { (v : ℕ) → has_value values.new v ≡ (has_value values.old v || is_step first last step v) }
 {
-    for offset in 0..last - first + 1 {
-        if offset % step == 0 {
-            values.insert(first + offset);
+    let mut value = first;
+    loop {
+        values.insert(value);
+        if last - value < step {
+            return;
         }
+        value += step;
     }
 }
 

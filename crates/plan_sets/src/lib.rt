@@ -1,5 +1,8 @@
 //! Value sets, civil fields and moments: what the rules of cron and of systemd timers are made of. No call of this crate
 //! takes memory.
+//!
+//! The lowest crate: below it are the kit's `jiff`, for dates, and `thiserror`. Open `value_set` first, then `civil`; `item` makes
+//! sets of a field's elements, and `moment` reads and writes the texts of seconds.
 #![tactic(auto)]
 
 mod civil;

@@ -8,16 +8,30 @@ use thiserror::Error;
 
 /// What is wrong with the text of a moment: the first of these that holds.
 #[derive(Clone, Copy, Debug, PartialEq, Eq, Error)]
+#[error("{}", self.name())]
 pub enum MomentFault {
     /// The text is not `YYYY-MM-DDTHH:MM:SSZ`, 20 bytes with decimal digits.
-    #[error("BadForm")]
     BadForm,
     /// The calendar of the years 0000 to 9999 has no such date, or a day no such time.
-    #[error("NoSuchDate")]
     NoSuchDate,
     /// The moment comes before `FIRST_YEAR`, or after `END_SECOND`.
-    #[error("OutOfYears")]
     OutOfYears,
+}
+
+impl MomentFault {
+    ghost use Rattle.std.specs.Prelude.{◌≡◌};
+    ghost use Rattle.plan_sets.specs.Causes.{moment_cause};
+
+    /// Its name, as fault lines show it.
+    pub fn name(&self) -> &'static str
+        ensures { result.now ≡ moment_cause self.now }
+    {
+        match self {
+            MomentFault::BadForm => "BadForm",
+            MomentFault::NoSuchDate => "NoSuchDate",
+            MomentFault::OutOfYears => "OutOfYears",
+        }
+    }
 }
 
 /// The numbers that a text of a moment's form says.

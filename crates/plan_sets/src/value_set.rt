@@ -1,9 +1,10 @@
 //! Sets of small numbers, as the values that a field of a rule admits.
 
-ghost use Rattle.std.specs.Prelude.{◌≡◌, ℕ, ◌+◌, ◌-◌, ◌^◌, ◌<◌, ◌≤◌, ◌↔◌, IsTrue};
+ghost use Rattle.std.specs.Prelude.{◌≡◌, ℕ, ◌+◌, ◌*◌, ◌-◌, ◌^◌, ◌<◌, ◌≤◌, ◌↔◌, IsTrue};
 ghost use Rattle.std.specs.FinSet as set;
 ghost use Rattle.plan_sets.specs.Limits.{set_span};
 ghost use Rattle.plan_sets.specs.Values.{Values, no_values, with_value, has_value, IsLeastFrom};
+ghost use Rattle.plan_sets.specs.Words.{word_bits, word_count};
 
 use std::marker::Model;
 
@@ -106,13 +107,28 @@ impl ValueSet {
         ensures { IsLeastFrom self.now v result }
     {
         let start = v.saturating_sub(self.base);
-        for index in start / WORD_BITS..self.used {
-            // The word's bits from the start on.
-            let passed = start.saturating_sub(index * WORD_BITS);
-            let rest = self.words[usize::from(index)] >> passed;
-            if rest != 0 {
-                let offset = index * WORD_BITS + passed + rest.trailing_zeros() as u16;
-                return Some(self.base + offset);
+        let index = start / WORD_BITS;
+        if index >= self.used {
+            return None;
+        }
+        // The word's bits from the start on.
+        let rest = self.words[usize::from(index)] >> (start % WORD_BITS);
+        if rest == 0 {
+            return self.first_of_later_words(index);
+        }
+        Some(self.base + start + rest.trailing_zeros() as u16)
+    }
+
+    // The least value that a word after this one is for.
+    #[inline(never)]
+    fn first_of_later_words(&self, index: u16) -> Option<u16>
+        requires { index < word_count }
+        ensures { IsLeastFrom self.now (self.now.base + (index + 1) * word_bits) result }
+    {
+        for later in index + 1..self.used {
+            let word = self.words[usize::from(later)];
+            if word != 0 {
+                return Some(self.base + later * WORD_BITS + word.trailing_zeros() as u16);
             }
         }
         None

@@ -1,4 +1,6 @@
-use plan_collect::{CollectFault, CollectorFault, PlanFault, SpanFault, WriteFault};
+use plan_collect::{CollectFault, CollectorFault, SpanFault};
+use plan_serial::PlanFault;
+use plan_streams::WriteFault;
 use std::fmt::Display;
 use std::process::Abort;
 use std::test::Fail;

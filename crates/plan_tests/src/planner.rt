@@ -46,7 +46,7 @@ fn a_planner_sends_a_piece_and_its_last_note(rt: HostRuntime) -> Result<(), Fail
     let jobs = user_jobs(alloc, EVERY_MINUTE)?;
     let (outlet, mut inlet) = ends_of_one(alloc)?;
     let span = span(0, 120)?;
-    let (receipt, refused) = run_planner(&rt, alloc, &jobs, span, 2, 1, &NoGate, outlet);
+    let (receipt, refused) = run_planner(&rt, alloc, &jobs, span, 1, 2, &NoGate, outlet);
     assert!(rt; !refused);
     assert!(rt; inlet.settle(0, receipt).is_ok());
     assert_piece(&rt, &mut inlet)?;

@@ -1,5 +1,6 @@
 use crate::collector::{span, user_jobs};
-use plan_collect::{CollectFault, PlanFault};
+use plan_collect::{CollectFault, Sizes};
+use plan_serial::PlanFault;
 use plan_threads::{Gate, plan};
 use std::process::Abort;
 use std::sync::Wait;
@@ -47,7 +48,12 @@ fn starts_of_a_night<R: Abort + AllocGlobal + Threads + Wait + Sync, G: Gate>(
 ) -> Result<Result<usize, PlanFault>, Fail> {
     let jobs = user_jobs(rt.alloc(), crontab)?;
     let first_day = span(1_704_067_200, 1_704_153_600)?;
-    match plan(rt, rt.alloc(), &jobs, first_day, limit, gate, planners, 1) {
+    let sizes = Sizes {
+        planners,
+        room: 1,
+        limit,
+    };
+    match plan(rt, rt.alloc(), &jobs, first_day, sizes, gate) {
         Ok(agenda) => Ok(Ok(agenda.len())),
         Err(fault) => Ok(Err(fault)),
     }

@@ -2,8 +2,9 @@ ghost use Rattle.std.specs.Prelude.{length, IfOk};
 ghost use Rattle.plan_collect.specs.Agenda.{IsOfJobs};
 
 use crate::collector::{EVERY_MINUTE, assert_entry, span, user_jobs};
-use plan_collect::{Agenda, CollectFault, PlanFault, plan_serial};
+use plan_collect::{Agenda, CollectFault};
 use plan_rules::Jobs;
+use plan_serial::{PlanFault, plan_serial};
 use std::alloc::Global;
 use std::process::Abort;
 use std::test::Fail;

@@ -1,7 +1,8 @@
 use crate::collector::user_jobs;
 use crate::serial::planned;
-use plan_collect::{WriteFault, write_agenda};
+use plan_collect::write_agenda;
 use plan_rules::Jobs;
+use plan_streams::WriteFault;
 use std::alloc::Global;
 use std::io::{self, Write};
 use std::process::Abort;

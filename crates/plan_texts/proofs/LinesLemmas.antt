@@ -1,4 +1,6 @@
 -- Where a text may be cut at its blanks, and how its lines are found.
+-- For `after_blanks`, `cut_word`, `word_len` and the clauses of `lines`. A blank is ASCII, so beside it a text may be
+-- cut. The lines go by induction over the bytes; the hard part is the empty last piece that `without_empty_end` drops.
 use Rattle.std.proofs.Common.{◌≡◌, ℕ, zero, suc, ◌+◌, ◌-◌, ◌<◌, ◌≤◌, Bool, true, false, not, cond, ◌==◌, eqb, List, [], ◌∷◌, length, take, get_or, map, Option, Some, None, unwrap_or, refl, ap, sym, ◌∙◌, arith, inl, inr, position}
 use Rattle.std.proofs.lemmas.Bool.{cases_lt, lt-ltb, le-ltb}
 use Rattle.std.proofs.lemmas.Bool.Decides.{nat_tests, Decides-eqb}
@@ -28,7 +30,8 @@ boundary_after_blanks text utf8 =
           let last : prefix_len is_blank text - 1 < prefix_len is_blank text = omega arith in
           let inside : prefix_len is_blank text - 1 < length text = omega arith in
           let next : (prefix_len is_blank text - 1) + 1 ≡ prefix_len is_blank text = omega arith in
-          let cut = IsCharBoundary-after_ascii text (prefix_len is_blank text - 1) utf8 inside (blank_ascii _ (prefix_len_passes is_blank text (prefix_len is_blank text - 1) 0 last)) in
+          let cut = IsCharBoundary-after_ascii text (prefix_len is_blank text - 1) utf8 inside
+          (blank_ascii _ (prefix_len_passes is_blank text (prefix_len is_blank text - 1) 0 last)) in
           rw next at cut
       | inr none ↦
           let zero_is : prefix_len is_blank text ≡ 0 = omega arith in
@@ -39,7 +42,8 @@ boundary_after_blanks text utf8 =
 pub boundary_before_blank : (text : List ℕ) → IsUtf8 text → IsCharBoundary text (position_or_len is_blank text)
 boundary_before_blank text utf8 =
     elim (cases_lt (position_or_len is_blank text) (length text)) as (λ _. IsCharBoundary text (position_or_len is_blank text)) [
-      | inl inside ↦ IsCharBoundary-before_ascii text (position_or_len is_blank text) inside (blank_ascii _ (passes_at_first is_blank text 0 inside))
+      | inl inside ↦ IsCharBoundary-before_ascii text (position_or_len is_blank text) inside
+          (blank_ascii _ (passes_at_first is_blank text 0 inside))
       | inr past ↦
           let whole : position_or_len is_blank text ≤ length text = prefix_len-le-length (λ b. not (is_blank b)) text in
           let all : position_or_len is_blank text ≡ length text = omega arith in
@@ -64,31 +68,40 @@ ahead true y xs ys = refl
 ahead false y xs ys = refl
 
 -- without an empty last piece
-without_empty_end-last : (ys : List (List ℕ)) (n : ℕ) (d : List ℕ) → length ys ≡ suc n → without_empty_end ys ≡ cond (eqb (length (get_or ys n d)) 0) (take n ys) ys
+without_empty_end-last :
+    (ys : List (List ℕ)) (n : ℕ) (d : List ℕ) → length ys ≡ suc n →
+    without_empty_end ys ≡ cond (eqb (length (get_or ys n d)) 0) (take n ys) ys
 without_empty_end-last [] n d long = absurd (omega arith)
 without_empty_end-last (y ∷ []) zero d long = refl
 without_empty_end-last (y ∷ []) (suc n) d long = absurd (omega arith)
 without_empty_end-last (y ∷ z ∷ more) zero d long = absurd (omega arith)
 without_empty_end-last (y ∷ z ∷ more) (suc n) d long =
-    ap (λ zs. y ∷ zs) (without_empty_end-last (z ∷ more) n d (omega arith)) ∙ ahead (eqb (length (get_or (z ∷ more) n d)) 0) y (take n (z ∷ more)) (z ∷ more)
+    ap (λ zs. y ∷ zs) (without_empty_end-last (z ∷ more) n d (omega arith)) ∙ ahead (eqb (length (get_or (z ∷ more) n d)) 0) y
+    (take n (z ∷ more)) (z ∷ more)
 
 map-cond : {A : Type 0} (v : A → List ℕ) (b : Bool) (xs ys : List A) → map v (cond b xs ys) ≡ cond b (map v xs) (map v ys)
 map-cond v true xs ys = refl
 map-cond v false xs ys = refl
 
 -- the last piece is dropped where it is empty
-pub dropped_where_empty : {A B : Type 0} (v : A → List ℕ) (w : B → A) (all : List A) (last : Option B) (empty : Bool) → option_map w last ≡ slice_get all (length all - 1) → MatchOption last (empty ≡ false) (λ x. empty ≡ eqb (length (v (w x))) 0) → map v (cond empty (take (length all - 1) all) all) ≡ without_empty_end (map v all)
+pub dropped_where_empty :
+    {A B : Type 0} (v : A → List ℕ) (w : B → A) (all : List A) (last : Option B) (empty : Bool) →
+    option_map w last ≡ slice_get all (length all - 1) → MatchOption last (empty ≡ false) (λ x. empty ≡ eqb (length (v (w x))) 0) →
+    map v (cond empty (take (length all - 1) all) all) ≡ without_empty_end (map v all)
 dropped_where_empty v w [] None empty is tested = rw tested refl
 dropped_where_empty v w [] (Some x) empty is tested = absurd (cc is)
 dropped_where_empty v w (a ∷ more) None empty is tested =
     let n : suc (length more) - 1 ≡ length more = omega arith in
-    let found : slice_get (a ∷ more) (length more) ≡ Some (get_or (a ∷ more) (length more) a) = slice_get-get_or (a ∷ more) (length more) a (omega arith) in
+    let found : slice_get (a ∷ more) (length more) ≡ Some (get_or (a ∷ more) (length more) a) = slice_get-get_or (a ∷ more)
+    (length more) a (omega arith) in
     absurd (none-some _ (is ∙ ap (slice_get (a ∷ more)) n ∙ found))
 dropped_where_empty v w (a ∷ more) (Some x) empty is tested =
     let n : suc (length more) - 1 ≡ length more = omega arith in
-    let found : slice_get (a ∷ more) (length more) ≡ Some (get_or (a ∷ more) (length more) a) = slice_get-get_or (a ∷ more) (length more) a (omega arith) in
+    let found : slice_get (a ∷ more) (length more) ≡ Some (get_or (a ∷ more) (length more) a) = slice_get-get_or (a ∷ more)
+    (length more) a (omega arith) in
     let last : w x ≡ get_or (a ∷ more) (length more) a = same_Some _ _ (is ∙ ap (slice_get (a ∷ more)) n ∙ found) in
-    let piece : get_or (map v (a ∷ more)) (length more) (v a) ≡ v (w x) = get_or-map v (a ∷ more) (length more) a (v a) (omega arith) ∙ ap v (sym last) in
+    let piece : get_or (map v (a ∷ more)) (length more) (v a) ≡ v (w x) = get_or-map v (a ∷ more) (length more) a (v a)
+    (omega arith) ∙ ap v (sym last) in
     ap (λ k. map v (cond empty (take k (a ∷ more)) (a ∷ more))) n
     ∙ map-cond v empty (take (length more) (a ∷ more)) (a ∷ more)
     ∙ ap (λ xs. cond empty xs (map v (a ∷ more))) (sym (take-map v (length more) (a ∷ more)))
@@ -103,7 +116,8 @@ at_most_one : (b : Bool) (y : List ℕ) → length (cond b [] (y ∷ [])) ≤ 1
 at_most_one true y = omega arith
 at_most_one false y = omega arith
 
-length-onto : (x : ℕ) (ys : List (List ℕ)) (n : ℕ) → length (without_empty_end ys) ≤ n → length (without_empty_end (onto_first x ys)) ≤ suc n
+length-onto :
+    (x : ℕ) (ys : List (List ℕ)) (n : ℕ) → length (without_empty_end ys) ≤ n → length (without_empty_end (onto_first x ys)) ≤ suc n
 length-onto x [] n few = omega arith
 length-onto x (y ∷ []) n few = omega (arith, at_most_one (eqb (length (x ∷ y)) 0) (x ∷ y))
 length-onto x (y ∷ z ∷ more) n few = omega arith
@@ -142,7 +156,8 @@ piece_onto x (piece ∷ more) = tt
 piece_of_split : (p : ℕ → Bool) (text : List ℕ) → IsPiece (slice_split p text)
 piece_of_split p [] = tt
 piece_of_split p (x ∷ xs) =
-    elim (p x) as (λ b. IsPiece (cond b ([] ∷ slice_split p xs) (onto_first x (slice_split p xs)))) [ true ↦ tt | false ↦ piece_onto x (slice_split p xs) ]
+    elim (p x) as (λ b. IsPiece (cond b ([] ∷ slice_split p xs) (onto_first x (slice_split p xs))))
+    [ true ↦ tt | false ↦ piece_onto x (slice_split p xs) ]
 
 some_onto : (x : ℕ) (pieces : List (List ℕ)) → AreSome (onto_first x pieces)
 some_onto x [] = tt
@@ -160,7 +175,8 @@ some_of_split p x xs =
       | false ↦ some_onto x (slice_split p xs)
     ]
 
-written_behind : (pieces : List (List ℕ)) → AreSome pieces → written (without_empty_end ([] ∷ pieces)) ≡ 10 ∷ written (without_empty_end pieces)
+written_behind :
+    (pieces : List (List ℕ)) → AreSome pieces → written (without_empty_end ([] ∷ pieces)) ≡ 10 ∷ written (without_empty_end pieces)
 written_behind [] is = absurd is
 written_behind (piece ∷ more) is = refl
 
@@ -169,17 +185,23 @@ piece_kept b bs =
     let some : (suc (length bs) == 0) ≡ false = grind (arith, nat_tests) in
     rw some refl
 
-written_onto : (x : ℕ) (pieces : List (List ℕ)) → AreSome pieces → written (without_empty_end (onto_first x pieces)) ≡ x ∷ written (without_empty_end pieces)
+written_onto :
+    (x : ℕ) (pieces : List (List ℕ)) → AreSome pieces →
+    written (without_empty_end (onto_first x pieces)) ≡ x ∷ written (without_empty_end pieces)
 written_onto x [] is = absurd is
 written_onto x ([] ∷ []) is = absurd is
 written_onto x ((b ∷ bs) ∷ []) is = ap written (piece_kept x (b ∷ bs)) ∙ ap (λ pieces. x ∷ written pieces) (sym (piece_kept b bs))
 written_onto x (piece ∷ next ∷ more) is = refl
 
-one_byte : (x : ℕ) (b : Bool) → (b ≡ true → x ≡ 10) → written (without_empty_end (cond b ([] ∷ [] ∷ []) ((x ∷ []) ∷ []))) ≡ cond b (x ∷ []) (x ∷ 10 ∷ [])
+one_byte :
+    (x : ℕ) (b : Bool) → (b ≡ true → x ≡ 10) →
+    written (without_empty_end (cond b ([] ∷ [] ∷ []) ((x ∷ []) ∷ []))) ≡ cond b (x ∷ []) (x ∷ 10 ∷ [])
 one_byte x true is = ap (λ y. y ∷ []) (sym (is refl))
 one_byte x false is = refl
 
-one_more : (x : ℕ) (b : Bool) (pieces : List (List ℕ)) → (b ≡ true → x ≡ 10) → AreSome pieces → written (without_empty_end (cond b ([] ∷ pieces) (onto_first x pieces))) ≡ x ∷ written (without_empty_end pieces)
+one_more :
+    (x : ℕ) (b : Bool) (pieces : List (List ℕ)) → (b ≡ true → x ≡ 10) → AreSome pieces →
+    written (without_empty_end (cond b ([] ∷ pieces) (onto_first x pieces))) ≡ x ∷ written (without_empty_end pieces)
 one_more x true pieces is some = written_behind pieces some ∙ ap (λ y. y ∷ written (without_empty_end pieces)) (sym (is refl))
 one_more x false pieces is some = written_onto x pieces some
 
@@ -200,7 +222,9 @@ none_onto x [] other none = All-cons HasNoNewline (x ∷ []) [] (rw other refl) 
 none_onto x (piece ∷ more) other none =
     All-cons HasNoNewline (x ∷ piece) more (rw other (All-head HasNoNewline piece more none)) (All-tail HasNoNewline piece more none)
 
-none_in_cut : (x : ℕ) (b : Bool) (pieces : List (List ℕ)) → (x == 10) ≡ b → All HasNoNewline pieces → All HasNoNewline (cond b ([] ∷ pieces) (onto_first x pieces))
+none_in_cut :
+    (x : ℕ) (b : Bool) (pieces : List (List ℕ)) → (x == 10) ≡ b → All HasNoNewline pieces →
+    All HasNoNewline (cond b ([] ∷ pieces) (onto_first x pieces))
 none_in_cut x true pieces is none = All-cons HasNoNewline [] pieces refl none
 none_in_cut x false pieces is none = none_onto x pieces is none
 

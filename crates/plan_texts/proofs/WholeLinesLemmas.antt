@@ -1,4 +1,6 @@
 -- Whole lines: where a text may be cut before what stands at its end, and how lines are joined one by one.
+-- For `trimmed`, and for the loop of `joined`, whose invariant adds to the lines so far those from a place on
+-- (`rest_from`). The text reversed gives the blanks at its end; one line more goes by whether it is a comment.
 use Rattle.std.proofs.Common.{◌≡◌, ℕ, ◌+◌, ◌-◌, ◌<◌, ◌≤◌, Bool, true, false, not, cond, List, [], ◌∷◌, length, drop, get_or, filter, map, reverse, refl, ap, sym, ◌∙◌, arith, inl, inr}
 use Rattle.std.proofs.lemmas.Bool.{cases_lt}
 use Rattle.std.proofs.lemmas.List.{drop_more, drop_all, drop-map, get_or-reverse}
@@ -42,23 +44,27 @@ abbrev pub rest_from : ℕ → List (List ℕ) → List (ℕ × List ℕ)
 rest_from place lines =
     joined (filter (λ line. not (is_comment line.1)) (enumerate_from (place + 1) (map line_text (drop place lines))))
 
-pub rest_none : (lines : List (List ℕ)) → rest_from 0 lines ≡ joined (numbered_texts lines)
-rest_none lines = refl
-
-comment_or_line : (comment : Bool) (line : ℕ × List ℕ) (more : List (ℕ × List ℕ)) → joined (cond (not comment) (line ∷ more) more) ≡ cond comment (joined more) (with_line line (joined more))
+comment_or_line :
+    (comment : Bool) (line : ℕ × List ℕ) (more : List (ℕ × List ℕ)) →
+    joined (cond (not comment) (line ∷ more) more) ≡ cond comment (joined more) (with_line line (joined more))
 comment_or_line true line more = refl
 comment_or_line false line more = refl
 
 -- one line more
-pub rest_more : {A : Type 0} (v : A → List ℕ) (lines : List A) (place : ℕ) (d : A) → place < length lines → rest_from place (map v lines) ≡ with_raw_line (place + 1) (v (get_or lines place d)) (rest_from (place + 1) (map v lines))
+pub rest_more :
+    {A : Type 0} (v : A → List ℕ) (lines : List A) (place : ℕ) (d : A) → place < length lines →
+    rest_from place (map v lines) ≡ with_raw_line (place + 1) (v (get_or lines place d)) (rest_from (place + 1) (map v lines))
 rest_more v lines place d inside =
     let line = v (get_or lines place d) in
     let split : drop place (map v lines) ≡ v (get_or lines place d) ∷ drop (place + 1) (map v lines) =
-    drop-map v place lines ∙ ap (map v) (drop_more lines place d inside) ∙ ap (λ more. v (get_or lines place d) ∷ more) (sym (drop-map v (place + 1) lines)) in
+    drop-map v place lines ∙ ap (map v) (drop_more lines place d inside) ∙ ap (λ more. v (get_or lines place d) ∷ more)
+    (sym (drop-map v (place + 1) lines)) in
     ap (λ left. joined (filter (λ l. not (is_comment l.1)) (enumerate_from (place + 1) (map line_text left)))) split
-    ∙ comment_or_line (is_comment (line_text line)) (place + 1, line_text line) (filter (λ l. not (is_comment l.1)) (enumerate_from (place + 1 + 1) (map line_text (drop (place + 1) (map v lines)))))
+    ∙ comment_or_line (is_comment (line_text line)) (place + 1, line_text line)
+    (filter (λ l. not (is_comment l.1)) (enumerate_from (place + 1 + 1) (map line_text (drop (place + 1) (map v lines)))))
 
 -- past the last line nothing follows
 pub rest_all : {A : Type 0} (v : A → List ℕ) (lines : List A) (place : ℕ) → length lines ≤ place → rest_from place (map v lines) ≡ []
 rest_all v lines place past =
-    ap (λ left. joined (filter (λ l. not (is_comment l.1)) (enumerate_from (place + 1) (map line_text left)))) (drop-map v place lines ∙ ap (map v) (drop_all place lines past))
+    ap (λ left. joined (filter (λ l. not (is_comment l.1)) (enumerate_from (place + 1) (map line_text left))))
+    (drop-map v place lines ∙ ap (map v) (drop_all place lines past))

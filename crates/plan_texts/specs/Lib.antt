@@ -2,7 +2,6 @@ pub mod Limits
 pub mod Text
 pub mod Steps
 pub mod EachLaws
-pub mod Elements
 pub mod Lines
 pub mod WholeLines
 pub mod Joining

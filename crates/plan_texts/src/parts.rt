@@ -4,11 +4,9 @@ ghost use Rattle.std.specs.Prelude.{◌≡◌, ◌==◌, ℕ, ◌<◌, ◌^◌, 
 ghost use Rattle.std.specs.Char.{is_ascii_alphabetic};
 ghost use Rattle.std.specs.Fmt.{decimal};
 ghost use Rattle.std.specs.Option.{option_map};
-ghost use Rattle.plan_texts.specs.Elements.{number_reading};
 ghost use Rattle.plan_texts.specs.Limits.{most_digits};
 ghost use Rattle.plan_texts.specs.Text.{is_blank, words, pieces, begins_with, cut_at, StandsNowhereBefore, number_of};
 
-use crate::fault::{RuleCause, RuleFault};
 use std::alloc::{AllocError, Global};
 
 /// How many digits a number has at most.
@@ -87,21 +85,4 @@ pub fn number(text: &[u8]) -> Option<u16>
         value = value * 10 + u16::from(*byte - b'0');
     }
     Some(value)
-}
-
-/// The number that a part of a rule's text writes: `WrongParts` where the text is empty, else `BadNumber` where it is none.
-pub fn number_in(part: u8, text: &[u8]) -> Result<u16, RuleFault>
-    ensures value { result ≡ number_reading part text.now }
-    ensures small { IfOk result (λ n. n < 10 ^ most_digits) }
-{
-    if text.is_empty() {
-        return Err(RuleFault {
-            part,
-            cause: RuleCause::WrongParts,
-        });
-    }
-    number(text).ok_or(RuleFault {
-        part,
-        cause: RuleCause::BadNumber,
-    })
 }

@@ -1,4 +1,6 @@
--- What a planner has sent, and what is left of its notes.
+-- What a planner has sent, and what is left of its notes: for the loops and returns of `send_job` and `send_notes`.
+-- Most lemmas are one equation: what was to be sent is what was sent, then `cut_rest` of what is left. `rest_first`
+-- moves a note from the one to the other. From it come the steps by a piece, and from these the steps by a job.
 use Rattle.std.proofs.Common.{◌≡◌, ℕ, zero, suc, ◌+◌, ◌%◌, ◌<◌, ◌≤◌, ◌⊎◌, true, false, nat_lt, List, [], ◌∷◌, ◌++◌, length, map, drop, None, Some, inl, inr, refl, ap, sym, ◌∙◌, arith, append_assoc, append-nil, subst}
 use Rattle.std.specs.Prelude.{slice_get, Result, Ok, Err, OnErr, IsErrAnd}
 use Rattle.std.proofs.Math.Seq.{drop-append_seam}
@@ -18,10 +20,6 @@ use Rattle.plan_collect.specs.TilingLaws.{pieces_stop, pieces_go_on, parts_none,
 use Rattle.plan_mailbox.specs.History.{IsPrefix}
 use Rattle.plan_threads.specs.Sending.{cut_rest}
 
--- what comes first is a prefix
-pub prefix_of : (xs ys zs : List Note) → ys ≡ xs ++ zs → IsPrefix xs ys
-prefix_of xs ys zs is = is ∙ ap (λ rest. xs ++ rest) (sym (ap (drop (length xs)) is ∙ drop-append_seam xs zs))
-
 -- ---- what is left after a note
 
 pub rest_over : (limit count : ℕ) (notes : List Note) → limit < count → cut_rest limit count notes ≡ []
@@ -30,12 +28,16 @@ rest_over limit count notes over = let is : nat_lt limit count ≡ true = lt-ltb
 pub rest_few : (limit count : ℕ) (notes : List Note) → count ≤ limit → cut_rest limit count notes ≡ cut_after limit count notes
 rest_few limit count notes few = let is : nat_lt limit count ≡ false = le-ltb _ _ few in rw is refl
 
-pub rest_first : (limit count : ℕ) (first : Note) (notes : List Note) → count ≤ limit → cut_rest limit count (first ∷ notes) ≡ first ∷ cut_rest limit (count + starts_in first) notes
+pub rest_first :
+    (limit count : ℕ) (first : Note) (notes : List Note) → count ≤ limit →
+    cut_rest limit count (first ∷ notes) ≡ first ∷ cut_rest limit (count + starts_in first) notes
 rest_first limit count first notes few =
     rest_few limit count (first ∷ notes) few
     ∙ (elim (cases_lt limit (count + starts_in first)) [
-      | inl over ↦ cut_here limit count first notes over ∙ ap (λ rest. first ∷ rest) (sym (rest_over limit (count + starts_in first) notes over))
-      | inr some ↦ cut_later limit count first notes some ∙ ap (λ rest. first ∷ rest) (sym (rest_few limit (count + starts_in first) notes some))
+      | inl over ↦ cut_here limit count first notes over ∙ ap (λ rest. first ∷ rest)
+          (sym (rest_over limit (count + starts_in first) notes over))
+      | inr some ↦ cut_later limit count first notes some ∙ ap (λ rest. first ∷ rest)
+          (sym (rest_few limit (count + starts_in first) notes some))
     ])
 
 -- ---- the pieces of a job
@@ -48,25 +50,39 @@ abbrev pub first_of_job : (job : ℕ) → Rule → (since upto : ℕ) → Note
 first_of_job job rule since upto = note.Part job (piece_of rule since upto most_starts)
 
 -- where the first piece ends early, the others are left
-pub left_more : (limit count job : ℕ) (rule : Rule) (since upto : ℕ) (rest : List Note) → since ≤ upto → count ≤ limit → piece_end rule since upto most_starts < upto → left_of limit count job rule since upto rest ≡ first_of_job job rule since upto ∷ left_of limit (count + starts_in (first_of_job job rule since upto)) job rule (piece_end rule since upto most_starts) upto rest
+pub left_more :
+    (limit count job : ℕ) (rule : Rule) (since upto : ℕ) (rest : List Note) → since ≤ upto → count ≤ limit →
+    piece_end rule since upto most_starts < upto →
+    left_of limit count job rule since upto rest ≡ first_of_job job rule since upto ∷ left_of limit
+    (count + starts_in (first_of_job job rule since upto)) job rule (piece_end rule since upto most_starts) upto rest
 left_more limit count job rule since upto rest part few more =
     ap (λ ps. cut_rest limit count (map (note.Part job) ps ++ rest)) (pieces_go_on rule since upto part more)
-    ∙ rest_first limit count (first_of_job job rule since upto) (map (note.Part job) (pieces rule (piece_end rule since upto most_starts) upto) ++ rest) few
+    ∙ rest_first limit count (first_of_job job rule since upto)
+    (map (note.Part job) (pieces rule (piece_end rule since upto most_starts) upto) ++ rest) few
 
 -- where it ends the part, the other notes are
-pub left_last : (limit count job : ℕ) (rule : Rule) (since upto : ℕ) (rest : List Note) → since ≤ upto → count ≤ limit → upto ≤ piece_end rule since upto most_starts → left_of limit count job rule since upto rest ≡ first_of_job job rule since upto ∷ cut_rest limit (count + starts_in (first_of_job job rule since upto)) rest
+pub left_last :
+    (limit count job : ℕ) (rule : Rule) (since upto : ℕ) (rest : List Note) → since ≤ upto → count ≤ limit →
+    upto ≤ piece_end rule since upto most_starts →
+    left_of limit count job rule since upto rest ≡ first_of_job job rule since upto ∷ cut_rest limit
+    (count + starts_in (first_of_job job rule since upto)) rest
 left_last limit count job rule since upto rest part few reached =
     ap (λ ps. cut_rest limit count (map (note.Part job) ps ++ rest)) (pieces_stop rule since upto part reached)
     ∙ rest_first limit count (first_of_job job rule since upto) rest few
 
 -- where it brings more starts than the limit, nothing is left
-pub left_over : (limit count job : ℕ) (rule : Rule) (since upto : ℕ) (rest : List Note) → since ≤ upto → count ≤ limit → limit < count + starts_in (first_of_job job rule since upto) → left_of limit count job rule since upto rest ≡ first_of_job job rule since upto ∷ cut_rest limit (count + starts_in (first_of_job job rule since upto)) rest
+pub left_over :
+    (limit count job : ℕ) (rule : Rule) (since upto : ℕ) (rest : List Note) → since ≤ upto → count ≤ limit →
+    limit < count + starts_in (first_of_job job rule since upto) →
+    left_of limit count job rule since upto rest ≡ first_of_job job rule since upto ∷ cut_rest limit
+    (count + starts_in (first_of_job job rule since upto)) rest
 left_over limit count job rule since upto rest part few over =
     let end = piece_end rule since upto most_starts in
     let reached = count + starts_in (first_of_job job rule since upto) in
     elim (cases_lt end upto) [
       | inl more ↦ left_more limit count job rule since upto rest part few more
-          ∙ ap (λ notes. first_of_job job rule since upto ∷ notes) (rest_over limit reached (map (note.Part job) (pieces rule end upto) ++ rest) over ∙ sym (rest_over limit reached rest over))
+          ∙ ap (λ notes. first_of_job job rule since upto ∷ notes)
+          (rest_over limit reached (map (note.Part job) (pieces rule end upto) ++ rest) over ∙ sym (rest_over limit reached rest over))
       | inr stop ↦ left_last limit count job rule since upto rest part few stop
     ]
 
@@ -87,7 +103,11 @@ pub record IsNext (job : ℕ) (rule : Rule) (since upto : ℕ) (sent new : List 
   pub end_is : end ≡ piece.upto
   pub brought_is : brought ≡ length (starts piece.rule piece.since piece.upto)
 
-pub sent_on : (limit count job : ℕ) (rule : Rule) (from upto : ℕ) (before sent new : List Note) (reached since end brought : ℕ) (piece : Part) → IsSentTo limit count job rule from upto before sent reached since → since ≤ upto → reached ≤ limit → IsNext job rule since upto sent new piece end brought → end < upto → IsSentTo limit count job rule from upto before new (reached + brought) end
+pub sent_on :
+    (limit count job : ℕ) (rule : Rule) (from upto : ℕ) (before sent new : List Note) (reached since end brought : ℕ) (piece : Part) →
+    IsSentTo limit count job rule from upto before sent reached since → since ≤ upto → reached ≤ limit →
+    IsNext job rule since upto sent new piece end brought → end < upto →
+    IsSentTo limit count job rule from upto before new (reached + brought) end
 sent_on limit count job rule from upto before sent new reached since end brought piece so_far part few next more rest =
     let first = first_of_job job rule since upto in
     let new_is : new ≡ sent ++ first ∷ [] = next.new_is ∙ ap (λ (p : Part). sent ++ note.Part job p ∷ []) next.piece_is in
@@ -95,10 +115,15 @@ sent_on limit count job rule from upto before sent new reached since end brought
     let brought_is : brought ≡ starts_in first = next.brought_is ∙ ap (λ (p : Part). length (starts p.rule p.since p.upto)) next.piece_is in
     let early : piece_end rule since upto most_starts < upto = subst (λ n. n < upto) end_is more in
     so_far rest ∙ ap (λ notes. sent ++ notes) (left_more limit reached job rule since upto rest part few early)
-    ∙ sym (append_assoc sent (first ∷ []) (left_of limit (reached + starts_in first) job rule (piece_end rule since upto most_starts) upto rest))
+    ∙ sym (append_assoc sent (first ∷ [])
+    (left_of limit (reached + starts_in first) job rule (piece_end rule since upto most_starts) upto rest))
     ∙ sym (λ i. new_is i ++ left_of limit (reached + brought_is i) job rule (end_is i) upto rest)
 
-pub sent_all : (limit count job : ℕ) (rule : Rule) (from upto : ℕ) (before sent new : List Note) (reached since end brought : ℕ) (piece : Part) → IsSentTo limit count job rule from upto before sent reached since → since ≤ upto → reached ≤ limit → IsNext job rule since upto sent new piece end brought → (limit < reached + brought) ⊎ (upto ≤ end) → IsSent limit count job rule from upto before new (reached + brought)
+pub sent_all :
+    (limit count job : ℕ) (rule : Rule) (from upto : ℕ) (before sent new : List Note) (reached since end brought : ℕ) (piece : Part) →
+    IsSentTo limit count job rule from upto before sent reached since → since ≤ upto → reached ≤ limit →
+    IsNext job rule since upto sent new piece end brought → (limit < reached + brought) ⊎ (upto ≤ end) →
+    IsSent limit count job rule from upto before new (reached + brought)
 sent_all limit count job rule from upto before sent new reached since end brought piece so_far part few next stop rest =
     let first = first_of_job job rule since upto in
     let new_is : new ≡ sent ++ first ∷ [] = next.new_is ∙ ap (λ (p : Part). sent ++ note.Part job p ∷ []) next.piece_is in
@@ -117,10 +142,8 @@ sent_all limit count job rule from upto before sent new reached since end brough
 
 -- what is left of a planner's notes from a job on
 abbrev pub left_from : (limit count job planner planners : ℕ) → List Rule → Bounds → List Note
-left_from limit count job planner planners rules span = cut_rest limit count (parts_from job planner planners (drop job rules) span ++ note.Last ∷ [])
-
-pub left_at_begin : (limit planner planners : ℕ) (rules : List Rule) (span : Bounds) → sent_by planner planners limit rules span ≡ left_from limit 0 0 planner planners rules span
-left_at_begin limit planner planners rules span = sym (rest_few limit 0 (tiling planner planners rules span) (omega arith))
+left_from limit count job planner planners rules span = cut_rest limit count
+    (parts_from job planner planners (drop job rules) span ++ note.Last ∷ [])
 
 drop_here : (rules : List Rule) (n : ℕ) (rule : Rule) → slice_get rules n ≡ Some rule → drop n rules ≡ rule ∷ drop (n + 1) rules
 drop_here [] n rule is = absurd cc
@@ -136,13 +159,20 @@ rule_at (rule ∷ rules) zero inside = (rule, refl)
 rule_at (rule ∷ rules) (suc n) inside = rule_at rules n (omega arith)
 
 -- a job of another planner leaves it so
-pub left_other : (limit count job planner planners : ℕ) (rules : List Rule) (span : Bounds) (rule : Rule) → slice_get rules job ≡ Some rule → (job % planners ≡ planner → ⊥) → left_from limit count job planner planners rules span ≡ left_from limit count (job + 1) planner planners rules span
+pub left_other :
+    (limit count job planner planners : ℕ) (rules : List Rule) (span : Bounds) (rule : Rule) → slice_get rules job ≡ Some rule →
+    (job % planners ≡ planner → ⊥) →
+    left_from limit count job planner planners rules span ≡ left_from limit count (job + 1) planner planners rules span
 left_other limit count job planner planners rules span rule is other =
     ap (λ rs. cut_rest limit count (parts_from job planner planners rs span ++ note.Last ∷ [])) (drop_here rules job rule is)
     ∙ ap (λ notes. cut_rest limit count (notes ++ note.Last ∷ [])) (parts_other job planner planners rule (drop (job + 1) rules) span other)
 
 -- of a job of the planner the pieces come first
-pub left_own : (limit count job planner planners : ℕ) (rules : List Rule) (span : Bounds) (rule : Rule) → slice_get rules job ≡ Some rule → job % planners ≡ planner → left_from limit count job planner planners rules span ≡ left_of limit count job rule span.since span.upto (parts_from (job + 1) planner planners (drop (job + 1) rules) span ++ note.Last ∷ [])
+pub left_own :
+    (limit count job planner planners : ℕ) (rules : List Rule) (span : Bounds) (rule : Rule) → slice_get rules job ≡ Some rule →
+    job % planners ≡ planner →
+    left_from limit count job planner planners rules span ≡ left_of limit count job rule span.since span.upto
+    (parts_from (job + 1) planner planners (drop (job + 1) rules) span ++ note.Last ∷ [])
 left_own limit count job planner planners rules span rule is own =
     let later = parts_from (job + 1) planner planners (drop (job + 1) rules) span in
     ap (λ rs. cut_rest limit count (parts_from job planner planners rs span ++ note.Last ∷ [])) (drop_here rules job rule is)
@@ -156,7 +186,9 @@ drop_past (rule ∷ rules) zero past = absurd (omega arith)
 drop_past (rule ∷ rules) (suc n) past = drop_past rules n (omega arith)
 
 -- after all jobs the last note is left
-pub left_at_end : (limit count job planner planners : ℕ) (rules : List Rule) (span : Bounds) → length rules ≤ job → count ≤ limit → left_from limit count job planner planners rules span ≡ note.Last ∷ []
+pub left_at_end :
+    (limit count job planner planners : ℕ) (rules : List Rule) (span : Bounds) → length rules ≤ job → count ≤ limit →
+    left_from limit count job planner planners rules span ≡ note.Last ∷ []
 left_at_end limit count job planner planners rules span all few =
     let still : count + 0 ≤ limit = omega arith in
     ap (λ rs. cut_rest limit count (parts_from job planner planners rs span ++ note.Last ∷ [])) (drop_past rules job all)
@@ -179,7 +211,9 @@ job_there (job ∷ jobs) zero none lt = cc
 job_there (job ∷ jobs) (suc n) none lt = job_there jobs n none (omega arith)
 
 -- a job of a rule that is the job's
-pub rule_of : (jobs : List JobParts) (n : ℕ) (job : JobParts) (rule : Rule) → Some job ≡ slice_get jobs n → rule ≡ job.rule → slice_get (rules_of jobs) n ≡ Some rule
+pub rule_of :
+    (jobs : List JobParts) (n : ℕ) (job : JobParts) (rule : Rule) → Some job ≡ slice_get jobs n → rule ≡ job.rule →
+    slice_get (rules_of jobs) n ≡ Some rule
 rule_of jobs n job rule there is = rule_there jobs n job (sym there) ∙ ap Some (sym is)
 
 -- there are as many rules as jobs
@@ -193,37 +227,54 @@ abbrev pub IsSentUpTo : (limit planner planners : ℕ) → List Rule → Bounds 
 IsSentUpTo limit planner planners rules span sent count job =
     sent_by planner planners limit rules span ≡ sent ++ left_from limit count job planner planners rules span
 
-pub upto_begin : (limit planner planners : ℕ) (rules : List Rule) (span : Bounds) (sent : List Note) → sent ≡ [] → IsSentUpTo limit planner planners rules span sent 0 0
-upto_begin limit planner planners rules span sent none =
-    left_at_begin limit planner planners rules span ∙ ap (λ (notes : List Note). notes ++ left_from limit 0 0 planner planners rules span) (sym none)
-
-pub upto_other : (limit planner planners : ℕ) (rules : List Rule) (span : Bounds) (sent : List Note) (count job : ℕ) → IsSentUpTo limit planner planners rules span sent count job → job < length rules → (job % planners ≡ planner → ⊥) → IsSentUpTo limit planner planners rules span sent count (job + 1)
+pub upto_other :
+    (limit planner planners : ℕ) (rules : List Rule) (span : Bounds) (sent : List Note) (count job : ℕ) →
+    IsSentUpTo limit planner planners rules span sent count job → job < length rules → (job % planners ≡ planner → ⊥) →
+    IsSentUpTo limit planner planners rules span sent count (job + 1)
 upto_other limit planner planners rules span sent count job so_far inside other =
     let there = rule_at rules job inside in
     so_far ∙ ap (λ notes. sent ++ notes) (left_other limit count job planner planners rules span there.0 there.1 other)
 
 -- what was to be sent, where a job of the planner is next
-own_whole : (limit planner planners : ℕ) (rules : List Rule) (span : Bounds) (sent : List Note) (count job : ℕ) (rule : Rule) → IsSentUpTo limit planner planners rules span sent count job → slice_get rules job ≡ Some rule → job % planners ≡ planner → sent_by planner planners limit rules span ≡ sent ++ left_of limit count job rule span.since span.upto (parts_from (job + 1) planner planners (drop (job + 1) rules) span ++ note.Last ∷ [])
+own_whole :
+    (limit planner planners : ℕ) (rules : List Rule) (span : Bounds) (sent : List Note) (count job : ℕ) (rule : Rule) →
+    IsSentUpTo limit planner planners rules span sent count job → slice_get rules job ≡ Some rule → job % planners ≡ planner →
+    sent_by planner planners limit rules span ≡ sent ++ left_of limit count job rule span.since span.upto
+    (parts_from (job + 1) planner planners (drop (job + 1) rules) span ++ note.Last ∷ [])
 own_whole limit planner planners rules span sent count job rule so_far there own =
     so_far ∙ ap (λ notes. sent ++ notes) (left_own limit count job planner planners rules span rule there own)
 
-pub upto_own : (limit planner planners : ℕ) (rules : List Rule) (span : Bounds) (sent new : List Note) (count reached job : ℕ) (rule : Rule) → IsSentUpTo limit planner planners rules span sent count job → slice_get rules job ≡ Some rule → job % planners ≡ planner → IsSent limit count job rule span.since span.upto sent new reached → IsSentUpTo limit planner planners rules span new reached (job + 1)
+pub upto_own :
+    (limit planner planners : ℕ) (rules : List Rule) (span : Bounds) (sent new : List Note) (count reached job : ℕ) (rule : Rule) →
+    IsSentUpTo limit planner planners rules span sent count job → slice_get rules job ≡ Some rule → job % planners ≡ planner →
+    IsSent limit count job rule span.since span.upto sent new reached →
+    IsSentUpTo limit planner planners rules span new reached (job + 1)
 upto_own limit planner planners rules span sent new count reached job rule so_far there own all =
     own_whole limit planner planners rules span sent count job rule so_far there own
     ∙ all (parts_from (job + 1) planner planners (drop (job + 1) rules) span ++ note.Last ∷ [])
 
-pub upto_own_part : (limit planner planners : ℕ) (rules : List Rule) (span : Bounds) (sent new : List Note) (count job : ℕ) (rule : Rule) → IsSentUpTo limit planner planners rules span sent count job → slice_get rules job ≡ Some rule → job % planners ≡ planner → ((rest : List Note) → IsPrefix new (sent ++ left_of limit count job rule span.since span.upto rest)) → IsPrefix new (sent_by planner planners limit rules span)
+pub upto_own_part :
+    (limit planner planners : ℕ) (rules : List Rule) (span : Bounds) (sent new : List Note) (count job : ℕ) (rule : Rule) →
+    IsSentUpTo limit planner planners rules span sent count job → slice_get rules job ≡ Some rule → job % planners ≡ planner →
+    ((rest : List Note) → IsPrefix new (sent ++ left_of limit count job rule span.since span.upto rest)) →
+    IsPrefix new (sent_by planner planners limit rules span)
 upto_own_part limit planner planners rules span sent new count job rule so_far there own part =
     subst (IsPrefix new) (sym (own_whole limit planner planners rules span sent count job rule so_far there own))
     (part (parts_from (job + 1) planner planners (drop (job + 1) rules) span ++ note.Last ∷ []))
 
 -- all was sent where there were more starts than the limit
-pub upto_over : (limit planner planners : ℕ) (rules : List Rule) (span : Bounds) (sent : List Note) (count job : ℕ) → IsSentUpTo limit planner planners rules span sent count job → limit < count → sent ≡ sent_by planner planners limit rules span
+pub upto_over :
+    (limit planner planners : ℕ) (rules : List Rule) (span : Bounds) (sent : List Note) (count job : ℕ) →
+    IsSentUpTo limit planner planners rules span sent count job → limit < count → sent ≡ sent_by planner planners limit rules span
 upto_over limit planner planners rules span sent count job so_far over =
-    sym (so_far ∙ ap (λ notes. sent ++ notes) (rest_over limit count (parts_from job planner planners (drop job rules) span ++ note.Last ∷ []) over) ∙ append-nil sent)
+    sym (so_far ∙ ap (λ notes. sent ++ notes)
+    (rest_over limit count (parts_from job planner planners (drop job rules) span ++ note.Last ∷ []) over) ∙ append-nil sent)
 
 -- and with the last note after all jobs
-pub upto_end : (limit planner planners : ℕ) (rules : List Rule) (span : Bounds) (sent : List Note) (count job : ℕ) → IsSentUpTo limit planner planners rules span sent count job → length rules ≤ job → count ≤ limit → sent ++ note.Last ∷ [] ≡ sent_by planner planners limit rules span
+pub upto_end :
+    (limit planner planners : ℕ) (rules : List Rule) (span : Bounds) (sent : List Note) (count job : ℕ) →
+    IsSentUpTo limit planner planners rules span sent count job → length rules ≤ job → count ≤ limit →
+    sent ++ note.Last ∷ [] ≡ sent_by planner planners limit rules span
 upto_end limit planner planners rules span sent count job so_far all few =
     sym (so_far ∙ ap (λ notes. sent ++ notes) (left_at_end limit count job planner planners rules span all few))
 

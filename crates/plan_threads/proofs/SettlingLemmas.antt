@@ -1,10 +1,12 @@
--- What is known when planners are joined.
+-- What is known when planners are joined: for the loop of `Desk::settle_all`.
+-- The receipt keeps the thread's promise (`Keeps`), and the promise is of the planner (`IsPlanner`): so are the ring
+-- and the notes. `accounts_more` adds it to those before, and `and_ok`, `and_err` go by the cases of `Result::and`.
 use Rattle.std.proofs.Common.{◌≡◌, ℕ, ◌+◌, ◌<◌, false, List, Some, Result, Ok, Err, inl, inr, ap, sym, ◌∙◌, subst, arith}
 use Rattle.std.specs.Prelude.{Bool, slice_get, IsOk, OnOk, IfErr}
 use Rattle.std.specs.Result.{result_and}
 use Rattle.std.proofs.lemmas.Bool.{cases_eq}
 use Rattle.plan_collect.specs.declared.note.Note.{Note}
-use Rattle.plan_collect.specs.declared.serial.PlanFault.{PlanFault}
+use Rattle.plan_serial.specs.declared.fault.PlanFault.{PlanFault}
 use Rattle.plan_collect.specs.Collecting.{Collected}
 use Rattle.plan_collect.specs.Tiling.{sent_by}
 use Rattle.plan_mailbox.specs.declared.outlet.Receipt.{Receipt}
@@ -13,26 +15,39 @@ use Rattle.plan_threads.specs.declared.promise.Sending.{Sending}
 use Rattle.plan_threads.specs.Promise.{Keeps}
 use Rattle.plan_threads.specs.Gathering.{IsAccounted, IsPlanner, IsThreadFault, all_notes}
 
-pub planner_ring : (c : Collected) (rings : List Ring) (k : ℕ) (p : Sending) (r : Receipt Note × Bool) → IsPlanner c rings k p → Keeps p r → slice_get rings (receipt_of r.0).sender ≡ Some (receipt_of r.0).ring
+pub planner_ring :
+    (c : Collected) (rings : List Ring) (k : ℕ) (p : Sending) (r : Receipt Note × Bool) → IsPlanner c rings k p → Keeps p r →
+    slice_get rings (receipt_of r.0).sender ≡ Some (receipt_of r.0).ring
 planner_ring c rings k p r is keeps = ap (slice_get rings) (keeps.0 ∙ is.sender) ∙ is.ring ∙ ap Some (sym keeps.1)
 
-pub planner_sent : (c : Collected) (rings : List Ring) (k : ℕ) (p : Sending) (r : Receipt Note × Bool) → IsPlanner c rings k p → Keeps p r → r.1 ≡ false → (receipt_of r.0).sent ≡ all_notes c k
-planner_sent c rings k p r is keeps granted = keeps.2 granted ∙ (λ i. sent_by (is.sender i) (is.planners i) (is.limit i) (is.rules i) (is.span i))
+pub planner_sent :
+    (c : Collected) (rings : List Ring) (k : ℕ) (p : Sending) (r : Receipt Note × Bool) → IsPlanner c rings k p → Keeps p r →
+    r.1 ≡ false → (receipt_of r.0).sent ≡ all_notes c k
+planner_sent c rings k p r is keeps granted = keeps.2 granted ∙
+    (λ i. sent_by (is.sender i) (is.planners i) (is.limit i) (is.rules i) (is.span i))
 
 -- the receipt of one more sender was settled
-pub accounts_more : (all : ℕ → List Note) (b b' : Receiving Note) (done s : ℕ) (sent : List Note) → s ≡ done → sent ≡ all done → IsAccounted b' s sent → ((k : ℕ) (x : List Note) → (k ≡ s → ⊥) → IsAccounted b k x → IsAccounted b' k x) → ((k : ℕ) → k < done → IsAccounted b k (all k)) → (k : ℕ) → k < done + 1 → IsAccounted b' k (all k)
+pub accounts_more :
+    (all : ℕ → List Note) (b b' : Receiving Note) (done s : ℕ) (sent : List Note) → s ≡ done → sent ≡ all done →
+    IsAccounted b' s sent → ((k : ℕ) (x : List Note) → (k ≡ s → ⊥) → IsAccounted b k x → IsAccounted b' k x) →
+    ((k : ℕ) → k < done → IsAccounted b k (all k)) → (k : ℕ) → k < done + 1 → IsAccounted b' k (all k)
 accounts_more all b b' done s sent own is here others before k lt =
     elim (cases_eq k done) [
-      | inl now ↦ subst (λ n. IsAccounted b' n (all n)) (sym now) (subst (λ x. IsAccounted b' done x) is (subst (λ n. IsAccounted b' n sent) own here))
+      | inl now ↦ subst (λ n. IsAccounted b' n (all n)) (sym now)
+          (subst (λ x. IsAccounted b' done x) is (subst (λ n. IsAccounted b' n sent) own here))
       | inr not ↦ others k (all k) (λ e. not (e ∙ own)) (before k (omega arith))
     ]
 
-pub and_ok : (first second : Result (Unit {0}) PlanFault) (A B C : Type 0) → OnOk first A → B → (A → B → C) → OnOk (result_and first second) C
+pub and_ok :
+    (first second : Result (Unit {0}) PlanFault) (A B C : Type 0) → OnOk first A → B → (A → B → C) →
+    OnOk (result_and first second) C
 and_ok (Ok x) (Ok y) A B C a b go = go a b
 and_ok (Ok x) (Err f) A B C a b go = tt
 and_ok (Err f) second A B C a b go = tt
 
-pub and_err : (first second : Result (Unit {0}) PlanFault) → IfErr first IsThreadFault → IsOk second → IfErr (result_and first second) IsThreadFault
+pub and_err :
+    (first second : Result (Unit {0}) PlanFault) → IfErr first IsThreadFault → IsOk second →
+    IfErr (result_and first second) IsThreadFault
 and_err (Ok x) (Ok y) a b = tt
 and_err (Ok x) (Err f) a b = absurd cc
 and_err (Err f) second a b = a

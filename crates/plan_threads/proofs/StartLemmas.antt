@@ -1,4 +1,6 @@
--- What is so where threads are started.
+-- What is so where threads are started: for `outlets` and `gathers` of `set_up`, and for the loop of `run_threads`.
+-- `fresh_from` goes by induction over the outlets and their rings, which are numbered alike. `planner_is` reads the
+-- fields of a thread's promise. Nothing was taken yet, so the history of `gathers_none` is empty.
 use Rattle.std.proofs.Common.{◌≡◌, ℕ, suc, ◌+◌, false, List, [], ◌∷◌, ◌++◌, length, map, Some, None, Ok, refl, ap, sym, ◌∙◌, subst, arith}
 use Rattle.std.specs.Prelude.{slice_get}
 use Rattle.std.specs.List.{enumerate_from}
@@ -16,8 +18,13 @@ use Rattle.plan_threads.specs.declared.promise.Sending as promise
 use Rattle.plan_threads.specs.Gathering.{AreFresh, ArePlanners, IsGathering, IsPlanner}
 
 -- one more thread
-pub planners_more : {T : Type 0} (c : Collected) (rings : List Ring) (k : ℕ) (threads : List (PromisedHandle T promise.Sending)) (thread : PromisedHandle T promise.Sending) → ArePlanners c rings k threads → IsPlanner c rings (k + length threads) thread.promise → ArePlanners c rings k (threads ++ thread ∷ [])
-planners_more c rings k [] thread are is = (let here : k + 0 ≡ k = omega arith in subst (λ n. IsPlanner c rings n thread.promise) here is, tt)
+pub planners_more :
+    {T : Type 0} (c : Collected) (rings : List Ring) (k : ℕ) (threads : List (PromisedHandle T promise.Sending))
+    (thread : PromisedHandle T promise.Sending) →
+    ArePlanners c rings k threads → IsPlanner c rings (k + length threads) thread.promise →
+    ArePlanners c rings k (threads ++ thread ∷ [])
+planners_more c rings k [] thread are is =
+    (let here : k + 0 ≡ k = omega arith in subst (λ n. IsPlanner c rings n thread.promise) here is, tt)
 planners_more c rings k (first ∷ threads) thread are is =
     let later : k + length (first ∷ threads) ≡ (k + 1) + length threads = omega arith in
     (are.0, planners_more c rings (k + 1) threads thread are.1 (subst (λ n. IsPlanner c rings n thread.promise) later is))
@@ -26,7 +33,10 @@ abbrev sending_at : ℕ × Ring → Sending Note
 sending_at p = record { sender = p.0; ring = p.1; sent = [] }
 
 -- new outlets are fresh
-fresh_from : (k : ℕ) (outlets : List (Outlet Note)) (rings all : List Ring) → map outlet_of outlets ≡ map sending_at (enumerate_from k rings) → ((i : ℕ) (ring : Ring) → slice_get rings i ≡ Some ring → slice_get all (k + i) ≡ Some ring) → AreFresh all k outlets
+fresh_from :
+    (k : ℕ) (outlets : List (Outlet Note)) (rings all : List Ring) →
+    map outlet_of outlets ≡ map sending_at (enumerate_from k rings) →
+    ((i : ℕ) (ring : Ring) → slice_get rings i ≡ Some ring → slice_get all (k + i) ≡ Some ring) → AreFresh all k outlets
 fresh_from k [] rings all are place = tt
 fresh_from k (outlet ∷ outlets) [] all are place = absurd cc
 fresh_from k (outlet ∷ outlets) (ring ∷ rings) all are place =
@@ -36,14 +46,19 @@ fresh_from k (outlet ∷ outlets) (ring ∷ rings) all are place =
       ap (λ (s : Sending Note). s.sender) here,
       subst (λ n. slice_get all n ≡ Some ring) zeroth (place 0 ring refl) ∙ ap (λ (s : Sending Note). Some s.ring) (sym here),
       ap (λ (s : Sending Note). s.sent) here,
-      fresh_from (k + 1) outlets rings all later (λ i r is. (let next : k + suc i ≡ (k + 1) + i = omega arith in subst (λ n. slice_get all n ≡ Some r) next (place (suc i) r is))),
+      fresh_from (k + 1) outlets rings all later
+          (λ i r is. (let next : k + suc i ≡ (k + 1) + i = omega arith in subst (λ n. slice_get all n ≡ Some r) next (place (suc i) r is))),
     )
 
 pub fresh_all : (outlets : List (Outlet Note)) (rings : List Ring) → map outlet_of outlets ≡ new_outlets rings → AreFresh rings 0 outlets
-fresh_all outlets rings are = fresh_from 0 outlets rings rings are (λ i ring is. (let same : 0 + i ≡ i = omega arith in subst (λ n. slice_get rings n ≡ Some ring) (sym same) is))
+fresh_all outlets rings are = fresh_from 0 outlets rings rings are
+    (λ i ring is. (let same : 0 + i ≡ i = omega arith in subst (λ n. slice_get rings n ≡ Some ring) (sym same) is))
 
 -- nothing came yet
-pub gathers_none : (planners limit : ℕ) (rules : List Rule) (span : Bounds) (c : Collected) (b : Receiving Note) (rings : List Ring) → c ≡ begun rules span planners limit → b ≡ new_inlet rings → length rings ≡ planners → IsGathering planners limit rules span c b None
+pub gathers_none :
+    (planners limit : ℕ) (rules : List Rule) (span : Bounds) (c : Collected) (b : Receiving Note) (rings : List Ring) →
+    c ≡ begun rules span planners limit → b ≡ new_inlet rings → length rings ≡ planners →
+    IsGathering planners limit rules span c b None
 gathers_none planners limit rules span c b rings is new wide =
     let size = length-replicate planners false in
     record {
@@ -61,7 +76,12 @@ gathers_none planners limit rules span c b rings is new wide =
     }
 
 -- the thread of this outlet's planner is that of planner n
-pub planner_is : (c : Collected) (rings : List Ring) (k n : ℕ) (outlet : Outlet Note) (jobs : List JobParts) (span : Bounds) (limit planners : ℕ) (p : promise.Sending) → k ≡ n → p.outlet.value ≡ outlet → p.jobs.value ≡ jobs → p.span ≡ span → p.limit ≡ limit → p.planners ≡ planners → c ≡ begun (rules_of jobs) span planners limit → (outlet_of outlet).sender ≡ k → slice_get rings k ≡ Some (outlet_of outlet).ring → IsPlanner c rings n p
+pub planner_is :
+    (c : Collected) (rings : List Ring) (k n : ℕ) (outlet : Outlet Note) (jobs : List JobParts) (span : Bounds) (limit planners : ℕ)
+    (p : promise.Sending) →
+    k ≡ n → p.outlet.value ≡ outlet → p.jobs.value ≡ jobs → p.span ≡ span → p.limit ≡ limit → p.planners ≡ planners →
+    c ≡ begun (rules_of jobs) span planners limit → (outlet_of outlet).sender ≡ k →
+    slice_get rings k ≡ Some (outlet_of outlet).ring → IsPlanner c rings n p
 planner_is c rings k n outlet jobs span limit planners p number outlet_is jobs_are span_is limit_is planners_are is own ring = record {
   sender = ap (λ (o : Outlet Note). (outlet_of o).sender) outlet_is ∙ own ∙ number;
   ring = ap (λ i. slice_get rings i) (sym number) ∙ ring ∙ ap (λ (o : Outlet Note). Some (outlet_of o).ring) (sym outlet_is);

@@ -5,8 +5,8 @@ use Rattle.plan_collect.specs.declared.note.Note.{Note}
 use Rattle.plan_collect.specs.declared.collector.CollectFault.{CollectFault}
 use Rattle.plan_collect.specs.declared.collector.CollectFault.TheVariants as collect
 use Rattle.plan_collect.specs.declared.collector.CollectFault.TheVariants.{TooMany}
-use Rattle.plan_collect.specs.declared.serial.PlanFault.{PlanFault}
-use Rattle.plan_collect.specs.declared.serial.PlanFault.TheVariants as plan
+use Rattle.plan_serial.specs.declared.fault.PlanFault.{PlanFault}
+use Rattle.plan_serial.specs.declared.fault.PlanFault.TheVariants as plan
 use Rattle.plan_collect.specs.Agenda.{Planned, agenda, planned, rules_of, IsOfJobs}
 use Rattle.plan_collect.specs.Span.{Bounds}
 use Rattle.plan_collect.specs.Collecting.{Collected, begun, refusal, after, is_complete}
@@ -30,7 +30,8 @@ Stands answer c (Some collect.NoMemory) = Unit {0}
 Stands answer c (Some fault) = answer ≡ Err fault
 
 -- the notes that were taken arrived in some order, and the collector and its first refusal are what comes of it
-pub record IsGathering (planners limit : ℕ) (rules : List Rule) (span : Bounds) (c : Collected) (b : Receiving Note) (refused : Option CollectFault) : Type 0 where
+pub record IsGathering (planners limit : ℕ) (rules : List Rule) (span : Bounds) (c : Collected) (b : Receiving Note)
+    (refused : Option CollectFault) : Type 0 where
   pub rules_are : c.rules ≡ rules
   pub span_is : c.span ≡ span
   pub limit_is : c.limit ≡ limit

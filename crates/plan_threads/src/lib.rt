@@ -1,4 +1,7 @@
 //! A plan by planner threads: each sends the pieces of its jobs through a ring of its own, and the calling thread collects them.
+//!
+//! It stands on plan_collect, for the collector, and on plan_mailbox, for the rings. Open `planning` first, then `planner`, which runs in
+//! each thread, and `desk`, where notes arrive.
 #![tactic(auto)]
 
 mod desk;

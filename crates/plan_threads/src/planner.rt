@@ -31,8 +31,8 @@ pub fn run_planner<R: Wait, G: Gate>(
     alloc: Global,
     jobs: &Jobs,
     span: Span,
-    limit: u64,
     planners: usize,
+    limit: u64,
     gate: &G,
     outlet: Outlet<Note>,
 ) -> (Receipt<Note>, bool)
@@ -49,7 +49,7 @@ pub fn run_planner<R: Wait, G: Gate>(
 {
     gate.arrive(outlet.sender());
     let mut outlet = outlet;
-    let refused = match send_notes(rt, alloc, jobs, span, limit, planners, &mut outlet) {
+    let refused = match send_notes(rt, alloc, jobs, span, planners, limit, &mut outlet) {
         Ok(()) => false,
         Err(NoMemory) => true,
     };
@@ -62,8 +62,8 @@ fn send_notes<R: Wait>(
     alloc: Global,
     jobs: &Jobs,
     span: Span,
-    limit: u64,
     planners: usize,
+    limit: u64,
     outlet: &mut Outlet<Note>,
 ) -> Result<(), NoMemory>
     requires size { is_size planners ≡ true }

@@ -14,9 +14,10 @@ use crate::desk::Desk;
 use crate::gate::Gate;
 use crate::planner::run_planner;
 use crate::promise::Sending;
-use plan_collect::{Agenda, Collector, MOST_ENTRIES, MOST_PLANNERS, Note, PlanFault, Span};
+use plan_collect::{Agenda, Collector, MOST_ENTRIES, MOST_PLANNERS, Note, Sizes, Span};
 use plan_mailbox::{MOST_ROOM, Outlet, Receipt, Rings};
 use plan_rules::Jobs;
+use plan_serial::PlanFault;
 use std::alloc::Global;
 use std::snapshot::Snapshot;
 use std::sync::Wait;
@@ -25,33 +26,36 @@ use std::sync::atomic::Ordering::SeqCst;
 use std::thread;
 use std::thread::Threads;
 
-/// The agenda of jobs over a span, if it has at most `limit` entries: the work of 1 to 8 planners, each in a thread of its own,
-/// each with room for 1 to 1,024 notes, and of the calling thread, which collects their notes. It waits for them.
+/// The agenda of jobs over a span, if it has no more entries than the limit of `sizes`: the work of its planners, each in a thread
+/// of its own, each with its room for notes, and of the calling thread, which collects their notes. It waits for them.
 ///
-/// Faults, the first of these: `BadSize` for other numbers of planners or another room; `BadLimit` for a limit other than 1 to
-/// 1,000,000; `NoMemory` where memory was refused or a thread could not be started; `Collect(TooMany)` where the agenda has
+/// Faults, the first of these: `BadSize` where the planners or the room are out of their ranges; `BadLimit` where the limit is;
+/// `NoMemory` where memory was refused or a thread could not be started; `Collect(TooMany)` where the agenda has
 /// more entries than the limit. `NotSettled` never comes.
 pub fn plan<R: Threads + Wait + Sync, G: Gate>(
     rt: &R,
     alloc: Global,
     jobs: &Jobs,
     span: Span,
-    limit: u64,
+    sizes: Sizes,
     gate: &G,
-    planners: usize,
-    room: usize,
 ) -> Result<Agenda, PlanFault>
-    ensures planned { PlansBy result (rules_of jobs.now) span limit planners room }
+    ensures planned { PlansBy result (rules_of jobs.now) span sizes }
     ensures jobs { IfOk result (λ made. IsOfJobs (length jobs.now) made.entries) }
 {
+    let Sizes {
+        planners,
+        room,
+        limit,
+    } = sizes;
     if planners < 1 || planners > MOST_PLANNERS || room < 1 || room > MOST_ROOM {
         return Err(PlanFault::BadSize);
     }
     if limit < 1 || limit > MOST_ENTRIES {
         return Err(PlanFault::BadLimit);
     }
-    let (outlets, desk) = set_up(alloc, jobs, span, limit, planners, room)?;
-    run_threads(rt, alloc, jobs, span, limit, gate, planners, outlets, desk)
+    let (outlets, desk) = set_up(alloc, jobs, span, sizes)?;
+    run_threads(rt, alloc, jobs, span, planners, limit, gate, outlets, desk)
 }
 
 // Runs the planners of these outlets, each in a thread of its own, and collects their notes at the desk.
@@ -60,9 +64,9 @@ fn run_threads<R: Threads + Wait + Sync, G: Gate>(
     alloc: Global,
     jobs: &Jobs,
     span: Span,
+    planners: usize,
     limit: u64,
     gate: &G,
-    planners: usize,
     outlets: Vec<Outlet<Note>>,
     desk: Desk,
 ) -> Result<Agenda, PlanFault>
@@ -97,8 +101,8 @@ fn run_threads<R: Threads + Wait + Sync, G: Gate>(
                     outlet: Snapshot::of(&outlet),
                     jobs: Snapshot::of(jobs),
                     span,
-                    limit,
                     planners,
+                    limit,
                 };
                 let work = move || -> (Receipt<Note>, bool)
                     requires size { is_size planners ≡ true }
@@ -109,7 +113,7 @@ fn run_threads<R: Threads + Wait + Sync, G: Gate>(
                     ensures ring { (receipt_of result.0).ring ≡ (outlet_of outlet).ring }
                     ensures all { result.1 ≡ false → (receipt_of result.0).sent
                         ≡ sent_by (outlet_of outlet).sender planners limit (rules_of jobs.entry.now) span }
-                { send_all(rt, alloc, jobs, span, limit, planners, gate, outlet, flag) };
+                { send_all(rt, alloc, jobs, span, planners, limit, gate, outlet, flag) };
                 match scope.spawn_with(promise, work) {
                     Ok(thread) => threads.push_reserved(thread),
                     Err(_) => break,
@@ -126,22 +130,20 @@ fn set_up(
     alloc: Global,
     jobs: &Jobs,
     span: Span,
-    limit: u64,
-    planners: usize,
-    room: usize,
+    sizes: Sizes,
 ) -> Result<(Vec<Outlet<Note>>, Desk), PlanFault>
-    requires size { is_size planners ≡ true }
+    requires size { is_size sizes.planners ≡ true }
     ensures outlets { IfOk result (λ made. AreFresh (inlet_of made.1.inlet).rings 0 made.0.items) }
-    ensures as_many { IfOk result (λ made. vec_len made.0 ≡ planners) }
-    ensures begun { IfOk result (λ made. made.1.collector ≡ begun (rules_of jobs.now) span planners limit) }
-    ensures gathers { IfOk result (λ made. IsGathering planners limit (rules_of jobs.now) span
+    ensures as_many { IfOk result (λ made. vec_len made.0 ≡ sizes.planners) }
+    ensures begun { IfOk result (λ made. made.1.collector ≡ begun (rules_of jobs.now) span sizes.planners sizes.limit) }
+    ensures gathers { IfOk result (λ made. IsGathering sizes.planners sizes.limit (rules_of jobs.now) span
         made.1.collector (inlet_of made.1.inlet) made.1.refused) }
     ensures memory { IfErr result (λ fault. fault ≡ PlanFault.NoMemory) }
 {
-    let Ok(collector) = Collector::new(alloc, jobs, span, planners, limit) else {
+    let Ok(collector) = Collector::new(alloc, jobs, span, sizes.planners, sizes.limit) else {
         return Err(PlanFault::NoMemory);
     };
-    let Ok(rings) = Rings::new(alloc, planners, room) else {
+    let Ok(rings) = Rings::new(alloc, sizes.planners, sizes.room) else {
         return Err(PlanFault::NoMemory);
     };
     let Ok((outlets, inlet)) = rings.split(alloc) else {
@@ -177,8 +179,8 @@ fn send_all<R: Wait, G: Gate>(
     alloc: Global,
     jobs: &Jobs,
     span: Span,
-    limit: u64,
     planners: usize,
+    limit: u64,
     gate: &G,
     outlet: Outlet<Note>,
     flag: &AtomicBool,
@@ -192,7 +194,7 @@ fn send_all<R: Wait, G: Gate>(
     ensures all { result.1 ≡ false → (receipt_of result.0).sent
         ≡ sent_by (outlet_of outlet).sender planners limit (rules_of jobs.now) span }
 {
-    let sent = run_planner(rt, alloc, jobs, span, limit, planners, gate, outlet);
+    let sent = run_planner(rt, alloc, jobs, span, planners, limit, gate, outlet);
     flag.store(true, SeqCst);
     sent
 }

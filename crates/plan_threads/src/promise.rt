@@ -14,8 +14,8 @@ pub(crate) struct Sending {
     pub(crate) outlet: Snapshot<Outlet<Note>>,
     pub(crate) jobs: Snapshot<Jobs>,
     pub(crate) span: Span,
-    pub(crate) limit: u64,
     pub(crate) planners: usize,
+    pub(crate) limit: u64,
 }
 
 impl Promise<(Receipt<Note>, bool)> for Sending {

@@ -1,6 +1,7 @@
+use plan_grammar::{RuleCause, RuleFault};
 use plan_next::NoMemory;
 use plan_sets::{MomentFault, SetFault};
-use plan_texts::{RuleCause, RuleFault, Text};
+use plan_texts::Text;
 use std::alloc::{AllocError, Global};
 use std::test::Fail;
 

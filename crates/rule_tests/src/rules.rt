@@ -1,7 +1,6 @@
 use crate::civil::{fields, second};
-use plan_grammar::{calendar_event, calendar_rule, cron_rule};
+use plan_grammar::{RuleFault, calendar_event, calendar_rule, cron_rule};
 use plan_match::{Calendar, Events, Rule};
-use plan_texts::RuleFault;
 use std::alloc::Global;
 use std::process::Abort;
 use std::test::Fail;

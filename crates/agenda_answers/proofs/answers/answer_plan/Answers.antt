@@ -5,7 +5,16 @@ use Rattle.agenda_answers.proofs.answers.answer_plan.Goals as goal
 pub returns : goal.returns
 returns g c =
     let held = g.F.Files.held c.args.files.now in
-    let out : Stream = record { takes_all = g.O.Stream.takes_all; old = g.O.Stream.holds c.args.out.now; new = g.O.Stream.holds c.plan-done.new.out } in
-    let err : Stream = record { takes_all = g.E.Stream.takes_all; old = g.E.Stream.holds c.args.err.now; new = g.E.Stream.holds c.status_of.new.err } in
-    plan_answers held c.args.wanted.now c.as_slice.result.now c.status_of.result out err c.plan-done.result c.plan-done.ensures.done c.plan-done.ensures.failed
+    let out : Stream = record {
+      takes_all = g.O.Stream.takes_all;
+      old = g.O.Stream.holds c.args.out.now;
+      new = g.O.Stream.holds c.plan-done.new.out;
+    } in
+    let err : Stream = record {
+      takes_all = g.E.Stream.takes_all;
+      old = g.E.Stream.holds c.args.err.now;
+      new = g.E.Stream.holds c.status_of.new.err;
+    } in
+    plan_answers held c.args.wanted.now c.as_slice.result.now c.status_of.result out err c.plan-done.result c.plan-done.ensures.done
+    c.plan-done.ensures.failed
     c.as_slice.ensures c.status_of.ensures.done c.status_of.ensures.failed

@@ -10,7 +10,8 @@ returns-in-NoMemory g c =
 
 pub returns-in-BadCount : goal.returns-in-BadCount
 returns-in-BadCount g c =
-    puts_as g.S.Stream.takes_all c.put-in-BadCount.result (g.S.Stream.holds c.args.stream.now) (g.S.Stream.holds c.put-in-BadCount.new.self) _ _
+    puts_as g.S.Stream.takes_all c.put-in-BadCount.result (g.S.Stream.holds c.args.stream.now) (g.S.Stream.holds c.put-in-BadCount.new.self)
+    _ _
     c.put-in-BadCount.ensures (ap (run_line c.args.timers.now) (sym c.in-BadCount.is))
 
 pub returns-in-Device : goal.returns-in-Device
@@ -21,7 +22,8 @@ returns-in-Device g c =
 pub returns-in-SameName : goal.returns-in-SameName
 returns-in-SameName g c =
     let name = ap (λ (l : List ℕ). codes "agenda: job " ++ (l ++ codes ": SameName\n")) c.name_at-in-SameName.ensures in
-    puts_as g.S.Stream.takes_all c.put_same_name.result (g.S.Stream.holds c.args.stream.now) (g.S.Stream.holds c.put_same_name.new.stream) _ _
+    puts_as g.S.Stream.takes_all c.put_same_name.result (g.S.Stream.holds c.args.stream.now) (g.S.Stream.holds c.put_same_name.new.stream) _
+    _
     c.put_same_name.ensures (name ∙ ap (run_line c.args.timers.now) (sym c.in-SameName.is))
 
 pub returns-in-Full : goal.returns-in-Full

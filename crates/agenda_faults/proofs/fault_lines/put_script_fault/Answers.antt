@@ -1,5 +1,5 @@
 use Rattle.std.proofs.Common.{◌≡◌, decimal, ap, sym, ◌∙◌}
-use Rattle.agenda_faults.specs.Causes.{script_cause}
+use Rattle.agenda_script.specs.Causes.{script_cause}
 use Rattle.agenda_faults.specs.FaultLines.{script_line}
 use Rattle.agenda_faults.proofs.FaultLineLemmas.{script_line-pieces}
 use Rattle.agenda_faults.proofs.StreamLemmas.{puts_as}
@@ -14,7 +14,7 @@ pub returns-in_default : goal.returns-in_default
 returns-in_default g c =
     let cause = c.args.fault.cause in
     let digits : c.as_bytes-line.result.now ≡ decimal c.args.fault.line = c.as_bytes-line.ensures.value ∙ c.format.ensures.text in
-    let name : c.script_cause.result.now ≡ script_cause cause = cc in
+    let name : c.as_bytes.result.now ≡ script_cause cause = cc in
     puts_as g.S.Stream.takes_all c.put_joined.result (g.S.Stream.holds c.args.stream.now) (g.S.Stream.holds c.put_joined.new.stream) _ _
     c.put_joined.ensures
-    (script_line-pieces c.args.fault.line cause c.as_bytes-line.result.now c.script_cause.result.now c.in_default.not-NoMemory digits name)
+    (script_line-pieces c.args.fault.line cause c.as_bytes-line.result.now c.as_bytes.result.now c.in_default.not-NoMemory digits name)

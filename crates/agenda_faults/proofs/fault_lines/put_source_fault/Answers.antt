@@ -1,5 +1,5 @@
 use Rattle.std.proofs.Common.{◌≡◌, decimal, ap, sym, ◌∙◌}
-use Rattle.agenda_faults.specs.Causes.{line_cause}
+use Rattle.plan_rules.specs.Causes.{line_cause}
 use Rattle.agenda_faults.specs.FaultLines.{source_line}
 use Rattle.agenda_faults.proofs.FaultLineLemmas.{source_line-text}
 use Rattle.agenda_faults.proofs.StreamLemmas.{puts_as}
@@ -14,7 +14,8 @@ pub returns-in_default : goal.returns-in_default
 returns-in_default g c =
     let cause = c.args.fault.cause in
     let digits : c.as_bytes-line.result.now ≡ decimal c.args.fault.line = c.as_bytes-line.ensures.value ∙ c.format.ensures.text in
-    let name : c.line_cause.result.now ≡ line_cause cause = cc in
+    let name : c.as_bytes.result.now ≡ line_cause cause = cc in
     puts_as g.S.Stream.takes_all c.put_line.result (g.S.Stream.holds c.args.stream.now) (g.S.Stream.holds c.put_line.new.stream) _ _
     c.put_line.ensures
-    (source_line-text c.args.source.now c.as_bytes-line.result.now c.line_cause.result.now c.args.fault.line cause c.in_default.not-NoMemory c.in_default.not-Rule digits name)
+    (source_line-text c.args.source.now c.as_bytes-line.result.now c.as_bytes.result.now c.args.fault.line cause c.in_default.not-NoMemory
+    c.in_default.not-Rule digits name)

@@ -9,7 +9,8 @@ use Rattle.agenda_sources.proofs.reading.jobs_of_sources.Goals as goal
 
 pub add_crontab-requires-2-clause-names : goal.add_crontab-requires-2-clause-names
 add_crontab-requires-2-clause-names c =
-    IfOk-at_ok (HasNoLineOf System) (ap (λ jobs. with_crontab User jobs c.args.sources.now.crontab) (sym c.new-jobs.ensures) ∙ c.in_ok-add_crontab.ensures.meaning) (users_alone c.args.sources.now.crontab)
+    IfOk-at_ok (HasNoLineOf System) (ap (λ jobs. with_crontab User jobs c.args.sources.now.crontab) (sym c.new-jobs.ensures) ∙
+    c.in_ok-add_crontab.ensures.meaning) (users_alone c.args.sources.now.crontab)
 
 pub returns-in_err-add_timers-clause-meaning : goal.returns-in_err-add_timers-clause-meaning
 returns-in_err-add_timers-clause-meaning c = search rules

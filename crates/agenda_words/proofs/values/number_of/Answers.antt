@@ -1,3 +1,6 @@
+-- Answers the one clause of `number_of`, where a number is given and where none is.
+-- `get_one` reads the text by `parse` at 32 bits, the definition by clap's test of an unsigned number: both accept the
+-- same texts and read the same number (`number_parsed`, `number_refused`).
 use Rattle.std.proofs.Common.{◌≡◌, ◌∙◌, ap, sym, arith, refl, Bool, true, false, Option, Ok, Err, Result, Some, None, List, ℕ}
 use Rattle.std.specs.Str.Parse.{ExplainsUnsignedError, HasUnsignedDigitsIfOk, ParsesUnsigned}
 use Rattle.clap.proofs.ValueTestLemmas.{accepts-Accepts, Accepts-accepts}
@@ -43,10 +46,13 @@ Reads text r = ParsesUnsigned 32 10 text r × ExplainsUnsignedError 10 text r ×
 number : (m : ArgMatches) (id : List ℕ) (r : Option ℕ) → (one_text (found_of m) id ≡ None → r ≡ None)
     → ((text : List ℕ) → one_text (found_of m) id ≡ Some text → ReadsOne Reads text r) → number_in (one_of id (rows_of (found_of m))) ≡ r
 number m id r none value =
-    ap number_in (sym (one_text-rows (found_of m) id)) ∙ number_read ParseIntError Reads (one_text (found_of m) id) r (λ text x h. h.0) none value
+    ap number_in (sym (one_text-rows (found_of m) id)) ∙ number_read ParseIntError Reads (one_text (found_of m) id) r (λ text x h. h.0) none
+    value
 
 pub returns-in-Some : goal.returns-in-Some
-returns-in-Some c = ap (wanted {X = ℕ}) (number c.args.given.now c.args.option.now c.get_one.result c.get_one.ensures.none c.get_one.ensures.value ∙ c.in-Some.is)
+returns-in-Some c = ap (wanted {X = ℕ}) (number c.args.given.now c.args.option.now c.get_one.result c.get_one.ensures.none
+    c.get_one.ensures.value ∙ c.in-Some.is)
 
 pub returns-in_ok-missing-in-None : goal.returns-in_ok-missing-in-None
-returns-in_ok-missing-in-None c = ap (wanted {X = ℕ}) (number c.args.given.now c.args.option.now c.get_one.result c.get_one.ensures.none c.get_one.ensures.value ∙ c.in-None.is)
+returns-in_ok-missing-in-None c = ap (wanted {X = ℕ})
+    (number c.args.given.now c.args.option.now c.get_one.result c.get_one.ensures.none c.get_one.ensures.value ∙ c.in-None.is)

@@ -1,3 +1,6 @@
+-- Answers the one clause of `read_words`; `asked_by` is unfolded to clap's faults.
+-- Where clap accepts, the list of faults is empty. Where it refuses, the hard case, its kind of error is a want of
+-- memory or one of that list, and all kinds of the list are answered alike (`agenda_alike`).
 use Rattle.std.proofs.Common.{◌≡◌, ◌∙◌, ◌⊎◌, inl, inr, [], ap, map, sym, subst, string_bytes}
 use Rattle.clap.specs.Faults.{fault_of}
 use Rattle.clap.specs.Kinds.{IsAmong}
@@ -13,7 +16,8 @@ unfolding asked_by
 returns-in-Ok c =
     let words = map string_bytes c.args.words.now in
     let app_is : app_of c.in_ok-command.command ≡ agenda = c.in_ok-command.ensures in
-    let accepted : fault_of agenda words ≡ [] = ap (λ (a : App). fault_of a words) (sym app_is) ∙ c.in-Ok.ensures.kinds (ap is_simple_and_free app_is ∙ agenda_is_free) in
+    let accepted : fault_of agenda words ≡ [] = ap (λ (a : App). fault_of a words) (sym app_is) ∙
+    c.in-Ok.ensures.kinds (ap is_simple_and_free app_is ∙ agenda_is_free) in
     let met : subcommand_rows_of c.in-Ok.matches ≡ subcommand_of agenda words =
     (c.in-Ok.ensures.matches (ap is_simple app_is ∙ agenda_is_simple)).1 ∙ ap (λ (a : App). subcommand_of a words) app_is in
     rw (accepted, ← met) c.asked_by_subcommand.ensures

@@ -8,7 +8,10 @@ use Rattle.plan_collect.proofs.collector.rules_in.Goals.{in-Some+in_ok-try_clone
 pub loop-number-preserved : goal.loop-number-preserved
 loop-number-preserved c = elim c.match-get.branch [
   | in-Some+in_ok-try_clone+in_ok-push w ↦
-      (λ i. map (λ rule. arc_value rule) (w.rules-is i).items) ∙ ap (map (λ rule. arc_value rule)) w.in_ok-push.ensures.items ∙ map-append _ _ _
-      ∙ rules_more c.args.jobs.now c.loop-number.number w.in-Some.job.now _ _ c.loop-number.invariant w.in-Some.ensures (w.in_ok-try_clone.ensures ∙ w.rule.ensures)
-  | in_default w ↦ absurd (job_there c.args.jobs.now c.loop-number.number w.in_default.ensures (omega (arith, c.len-number-end.ensures.len)))
+      (λ i. map (λ rule. arc_value rule) (w.rules-is i).items) ∙ ap (map (λ rule. arc_value rule)) w.in_ok-push.ensures.items
+      ∙ map-append _ _ _
+      ∙ rules_more c.args.jobs.now c.loop-number.number w.in-Some.job.now _ _ c.loop-number.invariant w.in-Some.ensures
+      (w.in_ok-try_clone.ensures ∙ w.rule.ensures)
+  | in_default w ↦ absurd (job_there c.args.jobs.now c.loop-number.number w.in_default.ensures
+      (omega (arith, c.len-number-end.ensures.len)))
 ]

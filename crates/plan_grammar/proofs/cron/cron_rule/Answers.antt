@@ -1,5 +1,5 @@
 use Rattle.std.proofs.Common.{rules}
-use Rattle.plan_texts.specs.Steps.{Gives}
+use Rattle.plan_grammar.specs.Readings.{Gives}
 use Rattle.plan_match.specs.WithinLimits.{RuleIsWithinLimits}
 use Rattle.plan_grammar.specs.Cron.{cron_reading}
 use Rattle.plan_grammar.proofs.LimitsLemmas as limits

@@ -1,3 +1,6 @@
+-- Answers the one clause of `week_days`: the set is `week_days_of` the written days.
+-- The loop's invariant: the set so far holds the days before the next one that were written. A turn adds its day or
+-- passes it (`day_added`, `day_passed`), and the set of all seven is told by its members (`collected`).
 use Rattle.std.proofs.Common.{◌≡◌, ℕ, ◌&&◌, Bool, false, nat_lt, ap, sym, ◌∙◌, arith}
 use Rattle.std.proofs.lemmas.Bool.Decides.{nat_tests}
 use Rattle.plan_sets.specs.Values.{Values, has_value}
@@ -28,12 +31,14 @@ loop-day-preserved c =
           record {
             base = ap (λ (s : Values). s.base) new ∙ c.loop-day.invariant.base;
             members = λ v. ap (λ (s : Values). has_value s v) new ∙ has_value-with_value c.loop-day.days day v
-                ∙ day_added (has_value c.loop-day.days v) test day v (sym c.has_week_day.ensures ∙ w.if-has_week_day.true) (c.loop-day.invariant.members v);
+                ∙ day_added (has_value c.loop-day.days v) test day v (sym c.has_week_day.ensures ∙ w.if-has_week_day.true)
+                (c.loop-day.invariant.members v);
           }
       | else-has_week_day w ↦ record {
         base = ap (λ (s : Values). s.base) w.days-is ∙ c.loop-day.invariant.base;
         members = λ v. ap (λ (s : Values). has_value s v) w.days-is
-            ∙ day_passed (has_value c.loop-day.days v) test day v (sym c.has_week_day.ensures ∙ w.if-has_week_day.false) (c.loop-day.invariant.members v);
+            ∙ day_passed (has_value c.loop-day.days v) test day v (sym c.has_week_day.ensures ∙ w.if-has_week_day.false)
+            (c.loop-day.invariant.members v);
       }
     ]
 

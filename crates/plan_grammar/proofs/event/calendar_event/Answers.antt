@@ -1,5 +1,5 @@
 use Rattle.std.proofs.Common.{rules, ◌≡◌, false, refl, sym, ◌∙◌, true≢false}
-use Rattle.plan_texts.specs.Steps.{Gives}
+use Rattle.plan_grammar.specs.Readings.{Gives}
 use Rattle.plan_match.specs.WithinLimits.{EventIsWithinLimits}
 use Rattle.plan_grammar.specs.Event.{has_specifier, event_reading}
 use Rattle.plan_grammar.proofs.LimitsLemmas as limits

@@ -6,4 +6,5 @@ use Rattle.plan_grammar.proofs.event.is_of_letters.Goals as goal
 
 pub returns : goal.returns
 returns c =
-    all_from_yields_List is_ascii_alphabetic _ _ _ c.all.ensures.ran (YieldsList-from_slice c.args.word.now cc) (λ x b q k. search (rules, tests))
+    all_from_yields_List is_ascii_alphabetic _ _ _ c.all.ensures.ran (YieldsList-from_slice c.args.word.now cc)
+    (λ x b q k. search (rules, tests))

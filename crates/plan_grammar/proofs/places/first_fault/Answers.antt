@@ -9,7 +9,8 @@ pub returns-in-Some : goal.returns-in-Some
 returns-in-Some c =
     let items = c.args.items.now in
     let k = c.loop-item.item-index in
-    sym (first_place_fault-found items k _ c.in-Some.fault (take_more items k _ c.loop-item-test.true) c.loop-item.invariant (sym c.fault_of.ensures ∙ c.in-Some.is))
+    sym (first_place_fault-found items k _ c.in-Some.fault (take_more items k _ c.loop-item-test.true) c.loop-item.invariant
+    (sym c.fault_of.ensures ∙ c.in-Some.is))
 
 pub loop-item-preserved : goal.loop-item-preserved
 loop-item-preserved c =

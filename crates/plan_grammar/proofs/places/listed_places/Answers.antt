@@ -1,3 +1,6 @@
+-- Answers the one clause of `listed_places`: the set holds the places from 1 to 31 that are listed.
+-- The loop's invariant: the set so far holds those before the next place. A turn adds a listed place or passes it
+-- (`place_added`, `place_passed`), and the set of all 31 is told by its members (`places_collected`).
 use Rattle.std.proofs.Common.{◌≡◌, ◌+◌, ◌-◌, ◌&&◌, ◌||◌, nat_eq, ap, sym, ◌∙◌, arith}
 use Rattle.plan_sets.specs.Values.{Values, has_value, is_among}
 use Rattle.plan_sets.specs.ValuesLaws.{has_value-no_values, has_value-with_value}
@@ -28,13 +31,15 @@ loop-place-preserved c =
             base = ap (λ (s : Values). s.base) new ∙ c.loop-place.invariant.base;
             members = λ v. ap (λ (s : Values). has_value s v) new ∙ has_value-with_value c.loop-place.places place v
                 ∙ ap (λ k. nat_eq v k || has_value c.loop-place.places v) (sym here)
-                ∙ place_added (has_value c.loop-place.places v) test n v (ap test here ∙ sym c.is_listed.ensures ∙ w.if-is_listed.true) (c.loop-place.invariant.members v)
+                ∙ place_added (has_value c.loop-place.places v) test n v
+                (ap test here ∙ sym c.is_listed.ensures ∙ w.if-is_listed.true) (c.loop-place.invariant.members v)
                 ∙ ap (λ k. is_among 1 k v && test v) (sym next);
           }
       | else-is_listed w ↦ record {
         base = ap (λ (s : Values). s.base) w.places-is ∙ c.loop-place.invariant.base;
         members = λ v. ap (λ (s : Values). has_value s v) w.places-is
-            ∙ place_passed (has_value c.loop-place.places v) test n v (ap test here ∙ sym c.is_listed.ensures ∙ w.if-is_listed.false) (c.loop-place.invariant.members v)
+            ∙ place_passed (has_value c.loop-place.places v) test n v
+            (ap test here ∙ sym c.is_listed.ensures ∙ w.if-is_listed.false) (c.loop-place.invariant.members v)
             ∙ ap (λ k. is_among 1 k v && test v) (sym next);
       }
     ]

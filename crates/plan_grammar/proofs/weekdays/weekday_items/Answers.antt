@@ -1,3 +1,6 @@
+-- Answers the one clause of `weekday_items`, on the text that `without_comma` leaves.
+-- The loop's invariant: the pieces so far, read by `weekday_item`, are the items so far. The split yields the pieces
+-- between commas; `each-step` adds an item, `each-turn` ends at a fault, and `each-end` at the last piece.
 use Rattle.std.proofs.Common.{rules, tests, ◌==◌, Ok, ap, sym, ◌∙◌}
 use Rattle.std.proofs.lemmas.Result.{err_from_is_err_and}
 use Rattle.std.proofs.lemmas.Iterator.Consumers.{YieldsList-at}
@@ -12,7 +15,8 @@ pub loop-element-preserved : goal.loop-element-preserved
 loop-element-preserved c = (
   search rules,
   search rules,
-  each-step weekday_item (λ element. element.now) c.loop-element.yielded c.in-Some.element c.loop-element.items.items _ c.loop-element.invariant.2 (sym c.weekday_item.ensures ∙ c.in_ok-weekday_item.was)
+  each-step weekday_item (λ element. element.now) c.loop-element.yielded c.in-Some.element c.loop-element.items.items _
+      c.loop-element.invariant.2 (sym c.weekday_item.ensures ∙ c.in_ok-weekday_item.was)
       ∙ ap Ok (sym (c.in_ok-push.ensures.items)),
 )
 
@@ -24,8 +28,10 @@ returns-in_err-weekday_item c =
     (λ kept. ap (λ text. each weekday_item (slice_split (λ b. b == 44) text)) (sym c.without_comma.ensures)
     ∙ each-turn weekday_item
     (YieldsList-at c.into_iter-element-iterator.ensures.into_iter_gives
-    (YieldsList-from_slice_split _ (λ b. b == 44) c.without_comma.result.now c.split-element-items.ensures.rest c.split-element-items.ensures.done c.split-element-items.ensures.closure (λ x r q k. search (rules, tests))))
-    c.loop-element.yielded _ c.loop-element.yielded_by _ _ c.in-Some.element c.in-Some.is c.next.ensures.steps c.loop-element.items.items _ c.loop-element.invariant.2 (sym c.weekday_item.ensures ∙ c.in_err-weekday_item.was))
+    (YieldsList-from_slice_split _ (λ b. b == 44) c.without_comma.result.now c.split-element-items.ensures.rest
+    c.split-element-items.ensures.done c.split-element-items.ensures.closure (λ x r q k. search (rules, tests))))
+    c.loop-element.yielded _ c.loop-element.yielded_by _ _ c.in-Some.element c.in-Some.is c.next.ensures.steps
+    c.loop-element.items.items _ c.loop-element.invariant.2 (sym c.weekday_item.ensures ∙ c.in_err-weekday_item.was))
 
 pub returns : goal.returns
 unfolding weekday_items
@@ -33,5 +39,7 @@ returns c =
     ap (λ text. each weekday_item (slice_split (λ b. b == 44) text)) (sym c.without_comma.ensures)
     ∙ each-end weekday_item
     (YieldsList-at c.into_iter-element-iterator.ensures.into_iter_gives
-    (YieldsList-from_slice_split _ (λ b. b == 44) c.without_comma.result.now c.split-element-items.ensures.rest c.split-element-items.ensures.done c.split-element-items.ensures.closure (λ x r q k. search (rules, tests))))
-    c.loop-element.yielded _ c.loop-element.yielded_by _ _ c.in-None.is c.next.ensures.steps c.loop-element.items.items c.loop-element.invariant.2
+    (YieldsList-from_slice_split _ (λ b. b == 44) c.without_comma.result.now c.split-element-items.ensures.rest
+    c.split-element-items.ensures.done c.split-element-items.ensures.closure (λ x r q k. search (rules, tests))))
+    c.loop-element.yielded _ c.loop-element.yielded_by _ _ c.in-None.is c.next.ensures.steps c.loop-element.items.items
+    c.loop-element.invariant.2

@@ -19,5 +19,7 @@ loop-step-preserved g c =
     record {
       steps = rw append_assoc (ap (λ r. c.loop-step.yielded ++ r) (sym c.in-Some.ensures.steps.0) ∙ c.loop-step.invariant.steps);
       room = omega (arith, c.push_reserved.ensures.capacity);
-      run = rw (c.push_reserved.ensures.items, c.take_step-reply.ensures.reply, c.take_step-reply.ensures.after) (IsRun-push (senders_of before) before.room c.loop-step.yielded c.loop-step.replies.items seen c.in-Some.step c.loop-step.invariant.run);
+      run = rw (c.push_reserved.ensures.items, c.take_step-reply.ensures.reply, c.take_step-reply.ensures.after)
+          (IsRun-push (senders_of before) before.room c.loop-step.yielded c.loop-step.replies.items seen c.in-Some.step
+          c.loop-step.invariant.run);
     }

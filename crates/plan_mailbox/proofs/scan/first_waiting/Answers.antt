@@ -14,6 +14,8 @@ pub returns-clause-first : goal.returns-clause-first
 returns-clause-first g c =
     let lanes = c.args.lanes.now in
     let turn = c.args.turn in
-    option_map-id c.find.result ∙ find_from_yields_List (λ s. nat_lt 0 (length (waiting_in g.L.Lane.waiting lanes s))) _ _ c.find.result c.find.ensures.ran
-    (YieldsList-from_chain (YieldsList-from_range turn (length lanes) (length lanes - turn) (cc) refl) (YieldsList-from_range 0 turn turn (cc) (omega arith)) c.chain.ensures.first_done c.chain.ensures.second_done)
+    option_map-id c.find.result ∙ find_from_yields_List (λ s. nat_lt 0 (length (waiting_in g.L.Lane.waiting lanes s))) _ _
+    c.find.result c.find.ensures.ran
+    (YieldsList-from_chain (YieldsList-from_range turn (length lanes) (length lanes - turn) (cc) refl)
+    (YieldsList-from_range 0 turn turn (cc) (omega arith)) c.chain.ensures.first_done c.chain.ensures.second_done)
     (λ x b q k. search (rules, tests))

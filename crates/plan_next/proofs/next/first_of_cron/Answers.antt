@@ -9,4 +9,5 @@ use Rattle.plan_next.proofs.next.first_of_cron.Goals as goal
 
 pub returns : goal.returns
 returns c =
-    IsFirstIn-same (admits_moment (Cron c.args.rule)) (is_start (rule.Cron c.args.rule.now)) c.args.since c.args.end c.first_moment.result (λ n h. is_start-cron c.args.rule n (omega arith)) c.first_moment.ensures
+    IsFirstIn-same (admits_moment (Cron c.args.rule)) (is_start (rule.Cron c.args.rule.now)) c.args.since c.args.end
+    c.first_moment.result (λ n h. is_start-cron c.args.rule n (omega arith)) c.first_moment.ensures

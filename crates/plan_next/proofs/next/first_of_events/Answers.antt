@@ -10,4 +10,5 @@ returns c =
     let near : c.args.since ≤ c.min-near.result = omega arith in
     let far : c.min-near.result ≤ c.min-far.result = omega arith in
     IsFirstIn-later test c.args.since c.min-near.result c.args.end c.first_within-4.result near c.in_default.ensures
-    (IsFirstIn-later test c.min-near.result c.min-far.result c.args.end c.first_within-4.result far c.in_default-first_within.ensures c.first_within-4.ensures)
+    (IsFirstIn-later test c.min-near.result c.min-far.result c.args.end c.first_within-4.result far
+    c.in_default-first_within.ensures c.first_within-4.ensures)

@@ -12,7 +12,10 @@ loop-i-preserved c =
     elim c.match-get.branch [
       | in-Some w ↦
           let is = sym c.get.ensures ∙ ap option_copied w.in-Some.is in
-          let next = subst (λ before. IsFirstIn (admits_moment (Event w.in-Some.event)) c.args.since before w.first_moment.result) w.unwrap_or-before.ensures w.first_moment.ensures in
-          rw (w.first-is, w.or-first.ensures) (more_events c.args.events.now c.loop-i.i c.args.since c.args.end w.in-Some.event c.loop-i.first w.first_moment.result is c.loop-i.invariant next)
+          let next = subst (λ before. IsFirstIn (admits_moment (Event w.in-Some.event)) c.args.since before w.first_moment.result)
+          w.unwrap_or-before.ensures w.first_moment.ensures in
+          rw (w.first-is, w.or-first.ensures)
+          (more_events c.args.events.now c.loop-i.i c.args.since c.args.end w.in-Some.event c.loop-i.first w.first_moment.result
+          is c.loop-i.invariant next)
       | in_default w ↦ absurd (omega (arith, none_past c.args.events.now c.loop-i.i (sym c.get.ensures ∙ ap option_copied w.in_default.is)))
     ]

@@ -15,8 +15,11 @@ loop-i-preserved c =
           let so_far = c.loop-i.invariant in
           let place : c.loop-i.i < length c.loop-i.kept = omega arith in
           record {
-            earliest = rw (w.earliest-is, w.min-earliest.ensures) (more_nexts c.args.events.now c.loop-i.i c.args.from c.args.end c.loop-i.earliest w.start_from-next.result event is so_far.earliest w.start_from-next.ensures);
-            kept = rw w.kept-is (AreKept-more c.args.events.now c.args.from c.args.end c.loop-i.i w.start_from-next.result c.loop-i.kept event place is w.start_from-next.ensures so_far.kept);
+            earliest = rw (w.earliest-is, w.min-earliest.ensures)
+                (more_nexts c.args.events.now c.loop-i.i c.args.from c.args.end c.loop-i.earliest w.first_of_event-next.result event
+                is so_far.earliest w.first_of_event-next.ensures);
+            kept = rw w.kept-is (AreKept-more c.args.events.now c.args.from c.args.end c.loop-i.i w.first_of_event-next.result
+                c.loop-i.kept event place is w.first_of_event-next.ensures so_far.kept);
           }
       | in_default w ↦ absurd (omega (arith, none_past c.args.events.now c.loop-i.i (sym c.get.ensures ∙ ap option_copied w.in_default.is)))
     ]

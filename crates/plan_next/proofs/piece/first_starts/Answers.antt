@@ -1,3 +1,6 @@
+-- Answers the clauses `end`, `all` and `first` of `first_starts`, and what `next_or_end` requires of the kept starts.
+-- The loop's invariant: all starts before `reached` were found, and the next one is known. It ends at a full piece with
+-- a start left over (`full_piece`), or where no start is left (`whole_part`).
 use Rattle.std.proofs.Common.{◌≡◌, ◌<◌, length, arith}
 use Rattle.plan_next.specs.Starts.{is_start}
 use Rattle.plan_next.proofs.KeptLemmas.{KeepsNexts-start}
@@ -8,33 +11,39 @@ use Rattle.plan_next.proofs.piece.first_starts.Goals.{Then-len-most}
 
 pub loop-next-init : goal.loop-next-init
 loop-next-init c = record {
-  found = found_none c.args.rule.now c.args.since c.args.upto c.args.most c.new-found.result.items c.new-found.ensures.items c.requires.part;
-  next = c.first_next-next.ensures.next;
-  kept = c.first_next-next.ensures.kept;
+  found = found_none c.args.rule.now c.args.since c.args.upto c.args.most c.new-found.result.items c.new-found.ensures.items
+      c.requires.part;
+  next = c.first_or_end-next.ensures.next;
+  kept = c.first_or_end-next.ensures.kept;
 }
 
-pub later_next-next-requires-clause-kept : goal.later_next-next-requires-clause-kept
-later_next-next-requires-clause-kept c =
+pub next_or_end-next-requires-clause-kept : goal.next_or_end-next-requires-clause-kept
+next_or_end-next-requires-clause-kept c =
     let so_far = c.loop-next.invariant in
-    KeepsNexts-start c.args.rule.now c.loop-next.reached c.args.upto c.loop-next.next c.loop-next.kept so_far.next c.loop-next-test.true c.requires.years so_far.kept
+    KeepsNexts-start c.args.rule.now c.loop-next.reached c.args.upto c.loop-next.next c.loop-next.kept so_far.next
+    c.loop-next-test.true c.requires.years so_far.kept
 
 pub loop-next-preserved : goal.loop-next-preserved
 loop-next-preserved c =
     let so_far = c.loop-next.invariant in
     let room : length c.loop-next.found.items < c.args.most = omega arith in
-    let least = IsLeastIn-next (is_start c.args.rule.now) c.loop-next.reached c.args.upto c.loop-next.next so_far.next c.loop-next-test.true in
+    let least = IsLeastIn-next (is_start c.args.rule.now) c.loop-next.reached c.args.upto c.loop-next.next so_far.next
+    c.loop-next-test.true in
     record {
-      found = found_more c.args.rule.now c.args.since c.args.upto c.args.most c.loop-next.next c.loop-next.reached c.loop-next.found.items c.push.new.self.items so_far.found least room c.in_ok-push.ensures.items;
-      next = c.later_next-next.ensures.next;
-      kept = c.later_next-next.ensures.kept;
+      found = found_more c.args.rule.now c.args.since c.args.upto c.args.most c.loop-next.next c.loop-next.reached
+          c.loop-next.found.items c.push.new.self.items so_far.found least room c.in_ok-push.ensures.items;
+      next = c.next_or_end-next.ensures.next;
+      kept = c.next_or_end-next.ensures.kept;
     }
 
 full : (c : Then-len-most) → IsWhole c.args.rule.now c.args.since c.args.upto c.args.most c.loop-next.found.items c.loop-next.reached
 full c =
     let so_far = c.loop-next.invariant in
     let many : length c.loop-next.found.items ≡ c.args.most = omega arith in
-    let least = IsLeastIn-next (is_start c.args.rule.now) c.loop-next.reached c.args.upto c.loop-next.next so_far.next c.loop-next-test.true in
-    full_piece c.args.rule.now c.args.since c.args.upto c.args.most c.loop-next.reached c.loop-next.next c.loop-next.found.items so_far.found many c.requires.room least
+    let least = IsLeastIn-next (is_start c.args.rule.now) c.loop-next.reached c.args.upto c.loop-next.next so_far.next
+    c.loop-next-test.true in
+    full_piece c.args.rule.now c.args.since c.args.upto c.args.most c.loop-next.reached c.loop-next.next c.loop-next.found.items
+    so_far.found many c.requires.room least
 
 pub returns-then-len-most-clause-end : goal.returns-then-len-most-clause-end
 returns-then-len-most-clause-end c = (full c).end_is

@@ -1,5 +1,5 @@
 use Rattle.std.proofs.Common.{◌-◌}
-use Rattle.plan_next.specs.Next.{IsNextIn, KeepsNexts}
+use Rattle.plan_next.specs.Next.{IsFirstOrEnd, KeepsNexts}
 use Rattle.plan_next.specs.Starts.{is_start}
 use Rattle.plan_next.proofs.PieceLemmas.{AreFound}
 use Rattle.plan_next.proofs.piece.first_starts.Given as goal
@@ -8,7 +8,7 @@ use Rattle.plan_next.proofs.piece.first_starts.Given as goal
 abbrev pub invariant-loop-next : goal.invariant-loop-next
 invariant-loop-next l = record {
   found : AreFound l.rule l.since l.upto l.most l.found.items l.reached;
-  next : IsNextIn (is_start l.rule) l.reached l.upto l.next;
+  next : IsFirstOrEnd (is_start l.rule) l.reached l.upto l.next;
   kept : KeepsNexts l.rule l.reached l.upto l.kept;
 }
 

@@ -1,3 +1,6 @@
+-- For `jobs_of_lines`: its loop knows what the lines so far were read as, and the jobs are those among it.
+-- A turn reads a line more, with a job (`jobs_push`) or without (`jobs_pass`). Only where the function returns is
+-- `jobs_reading` unfolded: `each` over all lines, and then the jobs.
 use Rattle.std.proofs.Common.{◌++◌, ◌∷◌, [], Ok, ap, sym, ◌∙◌}
 use Rattle.std.proofs.lemmas.Result.{err_from_is_err_and}
 use Rattle.std.specs.List.{filter_map}
@@ -14,7 +17,8 @@ returns-in_err-job c =
     let (found, so_far, jobs) = c.loop-place.invariant in
     rw (p.1, p.2)
     (λ kept. ap (λ r. r >>= λ found. Ok (filter_map (λ job. job) found))
-    (read_fault (numbered_reading c.args.kind) (λ line. line.now) c.args.lines.now c.loop-place.place _ found _ c.loop-place-test.true so_far (c.in_err-job.ensures kept)))
+    (read_fault (numbered_reading c.args.kind) (λ line. line.now) c.args.lines.now c.loop-place.place _ found _ c.loop-place-test.true
+    so_far (c.in_err-job.ensures kept)))
 
 pub loop-place-preserved : goal.loop-place-preserved
 loop-place-preserved c =
@@ -22,14 +26,17 @@ loop-place-preserved c =
     elim c.match-branch-2.branch [
       | in-Some+in_ok-push w ↦ (
         found ++ c.in_ok-job.field-0 ∷ [],
-        read_more (numbered_reading c.args.kind) (λ line. line.now) c.args.lines.now c.loop-place.place _ found _ c.loop-place-test.true so_far c.in_ok-job.ensures,
+        read_more (numbered_reading c.args.kind) (λ line. line.now) c.args.lines.now c.loop-place.place _ found _ c.loop-place-test.true
+            so_far c.in_ok-job.ensures,
         ap (λ v. v.items) w.jobs-is ∙ w.in_ok-push.ensures.items ∙ ap (λ xs. xs ++ w.in-Some.job ∷ []) jobs
             ∙ sym (jobs_push found w.in-Some.job) ∙ ap (λ j. filter_map (λ job. job) (found ++ j ∷ [])) (sym w.in-Some.is),
       )
       | in_default w ↦ (
         found ++ c.in_ok-job.field-0 ∷ [],
-        read_more (numbered_reading c.args.kind) (λ line. line.now) c.args.lines.now c.loop-place.place _ found _ c.loop-place-test.true so_far c.in_ok-job.ensures,
-        ap (λ v. v.items) w.jobs-is ∙ jobs ∙ sym (jobs_pass found) ∙ ap (λ j. filter_map (λ job. job) (found ++ j ∷ [])) (sym w.in_default.is),
+        read_more (numbered_reading c.args.kind) (λ line. line.now) c.args.lines.now c.loop-place.place _ found _ c.loop-place-test.true
+            so_far c.in_ok-job.ensures,
+        ap (λ v. v.items) w.jobs-is ∙ jobs ∙ sym (jobs_pass found) ∙ ap (λ j. filter_map (λ job. job) (found ++ j ∷ []))
+            (sym w.in_default.is),
       )
     ]
 

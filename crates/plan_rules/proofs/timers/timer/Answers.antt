@@ -1,3 +1,4 @@
+-- A name, a size and a text that are refused have their one fault; else the answer is that of the lines.
 use Rattle.std.proofs.Common.{◌≡◌, ◌≤◌, ℕ, List, length, map, true, false, Err, refl, string_bytes, ap, sym, ◌∙◌, arith, rules, subst}
 use Rattle.std.proofs.lemmas.Result.{IfErr-weaker, err_from_is_err_and}
 use Rattle.std.specs.Str.{is_utf8}
@@ -15,28 +16,34 @@ use Rattle.plan_rules.proofs.timers.timer.Goals as goal
 pub returns-in_default-clause-meaning : goal.returns-in_default-clause-meaning
 returns-in_default-clause-meaning c = λ kept.
     let named : is_timer_name c.args.name.now ≡ true = search rules in
-    timer_of_no_text c.args.name.now c.args.bytes.now named (sym c.is_too_large.ensures ∙ c.if-is_too_large.false) c.in_default.ensures.cases.0 ∙ sym (ap Err c.on_line-in_default.ensures)
+    timer_of_no_text c.args.name.now c.args.bytes.now named (sym c.is_too_large.ensures ∙ c.if-is_too_large.false)
+    c.in_default.ensures.cases.0 ∙ sym (ap Err c.on_line-in_default.ensures)
 
 pub returns-clause-meaning : goal.returns-clause-meaning
 returns-clause-meaning c =
     let named : is_timer_name c.args.name.now ≡ true = search rules in
-    let lines : map {B = ℕ × List ℕ} (λ line. (line.number, trimmed (string_bytes line.text))) c.as_slice.result.now ≡ map {B = ℕ × List ℕ} (λ line. (line.0, trimmed line.1)) (whole_lines c.args.bytes.now) =
+    let lines : map {B = ℕ × List ℕ} (λ line. (line.number, trimmed (string_bytes line.text))) c.as_slice.result.now ≡
+    map {B = ℕ × List ℕ} (λ line. (line.0, trimmed line.1)) (whole_lines c.args.bytes.now) =
     ap (map (λ line. (line.number, trimmed (string_bytes line.text)))) c.as_slice.ensures.value ∙ trimmed_lines c.in_ok-lines.lines.items
     ∙ ap (map (λ line. (line.0, trimmed line.1))) (c.in_ok-lines.ensures ∙ ap whole_lines c.in-Ok.ensures.cases.0) in
-    let meaning : timer_of_lines c.args.name.now (map (λ line. (line.number, trimmed (string_bytes line.text))) c.as_slice.result.now) ≡ timer_reading c.args.name.now c.args.bytes.now =
-    ap (timer_of_lines c.args.name.now) lines ∙ sym (timer_of_text c.args.name.now c.args.bytes.now named (sym c.is_too_large.ensures ∙ c.if-is_too_large.false) c.in-Ok.ensures.cases.1) in
+    let meaning : timer_of_lines c.args.name.now (map (λ line. (line.number, trimmed (string_bytes line.text))) c.as_slice.result.now) ≡
+    timer_reading c.args.name.now c.args.bytes.now =
+    ap (timer_of_lines c.args.name.now) lines ∙ sym (timer_of_text c.args.name.now c.args.bytes.now named
+    (sym c.is_too_large.ensures ∙ c.if-is_too_large.false) c.in-Ok.ensures.cases.1) in
     let P : TextReading JobParts → Type 0 = λ reading. GivesUnless want_of_memory (λ job. job) c.timer_of_lines.result reading in
     subst P meaning c.timer_of_lines.ensures
 
 pub returns-clause-memory : goal.returns-clause-memory
 returns-clause-memory c =
     IfErr-weaker c.timer_of_lines.result IsOwnFault (λ fault. fault.cause ≡ NoMemory → fault.line ≡ 0) (λ fault own. own.0)
-    (answered (λ job. job) c.timer_of_lines.result _ c.timer_of_lines.ensures (lines_fault c.args.name.now (map (λ line. (line.number, trimmed (string_bytes line.text))) c.as_slice.result.now)))
+    (answered (λ job. job) c.timer_of_lines.result _ c.timer_of_lines.ensures
+    (lines_fault c.args.name.now (map (λ line. (line.number, trimmed (string_bytes line.text))) c.as_slice.result.now)))
 
 pub returns-clause-own_cause : goal.returns-clause-own_cause
 returns-clause-own_cause c =
     IfErr-weaker c.timer_of_lines.result IsOwnFault (λ fault. IsOwnCause fault.cause) (λ fault own. own_cause fault.cause own.1)
-    (answered (λ job. job) c.timer_of_lines.result _ c.timer_of_lines.ensures (lines_fault c.args.name.now (map (λ line. (line.number, trimmed (string_bytes line.text))) c.as_slice.result.now)))
+    (answered (λ job. job) c.timer_of_lines.result _ c.timer_of_lines.ensures
+    (lines_fault c.args.name.now (map (λ line. (line.number, trimmed (string_bytes line.text))) c.as_slice.result.now)))
 
 pub whole_lines-requires : goal.whole_lines-requires
 whole_lines-requires c =
@@ -46,19 +53,26 @@ whole_lines-requires c =
 
 pub returns-clause-bad_name : goal.returns-clause-bad_name
 returns-clause-bad_name c = (
-  λ is. absurd (no_other c.timer_of_lines.result (of_whole BadTimerName) (answered (λ job. job) c.timer_of_lines.result _ c.timer_of_lines.ensures (lines_fault c.args.name.now (map (λ line. (line.number, trimmed (string_bytes line.text))) c.as_slice.result.now))) (λ no. no) is),
+  λ is. absurd (no_other c.timer_of_lines.result (of_whole BadTimerName)
+      (answered (λ job. job) c.timer_of_lines.result _ c.timer_of_lines.ensures
+      (lines_fault c.args.name.now (map (λ line. (line.number, trimmed (string_bytes line.text))) c.as_slice.result.now))) (λ no. no) is),
   λ other. let named : is_timer_name c.args.name.now ≡ true = search rules in absurd (cc other),
 )
 
 pub returns-clause-too_large : goal.returns-clause-too_large
 returns-clause-too_large c = (
-  λ is. absurd (no_other c.timer_of_lines.result (of_whole TooLarge) (answered (λ job. job) c.timer_of_lines.result _ c.timer_of_lines.ensures (lines_fault c.args.name.now (map (λ line. (line.number, trimmed (string_bytes line.text))) c.as_slice.result.now))) (λ no. no) is),
-  λ (named, large). let small : is_too_large c.args.bytes.now ≡ false = sym c.is_too_large.ensures ∙ c.if-is_too_large.false in absurd (cc large),
+  λ is. absurd (no_other c.timer_of_lines.result (of_whole TooLarge)
+      (answered (λ job. job) c.timer_of_lines.result _ c.timer_of_lines.ensures
+      (lines_fault c.args.name.now (map (λ line. (line.number, trimmed (string_bytes line.text))) c.as_slice.result.now))) (λ no. no) is),
+  λ (named, large). let small : is_too_large c.args.bytes.now ≡ false = sym c.is_too_large.ensures ∙ c.if-is_too_large.false in
+      absurd (cc large),
 )
 
 pub returns-clause-not_utf8 : goal.returns-clause-not_utf8
 returns-clause-not_utf8 c = (
-  λ is. absurd (no_other c.timer_of_lines.result (of_whole NotUtf8) (answered (λ job. job) c.timer_of_lines.result _ c.timer_of_lines.ensures (lines_fault c.args.name.now (map (λ line. (line.number, trimmed (string_bytes line.text))) c.as_slice.result.now))) (λ no. no) is),
+  λ is. absurd (no_other c.timer_of_lines.result (of_whole NotUtf8)
+      (answered (λ job. job) c.timer_of_lines.result _ c.timer_of_lines.ensures
+      (lines_fault c.args.name.now (map (λ line. (line.number, trimmed (string_bytes line.text))) c.as_slice.result.now))) (λ no. no) is),
   λ (named, (small, other)). let text = is_text c.args.bytes.now c.in-Ok.ensures.cases.1 in absurd (cc other),
 )
 

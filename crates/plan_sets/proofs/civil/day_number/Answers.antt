@@ -1,4 +1,6 @@
 -- The date that was made has the year, month and day that were given.
+-- Answers clause `some` of `day_number`, where jiff refuses the date and where it made one. Each cast that succeeds
+-- keeps its number, so jiff takes every date of the calendar, and what it made is one.
 use Rattle.std.proofs.Common.{◌≡◌, Err, Ok, Result, Some, sym, ap, of_z, refl, to_z, to_z-of_z, w16, w8, ◌∙◌}
 use Rattle.std.specs.Option.{is_some}
 use Rattle.std.specs.Result.{result_ok}

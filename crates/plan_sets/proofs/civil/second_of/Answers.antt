@@ -1,4 +1,6 @@
 -- The number of a date and time in the planner's years is one of its seconds.
+-- Answers the clauses `range`, `number` and `fields` of `second_of`, and that its cast loses nothing. The number lies
+-- from 0 up to the end, so the cast keeps it; that its civil fields are those given is `Shows-civil_fields`.
 use Rattle.std.proofs.Common.{◌∙◌, ◌<ℤ◌, ◌≤ℤ◌, arith, of_z, pos, refl, to_z, unsigned_abs, w64}
 use Rattle.jiff_core.proofs.SignedLemmas.{signed_arith}
 use Rattle.plan_sets.specs.Limits.{end_second}

@@ -1,25 +1,32 @@
-use Rattle.std.proofs.Common.{◌+◌, ◌||◌, nat_eq, ap, ◌∙◌}
+-- Step by step: the set has those up to the value, and no value between two of them is one.
+use Rattle.std.proofs.Common.{◌≡◌, ◌+◌, ◌-◌, ◌%◌, ◌||◌, nat_eq, ap, ◌∙◌, arith}
+use Rattle.std.proofs.Math.Nat.{add-mod_right}
 use Rattle.plan_sets.specs.Values.{Values, has_value}
 use Rattle.plan_sets.specs.ValuesLaws.{has_value-with_value}
-use Rattle.plan_sets.proofs.ItemsLemmas.{step_added, step_passed}
+use Rattle.plan_sets.proofs.ItemsLemmas.{last_step_added, step_added}
 use Rattle.plan_sets.proofs.item.add_steps.Goals as goal
-use Rattle.plan_sets.proofs.item.add_steps.Goals.{then-offset-step-eq0, else-offset-step-eq0}
 
-pub loop-offset-preserved : goal.loop-offset-preserved
-loop-offset-preserved c =
+pub returns-then-last-value-clause-added : goal.returns-then-last-value-clause-added
+returns-then-last-value-clause-added c v =
     let a = c.args in
-    let offset = c.loop-offset.offset in
-    elim c.if-offset-step-eq0.branch [
-      | then-offset-step-eq0 w ↦
-          let new = w.values-is ∙ w.insert.ensures in (
-            ap (λ (s : Values). s.base) new ∙ c.loop-offset.invariant.0,
-            λ v. ap (λ (s : Values). has_value s v) new ∙ has_value-with_value c.loop-offset.values (a.first + offset) v
-                ∙ ap (λ b. nat_eq v (a.first + offset) || b) (c.loop-offset.invariant.1 v)
-                ∙ step_added a.first offset a.step v (has_value a.values.now v) w.if-offset-step-eq0.true,
-          )
-      | else-offset-step-eq0 w ↦ (
-        ap (λ (s : Values). s.base) w.values-is ∙ c.loop-offset.invariant.0,
-        λ v. ap (λ (s : Values). has_value s v) w.values-is ∙ c.loop-offset.invariant.1 v
-            ∙ step_passed a.first offset a.step v (has_value a.values.now v) w.if-offset-step-eq0.false,
-      )
-    ]
+    let so_far = c.loop-value.invariant in
+    ap (λ (s : Values). has_value s v) c.insert.ensures ∙ has_value-with_value c.loop-value.values c.loop-value.value v
+    ∙ ap (λ b. nat_eq v c.loop-value.value || b) (so_far.added v)
+    ∙ last_step_added a.first c.loop-value.value a.last a.step v (has_value a.values.now v) c.requires.moves so_far.from so_far.to
+    (omega (arith, c.if-last-value.true)) so_far.is_step
+
+pub loop-value-preserved : goal.loop-value-preserved
+loop-value-preserved c =
+    let a = c.args in
+    let so_far = c.loop-value.invariant in
+    let next : c.loop-value.value + a.step - a.first ≡ c.loop-value.value - a.first + a.step = omega (arith, so_far.from) in
+    record {
+      base = ap (λ (s : Values). s.base) c.insert.ensures ∙ so_far.base;
+      from = omega arith;
+      to = omega (arith, c.if-last-value.false);
+      is_step = ap (λ n. n % a.step) next ∙ add-mod_right (c.loop-value.value - a.first) a.step ∙ so_far.is_step;
+      added = λ v.
+          ap (λ (s : Values). has_value s v) c.insert.ensures ∙ has_value-with_value c.loop-value.values c.loop-value.value v
+          ∙ ap (λ b. nat_eq v c.loop-value.value || b) (so_far.added v)
+          ∙ step_added a.first c.loop-value.value a.step v (has_value a.values.now v) c.requires.moves so_far.from so_far.is_step;
+    }

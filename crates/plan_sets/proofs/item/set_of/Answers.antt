@@ -1,3 +1,6 @@
+-- Answers the one clause of `set_of`: the answer is `set_reading` of the items.
+-- The loop's invariant: the items so far have no fault, and the set holds their values. A faulty item ends it with the
+-- first fault (`set_reading-fault`); past the last item the set is the reading (`set_reading-values`).
 use Rattle.std.proofs.Common.{◌≡◌, ◌<◌, ◌||◌, ◌&&◌, length, ap, sym, ◌∙◌, arith, take, get_or, refl, take_all}
 use Rattle.std.proofs.lemmas.List.{take_more}
 use Rattle.std.proofs.lemmas.Bool.{eqb-true, eqb-false}
@@ -25,7 +28,8 @@ pub returns-in-Some : goal.returns-in-Some
 returns-in-Some c =
     let items = c.args.items.now in
     let k = c.loop-item.item-index in
-    sym (set_reading-fault c.args.lo c.args.hi items k _ c.in-Some.fault c.loop-item-test.true (take_more items k _ c.loop-item-test.true) c.loop-item.invariant.faultless (sym c.fault.ensures ∙ c.in-Some.is))
+    sym (set_reading-fault c.args.lo c.args.hi items k _ c.in-Some.fault c.loop-item-test.true
+    (take_more items k _ c.loop-item-test.true) c.loop-item.invariant.faultless (sym c.fault.ensures ∙ c.in-Some.is))
 
 pub loop-item-preserved : goal.loop-item-preserved
 loop-item-preserved c =
@@ -36,7 +40,8 @@ loop-item-preserved c =
     let more = take_more items k (One 0) c.loop-item-test.true in
     record {
       base = c.add_to.ensures.base;
-      faultless = ap (first_fault lo hi) more ∙ first_fault-push lo hi (take k items) _ c.loop-item.invariant.faultless ∙ sym c.fault.ensures ∙ c.in_default.is;
+      faultless = ap (first_fault lo hi) more ∙ first_fault-push lo hi (take k items) _ c.loop-item.invariant.faultless
+          ∙ sym c.fault.ensures ∙ c.in_default.is;
       held = λ v. c.add_to.ensures.added v
           ∙ ap (λ b. b || (is_within lo hi v && belongs (get_or items k (One 0)) v)) (c.loop-item.invariant.held v)
           ∙ is_held-push (take k items) (get_or items k (One 0)) lo hi v

@@ -1,4 +1,6 @@
 -- A text says one date and time alone, so it is the text of a second exactly where that date and time has its number.
+-- Answers the clauses `ok` and `accepted` of `read_moment`. Where the code refuses, `accepted` holds since the text of
+-- a second has the form, a date of the calendar and a number from 0 to the end (`Says-second`).
 use Rattle.std.proofs.Common.{FitsSigned, ◌∙◌, ◌≡◌, Ok, ap, arith, pos, sym, w64}
 use Rattle.std.specs.Bool.{⊤}
 use Rattle.std.proofs.lemmas.Bool.{false≢true}
@@ -20,7 +22,8 @@ returns-in_err-fields-clause-accepted c = λ n h e.
 pub returns-in_err-number-clause-accepted : goal.returns-in_err-number-clause-accepted
 returns-in_err-number-clause-accepted c = λ n h e.
     let text = c.as_bytes.result.now in
-    let says = MatchOption-at_some ⊤ (λ f. Says text (written_fields f)) c.in_ok-fields.fields c.in_ok-fields.ensures.ok_part c.read.ensures.some in
+    let says = MatchOption-at_some ⊤ (λ f. Says text (written_fields f)) c.in_ok-fields.fields c.in_ok-fields.ensures.ok_part
+    c.read.ensures.some in
     let found = Says-second text n (written_fields c.in_ok-fields.fields) h (c.as_bytes.ensures.value ∙ e) says in
     absurd (false≢true (c.in_err-number.ensures.variant ∙ c.second.ensures.some.1 found.0))
 
@@ -28,9 +31,11 @@ pub returns-then-number-lt0-clause-accepted : goal.returns-then-number-lt0-claus
 returns-then-number-lt0-clause-accepted c = λ n h e.
     let text = c.as_bytes.result.now in
     let w = written_fields c.in_ok-fields.fields in
-    let says = MatchOption-at_some ⊤ (λ f. Says text (written_fields f)) c.in_ok-fields.fields c.in_ok-fields.ensures.ok_part c.read.ensures.some in
+    let says = MatchOption-at_some ⊤ (λ f. Says text (written_fields f)) c.in_ok-fields.fields c.in_ok-fields.ensures.ok_part
+    c.read.ensures.some in
     let found = Says-second text n w h (c.as_bytes.ensures.value ∙ e) says in
-    let number = MatchOption-at_some ⊤ (λ z. z ≡ number_of w) c.in_ok-number.number c.in_ok-number.ensures.ok_part c.second.ensures.number in
+    let number = MatchOption-at_some ⊤ (λ z. z ≡ number_of w) c.in_ok-number.number c.in_ok-number.ensures.ok_part
+    c.second.ensures.number in
     let same : c.in_ok-number.number ≡ pos n = number ∙ found.1 in
     elim c.then-number-lt0.branch [
       | then-number-lt0-via-then-number-lt0 b ↦ absurd (omega (arith, signed_arith))
@@ -41,8 +46,10 @@ pub returns-clause-ok : goal.returns-clause-ok
 returns-clause-ok c =
     let text = c.as_bytes.result.now in
     let w = written_fields c.in_ok-fields.fields in
-    let says = MatchOption-at_some ⊤ (λ f. Says text (written_fields f)) c.in_ok-fields.fields c.in_ok-fields.ensures.ok_part c.read.ensures.some in
-    let number = MatchOption-at_some ⊤ (λ z. z ≡ number_of w) c.in_ok-number.number c.in_ok-number.ensures.ok_part c.second.ensures.number in
+    let says = MatchOption-at_some ⊤ (λ f. Says text (written_fields f)) c.in_ok-fields.fields c.in_ok-fields.ensures.ok_part
+    c.read.ensures.some in
+    let number = MatchOption-at_some ⊤ (λ z. z ≡ number_of w) c.in_ok-number.number c.in_ok-number.ensures.ok_part
+    c.second.ensures.number in
     let exists = c.second.ensures.some.0 (sym c.in_ok-number.ensures.variant) in
     let fits : FitsSigned w64 c.in_ok-number.number = rw number (second_number-fits _ _ _ _ _ _ exists) in
     let k = IsCast-second c.in_ok-number.number (omega (arith, signed_arith)) (omega (arith, signed_arith)) in
@@ -52,9 +59,11 @@ pub returns-clause-accepted : goal.returns-clause-accepted
 returns-clause-accepted c = λ n h e.
     let text = c.as_bytes.result.now in
     let w = written_fields c.in_ok-fields.fields in
-    let says = MatchOption-at_some ⊤ (λ f. Says text (written_fields f)) c.in_ok-fields.fields c.in_ok-fields.ensures.ok_part c.read.ensures.some in
+    let says = MatchOption-at_some ⊤ (λ f. Says text (written_fields f)) c.in_ok-fields.fields c.in_ok-fields.ensures.ok_part
+    c.read.ensures.some in
     let found = Says-second text n w h (c.as_bytes.ensures.value ∙ e) says in
-    let number = MatchOption-at_some ⊤ (λ z. z ≡ number_of w) c.in_ok-number.number c.in_ok-number.ensures.ok_part c.second.ensures.number in
+    let number = MatchOption-at_some ⊤ (λ z. z ≡ number_of w) c.in_ok-number.number c.in_ok-number.ensures.ok_part
+    c.second.ensures.number in
     let fits : FitsSigned w64 c.in_ok-number.number = rw number (second_number-fits _ _ _ _ _ _ found.0) in
     let k = IsCast-second c.in_ok-number.number (omega (arith, signed_arith)) (omega (arith, signed_arith)) in
     let same = k.same ∙ number ∙ found.1 in

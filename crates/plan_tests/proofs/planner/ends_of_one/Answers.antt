@@ -1,3 +1,5 @@
+-- For `ends_of_one`: a mailbox of one sender has one outlet, so the one that `pop` takes is all there are (`one_left`).
+-- The outlets of a split are new, and the first new outlet is sender 0, has the first ring and sent nothing.
 use Rattle.std.proofs.Common.{◌≡◌, List, [], ◌∷◌, ◌++◌, length, map, Some, sym, ap, ◌∙◌, arith}
 use Rattle.std.specs.List.{slice_get}
 use Rattle.std.specs.Prelude.{option_map}
@@ -19,7 +21,9 @@ first_or other [] = other
 first_or other (x ∷ xs) = x
 
 -- one new outlet is sender 0, has the first ring, and sent nothing
-one_new : {M : Type 0} (a : Outlet M) (rings : List Ring) → outlet_of a ∷ [] ≡ new_outlets rings → ((outlet_of a).sender ≡ 0) × (slice_get rings 0 ≡ Some (outlet_of a).ring) × ((outlet_of a).sent ≡ [])
+one_new :
+    {M : Type 0} (a : Outlet M) (rings : List Ring) → outlet_of a ∷ [] ≡ new_outlets rings →
+    ((outlet_of a).sender ≡ 0) × (slice_get rings 0 ≡ Some (outlet_of a).ring) × ((outlet_of a).sent ≡ [])
 unfolding first_or
 one_new a [] e = absurd (cc)
 one_new a (r ∷ rest) e = (
@@ -30,6 +34,7 @@ one_new a (r ∷ rest) e = (
 
 pub returns : goal.returns
 returns c =
-    let all = one_left _ _ _ (omega (arith, c.in-Ok.ensures.as_many, ap senders_of c.in_ok-rings.ensures.made, c.in-Ok.outlets.ok)) c.in-Some.ensures.items in
+    let all = one_left _ _ _ (omega (arith, c.in-Ok.ensures.as_many, ap senders_of c.in_ok-rings.ensures.made, c.in-Ok.outlets.ok))
+    c.in-Some.ensures.items in
     let one = one_new c.in-Some.outlet (rings_of c.in_ok-rings.rings) (sym (ap (map outlet_of) all) ∙ c.in-Ok.ensures.outlets) in
     (one.0, ap (λ b. slice_get b.rings 0) c.in-Ok.ensures.inlet ∙ one.1, one.2)

@@ -1,3 +1,6 @@
+-- Answers the clauses `value`, `again`, `first` and `nowhere` of `cut`.
+-- The loop's invariant: the text is cut where the rest is, with the passed bytes in front, and the mark stands at no
+-- place that was passed. `take_rest` turns the slices of the code into `drop`.
 use Rattle.std.proofs.Common.{◌≡◌, ℕ, ◌-◌, ◌++◌, nat_eq, length, take, drop, Some, true, false, ap, sym, ◌∙◌, arith, below_more}
 use Rattle.std.proofs.lemmas.List.{take_rest, length-take}
 use Rattle.std.specs.List.{starts_with}
@@ -13,7 +16,8 @@ loop-at-preserved c =
     let text = c.args.text.now in
     let at = c.loop-at.at in
     let later : stands_at c.args.mark.now text at ≡ false =
-    ap (λ rest. starts_with nat_eq rest c.args.mark.now) (sym (take_rest text at)) ∙ sym c.starts_with.ensures.value ∙ c.if-starts_with.false in
+    ap (λ rest. starts_with nat_eq rest c.args.mark.now) (sym (take_rest text at)) ∙ sym c.starts_with.ensures.value
+    ∙ c.if-starts_with.false in
     record {
       so_far = cut_more c.args.mark.now text at c.loop-at-test.true later c.loop-at.invariant.so_far;
       nowhere = below_more _ _ c.loop-at.invariant.nowhere later;
@@ -25,8 +29,11 @@ returns-then-starts_with-clause-value c =
     let text = c.args.text.now in
     let at = c.loop-at.at in
     let whole = take_rest text at in
-    ap (λ tail. Some (take at text, tail)) (take_rest (take (length text - at) (drop at text)) (length mark) ∙ ap (drop (length mark)) whole)
-    ∙ sym (cut_found mark text at c.loop-at-test.true (ap (λ rest. starts_with nat_eq rest mark) (sym whole) ∙ sym c.starts_with.ensures.value ∙ c.if-starts_with.true) c.loop-at.invariant.so_far)
+    ap (λ tail. Some (take at text, tail))
+    (take_rest (take (length text - at) (drop at text)) (length mark) ∙ ap (drop (length mark)) whole)
+    ∙ sym (cut_found mark text at c.loop-at-test.true
+    (ap (λ rest. starts_with nat_eq rest mark) (sym whole) ∙ sym c.starts_with.ensures.value ∙ c.if-starts_with.true)
+    c.loop-at.invariant.so_far)
 
 pub returns-then-starts_with-clause-again : goal.returns-then-starts_with-clause-again
 returns-then-starts_with-clause-again c =
@@ -37,11 +44,13 @@ returns-then-starts_with-clause-again c =
     let here : stands_at c.args.mark.now c.args.text.now c.loop-at.at ≡ true =
     ap (λ rest. starts_with nat_eq rest mark) (sym whole) ∙ sym c.starts_with.ensures.value ∙ c.if-starts_with.true in
     again mark text at here
-    ∙ ap (λ tail. take at text ++ (mark ++ tail)) (sym (take_rest (take (length text - at) (drop at text)) (length mark) ∙ ap (drop (length mark)) whole))
+    ∙ ap (λ tail. take at text ++ (mark ++ tail))
+    (sym (take_rest (take (length text - at) (drop at text)) (length mark) ∙ ap (drop (length mark)) whole))
 
 pub returns-then-starts_with-clause-first : goal.returns-then-starts_with-clause-first
 returns-then-starts_with-clause-first c =
-    nowhere_earlier c.args.mark.now c.args.text.now (length (take c.loop-at.at c.args.text.now)) c.loop-at.at (omega (arith, length-take {A = ℕ})) c.loop-at.invariant.nowhere
+    nowhere_earlier c.args.mark.now c.args.text.now (length (take c.loop-at.at c.args.text.now)) c.loop-at.at
+    (omega (arith, length-take {A = ℕ})) c.loop-at.invariant.nowhere
 
 pub returns-clause-value : goal.returns-clause-value
 returns-clause-value c = sym (cut_all c.args.mark.now c.args.text.now c.loop-at.at c.loop-at-test.false c.loop-at.invariant.so_far)

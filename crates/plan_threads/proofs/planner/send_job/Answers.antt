@@ -1,3 +1,6 @@
+-- For the loop of `send_job` and its `all`. The piece that was sent is the first of those that were left (`IsNext`).
+-- Where it ends before the span does, and the limit isn't passed, the others are left (`sent_on`). Else, whichever of
+-- the two tests stopped the loop, nothing of the job is left (`sent_all`).
 use Rattle.std.proofs.Common.{◌<◌, ◌≤◌, ◌+◌, ◌⊎◌, length, inl, inr, ap, ◌∙◌, arith}
 use Rattle.std.specs.Arc.{arc_value}
 use Rattle.plan_next.specs.Piece.{piece_of}
@@ -13,7 +16,8 @@ returns-then-reached-limit-clause-all g c =
     let rule = arc_value c.args.rule.now in
     let sent = (outlet_of c.loop-piece.outlet).sent in
     let new = (outlet_of c.send.new.outlet).sent in
-    let next : IsNext c.args.job rule c.loop-piece.since c.args.span.upto sent new c.in_ok-piece.piece c.upto-since.result (length c.starts.result.now) = record {
+    let next : IsNext c.args.job rule c.loop-piece.since c.args.span.upto sent new c.in_ok-piece.piece c.upto-since.result
+    (length c.starts.result.now) = record {
       new_is = ap (λ (s : Sending Note). s.sent) c.send.ensures;
       piece_is = c.in_ok-piece.ensures.piece ∙ ap (λ upto. piece_of rule c.loop-piece.since upto most_starts) c.upto.ensures.value;
       end_is = c.upto-since.ensures.value;
@@ -22,9 +26,12 @@ returns-then-reached-limit-clause-all g c =
     let stop : (c.args.limit < c.loop-piece.reached + length c.starts.result.now) ⊎ (c.args.span.upto ≤ c.upto-since.result) =
     elim c.then-reached-limit.branch [
       | then-reached-limit-via-then-reached-limit w ↦ inl w.if-reached-limit.true
-      | then-reached-limit-via-else-reached-limit+then-since-upto w ↦ inr (omega (arith, w.upto-else-reached-limit.ensures.value, w.if-since-upto.true))
+      | then-reached-limit-via-else-reached-limit+then-since-upto w ↦
+          inr (omega (arith, w.upto-else-reached-limit.ensures.value, w.if-since-upto.true))
     ] in
-    sent_all c.args.limit c.args.count c.args.job rule c.args.span.since c.args.span.upto (outlet_of c.args.outlet.now).sent sent new c.loop-piece.reached c.loop-piece.since c.upto-since.result (length c.starts.result.now) c.in_ok-piece.piece
+    sent_all c.args.limit c.args.count c.args.job rule c.args.span.since c.args.span.upto
+    (outlet_of c.args.outlet.now).sent sent new c.loop-piece.reached c.loop-piece.since c.upto-since.result
+    (length c.starts.result.now) c.in_ok-piece.piece
     c.loop-piece.invariant.4 c.loop-piece.invariant.0 c.loop-piece.invariant.1 next stop
 
 pub loop-piece-preserved : goal.loop-piece-preserved
@@ -32,7 +39,8 @@ loop-piece-preserved g c =
     let rule = arc_value c.args.rule.now in
     let sent = (outlet_of c.loop-piece.outlet).sent in
     let new = (outlet_of c.send.new.outlet).sent in
-    let next : IsNext c.args.job rule c.loop-piece.since c.args.span.upto sent new c.in_ok-piece.piece c.upto-since.result (length c.starts.result.now) = record {
+    let next : IsNext c.args.job rule c.loop-piece.since c.args.span.upto sent new c.in_ok-piece.piece c.upto-since.result
+    (length c.starts.result.now) = record {
       new_is = ap (λ (s : Sending Note). s.sent) c.send.ensures;
       piece_is = c.in_ok-piece.ensures.piece ∙ ap (λ upto. piece_of rule c.loop-piece.since upto most_starts) c.upto.ensures.value;
       end_is = c.upto-since.ensures.value;
@@ -43,6 +51,8 @@ loop-piece-preserved g c =
       c.if-reached-limit.false,
       ap (λ (s : Sending Note). s.sender) c.send.ensures ∙ c.loop-piece.invariant.2,
       ap (λ (s : Sending Note). s.ring) c.send.ensures ∙ c.loop-piece.invariant.3,
-      sent_on c.args.limit c.args.count c.args.job rule c.args.span.since c.args.span.upto (outlet_of c.args.outlet.now).sent sent new c.loop-piece.reached c.loop-piece.since c.upto-since.result (length c.starts.result.now) c.in_ok-piece.piece
+      sent_on c.args.limit c.args.count c.args.job rule c.args.span.since c.args.span.upto
+          (outlet_of c.args.outlet.now).sent sent new c.loop-piece.reached c.loop-piece.since c.upto-since.result
+          (length c.starts.result.now) c.in_ok-piece.piece
           c.loop-piece.invariant.4 c.loop-piece.invariant.0 c.loop-piece.invariant.1 next more,
     )

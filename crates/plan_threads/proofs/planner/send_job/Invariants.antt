@@ -12,7 +12,9 @@ invariant-loop-piece g l =
     × (l.reached ≤ l.limit)
     × ((outlet_of l.outlet).sender ≡ (outlet_of l.initial.outlet).sender)
     × ((outlet_of l.outlet).ring ≡ (outlet_of l.initial.outlet).ring)
-    × ((rest : List Note) → (outlet_of l.initial.outlet).sent ++ left_of l.limit l.count l.job (arc_value l.rule) l.span.since l.span.upto rest ≡ (outlet_of l.outlet).sent ++ left_of l.limit l.reached l.job (arc_value l.rule) l.since l.span.upto rest)
+    × ((rest : List Note) → (outlet_of l.initial.outlet).sent ++ left_of l.limit l.count l.job
+    (arc_value l.rule) l.span.since l.span.upto rest ≡ (outlet_of l.outlet).sent ++ left_of l.limit l.reached l.job
+    (arc_value l.rule) l.since l.span.upto rest)
 
 abbrev pub decreases-loop-piece : goal.decreases-loop-piece
 decreases-loop-piece g l = l.span.upto - l.since

@@ -1,3 +1,6 @@
+-- For the loop of `send_notes`, its `all` and its `prefix`. What was sent and what is left from a job on are all notes.
+-- A job of another planner leaves it so (`upto_other`), and an own job moves its pieces over (`upto_own`), or a part of
+-- them where memory was refused. Nothing is left past the limit (`upto_over`), and after all jobs only the last note.
 use Rattle.std.proofs.Common.{◌<◌, ◌+◌, ◌++◌, length, sym, ap, subst, ◌∙◌, arith}
 use Rattle.std.specs.Arc.{arc_value}
 use Rattle.plan_collect.specs.declared.note.Note.{Note}
@@ -16,7 +19,8 @@ loop-number-preserved-then-number-planners g c =
       c.loop-number.invariant.0,
       c.loop-number.invariant.1,
       c.loop-number.invariant.2,
-      upto_other c.args.limit c.sender-planner.result c.args.planners rules c.args.span (outlet_of c.loop-number.outlet).sent c.loop-number.count c.loop-number.number
+      upto_other c.args.limit c.sender-planner.result c.args.planners rules c.args.span
+          (outlet_of c.loop-number.outlet).sent c.loop-number.count c.loop-number.number
           c.loop-number.invariant.3 inside c.if-number-planners.true,
     )
 
@@ -28,9 +32,12 @@ returns-in_err-count-clause-prefix g c =
     let rule = arc_value c.rule.result.now in
     let there = rule_of c.args.jobs.now c.loop-number.number c.in-Some.job.now rule c.in-Some.ensures c.rule.ensures in
     let part : IsPrefix new (sent_by c.sender-planner.result c.args.planners c.args.limit rules c.args.span) =
-    upto_own_part c.args.limit c.sender-planner.result c.args.planners rules c.args.span sent new c.loop-number.count c.loop-number.number rule
+    upto_own_part c.args.limit c.sender-planner.result c.args.planners rules c.args.span sent new c.loop-number.count
+    c.loop-number.number rule
     c.loop-number.invariant.3 there c.if-number-planners.false c.in_err-count.ensures.prefix in
-    on_err c.from_residual.result _ (IsPrefix new (sent_by (outlet_of c.args.outlet.now).sender c.args.planners c.args.limit rules c.args.span)) c.from_residual.ensures.1
+    on_err c.from_residual.result _
+    (IsPrefix new (sent_by (outlet_of c.args.outlet.now).sender c.args.planners c.args.limit rules c.args.span))
+    c.from_residual.ensures.1
     (subst (λ k. IsPrefix new (sent_by k c.args.planners c.args.limit rules c.args.span)) c.sender-planner.ensures part)
 
 pub returns-then-count-limit-clause-all : goal.returns-then-count-limit-clause-all
@@ -42,13 +49,17 @@ returns-then-count-limit-clause-all g c =
           let rule = arc_value w.rule.result.now in
           let there = rule_of c.args.jobs.now c.loop-number.number w.in-Some.job.now rule w.in-Some.ensures w.rule.ensures in
           let new = (outlet_of w.send_job.new.outlet).sent in
-          let all : IsSentUpTo c.args.limit c.sender-planner.result c.args.planners rules c.args.span new w.in_ok-count.count (c.loop-number.number + 1) =
-          upto_own c.args.limit c.sender-planner.result c.args.planners rules c.args.span sent new c.loop-number.count w.in_ok-count.count c.loop-number.number rule
+          let all : IsSentUpTo c.args.limit c.sender-planner.result c.args.planners rules c.args.span new w.in_ok-count.count
+          (c.loop-number.number + 1) =
+          upto_own c.args.limit c.sender-planner.result c.args.planners rules c.args.span sent new c.loop-number.count
+          w.in_ok-count.count c.loop-number.number rule
           c.loop-number.invariant.3 there c.if-number-planners.false w.in_ok-count.ensures.all in
           ap (λ o. (outlet_of o).sent) w.outlet-is
-          ∙ upto_over c.args.limit c.sender-planner.result c.args.planners rules c.args.span new w.in_ok-count.count (c.loop-number.number + 1) all (omega (arith, c.if-count-limit.true, w.count-is))
+          ∙ upto_over c.args.limit c.sender-planner.result c.args.planners rules c.args.span new w.in_ok-count.count
+          (c.loop-number.number + 1) all (omega (arith, c.if-count-limit.true, w.count-is))
           ∙ ap (λ k. sent_by k c.args.planners c.args.limit rules c.args.span) c.sender-planner.ensures)
-      | in_default w ↦ absurd (job_there c.args.jobs.now c.loop-number.number w.in_default.ensures (omega (arith, c.len-number-end.ensures.len)))
+      | in_default w ↦ absurd (job_there c.args.jobs.now c.loop-number.number w.in_default.ensures
+          (omega (arith, c.len-number-end.ensures.len)))
     ]
 
 pub loop-number-preserved : goal.loop-number-preserved
@@ -60,21 +71,26 @@ loop-number-preserved g c =
           let rule = arc_value w.rule.result.now in
           let there = rule_of c.args.jobs.now c.loop-number.number w.in-Some.job.now rule w.in-Some.ensures w.rule.ensures in
           let new = (outlet_of w.send_job.new.outlet).sent in
-          let all : IsSentUpTo c.args.limit c.sender-planner.result c.args.planners rules c.args.span new w.in_ok-count.count (c.loop-number.number + 1) =
-          upto_own c.args.limit c.sender-planner.result c.args.planners rules c.args.span sent new c.loop-number.count w.in_ok-count.count c.loop-number.number rule
+          let all : IsSentUpTo c.args.limit c.sender-planner.result c.args.planners rules c.args.span new w.in_ok-count.count
+          (c.loop-number.number + 1) =
+          upto_own c.args.limit c.sender-planner.result c.args.planners rules c.args.span sent new c.loop-number.count
+          w.in_ok-count.count c.loop-number.number rule
           c.loop-number.invariant.3 there c.if-number-planners.false w.in_ok-count.ensures.all in (
             c.if-count-limit.false,
             ap (λ o. (outlet_of o).sender) w.outlet-is ∙ w.in_ok-count.ensures.sender ∙ c.loop-number.invariant.1,
             ap (λ o. (outlet_of o).ring) w.outlet-is ∙ w.in_ok-count.ensures.ring ∙ c.loop-number.invariant.2,
-            all ∙ sym (λ i. (outlet_of (w.outlet-is i)).sent ++ left_from c.args.limit (w.count-is i) (c.loop-number.number + 1) c.sender-planner.result c.args.planners rules c.args.span),
+            all ∙ sym (λ i. (outlet_of (w.outlet-is i)).sent ++ left_from c.args.limit (w.count-is i)
+                (c.loop-number.number + 1) c.sender-planner.result c.args.planners rules c.args.span),
           ))
-      | in_default w ↦ absurd (job_there c.args.jobs.now c.loop-number.number w.in_default.ensures (omega (arith, c.len-number-end.ensures.len)))
+      | in_default w ↦ absurd (job_there c.args.jobs.now c.loop-number.number w.in_default.ensures
+          (omega (arith, c.len-number-end.ensures.len)))
     ]
 
 pub returns-clause-all : goal.returns-clause-all
 returns-clause-all g c =
     let rules = rules_of c.args.jobs.now in
     ap (λ (s : Sending Note). s.sent) c.send.ensures
-    ∙ upto_end c.args.limit c.sender-planner.result c.args.planners rules c.args.span (outlet_of c.loop-number.outlet).sent c.loop-number.count c.loop-number.number
+    ∙ upto_end c.args.limit c.sender-planner.result c.args.planners rules c.args.span
+    (outlet_of c.loop-number.outlet).sent c.loop-number.count c.loop-number.number
     c.loop-number.invariant.3 (omega (arith, as_many_rules c.args.jobs.now, c.len-number-end.ensures.len)) c.loop-number.invariant.0
     ∙ ap (λ k. sent_by k c.args.planners c.args.limit rules c.args.span) c.sender-planner.ensures

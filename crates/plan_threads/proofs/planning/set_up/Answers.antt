@@ -12,10 +12,13 @@ use Rattle.plan_threads.proofs.planning.set_up.Goals as goal
 pub returns-clause-outlets : goal.returns-clause-outlets
 returns-clause-outlets c =
     let rings = rings_of c.in-Ok-new.rings in
-    subst (λ rs. AreFresh rs 0 c.in-Ok-split.outlets.items) (sym (ap (λ (b : Receiving Note). b.rings) c.in-Ok-split.ensures.inlet)) (fresh_all c.in-Ok-split.outlets.items rings c.in-Ok-split.ensures.outlets)
+    subst (λ rs. AreFresh rs 0 c.in-Ok-split.outlets.items) (sym (ap (λ (b : Receiving Note). b.rings) c.in-Ok-split.ensures.inlet))
+    (fresh_all c.in-Ok-split.outlets.items rings c.in-Ok-split.ensures.outlets)
 
 pub returns-clause-gathers : goal.returns-clause-gathers
 returns-clause-gathers c =
     let rings = rings_of c.in-Ok-new.rings in
-    let wide : length rings ≡ c.args.planners = length-map _ _ ∙ sym (length-map _ _) ∙ ap senders_of c.in-Ok-new.ensures.made ∙ length-replicate c.args.planners [] in
-    gathers_none c.args.planners c.args.limit (rules_of c.args.jobs.now) c.args.span c.in-Ok.collector (inlet_of c.in-Ok-split.inlet) rings c.in-Ok.ensures.new c.in-Ok-split.ensures.inlet wide
+    let wide : length rings ≡ c.args.sizes.planners = length-map _ _ ∙ sym (length-map _ _) ∙ ap senders_of c.in-Ok-new.ensures.made
+    ∙ length-replicate c.args.sizes.planners [] in
+    gathers_none c.args.sizes.planners c.args.sizes.limit (rules_of c.args.jobs.now) c.args.span c.in-Ok.collector
+    (inlet_of c.in-Ok-split.inlet) rings c.in-Ok.ensures.new c.in-Ok-split.ensures.inlet wide

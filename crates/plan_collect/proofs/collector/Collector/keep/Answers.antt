@@ -4,5 +4,7 @@ use Rattle.plan_collect.proofs.collector.Collector.keep.Goals as goal
 
 pub invariant_of-self-2 : goal.invariant_of-self-2
 invariant_of-self-2 c =
-    Holds-kept (the_view c.self.inside) c.args.self.now c.self.inside.entries.items c.append.new.entries.items c.args.job c.args.piece.now c.starts.result.now c.upto.result
-    c.self.view_is c.self.invariant c.requires.known c.requires.adjoins c.requires.room c.starts.ensures c.upto.ensures.value c.upto.ensures.ordered c.in_ok-append.ensures.all
+    Holds-kept (the_view c.self.inside) c.args.self.now c.self.inside.entries.items c.append.new.entries.items c.args.job
+    c.args.piece.now c.starts.result.now c.upto.result
+    c.self.view_is c.self.invariant c.requires.known c.requires.adjoins c.requires.room c.starts.ensures c.upto.ensures.value
+    c.upto.ensures.ordered c.in_ok-append.ensures.all

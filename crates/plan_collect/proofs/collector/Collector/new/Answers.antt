@@ -7,7 +7,8 @@ use Rattle.plan_collect.proofs.collector.Collector.new.Goals as goal
 
 pub invariant_of-result : goal.invariant_of-result
 invariant_of-result c =
-    Holds-begun _ c.args.span c.args.limit c.args.planners c.in_ok-from_elem.field-0.items c.in_ok-from_elem-2.field-0.items c.new.result.items c.len.result c.since.result
+    Holds-begun _ c.args.span c.args.limit c.args.planners c.in_ok-from_elem.field-0.items c.in_ok-from_elem-2.field-0.items
+    c.new.result.items c.len.result c.since.result
     (c.in_ok-from_elem.ensures.items_if_clones_equal (λ y same. same))
     (c.len.ensures ∙ c.in_ok-rules.rules.ok.0 ∙ sym (length-map _ _))
     c.since.ensures.value

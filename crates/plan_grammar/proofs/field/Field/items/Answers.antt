@@ -1,3 +1,6 @@
+-- Answers the one clause of `Field::items`: the items are `items_reading` of the text.
+-- The loop's invariant: the pieces so far, read by `item_reading`, are the items so far. The split yields the pieces
+-- between commas; `each-step` adds an item, `each-turn` ends at a fault, and `each-end` at the last piece.
 use Rattle.std.proofs.Common.{rules, tests, ◌==◌, Ok, ap, sym, ◌∙◌}
 use Rattle.std.proofs.lemmas.Result.{err_from_is_err_and}
 use Rattle.std.proofs.lemmas.Iterator.Consumers.{YieldsList-at}
@@ -10,7 +13,8 @@ pub loop-element-preserved : goal.loop-element-preserved
 loop-element-preserved c = (
   search rules,
   search rules,
-  each-step (item_reading c.args.self) (λ element. element.now) c.loop-element.yielded c.in-Some.element c.loop-element.items.items _ c.loop-element.invariant.2 (sym c.item.ensures ∙ c.in_ok-item.was)
+  each-step (item_reading c.args.self) (λ element. element.now) c.loop-element.yielded c.in-Some.element c.loop-element.items.items
+      _ c.loop-element.invariant.2 (sym c.item.ensures ∙ c.in_ok-item.was)
       ∙ ap Ok (sym (c.in_ok-push.ensures.items)),
 )
 
@@ -21,13 +25,17 @@ returns-in_err-item c =
     rw (p.1, p.2)
     (λ kept. each-turn (item_reading c.args.self)
     (YieldsList-at c.into_iter-element-iterator.ensures.into_iter_gives
-    (YieldsList-from_slice_split _ (λ b. b == 44) c.args.text.now c.split-element-items.ensures.rest c.split-element-items.ensures.done c.split-element-items.ensures.closure (λ x r q k. search (rules, tests))))
-    c.loop-element.yielded _ c.loop-element.yielded_by _ _ c.in-Some.element c.in-Some.is c.next.ensures.steps c.loop-element.items.items _ c.loop-element.invariant.2 (sym c.item.ensures ∙ c.in_err-item.was))
+    (YieldsList-from_slice_split _ (λ b. b == 44) c.args.text.now c.split-element-items.ensures.rest
+    c.split-element-items.ensures.done c.split-element-items.ensures.closure (λ x r q k. search (rules, tests))))
+    c.loop-element.yielded _ c.loop-element.yielded_by _ _ c.in-Some.element c.in-Some.is c.next.ensures.steps
+    c.loop-element.items.items _ c.loop-element.invariant.2 (sym c.item.ensures ∙ c.in_err-item.was))
 
 pub returns : goal.returns
 unfolding items_reading
 returns c =
     each-end (item_reading c.args.self)
     (YieldsList-at c.into_iter-element-iterator.ensures.into_iter_gives
-    (YieldsList-from_slice_split _ (λ b. b == 44) c.args.text.now c.split-element-items.ensures.rest c.split-element-items.ensures.done c.split-element-items.ensures.closure (λ x r q k. search (rules, tests))))
-    c.loop-element.yielded _ c.loop-element.yielded_by _ _ c.in-None.is c.next.ensures.steps c.loop-element.items.items c.loop-element.invariant.2
+    (YieldsList-from_slice_split _ (λ b. b == 44) c.args.text.now c.split-element-items.ensures.rest
+    c.split-element-items.ensures.done c.split-element-items.ensures.closure (λ x r q k. search (rules, tests))))
+    c.loop-element.yielded _ c.loop-element.yielded_by _ _ c.in-None.is c.next.ensures.steps c.loop-element.items.items
+    c.loop-element.invariant.2

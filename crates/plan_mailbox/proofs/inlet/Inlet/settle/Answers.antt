@@ -10,11 +10,16 @@ returns-clause-accounts g c =
     let within : c.args.sender < length inlet.ends.items = simp length-map at (slice_get_within _ c.args.sender _ c.requires) in
     let now = c.settle.new.self in
     let was = c.index_mut.result.now in
-    rw (taken-now inlet.turn inlet.ends.items c.args.sender now was within c.index_mut.ensures.value, known-now inlet.turn inlet.ends.items c.args.sender now was within c.index_mut.ensures.value)
+    rw (
+      taken-now inlet.turn inlet.ends.items c.args.sender now was within c.index_mut.ensures.value,
+      known-now inlet.turn
+          inlet.ends.items c.args.sender now was within c.index_mut.ensures.value,
+    )
     (c.settle.ensures.accounts ∙ c.into_producer.ensures.sent)
 
 pub returns-clause-settled : goal.returns-clause-settled
 returns-clause-settled g c =
     let inlet = c.args.self.now in
     let within : c.args.sender < length inlet.ends.items = simp length-map at (slice_get_within _ c.args.sender _ c.requires) in
-    receiving-settle inlet.turn inlet.ends.items c.args.sender c.settle.new.self c.index_mut.result.now within c.index_mut.ensures.value c.settle.ensures.ring c.settle.ensures.settled c.settle.ensures.untaken
+    receiving-settle inlet.turn inlet.ends.items c.args.sender c.settle.new.self c.index_mut.result.now within
+    c.index_mut.ensures.value c.settle.ensures.ring c.settle.ensures.settled c.settle.ensures.untaken

@@ -1,3 +1,6 @@
+-- For `unused` and `new` of `Lanes::is_new`, where no message was sent. Then both are by whether any lane is marked.
+-- For `new` nothing may wait either: what waits in a lane was sent (`waits_sent`), and by the type's `unused` none was.
+-- The turn is 0 by the type's `begins`.
 use Rattle.std.proofs.Common.{◌≡◌, true, false, not, [], length, get_or, replicate, refl, ap, sym, ◌∙◌, subst, arith}
 use Rattle.std.specs.List.{list_any, AllPass}
 use Rattle.std.proofs.lemmas.Bool.{not-true, not_from_false}
@@ -15,8 +18,13 @@ returns-then-not-self-clause-unused g c =
     let lanes = c.args.self.now.lanes in
     let marks = map g.L.Lane.marked lanes.items in
     let unsent : c.args.self.now.has_sent ≡ false = c.if-not-self.true in
-    let told : list_any (λ b. b) marks ≡ c.any_shut.result = list_any-map g.L.Lane.marked lanes.items ∙ ap (list_any g.L.Lane.marked) (sym c.deref.ensures.value) ∙ sym c.any_shut.ensures in (
-      λ none. (unsent, subst (AllPass not) (sym (none_marked marks (told ∙ not-true _ none))) (All-replicate (λ b. not b ≡ true) (length marks) false refl)),
+    let told : list_any (λ b. b) marks ≡ c.any_shut.result = list_any-map g.L.Lane.marked lanes.items ∙ ap
+    (list_any g.L.Lane.marked) (sym c.deref.ensures.value) ∙ sym c.any_shut.ensures in (
+      λ none. (
+        unsent,
+        subst (AllPass not) (sym (none_marked marks (told ∙ not-true _ none)))
+            (All-replicate (λ b. not b ≡ true) (length marks) false refl),
+      ),
       λ unused. not_from_false _ (sym told ∙ none_marked-pass marks unused.1),
     )
 
@@ -27,12 +35,14 @@ returns-then-not-self-clause-new g c =
     let lanes = mailbox.lanes in
     let marks = map g.L.Lane.marked lanes.items in
     let unsent : mailbox.has_sent ≡ false = c.if-not-self.true in
-    let told : list_any (λ b. b) marks ≡ c.any_shut.result = list_any-map g.L.Lane.marked lanes.items ∙ ap (list_any g.L.Lane.marked) (sym c.deref.ensures.value) ∙ sym c.any_shut.ensures in
+    let told : list_any (λ b. b) marks ≡ c.any_shut.result = list_any-map g.L.Lane.marked lanes.items ∙ ap
+    (list_any g.L.Lane.marked) (sym c.deref.ensures.value) ∙ sym c.any_shut.ensures in
     let many = length-map lanes.items g.L.Lane.waiting in (
       λ none.
           let nothing_waits = map_replicate g.L.Lane.waiting [] lanes.items (senders_of before) (sym many)
           (λ k d h. nil_from_length _ (omega (arith, g.met.L.Lane.waits_sent (get_or lanes.items k d), mailbox.unused unsent k d h))) in
-          let none_shut = none_marked marks (told ∙ not-true _ none) ∙ ap (λ n. replicate n false) (length-map lanes.items g.L.Lane.marked ∙ sym many) in
+          let none_shut = none_marked marks (told ∙ not-true _ none) ∙ ap (λ n. replicate n false)
+          (length-map lanes.items g.L.Lane.marked ∙ sym many) in
           IsNew-from before nothing_waits none_shut (mailbox.begins unsent) unsent,
       λ new. not_from_false _ (sym told ∙ ap (λ b. list_any (λ x. x) b.shut) new ∙ none_marked-replicate (senders_of before)),
     )

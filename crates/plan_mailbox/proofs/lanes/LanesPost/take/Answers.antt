@@ -1,3 +1,6 @@
+-- For `reply` and `after` of `Lanes::take`. Where a sender was found, the oldest message of its lane is first in line.
+-- `after` then rewrites the mailbox's lists by the one write to that lane, and reads the reply off `reply`.
+-- Where none was found nothing is in line, and the reply is by whether all lanes are shut.
 use Rattle.std.proofs.Common.{◌≡◌, ◌<◌, [], length, subst, ap, sym, ◌∙◌, true, false}
 use Rattle.std.specs.List.{list_all}
 use Rattle.std.proofs.lemmas.List.{map-set, length-map}
@@ -13,10 +16,12 @@ returns-in-Some-clause-reply g c =
     let before = mailbox_of c.args.self.now in
     let lanes = c.args.self.now.lanes in
     let lane = c.index_mut.result.now in
-    let known : c.in-Some.sender < length lanes.items = subst (λ ls. c.in-Some.sender < length ls) c.deref.ensures.value c.in-Some.ensures.known in
+    let known : c.in-Some.sender < length lanes.items = subst (λ ls. c.in-Some.sender < length ls) c.deref.ensures.value
+    c.in-Some.ensures.known in
     let was = map_read g.L.Lane.waiting lanes.items c.in-Some.sender lane [] known c.index_mut.ensures.value in
     sym (take_reply-found before c.in-Some.sender c.pop-message.result
-    (next-found-in g.L.Lane.waiting lanes.items c.deref.result.now c.args.self.now.turn c.in-Some.sender c.pop-message.result (g.L.Lane.waiting c.pop-message.new.self) c.deref.ensures.value
+    (next-found-in g.L.Lane.waiting lanes.items c.deref.result.now c.args.self.now.turn c.in-Some.sender c.pop-message.result
+    (g.L.Lane.waiting c.pop-message.new.self) c.deref.ensures.value
     (was ∙ c.pop-message.ensures.oldest) c.in-Some.ensures.first))
 
 pub returns-in-Some-clause-after : goal.returns-in-Some-clause-after
@@ -25,18 +30,24 @@ returns-in-Some-clause-after g c =
     let lanes = c.args.self.now.lanes in
     let lane = c.index_mut.result.now in
     let left = c.pop-message.new.self in
-    let known : c.in-Some.sender < length lanes.items = subst (λ ls. c.in-Some.sender < length ls) c.deref.ensures.value c.in-Some.ensures.known in
+    let known : c.in-Some.sender < length lanes.items = subst (λ ls. c.in-Some.sender < length ls) c.deref.ensures.value
+    c.in-Some.ensures.known in
     let was = map_read g.L.Lane.waiting lanes.items c.in-Some.sender lane [] known c.index_mut.ensures.value in
     let waits = map-set g.L.Lane.waiting lanes.items c.in-Some.sender left in
-    let marks_stay = map_set_same g.L.Lane.marked lanes.items c.in-Some.sender left lane known c.index_mut.ensures.value c.pop-message.ensures.mark_stays in
+    let marks_stay = map_set_same g.L.Lane.marked lanes.items c.in-Some.sender left lane known c.index_mut.ensures.value
+    c.pop-message.ensures.mark_stays in
     let many : c.len.result ≡ senders_of before = c.len.ensures ∙ lanes.ok.0 ∙ sym (length-map lanes.items g.L.Lane.waiting) in
-    rw (waits, marks_stay, many) (rw (was ∙ c.pop-message.ensures.oldest) at (sym (ap (taking_from before) (sym (returns-in-Some-clause-reply g c)))))
+    rw (waits, marks_stay, many) (rw (was ∙ c.pop-message.ensures.oldest) at
+    (sym (ap (taking_from before) (sym (returns-in-Some-clause-reply g c)))))
 
 pub returns-then-all_shut-clause-reply : goal.returns-then-all_shut-clause-reply
 returns-then-all_shut-clause-reply g c =
     let lanes = c.args.self.now.lanes in
-    let shut = list_all-map (λ b. b) g.L.Lane.marked lanes.items ∙ ap (list_all g.L.Lane.marked) (sym c.deref-in-None.ensures.value) ∙ sym c.all_shut.ensures ∙ c.if-all_shut.true in
-    sym (take_reply-none (mailbox_of c.args.self.now) true (next-none-in g.L.Lane.waiting lanes.items c.deref.result.now c.args.self.now.turn c.deref.ensures.value c.in-None.ensures.first) shut)
+    let shut = list_all-map (λ b. b) g.L.Lane.marked lanes.items ∙ ap (list_all g.L.Lane.marked) (sym c.deref-in-None.ensures.value)
+    ∙ sym c.all_shut.ensures ∙ c.if-all_shut.true in
+    sym (take_reply-none (mailbox_of c.args.self.now) true
+    (next-none-in g.L.Lane.waiting lanes.items c.deref.result.now c.args.self.now.turn c.deref.ensures.value
+    c.in-None.ensures.first) shut)
 
 pub returns-then-all_shut-clause-after : goal.returns-then-all_shut-clause-after
 returns-then-all_shut-clause-after g c = ap (taking_from (mailbox_of c.args.self.now)) (returns-then-all_shut-clause-reply g c)
@@ -44,8 +55,11 @@ returns-then-all_shut-clause-after g c = ap (taking_from (mailbox_of c.args.self
 pub returns-else-all_shut-clause-reply : goal.returns-else-all_shut-clause-reply
 returns-else-all_shut-clause-reply g c =
     let lanes = c.args.self.now.lanes in
-    let shut = list_all-map (λ b. b) g.L.Lane.marked lanes.items ∙ ap (list_all g.L.Lane.marked) (sym c.deref-in-None.ensures.value) ∙ sym c.all_shut.ensures ∙ c.if-all_shut.false in
-    sym (take_reply-none (mailbox_of c.args.self.now) false (next-none-in g.L.Lane.waiting lanes.items c.deref.result.now c.args.self.now.turn c.deref.ensures.value c.in-None.ensures.first) shut)
+    let shut = list_all-map (λ b. b) g.L.Lane.marked lanes.items ∙ ap (list_all g.L.Lane.marked) (sym c.deref-in-None.ensures.value)
+    ∙ sym c.all_shut.ensures ∙ c.if-all_shut.false in
+    sym (take_reply-none (mailbox_of c.args.self.now) false
+    (next-none-in g.L.Lane.waiting lanes.items c.deref.result.now c.args.self.now.turn c.deref.ensures.value
+    c.in-None.ensures.first) shut)
 
 pub returns-else-all_shut-clause-after : goal.returns-else-all_shut-clause-after
 returns-else-all_shut-clause-after g c = ap (taking_from (mailbox_of c.args.self.now)) (returns-else-all_shut-clause-reply g c)

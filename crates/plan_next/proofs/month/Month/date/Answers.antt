@@ -10,4 +10,5 @@ returns c =
     let known = ends_in_years month is in
     let last = is.to in
     let end = is.end_is in
-    rw c.requires.weekday (sym (civil_fields-of_month month.number month.first c.args.day (omega arith) is.first_day c.requires.from (omega arith) (omega arith)))
+    rw c.requires.weekday (sym (civil_fields-of_month month.number month.first c.args.day (omega arith) is.first_day c.requires.from
+    (omega arith) (omega arith)))

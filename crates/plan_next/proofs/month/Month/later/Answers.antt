@@ -1,3 +1,6 @@
+-- Answers clause `month` of `later`, and that the end of the month does not overflow.
+-- Both need that the day found is the first of month `number`. Of the next month it is this month's end
+-- (`IsFirstDay-end_of`); of any other `first_day` says so.
 use Rattle.std.proofs.Common.{refl, sym, ◌∙◌, subst, arith}
 use Rattle.plan_sets.specs.Months.{IsFirstDay}
 use Rattle.plan_sets.specs.MonthsLaws.{IsFirstDay-le_end}
@@ -10,7 +13,8 @@ overflow_add-result c =
     let last = c.requires.to in
     let first : IsFirstDay c.args.number c.if-number-self.first = elim c.if-number-self.branch [
       | then-number-self w ↦
-          rw w.first-is (subst (λ m. IsFirstDay m c.args.self.end) (sym w.if-number-self.true) (IsFirstDay-end_of c.args.self c.requires.month))
+          rw w.first-is (subst (λ m. IsFirstDay m c.args.self.end) (sym w.if-number-self.true)
+          (IsFirstDay-end_of c.args.self c.requires.month))
       | else-number-self w ↦ rw w.first-is w.first_day-first.ensures
     ] in
     let known = IsFirstDay-le_end c.args.number c.if-number-self.first (omega arith) first in
@@ -21,7 +25,8 @@ returns-clause-month c =
     let from = c.requires.month.from in
     let first : IsFirstDay c.args.number c.if-number-self.first = elim c.if-number-self.branch [
       | then-number-self w ↦
-          rw w.first-is (subst (λ m. IsFirstDay m c.args.self.end) (sym w.if-number-self.true) (IsFirstDay-end_of c.args.self c.requires.month))
+          rw w.first-is (subst (λ m. IsFirstDay m c.args.self.end) (sym w.if-number-self.true)
+          (IsFirstDay-end_of c.args.self c.requires.month))
       | else-number-self w ↦ rw w.first-is w.first_day-first.ensures
     ] in
     record {

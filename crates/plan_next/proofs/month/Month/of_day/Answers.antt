@@ -1,3 +1,6 @@
+-- Answers the clauses of `of_day`, that no step of its arithmetic overflows, and what `month_length` requires.
+-- All come from `IsDateOf-day`: the given fields are the date of the day, so its month begins as many days before as
+-- the day of the month tells, and ends a month's length later.
 use Rattle.std.proofs.Common.{◌+◌, ◌-◌, ap, sym, ◌∙◌, arith}
 use Rattle.plan_next.proofs.MonthLemmas.{IsDateOf-day}
 use Rattle.plan_next.proofs.month.Month.of_day.Goals as goal
@@ -28,7 +31,8 @@ returns c =
         from = omega arith;
         to = omega arith;
         first_day = rw (c.from-2.ensures, c.from.ensures) is.first_day;
-        end_is = rw c.from-2.ensures (ap (λ length. c.args.day + 1 - c.from.result + length) (c.from-3.ensures ∙ c.month_length.ensures ∙ sym is.length));
+        end_is = rw c.from-2.ensures (ap (λ length. c.args.day + 1 - c.from.result + length)
+            (c.from-3.ensures ∙ c.month_length.ensures ∙ sym is.length));
       };
       from = omega arith;
       to = omega arith;

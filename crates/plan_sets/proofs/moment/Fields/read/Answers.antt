@@ -15,9 +15,12 @@ returns-clause-some c =
     let text = c.args.text.now in
     let long : length text ≡ 20 = omega arith in
     let time = between 10 (length text) text in
-    let hour : AreDigits (get_or time 1 0) (get_or time 2 0) c.in_ok-number-5.field-0 = AreDigits-two_digits _ _ _ c.in_ok-number-5.ensures.value in
-    let minute : AreDigits (get_or time 4 0) (get_or time 5 0) c.in_ok-number-6.field-0 = AreDigits-two_digits _ _ _ c.in_ok-number-6.ensures.value in
-    let second : AreDigits (get_or time 7 0) (get_or time 8 0) c.in_ok-number-7.field-0 = AreDigits-two_digits _ _ _ c.in_ok-number-7.ensures.value in
+    let hour : AreDigits (get_or time 1 0) (get_or time 2 0) c.in_ok-number-5.field-0 =
+    AreDigits-two_digits _ _ _ c.in_ok-number-5.ensures.value in
+    let minute : AreDigits (get_or time 4 0) (get_or time 5 0) c.in_ok-number-6.field-0 =
+    AreDigits-two_digits _ _ _ c.in_ok-number-6.ensures.value in
+    let second : AreDigits (get_or time 7 0) (get_or time 8 0) c.in_ok-number-7.field-0 =
+    AreDigits-two_digits _ _ _ c.in_ok-number-7.ensures.value in
     record {
       room = omega arith;
       text_is = text_from_reads c.args.text.now _ (omega arith) (omega (arith, get_or-between {X = ℕ}));

@@ -1,4 +1,6 @@
 -- A value is a member where the bit with its distance from the base is 1.
+-- Answers the one clause of `contains`: below the base and past the words there is no member, and elsewhere the code's
+-- shift and mask read that bit (`shr_and_one`).
 use Rattle.std.proofs.Common.{◌≡◌, ◌-◌, ◌/◌, ◌%◌, ◌≤◌, ℕ, false, ap, arith, get_or, length, sym, ◌∙◌, ◌==◌}
 use Rattle.std.proofs.lemmas.Nat.Bits.{shr_and_one}
 use Rattle.std.specs.Int.{bit_at}
@@ -17,8 +19,10 @@ pub returns-in_default-get : goal.returns-in_default-get
 returns-in_default-get c =
     let fields = c.self.inside in
     let past : (k : ℕ) → set_span ≤ k → is_marked fields.words k ≡ false = λ k from. is_marked-past fields.words k (omega arith) in
-    let beyond : length fields.words ≤ (c.args.v - fields.base) / word_bits = omega (arith, c.in-Some.ensures, c.in_default-get.ensures.lookup.3) in
-    sym (has_value-from fields.base (is_marked fields.words) c.args.self.now c.self.view_is c.args.v (omega (arith, c.in-Some.ensures)) past ∙ is_marked-past fields.words (c.args.v - fields.base) beyond)
+    let beyond : length fields.words ≤ (c.args.v - fields.base) / word_bits = omega
+    (arith, c.in-Some.ensures, c.in_default-get.ensures.lookup.3) in
+    sym (has_value-from fields.base (is_marked fields.words) c.args.self.now c.self.view_is c.args.v
+    (omega (arith, c.in-Some.ensures)) past ∙ is_marked-past fields.words (c.args.v - fields.base) beyond)
 
 pub returns : goal.returns
 returns c =
@@ -29,4 +33,5 @@ returns c =
     ∙ ap (λ w. bit_at w (offset % word_bits) == 1) (c.in-Some-get.ensures.lookup.3.1 0)
     ∙ ap (λ k. bit_at (get_or fields.words k 0) (offset % word_bits) == 1) c.from.ensures
     ∙ ap (is_marked fields.words) c.in-Some.ensures.1
-    ∙ sym (has_value-from fields.base (is_marked fields.words) c.args.self.now c.self.view_is c.args.v (omega (arith, c.in-Some.ensures)) past)
+    ∙ sym (has_value-from fields.base (is_marked fields.words) c.args.self.now c.self.view_is c.args.v
+    (omega (arith, c.in-Some.ensures)) past)

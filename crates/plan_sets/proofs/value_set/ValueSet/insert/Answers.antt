@@ -1,4 +1,6 @@
 -- The bit with the value's distance from the base is 1 now, and the others are what they were.
+-- Answers the one clause of `insert`, the type's invariant after it, and the bounds of the distance and of its word.
+-- `is_marked-more` tells each bit of the new words; by `values_at-with_value` they are the set with the value added.
 use Rattle.std.proofs.Common.{◌-◌, ◌/◌, ◌<◌, arith, length}
 use Rattle.plan_sets.specs.Words.{is_marked, word_bits}
 use Rattle.plan_sets.proofs.ValuesLemmas.{base-values_at, values_at-with_value}
@@ -35,5 +37,6 @@ returns c =
     let bases = base-values_at fields.base (is_marked fields.words) c.args.self.now c.self.view_is in
     let offset = c.args.v - fields.base in
     let within : offset / word_bits < length fields.words = omega arith in
-    rw c.from.ensures (values_at-with_value fields.base (is_marked fields.words) c.args.self.now c.self.view_is c.args.v (is_marked (marked_more fields.words offset)) (omega arith) (omega arith)
+    rw c.from.ensures (values_at-with_value fields.base (is_marked fields.words) c.args.self.now c.self.view_is c.args.v
+    (is_marked (marked_more fields.words offset)) (omega arith) (omega arith)
     (λ k. is_marked-more fields.words offset k within))

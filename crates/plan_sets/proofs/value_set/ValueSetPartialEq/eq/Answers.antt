@@ -1,4 +1,6 @@
 -- Sets with the same base are equal where their words are.
+-- Answers `==` of sets: it decides whether two are the same. With one base the words' test decides that of the bits
+-- (`Decides-words`), and so whether the sets are (`same_tests`); with two bases the sets differ by their bases.
 use Rattle.std.proofs.Common.{◌≡◌, ◌+◌, Decides, ap, sym, ◌∙◌, ◌==◌}
 use Rattle.std.proofs.lemmas.Bool.{false_from_ne_true, ne_eqb}
 use Rattle.std.proofs.lemmas.Bool.Decides.{same_from_decides, Decides-at}
@@ -18,7 +20,8 @@ returns-then-self-other c =
     let t = c.args.other.now in
     let d = Decides-words f.words g.words c.self.told c.other.told c.self.invariant.1 c.other.invariant.1 in
     let same : Decides (pointwise ◌==◌ f.words g.words) (s ≡ t) = (
-      λ yes. same_tests f.base g.base (is_marked f.words) (is_marked g.words) s t c.self.view_is c.other.view_is c.if-self-other.true (d.0 yes).each,
+      λ yes. same_tests f.base g.base (is_marked f.words) (is_marked g.words) s t c.self.view_is c.other.view_is
+          c.if-self-other.true (d.0 yes).each,
       λ equal. d.1 (record {
         each = λ k room. sym (has_value-distance f.base (is_marked f.words) s c.self.view_is k room)
             ∙ ap (λ (u : Values). has_value u (f.base + k)) equal ∙ ap (λ b. has_value t (b + k)) c.if-self-other.true
@@ -32,4 +35,6 @@ returns-else-self-other c =
     let s = c.args.self.now in
     let t = c.args.other.now in
     ne_eqb _ _ c.if-self-other.false
-    ∙ sym (false_from_ne_true _ (λ yes. c.if-self-other.false (sym (base-values_at c.self.inside.base (is_marked c.self.inside.words) s c.self.view_is) ∙ ap (λ (u : Values). u.base) ((Decides-listing s t).0 yes) ∙ base-values_at c.other.inside.base (is_marked c.other.inside.words) t c.other.view_is)))
+    ∙ sym (false_from_ne_true _ (λ yes. c.if-self-other.false
+    (sym (base-values_at c.self.inside.base (is_marked c.self.inside.words) s c.self.view_is) ∙ ap (λ (u : Values). u.base)
+    ((Decides-listing s t).0 yes) ∙ base-values_at c.other.inside.base (is_marked c.other.inside.words) t c.other.view_is)))

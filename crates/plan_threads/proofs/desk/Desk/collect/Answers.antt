@@ -1,3 +1,6 @@
+-- For `Desk::collect`: `IsGathering` is handed on from `take_until` over `settle_all` and `take_rest` to `finish`.
+-- The hard goal is that `finish` has the whole: the receipts account for all that was sent, and nothing waits, so all
+-- was taken. Then the history is a merging, and `accepts_every_merging` tells what came of it (`gathers_all`).
 use Rattle.std.proofs.Common.{◌<◌, ℕ, vec_len, sym, ap, ◌∙◌, arith}
 use Rattle.plan_collect.specs.Tiling.{sent_by}
 use Rattle.plan_mailbox.specs.Ends.{inlet_of}
@@ -20,13 +23,21 @@ finish-requires-clause-whole g c =
     let second = c.settle_all-settled.new.self in
     let last = c.take_rest.new.self in
     let so_far = c.take_until.ensures.gathers c.args.planners before.limit before.rules before.span c.requires.gathers in
-    let settled : IsGathering c.args.planners before.limit before.rules before.span second.collector (inlet_of second.inlet) second.refused =
-    gathers_same c.args.planners before.limit before.rules before.span first.collector (inlet_of first.inlet) first.refused second.collector (inlet_of second.inlet) second.refused
-    so_far c.settle_all-settled.ensures.collector c.settle_all-settled.ensures.taken c.settle_all-settled.ensures.rings c.settle_all-settled.ensures.refused in
+    let settled : IsGathering c.args.planners before.limit before.rules before.span second.collector
+    (inlet_of second.inlet) second.refused =
+    gathers_same c.args.planners before.limit before.rules before.span first.collector
+    (inlet_of first.inlet) first.refused second.collector (inlet_of second.inlet) second.refused
+    so_far c.settle_all-settled.ensures.collector c.settle_all-settled.ensures.taken c.settle_all-settled.ensures.rings
+    c.settle_all-settled.ensures.refused in
     let all = c.take_rest.ensures.gathers c.args.planners before.limit before.rules before.span settled in
-    ok_map c.settle_all-settled.result ((k : ℕ) → k < vec_len c.args.threads → IsAccounted (inlet_of second.inlet) k (all_notes first.collector k)) (IsWhole last.collector last.refused)
-    (λ accounted. gathers_all c.args.planners before.limit before.rules before.span last.collector (inlet_of last.inlet) last.refused c.accepts_every_merging.ensures c.requires.size c.requires.span all
-    (λ k few. taken_all (inlet_of last.inlet) k (all_notes first.collector k) c.take_rest.ensures.none (c.take_rest.ensures.accounts k (all_notes first.collector k) (accounted k (omega (arith, c.if-started-planners.false, c.len-started.ensures))))
+    ok_map c.settle_all-settled.result
+    ((k : ℕ) → k < vec_len c.args.threads → IsAccounted (inlet_of second.inlet) k (all_notes first.collector k))
+    (IsWhole last.collector last.refused)
+    (λ accounted. gathers_all c.args.planners before.limit before.rules before.span last.collector
+    (inlet_of last.inlet) last.refused c.accepts_every_merging.ensures c.requires.size c.requires.span all
+    (λ k few. taken_all (inlet_of last.inlet) k (all_notes first.collector k) c.take_rest.ensures.none
+    (c.take_rest.ensures.accounts k (all_notes first.collector k)
+    (accounted k (omega (arith, c.if-started-planners.false, c.len-started.ensures))))
     ∙ notes_kin before first.collector k so_far.rules_are so_far.span_is so_far.limit_is (so_far.size_is ∙ c.requires.planners)
     ∙ ap (λ n. sent_by k n before.limit before.rules before.span) (sym c.requires.planners)))
     c.settle_all-settled.ensures.accounts
@@ -38,8 +49,11 @@ returns g c =
     let second = c.settle_all-settled.new.self in
     let last = c.take_rest.new.self in
     let so_far = c.take_until.ensures.gathers c.args.planners before.limit before.rules before.span c.requires.gathers in
-    let settled : IsGathering c.args.planners before.limit before.rules before.span second.collector (inlet_of second.inlet) second.refused =
-    gathers_same c.args.planners before.limit before.rules before.span first.collector (inlet_of first.inlet) first.refused second.collector (inlet_of second.inlet) second.refused
-    so_far c.settle_all-settled.ensures.collector c.settle_all-settled.ensures.taken c.settle_all-settled.ensures.rings c.settle_all-settled.ensures.refused in
+    let settled : IsGathering c.args.planners before.limit before.rules before.span second.collector
+    (inlet_of second.inlet) second.refused =
+    gathers_same c.args.planners before.limit before.rules before.span first.collector
+    (inlet_of first.inlet) first.refused second.collector (inlet_of second.inlet) second.refused
+    so_far c.settle_all-settled.ensures.collector c.settle_all-settled.ensures.taken c.settle_all-settled.ensures.rings
+    c.settle_all-settled.ensures.refused in
     let all = c.take_rest.ensures.gathers c.args.planners before.limit before.rules before.span settled in
     ends_kin before last.collector c.finish.result all.rules_are all.span_is all.limit_is c.finish.ensures

@@ -1,3 +1,6 @@
+-- For the call of `settle` and the loop of `Desk::settle_all`: with `done` planners joined, the threads from `done` on
+-- are left. A thread keeps its promise, so its receipt is that of planner `done`, and is of all its notes where no
+-- memory was refused. Where some was, the answer is an error, and nothing is said of receipts.
 use Rattle.std.proofs.Common.{◌≡◌, ◌<◌, ◌+◌, ◌-◌, ◌∷◌, ℕ, length, vec_len, OnOk, IfErr, sym, ap, subst, ◌∙◌, arith}
 use Rattle.std.specs.Vec.Iter.{into_iter_items, into_iter_len}
 use Rattle.plan_mailbox.specs.Ends.{inlet_of, receipt_of}
@@ -15,7 +18,8 @@ settle-requires g c =
     let are : ArePlanners before.collector (inlet_of before.inlet).rings done (c.in-Some.planner ∷ into_iter_items c.next.new.self) =
     subst (ArePlanners before.collector (inlet_of before.inlet).rings done) c.in-Some.ensures.steps.0 (so_far.4 done (omega arith)).0 in
     ap (λ rings. slice_get rings (receipt_of c.join-receipt.result.0).sender) so_far.2
-    ∙ planner_ring before.collector (inlet_of before.inlet).rings done c.in-Some.planner.promise c.join-receipt.result are.0 c.join-receipt.ensures
+    ∙ planner_ring before.collector (inlet_of before.inlet).rings done c.in-Some.planner.promise c.join-receipt.result are.0
+    c.join-receipt.ensures
 
 pub loop-planner-preserved-then-refused : goal.loop-planner-preserved-then-refused
 loop-planner-preserved-then-refused g c =
@@ -30,8 +34,10 @@ loop-planner-preserved-then-refused g c =
       c.settle.ensures.taken ∙ so_far.3,
       (λ done are. (
         (let earlier : (done - 1) + 1 ≡ done = omega arith in
-            let all : ArePlanners before.collector (inlet_of before.inlet).rings (done - 1) (c.in-Some.planner ∷ into_iter_items c.next.new.self) =
-            subst (ArePlanners before.collector (inlet_of before.inlet).rings (done - 1)) c.in-Some.ensures.steps.0 (so_far.4 (done - 1) (omega arith)).0 in
+            let all : ArePlanners before.collector (inlet_of before.inlet).rings (done - 1)
+            (c.in-Some.planner ∷ into_iter_items c.next.new.self) =
+            subst (ArePlanners before.collector (inlet_of before.inlet).rings (done - 1)) c.in-Some.ensures.steps.0
+            (so_far.4 (done - 1) (omega arith)).0 in
             subst (λ n. ArePlanners before.collector (inlet_of before.inlet).rings n (into_iter_items c.next.new.self)) earlier all.1),
         tt,
       )),
@@ -54,15 +60,24 @@ loop-planner-preserved g c =
       (λ done are.
           let earlier : (done - 1) + 1 ≡ done = omega arith in
           let was = so_far.4 (done - 1) (omega arith) in
-          let all : ArePlanners before.collector (inlet_of before.inlet).rings (done - 1) (c.in-Some.planner ∷ into_iter_items c.next.new.self) =
+          let all : ArePlanners before.collector (inlet_of before.inlet).rings (done - 1)
+          (c.in-Some.planner ∷ into_iter_items c.next.new.self) =
           subst (ArePlanners before.collector (inlet_of before.inlet).rings (done - 1)) c.in-Some.ensures.steps.0 was.0 in
           let own : receipt.sender ≡ done - 1 = c.join-receipt.ensures.0 ∙ all.0.sender in
-          let sent : receipt.sent ≡ all_notes before.collector (done - 1) = planner_sent before.collector (inlet_of before.inlet).rings (done - 1) c.in-Some.planner.promise c.join-receipt.result all.0 c.join-receipt.ensures c.if-refused.false in (
+          let sent : receipt.sent ≡ all_notes before.collector (done - 1) = planner_sent before.collector
+          (inlet_of before.inlet).rings (done - 1) c.in-Some.planner.promise c.join-receipt.result all.0 c.join-receipt.ensures
+          c.if-refused.false in (
             subst (λ n. ArePlanners before.collector (inlet_of before.inlet).rings n (into_iter_items c.next.new.self)) earlier all.1,
-            subst (λ r. OnOk r ((k : ℕ) → k < done → IsAccounted (inlet_of c.settle.new.self.inlet) k (all_notes before.collector k))) (sym c.and-settled.ensures)
-                (and_ok c.loop-planner.settled c.settle.result _ _ ((k : ℕ) → k < done → IsAccounted (inlet_of c.settle.new.self.inlet) k (all_notes before.collector k)) was.1 c.settle.ensures.accounts
-                (λ known here. λ k lt. accounts_more (all_notes before.collector) (inlet_of c.loop-planner.self.inlet) (inlet_of c.settle.new.self.inlet) (done - 1) receipt.sender receipt.sent own sent here c.settle.ensures.others known k (omega arith))),
+            subst (λ r. OnOk r ((k : ℕ) → k < done → IsAccounted (inlet_of c.settle.new.self.inlet) k
+                (all_notes before.collector k))) (sym c.and-settled.ensures)
+                (and_ok c.loop-planner.settled c.settle.result _ _
+                ((k : ℕ) → k < done → IsAccounted (inlet_of c.settle.new.self.inlet) k (all_notes before.collector k)) was.1
+                c.settle.ensures.accounts
+                (λ known here. λ k lt. accounts_more (all_notes before.collector) (inlet_of c.loop-planner.self.inlet)
+                (inlet_of c.settle.new.self.inlet) (done - 1) receipt.sender receipt.sent own sent here c.settle.ensures.others
+                known k (omega arith))),
           )),
-      subst (λ r. IfErr r IsThreadFault) (sym c.and-settled.ensures) (and_err c.loop-planner.settled c.settle.result so_far.5 c.settle.ensures.succeeds),
+      subst (λ r. IfErr r IsThreadFault) (sym c.and-settled.ensures)
+          (and_err c.loop-planner.settled c.settle.result so_far.5 c.settle.ensures.succeeds),
       omega arith,
     )

@@ -8,14 +8,19 @@ use Rattle.plan_threads.proofs.desk.Desk.take.Goals as goal
 pub returns-clause-gathers : goal.returns-clause-gathers
 returns-clause-gathers c = λ planners limit rules span so_far.
     let took : IsTake (inlet_of c.args.self.now.inlet) c.in-Some.planner c.in-Some.note (inlet_of c.accept.new.self.inlet) =
-    subst (λ (i : Inlet Note). IsTake (inlet_of c.args.self.now.inlet) c.in-Some.planner c.in-Some.note (inlet_of i)) (sym c.accept.ensures.inlet) c.in-Some.ensures.took in
-    gathers_more planners limit rules span c.args.self.now.collector (inlet_of c.args.self.now.inlet) c.args.self.now.refused c.in-Some.planner c.in-Some.note c.accept.new.self.collector (inlet_of c.accept.new.self.inlet) c.accept.new.self.refused
+    subst (λ (i : Inlet Note). IsTake (inlet_of c.args.self.now.inlet) c.in-Some.planner c.in-Some.note (inlet_of i))
+    (sym c.accept.ensures.inlet) c.in-Some.ensures.took in
+    gathers_more planners limit rules span c.args.self.now.collector
+    (inlet_of c.args.self.now.inlet) c.args.self.now.refused c.in-Some.planner c.in-Some.note c.accept.new.self.collector
+    (inlet_of c.accept.new.self.inlet) c.accept.new.self.refused
     so_far took c.accept.ensures.steps
 
 pub returns-clause-accounts : goal.returns-clause-accounts
 returns-clause-accounts c = λ s sent accounted.
     let took : IsTake (inlet_of c.args.self.now.inlet) c.in-Some.planner c.in-Some.note (inlet_of c.accept.new.self.inlet) =
-    subst (λ (i : Inlet Note). IsTake (inlet_of c.args.self.now.inlet) c.in-Some.planner c.in-Some.note (inlet_of i)) (sym c.accept.ensures.inlet) c.in-Some.ensures.took in (
+    subst (λ (i : Inlet Note). IsTake (inlet_of c.args.self.now.inlet) c.in-Some.planner c.in-Some.note (inlet_of i))
+    (sym c.accept.ensures.inlet) c.in-Some.ensures.took in (
       ap (λ (b : Receiving Note). is_settled_at b s) took.taken ∙ accounted.0,
-      c.takes_what_outlets_sent.ensures.stays c.args.self.now.inlet c.accept.new.self.inlet c.in-Some.planner c.in-Some.note took s sent accounted.0 accounted.1,
+      c.takes_what_outlets_sent.ensures.stays c.args.self.now.inlet c.accept.new.self.inlet c.in-Some.planner c.in-Some.note took s
+          sent accounted.0 accounted.1,
     )

@@ -12,7 +12,9 @@ invariant-loop g l = record {
   can : (goal.iterator-loop g).can_next l.iterator';
   ends : (goal.iterator-loop g).is_finite l.iterator';
   same : (
-      ((planners limit : ℕ) (rules : List Rule) (span : Bounds) → IsGathering planners limit rules span l.fn.self.collector (inlet_of l.fn.self.inlet) l.fn.self.refused → IsGathering planners limit rules span l.self.collector (inlet_of l.self.inlet) l.self.refused)
+      ((planners limit : ℕ) (rules : List Rule) (span : Bounds) → IsGathering planners limit rules span l.fn.self.collector
+      (inlet_of l.fn.self.inlet) l.fn.self.refused → IsGathering planners limit rules span l.self.collector
+      (inlet_of l.self.inlet) l.self.refused)
       × ((inlet_of l.self.inlet).rings ≡ (inlet_of l.fn.self.inlet).rings)
       × ((s : ℕ) (sent : List Note) → IsAccounted (inlet_of l.fn.self.inlet) s sent → IsAccounted (inlet_of l.self.inlet) s sent)
       );

@@ -1,7 +1,0 @@
-use Rattle.plan_collect.proofs.StreamLemmas.{part_written_more}
-use Rattle.plan_collect.proofs.stream.write_bytes.Goals as goal
-
-pub loop-rest-preserved : goal.loop-rest-preserved
-loop-rest-preserved g c =
-    part_written_more (g.W.Write.contents c.args.out.now) (g.W.Write.contents c.loop-rest.out) (g.W.Write.contents c.write.new.self) c.args.bytes.now c.loop-rest.rest.now c.in-Ok.taken
-    c.loop-rest.invariant c.in-Ok.ensures.bound c.in-Ok.ensures.bytes

@@ -1,0 +1,17 @@
+-- The names of causes, as `Display` and the lines of faults show them (own).
+use Rattle.std.specs.Prelude.{ℕ, List, codes}
+use Rattle.plan_sets.specs.Causes.{set_cause}
+use Rattle.plan_grammar.specs.declared.fault.RuleCause.{RuleCause}
+use Rattle.plan_grammar.specs.declared.fault.RuleCause.TheVariants as rule
+
+-- of a rule
+abbrev pub rule_cause : RuleCause → List ℕ
+rule_cause rule.NoMemory = codes "NoMemory"
+rule_cause rule.WrongParts = codes "WrongParts"
+rule_cause rule.BadNumber = codes "BadNumber"
+rule_cause rule.BadName = codes "BadName"
+rule_cause (rule.Values cause) = set_cause cause
+rule_cause rule.Fraction = codes "Fraction"
+rule_cause rule.Zone = codes "Zone"
+rule_cause rule.UnknownWord = codes "UnknownWord"
+rule_cause rule.Specifier = codes "Specifier"

@@ -1,0 +1,26 @@
+-- Readings of the texts of rules: what a part of a text means, or what is wrong with the text.
+use Rattle.std.specs.Prelude.{ℕ, Result, Err}
+use Rattle.plan_texts.specs.Steps.{GivesUnless}
+use Rattle.plan_grammar.specs.declared.fault.RuleFault.{RuleFault}
+use Rattle.plan_grammar.specs.declared.fault.RuleCause.{RuleCause}
+use Rattle.plan_grammar.specs.declared.fault.RuleCause.TheVariants.{NoMemory}
+
+-- what a part of a rule's text means, or what is wrong with the text
+abbrev pub Reading : Type 0 → Type 0
+Reading A = Result A RuleFault
+
+-- the fault of a part of a rule's text (own)
+abbrev pub refused : {A : Type 0} → ℕ → RuleCause → Reading A
+refused part cause = Err (record { part = part; cause = cause })
+
+-- that memory was refused (own): a fault of no part
+abbrev pub memory_refused : RuleFault
+memory_refused = record { part = 0; cause = NoMemory }
+
+-- a call's answer, as `view` shows it, is this reading, unless memory was refused (own)
+abbrev pub GivesBy : {A B : Type 0} → (A → B) → Result A RuleFault → Reading B → Type 0
+GivesBy view answer reading = GivesUnless memory_refused view answer reading
+
+-- a call's answer is this reading, unless memory was refused
+abbrev pub Gives : {A : Type 0} → Result A RuleFault → Reading A → Type 0
+Gives answer reading = GivesBy (λ x. x) answer reading

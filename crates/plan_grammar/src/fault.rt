@@ -1,0 +1,89 @@
+//! Why a text is no rule.
+
+use plan_sets::SetFault;
+use std::alloc::{AllocError, AllocFailed};
+use thiserror::Error;
+
+/// What is wrong with a part of a rule's text.
+#[derive(Clone, Copy, Debug, PartialEq, Eq, Error)]
+#[error("{}", self.name())]
+pub enum RuleCause {
+    /// 1: memory was refused; its part is 0.
+    NoMemory,
+    /// 2: a part is missing, empty, or not allowed where it stands.
+    WrongParts,
+    /// 3: a value or a step is no number of 1 to 4 digits.
+    BadNumber,
+    /// 4: a name isn't known where it stands. In a field of a crontab a value that begins with a letter is a name.
+    BadName,
+    /// 5: the values of a part are no set.
+    Values(SetFault),
+    /// 6: a second, or its step, is written with a fraction.
+    Fraction,
+    /// 7: the time zone isn't UTC.
+    Zone,
+    /// 8: a word that stands for a whole rule isn't known.
+    UnknownWord,
+    /// 9: the text holds a specifier, which begins with `%`.
+    Specifier,
+}
+
+impl RuleCause {
+    ghost use Rattle.std.specs.Prelude.{◌≡◌};
+    ghost use Rattle.plan_grammar.specs.Causes.{rule_cause};
+
+    /// Its name, as fault lines show it; that of values is the name of what is wrong with their set.
+    pub fn name(&self) -> &'static str
+        ensures { result.now ≡ rule_cause self.now }
+    {
+        match self {
+            RuleCause::NoMemory => "NoMemory",
+            RuleCause::WrongParts => "WrongParts",
+            RuleCause::BadNumber => "BadNumber",
+            RuleCause::BadName => "BadName",
+            RuleCause::Values(cause) => cause.name(),
+            RuleCause::Fraction => "Fraction",
+            RuleCause::Zone => "Zone",
+            RuleCause::UnknownWord => "UnknownWord",
+            RuleCause::Specifier => "Specifier",
+        }
+    }
+}
+
+/// The first fault of a rule's text.
+#[derive(Clone, Copy, Debug, PartialEq, Eq, Error)]
+#[error("{cause}")]
+pub struct RuleFault {
+    /// The part of the text, from 1; 0 is the whole text.
+    pub part: u8,
+    /// What is wrong with it.
+    pub cause: RuleCause,
+}
+
+impl From<AllocError> for RuleFault {
+    ghost use Rattle.std.specs.Prelude.{◌≡◌};
+    ghost use Rattle.plan_grammar.specs.Readings.{memory_refused};
+
+    ghost from_gives = { λ _ fault. fault ≡ memory_refused };
+
+    fn from(_refused: AllocError) -> RuleFault {
+        RuleFault {
+            part: 0,
+            cause: RuleCause::NoMemory,
+        }
+    }
+}
+
+impl<T: Drop> From<AllocFailed<T>> for RuleFault {
+    ghost use Rattle.std.specs.Prelude.{◌≡◌};
+    ghost use Rattle.plan_grammar.specs.Readings.{memory_refused};
+
+    ghost from_gives = { λ _ fault. fault ≡ memory_refused };
+
+    fn from(_refused: AllocFailed<T>) -> RuleFault {
+        RuleFault {
+            part: 0,
+            cause: RuleCause::NoMemory,
+        }
+    }
+}

@@ -1,0 +1,13 @@
+use Rattle.std.proofs.Common.{◌+◌, take}
+use Rattle.plan_next.specs.Next.{IsFirstOrEnd}
+use Rattle.plan_next.proofs.EventsLemmas.{matched_by}
+use Rattle.plan_next.proofs.KeptLemmas.{AreKept, AreLeft}
+use Rattle.plan_next.proofs.nexts.next_of_each.Given as goal
+
+-- the earliest start of the events so far, each of which keeps its own, as the others do up to here
+abbrev pub invariant-loop-i : goal.invariant-loop-i
+invariant-loop-i l = record {
+  earliest : IsFirstOrEnd (matched_by (take l.i l.events)) (l.start + 1) l.end l.earliest;
+  kept : AreKept l.events (l.start + 1) l.end l.i l.kept;
+  left : AreLeft l.events l.start l.end l.i l.kept;
+}

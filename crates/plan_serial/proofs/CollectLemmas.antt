@@ -1,0 +1,119 @@
+-- A job's pieces, collected one after the other: for the loop of `collect_job` and its `fails`.
+-- `IsAt` says that of the collector only the second to which the job is covered has changed. In `piece_refused` the
+-- first three tests of `refusal` are passed, so the one of room is left, and the fault is `TooMany` or `NoMemory`.
+use Rattle.std.proofs.Common.{◌≡◌, ℕ, zero, suc, ◌%◌, ◌<◌, ◌≤◌, Bool, true, false, cond, ◌&&◌, ◌==◌, List, [], ◌∷◌, length, None, Some, Result, Err, refl, ap, sym, subst, ◌∙◌, arith}
+use Rattle.std.specs.Prelude.{slice_get, slice_index, slice_set, unwrap_or, nat_lt, nat_le}
+use Rattle.std.proofs.lemmas.Bool.{and_from, eq-eqb, le-leb}
+use Rattle.plan_collect.specs.Span.{Bounds}
+use Rattle.plan_match.specs.declared.rule.Rule.{Rule}
+use Rattle.plan_match.specs.Equal.{same_rule-Decides}
+use Rattle.plan_next.specs.Piece.{Part}
+use Rattle.plan_collect.specs.declared.note.Note.TheVariants as note
+use Rattle.plan_collect.specs.declared.collector.CollectFault.{CollectFault}
+use Rattle.plan_collect.specs.declared.collector.CollectFault.TheVariants.{NoMemory, Stranger, Gap, TooMany, AfterLast, Missing}
+use Rattle.plan_collect.specs.Agenda.{agenda}
+use Rattle.plan_collect.specs.Collecting.{Collected, is_rule_of, belongs, has_ended, adjoins, has_room, refusal, Answers}
+use Rattle.plan_serial.specs.Planning.{PlanFails, of_collect}
+
+-- of one job the pieces up to this second were collected
+pub record IsAt (old now : Collected) (job since : ℕ) : Type 0 where
+  pub rules : now.rules ≡ old.rules
+  pub span : now.span ≡ old.span
+  pub limit : now.limit ≡ old.limit
+  pub ended : now.ended ≡ old.ended
+  pub others : (end : ℕ) → slice_set now.covered job end ≡ slice_set old.covered job end
+  pub here : slice_get now.covered job ≡ Some since
+
+set_twice : (xs : List ℕ) (i a b : ℕ) → slice_set (slice_set xs i a) i b ≡ slice_set xs i b
+set_twice [] i a b = refl
+set_twice (x ∷ xs) zero a b = refl
+set_twice (x ∷ xs) (suc i) a b = ap (λ ys. x ∷ ys) (set_twice xs i a b)
+
+get_set : (xs : List ℕ) (i a b : ℕ) → slice_get xs i ≡ Some a → slice_get (slice_set xs i b) i ≡ Some b
+get_set [] i a b is = absurd cc
+get_set (x ∷ xs) zero a b is = refl
+get_set (x ∷ xs) (suc i) a b is = get_set xs i a b is
+
+index_get : (xs : List ℕ) (i a : ℕ) → slice_get xs i ≡ Some a → slice_index xs i ≡ a
+index_get [] i a is = absurd cc
+index_get (x ∷ xs) zero a is = cc
+index_get (x ∷ xs) (suc i) a is = index_get xs i a is
+
+-- one more piece
+pub IsAt-more :
+    (old now new : Collected) (job since end : ℕ) → IsAt old now job since →
+    new ≡ record now { covered = slice_set now.covered job end } → IsAt old new job end
+IsAt-more old now new job since end so_far is = record {
+  rules = ap (λ (c : Collected). c.rules) is ∙ so_far.rules;
+  span = ap (λ (c : Collected). c.span) is ∙ so_far.span;
+  limit = ap (λ (c : Collected). c.limit) is ∙ so_far.limit;
+  ended = ap (λ (c : Collected). c.ended) is ∙ so_far.ended;
+  others = λ last. ap (λ (c : Collected). slice_set c.covered job last) is ∙ set_twice now.covered job end last ∙ so_far.others last;
+  here = ap (λ (c : Collected). slice_get c.covered job) is ∙ get_set now.covered job since end so_far.here;
+}
+
+-- a refusal that comes after three tests were passed
+last_refusal :
+    (room : Bool) (fault : CollectFault) (P : Type 0) → Answers (Err fault) (cond room None (Some TooMany)) →
+    (fault ≡ TooMany → P) → (fault ≡ NoMemory → P) → P
+last_refusal true NoMemory P is many none = none refl
+last_refusal true Stranger P is many none = absurd cc
+last_refusal true Gap P is many none = absurd cc
+last_refusal true TooMany P is many none = absurd cc
+last_refusal true AfterLast P is many none = absurd cc
+last_refusal true Missing P is many none = absurd cc
+last_refusal false NoMemory P is many none = absurd cc
+last_refusal false Stranger P is many none = absurd cc
+last_refusal false Gap P is many none = absurd cc
+last_refusal false TooMany P is many none = many refl
+last_refusal false AfterLast P is many none = absurd cc
+last_refusal false Missing P is many none = absurd cc
+
+only_room :
+    (belonging ended adjoining room : Bool) → belonging ≡ true → ended ≡ false → adjoining ≡ true →
+    cond belonging (cond ended (Some AfterLast) (cond adjoining (cond room None (Some TooMany)) (Some Gap)))
+    (Some Stranger) ≡ cond room None (Some TooMany)
+only_room belonging ended adjoining room b e a = rw (b, e, a) refl
+
+more_than :
+    (old now : Collected) {job since : ℕ} → IsAt old now job since → now.limit < length (agenda now.rules now.span) →
+    old.limit < length (agenda old.rules old.span)
+more_than old now so_far many =
+    let all : length (agenda now.rules now.span) ≡ length (agenda old.rules old.span) =
+    (λ i. length (agenda (so_far.rules i) (so_far.span i))) in
+    let limit = so_far.limit in
+    omega arith
+
+-- the answer to a note that is refused
+abbrev pub refused_by : CollectFault → Result (Unit {0}) CollectFault
+refused_by fault = Err fault
+
+-- a refused piece of a plan by one planner, where all but room was seen to
+pub piece_refused :
+    (old now : Collected) (job : ℕ) (rule : Rule) (piece : Part) (since upto : ℕ) (fault : CollectFault) → IsAt old now job since →
+    old.ended ≡ false ∷ [] → old.span.upto ≡ upto → slice_get old.rules job ≡ Some rule → piece.rule ≡ rule → piece.since ≡ since →
+    piece.upto ≤ upto → Answers (Err fault) (refusal now 0 (note.Part job piece)) →
+    (refused_by fault ≡ refused_by TooMany → now.limit < length (agenda now.rules now.span)) → PlanFails old (of_collect fault)
+piece_refused old now job rule piece since upto fault so_far unended ends known own begins within answer many =
+    let none_ended : now.ended ≡ false ∷ [] = so_far.ended ∙ unended in
+    let there : slice_get now.rules job ≡ Some piece.rule = ap (λ rules. slice_get rules job) so_far.rules ∙ known ∙ ap Some (sym own) in
+    let same : is_rule_of (slice_get now.rules job) piece.rule ≡ true = ap (λ r. is_rule_of r piece.rule) there ∙
+    (same_rule-Decides piece.rule piece.rule).1 refl in
+    let remainder : (job % 1 == 0) ≡ true = eq-eqb (job % 1) 0 (omega arith) in
+    let belonging : belongs now 0 (note.Part job piece) ≡ true =
+    ap (λ (ended : List Bool). nat_lt 0
+    (length ended) && (job % length ended == 0 && is_rule_of (slice_get now.rules job) piece.rule)) none_ended
+    ∙ and_from (job % 1 == 0) (is_rule_of (slice_get now.rules job) piece.rule) remainder same in
+    let going_on : has_ended now 0 ≡ false = ap (λ (ended : List Bool). unwrap_or (slice_get ended 0) false) none_ended in
+    let at_begin : (slice_index now.covered job == piece.since) ≡ true = eq-eqb (slice_index now.covered job) piece.since
+    (index_get now.covered job since so_far.here ∙ sym begins) in
+    let end_is : now.span.upto ≡ upto = ap (λ (s : Bounds). s.upto) so_far.span ∙ ends in
+    let at_end : nat_le piece.upto now.span.upto ≡ true = le-leb piece.upto now.span.upto (omega arith) in
+    let adjoining : adjoins now (note.Part job piece) ≡ true = and_from (slice_index now.covered job == piece.since)
+    (nat_le piece.upto now.span.upto) at_begin at_end in
+    let P : Type 0 = PlanFails old (of_collect fault) in
+    last_refusal (has_room now (note.Part job piece)) fault P
+    (subst (Answers (Err fault)) (only_room (belongs now 0 (note.Part job piece)) (has_ended now 0)
+    (adjoins now (note.Part job piece)) (has_room now (note.Part job piece)) belonging going_on adjoining) answer)
+    (λ is. subst (λ f. PlanFails old (of_collect f)) (sym is) (refl, more_than old now so_far (many (ap refused_by is))))
+    (λ is. subst (λ f. PlanFails old (of_collect f)) (sym is) tt)

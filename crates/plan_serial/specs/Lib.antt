@@ -1,0 +1,2 @@
+pub use Rattle.plan_collect.specs.Agenda
+pub mod Planning

@@ -1,0 +1,81 @@
+//! Streams: what takes the texts that the program writes.
+
+ghost use Rattle.std.specs.Prelude.{◌≡◌, OnOk, OnErr};
+ghost use Rattle.std.specs.Io.KnownBytes.{Appends};
+ghost use Rattle.plan_streams.specs.Stream.{AppendsPrefix, Puts};
+
+use std::io::Write;
+use thiserror::Error;
+
+/// Why a text was not written.
+#[derive(Clone, Copy, Debug, PartialEq, Eq, Error)]
+pub enum WriteFault {
+    /// A write or the flush gave an error, or a write took none of its bytes.
+    #[error("Device")]
+    Device,
+}
+
+/// What takes whole texts, as standard output does.
+pub trait Stream {
+    ghost use Rattle.std.specs.Prelude.{ℕ, Bool, List, Option};
+
+    /// The bytes that it holds, where they are known.
+    ghost holds: { Self → Option (List ℕ) };
+
+    /// Whether it never fails.
+    ghost takes_all: { Bool };
+
+    /// Writes a whole text, and flushes what it is written to. Takes no memory of its own.
+    ///
+    /// `Device` where the stream fails; then only the first bytes of the text were written.
+    fn put(&mut self, text: &[u8]) -> Result<(), WriteFault>
+        ensures { Puts takes_all result (holds self.old) (holds self.new) text.now };
+
+    /// Writes a whole text that more is to follow, as `put` does, and doesn't flush.
+    fn put_part(&mut self, text: &[u8]) -> Result<(), WriteFault>
+        ensures { Puts takes_all result (holds self.old) (holds self.new) text.now };
+}
+
+/// Each writer is a stream, which may fail.
+impl<W: Write> Stream for W {
+    ghost use Rattle.std.specs.Prelude.{false};
+
+    ghost holds = { W.contents };
+
+    ghost takes_all = { false };
+
+    fn put(&mut self, text: &[u8]) -> Result<(), WriteFault> {
+        write_text(text, self)
+    }
+
+    fn put_part(&mut self, text: &[u8]) -> Result<(), WriteFault> {
+        write_bytes(text, self)
+    }
+}
+
+// Writes a text and flushes the writer.
+fn write_text<W: Write>(text: &[u8], out: &mut W) -> Result<(), WriteFault>
+    ensures written { OnOk result (Appends (W.contents out.old) (W.contents out.new) text.now) }
+    ensures prefix { OnErr result (AppendsPrefix (W.contents out.old) (W.contents out.new) text.now) }
+{
+    write_bytes(text, out)?;
+    match out.flush() {
+        Ok(()) => Ok(()),
+        Err(_) => Err(WriteFault::Device),
+    }
+}
+
+// Writes a text.
+fn write_bytes<W: Write>(bytes: &[u8], out: &mut W) -> Result<(), WriteFault>
+    ensures written { OnOk result (Appends (W.contents out.old) (W.contents out.new) bytes.now) }
+    ensures prefix { OnErr result (AppendsPrefix (W.contents out.old) (W.contents out.new) bytes.now) }
+{
+    let mut rest = bytes;
+    while !rest.is_empty() {
+        match out.write(rest) {
+            Ok(taken) if taken > 0 => rest = &rest[taken..],
+            _ => return Err(WriteFault::Device),
+        }
+    }
+    Ok(())
+}
