@@ -16,6 +16,7 @@ use Rattle.plan_texts.specs.Steps.{◌>>=◌, each}
 use Rattle.plan_texts.specs.Lines.{is_too_large, lines, without_empty_end, after_blanks}
 use Rattle.plan_rules.specs.declared.crontabs.Kind.{Kind}
 use Rattle.plan_rules.specs.declared.crontabs.Kind.TheVariants.{User, System}
+use Rattle.plan_rules.specs.declared.line_fault.LineCause.TheVariants.{TooLarge, NotUtf8}
 use Rattle.plan_rules.specs.LineFaults.{LineReading, TextReading, in_line, on_line}
 use Rattle.plan_rules.specs.Limits.{most_jobs}
 use Rattle.plan_rules.specs.Job.{JobParts}
@@ -165,18 +166,19 @@ few_enough bytes small =
 
 -- ---- the jobs of a crontab
 
-by_size :
-    {A E : Type 0} (P : A → Type 0) (large utf8 : Bool) (x y z : Result A E) → IfOk x P → (large ≡ false → IfOk y P) → IfOk z P →
-    IfOk (cond large x (cond utf8 y z)) P
-by_size P true utf8 x y z first second third = first
-by_size P false true x y z first second third = second refl
-by_size P false false x y z first second third = third
+by_text :
+    {A : Type 0} (P : A → Type 0) (large utf8 : Bool) (bytes : List ℕ) (next : List ℕ → TextReading A) →
+    (large ≡ false → IfOk (next bytes) P) →
+    IfOk (on_line 0 (cond large (Err TooLarge) (cond utf8 (Ok bytes) (Err NotUtf8))) >>= next) P
+by_text P true utf8 bytes next small = tt
+by_text P false true bytes next small = small refl
+by_text P false false bytes next small = tt
 
 -- each has the name of a line, and no two have one
 pub crontab_names : (kind : Kind) (bytes : List ℕ) → IfOk (crontab_reading kind bytes) (AreLinesBehind kind 0)
 crontab_names kind bytes =
-    by_size (AreLinesBehind kind 0) (is_too_large bytes) (is_utf8 bytes) _ (jobs_reading kind (lines bytes)) _ tt
-    (λ small. all_lines kind (lines bytes) (few_enough bytes small)) tt
+    by_text (AreLinesBehind kind 0) (is_too_large bytes) (is_utf8 bytes) bytes (λ text. jobs_reading kind (lines text))
+    (λ small. all_lines kind (lines bytes) (few_enough bytes small))
 
 -- so they are new where no line of such a crontab was read
 new_names :

@@ -1,12 +1,9 @@
 -- Which faults a crontab has: a want of memory is of line 0, and it never stands inside a rule's fault.
 -- For all clauses of `crontab`, and in part for `timer`. `line` and `jobs` follow the definition: each step, choice and
 -- element keeps that its faults are such. `answered` leads that to an answer, which may be a want of memory instead.
-use Rattle.std.proofs.Common.{◌≡◌, ◌≢◌, ℕ, ◌+◌, ◌≤◌, Bool, true, false, cond, eqb, List, [], ◌∷◌, length, Option, Some, None, Result, Ok, Err, IfErr, refl, ap, sym, ◌∙◌, inl, inr, subst, arith}
+use Rattle.std.proofs.Common.{◌≡◌, ◌≢◌, ℕ, ◌+◌, Bool, true, false, cond, eqb, List, [], ◌∷◌, length, Option, Some, None, Result, Ok, Err, IfErr, refl, ap, sym, inl, inr, subst}
 use Rattle.std.proofs.lemmas.Bool.{cases_eq}
-use Rattle.std.proofs.lemmas.Bool.Decides.{nat_tests}
-use Rattle.std.proofs.lemmas.Str.{IsUtf8-from_is_utf8, is_utf8-from_IsUtf8}
 use Rattle.std.specs.List.{enumerate_from, list_any}
-use Rattle.std.specs.Str.{IsUtf8, is_utf8}
 use Rattle.plan_rules.specs.declared.crontabs.Kind.{Kind}
 use Rattle.plan_rules.specs.declared.crontabs.Kind.TheVariants.{User, System}
 use Rattle.plan_grammar.specs.declared.fault.RuleFault.{RuleFault}
@@ -17,9 +14,9 @@ use Rattle.plan_rules.specs.declared.line_fault.LineCause.TheVariants.{NoMemory,
 use Rattle.plan_rules.specs.declared.line_fault.LineFault.{LineFault}
 use Rattle.plan_texts.specs.Steps.{◌>>=◌, each, GivesUnless}
 use Rattle.plan_grammar.specs.Readings.{Reading}
-use Rattle.plan_texts.specs.Lines.{is_too_large, lines, after_blanks, cut_word}
+use Rattle.plan_texts.specs.Lines.{after_blanks, cut_word}
 use Rattle.plan_rules.specs.LineFaults.{LineReading, TextReading, IsOwnCause, cause_by_cause, in_line, on_line, fault_on_line, want_of_memory}
-use Rattle.plan_rules.specs.Crontab.{rule_in_front, command_reading, user_and_command, what_reading, job_reading, begins_setting, entry_reading, line_reading, numbered_reading, jobs_reading, crontab_reading}
+use Rattle.plan_rules.specs.Crontab.{rule_in_front, command_reading, user_and_command, what_reading, job_reading, begins_setting, entry_reading, line_reading, numbered_reading, jobs_reading}
 
 -- a cause that is found in the lines of a text
 abbrev pub IsLineCause : LineCause → Type 0
@@ -139,34 +136,3 @@ pub no_other :
     answer ≢ Err fault
 no_other (Ok x) fault own none same = cc
 no_other (Err e) fault own none same = let is : e.cause ≡ fault.cause = cc in none (subst IsLineCause is own.1)
-
--- nor is a want of memory
-pub no_memory :
-    {A : Type 0} (answer : Result A LineFault) (memory fault : LineFault) → answer ≡ Err memory → memory ≡ want_of_memory →
-    fault.cause ≢ NoMemory → answer ≢ Err fault
-no_memory answer memory fault gave is other same =
-    let here : memory ≡ fault = cc in
-    other (ap (λ (f : LineFault). f.cause) (sym here ∙ is))
-
--- ---- the bytes of a crontab
-
--- a text that isn't too large is small enough
-pub not_too_large : (bytes : List ℕ) → is_too_large bytes ≡ false → length bytes ≤ 1048576
-not_too_large bytes small = grind (arith, nat_tests)
-
-pub is_text : (bytes : List ℕ) → IsUtf8 bytes → is_utf8 bytes ≡ true
-is_text bytes utf8 = is_utf8-from_IsUtf8 bytes utf8
-
-pub not_utf8 : (b : Bool) (bytes : List ℕ) → is_utf8 bytes ≡ b → (IsUtf8 bytes → ⊥) → b ≡ false
-not_utf8 true bytes is other = absurd (other (IsUtf8-from_is_utf8 bytes is))
-not_utf8 false bytes is other = refl
-
-pub crontab_of_text :
-    (kind : Kind) (bytes : List ℕ) → is_too_large bytes ≡ false → IsUtf8 bytes →
-    crontab_reading kind bytes ≡ jobs_reading kind (lines bytes)
-crontab_of_text kind bytes few utf8 = rw (few, is_utf8-from_IsUtf8 bytes utf8) refl
-
-pub crontab_of_no_text :
-    (kind : Kind) (bytes : List ℕ) → is_too_large bytes ≡ false → (IsUtf8 bytes → ⊥) →
-    crontab_reading kind bytes ≡ Err (fault_on_line 0 NotUtf8)
-crontab_of_no_text kind bytes few other = rw (few, not_utf8 (is_utf8 bytes) bytes refl other) refl

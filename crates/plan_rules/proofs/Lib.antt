@@ -1,5 +1,6 @@
 pub mod CrontabLemmas
 pub mod CrontabFaults
+pub mod FileFaults
 mod CrontabRows
 pub mod JobsLemmas
 pub mod TimerLemmas

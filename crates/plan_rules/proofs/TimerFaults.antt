@@ -1,23 +1,23 @@
--- Which faults a timer file has, by its name, its bytes and its lines.
-use Rattle.std.proofs.Common.{◌≡◌, ℕ, ◌+◌, ◌-◌, ◌≤◌, Bool, true, false, ◌&&◌, cond, nat_lt, nat_le, nat_eq, List, [], ◌∷◌, length, drop, get_or, map, codes, Option, Err, IfErr, string_bytes, refl, ap, sym, ◌∙◌, true≢false, arith}
+-- Which faults a timer file has, and what its name and its lines are: for `timer` and `service_name`.
+-- `lines_fault` follows the definition: each step keeps that its faults are of a line.
+use Rattle.std.proofs.Common.{◌≡◌, ℕ, ◌+◌, ◌-◌, ◌≤◌, Bool, true, false, ◌&&◌, nat_lt, nat_le, nat_eq, List, [], ◌∷◌, ◌++◌, length, drop, get_or, map, codes, Option, Ok, Err, IfErr, string_bytes, refl, ap, sym, ◌∙◌, true≢false, arith}
 use Rattle.std.proofs.lemmas.Bool.Decides.{nat_tests}
 use Rattle.std.proofs.lemmas.List.{get_or-drop}
-use Rattle.std.proofs.lemmas.Str.{is_utf8-from_IsUtf8, IsCharBoundary-before_ascii}
+use Rattle.std.proofs.lemmas.Str.{IsCharBoundary-before_ascii}
 use Rattle.std.specs.Cmp.Lexicographic.{bytes_decides}
-use Rattle.std.specs.List.{enumerate_from, ends_with}
-use Rattle.std.specs.Str.{IsUtf8, is_utf8, IsCharBoundary}
+use Rattle.std.specs.List.{ends_with}
+use Rattle.std.specs.Str.{IsCharBoundary}
 use Rattle.plan_match.specs.declared.event.Calendar.{Calendar}
-use Rattle.plan_rules.specs.declared.line_fault.LineCause.TheVariants.{NotUtf8, NoTimerSection, TooManyLines}
+use Rattle.plan_rules.specs.declared.line_fault.LineCause.TheVariants.{NoTimerSection, TooManyLines}
 use Rattle.plan_rules.specs.Limits.{most_events}
 use Rattle.plan_texts.specs.declared.whole_lines.WholeLine.{WholeLine}
-use Rattle.plan_texts.specs.Steps.{each}
 use Rattle.plan_grammar.specs.Event.{event_reading}
-use Rattle.plan_rules.specs.LineFaults.{in_line, fault_on_line}
+use Rattle.plan_rules.specs.LineFaults.{in_line, on_line}
+use Rattle.plan_rules.specs.FileText.{text_reading}
 use Rattle.plan_rules.specs.Job.{JobParts}
-use Rattle.plan_texts.specs.Lines.{is_too_large}
 use Rattle.plan_texts.specs.WholeLines.{whole_lines, whole_text, trimmed}
-use Rattle.plan_rules.specs.Timer.{Effect, is_timer_name, effects_from, has_timer, groups, event_at, group_reading, events_reading, first_unit, job_with, timer_of_lines, timer_reading}
-use Rattle.plan_rules.proofs.CrontabFaults.{IsLineCause, IsOwnFault, steps, elements, choice, rule_in, on, not_utf8}
+use Rattle.plan_rules.specs.Timer.{Effect, Reset, Event, Starts, Nothing, is_timer_name, effects_from, has_timer, added_event, events_from, first_unit, job_with, timer_of_lines, timer_reading}
+use Rattle.plan_rules.proofs.CrontabFaults.{IsLineCause, IsOwnFault, steps, choice, rule_in, on}
 
 -- ---- the name
 
@@ -53,18 +53,19 @@ boundary_of_name name is =
 
 -- ---- the lines
 
-event_fault : (event : ℕ × (ℕ × List ℕ)) → IfErr (event_at event) IsOwnFault
-event_fault event =
-    on event.1.0 (cond (nat_lt event.0 most_events) (in_line (event_reading event.1.1)) (Err TooManyLines))
-    (choice IsLineCause (nat_lt event.0 most_events) (in_line (event_reading event.1.1)) (Err TooManyLines)
-    (rule_in (event_reading event.1.1)) tt)
+event_fault : (held : List Calendar) (text : List ℕ) → IfErr (added_event held text) IsLineCause
+event_fault held text =
+    choice IsLineCause (nat_lt (length held) most_events) (in_line (event_reading text)) (Err TooManyLines)
+    (rule_in (event_reading text)) tt
 
-group_fault : (group : List (ℕ × List ℕ)) → IfErr (group_reading group) IsOwnFault
-group_fault group = elements IsOwnFault event_at event_fault (enumerate_from 0 group)
-
-events_fault : (effects : List (ℕ × Effect)) → IfErr (events_reading effects) IsOwnFault
-events_fault effects =
-    steps IsOwnFault (each group_reading (groups effects)) _ (elements IsOwnFault group_reading group_fault (groups effects)) (λ found. tt)
+events_fault : (held : List Calendar) (effects : List (ℕ × Effect)) → IfErr (events_from held effects) IsOwnFault
+events_fault held [] = tt
+events_fault held ((number, Reset) ∷ more) = events_fault [] more
+events_fault held ((number, Event text) ∷ more) =
+    steps IsOwnFault (on_line number (added_event held text)) _ (on number (added_event held text) (event_fault held text))
+    (λ event. events_fault (held ++ event ∷ []) more)
+events_fault held ((number, Starts unit) ∷ more) = events_fault held more
+events_fault held ((number, Nothing) ∷ more) = events_fault held more
 
 job_fault :
     (found : Bool) (name : List ℕ) (unit : Option (List ℕ)) (events : List Calendar) → IfErr (job_with found name unit events) IsOwnFault
@@ -74,21 +75,16 @@ job_fault false name unit events = on {A = JobParts} 0 (Err NoTimerSection) tt
 -- each fault of a timer's lines
 pub lines_fault : (name : List ℕ) (lines : List (ℕ × List ℕ)) → IfErr (timer_of_lines name lines) IsOwnFault
 lines_fault name lines =
-    steps IsOwnFault (events_reading (effects_from false lines)) _ (events_fault (effects_from false lines))
+    steps IsOwnFault (events_from [] (effects_from false lines)) _ (events_fault [] (effects_from false lines))
     (λ events. job_fault (has_timer lines) name (first_unit (effects_from false lines)) events)
 
 -- ---- the bytes
 
+-- what a file means whose name and text are as they should be
 pub timer_of_text :
-    (name bytes : List ℕ) → is_timer_name name ≡ true → is_too_large bytes ≡ false → IsUtf8 bytes →
-    timer_reading name bytes ≡ timer_of_lines name (map (λ line. (line.0, trimmed line.1)) (whole_lines bytes))
-timer_of_text name bytes named few utf8 = rw (named, few, is_utf8-from_IsUtf8 bytes utf8) refl
-
-pub timer_of_no_text :
-    (name bytes : List ℕ) → is_timer_name name ≡ true → is_too_large bytes ≡ false → (IsUtf8 bytes → ⊥) →
-    timer_reading name bytes ≡ Err (fault_on_line 0 NotUtf8)
-timer_of_no_text name bytes named few other =
-    rw (named, few, not_utf8 (is_utf8 bytes) bytes refl other) refl
+    (name bytes text : List ℕ) → is_timer_name name ≡ true → Ok text ≡ text_reading bytes →
+    timer_reading name bytes ≡ timer_of_lines name (map (λ line. (line.0, trimmed line.1)) (whole_lines text))
+timer_of_text name bytes text named read = rw (named, sym read) refl
 
 -- the whole lines that are held, without blanks at their ends
 pub trimmed_lines :

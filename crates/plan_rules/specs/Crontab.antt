@@ -3,18 +3,19 @@ use Rattle.std.specs.Prelude.{ℕ, ◌+◌, Bool, ◌||◌, ◌==◌, if◌then�
 use Rattle.std.specs.Char.{is_ascii_alphabetic}
 use Rattle.std.specs.Fmt.{decimal}
 use Rattle.std.specs.List.{list_any, filter_map, enumerate_from}
-use Rattle.std.specs.Str.{byte, is_utf8}
+use Rattle.std.specs.Str.{byte}
 use Rattle.plan_rules.specs.declared.crontabs.Kind.{Kind}
 use Rattle.plan_rules.specs.declared.crontabs.Kind.TheVariants.{User, System}
 use Rattle.plan_grammar.specs.declared.fault.RuleCause.TheVariants.{WrongParts}
-use Rattle.plan_rules.specs.declared.line_fault.LineCause.TheVariants.{TooLarge, NotUtf8, BadSetting, NoCommand}
+use Rattle.plan_rules.specs.declared.line_fault.LineCause.TheVariants.{BadSetting, NoCommand}
 use Rattle.plan_match.specs.declared.rule.Rule.{Rule}
 use Rattle.plan_texts.specs.Text.{begins_with}
 use Rattle.plan_texts.specs.Steps.{◌>>=◌, each}
 use Rattle.plan_grammar.specs.Readings.{Reading}
 use Rattle.plan_grammar.specs.Cron.{five_fields, at_word, found_reading}
-use Rattle.plan_texts.specs.Lines.{is_too_large, lines, after_blanks, cut_word}
+use Rattle.plan_texts.specs.Lines.{lines, after_blanks, cut_word}
 use Rattle.plan_rules.specs.LineFaults.{LineReading, TextReading, in_line, on_line}
+use Rattle.plan_rules.specs.FileText.{text_reading}
 use Rattle.plan_rules.specs.Job.{JobParts}
 
 -- ---- the rule in front of a line
@@ -114,8 +115,8 @@ jobs_reading kind lines = do
   found ← each (numbered_reading kind) (enumerate_from 0 lines)
   Ok (filter_map (λ job. job) found)
 
--- the meaning of a crontab: its size is looked at first, then its bytes, then its lines (own)
+-- the meaning of a crontab: its bytes are looked at first, then its lines (own)
 abbrev pub crontab_reading : Kind → List ℕ → TextReading (List JobParts)
-crontab_reading kind bytes =
-    if is_too_large bytes then on_line 0 (Err TooLarge)
-    else (if is_utf8 bytes then jobs_reading kind (lines bytes) else on_line 0 (Err NotUtf8))
+crontab_reading kind bytes = do
+  text ← text_reading bytes
+  jobs_reading kind (lines text)

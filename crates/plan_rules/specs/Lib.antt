@@ -11,6 +11,7 @@ pub use Rattle.plan_grammar.specs.Cron
 pub use Rattle.plan_grammar.specs.Event
 pub mod Limits
 pub mod LineFaults
+pub mod FileText
 pub mod Job
 pub mod Crontab
 pub mod Jobs

@@ -1,21 +1,21 @@
 -- The meaning of a timer file (systemd.timer(5), systemd.syntax(7)): its job, or its first fault with its line.
 use Rattle.std.specs.Prelude.{ℕ, ◌-◌, Bool, false, ◌&&◌, ◌||◌, ◌==◌, nat_le, nat_lt, nat_eq, if◌then◌else◌, List, [], ◌∷◌, ◌++◌, length, take, map, codes, Option, Some, None, Ok, Err, unwrap_or}
 use Rattle.std.specs.Char.{is_ascii_alphabetic, is_ascii_digit}
-use Rattle.std.specs.List.{list_any, list_all, slice_index, slice_range, ends_with, position_or_len, before_first, after_first, enumerate_from}
+use Rattle.std.specs.List.{list_any, list_all, slice_index, slice_range, ends_with, position_or_len, before_first, after_first}
 use Rattle.std.specs.Option.{option_map_or}
-use Rattle.std.specs.Str.{byte, bytes_eq, is_utf8}
+use Rattle.std.specs.Str.{byte, bytes_eq}
 use Rattle.plan_match.specs.declared.event.Calendar.{Calendar}
-use Rattle.plan_rules.specs.declared.line_fault.LineCause.TheVariants.{TooLarge, NotUtf8, BadTimerName, NoTimerSection, TooManyLines}
+use Rattle.plan_rules.specs.declared.line_fault.LineCause.TheVariants.{BadTimerName, NoTimerSection, TooManyLines}
 use Rattle.plan_match.specs.declared.rule.Rule.TheVariants.{Events}
 use Rattle.plan_rules.specs.declared.timers.Key.{Key}
 use Rattle.plan_rules.specs.declared.timers.Key.TheVariants.{OnCalendar, Monotonic, UnitName, OtherKey}
 use Rattle.plan_rules.specs.Limits.{least_name, most_name, most_events}
 use Rattle.plan_texts.specs.Text.{begins_with}
-use Rattle.plan_texts.specs.Steps.{◌>>=◌, each}
+use Rattle.plan_texts.specs.Steps.{◌>>=◌}
 use Rattle.plan_grammar.specs.Event.{event_reading}
-use Rattle.plan_rules.specs.LineFaults.{TextReading, in_line, on_line}
+use Rattle.plan_rules.specs.LineFaults.{LineReading, TextReading, in_line, on_line}
+use Rattle.plan_rules.specs.FileText.{text_reading}
 use Rattle.plan_rules.specs.Job.{JobParts}
-use Rattle.plan_texts.specs.Lines.{is_too_large}
 use Rattle.plan_texts.specs.WholeLines.{whole_lines, trimmed}
 
 -- ---- the name
@@ -113,40 +113,21 @@ has_timer lines = list_any (λ line. inside_after false (section_name (line.1)))
 
 -- ---- the events, and the unit that is started
 
--- a list with one more in front of its first list
-abbrev pub onto_group : ℕ × List ℕ → List (List (ℕ × List ℕ)) → List (List (ℕ × List ℕ))
-onto_group event [] = (event ∷ []) ∷ []
-onto_group event (group ∷ more) = (event ∷ group) ∷ more
+-- the event that a text adds to a list: where it holds 64 already, that is a fault before the text is read (own)
+abbrev pub added_event : List Calendar → List ℕ → LineReading Calendar
+added_event held text =
+    if nat_lt (length held) most_events then in_line (event_reading text) else Err TooManyLines
 
--- the texts of events in the order of their lines, cut wherever the list is emptied
-abbrev pub groups : List (ℕ × Effect) → List (List (ℕ × List ℕ))
-groups [] = [] ∷ []
-groups ((number, Reset) ∷ more) = [] ∷ groups more
-groups ((number, Event text) ∷ more) = onto_group (number, text) (groups more)
-groups ((number, Starts unit) ∷ more) = groups more
-groups ((number, Nothing) ∷ more) = groups more
-
--- an event at a place of its group: where the list holds 64 already, that is a fault before the text is read (own)
-abbrev pub event_at : ℕ × (ℕ × List ℕ) → TextReading Calendar
-event_at (place, (number, text)) =
-    on_line number (if nat_lt place most_events then in_line (event_reading text) else Err TooManyLines)
-
--- the events of a group
-abbrev pub group_reading : List (ℕ × List ℕ) → TextReading (List Calendar)
-group_reading group = each event_at (enumerate_from 0 group)
-
--- the last of some lists
-abbrev pub last_group : List (List Calendar) → List Calendar
-last_group [] = []
-last_group (group ∷ []) = group
-last_group (group ∷ next ∷ more) = last_group (next ∷ more)
-
--- the events after the last reset (systemd.timer(5), `OnCalendar=`); a fault counts even where a later line empties the list
--- (own)
-abbrev pub events_reading : List (ℕ × Effect) → TextReading (List Calendar)
-events_reading effects = do
-  found ← each group_reading (groups effects)
-  Ok (last_group found)
+-- the events of a list that holds some already: those after the last reset (systemd.timer(5), `OnCalendar=`); the first
+-- fault decides, even where a later line empties the list (own)
+abbrev pub events_from : List Calendar → List (ℕ × Effect) → TextReading (List Calendar)
+events_from held [] = Ok held
+events_from held ((number, Reset) ∷ more) = events_from [] more
+events_from held ((number, Event text) ∷ more) = do
+  event ← on_line number (added_event held text)
+  events_from (held ++ event ∷ []) more
+events_from held ((number, Starts unit) ∷ more) = events_from held more
+events_from held ((number, Nothing) ∷ more) = events_from held more
 
 -- the first unit that is named (own)
 abbrev pub first_unit : List (ℕ × Effect) → Option (List ℕ)
@@ -168,15 +149,14 @@ job_with found name unit events =
 -- the job of a timer's whole lines, without blanks at their ends; that a `[Timer]` section is missing comes last (own)
 abbrev pub timer_of_lines : List ℕ → List (ℕ × List ℕ) → TextReading JobParts
 timer_of_lines name lines = do
-  events ← events_reading (effects_from false lines)
+  events ← events_from [] (effects_from false lines)
   job_with (has_timer lines) name (first_unit (effects_from false lines)) events
 
--- the meaning of a timer file: its name is looked at first, then its size, then its bytes, then its lines (own)
+-- the meaning of a timer file: its name is looked at first, then its bytes, then its lines (own)
 abbrev pub timer_reading : List ℕ → List ℕ → TextReading JobParts
 timer_reading name bytes =
     if is_timer_name name
-    then (if is_too_large bytes then on_line 0 (Err TooLarge)
-    else (if is_utf8 bytes
-    then timer_of_lines name (map (λ line. (line.0, trimmed (line.1))) (whole_lines bytes))
-    else on_line 0 (Err NotUtf8)))
+    then (do
+      text ← text_reading bytes
+      timer_of_lines name (map (λ line. (line.0, trimmed (line.1))) (whole_lines text)))
     else on_line 0 (Err BadTimerName)

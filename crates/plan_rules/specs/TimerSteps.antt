@@ -1,14 +1,11 @@
 -- What is held while the whole lines of a timer file are read, and what the meaning of the file is from there.
-use Rattle.std.specs.Prelude.{ℕ, Bool, false, ◌||◌, nat_lt, if◌then◌else◌, List, [], ◌∷◌, ◌++◌, length, Option, Some, Ok, Err, unwrap_or, string_bytes}
+use Rattle.std.specs.Prelude.{ℕ, Bool, false, ◌||◌, List, [], ◌∷◌, ◌++◌, Option, Some, Ok, unwrap_or, string_bytes}
 use Rattle.std.specs.Option.{option_map}
 use Rattle.plan_match.specs.declared.event.Calendar.{Calendar}
-use Rattle.plan_rules.specs.declared.line_fault.LineCause.TheVariants.{TooManyLines}
 use Rattle.plan_rules.specs.declared.timers.Settings.{Settings}
-use Rattle.plan_rules.specs.Limits.{most_events}
 use Rattle.plan_texts.specs.Steps.{◌>>=◌}
-use Rattle.plan_grammar.specs.Event.{event_reading}
-use Rattle.plan_rules.specs.LineFaults.{LineReading, in_line}
-use Rattle.plan_rules.specs.Timer.{Effect, Reset, Event, Starts, Nothing, inside_after, line_effect, section_name, setting_of}
+use Rattle.plan_rules.specs.LineFaults.{LineReading}
+use Rattle.plan_rules.specs.Timer.{Effect, Reset, Event, Starts, Nothing, added_event, inside_after, line_effect, section_name, setting_of}
 
 -- whether the next line stands in a `[Timer]` section, whether there was one, the list of events, and the unit that was named
 pub record Draft : Type 0 where
@@ -26,12 +23,11 @@ draft_of settings = record {
   unit = option_map (λ unit. string_bytes unit) settings.unit;
 }
 
--- one event more at the end of a list that holds fewer than 64 (own)
+-- one event more at the end of the list
 abbrev pub after_event : Draft → List ℕ → LineReading Draft
-after_event draft text =
-    if nat_lt (length draft.events) most_events
-    then (in_line (event_reading text) >>= λ event. Ok (record draft { events = draft.events ++ event ∷ [] }))
-    else Err TooManyLines
+after_event draft text = do
+  event ← added_event draft.events text
+  Ok (record draft { events = draft.events ++ event ∷ [] })
 
 -- what a line does; the unit that is named first counts
 abbrev pub after_effect : Draft → Effect → LineReading Draft

@@ -10,12 +10,13 @@ ghost use Rattle.plan_texts.specs.Lines.{after_blanks, is_too_large};
 ghost use Rattle.plan_rules.specs.LineFaults.{on_line, of_whole, want_of_memory, GivesLine, IsOwnCause};
 ghost use Rattle.plan_rules.specs.Crontab.{rule_in_front, at_word_in_front, fields_in_front, command_reading, what_reading, job_name, job_reading, begins_setting, setting_reading, line_reading, jobs_reading, crontab_reading};
 
+use crate::file_text::text_of;
 use crate::job::Job;
 use crate::line_fault::{LineCause, LineFault};
 use plan_grammar::{RuleFault, WRONG_PARTS, at_rule, five_fields};
 use plan_match::Rule;
 use plan_texts::begins_with;
-use plan_texts::lines::{after_blanks, cut_word, is_too_large, lines};
+use plan_texts::lines::{after_blanks, cut_word, lines};
 use std::alloc::{AllocError, Global};
 use std::sync::Arc;
 
@@ -47,12 +48,7 @@ pub fn crontab(alloc: Global, bytes: &[u8], kind: Kind) -> Result<Vec<Job>, Line
     ensures memory { IfErr result (λ fault. fault.cause ≡ LineCause.NoMemory → fault.line ≡ 0) }
     ensures own_cause { IfErr result (λ fault. IsOwnCause fault.cause) }
 {
-    if is_too_large(bytes) {
-        return Err(LineCause::TooLarge.on_line(0));
-    }
-    let Ok(text) = str::from_utf8(bytes) else {
-        return Err(LineCause::NotUtf8.on_line(0));
-    };
+    let text = text_of(bytes)?;
     let lines = lines(alloc, text)?;
     jobs_of_lines(alloc, kind, lines.as_slice())
 }

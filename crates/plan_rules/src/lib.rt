@@ -2,10 +2,11 @@
 //! (systemd.time(7)), timer files (systemd.timer(5), systemd.syntax(7)), and the list of jobs by their names.
 //!
 //! It stands on the four crates below it, from plan_sets to plan_grammar, and passes their names on, so that those above it know this
-//! crate alone. Open `crontabs` first, then `timers`; both make a `job`, and `jobs` is the list.
+//! crate alone. Open `crontabs` first, then `timers`; both take the `file_text` and make a `job`, and `jobs` is the list.
 #![tactic(auto)]
 
 mod crontabs;
+mod file_text;
 mod job;
 mod jobs;
 mod line_fault;

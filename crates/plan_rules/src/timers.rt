@@ -10,11 +10,11 @@ ghost use Rattle.plan_texts.specs.Lines.{is_too_large};
 ghost use Rattle.plan_texts.specs.WholeLines.{trimmed};
 ghost use Rattle.plan_rules.specs.Timer.{is_name_byte, is_timer_name, service_name, section_name, setting_of, key_of, timer_of_lines, timer_reading, job_with};
 
+use crate::file_text::text_of;
 use crate::job::Job;
 use crate::line_fault::{LineCause, LineFault};
 use plan_grammar::calendar_event;
 use plan_match::{Events, Rule};
-use plan_texts::lines::is_too_large;
 use plan_texts::whole_lines::{WholeLine, trimmed, whole_lines};
 use std::alloc::{AllocError, Global};
 use std::sync::Arc;
@@ -68,12 +68,7 @@ pub fn timer(alloc: Global, name: &str, bytes: &[u8]) -> Result<Job, LineFault>
     if !is_timer_name(name.as_bytes()) {
         return Err(LineCause::BadTimerName.on_line(0));
     }
-    if is_too_large(bytes) {
-        return Err(LineCause::TooLarge.on_line(0));
-    }
-    let Ok(text) = str::from_utf8(bytes) else {
-        return Err(LineCause::NotUtf8.on_line(0));
-    };
+    let text = text_of(bytes)?;
     let lines = whole_lines(alloc, text)?;
     timer_of_lines(alloc, name, lines.as_slice())
 }
