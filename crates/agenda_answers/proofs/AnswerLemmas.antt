@@ -9,6 +9,7 @@ use Rattle.agenda_words.specs.declared.UsageFault.TheVariants as usage
 use Rattle.agenda_faults.specs.declared.faults.RunFault.TheVariants as run
 use Rattle.agenda_faults.specs.declared.faults.Failure.TheVariants.{Usage, Run}
 use Rattle.agenda_faults.specs.declared.faults.Failure.{Failure}
+use Rattle.agenda_sources.specs.declared.SourcePath.{SourcePath}
 use Rattle.agenda_answers.specs.declared.answers.Wanted.{Wanted}
 use Rattle.agenda_answers.specs.Files.{Held}
 use Rattle.agenda_faults.specs.FaultLines.{fault_text}
@@ -17,16 +18,17 @@ use Rattle.agenda_answers.specs.Answer.{Answers, DoesPlan, FailsPlan, Stream, as
 
 -- `plan` was done, or was not, and then its line was written
 pub plan_answers :
-    (held : Held) (wanted : Wanted) (names : List (List ℕ)) (status : ℕ) (out err : Stream) (done : Result (Unit {0}) Failure)
+    (held : Held) (wanted : Wanted) (paths : List SourcePath) (status : ℕ) (out err : Stream) (done : Result (Unit {0}) Failure)
     → OnOk done (DoesPlan held wanted out.old out.new)
     → IfErr done (λ failure. FailsPlan out.takes_all held wanted failure out.old out.new)
-    → names ≡ wanted.paths.timers
+    → paths ≡ wanted.sources
     → OnOk done ((status ≡ 0) × Keeps err.old err.new)
-    → IfErr done (λ failure. (status ≡ status_of failure) × PutsOrBreaksOff err.takes_all err.old err.new (fault_text names failure))
+    → IfErr done (λ failure. (status ≡ status_of failure) × PutsOrBreaksOff err.takes_all err.old err.new (fault_text paths failure))
     → Answers held (Ok (asked_plan wanted)) status out err
-plan_answers held wanted names status out err (Ok x) does fails same (zero, keeps) line = inl (zero, does, keeps)
-plan_answers held wanted names status out err (Err failure) does fails same keeps (is, line) =
-    inr (failure, fails, is, subst (λ paths. PutsOrBreaksOff err.takes_all err.old err.new (fault_text paths failure)) same line)
+plan_answers held wanted paths status out err (Ok x) does fails same (zero, keeps) line = inl (zero, does, keeps)
+plan_answers held wanted paths status out err (Err failure) does fails same keeps (is, line) =
+    let text = subst (λ (l : List SourcePath). PutsOrBreaksOff err.takes_all err.old err.new (fault_text l failure)) same line in
+    inr (failure, fails, is, text)
 
 -- words that are no use of the program
 pub usage_answers : (held : Held) (text : List ℕ) (status : ℕ) (takes_all : Bool) (kept : Option (List ℕ)) (err : Stream)

@@ -52,14 +52,7 @@ refuses_whole takes_all (run.Script fault) bytes script old new same (reads, kep
 refuses_whole takes_all run.NoMemory bytes script old new same kept = kept
 refuses_whole takes_all run.Device bytes script old new same (text, (meaning, replies, reads, many, turn, lawful, is), off) =
     (text, (meaning, replies, same ∙ reads, many, turn, lawful, is), off)
-refuses_whole takes_all run.BadCount bytes script old new same none = absurd none
-refuses_whole takes_all (run.Rule fault) bytes script old new same none = absurd none
-refuses_whole takes_all (run.InCrontab fault) bytes script old new same none = absurd none
-refuses_whole takes_all (run.InSystem fault) bytes script old new same none = absurd none
-refuses_whole takes_all (run.InTimer place fault) bytes script old new same none = absurd none
-refuses_whole takes_all (run.SameName place) bytes script old new same none = absurd none
-refuses_whole takes_all run.Full bytes script old new same none = absurd none
-refuses_whole takes_all (run.Plan fault) bytes script old new same none = absurd none
+refuses_whole takes_all other bytes script old new same none = absurd none
 
 -- `steps` on a file of which the first bytes were read
 pub does_steps :

@@ -13,7 +13,8 @@ use Rattle.agenda_faults.specs.declared.faults.RunFault.TheVariants as run
 use Rattle.agenda_faults.specs.declared.faults.Failure.{Failure}
 use Rattle.agenda_faults.specs.declared.faults.Failure.TheVariants.{Usage, After, Since, Upto, Span, Run, File}
 use Rattle.agenda_answers.specs.declared.answers.Wanted.{Wanted}
-use Rattle.agenda_sources.specs.declared.Sources.{Sources}
+use Rattle.agenda_sources.specs.declared.Source.{Source}
+use Rattle.agenda_sources.specs.declared.SourcePath.{SourcePath}
 use Rattle.plan_collect.specs.Span.{Bounds}
 use Rattle.plan_collect.specs.declared.Sizes.{Sizes}
 use Rattle.plan_collect.specs.declared.SpanFault.TheVariants.{Backwards}
@@ -23,7 +24,7 @@ use Rattle.agenda_answers.specs.Files.{Held, IsHeld, IsUnsure}
 use Rattle.agenda_commands.specs.Next.{WritesNext, RefusesNext}
 use Rattle.agenda_commands.specs.Plan.{WritesPlan, RefusesPlan}
 use Rattle.agenda_commands.specs.Script.{WritesRun, RefusesScript}
-use Rattle.agenda_answers.specs.Sources.{IsGiven, MakesSources}
+use Rattle.agenda_answers.specs.Sources.{AreSourcesOf, IsGiven}
 use Rattle.plan_streams.specs.Stream.{BreaksOff, PutsOrBreaksOff}
 
 -- memory aside, the text of usage where a word of the command line isn't UTF-8
@@ -62,19 +63,19 @@ GivesNoSpan since upto other = ⊥
 -- `plan` was done
 abbrev pub DoesPlan : Held → Wanted → (old new : Option (List ℕ)) → Type 0
 DoesPlan held wanted old new =
-    (span : Bounds) × (sources : Sources) × IsSpan wanted.since wanted.upto span × MakesSources held wanted.paths sources
+    (span : Bounds) × (sources : List Source) × IsSpan wanted.since wanted.upto span × AreSourcesOf held wanted.sources sources
     × WritesPlan sources span wanted.sizes old new
 
 -- when each failure of `plan` comes: the span is looked at first, then the files are read, of which one is the failure only where it may
 -- fail, then the plan is made
 abbrev pub FailsPlan : Bool → Held → Wanted → Failure → (old new : Option (List ℕ)) → Type 0
 FailsPlan takes_all held wanted (File path) old new =
-    (span : Bounds) × IsSpan wanted.since wanted.upto span × IsGiven wanted.paths path × IsUnsure (held path)
+    (span : Bounds) × IsSpan wanted.since wanted.upto span × IsGiven wanted.sources path × IsUnsure (held path)
     × Keeps old new
 FailsPlan takes_all held wanted (Run run.NoMemory) old new =
     (span : Bounds) × IsSpan wanted.since wanted.upto span × Keeps old new
 FailsPlan takes_all held wanted (Run fault) old new =
-    (span : Bounds) × (sources : Sources) × IsSpan wanted.since wanted.upto span × MakesSources held wanted.paths sources
+    (span : Bounds) × (sources : List Source) × IsSpan wanted.since wanted.upto span × AreSourcesOf held wanted.sources sources
     × RefusesPlan takes_all fault sources span wanted.sizes old new
 FailsPlan takes_all held wanted failure old new = GivesNoSpan wanted.since wanted.upto failure × Keeps old new
 
@@ -90,31 +91,25 @@ FailsSteps takes_all held file (Run fault) old new =
 FailsSteps takes_all held file failure old new = ⊥
 
 -- what is wanted of `plan`, by what it was given
-abbrev pub wanted_of : (since upto : List ℕ) → (crontab system : Option (List ℕ)) → Sizes → List (List ℕ) → Wanted
-wanted_of since upto crontab system sizes timers = record {
-  since = since;
-  upto = upto;
-  paths = record { crontab = crontab; system = system; timers = timers };
-  sizes = sizes;
-}
+abbrev pub wanted_of : (since upto : List ℕ) → List SourcePath → Sizes → Wanted
+wanted_of since upto sources sizes = record { since = since; upto = upto; sources = sources; sizes = sizes }
 
 -- `plan`, by what is wanted of it
 abbrev pub asked_plan : Wanted → Ask
-asked_plan wanted =
-    Plan wanted.since wanted.upto wanted.paths.crontab wanted.paths.system wanted.sizes wanted.paths.timers
+asked_plan wanted = Plan wanted.since wanted.upto wanted.sources wanted.sizes
 
 -- what standard output holds after a command that was done
 abbrev pub Does : Held → Ask → (old new : Option (List ℕ)) → Type 0
 Does held (Next after count rule) old new = DoesNext after count rule old new
-Does held (Plan since upto crontab system sizes timers) old new =
-    DoesPlan held (wanted_of since upto crontab system sizes timers) old new
+Does held (Plan since upto sources sizes) old new =
+    DoesPlan held (wanted_of since upto sources sizes) old new
 Does held (Steps file) old new = DoesSteps held file old new
 
 -- when each failure of a command comes, and what standard output then holds
 abbrev pub Fails : Bool → Held → Ask → Failure → (old new : Option (List ℕ)) → Type 0
 Fails takes_all held (Next after count rule) failure old new = FailsNext takes_all after count rule failure old new
-Fails takes_all held (Plan since upto crontab system sizes timers) failure old new =
-    FailsPlan takes_all held (wanted_of since upto crontab system sizes timers) failure old new
+Fails takes_all held (Plan since upto sources sizes) failure old new =
+    FailsPlan takes_all held (wanted_of since upto sources sizes) failure old new
 Fails takes_all held (Steps file) failure old new = FailsSteps takes_all held file failure old new
 
 -- what standard output holds after what was asked was done: a command, or help
@@ -132,10 +127,10 @@ Stops takes_all held (Err (usage.Help text)) failure old new =
 Stops takes_all held (Err (usage.Usage text)) failure old new = (failure ≡ Usage text) × Keeps old new
 Stops takes_all held (Err usage.NoMemory) failure old new = (failure ≡ Run run.NoMemory) × Keeps old new
 
--- the paths of the timers that were given
-abbrev pub timers_of : Result Ask UsageFault → List (List ℕ)
-timers_of (Ok (Plan since upto crontab system sizes timers)) = timers
-timers_of other = []
+-- the paths of the sources that were given
+abbrev pub sources_of : Result Ask UsageFault → List SourcePath
+sources_of (Ok (Plan since upto sources sizes)) = sources
+sources_of other = []
 
 -- a stream: whether it takes all, and what it held before and after
 pub record Stream : Type 0 where
@@ -149,7 +144,7 @@ abbrev pub Answers : Held → Result Ask UsageFault → ℕ → (out err : Strea
 Answers held asked status out err =
     ((status ≡ 0) × Finishes held asked out.old out.new × Keeps err.old err.new)
     ⊎ ((failure : Failure) × Stops out.takes_all held asked failure out.old out.new × (status ≡ status_of failure)
-    × PutsOrBreaksOff err.takes_all err.old err.new (fault_text (timers_of asked) failure))
+    × PutsOrBreaksOff err.takes_all err.old err.new (fault_text (sources_of asked) failure))
 
 -- the same, by the words of the command line
 abbrev pub AnswersWords : Held → List (List ℕ) → ℕ → (out err : Stream) → Type 0

@@ -8,9 +8,10 @@ ghost use Rattle.agenda_answers.specs.Answer.{Answers, AnswersWords, asked_plan,
 ghost use Rattle.plan_streams.specs.Stream.{BreaksOff, PutsOrBreaksOff};
 
 use crate::files::{Files, read_file};
-use crate::sources::{Paths, read_sources};
+use crate::sources::read_sources;
 use agenda_commands::{run_next, run_plan, run_script};
 use agenda_faults::{Failure, RunFault, fault_line};
+use agenda_sources::{SourcePath, SourcePaths};
 use agenda_words::{Ask, Asked, UsageFault, read_words};
 use plan_collect::{Sizes, Span};
 use plan_rules::Text;
@@ -26,7 +27,7 @@ use std::thread::Threads;
 struct Wanted {
     since: Text,
     upto: Text,
-    paths: Paths,
+    sources: SourcePaths,
     sizes: Sizes,
 }
 
@@ -77,20 +78,14 @@ pub fn answer<R: Threads + Wait + Sync, F: Files, O: Stream, E: Stream>(
             Ask::Plan {
                 since,
                 upto,
-                crontab,
-                system,
+                sources,
                 sizes,
-                timers,
             },
         ) => {
             let wanted = Wanted {
                 since,
                 upto,
-                paths: Paths {
-                    crontab,
-                    system,
-                    timers,
-                },
+                sources,
                 sizes,
             };
             answer_plan(rt, alloc, &wanted, files, out, err)
@@ -130,18 +125,18 @@ fn answer_plan<R: Threads + Wait + Sync, F: Files, O: Stream, E: Stream>(
         (record { takes_all = E.takes_all; old = E.holds err.old; new = E.holds err.new }) }
 {
     let done = plan(rt, alloc, wanted, files, out);
-    status_of(done, wanted.paths.timers.as_slice(), err)
+    status_of(done, wanted.sources.as_slice(), err)
 }
 
-// The status of what was done, or was not. `timers` are the paths of the timers of a plan.
-fn status_of<S: Stream>(done: Result<(), Failure>, timers: &[Text], err: &mut S) -> u8
+// The status of what was done, or was not. `sources` are the paths of the sources of a plan.
+fn status_of<S: Stream>(done: Result<(), Failure>, sources: &[SourcePath], err: &mut S) -> u8
     ensures done { OnOk done ((result ≡ 0) × Keeps (S.holds err.old) (S.holds err.new)) }
     ensures failed { IfErr done (λ failure. (result ≡ failure_status failure)
-        × PutsOrBreaksOff S.takes_all (S.holds err.old) (S.holds err.new) (fault_text timers.now failure)) }
+        × PutsOrBreaksOff S.takes_all (S.holds err.old) (S.holds err.new) (fault_text sources.now failure)) }
 {
     match done {
         Ok(()) => DONE,
-        Err(failure) => fault_line(&failure, timers, err),
+        Err(failure) => fault_line(&failure, sources, err),
     }
 }
 
@@ -182,7 +177,7 @@ fn plan<R: Threads + Wait + Sync, F: Files, S: Stream>(
         (λ failure. FailsPlan S.takes_all (F.held files.old) wanted.now failure (S.holds out.old) (S.holds out.new)) }
 {
     let span = span_between(&wanted.since, &wanted.upto)?;
-    let sources = read_sources(alloc, files, &wanted.paths)?;
+    let sources = read_sources(alloc, files, wanted.sources.as_slice())?;
     match run_plan(rt, alloc, &sources, span, wanted.sizes, out) {
         Ok(()) => Ok(()),
         Err(fault) => Err(Failure::Run(fault)),

@@ -10,4 +10,4 @@ mod sources;
 
 pub use answers::{answer, answer_words, unread_words};
 pub use files::{Files, OpenFile, read_file};
-pub use sources::{Paths, read_sources};
+pub use sources::read_sources;

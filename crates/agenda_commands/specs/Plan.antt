@@ -13,10 +13,11 @@ use Rattle.plan_serial.specs.declared.PlanFault.{PlanFault}
 use Rattle.plan_serial.specs.declared.PlanFault.TheVariants as plan
 use Rattle.plan_collect.specs.declared.Sizes.{Sizes}
 use Rattle.agenda_sources.specs.Sources.{sources_reading}
-use Rattle.agenda_sources.specs.declared.Sources.{Sources}
-use Rattle.agenda_sources.specs.declared.SourceFault.TheVariants as source
+use Rattle.agenda_sources.specs.declared.Source.{Source}
+use Rattle.agenda_sources.specs.declared.SourceFault.{SourceFault}
 use Rattle.agenda_faults.specs.declared.faults.RunFault.{RunFault}
-use Rattle.agenda_faults.specs.declared.faults.RunFault.TheVariants.{NoMemory, InCrontab, InSystem, InTimer, SameName, Full, Plan, Device}
+use Rattle.agenda_faults.specs.declared.faults.RunFault.TheVariants.{NoMemory, Plan, Device}
+use Rattle.agenda_faults.specs.Faults.{fault_of_sources}
 
 -- what is printed for jobs: their agenda over the span, where the sizes and the limit are good ones, and it has no more entries
 -- than that
@@ -26,12 +27,12 @@ IsTextFor jobs span sizes text =
     × (text ≡ agenda_text (planned (rules_of jobs) span) jobs)
 
 -- what is printed for sources: the agenda of their jobs
-abbrev pub IsTextOfPlan : Sources → Bounds → Sizes → List ℕ → Type 0
+abbrev pub IsTextOfPlan : List Source → Bounds → Sizes → List ℕ → Type 0
 IsTextOfPlan sources span sizes text =
     (jobs : List JobParts) × (sources_reading sources ≡ Ok jobs) × IsTextFor jobs span sizes text
 
 -- that text was written
-abbrev pub WritesPlan : Sources → Bounds → Sizes → (old new : Option (List ℕ)) → Type 0
+abbrev pub WritesPlan : List Source → Bounds → Sizes → (old new : Option (List ℕ)) → Type 0
 WritesPlan sources span sizes old new =
     (text : List ℕ) × IsTextOfPlan sources span sizes text × Appends old new text
 
@@ -43,22 +44,14 @@ RefusesJobs (plan.Collect collect.TooMany) jobs span sizes =
     (is_size sizes.planners sizes.room ≡ true) × (is_limit sizes.limit ≡ true) × (sizes.limit < length (agenda (rules_of jobs) span))
 RefusesJobs other jobs span sizes = ⊥
 
--- when each fault of a plan comes, and what was written: the sources are read first, then their jobs are planned
-abbrev pub RefusesPlan : Bool → RunFault → Sources → Bounds → Sizes → (old new : Option (List ℕ)) → Type 0
+-- when each fault of a plan comes, and what was written: the sources are read first, whose fault is that of the plan, then their jobs
+-- are planned
+abbrev pub RefusesPlan : Bool → RunFault → List Source → Bounds → Sizes → (old new : Option (List ℕ)) → Type 0
 RefusesPlan takes_all NoMemory sources span sizes old new = Keeps old new
-RefusesPlan takes_all (InCrontab fault) sources span sizes old new =
-    (sources_reading sources ≡ Err (source.InCrontab fault)) × Keeps old new
-RefusesPlan takes_all (InSystem fault) sources span sizes old new =
-    (sources_reading sources ≡ Err (source.InSystem fault)) × Keeps old new
-RefusesPlan takes_all (InTimer place fault) sources span sizes old new =
-    (sources_reading sources ≡ Err (source.InTimer place fault)) × Keeps old new
-RefusesPlan takes_all (SameName place) sources span sizes old new =
-    (sources_reading sources ≡ Err (source.SameName place)) × Keeps old new
-RefusesPlan takes_all Full sources span sizes old new =
-    (sources_reading sources ≡ Err source.Full) × Keeps old new
 RefusesPlan takes_all (Plan fault) sources span sizes old new =
     (jobs : List JobParts) × (sources_reading sources ≡ Ok jobs) × RefusesJobs fault jobs span sizes
     × Keeps old new
 RefusesPlan takes_all Device sources span sizes old new =
     (text : List ℕ) × IsTextOfPlan sources span sizes text × BreaksOff takes_all old new text
-RefusesPlan takes_all other sources span sizes old new = ⊥
+RefusesPlan takes_all fault sources span sizes old new =
+    (found : SourceFault) × (sources_reading sources ≡ Err found) × (fault ≡ fault_of_sources found) × Keeps old new

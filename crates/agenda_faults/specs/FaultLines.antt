@@ -1,5 +1,6 @@
 -- The lines of failures, as the program writes them on standard error. All of it is own.
-use Rattle.std.specs.Prelude.{ℕ, List, [], ◌++◌, codes, decimal, Option, None, Some, slice_get}
+use Rattle.std.specs.Prelude.{ℕ, List, [], ◌++◌, codes, decimal, Option, None, Some, slice_get, unwrap_or}
+use Rattle.std.specs.List.{filter}
 use Rattle.plan_rules.specs.declared.RuleCause.{RuleCause}
 use Rattle.plan_rules.specs.declared.RuleCause.TheVariants as cause
 use Rattle.agenda_script.specs.declared.fault.ScriptCause.{ScriptCause}
@@ -20,6 +21,10 @@ use Rattle.plan_grammar.specs.Causes.{rule_cause}
 use Rattle.plan_rules.specs.Causes.{line_cause}
 use Rattle.plan_sets.specs.Causes.{moment_cause}
 use Rattle.agenda_sources.specs.Name.{timer_name}
+use Rattle.agenda_sources.specs.Kind.{is_kind, label_of}
+use Rattle.agenda_sources.specs.declared.SourceKind.{SourceKind}
+use Rattle.agenda_sources.specs.declared.SourceKind.TheVariants.{Crontab, System, Timer}
+use Rattle.agenda_sources.specs.declared.SourcePath.{SourcePath}
 
 -- memory was refused
 abbrev pub memory_line : List ℕ
@@ -59,14 +64,18 @@ source_line source line on_line.NoMemory = memory_line
 source_line source line (on_line.Rule fault) = source_rule_line source line fault.part fault.cause
 source_line source line refused = text_of_line source (decimal line) (line_cause refused)
 
--- the name of a timer by its path, if it is there
-abbrev pub name_in : Option (List ℕ) → List ℕ
+-- the name of a source by its path, if it is there
+abbrev pub name_in : Option SourcePath → List ℕ
 name_in None = []
-name_in (Some path) = timer_name path
+name_in (Some source) = timer_name source.path
 
--- the name of the timer at a place, by the paths of all
-abbrev pub name_at : List (List ℕ) → ℕ → List ℕ
-name_at timers place = name_in (slice_get timers place)
+-- the name of the source at a place among those of its kind, by the paths of all
+abbrev pub name_at : List SourcePath → SourceKind → ℕ → List ℕ
+name_at sources kind place = name_in (slice_get (filter (λ source. is_kind source.kind kind) sources) place)
+
+-- what such a source is called: by the label of its kind, or by its name
+abbrev pub source_name : List SourcePath → SourceKind → ℕ → List ℕ
+source_name sources kind place = unwrap_or (label_of kind) (name_at sources kind place)
 
 -- what a collector refused; a want of memory has no cause
 abbrev pub collect_line : CollectFault → List ℕ
@@ -81,26 +90,26 @@ plan_line (plan.Collect fault) = collect_line fault
 plan_line (plan.NotSettled unsettled) = codes "agenda: NotSettled\n"
 plan_line plan.BadLimit = codes "agenda: plan: BadLimit\n"
 
--- a command that was not done, with the paths of the timers of a plan
-abbrev pub run_line : List (List ℕ) → RunFault → List ℕ
-run_line timers NoMemory = memory_line
-run_line timers BadCount = codes "agenda: count: BadCount\n"
-run_line timers (Rule fault) = rule_line fault.part fault.cause
-run_line timers (InCrontab fault) = source_line (codes "crontab") fault.line fault.cause
-run_line timers (InSystem fault) = source_line (codes "system crontab") fault.line fault.cause
-run_line timers (InTimer place fault) = source_line (name_at timers place) fault.line fault.cause
-run_line timers (SameName place) = codes "agenda: job " ++ (name_at timers place ++ codes ": SameName\n")
-run_line timers Full = codes "agenda: jobs: Full\n"
-run_line timers (Plan fault) = plan_line fault
-run_line timers (Script fault) = script_line fault.line fault.cause
-run_line timers Device = codes "agenda: Device\n"
+-- a command that was not done, with the paths of the sources of a plan
+abbrev pub run_line : List SourcePath → RunFault → List ℕ
+run_line sources NoMemory = memory_line
+run_line sources BadCount = codes "agenda: count: BadCount\n"
+run_line sources (Rule fault) = rule_line fault.part fault.cause
+run_line sources (InCrontab fault) = source_line (source_name sources Crontab 0) fault.line fault.cause
+run_line sources (InSystem fault) = source_line (source_name sources System 0) fault.line fault.cause
+run_line sources (InTimer place fault) = source_line (source_name sources Timer place) fault.line fault.cause
+run_line sources (SameName place) = codes "agenda: job " ++ (name_at sources Timer place ++ codes ": SameName\n")
+run_line sources Full = codes "agenda: jobs: Full\n"
+run_line sources (Plan fault) = plan_line fault
+run_line sources (Script fault) = script_line fault.line fault.cause
+run_line sources Device = codes "agenda: Device\n"
 
 -- what standard error gets: the text of usage as it is, or one line
-abbrev pub fault_text : List (List ℕ) → Failure → List ℕ
-fault_text timers (Usage text) = text
-fault_text timers (After fault) = codes "agenda: after: " ++ (moment_cause fault ++ codes "\n")
-fault_text timers (Since fault) = codes "agenda: since: " ++ (moment_cause fault ++ codes "\n")
-fault_text timers (Upto fault) = codes "agenda: upto: " ++ (moment_cause fault ++ codes "\n")
-fault_text timers (Span fault) = codes "agenda: span: " ++ (span_cause fault ++ codes "\n")
-fault_text timers (Run fault) = run_line timers fault
-fault_text timers (File path) = codes "agenda: " ++ (path ++ codes ": Device\n")
+abbrev pub fault_text : List SourcePath → Failure → List ℕ
+fault_text sources (Usage text) = text
+fault_text sources (After fault) = codes "agenda: after: " ++ (moment_cause fault ++ codes "\n")
+fault_text sources (Since fault) = codes "agenda: since: " ++ (moment_cause fault ++ codes "\n")
+fault_text sources (Upto fault) = codes "agenda: upto: " ++ (moment_cause fault ++ codes "\n")
+fault_text sources (Span fault) = codes "agenda: span: " ++ (span_cause fault ++ codes "\n")
+fault_text sources (Run fault) = run_line sources fault
+fault_text sources (File path) = codes "agenda: " ++ (path ++ codes ": Device\n")

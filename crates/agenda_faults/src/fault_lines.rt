@@ -4,15 +4,15 @@ ghost use Rattle.std.specs.Prelude.{◌≡◌, ◌≤◌, ◌++◌, IfSome, code
 ghost use Rattle.std.specs.List.{flat_map};
 ghost use Rattle.agenda_faults.specs.Faults.{status_of};
 ghost use Rattle.agenda_faults.specs.FaultLines.{collect_line, fault_text, name_at, plan_line, rule_line, run_line};
-ghost use Rattle.agenda_faults.specs.FaultLines.{script_line, source_line, source_rule_line, text_of_line, text_of_part};
+ghost use Rattle.agenda_faults.specs.FaultLines.{script_line, source_line, source_name, source_rule_line, text_of_line, text_of_part};
 ghost use Rattle.plan_streams.specs.Stream.{Puts, PutsOrBreaksOff};
 
 use crate::faults::{Failure, RunFault};
 use agenda_script::{ScriptCause, ScriptFault};
-use agenda_sources::timer_name;
+use agenda_sources::{SourceKind, SourcePath, timer_name};
 use itoa::Buffer;
 use plan_collect::CollectFault;
-use plan_rules::{LineCause, LineFault, RuleCause, RuleFault, Text};
+use plan_rules::{LineCause, LineFault, RuleCause, RuleFault};
 use plan_serial::PlanFault;
 use plan_streams::{Stream, WriteFault};
 
@@ -23,14 +23,14 @@ const LINE_ROOM: usize = 1_024;
 const MEMORY_LINE: &[u8] = b"agenda: NoMemory\n";
 
 /// Writes the line of a failure, or the text of usage, and answers the status with which the program ends: 1 where input,
-/// a size, a count or a limit was refused, 2 for usage, 3 where memory was refused, or a device or a file failed. `timers` are
-/// the paths of the timers of a plan, of which a fault names the place. A fault of this stream is passed over. Takes no memory.
-pub fn fault_line<S: Stream>(failure: &Failure, timers: &[Text], stream: &mut S) -> u8
+/// a size, a count or a limit was refused, 2 for usage, 3 where memory was refused, or a device or a file failed. `sources` are
+/// the paths of the sources of a plan, of which a fault names the place. A fault of this stream is passed over. Takes no memory.
+pub fn fault_line<S: Stream>(failure: &Failure, sources: &[SourcePath], stream: &mut S) -> u8
     ensures status { result ≡ status_of failure.now }
     ensures line { PutsOrBreaksOff S.takes_all (S.holds stream.old) (S.holds stream.new)
-        (fault_text timers.now failure.now) }
+        (fault_text sources.now failure.now) }
 {
-    match put_failure(failure, timers, stream) {
+    match put_failure(failure, sources, stream) {
         Ok(()) | Err(WriteFault::Device) => failure.status(),
     }
 }
@@ -38,11 +38,11 @@ pub fn fault_line<S: Stream>(failure: &Failure, timers: &[Text], stream: &mut S)
 // Writes the line of a failure, or the text of usage.
 fn put_failure<S: Stream>(
     failure: &Failure,
-    timers: &[Text],
+    sources: &[SourcePath],
     stream: &mut S,
 ) -> Result<(), WriteFault>
     ensures { Puts S.takes_all result (S.holds stream.old) (S.holds stream.new)
-        (fault_text timers.now failure.now) }
+        (fault_text sources.now failure.now) }
 {
     match failure {
         Failure::Usage(text) => stream.put(text.as_str().as_bytes()),
@@ -64,7 +64,7 @@ fn put_failure<S: Stream>(
         Failure::Span(cause) => {
             put_joined(&[b"agenda: span: ", cause.name().as_bytes(), b"\n"], stream)
         }
-        Failure::Run(fault) => put_run_fault(fault, timers, stream),
+        Failure::Run(fault) => put_run_fault(fault, sources, stream),
         Failure::File(path) => {
             put_joined(
                 &[b"agenda: ", path.as_str().as_bytes(), b": Device\n"],
@@ -77,22 +77,31 @@ fn put_failure<S: Stream>(
 // Writes the line of a command that was not done.
 fn put_run_fault<S: Stream>(
     fault: &RunFault,
-    timers: &[Text],
+    sources: &[SourcePath],
     stream: &mut S,
 ) -> Result<(), WriteFault>
     ensures { Puts S.takes_all result (S.holds stream.old) (S.holds stream.new)
-        (run_line timers.now fault.now) }
+        (run_line sources.now fault.now) }
 {
     match fault {
         RunFault::NoMemory => stream.put(MEMORY_LINE),
         RunFault::BadCount => stream.put(b"agenda: count: BadCount\n"),
         RunFault::Rule(fault) => put_rule_fault(*fault, stream),
-        RunFault::InCrontab(fault) => put_source_fault(b"crontab", *fault, stream),
-        RunFault::InSystem(fault) => put_source_fault(b"system crontab", *fault, stream),
-        RunFault::InTimer(place, fault) => {
-            put_source_fault(name_at(timers, *place).as_bytes(), *fault, stream)
+        RunFault::InCrontab(fault) => {
+            let name = source_name(sources, SourceKind::Crontab, 0);
+            put_source_fault(name.as_bytes(), *fault, stream)
         }
-        RunFault::SameName(place) => put_same_name(name_at(timers, *place), stream),
+        RunFault::InSystem(fault) => {
+            let name = source_name(sources, SourceKind::System, 0);
+            put_source_fault(name.as_bytes(), *fault, stream)
+        }
+        RunFault::InTimer(place, fault) => {
+            let name = source_name(sources, SourceKind::Timer, *place);
+            put_source_fault(name.as_bytes(), *fault, stream)
+        }
+        RunFault::SameName(place) => {
+            put_same_name(name_at(sources, SourceKind::Timer, *place), stream)
+        }
         RunFault::Full => stream.put(b"agenda: jobs: Full\n"),
         RunFault::Plan(fault) => put_plan_fault(*fault, stream),
         RunFault::Script(fault) => put_script_fault(*fault, stream),
@@ -100,12 +109,26 @@ fn put_run_fault<S: Stream>(
     }
 }
 
-// The name of the timer at a place, if it is there.
-fn name_at(timers: &[Text], place: usize) -> &str
-    ensures { result.now ≡ name_at timers.now place }
+// What lines of faults call the source at a place among those of its kind: the label of the kind, or the source's name.
+fn source_name(sources: &[SourcePath], kind: SourceKind, place: usize) -> &str
+    ensures { result.now ≡ source_name sources.now kind place }
 {
-    match timers.get(place) {
-        Some(path) => timer_name(path.as_str()),
+    match kind.label() {
+        Some(label) => label,
+        None => name_at(sources, kind, place),
+    }
+}
+
+// The name of the source at a place among those of its kind, if it is there.
+fn name_at(sources: &[SourcePath], kind: SourceKind, place: usize) -> &str
+    ensures { result.now ≡ name_at sources.now kind place }
+{
+    match sources
+        .iter()
+        .filter(|source| source.kind.is(kind))
+        .nth(place)
+    {
+        Some(source) => timer_name(source.path.as_str()),
         None => "",
     }
 }

@@ -1,43 +1,47 @@
--- Faults that are found at once: a source that was read has none. For `at_once` of `add_timers` and `jobs_of_sources`.
--- Only the first source counts. By cases of which it is: where the fault is of a later one, the first was read, so it
--- has no fault that is found at once, and there is nothing to show.
-use Rattle.std.proofs.Common.{◌≡◌, ℕ, ◌<◌, List, [], ◌∷◌, length, get_or, Option, None, Some, Result, Ok, Err, IfSome, suc, zero, refl, ap, subst, arith}
-use Rattle.std.specs.Option.{option_and_then}
+-- Faults that are found at once: a source that was read has none. For `at_once` of `jobs_of_sources` and its loop's `none`.
+-- Only the first source counts. A later one is come to where the first was read, so there is no such fault, and there is
+-- nothing to show.
+use Rattle.std.proofs.Common.{◌≡◌, ℕ, ◌<◌, List, [], ◌∷◌, length, get_or, take, Option, None, Some, Result, Ok, Err, IfSome, suc, zero, refl, ap, subst, arith}
 use Rattle.std.proofs.lemmas.Option.{IfSome_then}
-use Rattle.plan_rules.specs.declared.crontabs.Kind.TheVariants.{User, System}
 use Rattle.agenda_sources.specs.declared.fault.SourceFault.{SourceFault}
-use Rattle.agenda_sources.specs.declared.sources.TimerFile.{TimerFile}
-use Rattle.agenda_sources.specs.AtOnce.{crontab_at_once, timer_at_once, timers_at_once, first_at_once}
+use Rattle.agenda_sources.specs.declared.sources.Source.{Source}
+use Rattle.agenda_sources.specs.AtOnce.{source_at_once, fault_at_once}
+use Rattle.agenda_sources.specs.Sources.{place_in}
 
 -- the answer is the fault that is found at once, if there is one
 abbrev pub IsFound : {A : Type 0} → Result A SourceFault → Option SourceFault → Type 0
 IsFound answer found = IfSome found (λ fault. answer ≡ Err fault)
 
 -- where something was read there is none
-pub none_found : {A : Type 0} (x : A) (found : Option SourceFault) → IsFound (Ok x) found → found ≡ None
+none_found : {A : Type 0} (x : A) (found : Option SourceFault) → IsFound (Ok x) found → found ≡ None
 none_found x None is = refl
 none_found x (Some fault) is = absurd cc
 
--- a timer's answer, where no timer before it had a fault that is found at once
-pub timer_found :
-    {A : Type 0} (files : List TimerFile) (place : ℕ) (file : TimerFile) (answer : Result A SourceFault) → place < length files →
-    file ≡ get_or files place file → (0 < place → timers_at_once files ≡ None) → IsFound answer (timer_at_once place file) →
-    IsFound answer (timers_at_once files)
-timer_found [] place file answer within is before found = tt
-timer_found (first ∷ more) zero file answer within is before found = subst (λ f. IsFound answer (timer_at_once 0 f)) is found
-timer_found (first ∷ more) (suc place) file answer within is before found =
-    let none : timers_at_once (first ∷ more) ≡ None = before (omega arith) in
+-- a source's answer, where no source before it had a fault that is found at once
+pub source_found :
+    {A : Type 0} (sources : List Source) (index place : ℕ) (source : Source) (answer : Result A SourceFault) → index < length sources →
+    source ≡ get_or sources index source → place ≡ place_in source.kind (take index sources) →
+    (0 < index → fault_at_once sources ≡ None) → IsFound answer (source_at_once place source) → IsFound answer (fault_at_once sources)
+source_found [] index place source answer within is at before found = tt
+source_found (first ∷ more) zero place source answer within is at before found =
+    subst (λ (s : Source). IsFound answer (source_at_once 0 s)) is
+    (subst (λ (n : ℕ). IsFound answer (source_at_once n source)) at found)
+source_found (first ∷ more) (suc index) place source answer within is at before found =
+    let none : fault_at_once (first ∷ more) ≡ None = before (omega arith) in
     rw none tt
 
--- the timers' fault is that of all sources, where the crontabs were read
-pub source_found :
-    {A B : Type 0} (C D : Type 0) (x : A) (y : B) (crontab system : Option (List ℕ)) (files given : List TimerFile) (fault : SourceFault) →
-    IsFound (Ok x) (option_and_then (crontab_at_once User) crontab) → IsFound (Ok y) (option_and_then (crontab_at_once System) system) →
-    given ≡ files → IsFound {A = C} (Err fault) (timers_at_once given) → IsFound {A = D} (Err fault) (first_at_once crontab system files)
-source_found C D x y (Some bytes) system files given fault users systems same found =
-    rw (none_found x (crontab_at_once User bytes) users) tt
-source_found C D x y None (Some bytes) files given fault users systems same found =
-    rw (none_found y (crontab_at_once System bytes) systems) tt
-source_found C D x y None None files given fault users systems same found =
-    IfSome_then (timers_at_once files) (subst (λ l. IsFound {A = C} (Err fault) (timers_at_once l)) same found)
+-- so there is none where it was read
+pub none_so_far :
+    {A : Type 0} (x : A) (sources : List Source) (index place : ℕ) (source : Source) → index < length sources →
+    source ≡ get_or sources index source → place ≡ place_in source.kind (take index sources) →
+    (0 < index → fault_at_once sources ≡ None) → IsFound (Ok x) (source_at_once place source) → fault_at_once sources ≡ None
+none_so_far x sources index place source within is at before found =
+    none_found x (fault_at_once sources) (source_found sources index place source (Ok x) within is at before found)
+
+-- a fault that is handed on
+pub handed_on :
+    (A B : Type 0) (sources given : List Source) (fault : SourceFault) → given ≡ sources →
+    IsFound {A = A} (Err fault) (fault_at_once given) → IsFound {A = B} (Err fault) (fault_at_once sources)
+handed_on A B sources given fault same found =
+    IfSome_then (fault_at_once sources) (subst (λ (l : List Source). IsFound {A = A} (Err fault) (fault_at_once l)) same found)
     (λ other is. let it : fault ≡ other = cc is in ap Err it)

@@ -1,5 +1,5 @@
--- The names of a crontab's jobs: each is that of a line, and no two jobs have one. For the `requires` of `add_all` in
--- `add_crontab`, and of `add_crontab` in `jobs_of_sources`. By induction over the lines: the later jobs are named by
+-- The names of a crontab's jobs: each is that of a line, and no two jobs have one. For the law
+-- `crontabs_need_no_look`, by CrontabLaws.antt. By induction over the lines: the later jobs are named by
 -- later lines, and the names of two lines differ, as their numbers fit a word (`few_enough`).
 use Rattle.std.proofs.Common.{◌≡◌, ◌≢◌, ℕ, ◌+◌, ◌<◌, ◌≤◌, ◌^◌, Bool, true, false, cond, eqb, nat_le, List, [], ◌∷◌, length, map, codes, Option, Some, None, Result, Ok, Err, IfOk, refl, ap, sym, ◌∙◌, arith, get_or}
 use Rattle.std.proofs.lemmas.Fmt.{decimal_injective}
@@ -23,8 +23,12 @@ use Rattle.plan_rules.specs.Job.{JobParts}
 use Rattle.plan_rules.specs.Jobs.{number_of, HaveDistinctNames}
 use Rattle.plan_rules.specs.Crontab.{rule_in_front, what_reading, job_name, job_reading, begins_setting, entry_reading, line_reading, numbered_reading, jobs_reading, crontab_reading}
 use Rattle.agenda_sources.specs.declared.fault.SourceFault.TheVariants.{Full}
-use Rattle.agenda_sources.specs.Faults.{crontab_fault, in_source}
-use Rattle.agenda_sources.specs.Sources.{with_crontab, HasNoLineOf}
+use Rattle.agenda_sources.specs.declared.fault.SourceFault.{SourceFault}
+use Rattle.agenda_sources.specs.declared.kind.SourceKind.TheVariants.{Crontab}
+use Rattle.plan_rules.specs.declared.line_fault.LineFault.{LineFault}
+use Rattle.agenda_sources.specs.Faults.{in_source}
+use Rattle.agenda_sources.specs.Kind.{fault_in}
+use Rattle.agenda_sources.specs.Crontabs.{with_users, HasNoLineOf}
 use Rattle.agenda_sources.proofs.NameLemmas.{other_name, AllFail, none_from_fail}
 
 -- ---- what is true of each reading
@@ -208,15 +212,17 @@ not_named number [] all = tt
 not_named number (j ∷ jobs) (here, all) =
     (other_name (job_name System number) j.name (λ same. other_kind number here.number (same ∙ here.named)), not_named number jobs all)
 
-in_a_source : (P : List JobParts → Type 0) (r : TextReading (List JobParts)) → IfOk r P → IfOk (in_source (crontab_fault User) r) P
-in_a_source P (Ok jobs) names = names
-in_a_source P (Err fault) names = tt
+in_a_source :
+    (P : List JobParts → Type 0) (fault_of : LineFault → SourceFault) (r : TextReading (List JobParts)) → IfOk r P →
+    IfOk (in_source fault_of r) P
+in_a_source P fault_of (Ok jobs) names = names
+in_a_source P fault_of (Err fault) names = tt
 
 -- none has the name of a line of the system's
-pub users_alone : (bytes : Option (List ℕ)) → IfOk (with_crontab User [] bytes) (HasNoLineOf System)
+pub users_alone : (bytes : Option (List ℕ)) → IfOk (with_users [] bytes) (HasNoLineOf System)
 users_alone None = λ number. refl
 users_alone (Some bytes) =
-    steps (AreLinesBehind User 0) (HasNoLineOf System) (in_source (crontab_fault User) (crontab_reading User bytes)) _
-    (in_a_source (AreLinesBehind User 0) (crontab_reading User bytes) (crontab_names User bytes))
+    steps (AreLinesBehind User 0) (HasNoLineOf System) (in_source (fault_in Crontab 0) (crontab_reading User bytes)) _
+    (in_a_source (AreLinesBehind User 0) (fault_in Crontab 0) (crontab_reading User bytes) (crontab_names User bytes))
     (λ more names. choice (HasNoLineOf System) (nat_le (length more) most_jobs) (Ok more) (Err Full)
     (λ number. none_from_fail (λ other. bytes_eq (job_name System number) other.name) more (not_named number more names.0)) tt)

@@ -1,5 +1,7 @@
-pub mod AtOnceLemmas
-pub mod CrontabNames
-pub mod NameLemmas
-pub mod SlashLemmas
-pub mod SourceFaults
+mod AtOnceLemmas
+mod CrontabLaws
+mod CrontabNames
+mod FoldLemmas
+mod NameLemmas
+mod SlashLemmas
+mod SourceFaults

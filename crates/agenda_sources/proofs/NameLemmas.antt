@@ -1,7 +1,7 @@
--- Names that no job of a list has: for `add_all`, where `SameName` can't come, and for CrontabNames.antt.
+-- Names that no job of a list has: for CrontabNames.antt and CrontabLaws.antt, by which crontabs need no look at names.
 -- That a list has no such job is turned into `AllFail`, which holds of two joined lists where it holds of both. So
 -- `next_is_new` splits: no old job has the name, and none of the jobs that were added before, as all differ.
-use Rattle.std.proofs.Common.{◌≡◌, ◌≢◌, ℕ, ◌+◌, ◌≤◌, Bool, true, false, not, cond, List, [], ◌∷◌, ◌++◌, length, map, position, Option, Some, None, refl, ap, sym, ◌∙◌, arith, subst, IsSome}
+use Rattle.std.proofs.Common.{◌≡◌, ◌≢◌, ℕ, ◌+◌, ◌≤◌, Bool, true, false, not, cond, List, [], ◌∷◌, ◌++◌, length, map, position, Some, None, refl, sym, arith, subst}
 use Rattle.std.proofs.lemmas.Bool.{false_from_ne_true, ltb-false, le-ltb}
 use Rattle.std.proofs.lemmas.List.Elements.{recursion_from_All}
 use Rattle.std.proofs.lemmas.Slice.Eq.{bytes_eq-Decides}
@@ -85,14 +85,3 @@ next_is_new old done job more all is new distinct =
     none_from_fail (λ other. bytes_eq job.name other.name) (old ++ done)
     (fail_behind (λ other. bytes_eq job.name other.name) old done (fail_from_none (λ other. bytes_eq job.name other.name) old here)
     (distinct_before done job more apart))
-
-nothing_there : (o : Option ℕ) → o ≡ None → IsSome o → ⊥
-nothing_there None none there = cc
-nothing_there (Some number) none there = cc
-
--- so it isn't there
-pub not_there :
-    (name : List ℕ) (old done jobs : List JobParts) → jobs ≡ old ++ done → number_of name (old ++ done) ≡ None →
-    IsSome (number_of name jobs) → ⊥
-not_there name old done jobs is none there =
-    nothing_there (number_of name jobs) (ap (number_of name) is ∙ none) there

@@ -1,9 +1,7 @@
 -- Which faults sources have: a want of memory never stands inside one. For `own_fault` of `jobs_of_sources`.
 -- The lemmas follow the definition from one source to all: a step, or a choice, keeps it where both parts do. Each
 -- source's fault passes `fault_by_cause`, which makes `NoMemory` of such a want. Last, it is led to the answer.
-use Rattle.std.proofs.Common.{◌≡◌, ◌≢◌, ℕ, ◌+◌, Bool, true, false, cond, nat_le, is_some, List, [], ◌∷◌, ◌++◌, length, Option, Some, None, Result, Ok, Err, IfErr}
-use Rattle.plan_rules.specs.declared.crontabs.Kind.{Kind}
-use Rattle.plan_rules.specs.declared.crontabs.Kind.TheVariants.{User, System}
+use Rattle.std.proofs.Common.{◌≡◌, ◌≢◌, ℕ, Bool, true, false, cond, nat_lt, is_some, List, [], ◌∷◌, ◌++◌, length, Result, Ok, Err, IfErr}
 use Rattle.plan_rules.specs.declared.line_fault.LineCause.{LineCause}
 use Rattle.plan_rules.specs.declared.line_fault.LineCause.TheVariants as cause
 use Rattle.plan_rules.specs.declared.line_fault.LineFault.{LineFault}
@@ -12,14 +10,14 @@ use Rattle.plan_rules.specs.LineFaults.{TextReading}
 use Rattle.plan_rules.specs.Limits.{most_jobs}
 use Rattle.plan_rules.specs.Job.{JobParts}
 use Rattle.plan_rules.specs.Jobs.{number_of}
-use Rattle.plan_rules.specs.Crontab.{crontab_reading}
-use Rattle.plan_rules.specs.Timer.{timer_reading}
+use Rattle.agenda_sources.specs.declared.kind.SourceKind.{SourceKind}
+use Rattle.agenda_sources.specs.declared.kind.SourceKind.TheVariants.{Crontab}
 use Rattle.agenda_sources.specs.declared.fault.SourceFault.{SourceFault}
-use Rattle.agenda_sources.specs.declared.fault.SourceFault.TheVariants.{NoMemory, InCrontab, InSystem, InTimer, SameName, Full}
-use Rattle.agenda_sources.specs.declared.sources.Sources.{Sources}
-use Rattle.agenda_sources.specs.declared.sources.TimerFile.{TimerFile}
-use Rattle.agenda_sources.specs.Faults.{SourceReading, fault_by_cause, crontab_fault, timer_fault, in_source, IsOwnFault}
-use Rattle.agenda_sources.specs.Sources.{with_jobs, with_new_name, with_crontab, with_timer, with_timers, sources_reading}
+use Rattle.agenda_sources.specs.declared.fault.SourceFault.TheVariants.{NoMemory, SameName, Full}
+use Rattle.agenda_sources.specs.declared.sources.Source.{Source}
+use Rattle.agenda_sources.specs.Faults.{SourceReading, in_source, IsOwnFault}
+use Rattle.agenda_sources.specs.Kind.{fault_by_cause, fault_in, own_fault_in, reading_of}
+use Rattle.agenda_sources.specs.Sources.{place_in, sources_from, sources_reading, with_job, with_jobs, with_source}
 
 steps :
     {A B E : Type 0} (P : E → Type 0) (r : Result A E) (next : A → Result B E) → IfErr r P → ((x : A) → IfErr (next x) P) →
@@ -35,12 +33,14 @@ by_cause : (c : LineCause) (fault : SourceFault) → (c ≢ cause.NoMemory → I
 by_cause cause.NoMemory fault own = tt
 by_cause c fault own = own (λ same. cc)
 
-of_crontab : (kind : Kind) (fault : LineFault) → IsOwnFault (crontab_fault kind fault)
-of_crontab User fault = by_cause fault.cause (InCrontab fault) (λ other. other)
-of_crontab System fault = by_cause fault.cause (InSystem fault) (λ other. other)
+-- each kind's fault is one with a cause
+with_cause :
+    (kind : SourceKind) (place : ℕ) (fault : LineFault) → fault.cause ≢ cause.NoMemory → IsOwnFault (own_fault_in kind place fault)
+with_cause Crontab place fault other = other
+with_cause kind place fault other = other
 
-of_timer : (place : ℕ) (fault : LineFault) → IsOwnFault (timer_fault place fault)
-of_timer place fault = by_cause fault.cause (InTimer place fault) (λ other. other)
+of_kind : (kind : SourceKind) (place : ℕ) (fault : LineFault) → IsOwnFault (fault_in kind place fault)
+of_kind kind place fault = by_cause fault.cause (own_fault_in kind place fault) (with_cause kind place fault)
 
 of_source :
     {A : Type 0} (fault_of : LineFault → SourceFault) (r : TextReading A) → ((fault : LineFault) → IsOwnFault (fault_of fault)) →
@@ -48,37 +48,27 @@ of_source :
 of_source fault_of (Ok x) own = tt
 of_source fault_of (Err fault) own = own fault
 
-jobs_behind : (jobs more : List JobParts) → IfErr (with_jobs jobs more) IsOwnFault
-jobs_behind jobs more = choice IsOwnFault (nat_le (length (jobs ++ more)) most_jobs) (Ok (jobs ++ more)) (Err Full) tt tt
+job : (place : ℕ) (jobs : List JobParts) (more : JobParts) → IfErr (with_job place jobs more) IsOwnFault
+job place jobs more =
+    choice IsOwnFault (is_some (number_of more.name jobs)) (Err (SameName place)) _ tt
+    (choice IsOwnFault (nat_lt (length jobs) most_jobs) (Ok (jobs ++ more ∷ [])) (Err Full) tt tt)
 
-new_name : (place : ℕ) (jobs : List JobParts) (job : JobParts) → IfErr (with_new_name place jobs job) IsOwnFault
-new_name place jobs job =
-    choice IsOwnFault (is_some (number_of job.name jobs)) (Err (SameName place)) (with_jobs jobs (job ∷ [])) tt
-    (jobs_behind jobs (job ∷ []))
+jobs_behind : (place : ℕ) (jobs more : List JobParts) → IfErr (with_jobs place jobs more) IsOwnFault
+jobs_behind place jobs [] = tt
+jobs_behind place jobs (first ∷ more) =
+    steps IsOwnFault (with_job place jobs first) _ (job place jobs first) (λ next. jobs_behind place next more)
 
-crontab : (kind : Kind) (jobs : List JobParts) (bytes : Option (List ℕ)) → IfErr (with_crontab kind jobs bytes) IsOwnFault
-crontab kind jobs None = tt
-crontab kind jobs (Some bytes) =
-    steps IsOwnFault (in_source (crontab_fault kind) (crontab_reading kind bytes)) _
-    (of_source (crontab_fault kind) (crontab_reading kind bytes) (of_crontab kind))
-    (jobs_behind jobs)
+of_one : (place : ℕ) (jobs : List JobParts) (source : Source) → IfErr (with_source place jobs source) IsOwnFault
+of_one place jobs source =
+    let read = reading_of source.kind source.name source.bytes in
+    let faults = fault_in source.kind place in
+    steps IsOwnFault (in_source faults read) _ (of_source faults read (of_kind source.kind place)) (jobs_behind place jobs)
 
-timer : (place : ℕ) (jobs : List JobParts) (file : TimerFile) → IfErr (with_timer place jobs file) IsOwnFault
-timer place jobs file =
-    steps IsOwnFault (in_source (timer_fault place) (timer_reading file.name file.bytes)) _
-    (of_source (timer_fault place) (timer_reading file.name file.bytes) (of_timer place))
-    (new_name place jobs)
-
-timers : (place : ℕ) (jobs : List JobParts) (files : List TimerFile) → IfErr (with_timers place jobs files) IsOwnFault
-timers place jobs [] = tt
-timers place jobs (file ∷ more) =
-    steps IsOwnFault (with_timer place jobs file) _ (timer place jobs file) (λ next. timers (place + 1) next more)
-
-all : (sources : Sources) → IfErr (sources_reading sources) IsOwnFault
-all sources =
-    steps IsOwnFault (with_crontab User [] sources.crontab) _ (crontab User [] sources.crontab)
-    (λ users. steps IsOwnFault (with_crontab System users sources.system) _ (crontab System users sources.system)
-    (λ systems. timers 0 systems sources.timers))
+all : (before : List Source) (jobs : List JobParts) (sources : List Source) → IfErr (sources_from before jobs sources) IsOwnFault
+all before jobs [] = tt
+all before jobs (source ∷ more) =
+    steps IsOwnFault (with_source (place_in source.kind before) jobs source) _ (of_one (place_in source.kind before) jobs source)
+    (λ next. all (before ++ source ∷ []) next more)
 
 -- ---- so each fault that a call answers
 
@@ -91,8 +81,8 @@ unless_memory NoMemory other = tt
 unless_memory fault other = other (λ same. cc)
 
 pub own_fault :
-    {A : Type 0} (answer : Result A SourceFault) (view : A → List JobParts) (sources : Sources) →
+    {A : Type 0} (answer : Result A SourceFault) (view : A → List JobParts) (sources : List Source) →
     GivesUnless NoMemory view answer (sources_reading sources) → IfErr answer IsOwnFault
 own_fault (Ok x) view sources gives = tt
 own_fault (Err fault) view sources gives = unless_memory fault
-    (λ other. at_fault (sources_reading sources) fault (gives other) (all sources))
+    (λ other. at_fault (sources_reading sources) fault (gives other) (all [] [] sources))

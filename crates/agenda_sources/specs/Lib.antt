@@ -1,4 +1,6 @@
 pub mod AtOnce
+pub mod Crontabs
 pub mod Faults
+pub mod Kind
 pub mod Name
 pub mod Sources

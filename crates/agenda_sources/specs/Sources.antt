@@ -1,63 +1,53 @@
 -- The jobs that the sources of a plan make, or the first fault of the sources. All of it is own.
-use Rattle.std.specs.Prelude.{ℕ, ◌+◌, ◌≡◌, nat_le, if◌then◌else◌, List, [], ◌∷◌, ◌++◌, length, Option, Some, None, is_some, Ok, Err}
-use Rattle.plan_rules.specs.declared.crontabs.Kind.{Kind}
-use Rattle.plan_rules.specs.declared.crontabs.Kind.TheVariants.{User, System}
+use Rattle.std.specs.Prelude.{ℕ, nat_lt, if◌then◌else◌, List, [], ◌∷◌, ◌++◌, length, is_some, Ok, Err}
+use Rattle.std.specs.List.{filter}
 use Rattle.plan_texts.specs.Steps.{◌>>=◌}
 use Rattle.plan_rules.specs.Limits.{most_jobs}
 use Rattle.plan_rules.specs.Job.{JobParts}
 use Rattle.plan_rules.specs.Jobs.{number_of}
-use Rattle.plan_rules.specs.Crontab.{job_name, crontab_reading}
-use Rattle.plan_rules.specs.Timer.{timer_reading}
-use Rattle.agenda_sources.specs.declared.sources.Sources.{Sources}
-use Rattle.agenda_sources.specs.declared.sources.TimerFile.{TimerFile}
+use Rattle.agenda_sources.specs.declared.kind.SourceKind.{SourceKind}
+use Rattle.agenda_sources.specs.declared.sources.Source.{Source}
 use Rattle.agenda_sources.specs.declared.fault.SourceFault.TheVariants.{SameName, Full}
-use Rattle.agenda_sources.specs.Faults.{SourceReading, crontab_fault, timer_fault, in_source}
+use Rattle.agenda_sources.specs.Faults.{SourceReading, in_source}
+use Rattle.agenda_sources.specs.Kind.{is_kind, reading_of, fault_in}
 
 -- ---- jobs behind the others
 
--- there are at most 1,000 jobs
-abbrev pub with_jobs : List JobParts → List JobParts → SourceReading (List JobParts)
-with_jobs jobs more = if nat_le (length (jobs ++ more)) most_jobs then Ok (jobs ++ more) else Err Full
+-- a job of the source at a place among those of its kind: that a job has its name is looked at first, then that there are fewer
+-- than 1,000
+abbrev pub with_job : ℕ → List JobParts → JobParts → SourceReading (List JobParts)
+with_job place jobs job =
+    if is_some (number_of job.name jobs) then Err (SameName place)
+    else (if nat_lt (length jobs) most_jobs then Ok (jobs ++ job ∷ []) else Err Full)
 
--- the job of the timer at a place: that a job has its name is looked at first
-abbrev pub with_new_name : ℕ → List JobParts → JobParts → SourceReading (List JobParts)
-with_new_name place jobs job =
-    if is_some (number_of job.name jobs) then Err (SameName place) else with_jobs jobs (job ∷ [])
+-- the jobs of such a source, in order
+abbrev pub with_jobs : ℕ → List JobParts → List JobParts → SourceReading (List JobParts)
+with_jobs place jobs [] = Ok jobs
+with_jobs place jobs (job ∷ more) = do
+  next ← with_job place jobs job
+  with_jobs place next more
 
 -- ---- one source more
 
--- a crontab, if there is one. Its jobs need no look at their names: the lines' numbers tell them apart, and no other crontab
--- of its kind was read
-abbrev pub with_crontab : Kind → List JobParts → Option (List ℕ) → SourceReading (List JobParts)
-with_crontab kind jobs None = Ok jobs
-with_crontab kind jobs (Some bytes) = do
-  more ← in_source (crontab_fault kind) (crontab_reading kind bytes)
-  with_jobs jobs more
+-- the source at a place among those of its kind
+abbrev pub with_source : ℕ → List JobParts → Source → SourceReading (List JobParts)
+with_source place jobs source = do
+  more ← in_source (fault_in source.kind place) (reading_of source.kind source.name source.bytes)
+  with_jobs place jobs more
 
--- the timer at a place
-abbrev pub with_timer : ℕ → List JobParts → TimerFile → SourceReading (List JobParts)
-with_timer place jobs file = do
-  job ← in_source (timer_fault place) (timer_reading file.name file.bytes)
-  with_new_name place jobs job
-
--- timers in order, of which the first has this place
-abbrev pub with_timers : ℕ → List JobParts → List TimerFile → SourceReading (List JobParts)
-with_timers place jobs [] = Ok jobs
-with_timers place jobs (file ∷ more) = do
-  next ← with_timer place jobs file
-  with_timers (place + 1) next more
+-- the place of a source among those of its kind, from 0, by the sources before it
+abbrev pub place_in : SourceKind → List Source → ℕ
+place_in kind before = length (filter (λ source. is_kind source.kind kind) before)
 
 -- ---- all sources
 
--- the user's crontab, then the system's, then the timers: each one's jobs are added before the next is read
-abbrev pub sources_reading : Sources → SourceReading (List JobParts)
-sources_reading sources = do
-  users ← with_crontab User [] sources.crontab
-  systems ← with_crontab System users sources.system
-  with_timers 0 systems sources.timers
+-- sources in order, behind those before them: each one's jobs are added before the next is read
+abbrev pub sources_from : (before : List Source) → List JobParts → List Source → SourceReading (List JobParts)
+sources_from before jobs [] = Ok jobs
+sources_from before jobs (source ∷ more) = do
+  next ← with_source (place_in source.kind before) jobs source
+  sources_from (before ++ source ∷ []) next more
 
--- ---- the names of crontabs' jobs
-
--- no job has the name of a line of a crontab of this kind
-abbrev pub HasNoLineOf : Kind → List JobParts → Type 0
-HasNoLineOf kind jobs = (line : ℕ) → number_of (job_name kind line) jobs ≡ None
+-- all of them
+abbrev pub sources_reading : List Source → SourceReading (List JobParts)
+sources_reading sources = sources_from [] [] sources

@@ -1,12 +1,9 @@
 //! Why sources make no list of jobs.
 
-ghost use Rattle.std.specs.Prelude.{◌≡◌};
-ghost use Rattle.agenda_sources.specs.Faults.{crontab_fault, timer_fault};
-
-use plan_rules::{Kind, LineCause, LineFault};
+use plan_rules::LineFault;
 use thiserror::Error;
 
-/// The first fault of sources. A timer's place is counted from 0.
+/// The first fault of sources. A source's place is counted from 0, among those of its kind.
 #[derive(Clone, Copy, Debug, PartialEq, Eq, Error)]
 pub enum SourceFault {
     /// Memory was refused.
@@ -27,25 +24,4 @@ pub enum SourceFault {
     /// There are more than 1,000 jobs.
     #[error("Full")]
     Full,
-}
-
-// The fault of a crontab. A want of memory inside it is a want of memory.
-pub(crate) fn crontab_fault(kind: Kind, fault: LineFault) -> SourceFault
-    ensures { result ≡ crontab_fault kind fault }
-{
-    match (fault.cause, kind) {
-        (LineCause::NoMemory, _) => SourceFault::NoMemory,
-        (_, Kind::User) => SourceFault::InCrontab(fault),
-        (_, Kind::System) => SourceFault::InSystem(fault),
-    }
-}
-
-// The fault of the timer at a place. A want of memory inside it is a want of memory.
-pub(crate) fn timer_fault(place: usize, fault: LineFault) -> SourceFault
-    ensures { result ≡ timer_fault place fault }
-{
-    match fault.cause {
-        LineCause::NoMemory => SourceFault::NoMemory,
-        _ => SourceFault::InTimer(place, fault),
-    }
 }

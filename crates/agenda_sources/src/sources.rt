@@ -1,58 +1,50 @@
-//! What a plan is made of: crontabs and timer files.
+//! What a plan is made of: sources, as they were read.
 
 ghost use Rattle.std.specs.Prelude.{◌≡◌};
 
 use crate::bytes::Bytes;
+use crate::kind::SourceKind;
 use plan_texts::Text;
 use std::marker::Model;
 
-/// A timer file, as it was read (systemd.timer(5)).
+/// A source, as it was read.
 #[derive(Debug, Drop)]
-pub struct TimerFile {
+pub struct Source {
+    /// What kind it is of.
+    pub kind: SourceKind,
     /// The file's own name, without the folders in front of it.
     pub name: Text,
     /// What the file holds.
     pub bytes: Bytes,
 }
 
-/// Timer files in order, seen as that list.
+/// Sources in the order in which a plan reads them, seen as that list.
 #[derive(Debug, Drop)]
-pub struct TimerFiles {
-    kept: Vec<TimerFile>,
+pub struct Sources {
+    kept: Vec<Source>,
 }
 
-impl Model for TimerFiles {
+impl Model for Sources {
     ghost use Rattle.std.specs.Prelude.{List};
-    ghost use Rattle.agenda_sources.specs.declared.sources.TimerFile.{TimerFile};
+    ghost use Rattle.agenda_sources.specs.declared.sources.Source.{Source};
 
-    ghost Value = { List TimerFile };
+    ghost Value = { List Source };
 
-    ghost view = { λ files. files.kept.items };
+    ghost view = { λ sources. sources.kept.items };
 }
 
-impl TimerFiles {
-    /// Keeps the files.
-    pub fn new(files: Vec<TimerFile>) -> TimerFiles
-        ensures { result ≡ files.items }
+impl Sources {
+    /// Keeps the sources.
+    pub fn new(sources: Vec<Source>) -> Sources
+        ensures { result ≡ sources.items }
     {
-        TimerFiles { kept: files }
+        Sources { kept: sources }
     }
 
-    /// The files, lent.
-    pub fn as_slice(&self) -> &[TimerFile]
+    /// The sources, lent.
+    pub fn as_slice(&self) -> &[Source]
         ensures { result.now ≡ self.now }
     {
         self.kept.as_slice()
     }
-}
-
-/// The sources of a plan, as they were read.
-#[derive(Debug, Drop)]
-pub struct Sources {
-    /// A user's crontab, if there is one (crontab(5)).
-    pub crontab: Option<Bytes>,
-    /// The system's crontab, if there is one: a user stands before each command.
-    pub system: Option<Bytes>,
-    /// The timer files. A timer's place is counted from 0.
-    pub timers: TimerFiles,
 }

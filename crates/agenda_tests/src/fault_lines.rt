@@ -1,6 +1,7 @@
 use crate::writers::{End, Limited, took};
 use agenda_faults::{Failure, RunFault, fault_line};
 use agenda_script::{ScriptCause, ScriptFault};
+use agenda_sources::{SourceKind, SourcePath};
 use plan_collect::CollectFault;
 use plan_rules::{LineCause, LineFault, RuleCause, RuleFault, Text};
 use plan_serial::PlanFault;
@@ -22,17 +23,17 @@ fn writes(rt: &impl Abort, failure: Failure, room: usize, line: &str, status: u8
     writes_of(rt, &failure, &[], room, line, status);
 }
 
-// The same, of a plan with these timers.
+// The same, of a plan with these sources.
 fn writes_of(
     rt: &impl Abort,
     failure: &Failure,
-    timers: &[Text],
+    sources: &[SourcePath],
     room: usize,
     line: &str,
     status: u8,
 ) {
     let mut out = Limited::new(room, 128, End::TakesNothing);
-    let ended = fault_line(failure, timers, &mut out);
+    let ended = fault_line(failure, sources, &mut out);
     let once = room < line.len() || (out.calls == 1 && out.flushes == 1);
     assert!(rt; ended == status && once, "{line}");
     took(rt, &out, line);
@@ -46,6 +47,12 @@ fn bad_rule(line: u32, part: u8, cause: RuleCause) -> LineFault {
     }
 }
 
+// The path of a source.
+fn path_of(rt: &impl AllocGlobal, kind: SourceKind, path: &str) -> Result<SourcePath, Fail> {
+    let path = Text::new(String::from_str(rt.alloc(), path)?);
+    Ok(SourcePath { kind, path })
+}
+
 #[test]
 fn a_line_of_a_source_goes_out_by_one_write(rt: HostRuntime) -> Result<(), Fail> {
     let (line, cause) = (3, LineCause::NoCommand);
@@ -55,15 +62,17 @@ fn a_line_of_a_source_goes_out_by_one_write(rt: HostRuntime) -> Result<(), Fail>
     let fault = RunFault::InSystem(bad_rule(12, 4, RuleCause::BadName));
     let text = "agenda: system crontab: line 12: part 4: BadName\n";
     writes(&rt, Failure::Run(fault), 128, text, 1);
-    let path = Text::new(String::from_str(rt.alloc(), "a/rot.timer")?);
     let backwards = RuleCause::Values(SetFault::Backwards);
     let fault = Failure::Run(RunFault::InTimer(0, bad_rule(2, 1, backwards)));
     let text = "agenda: rot.timer: line 2: part 1: Backwards\n";
-    let timers = [path];
-    writes_of(&rt, &fault, &timers, 128, text, 1);
+    let sources = [
+        path_of(&rt, SourceKind::Crontab, "jobs")?,
+        path_of(&rt, SourceKind::Timer, "a/rot.timer")?,
+    ];
+    writes_of(&rt, &fault, &sources, 128, text, 1);
     let text = "agenda: job rot.timer: SameName\n";
     let fault = Failure::Run(RunFault::SameName(0));
-    writes_of(&rt, &fault, &timers, 128, text, 1);
+    writes_of(&rt, &fault, &sources, 128, text, 1);
     let usage = Text::new(String::from_str(rt.alloc(), "no use\nof agenda\n")?);
     writes(&rt, Failure::Usage(usage), 128, "no use\nof agenda\n", 2);
     let too_many = PlanFault::Collect(CollectFault::TooMany);

@@ -1,14 +1,15 @@
 -- Worked rows of the command line, by the definition of what its words ask for.
 -- They answer no function, but try `asked_by`, which is unfolded with clap's definitions and computed. One row holds of
 -- any two plain words (`any_moment_and_rule`): it rests on how clap reads them.
-use Rattle.std.proofs.Common.{◌≡◌, List, ℕ, [], ◌∷◌, false, None, Some, Ok, Err, codes, refl}
+use Rattle.std.proofs.Common.{◌≡◌, List, ℕ, [], ◌∷◌, false, None, Ok, Err, codes, refl}
 use Rattle.std.specs.Str.{bytes_eq}
 use Rattle.clap.specs.Lexer.{long_of, short_of}
 use Rattle.clap.proofs.OnLiterals.{clap_on_literals}
 use Rattle.plan_collect.specs.declared.Sizes.{Sizes}
 use Rattle.agenda_words.specs.declared.ask.Ask.TheVariants.{Next, Plan, Steps}
 use Rattle.agenda_words.specs.declared.ask.Asked.TheVariants.{Cron, Event}
-use Rattle.agenda_words.specs.Words.{asked_by, is_usage, wants_help}
+use Rattle.agenda_sources.specs.declared.SourceKind.TheVariants.{Crontab, System, Timer}
+use Rattle.agenda_words.specs.Words.{asked_by, is_usage, path_of, wants_help}
 
 abbrev moment : List ℕ
 moment = codes "2024-01-01T00:00:00Z"
@@ -118,20 +119,21 @@ abbrev sized : (planners room limit : ℕ) → Sizes
 sized planners room limit = record { planners = planners; room = room; limit = limit }
 
 -- a span alone: no crontab, no timer, and each number by its default
-a_span_is_given : asked_by (plan_with []) ≡ Ok (Plan moment (codes "u") None None (sized 2 16 10000) [])
+a_span_is_given : asked_by (plan_with []) ≡ Ok (Plan moment (codes "u") [] (sized 2 16 10000))
 unfolding asked_by clap_on_literals
 a_span_is_given = refl
 
 -- every option
 all_is_given : asked_by (plan_with (codes "--crontab" ∷ codes "c" ∷ codes "--system-crontab" ∷ codes "s" ∷ codes "--planners" ∷ codes "3"
     ∷ codes "--room" ∷ codes "4" ∷ codes "--limit" ∷ codes "5" ∷ []))
-    ≡ Ok (Plan moment (codes "u") (Some (codes "c")) (Some (codes "s")) (sized 3 4 5) [])
+    ≡ Ok (Plan moment (codes "u") (path_of Crontab (codes "c") ∷ path_of System (codes "s") ∷ []) (sized 3 4 5))
 unfolding asked_by clap_on_literals
 all_is_given = refl
 
 -- timers, also between options, in the order of the words
 timers_are_given : asked_by (plan_with (codes "b.timer" ∷ codes "--room=1" ∷ codes "a.timer" ∷ codes "--" ∷ codes "-c" ∷ []))
-    ≡ Ok (Plan moment (codes "u") None None (sized 2 1 10000) (codes "b.timer" ∷ codes "a.timer" ∷ codes "-c" ∷ []))
+    ≡ Ok (Plan moment (codes "u") (path_of Timer (codes "b.timer") ∷ path_of Timer (codes "a.timer") ∷ path_of Timer (codes "-c") ∷ [])
+    (sized 2 1 10000))
 unfolding asked_by clap_on_literals
 timers_are_given = refl
 
@@ -144,6 +146,18 @@ no_beginning_is_given = refl
 no_end_is_given : asked_by (codes "agenda" ∷ codes "plan" ∷ codes "--since" ∷ moment ∷ []) ≡ Err is_usage
 unfolding asked_by clap_on_literals
 no_end_is_given = refl
+
+-- a timer before the options of crontabs: the sources are in the order of their kinds
+sources_in_order : asked_by (plan_with (codes "t.timer" ∷ codes "--system-crontab" ∷ codes "s" ∷ codes "--crontab" ∷ codes "c" ∷ []))
+    ≡ Ok (Plan moment (codes "u") (path_of Crontab (codes "c") ∷ path_of System (codes "s") ∷ path_of Timer (codes "t.timer") ∷ [])
+    (sized 2 16 10000))
+unfolding asked_by clap_on_literals
+sources_in_order = refl
+
+-- two user crontabs, which clap refuses
+two_crontabs_are_given : asked_by (plan_with (codes "--crontab" ∷ codes "c" ∷ codes "--crontab=d" ∷ [])) ≡ Err is_usage
+unfolding asked_by clap_on_literals
+two_crontabs_are_given = refl
 
 -- planners that are no number
 planners_are_no_number : asked_by (plan_with (codes "--planners" ∷ codes "x" ∷ [])) ≡ Err is_usage

@@ -1,9 +1,12 @@
 -- The command line of the program, as clap reads it.
-use Rattle.std.specs.Prelude.{ℕ, true, pos, List, [], ◌∷◌, ◌++◌, Some, codes}
+use Rattle.std.specs.Prelude.{ℕ, true, pos, List, [], ◌∷◌, ◌++◌, map, Some, codes}
 use Rattle.clap.specs.Words.{App, Rule, new_app, new_rule, with_rule, with_subcommand}
 use Rattle.clap.specs.Simple.{on_top}
 use Rattle.clap.specs.declared.builder.action.ArgAction.TheVariants.{Append}
 use Rattle.clap.specs.declared.builder.value_parser.ValueParser.TheVariants as parser
+use Rattle.agenda_sources.specs.declared.SourceKind.{SourceKind}
+use Rattle.agenda_sources.specs.declared.SourceKind.TheVariants.{Crontab, System, Timer}
+use Rattle.agenda_sources.specs.Kind.{kinds, option_of}
 
 -- own: an argument `VALUE`, which may be missing
 abbrev pub argument_named : List ℕ → Rule
@@ -28,9 +31,16 @@ number_option name default = record (option_named name) {
 abbrev pub file_argument : Rule
 file_argument = record (argument_named (codes "file")) { required = true }
 
--- own: `TIMER ..`, of which there may be any number
-abbrev pub timers_argument : Rule
-timers_argument = record (argument_named (codes "timer")) { action = Some Append }
+-- own: where jobs come from: `--crontab F`, `--system-crontab F`, or `TIMER ..`, of which there may be any number
+abbrev pub source_rule : SourceKind → Rule
+source_rule Crontab = option_named (option_of Crontab)
+source_rule System = option_named (option_of System)
+source_rule Timer = record (argument_named (option_of Timer)) { action = Some Append }
+
+-- own: a command with further arguments, one after the other
+abbrev pub with_each : App → List Rule → App
+with_each app [] = app
+with_each app (rule ∷ rules) = with_each (with_rule app rule) rules
 
 -- own: a subcommand with further options and arguments
 abbrev pub with_rules : App → List Rule → App
@@ -40,10 +50,9 @@ with_rules app rules = on_top (λ s. record s { rules = s.rules ++ rules }) app
 abbrev pub subcommand_with : List ℕ → List Rule → App
 subcommand_with name rules = with_rules (new_app name) rules
 
--- own: where jobs come from: `[--crontab F] [--system-crontab F] [TIMER ..]`
+-- own: a command with what gives the sources of each kind: `[--crontab F] [--system-crontab F] [TIMER ..]`
 abbrev pub with_sources : App → App
-with_sources app = with_rule (with_rule (with_rule app (option_named (codes "crontab"))) (option_named (codes "system-crontab")))
-    timers_argument
+with_sources app = with_each app (map source_rule kinds)
 
 -- own: `next --after T [--count N] (--cron TEXT or --calendar TEXT)`; that exactly one of the last two is there is tested
 -- after the parse

@@ -1,6 +1,7 @@
 -- What the words of the command line ask for.
 use Rattle.std.specs.Prelude.{◌≡◌, ⊤, ℕ, false, List, [], ◌∷◌, Option, Some, None, Result, Ok, Err}
-use Rattle.std.specs.Prelude.{codes, if◌then◌else◌, option_and_then, unwrap_or}
+use Rattle.std.specs.Prelude.{codes, if◌then◌else◌, map, option_and_then, unwrap_or}
+use Rattle.std.specs.List.{flat_map}
 use Rattle.std.specs.Str.{bytes_eq}
 use Rattle.std.specs.Str.Parse.{digits_value, without_leading_plus}
 use Rattle.clap.specs.ValueTests.{accepts}
@@ -15,6 +16,9 @@ use Rattle.agenda_words.specs.declared.ask.Asked.{Asked}
 use Rattle.agenda_words.specs.declared.ask.Asked.TheVariants.{Cron, Event}
 use Rattle.agenda_words.specs.declared.ask.UsageFault.{UsageFault}
 use Rattle.agenda_words.specs.declared.ask.UsageFault.TheVariants.{NoMemory, Usage, Help}
+use Rattle.agenda_sources.specs.declared.SourceKind.{SourceKind}
+use Rattle.agenda_sources.specs.declared.SourcePath.{SourcePath}
+use Rattle.agenda_sources.specs.Kind.{is_many, kinds, option_of}
 use Rattle.agenda_words.specs.Command.{agenda}
 
 -- own: words that ask for nothing: help or the version is wanted, or they are no use of the program
@@ -64,14 +68,31 @@ sizes_in rows = do
   limit ← wanted (number_in (one_of (codes "limit") rows))
   Ok (record { planners = planners; room = room; limit = limit })
 
--- own: the values that `plan` was given; the crontabs may be missing, and there may be any number of timers
+-- own: the path of a source of a kind
+abbrev pub path_of : SourceKind → List ℕ → SourcePath
+path_of kind path = record { kind = kind; path = path }
+
+-- own: the one text that may have been given
+abbrev pub all_given : Option (List ℕ) → List (List ℕ)
+all_given None = []
+all_given (Some text) = text ∷ []
+
+-- own: the paths of the sources of a kind: of any number, in the order of the words, or of one that may be missing
+abbrev pub paths_in : SourceKind → List Row → List (List ℕ)
+paths_in kind rows =
+    if is_many kind then unwrap_or (all_of (option_of kind) rows) [] else all_given (first_of (option_of kind) rows)
+
+-- own: the paths of all sources, in the order of their kinds
+abbrev pub sources_in : List Row → List SourcePath
+sources_in rows = flat_map (λ kind. map (path_of kind) (paths_in kind rows)) kinds
+
+-- own: the values that `plan` was given; there may be no source
 abbrev pub asked_by_plan : List Row → Result Ask Refusal
 asked_by_plan rows = do
   since ← wanted (first_of (codes "since") rows)
   upto ← wanted (first_of (codes "upto") rows)
   sizes ← sizes_in rows
-  Ok (Plan since upto (first_of (codes "crontab") rows) (first_of (codes "system-crontab") rows) sizes
-      (unwrap_or (all_of (codes "timer") rows) []))
+  Ok (Plan since upto (sources_in rows) sizes)
 
 -- own: the file that `steps` was given
 abbrev pub asked_by_steps : List Row → Result Ask Refusal

@@ -1,6 +1,6 @@
 //! What the words of the command line ask for.
 
-use crate::texts::Texts;
+use agenda_sources::SourcePaths;
 use plan_collect::Sizes;
 use plan_texts::Text;
 use std::alloc::AllocError;
@@ -24,14 +24,10 @@ pub enum Ask {
         since: Text,
         /// The text of a moment: the agenda ends before it.
         upto: Text,
-        /// The path of the user crontab.
-        crontab: Option<Text>,
-        /// The path of the system crontab.
-        system: Option<Text>,
+        /// The paths of its sources, in the order of their kinds, and those of one kind in the order of the words.
+        sources: SourcePaths,
         /// How many planners, with how much room each, and how many starts at most.
         sizes: Sizes,
-        /// The paths of timers, in the order of the words.
-        timers: Texts,
     },
     /// The replies to the steps of a script.
     Steps {

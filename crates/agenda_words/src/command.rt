@@ -4,10 +4,11 @@ ghost use Rattle.clap.specs.Words.{app_of, items_of, rule_of, with_rule, with_su
 ghost use Rattle.clap.specs.declared.builder.command.Command.TheViews.{out-Command};
 ghost use Rattle.agenda_words.specs.Command.{agenda, argument_named, file_argument, moment_option, next};
 ghost use Rattle.agenda_words.specs.Command.{number_option, option_named, plan, steps};
-ghost use Rattle.agenda_words.specs.Command.{timers_argument, with_sources};
+ghost use Rattle.agenda_words.specs.Command.{source_rule, with_sources};
 
 mod help;
 
+use agenda_sources::SourceKind;
 use clap::{Arg, ArgAction, Command, value_parser};
 use std::alloc::{AllocError, Global};
 
@@ -93,10 +94,9 @@ fn with_sources<'a>(alloc: Global, command: Command<'a>) -> Result<Command<'a>, 
     ensures app { IfOk result (λ new. app_of new ≡ with_sources (app_of command.entry)) }
     ensures local { IfOk result (λ new. (out-Command new).has_globals ≡ false) }
 {
-    let command = with_argument(command, text_option(alloc, "crontab", "F", help::CRONTAB))?;
-    let system = text_option(alloc, "system-crontab", "F", help::SYSTEM_CRONTAB);
-    let command = with_argument(command, system)?;
-    let command = with_argument(command, timers_argument(alloc))?;
+    let command = with_argument(command, source_argument(alloc, SourceKind::Crontab))?;
+    let command = with_argument(command, source_argument(alloc, SourceKind::System))?;
+    let command = with_argument(command, source_argument(alloc, SourceKind::Timer))?;
     Ok(command)
 }
 
@@ -118,12 +118,18 @@ fn file_argument<'a>(alloc: Global) -> Arg<'a>
     argument(alloc, "file", "FILE", help::FILE).required(true)
 }
 
-// `TIMER ..`, of which there may be any number.
-fn timers_argument<'a>(alloc: Global) -> Arg<'a>
-    ensures rule { rule_of result ≡ timers_argument }
+// `--crontab F`, `--system-crontab F`, or `TIMER ..`, of which there may be any number.
+fn source_argument<'a>(alloc: Global, kind: SourceKind) -> Arg<'a>
+    ensures rule { rule_of result ≡ source_rule kind }
     ensures local { result.global ≡ false }
 {
-    argument(alloc, "timer", "TIMER", help::TIMER).action(ArgAction::Append)
+    match kind {
+        SourceKind::Crontab => text_option(alloc, "crontab", "F", help::CRONTAB),
+        SourceKind::System => { text_option(alloc, "system-crontab", "F", help::SYSTEM_CRONTAB) },
+        SourceKind::Timer => {
+            argument(alloc, "timer", "TIMER", help::TIMER).action(ArgAction::Append)
+        }
+    }
 }
 
 // `--name T`, a moment, which has to be there.

@@ -1,10 +1,9 @@
 //! What a subcommand was given.
-ghost use Rattle.std.specs.Prelude.{◌≡◌, [], IfOk, map, unwrap_or};
-ghost use Rattle.clap.specs.Words.{all_of, first_of, found_of, one_of, rows_of};
+ghost use Rattle.std.specs.Prelude.{◌≡◌, IfOk};
+ghost use Rattle.clap.specs.Words.{first_of, found_of, one_of, rows_of};
 ghost use Rattle.agenda_words.specs.Words.{Gives, number_in, wanted};
 
 use crate::ask::UsageFault;
-use crate::texts::Texts;
 use clap::ArgMatches;
 use plan_texts::Text;
 use std::alloc::{AllocError, Global};
@@ -39,21 +38,6 @@ pub(crate) fn text_of(
     }
 }
 
-/// All values of an argument, in the order of the words; none where it is missing.
-pub(crate) fn texts_of(
-    alloc: Global,
-    given: &ArgMatches<'_>,
-    argument: &str,
-) -> Result<Texts, AllocError>
-    ensures { IfOk result (λ texts. texts
-        ≡ unwrap_or (all_of argument.now (rows_of (found_of given.now))) []) }
-{
-    match given.get_strs(argument) {
-        Some(values) => texts(alloc, values),
-        None => Ok(Texts::new(alloc)),
-    }
-}
-
 /// The number that is the value of an option that has to be there.
 pub(crate) fn number_of(
     alloc: Global,
@@ -72,17 +56,6 @@ pub(crate) fn number_of(
 fn missing(alloc: Global, option: &str) -> Result<Text, AllocError> {
     let text = format!(in alloc; "error: the option '--{option}' is missing\n\n{TRY_HELP}\n")?;
     Ok(Text::new(text))
-}
-
-// The texts, kept in their order.
-fn texts(alloc: Global, written: &[&str]) -> Result<Texts, AllocError>
-    ensures { IfOk result (λ texts. texts ≡ map (λ text. text.now) written.now) }
-{
-    let mut texts = Texts::new(alloc);
-    for each in written {
-        texts.push(text(alloc, each)?)?;
-    }
-    Ok(texts)
 }
 
 /// The text, kept.

@@ -6,7 +6,8 @@ ghost use Rattle.agenda_words.specs.Words.{asked_by_plan, asked_by_steps, asked_
 
 use crate::ask::{Ask, Asked, UsageFault};
 use crate::command::agenda_command;
-use crate::values::{number_of, text, text_if_given, text_of, texts_of};
+use crate::paths::sources_of;
+use crate::values::{number_of, text, text_if_given, text_of};
 use clap::ArgMatches;
 use clap::error::ErrorKind;
 use plan_collect::Sizes;
@@ -66,17 +67,13 @@ fn asked_by_plan(alloc: Global, given: &ArgMatches<'_>) -> Result<Ask, UsageFaul
 {
     let since = text_of(alloc, given, "since")?;
     let upto = text_of(alloc, given, "upto")?;
-    let crontab = text_if_given(alloc, given, "crontab")?;
-    let system = text_if_given(alloc, given, "system-crontab")?;
     let sizes = sizes_of(alloc, given)?;
-    let timers = texts_of(alloc, given, "timer")?;
+    let sources = sources_of(alloc, given)?;
     Ok(Ask::Plan {
         since,
         upto,
-        crontab,
-        system,
+        sources,
         sizes,
-        timers,
     })
 }
 

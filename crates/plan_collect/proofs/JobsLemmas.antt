@@ -1,9 +1,7 @@
 -- The rules of jobs, one after the other: for the loop of `rules_in`, and for that of `plan_serial`, in which each
 -- number has a job. `rules_more` is `rules_of` of a list with one more. The others go by induction over the list.
-use Rattle.std.proofs.Common.{◌≡◌, ℕ, ◌+◌, ◌<◌, Bool, true, List, [], ◌∷◌, ◌++◌, length, take, get_or, None, Some, ap, sym, ◌∙◌, arith, suc, zero}
+use Rattle.std.proofs.Common.{◌≡◌, ℕ, ◌+◌, ◌<◌, List, [], ◌∷◌, ◌++◌, length, take, None, Some, ap, sym, ◌∙◌, arith, suc, zero}
 use Rattle.std.specs.Prelude.{slice_get}
-use Rattle.std.specs.List.{list_all}
-use Rattle.std.proofs.lemmas.Bool.{and_parts}
 use Rattle.std.proofs.lemmas.List.{take_more, map-append}
 use Rattle.std.proofs.lemmas.Option.{slice_get_within, get_or_from_slice_get}
 use Rattle.plan_match.specs.declared.rule.Rule.{Rule}

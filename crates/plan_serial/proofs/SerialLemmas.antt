@@ -1,25 +1,18 @@
 -- A plan by one planner: for the loop of `plan_serial` and for its end. `if_err` is for `collect_job`.
 -- `IsUpTo` says that the first jobs are covered to the span's end and the others to its begin, so `covered` is two runs
 -- of one number each. With all jobs in the first run and the last note the collector is complete: `finished-all`.
-use Rattle.std.proofs.Common.{◌≡◌, ℕ, zero, suc, ◌+◌, ◌-◌, ◌<◌, ◌↔◌, Bool, true, false, cond, ◌&&◌, ◌==◌, List, [], ◌∷◌, ◌++◌, length, inl, inr, None, Some, Result, Ok, Err, refl, ap, sym, subst, ◌∙◌, arith, append-nil}
-use Rattle.std.specs.Prelude.{slice_get, slice_set, replicate, nat_lt, unwrap_or}
+use Rattle.std.proofs.Common.{◌≡◌, ℕ, zero, suc, ◌+◌, ◌-◌, ◌<◌, Bool, true, false, cond, ◌&&◌, ◌==◌, List, [], ◌∷◌, ◌++◌, length, None, Result, Ok, Err, refl, ap, sym, subst, ◌∙◌, arith, append-nil}
+use Rattle.std.specs.Prelude.{slice_get, slice_set, replicate}
 use Rattle.std.specs.Prelude.{IsErrAnd, IfErr}
 use Rattle.std.specs.List.{list_all}
-use Rattle.std.proofs.lemmas.Bool.{cases_Bool, eq-eqb, and_from, true≢false}
+use Rattle.std.proofs.lemmas.Bool.{eq-eqb, and_from}
 use Rattle.plan_match.specs.declared.rule.Rule.{Rule}
 use Rattle.plan_rules.specs.Job.{JobParts}
 use Rattle.plan_collect.specs.declared.note.Note.TheVariants as note
-use Rattle.plan_collect.specs.declared.collector.CollectFault.{CollectFault}
 use Rattle.plan_collect.specs.declared.collector.CollectFault.TheVariants as collect
-use Rattle.plan_collect.specs.declared.collector.CollectorFault.{CollectorFault}
-use Rattle.plan_collect.specs.declared.collector.CollectorFault.TheVariants as collector
-use Rattle.plan_serial.specs.declared.fault.PlanFault.{PlanFault}
-use Rattle.plan_serial.specs.declared.fault.PlanFault.TheVariants as plan
 use Rattle.plan_collect.specs.Span.{Bounds}
-use Rattle.plan_collect.specs.Limits.{is_limit, is_size}
-use Rattle.plan_collect.specs.Agenda.{Planned, agenda, planned}
-use Rattle.plan_collect.specs.Collecting.{Collected, begun, refusal, Answers, after, is_complete, finished}
-use Rattle.plan_serial.specs.Planning.{Plans, PlanFails, of_collect, of_collector}
+use Rattle.plan_collect.specs.Agenda.{Planned, planned}
+use Rattle.plan_collect.specs.Collecting.{Collected, after, is_complete, finished}
 
 -- all pieces of the first jobs were collected, and none of the others
 pub record IsUpTo (rules : List Rule) (span : Bounds) (limit done : ℕ) (c : Collected) : Type 0 where

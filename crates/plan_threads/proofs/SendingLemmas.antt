@@ -3,7 +3,6 @@
 -- moves a note from the one to the other. From it come the steps by a piece, and from these the steps by a job.
 use Rattle.std.proofs.Common.{◌≡◌, ℕ, zero, suc, ◌+◌, ◌%◌, ◌<◌, ◌≤◌, ◌⊎◌, true, false, nat_lt, List, [], ◌∷◌, ◌++◌, length, map, drop, None, Some, inl, inr, refl, ap, sym, ◌∙◌, arith, append_assoc, append-nil, subst}
 use Rattle.std.specs.Prelude.{slice_get, Result, Ok, Err, OnErr, IsErrAnd}
-use Rattle.std.proofs.Math.Seq.{drop-append_seam}
 use Rattle.std.proofs.lemmas.Bool.{cases_lt, lt-ltb, le-ltb}
 use Rattle.std.proofs.lemmas.List.{length-map}
 use Rattle.plan_match.specs.declared.rule.Rule.{Rule}
@@ -15,7 +14,7 @@ use Rattle.plan_collect.specs.declared.note.Note.TheVariants as note
 use Rattle.plan_collect.specs.Agenda.{rules_of}
 use Rattle.plan_collect.specs.Span.{Bounds}
 use Rattle.plan_collect.specs.Limits.{most_starts}
-use Rattle.plan_collect.specs.Tiling.{pieces, parts_from, tiling, starts_in, cut_after, sent_by}
+use Rattle.plan_collect.specs.Tiling.{pieces, parts_from, starts_in, cut_after, sent_by}
 use Rattle.plan_collect.specs.TilingLaws.{pieces_stop, pieces_go_on, parts_none, parts_own, parts_other, cut_here, cut_later, cut_none}
 use Rattle.plan_mailbox.specs.History.{IsPrefix}
 use Rattle.plan_threads.specs.Sending.{cut_rest}

@@ -4,8 +4,7 @@ ghost use Rattle.std.specs.Prelude.{◌≡◌, [], IfOk, Some, slice_get};
 ghost use Rattle.plan_mailbox.specs.Ends.{inlet_of, outlet_of};
 
 use agenda_faults::{Failure, RunFault, fault_line};
-use agenda_sources::{Bytes, TimerFile, TimerFiles};
-use agenda_words::Texts;
+use agenda_sources::{Bytes, Source, SourceKind, SourcePaths, Sources};
 use plan_collect::{Span, SpanFault, write_agenda};
 use plan_mailbox::{Core, Inlet, Outlet, Post, Reply, Rings};
 use plan_next::{next_from, next_piece, next_start};
@@ -228,18 +227,19 @@ fn lists_are_kept_and_lent(rt: HostRuntime) -> Result<(), Fail> {
     let bytes = Vec::from_array(alloc, [1, 2])?;
     let name = String::from_str(alloc, "a.timer")?;
     let read = Vec::from_array(alloc, [3])?;
-    let mut files = Vec::with_capacity(alloc, 1)?;
+    let mut sources = Vec::with_capacity(alloc, 1)?;
     let ended = ends(alloc);
     assert!(rt; Bytes::new(bytes).as_slice() == [1, 2].as_slice());
-    assert!(rt; Texts::new(alloc).as_slice().is_empty());
-    let file = TimerFile {
+    assert!(rt; SourcePaths::new(alloc).as_slice().is_empty());
+    let source = Source {
+        kind: SourceKind::Timer,
         name: Text::new(name),
         bytes: Bytes::new(read),
     };
-    assert!(rt; files.push(file).is_ok());
-    let files = TimerFiles::new(files);
-    let file = files.as_slice().first().expect(&rt, "a file");
-    assert!(rt; file.name.as_str() == "a.timer" && file.bytes.as_slice() == [3].as_slice());
+    assert!(rt; sources.push(source).is_ok());
+    let sources = Sources::new(sources);
+    let source = sources.as_slice().first().expect(&rt, "a source");
+    assert!(rt; source.name.as_str() == "a.timer" && source.bytes.as_slice() == [3].as_slice());
     assert_ended(&rt, ended);
     Ok(())
 }

@@ -1,4 +1,4 @@
-use Rattle.std.proofs.Common.{refl, ap, ◌∙◌}
+use Rattle.std.proofs.Common.{ap}
 use Rattle.agenda_answers.proofs.FileLemmas.{front_read}
 use Rattle.agenda_answers.proofs.files.read_front.Goals as goal
 

@@ -1,28 +1,40 @@
-use Rattle.std.proofs.Common.{rules, ap, sym, ◌∙◌}
-use Rattle.std.proofs.lemmas.Result.{IfOk-at_ok, err_from_is_err_and}
-use Rattle.plan_rules.specs.declared.crontabs.Kind.TheVariants.{User, System}
-use Rattle.agenda_sources.specs.Sources.{HasNoLineOf, with_crontab}
-use Rattle.agenda_sources.proofs.AtOnceLemmas.{source_found}
-use Rattle.agenda_sources.proofs.CrontabNames.{users_alone}
+-- Answers a fault of a source, and the loop's invariant after a source that was read, by the lemmas on the fold.
+use Rattle.std.proofs.Common.{Err}
+use Rattle.std.proofs.lemmas.Result.{err_from_is_err_and}
+use Rattle.agenda_sources.specs.Sources.{sources_reading}
+use Rattle.agenda_sources.proofs.AtOnceLemmas.{handed_on, none_so_far, source_found}
+use Rattle.agenda_sources.proofs.FoldLemmas.{read_fault, read_on}
 use Rattle.agenda_sources.proofs.SourceFaults.{own_fault}
 use Rattle.agenda_sources.proofs.reading.jobs_of_sources.Goals as goal
 
-pub add_crontab-requires-2-clause-names : goal.add_crontab-requires-2-clause-names
-add_crontab-requires-2-clause-names c =
-    IfOk-at_ok (HasNoLineOf System) (ap (λ jobs. with_crontab User jobs c.args.sources.now.crontab) (sym c.new-jobs.ensures) ∙
-    c.in_ok-add_crontab.ensures.meaning) (users_alone c.args.sources.now.crontab)
+pub returns-in_err-add_source-clause-meaning : goal.returns-in_err-add_source-clause-meaning
+returns-in_err-add_source-clause-meaning c =
+    let p = err_from_is_err_and c.from_residual.result c.from_residual.ensures.1 in
+    rw (p.1, p.2, ← c.as_slice-sources.ensures)
+    (λ other. read_fault c.as_slice-sources.result.now c.loop-index.index c.place_of-place.result c.index-sources-index.result
+    c.loop-index.jobs c.in_err-add_source.field-0.0 (sources_reading c.as_slice-sources.result.now) c.loop-index-test.true
+    c.index-sources-index.is c.place_of-place.ensures c.loop-index.invariant.meaning (c.in_err-add_source.ensures.meaning other))
 
-pub returns-in_err-add_timers-clause-meaning : goal.returns-in_err-add_timers-clause-meaning
-returns-in_err-add_timers-clause-meaning c = search rules
+pub returns-in_err-add_source-clause-own_fault : goal.returns-in_err-add_source-clause-own_fault
+returns-in_err-add_source-clause-own_fault c =
+    own_fault c.from_residual.result (λ jobs. jobs) c.args.sources.now (returns-in_err-add_source-clause-meaning c)
 
-pub returns-in_err-add_timers-clause-own_fault : goal.returns-in_err-add_timers-clause-own_fault
-returns-in_err-add_timers-clause-own_fault c =
-    own_fault c.from_residual-in_err-add_timers.result (λ jobs. jobs) c.args.sources.now (returns-in_err-add_timers-clause-meaning c)
-
-pub returns-in_err-add_timers-clause-at_once : goal.returns-in_err-add_timers-clause-at_once
-returns-in_err-add_timers-clause-at_once c =
-    let p = err_from_is_err_and c.from_residual-in_err-add_timers.result c.from_residual-in_err-add_timers.ensures.1 in
+pub returns-in_err-add_source-clause-at_once : goal.returns-in_err-add_source-clause-at_once
+returns-in_err-add_source-clause-at_once c =
+    let p = err_from_is_err_and c.from_residual.result c.from_residual.ensures.1 in
+    let found = source_found c.as_slice-sources.result.now c.loop-index.index c.place_of-place.result c.index-sources-index.result
+    (Err c.in_err-add_source.field-0.0) c.loop-index-test.true c.index-sources-index.is c.place_of-place.ensures
+    c.loop-index.invariant.none c.in_err-add_source.ensures.at_once in
     rw (p.1, p.2)
-    (source_found _ _ c.in_ok-add_crontab.field-0 c.in_ok-add_crontab-2.field-0 c.args.sources.now.crontab c.args.sources.now.system
-    c.args.sources.now.timers c.as_slice.result.now c.in_err-add_timers.field-0.0 c.in_ok-add_crontab.ensures.at_once
-    c.in_ok-add_crontab-2.ensures.at_once c.as_slice.ensures c.in_err-add_timers.ensures.at_once)
+    (handed_on _ _ c.args.sources.now c.as_slice-sources.result.now c.in_err-add_source.field-0.0 c.as_slice-sources.ensures found)
+
+pub loop-index-preserved : goal.loop-index-preserved
+loop-index-preserved c = record {
+  few = c.add_source.ensures.few;
+  meaning = read_on c.as_slice-sources.result.now c.loop-index.index c.place_of-place.result c.index-sources-index.result
+      c.loop-index.jobs c.add_source.new.jobs (sources_reading c.as_slice-sources.result.now) c.loop-index-test.true
+      c.index-sources-index.is c.place_of-place.ensures c.loop-index.invariant.meaning c.in_ok-add_source.ensures.meaning;
+  none = λ past. none_so_far c.in_ok-add_source.field-0 c.as_slice-sources.result.now c.loop-index.index c.place_of-place.result
+      c.index-sources-index.result c.loop-index-test.true c.index-sources-index.is c.place_of-place.ensures
+      c.loop-index.invariant.none c.in_ok-add_source.ensures.at_once;
+}

@@ -1,5 +1,5 @@
 -- The sorted entries are the agenda.
-use Rattle.std.proofs.Common.{◌≡◌, ℕ, List, Ok, ap, length, sym, subst, ◌∙◌}
+use Rattle.std.proofs.Common.{◌≡◌, List, Ok, ap, length, sym, subst, ◌∙◌}
 use Rattle.plan_match.specs.declared.rule.Rule.{Rule}
 use Rattle.plan_collect.specs.Agenda.{Planned, agenda, planned, IsInYears, IsOfJobs}
 use Rattle.plan_collect.specs.Collecting.{Collected}

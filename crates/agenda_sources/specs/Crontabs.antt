@@ -1,0 +1,55 @@
+-- Crontabs at the front of a plan, whose jobs need no look at their names: the lines' numbers tell them apart. All of it is own.
+use Rattle.std.specs.Prelude.{ℕ, ◌≡◌, nat_le, if◌then◌else◌, List, [], ◌∷◌, ◌++◌, length, Option, Some, None, Ok, Err}
+use Rattle.plan_rules.specs.declared.crontabs.Kind.{Kind}
+use Rattle.plan_rules.specs.declared.crontabs.Kind.TheVariants as whose
+use Rattle.plan_texts.specs.Steps.{◌>>=◌}
+use Rattle.plan_rules.specs.Limits.{most_jobs}
+use Rattle.plan_rules.specs.LineFaults.{TextReading}
+use Rattle.plan_rules.specs.Job.{JobParts}
+use Rattle.plan_rules.specs.Jobs.{number_of}
+use Rattle.plan_rules.specs.Crontab.{job_name, crontab_reading}
+use Rattle.agenda_sources.specs.declared.kind.SourceKind.TheVariants.{Crontab, System}
+use Rattle.agenda_sources.specs.declared.sources.Source.{Source}
+use Rattle.agenda_sources.specs.declared.fault.SourceFault.TheVariants.{Full}
+use Rattle.agenda_sources.specs.Faults.{SourceReading, in_source}
+use Rattle.agenda_sources.specs.Kind.{fault_in}
+
+-- a user's crontab, if there is one
+abbrev pub users_source : List ℕ → Option (List ℕ) → List Source
+users_source name None = []
+users_source name (Some bytes) = record { kind = Crontab; name = name; bytes = bytes } ∷ []
+
+-- the system's crontab, if there is one
+abbrev pub system_source : List ℕ → Option (List ℕ) → List Source
+system_source name None = []
+system_source name (Some bytes) = record { kind = System; name = name; bytes = bytes } ∷ []
+
+-- jobs behind the others: there are at most 1,000
+abbrev pub behind : List JobParts → List JobParts → SourceReading (List JobParts)
+behind jobs more = if nat_le (length (jobs ++ more)) most_jobs then Ok (jobs ++ more) else Err Full
+
+-- the jobs of a user's crontab, if there is one
+abbrev pub with_users : List JobParts → Option (List ℕ) → SourceReading (List JobParts)
+with_users jobs None = Ok jobs
+with_users jobs (Some bytes) = do
+  more ← in_source (fault_in Crontab 0) (crontab_reading whose.User bytes)
+  behind jobs more
+
+-- the jobs of the system's, if there is one
+abbrev pub with_systems : List JobParts → Option (List ℕ) → SourceReading (List JobParts)
+with_systems jobs None = Ok jobs
+with_systems jobs (Some bytes) = do
+  more ← in_source (fault_in System 0) (crontab_reading whose.System bytes)
+  behind jobs more
+
+-- the user's crontab, then the system's, then what is behind them
+abbrev pub crontabs_first :
+    Option (List ℕ) → Option (List ℕ) → (List JobParts → SourceReading (List JobParts)) → SourceReading (List JobParts)
+crontabs_first user system behind_them = do
+  users ← with_users [] user
+  systems ← with_systems users system
+  behind_them systems
+
+-- no job has the name of a line of a crontab of this kind
+abbrev pub HasNoLineOf : Kind → List JobParts → Type 0
+HasNoLineOf kind jobs = (line : ℕ) → number_of (job_name kind line) jobs ≡ None

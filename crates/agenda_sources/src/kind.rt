@@ -1,0 +1,120 @@
+//! The kinds of sources: one table of what stands for each of them.
+
+ghost use Rattle.std.specs.Prelude.{◌≡◌, Err, IfSome, option_map};
+ghost use Rattle.plan_texts.specs.Steps.{GivesUnless};
+ghost use Rattle.plan_rules.specs.LineFaults.{of_whole, want_of_memory};
+ghost use Rattle.plan_rules.specs.Timer.{timer_reading};
+ghost use Rattle.agenda_sources.specs.Kind.{alone, cause_at_once, fault_in, is_kind, kinds, label_of, option_of, reading_of, row_of};
+ghost use Rattle.agenda_sources.specs.Kind.{is_many, timer_cause};
+
+use crate::fault::SourceFault;
+use plan_rules::{Job, Kind, LineCause, LineFault, crontab, timer};
+use std::alloc::Global;
+
+/// A kind of source. A plan reads its sources in the order of their kinds.
+#[derive(Clone, Copy, Debug, PartialEq, Eq)]
+pub enum SourceKind {
+    /// A user's crontab (crontab(5)).
+    Crontab,
+    /// The system's crontab: a user stands before each command.
+    System,
+    /// A timer file (systemd.timer(5)).
+    Timer,
+}
+
+impl SourceKind {
+    /// All kinds, in their order.
+    pub fn all() -> [SourceKind; 3]
+        ensures { result ≡ kinds }
+    {
+        [SourceKind::Crontab, SourceKind::System, SourceKind::Timer]
+    }
+
+    // Its place among all kinds.
+    fn row(self) -> u8
+        ensures { result ≡ row_of self }
+    {
+        match self {
+            SourceKind::Crontab => 0,
+            SourceKind::System => 1,
+            SourceKind::Timer => 2,
+        }
+    }
+
+    /// The name of the option, or of the argument, that gives the path of a source.
+    pub fn option(self) -> &'static str
+        ensures { result.now ≡ option_of self }
+    {
+        match self {
+            SourceKind::Crontab => "crontab",
+            SourceKind::System => "system-crontab",
+            SourceKind::Timer => "timer",
+        }
+    }
+
+    /// The label in lines of faults, for a kind of which a plan is given one source at most. The sources of another kind are told
+    /// apart by their own names.
+    pub fn label(self) -> Option<&'static str>
+        ensures { option_map (λ label. label.now) result ≡ label_of self }
+    {
+        match self {
+            SourceKind::Crontab => Some("crontab"),
+            SourceKind::System => Some("system crontab"),
+            SourceKind::Timer => None,
+        }
+    }
+
+    /// Whether a plan may be given more than one source of this kind.
+    pub fn is_many(self) -> bool
+        ensures { result ≡ is_many self }
+    {
+        self.label().is_none()
+    }
+
+    /// Whether both are one kind.
+    pub fn is(self, other: SourceKind) -> bool
+        ensures { result ≡ is_kind self other }
+    {
+        self.row() == other.row()
+    }
+
+    // The jobs of a source of this kind, by its name and its bytes.
+    pub(crate) fn read(self, alloc: Global, name: &str, bytes: &[u8]) -> Result<Vec<Job>, LineFault>
+        ensures meaning { GivesUnless want_of_memory (λ jobs. jobs.items) result
+            (reading_of self name.now bytes.now) }
+        // These are found before any memory is asked for.
+        ensures at_once { IfSome (cause_at_once self name.now bytes.now)
+            (λ cause. result ≡ Err (of_whole cause)) }
+    {
+        match self {
+            SourceKind::Crontab => crontab(alloc, bytes, Kind::User),
+            SourceKind::System => crontab(alloc, bytes, Kind::System),
+            SourceKind::Timer => timer_alone(alloc, name, bytes),
+        }
+    }
+
+    // The fault of the source at a place among those of this kind. A want of memory inside it is a want of memory.
+    pub(crate) fn fault(self, place: usize, fault: LineFault) -> SourceFault
+        ensures { result ≡ fault_in self place fault }
+    {
+        match (fault.cause, self) {
+            (LineCause::NoMemory, _) => SourceFault::NoMemory,
+            (_, SourceKind::Crontab) => SourceFault::InCrontab(fault),
+            (_, SourceKind::System) => SourceFault::InSystem(fault),
+            (_, SourceKind::Timer) => SourceFault::InTimer(place, fault),
+        }
+    }
+}
+
+// The one job of a timer.
+fn timer_alone(alloc: Global, name: &str, bytes: &[u8]) -> Result<Vec<Job>, LineFault>
+    ensures meaning { GivesUnless want_of_memory (λ jobs. jobs.items) result
+        (alone (timer_reading name.now bytes.now)) }
+    ensures at_once { IfSome (timer_cause name.now bytes.now)
+        (λ cause. result ≡ Err (of_whole cause)) }
+{
+    let job = timer(alloc, name, bytes)?;
+    let mut jobs = Vec::new(alloc);
+    jobs.push(job)?;
+    Ok(jobs)
+}
