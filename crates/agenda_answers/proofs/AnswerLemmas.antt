@@ -1,32 +1,36 @@
--- What the program answers, from what its parts answer: for `answer_plan`, and for `answer` of refused words.
+-- What the program answers, from what its parts answer: for `answer_plan`, and for each arm of `answer`.
 -- `Answers` has two sides: what was asked was done with status 0, or a failure has its status and its line. Which it is
 -- comes from the case of `done`. Refused words are a failure by themselves, and standard output stays.
 use Rattle.std.proofs.Common.{◌≡◌, ℕ, Bool, List, [], Option, Result, Ok, Err, OnOk, IfErr, inl, inr, refl, subst}
 use Rattle.std.specs.Io.KnownBytes.{Keeps}
 use Rattle.plan_streams.specs.Stream.{PutsOrBreaksOff}
 use Rattle.std.proofs.KnownBytes.{Keeps-refl}
+use Rattle.agenda_words.specs.declared.Ask.{Ask}
+use Rattle.agenda_words.specs.declared.UsageFault.{UsageFault}
 use Rattle.agenda_words.specs.declared.UsageFault.TheVariants as usage
 use Rattle.agenda_faults.specs.declared.faults.RunFault.TheVariants as run
 use Rattle.agenda_faults.specs.declared.faults.Failure.TheVariants.{Usage, Run}
 use Rattle.agenda_faults.specs.declared.faults.Failure.{Failure}
 use Rattle.agenda_sources.specs.declared.SourcePath.{SourcePath}
-use Rattle.agenda_answers.specs.declared.answers.Wanted.{Wanted}
+use Rattle.agenda_faults.specs.declared.faults.RunFault.{RunFault}
 use Rattle.agenda_answers.specs.Files.{Held}
 use Rattle.agenda_faults.specs.FaultLines.{fault_text}
 use Rattle.agenda_faults.specs.Faults.{status_of}
-use Rattle.agenda_answers.specs.Answer.{Answers, DoesPlan, FailsPlan, Stream, asked_plan}
+use Rattle.agenda_commands.specs.Command.{Fails, Writes}
+use Rattle.agenda_answers.specs.Answer.{Answers, Prints, Refuses, Stops, Stream, sources_of}
 
--- `plan` was done, or was not, and then its line was written
-pub plan_answers :
-    (held : Held) (wanted : Wanted) (paths : List SourcePath) (status : ℕ) (out err : Stream) (done : Result (Unit {0}) Failure)
-    → OnOk done (DoesPlan held wanted out.old out.new)
-    → IfErr done (λ failure. FailsPlan out.takes_all held wanted failure out.old out.new)
-    → paths ≡ wanted.sources
+-- what was asked was done, or was not, and then its line was written
+pub command_answers :
+    (held : Held) (asked : Result Ask UsageFault) (paths : List SourcePath) (status : ℕ) (out err : Stream)
+    (done : Result (Unit {0}) Failure)
+    → OnOk done (Writes (Prints held asked) out.old out.new)
+    → IfErr done (λ failure. Stops out.takes_all (Prints held asked) (Refuses held asked) failure out.old out.new)
+    → paths ≡ sources_of asked
     → OnOk done ((status ≡ 0) × Keeps err.old err.new)
     → IfErr done (λ failure. (status ≡ status_of failure) × PutsOrBreaksOff err.takes_all err.old err.new (fault_text paths failure))
-    → Answers held (Ok (asked_plan wanted)) status out err
-plan_answers held wanted paths status out err (Ok x) does fails same (zero, keeps) line = inl (zero, does, keeps)
-plan_answers held wanted paths status out err (Err failure) does fails same keeps (is, line) =
+    → Answers held asked status out err
+command_answers held asked paths status out err (Ok x) does fails same (zero, keeps) line = inl (zero, does, keeps)
+command_answers held asked paths status out err (Err failure) does fails same keeps (is, line) =
     let text = subst (λ (l : List SourcePath). PutsOrBreaksOff err.takes_all err.old err.new (fault_text l failure)) same line in
     inr (failure, fails, is, text)
 
@@ -41,3 +45,25 @@ pub memory_answers : (held : Held) (status : ℕ) (takes_all : Bool) (kept : Opt
     → (status ≡ status_of (Run run.NoMemory)) × PutsOrBreaksOff err.takes_all err.old err.new (fault_text [] (Run run.NoMemory))
     → Answers held (Err usage.NoMemory) status (record { takes_all = takes_all; old = kept; new = kept }) err
 memory_answers held status takes_all kept err (is, line) = inr (Run run.NoMemory, (refl, Keeps-refl kept), is, line)
+
+-- each text that a command wrote is one of these too
+pub writes_as :
+    (P Q : List ℕ → Type 0) (old new : Option (List ℕ)) → ((text : List ℕ) → P text → Q text) → Writes P old new → Writes Q old new
+writes_as P Q old new leads (text, is, appends) = (text, leads text is, appends)
+
+-- what a command wrote before its fault, by texts and refusals that these lead to
+pub fails_as :
+    (takes_all : Bool) (P Q : List ℕ → Type 0) (R : RunFault → Type 0) (S : Failure → Type 0) (fault : RunFault)
+    (old new : Option (List ℕ)) → ((text : List ℕ) → P text → Q text) → ((refused : RunFault) → R refused → S (Run refused)) →
+    Fails takes_all P R fault old new → Stops takes_all Q S (Run fault) old new
+fails_as takes_all P Q R S run.Device old new texts faults (text, is, off) = (text, texts text is, off)
+fails_as takes_all P Q R S run.NoMemory old new texts faults (is, kept) = (faults _ is, kept)
+fails_as takes_all P Q R S run.BadCount old new texts faults (is, kept) = (faults _ is, kept)
+fails_as takes_all P Q R S (run.Rule fault) old new texts faults (is, kept) = (faults _ is, kept)
+fails_as takes_all P Q R S (run.InCrontab fault) old new texts faults (is, kept) = (faults _ is, kept)
+fails_as takes_all P Q R S (run.InSystem fault) old new texts faults (is, kept) = (faults _ is, kept)
+fails_as takes_all P Q R S (run.InTimer place fault) old new texts faults (is, kept) = (faults _ is, kept)
+fails_as takes_all P Q R S (run.SameName place) old new texts faults (is, kept) = (faults _ is, kept)
+fails_as takes_all P Q R S run.Full old new texts faults (is, kept) = (faults _ is, kept)
+fails_as takes_all P Q R S (run.Plan fault) old new texts faults (is, kept) = (faults _ is, kept)
+fails_as takes_all P Q R S (run.Script fault) old new texts faults (is, kept) = (faults _ is, kept)

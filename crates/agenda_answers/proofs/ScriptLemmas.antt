@@ -8,11 +8,10 @@ use Rattle.agenda_script.specs.declared.fault.ScriptCause.TheVariants.{TooLarge}
 use Rattle.agenda_script.specs.Script.{script_reading, fault_on}
 use Rattle.agenda_faults.specs.declared.faults.RunFault.{RunFault}
 use Rattle.agenda_faults.specs.declared.faults.RunFault.TheVariants as run
-use Rattle.std.proofs.KnownBytes.{Keeps-refl}
 use Rattle.agenda_faults.specs.declared.faults.Failure.TheVariants.{Run}
-use Rattle.agenda_answers.specs.Answer.{DoesSteps, FailsSteps}
+use Rattle.agenda_answers.specs.Answer.{FailsSteps, GivesSteps}
 use Rattle.agenda_answers.specs.Files.{Held, most_read, IsFrontOf, IsHeld}
-use Rattle.agenda_commands.specs.Script.{WritesRun, RefusesScript}
+use Rattle.agenda_commands.specs.Script.{IsTextOfRun, RefusesRun}
 
 -- more bytes than a script may have are too many, whatever they are
 too_large : (bytes : List ℕ) → most_read ≤ length bytes → script_reading bytes ≡ fault_on 0 TooLarge
@@ -38,49 +37,38 @@ pub some_script : (held : Option (List ℕ)) → (script : List ℕ) × IsHeld h
 some_script None = ([], tt)
 some_script (Some whole) = (whole, refl)
 
-pub runs_whole :
-    (bytes script : List ℕ) (old new : Option (List ℕ)) → script_reading script ≡ script_reading bytes → WritesRun bytes old new →
-    WritesRun script old new
-runs_whole bytes script old new same (text, (meaning, replies, reads, many, turn, lawful, is), appends) =
-    (text, (meaning, replies, same ∙ reads, many, turn, lawful, is), appends)
+-- what a run prints depends on the script's meaning alone
+text_whole :
+    (bytes script text : List ℕ) → script_reading script ≡ script_reading bytes → IsTextOfRun bytes text → IsTextOfRun script text
+text_whole bytes script text same (meaning, replies, reads, many, turn, lawful, is) =
+    (meaning, replies, same ∙ reads, many, turn, lawful, is)
 
-pub refuses_whole :
-    (takes_all : Bool) (fault : RunFault) (bytes script : List ℕ) (old new : Option (List ℕ)) →
-    script_reading script ≡ script_reading bytes → RefusesScript takes_all fault bytes old new →
-    RefusesScript takes_all fault script old new
-refuses_whole takes_all (run.Script fault) bytes script old new same (reads, kept) = (same ∙ reads, kept)
-refuses_whole takes_all run.NoMemory bytes script old new same kept = kept
-refuses_whole takes_all run.Device bytes script old new same (text, (meaning, replies, reads, many, turn, lawful, is), off) =
-    (text, (meaning, replies, same ∙ reads, many, turn, lawful, is), off)
-refuses_whole takes_all other bytes script old new same none = absurd none
+refusal_whole :
+    (bytes script : List ℕ) (fault : RunFault) → script_reading script ≡ script_reading bytes → RefusesRun bytes fault →
+    RefusesRun script fault
+refusal_whole bytes script (run.Script fault) same reads = same ∙ reads
+refusal_whole bytes script run.NoMemory same refused = tt
+refusal_whole bytes script other same none = absurd none
 
--- `steps` on a file of which the first bytes were read
-pub does_steps :
-    (held : Held) (file path bytes read : List ℕ) (old new : Option (List ℕ)) → path ≡ file → IsFrontOf (held path).bytes bytes →
-    read ≡ bytes → WritesRun read old new → DoesSteps held file old new
-does_steps held file path bytes read old new same front is writes =
+-- the text of a run of the first bytes of a file, which were read, is one of its own
+pub gives_steps :
+    (held : Held) (file path bytes read text : List ℕ) → path ≡ file → IsFrontOf (held path).bytes bytes → read ≡ bytes →
+    IsTextOfRun read text → GivesSteps held file text
+gives_steps held file path bytes read text same front is gives =
     let (script, whole, means) = whole_script (held path).bytes bytes front in
-    subst (λ p. DoesSteps held p old new) same (
-      script,
-      whole,
-      runs_whole bytes script old new means
-          (subst (λ b. WritesRun b old new) is writes),
-    )
+    subst (λ p. GivesSteps held p text) same (script, whole, text_whole bytes script text means (subst (λ b. IsTextOfRun b text) is gives))
 
 pub fails_steps :
-    (takes_all : Bool) (held : Held) (file path bytes read : List ℕ) (fault : RunFault) (old new : Option (List ℕ)) → path ≡ file →
-    IsFrontOf (held path).bytes bytes → read ≡ bytes → RefusesScript takes_all fault read old new →
-    FailsSteps takes_all held file (Run fault) old new
-fails_steps takes_all held file path bytes read fault old new same front is refuses =
+    (held : Held) (file path bytes read : List ℕ) (fault : RunFault) → path ≡ file → IsFrontOf (held path).bytes bytes → read ≡ bytes →
+    RefusesRun read fault → FailsSteps held file (Run fault)
+fails_steps held file path bytes read fault same front is refuses =
     let (script, whole, means) = whole_script (held path).bytes bytes front in
-    subst (λ p. FailsSteps takes_all held p (Run fault) old new) same (
+    subst (λ p. FailsSteps held p (Run fault)) same (
       script,
       whole,
-      refuses_whole takes_all fault bytes script old new means
-          (subst (λ b. RefusesScript takes_all fault b old new) is refuses),
+      refusal_whole bytes script fault means (subst (λ b. RefusesRun b fault) is refuses),
     )
 
 -- `steps` without memory to read the file
-pub fails_unread :
-    (takes_all : Bool) (held : Held) (file : List ℕ) (old : Option (List ℕ)) → FailsSteps takes_all held file (Run run.NoMemory) old old
-fails_unread takes_all held file old = let (script, whole) = some_script (held file).bytes in (script, whole, Keeps-refl old)
+pub fails_unread : (held : Held) (file : List ℕ) → FailsSteps held file (Run run.NoMemory)
+fails_unread held file = let (script, whole) = some_script (held file).bytes in (script, whole, tt)

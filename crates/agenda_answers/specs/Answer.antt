@@ -1,6 +1,6 @@
 -- What the program answers, by what was asked of it: its status, and what both streams then hold. All of it is own.
 use Rattle.std.specs.Prelude.{◌≡◌, ⊤, ℕ, ◌<◌, ◌≤◌, ◌⊎◌, Bool, List, [], codes, Option, Result, Ok, Err}
-use Rattle.std.specs.Io.KnownBytes.{Appends, Keeps}
+use Rattle.std.specs.Io.KnownBytes.{Keeps}
 use Rattle.plan_sets.specs.Limits.{end_second}
 use Rattle.plan_sets.specs.Moment.{HasFault, moment_text_of}
 use Rattle.agenda_words.specs.declared.Ask.{Ask}
@@ -21,9 +21,10 @@ use Rattle.plan_collect.specs.declared.SpanFault.TheVariants.{Backwards}
 use Rattle.agenda_faults.specs.FaultLines.{fault_text}
 use Rattle.agenda_faults.specs.Faults.{status_of}
 use Rattle.agenda_answers.specs.Files.{Held, IsHeld, IsUnsure}
-use Rattle.agenda_commands.specs.Next.{WritesNext, RefusesNext}
-use Rattle.agenda_commands.specs.Plan.{WritesPlan, RefusesPlan}
-use Rattle.agenda_commands.specs.Script.{WritesRun, RefusesScript}
+use Rattle.agenda_commands.specs.Command.{Writes}
+use Rattle.agenda_commands.specs.Next.{IsTextOfNext, RefusesNext}
+use Rattle.agenda_commands.specs.Plan.{IsTextOfPlan, RefusesPlan}
+use Rattle.agenda_commands.specs.Script.{IsTextOfRun, RefusesRun}
 use Rattle.agenda_answers.specs.Sources.{AreSourcesOf, IsGiven}
 use Rattle.plan_streams.specs.Stream.{BreaksOff, PutsOrBreaksOff}
 
@@ -37,16 +38,15 @@ SaysNotUtf8 (usage.Help text) = ⊥
 abbrev pub IsMoment : List ℕ → ℕ → Type 0
 IsMoment text moment = (moment ≤ end_second) × (text ≡ moment_text_of moment)
 
--- `next` was done
-abbrev pub DoesNext : List ℕ → ℕ → Asked → (old new : Option (List ℕ)) → Type 0
-DoesNext after count rule old new = (moment : ℕ) × IsMoment after moment × WritesNext rule moment count old new
+-- what `next` prints
+abbrev pub GivesNext : List ℕ → ℕ → Asked → List ℕ → Type 0
+GivesNext after count rule text = (moment : ℕ) × IsMoment after moment × IsTextOfNext rule moment count text
 
 -- when each failure of `next` comes: the moment is looked at first
-abbrev pub FailsNext : Bool → List ℕ → ℕ → Asked → Failure → (old new : Option (List ℕ)) → Type 0
-FailsNext takes_all after count rule (After fault) old new = HasFault after fault × Keeps old new
-FailsNext takes_all after count rule (Run fault) old new =
-    (moment : ℕ) × IsMoment after moment × RefusesNext takes_all fault rule moment count old new
-FailsNext takes_all after count rule failure old new = ⊥
+abbrev pub FailsNext : List ℕ → ℕ → Asked → Failure → Type 0
+FailsNext after count rule (After fault) = HasFault after fault
+FailsNext after count rule (Run fault) = (moment : ℕ) × IsMoment after moment × RefusesNext rule count fault
+FailsNext after count rule failure = ⊥
 
 -- the span between two moments that were given
 abbrev pub IsSpan : (since upto : List ℕ) → Bounds → Type 0
@@ -60,35 +60,32 @@ GivesNoSpan since upto (Span Backwards) =
     (begin : ℕ) × (end : ℕ) × IsMoment since begin × IsMoment upto end × (end < begin)
 GivesNoSpan since upto other = ⊥
 
--- `plan` was done
-abbrev pub DoesPlan : Held → Wanted → (old new : Option (List ℕ)) → Type 0
-DoesPlan held wanted old new =
+-- what `plan` prints
+abbrev pub GivesPlan : Held → Wanted → List ℕ → Type 0
+GivesPlan held wanted text =
     (span : Bounds) × (sources : List Source) × IsSpan wanted.since wanted.upto span × AreSourcesOf held wanted.sources sources
-    × WritesPlan sources span wanted.sizes old new
+    × IsTextOfPlan sources span wanted.sizes text
 
 -- when each failure of `plan` comes: the span is looked at first, then the files are read, of which one is the failure only where it may
--- fail, then the plan is made
-abbrev pub FailsPlan : Bool → Held → Wanted → Failure → (old new : Option (List ℕ)) → Type 0
-FailsPlan takes_all held wanted (File path) old new =
+-- fail, then the plan is made; memory may be refused anywhere behind the span
+abbrev pub FailsPlan : Held → Wanted → Failure → Type 0
+FailsPlan held wanted (File path) =
     (span : Bounds) × IsSpan wanted.since wanted.upto span × IsGiven wanted.sources path × IsUnsure (held path)
-    × Keeps old new
-FailsPlan takes_all held wanted (Run run.NoMemory) old new =
-    (span : Bounds) × IsSpan wanted.since wanted.upto span × Keeps old new
-FailsPlan takes_all held wanted (Run fault) old new =
-    (span : Bounds) × (sources : List Source) × IsSpan wanted.since wanted.upto span × AreSourcesOf held wanted.sources sources
-    × RefusesPlan takes_all fault sources span wanted.sizes old new
-FailsPlan takes_all held wanted failure old new = GivesNoSpan wanted.since wanted.upto failure × Keeps old new
+FailsPlan held wanted (Run fault) =
+    (span : Bounds) × IsSpan wanted.since wanted.upto span
+    × ((fault ≡ run.NoMemory)
+    ⊎ ((sources : List Source) × AreSourcesOf held wanted.sources sources × RefusesPlan sources span wanted.sizes fault))
+FailsPlan held wanted failure = GivesNoSpan wanted.since wanted.upto failure
 
--- `steps` was done
-abbrev pub DoesSteps : Held → List ℕ → (old new : Option (List ℕ)) → Type 0
-DoesSteps held file old new = (script : List ℕ) × IsHeld (held file).bytes script × WritesRun script old new
+-- what `steps` prints
+abbrev pub GivesSteps : Held → List ℕ → List ℕ → Type 0
+GivesSteps held file text = (script : List ℕ) × IsHeld (held file).bytes script × IsTextOfRun script text
 
 -- when each failure of `steps` comes: the file is read first, and is the failure only where it may fail
-abbrev pub FailsSteps : Bool → Held → List ℕ → Failure → (old new : Option (List ℕ)) → Type 0
-FailsSteps takes_all held file (File path) old new = (path ≡ file) × IsUnsure (held path) × Keeps old new
-FailsSteps takes_all held file (Run fault) old new =
-    (script : List ℕ) × IsHeld (held file).bytes script × RefusesScript takes_all fault script old new
-FailsSteps takes_all held file failure old new = ⊥
+abbrev pub FailsSteps : Held → List ℕ → Failure → Type 0
+FailsSteps held file (File path) = (path ≡ file) × IsUnsure (held path)
+FailsSteps held file (Run fault) = (script : List ℕ) × IsHeld (held file).bytes script × RefusesRun script fault
+FailsSteps held file failure = ⊥
 
 -- what is wanted of `plan`, by what it was given
 abbrev pub wanted_of : (since upto : List ℕ) → List SourcePath → Sizes → Wanted
@@ -98,34 +95,28 @@ wanted_of since upto sources sizes = record { since = since; upto = upto; source
 abbrev pub asked_plan : Wanted → Ask
 asked_plan wanted = Plan wanted.since wanted.upto wanted.sources wanted.sizes
 
--- what standard output holds after a command that was done
-abbrev pub Does : Held → Ask → (old new : Option (List ℕ)) → Type 0
-Does held (Next after count rule) old new = DoesNext after count rule old new
-Does held (Plan since upto sources sizes) old new =
-    DoesPlan held (wanted_of since upto sources sizes) old new
-Does held (Steps file) old new = DoesSteps held file old new
+-- what is printed for what was asked: the text of a command, or that of help
+abbrev pub Prints : Held → Result Ask UsageFault → List ℕ → Type 0
+Prints held (Ok (Next after count rule)) text = GivesNext after count rule text
+Prints held (Ok (Plan since upto sources sizes)) text = GivesPlan held (wanted_of since upto sources sizes) text
+Prints held (Ok (Steps file)) text = GivesSteps held file text
+Prints held (Err (usage.Help help)) text = text ≡ help
+Prints held (Err refusal) text = ⊥
 
--- when each failure of a command comes, and what standard output then holds
-abbrev pub Fails : Bool → Held → Ask → Failure → (old new : Option (List ℕ)) → Type 0
-Fails takes_all held (Next after count rule) failure old new = FailsNext takes_all after count rule failure old new
-Fails takes_all held (Plan since upto sources sizes) failure old new =
-    FailsPlan takes_all held (wanted_of since upto sources sizes) failure old new
-Fails takes_all held (Steps file) failure old new = FailsSteps takes_all held file failure old new
+-- when what was asked is refused: words that are no use of the program are a failure of their own, and help is never refused
+abbrev pub Refuses : Held → Result Ask UsageFault → Failure → Type 0
+Refuses held (Ok (Next after count rule)) failure = FailsNext after count rule failure
+Refuses held (Ok (Plan since upto sources sizes)) failure = FailsPlan held (wanted_of since upto sources sizes) failure
+Refuses held (Ok (Steps file)) failure = FailsSteps held file failure
+Refuses held (Err (usage.Help text)) failure = ⊥
+Refuses held (Err (usage.Usage text)) failure = failure ≡ Usage text
+Refuses held (Err usage.NoMemory) failure = failure ≡ Run run.NoMemory
 
--- what standard output holds after what was asked was done: a command, or help
-abbrev pub Finishes : Held → Result Ask UsageFault → (old new : Option (List ℕ)) → Type 0
-Finishes held (Ok ask) old new = Does held ask old new
-Finishes held (Err (usage.Help text)) old new = Appends old new text
-Finishes held (Err refusal) old new = ⊥
-
--- when what was asked is not done, and what standard output then holds: words that are no use of the program are a failure
--- of their own
-abbrev pub Stops : Bool → Held → Result Ask UsageFault → Failure → (old new : Option (List ℕ)) → Type 0
-Stops takes_all held (Ok ask) failure old new = Fails takes_all held ask failure old new
-Stops takes_all held (Err (usage.Help text)) failure old new =
-    (failure ≡ Run run.Device) × BreaksOff takes_all old new text
-Stops takes_all held (Err (usage.Usage text)) failure old new = (failure ≡ Usage text) × Keeps old new
-Stops takes_all held (Err usage.NoMemory) failure old new = (failure ≡ Run run.NoMemory) × Keeps old new
+-- what standard output holds after a failure: where the stream fails a part of a text, and else, where it was refused, what it held
+abbrev pub Stops :
+    Bool → (List ℕ → Type 0) → (Failure → Type 0) → Failure → (old new : Option (List ℕ)) → Type 0
+Stops takes_all IsText IsRefused (Run run.Device) old new = (text : List ℕ) × IsText text × BreaksOff takes_all old new text
+Stops takes_all IsText IsRefused failure old new = IsRefused failure × Keeps old new
 
 -- the paths of the sources that were given
 abbrev pub sources_of : Result Ask UsageFault → List SourcePath
@@ -142,9 +133,9 @@ pub record Stream : Type 0 where
 -- and its line on standard error
 abbrev pub Answers : Held → Result Ask UsageFault → ℕ → (out err : Stream) → Type 0
 Answers held asked status out err =
-    ((status ≡ 0) × Finishes held asked out.old out.new × Keeps err.old err.new)
-    ⊎ ((failure : Failure) × Stops out.takes_all held asked failure out.old out.new × (status ≡ status_of failure)
-    × PutsOrBreaksOff err.takes_all err.old err.new (fault_text (sources_of asked) failure))
+    ((status ≡ 0) × Writes (Prints held asked) out.old out.new × Keeps err.old err.new)
+    ⊎ ((failure : Failure) × Stops out.takes_all (Prints held asked) (Refuses held asked) failure out.old out.new
+    × (status ≡ status_of failure) × PutsOrBreaksOff err.takes_all err.old err.new (fault_text (sources_of asked) failure))
 
 -- the same, by the words of the command line
 abbrev pub AnswersWords : Held → List (List ℕ) → ℕ → (out err : Stream) → Type 0

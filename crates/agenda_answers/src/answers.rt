@@ -1,11 +1,12 @@
 //! What the program does, over any files and streams.
 
 ghost use Rattle.std.specs.Prelude.{◌≡◌, ◌≢◌, IfErr, IfOk, Ok, OnOk, map, string_bytes};
-ghost use Rattle.std.specs.Io.KnownBytes.{Appends, Keeps};
+ghost use Rattle.std.specs.Io.KnownBytes.{Keeps};
 ghost use Rattle.agenda_faults.specs.FaultLines.{fault_text};
 ghost use Rattle.agenda_faults.specs.Faults.{status_of as failure_status};
-ghost use Rattle.agenda_answers.specs.Answer.{Answers, AnswersWords, asked_plan, DoesNext, DoesPlan, DoesSteps, FailsNext, FailsPlan, FailsSteps, GivesNoSpan, IsSpan, SaysNotUtf8};
-ghost use Rattle.plan_streams.specs.Stream.{BreaksOff, PutsOrBreaksOff};
+ghost use Rattle.agenda_answers.specs.Answer.{Answers, AnswersWords, asked_plan, FailsNext, FailsPlan, FailsSteps, GivesNext, GivesNoSpan, GivesPlan, GivesSteps, IsSpan, SaysNotUtf8, Stops};
+ghost use Rattle.agenda_commands.specs.Command.{Writes};
+ghost use Rattle.plan_streams.specs.Stream.{PutsOrBreaksOff};
 
 use crate::files::{Files, read_file};
 use crate::sources::read_sources;
@@ -148,10 +149,9 @@ fn next<S: Stream>(
     rule: &Asked,
     out: &mut S,
 ) -> Result<(), Failure>
-    ensures done { OnOk result
-        (DoesNext after.now count rule.now (S.holds out.old) (S.holds out.new)) }
-    ensures failed { IfErr result
-        (λ failure. FailsNext S.takes_all after.now count rule.now failure (S.holds out.old) (S.holds out.new)) }
+    ensures done { OnOk result (Writes (GivesNext after.now count rule.now) (S.holds out.old) (S.holds out.new)) }
+    ensures failed { IfErr result (λ failure. Stops S.takes_all (GivesNext after.now count rule.now) (FailsNext after.now count rule.now)
+        failure (S.holds out.old) (S.holds out.new)) }
 {
     let moment = match read_moment(after.as_str()) {
         Ok(moment) => moment,
@@ -171,10 +171,9 @@ fn plan<R: Threads + Wait + Sync, F: Files, S: Stream>(
     files: &mut F,
     out: &mut S,
 ) -> Result<(), Failure>
-    ensures done { OnOk result
-        (DoesPlan (F.held files.old) wanted.now (S.holds out.old) (S.holds out.new)) }
-    ensures failed { IfErr result
-        (λ failure. FailsPlan S.takes_all (F.held files.old) wanted.now failure (S.holds out.old) (S.holds out.new)) }
+    ensures done { OnOk result (Writes (GivesPlan (F.held files.old) wanted.now) (S.holds out.old) (S.holds out.new)) }
+    ensures failed { IfErr result (λ failure. Stops S.takes_all (GivesPlan (F.held files.old) wanted.now)
+        (FailsPlan (F.held files.old) wanted.now) failure (S.holds out.old) (S.holds out.new)) }
 {
     let span = span_between(&wanted.since, &wanted.upto)?;
     let sources = read_sources(alloc, files, wanted.sources.as_slice())?;
@@ -210,10 +209,9 @@ fn steps<F: Files, S: Stream>(
     files: &mut F,
     out: &mut S,
 ) -> Result<(), Failure>
-    ensures done { OnOk result
-        (DoesSteps (F.held files.old) file (S.holds out.old) (S.holds out.new)) }
-    ensures failed { IfErr result
-        (λ failure. FailsSteps S.takes_all (F.held files.old) file failure (S.holds out.old) (S.holds out.new)) }
+    ensures done { OnOk result (Writes (GivesSteps (F.held files.old) file) (S.holds out.old) (S.holds out.new)) }
+    ensures failed { IfErr result (λ failure. Stops S.takes_all (GivesSteps (F.held files.old) file)
+        (FailsSteps (F.held files.old) file) failure (S.holds out.old) (S.holds out.new)) }
 {
     let script = match read_file(alloc, files, file.as_str()) {
         Ok(script) => script,
@@ -230,9 +228,9 @@ fn steps<F: Files, S: Stream>(
 
 // The text of help.
 fn help<S: Stream>(text: &Text, out: &mut S) -> Result<(), Failure>
-    ensures done { OnOk result (Appends (S.holds out.old) (S.holds out.new) text.now) }
-    ensures failed { IfErr result (λ failure. (failure ≡ Failure.Run RunFault.Device)
-        × BreaksOff S.takes_all (S.holds out.old) (S.holds out.new) text.now) }
+    ensures done { OnOk result (Writes (λ printed. printed ≡ text.now) (S.holds out.old) (S.holds out.new)) }
+    ensures failed { IfErr result (λ failure. Stops S.takes_all (λ printed. printed ≡ text.now) (λ _. ⊥)
+        failure (S.holds out.old) (S.holds out.new)) }
 {
     match out.put(text.as_str().as_bytes()) {
         Ok(()) => Ok(()),

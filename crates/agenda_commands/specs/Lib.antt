@@ -1,3 +1,4 @@
+pub mod Command
 pub mod Next
 pub mod Plan
 pub mod Script

@@ -1,7 +1,6 @@
 -- The next starts of one rule, and the text that lists them.
-use Rattle.std.specs.Prelude.{◌≡◌, ℕ, Bool, ◌+◌, ◌≤◌, nat_lt, if◌then◌else◌, List, [], ◌++◌, length, take, codes, Option, Ok, Err}
+use Rattle.std.specs.Prelude.{◌≡◌, ℕ, ◌+◌, ◌≤◌, nat_lt, if◌then◌else◌, List, [], ◌++◌, length, take, codes, Ok, Err}
 use Rattle.std.specs.List.{flat_map}
-use Rattle.std.specs.Io.KnownBytes.{Appends, Keeps}
 use Rattle.plan_sets.specs.Limits.{end_second}
 use Rattle.plan_sets.specs.Moment.{moment_text_of}
 use Rattle.plan_rules.specs.declared.Rule.{Rule}
@@ -12,8 +11,7 @@ use Rattle.plan_next.specs.Starts.{starts}
 use Rattle.agenda_words.specs.declared.Asked.{Asked}
 use Rattle.agenda_words.specs.declared.Asked.TheVariants.{Cron, Event}
 use Rattle.agenda_faults.specs.declared.faults.RunFault.{RunFault}
-use Rattle.agenda_faults.specs.declared.faults.RunFault.TheVariants.{NoMemory, BadCount, Rule as BadRule, Device}
-use Rattle.plan_streams.specs.Stream.{BreaksOff}
+use Rattle.agenda_faults.specs.declared.faults.RunFault.TheVariants.{NoMemory, BadCount, Rule as BadRule}
 
 -- the line of a moment (own)
 abbrev pub moment_line : ℕ → List ℕ
@@ -42,21 +40,13 @@ abbrev pub IsCount : ℕ → Type 0
 IsCount count = (1 ≤ count) × (count ≤ most_starts)
 
 -- the text of next starts of the rule that was asked about
-abbrev pub IsAnswer : Asked → (after count : ℕ) → List ℕ → Type 0
-IsAnswer asked after count text =
+abbrev pub IsTextOfNext : Asked → (after count : ℕ) → List ℕ → Type 0
+IsTextOfNext asked after count text =
     IsCount count × ((rule : Rule) × (asked_reading asked ≡ Ok rule) × (text ≡ next_text rule after count))
 
--- that text was written
-abbrev pub WritesNext : Asked → (after count : ℕ) → (old new : Option (List ℕ)) → Type 0
-WritesNext asked after count old new =
-    (text : List ℕ) × IsAnswer asked after count text × Appends old new text
-
--- when each fault of `next` comes, and what was written: the count is looked at first, then the rule (own)
-abbrev pub RefusesNext : Bool → RunFault → Asked → (after count : ℕ) → (old new : Option (List ℕ)) → Type 0
-RefusesNext takes_all BadCount asked after count old new = (IsCount count → ⊥) × Keeps old new
-RefusesNext takes_all (BadRule fault) asked after count old new =
-    IsCount count × (asked_reading asked ≡ Err fault) × Keeps old new
-RefusesNext takes_all NoMemory asked after count old new = IsCount count × Keeps old new
-RefusesNext takes_all Device asked after count old new =
-    (text : List ℕ) × IsAnswer asked after count text × BreaksOff takes_all old new text
-RefusesNext takes_all other asked after count old new = ⊥
+-- when `next` is refused: the count is looked at first, then the rule (own)
+abbrev pub RefusesNext : Asked → ℕ → RunFault → Type 0
+RefusesNext asked count BadCount = IsCount count → ⊥
+RefusesNext asked count (BadRule fault) = IsCount count × (asked_reading asked ≡ Err fault)
+RefusesNext asked count NoMemory = IsCount count
+RefusesNext asked count other = ⊥

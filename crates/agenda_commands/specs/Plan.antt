@@ -1,12 +1,10 @@
 -- What a plan writes. All of it is own.
-use Rattle.std.specs.Prelude.{◌≡◌, ℕ, ◌<◌, ◌≤◌, Bool, true, false, List, length, Option, Ok, Err}
-use Rattle.std.specs.Io.KnownBytes.{Appends, Keeps}
+use Rattle.std.specs.Prelude.{◌≡◌, ⊤, ℕ, ◌<◌, ◌≤◌, true, false, List, length, Ok, Err}
 use Rattle.plan_rules.specs.Job.{JobParts}
 use Rattle.plan_mailbox.specs.Mailbox.{is_size}
 use Rattle.plan_collect.specs.Agenda.{agenda, planned, rules_of}
 use Rattle.plan_collect.specs.Limits.{is_limit}
 use Rattle.plan_collect.specs.Span.{Bounds}
-use Rattle.plan_streams.specs.Stream.{BreaksOff}
 use Rattle.plan_collect.specs.Texts.{agenda_text}
 use Rattle.plan_collect.specs.declared.CollectFault.TheVariants as collect
 use Rattle.plan_serial.specs.declared.PlanFault.{PlanFault}
@@ -16,7 +14,7 @@ use Rattle.agenda_sources.specs.Sources.{sources_reading}
 use Rattle.agenda_sources.specs.declared.Source.{Source}
 use Rattle.agenda_sources.specs.declared.SourceFault.{SourceFault}
 use Rattle.agenda_faults.specs.declared.faults.RunFault.{RunFault}
-use Rattle.agenda_faults.specs.declared.faults.RunFault.TheVariants.{NoMemory, Plan, Device}
+use Rattle.agenda_faults.specs.declared.faults.RunFault.TheVariants.{NoMemory, Plan}
 use Rattle.agenda_faults.specs.Faults.{fault_of_sources}
 
 -- what is printed for jobs: their agenda over the span, where the sizes and the limit are good ones, and it has no more entries
@@ -31,11 +29,6 @@ abbrev pub IsTextOfPlan : List Source → Bounds → Sizes → List ℕ → Type
 IsTextOfPlan sources span sizes text =
     (jobs : List JobParts) × (sources_reading sources ≡ Ok jobs) × IsTextFor jobs span sizes text
 
--- that text was written
-abbrev pub WritesPlan : List Source → Bounds → Sizes → (old new : Option (List ℕ)) → Type 0
-WritesPlan sources span sizes old new =
-    (text : List ℕ) × IsTextOfPlan sources span sizes text × Appends old new text
-
 -- when the agenda of jobs is refused: first for the sizes, then for the limit, then for its entries
 abbrev pub RefusesJobs : PlanFault → List JobParts → Bounds → Sizes → Type 0
 RefusesJobs plan.BadSize jobs span sizes = is_size sizes.planners sizes.room ≡ false
@@ -44,14 +37,10 @@ RefusesJobs (plan.Collect collect.TooMany) jobs span sizes =
     (is_size sizes.planners sizes.room ≡ true) × (is_limit sizes.limit ≡ true) × (sizes.limit < length (agenda (rules_of jobs) span))
 RefusesJobs other jobs span sizes = ⊥
 
--- when each fault of a plan comes, and what was written: the sources are read first, whose fault is that of the plan, then their jobs
--- are planned
-abbrev pub RefusesPlan : Bool → RunFault → List Source → Bounds → Sizes → (old new : Option (List ℕ)) → Type 0
-RefusesPlan takes_all NoMemory sources span sizes old new = Keeps old new
-RefusesPlan takes_all (Plan fault) sources span sizes old new =
+-- when a plan is refused: the sources are read first, whose fault is that of the plan, then their jobs are planned
+abbrev pub RefusesPlan : List Source → Bounds → Sizes → RunFault → Type 0
+RefusesPlan sources span sizes NoMemory = ⊤
+RefusesPlan sources span sizes (Plan fault) =
     (jobs : List JobParts) × (sources_reading sources ≡ Ok jobs) × RefusesJobs fault jobs span sizes
-    × Keeps old new
-RefusesPlan takes_all Device sources span sizes old new =
-    (text : List ℕ) × IsTextOfPlan sources span sizes text × BreaksOff takes_all old new text
-RefusesPlan takes_all fault sources span sizes old new =
-    (found : SourceFault) × (sources_reading sources ≡ Err found) × (fault ≡ fault_of_sources found) × Keeps old new
+RefusesPlan sources span sizes fault =
+    (found : SourceFault) × (sources_reading sources ≡ Err found) × (fault ≡ fault_of_sources found)

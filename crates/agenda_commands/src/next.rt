@@ -1,7 +1,8 @@
 //! The next starts of one rule.
 
 ghost use Rattle.std.specs.Prelude.{◌≡◌, IfOk, IfErr, OnOk};
-ghost use Rattle.agenda_commands.specs.Next.{next_text, WritesNext, RefusesNext, IsCount, asked_reading};
+ghost use Rattle.agenda_commands.specs.Command.{Fails, Writes};
+ghost use Rattle.agenda_commands.specs.Next.{next_text, IsTextOfNext, RefusesNext, IsCount, asked_reading};
 ghost use Rattle.plan_rules.specs.Readings.{Gives};
 
 use agenda_faults::RunFault;
@@ -27,10 +28,9 @@ pub fn run_next<S: Stream>(
     count: u64,
     out: &mut S,
 ) -> Result<(), RunFault>
-    ensures written { OnOk result
-        (WritesNext asked.now after count (S.holds out.old) (S.holds out.new)) }
-    ensures refused { IfErr result
-        (λ fault. RefusesNext S.takes_all fault asked.now after count (S.holds out.old) (S.holds out.new)) }
+    ensures written { OnOk result (Writes (IsTextOfNext asked.now after count) (S.holds out.old) (S.holds out.new)) }
+    ensures refused { IfErr result (λ fault. Fails S.takes_all (IsTextOfNext asked.now after count) (RefusesNext asked.now count) fault
+        (S.holds out.old) (S.holds out.new)) }
 
     // A bad count is found before anything else, and before memory is asked for.
     ensures bad_count { ¬ IsCount count → result ≡ Err RunFault.BadCount }

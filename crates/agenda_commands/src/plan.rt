@@ -3,7 +3,8 @@
 ghost use Rattle.std.specs.Prelude.{◌≡◌, IfErr, IfSome, OnOk};
 ghost use Rattle.agenda_sources.specs.AtOnce.{fault_at_once};
 ghost use Rattle.agenda_faults.specs.Faults.{fault_of_sources};
-ghost use Rattle.agenda_commands.specs.Plan.{RefusesPlan, WritesPlan};
+ghost use Rattle.agenda_commands.specs.Command.{Fails, Writes};
+ghost use Rattle.agenda_commands.specs.Plan.{IsTextOfPlan, RefusesPlan};
 
 use agenda_faults::RunFault;
 use agenda_sources::{Sources, jobs_of_sources};
@@ -30,10 +31,9 @@ pub fn run_plan<R: Threads + Wait + Sync, S: Stream>(
     sizes: Sizes,
     out: &mut S,
 ) -> Result<(), RunFault>
-    ensures written { OnOk result
-        (WritesPlan sources.now span sizes (S.holds out.old) (S.holds out.new)) }
-    ensures refused { IfErr result
-        (λ fault. RefusesPlan S.takes_all fault sources.now span sizes (S.holds out.old) (S.holds out.new)) }
+    ensures written { OnOk result (Writes (IsTextOfPlan sources.now span sizes) (S.holds out.old) (S.holds out.new)) }
+    ensures refused { IfErr result (λ fault. Fails S.takes_all (IsTextOfPlan sources.now span sizes) (RefusesPlan sources.now span sizes) fault
+        (S.holds out.old) (S.holds out.new)) }
 
     // These are found before any memory is asked for.
     ensures at_once { IfSome (fault_at_once sources.now) (λ fault. result ≡ Err (fault_of_sources fault)) }

@@ -5,7 +5,8 @@ ghost use Rattle.plan_mailbox.specs.History.{IsLawful, record_of};
 ghost use Rattle.plan_mailbox.specs.Lanes.{mailbox_of};
 ghost use Rattle.plan_mailbox.specs.Mailbox.{IsNew, senders_of};
 ghost use Rattle.plan_mailbox.specs.Reply.{RepliesInTurn};
-ghost use Rattle.agenda_commands.specs.Script.{RefusesScript, WritesRun};
+ghost use Rattle.agenda_commands.specs.Command.{Fails, Writes};
+ghost use Rattle.agenda_commands.specs.Script.{IsTextOfRun, RefusesRun};
 
 use agenda_faults::RunFault;
 use agenda_script::{Script, read_script, replies_text};
@@ -19,9 +20,9 @@ use std::alloc::Global;
 /// first fault of the script's bytes; `NoMemory` says that memory was refused. Nothing is written then. `Device` comes where
 /// the stream fails, which then took the first bytes of the text.
 pub fn run_script<S: Stream>(alloc: Global, script: &[u8], out: &mut S) -> Result<(), RunFault>
-    ensures written { OnOk result (WritesRun script.now (S.holds out.old) (S.holds out.new)) }
-    ensures refused { IfErr result
-        (λ fault. RefusesScript S.takes_all fault script.now (S.holds out.old) (S.holds out.new)) }
+    ensures written { OnOk result (Writes (IsTextOfRun script.now) (S.holds out.old) (S.holds out.new)) }
+    ensures refused { IfErr result (λ fault. Fails S.takes_all (IsTextOfRun script.now) (RefusesRun script.now) fault
+        (S.holds out.old) (S.holds out.new)) }
 {
     let Script { mut mailbox, steps } = read_script(alloc, script)?;
     let Ok(replies) = replies_to(alloc, &mut mailbox, steps) else {

@@ -1,8 +1,66 @@
-use Rattle.std.proofs.Common.{◌≡◌, Err, ap, sym, subst, ◌∙◌}
+-- Arm by arm: what was asked is what the arm says (`subst`), and it was done, or was not, and then its line was written
+-- (`command_answers`). Refused words are a failure by themselves.
+use Rattle.std.proofs.Common.{◌≡◌, [], Ok, Err, refl, ap, sym, subst, ◌∙◌}
+use Rattle.agenda_words.specs.declared.Ask.TheVariants.{Next, Plan, Steps}
 use Rattle.agenda_words.specs.declared.UsageFault.TheVariants as usage
 use Rattle.agenda_answers.specs.Answer.{Answers, Stream}
-use Rattle.agenda_answers.proofs.AnswerLemmas.{memory_answers, usage_answers}
+use Rattle.agenda_answers.proofs.AnswerLemmas.{command_answers, memory_answers, usage_answers}
 use Rattle.agenda_answers.proofs.answers.answer.Goals as goal
+
+pub returns-in-Ok-Next : goal.returns-in-Ok-Next
+returns-in-Ok-Next g c =
+    let held = g.F.Files.held c.args.files.now in
+    let out : Stream = record {
+      takes_all = g.O.Stream.takes_all;
+      old = g.O.Stream.holds c.args.out.now;
+      new = g.O.Stream.holds c.next.new.out;
+    } in
+    let err : Stream = record {
+      takes_all = g.E.Stream.takes_all;
+      old = g.E.Stream.holds c.args.err.now;
+      new = g.E.Stream.holds c.status_of.new.err;
+    } in
+    let ask = Next c.in-Ok-Next.after c.in-Ok-Next.count c.in-Ok-Next.rule in
+    let asked : c.args.asked ≡ Ok ask = c.in-Ok-Next.is ∙ ap Ok c.in-Ok-Next.field-0-is in
+    subst (λ a. Answers held a c.status_of.result out err) (sym asked)
+    (command_answers held (Ok ask) [] c.status_of.result out err c.next.result c.next.ensures.done c.next.ensures.failed refl
+    c.status_of.ensures.done c.status_of.ensures.failed)
+
+pub returns-in-Ok-Plan : goal.returns-in-Ok-Plan
+returns-in-Ok-Plan g c =
+    let held = g.F.Files.held c.args.files.now in
+    let out : Stream = record {
+      takes_all = g.O.Stream.takes_all;
+      old = g.O.Stream.holds c.args.out.now;
+      new = g.O.Stream.holds c.answer_plan.new.out;
+    } in
+    let err : Stream = record {
+      takes_all = g.E.Stream.takes_all;
+      old = g.E.Stream.holds c.args.err.now;
+      new = g.E.Stream.holds c.answer_plan.new.err;
+    } in
+    let ask = Plan c.in-Ok-Plan.since c.in-Ok-Plan.upto c.in-Ok-Plan.sources c.in-Ok-Plan.sizes in
+    let asked : c.args.asked ≡ Ok ask = c.in-Ok-Plan.is ∙ ap Ok c.in-Ok-Plan.field-0-is in
+    subst (λ a. Answers held a c.answer_plan.result out err) (sym asked) c.answer_plan.ensures
+
+pub returns-in-Ok-Steps : goal.returns-in-Ok-Steps
+returns-in-Ok-Steps g c =
+    let held = g.F.Files.held c.args.files.now in
+    let out : Stream = record {
+      takes_all = g.O.Stream.takes_all;
+      old = g.O.Stream.holds c.args.out.now;
+      new = g.O.Stream.holds c.steps.new.out;
+    } in
+    let err : Stream = record {
+      takes_all = g.E.Stream.takes_all;
+      old = g.E.Stream.holds c.args.err.now;
+      new = g.E.Stream.holds c.status_of-in-Ok-Steps.new.err;
+    } in
+    let ask = Steps c.in-Ok-Steps.file in
+    let asked : c.args.asked ≡ Ok ask = c.in-Ok-Steps.is ∙ ap Ok c.in-Ok-Steps.field-0-is in
+    subst (λ a. Answers held a c.status_of-in-Ok-Steps.result out err) (sym asked)
+    (command_answers held (Ok ask) [] c.status_of-in-Ok-Steps.result out err c.steps.result c.steps.ensures.done c.steps.ensures.failed
+    refl c.status_of-in-Ok-Steps.ensures.done c.status_of-in-Ok-Steps.ensures.failed)
 
 pub returns-in-Err-Usage : goal.returns-in-Err-Usage
 returns-in-Err-Usage g c =

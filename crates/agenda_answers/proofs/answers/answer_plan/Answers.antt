@@ -1,5 +1,6 @@
-use Rattle.agenda_answers.specs.Answer.{Stream}
-use Rattle.agenda_answers.proofs.AnswerLemmas.{plan_answers}
+use Rattle.std.proofs.Common.{Ok}
+use Rattle.agenda_answers.specs.Answer.{Stream, asked_plan}
+use Rattle.agenda_answers.proofs.AnswerLemmas.{command_answers}
 use Rattle.agenda_answers.proofs.answers.answer_plan.Goals as goal
 
 pub returns : goal.returns
@@ -15,6 +16,5 @@ returns g c =
       old = g.E.Stream.holds c.args.err.now;
       new = g.E.Stream.holds c.status_of.new.err;
     } in
-    plan_answers held c.args.wanted.now c.as_slice.result.now c.status_of.result out err c.plan-done.result c.plan-done.ensures.done
-    c.plan-done.ensures.failed
-    c.as_slice.ensures c.status_of.ensures.done c.status_of.ensures.failed
+    command_answers held (Ok (asked_plan c.args.wanted.now)) c.as_slice.result.now c.status_of.result out err c.plan-done.result
+    c.plan-done.ensures.done c.plan-done.ensures.failed c.as_slice.ensures c.status_of.ensures.done c.status_of.ensures.failed

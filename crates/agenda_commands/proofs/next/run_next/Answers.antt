@@ -2,7 +2,8 @@ use Rattle.std.proofs.Common.{subst, arith}
 use Rattle.std.specs.Io.KnownBytes.{Appends}
 use Rattle.agenda_faults.specs.declared.faults.RunFault.TheVariants.{Device}
 use Rattle.plan_streams.specs.Stream.{BreaksOff}
-use Rattle.agenda_commands.specs.Next.{RefusesNext, IsCount}
+use Rattle.agenda_commands.specs.Command.{Fails}
+use Rattle.agenda_commands.specs.Next.{IsTextOfNext, RefusesNext, IsCount}
 use Rattle.agenda_commands.proofs.NextLemmas.{refused_as}
 use Rattle.agenda_commands.proofs.next.run_next.Goals as goal
 
@@ -15,7 +16,8 @@ returns-in_err-put-clause-refused g c =
     let part : BreaksOff g.S.Stream.takes_all old new text = subst (BreaksOff g.S.Stream.takes_all old new) c.as_slice.ensures.value
     c.in_err-put.ensures in
     refused_as c.from_residual-in_err-put.result Device
-    (λ fault. RefusesNext g.S.Stream.takes_all fault c.args.asked.now c.args.after c.args.count old new)
+    (λ fault. Fails g.S.Stream.takes_all (IsTextOfNext c.args.asked.now c.args.after c.args.count)
+    (RefusesNext c.args.asked.now c.args.count) fault old new)
     c.from_residual-in_err-put.ensures.1
     (text, (many, (c.in_ok-rule.rule, c.in_ok-rule.ensures, c.in_ok-text.ensures)), part)
 
