@@ -1,0 +1,65 @@
+# How Debian's cron reads a rule that agenda refuses, in words that agenda takes: as_read(text, way). Nothing is known that agenda
+# takes and cron refuses, which is the other way. What was changed is noted, each change by
+# the name that it has in docs/DIFFERENCES.md, with the causes by which agenda refuses it.
+
+function value(word, at) {
+  at = index("janfebmaraprmayjunjulaugsepoctnovdec", tolower(word))
+  if (word ~ /^[A-Za-z]/ && length(word) == 3 && at % 3 == 1) return (at + 2) / 3
+  at = index("sunmontuewedthufrisat", tolower(word))
+  if (word ~ /^[A-Za-z]/ && length(word) == 3 && at % 3 == 1) return (at - 1) / 3
+  return word + 0
+}
+
+# A number of more than 4 digits is what is left of it in 32 bits.
+function short_number(word, n) {
+  if (word !~ /^[0-9][0-9][0-9][0-9][0-9]+$/) return word
+  note("numbers over 4 digits", "BadNumber")
+  n = word % 4294967296
+  return n > 9999 ? 9999 : n
+}
+
+# An element, which is nothing where it is a range backwards.
+function element_as_read(element, at, step, ends) {
+  if (at = index(element, "/")) {
+    step = "/" short_number(substr(element, at + 1))
+    element = substr(element, 1, at - 1)
+  }
+  if (split(element, ends, "-") < 2) return short_number(element) step
+  ends[1] = short_number(ends[1])
+  ends[2] = short_number(ends[2])
+  if (value(ends[1]) <= value(ends[2])) return ends[1] "-" ends[2] step
+  note("ranges backwards", "Backwards")
+  return ""
+}
+
+# A field: the elements up to what cron passes over, which is all that stands behind a whole element, where that is no comma. A day field
+# stays restricted where it was: then `all` stands in the place of a `*` that comes first by what was left out.
+function field_as_read(field, all, first, kept, element) {
+  first = substr(field, 1, 1)
+  while (match(field, /^([*]|[0-9A-Za-z]+-[0-9A-Za-z]+)(\/[0-9]+)?|^[0-9A-Za-z]+/)) {
+    element = substr(field, 1, RLENGTH)
+    field = substr(field, RLENGTH + 1)
+    element = element_as_read(element)
+    if (element != "") kept = kept (kept == "" ? "" : ",") element
+    if (substr(field, 1, 1) != ",") break
+    field = substr(field, 2)
+  }
+  if (field != "") note("text behind an element", "BadNumber BadName")
+  if (first != "*") sub(/^[*]/, all, kept)
+  return kept
+}
+
+function as_read(text, way, words, n, at) {
+  if (way == "witness") return text
+  gsub(/^[ \t]+|[ \t]+$/, "", text)
+  n = split(text, words, /[ \t]+/)
+  if (n > (text ~ /^@/ ? 1 : 5)) note("further words", text ~ /^@/ ? "UnknownWord" : "WrongParts")
+  if (text ~ /^@/) return words[1]
+  if (n < 5) return text
+  for (at = 1; at <= 5; at++) words[at] = field_as_read(words[at], at == 3 ? "1-31" : at == 5 ? "0-7" : "*")
+  # a day field that no day matches leaves the other one, where that is restricted
+  if (words[3] == "" && words[5] !~ /^[*]/ && words[5] != "") words[3] = "*"
+  else if (words[5] == "" && words[3] !~ /^[*]/ && words[3] != "") words[5] = "*"
+  for (at = 1; at <= 5; at++) if (words[at] == "") return "0 0 31 2 *"
+  return words[1] " " words[2] " " words[3] " " words[4] " " words[5]
+}

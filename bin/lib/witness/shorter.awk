@@ -1,0 +1,15 @@
+# Makes texts that are shorter than that of each line: without a run of characters that begins and ends at a mark, or with a `*` for it,
+# and without one character. The longest runs come first.
+function is_edge(at) { return at == 0 || at == length($0) || substr($0, at, 1) ~ mark || substr($0, at + 1, 1) ~ mark }
+
+BEGIN { mark = "[^0-9A-Za-z]" }
+
+{
+  for (less = length($0); less > 0; less--) {
+    for (at = 0; at + less <= length($0); at++) {
+      if (less > 1 && !(is_edge(at) && is_edge(at + less))) continue
+      print substr($0, 1, at) substr($0, at + less + 1)
+      if (less > 1 && substr($0, at + 1, less) !~ /[ \t:~]/) print substr($0, 1, at) "*" substr($0, at + less + 1)
+    }
+  }
+}
