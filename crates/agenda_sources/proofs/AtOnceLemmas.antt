@@ -19,24 +19,23 @@ none_found x (Some fault) is = absurd cc
 
 -- a source's answer, where no source before it had a fault that is found at once
 pub source_found :
-    {A : Type 0} (sources : List Source) (index place : ℕ) (source : Source) (answer : Result A SourceFault) → index < length sources →
-    source ≡ get_or sources index source → place ≡ place_in source.kind (take index sources) →
-    (0 < index → fault_at_once sources ≡ None) → IsFound answer (source_at_once place source) → IsFound answer (fault_at_once sources)
-source_found [] index place source answer within is at before found = tt
-source_found (first ∷ more) zero place source answer within is at before found =
-    subst (λ (s : Source). IsFound answer (source_at_once 0 s)) is
-    (subst (λ (n : ℕ). IsFound answer (source_at_once n source)) at found)
-source_found (first ∷ more) (suc index) place source answer within is at before found =
+    {A : Type 0} (sources : List Source) (index : ℕ) (source : Source) (answer : Result A SourceFault) → index < length sources →
+    source ≡ get_or sources index source → (0 < index → fault_at_once sources ≡ None) →
+    IsFound answer (source_at_once (place_in source.kind (take index sources)) source) → IsFound answer (fault_at_once sources)
+source_found [] index source answer within is before found = tt
+source_found (first ∷ more) zero source answer within is before found =
+    subst (λ (s : Source). IsFound answer (source_at_once 0 s)) is found
+source_found (first ∷ more) (suc index) source answer within is before found =
     let none : fault_at_once (first ∷ more) ≡ None = before (omega arith) in
     rw none tt
 
 -- so there is none where it was read
 pub none_so_far :
-    {A : Type 0} (x : A) (sources : List Source) (index place : ℕ) (source : Source) → index < length sources →
-    source ≡ get_or sources index source → place ≡ place_in source.kind (take index sources) →
-    (0 < index → fault_at_once sources ≡ None) → IsFound (Ok x) (source_at_once place source) → fault_at_once sources ≡ None
-none_so_far x sources index place source within is at before found =
-    none_found x (fault_at_once sources) (source_found sources index place source (Ok x) within is at before found)
+    {A : Type 0} (x : A) (sources : List Source) (index : ℕ) (source : Source) → index < length sources →
+    source ≡ get_or sources index source → (0 < index → fault_at_once sources ≡ None) →
+    IsFound (Ok x) (source_at_once (place_in source.kind (take index sources)) source) → fault_at_once sources ≡ None
+none_so_far x sources index source within is before found =
+    none_found x (fault_at_once sources) (source_found sources index source (Ok x) within is before found)
 
 -- a fault that is handed on
 pub handed_on :

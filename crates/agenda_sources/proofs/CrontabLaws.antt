@@ -1,7 +1,7 @@
 -- Crontabs at the front of a plan need no look at the names of their jobs: for the law `crontabs_need_no_look`.
 -- `all_new` goes through the jobs of a crontab, each of which has a new name (NameLemmas.antt), so that only their number is left to
 -- be looked at. CrontabNames.antt says that these names are new: to no job, and to the jobs of a user's crontab.
-use Rattle.std.proofs.Common.{◌≡◌, ℕ, ◌+◌, ◌≤◌, Bool, true, false, cond, nat_le, nat_lt, List, [], ◌∷◌, ◌++◌, length, Option, Some, None, Ok, Err, IfOk, refl, ap, sym, subst, ◌∙◌, arith, append_assoc, append-nil, length-append}
+use Rattle.std.proofs.Common.{◌≡◌, ℕ, ◌≤◌, Bool, true, false, cond, nat_le, nat_lt, List, [], ◌∷◌, ◌++◌, length, Option, Some, None, Ok, Err, IfOk, refl, ap, sym, subst, ◌∙◌, arith, append_assoc, append-nil, length-append}
 use Rattle.std.specs.List.{All}
 use Rattle.std.proofs.lemmas.Bool.Decides.{nat_tests}
 use Rattle.plan_texts.specs.Steps.{◌>>=◌}

@@ -1,6 +1,6 @@
 -- Sources that are read one after another: for the loop of `jobs_of_sources` and its `meaning`.
 -- What is left begins with the next source (`next_source`), so its jobs, or its fault, are those of the definition there.
-use Rattle.std.proofs.Common.{◌≡◌, ℕ, ◌+◌, ◌<◌, List, [], ◌∷◌, ◌++◌, length, get_or, take, drop, Ok, Err, refl, ap, sym, subst, ◌∙◌}
+use Rattle.std.proofs.Common.{◌≡◌, ℕ, ◌+◌, ◌<◌, List, [], ◌∷◌, ◌++◌, length, get_or, take, drop, Ok, Err, refl, ap, sym, ◌∙◌}
 use Rattle.std.proofs.lemmas.List.{take_more, drop_more}
 use Rattle.plan_texts.specs.Steps.{◌>>=◌}
 use Rattle.plan_rules.specs.Job.{JobParts}
@@ -27,21 +27,19 @@ next_source sources index source jobs within is =
 
 -- the source was read
 pub read_on :
-    (sources : List Source) (index place : ℕ) (source : Source) (jobs next : List JobParts) (whole : SourceReading (List JobParts)) →
-    index < length sources → source ≡ get_or sources index source → place ≡ place_in source.kind (take index sources) →
-    left sources index jobs ≡ whole → with_source place jobs source ≡ Ok next → left sources (index + 1) next ≡ whole
-read_on sources index place source jobs next whole within is at so_far read =
-    let here = subst (λ (n : ℕ). with_source n jobs source ≡ Ok next) at read in
-    sym (ap (λ (r : SourceReading (List JobParts)). r >>= λ next. left sources (index + 1) next) here) ∙
+    (sources : List Source) (index : ℕ) (source : Source) (jobs next : List JobParts) (whole : SourceReading (List JobParts)) →
+    index < length sources → source ≡ get_or sources index source → left sources index jobs ≡ whole →
+    with_source (place_in source.kind (take index sources)) jobs source ≡ Ok next → left sources (index + 1) next ≡ whole
+read_on sources index source jobs next whole within is so_far read =
+    sym (ap (λ (r : SourceReading (List JobParts)). r >>= λ next. left sources (index + 1) next) read) ∙
     sym (next_source sources index source jobs within is) ∙ so_far
 
 -- the source has a fault
 pub read_fault :
-    (sources : List Source) (index place : ℕ) (source : Source) (jobs : List JobParts) (fault : SourceFault)
+    (sources : List Source) (index : ℕ) (source : Source) (jobs : List JobParts) (fault : SourceFault)
     (whole : SourceReading (List JobParts)) →
-    index < length sources → source ≡ get_or sources index source → place ≡ place_in source.kind (take index sources) →
-    left sources index jobs ≡ whole → with_source place jobs source ≡ Err fault → whole ≡ Err fault
-read_fault sources index place source jobs fault whole within is at so_far read =
-    let here = subst (λ (n : ℕ). with_source n jobs source ≡ Err fault) at read in
+    index < length sources → source ≡ get_or sources index source → left sources index jobs ≡ whole →
+    with_source (place_in source.kind (take index sources)) jobs source ≡ Err fault → whole ≡ Err fault
+read_fault sources index source jobs fault whole within is so_far read =
     sym so_far ∙ next_source sources index source jobs within is ∙
-    ap (λ (r : SourceReading (List JobParts)). r >>= λ next. left sources (index + 1) next) here
+    ap (λ (r : SourceReading (List JobParts)). r >>= λ next. left sources (index + 1) next) read

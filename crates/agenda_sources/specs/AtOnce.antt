@@ -1,6 +1,6 @@
 -- The faults of sources that are found at once, before any memory is asked for: those of a timer's name, of the number of bytes and of
 -- bytes that are no UTF-8. All of it is own.
-use Rattle.std.specs.Prelude.{ℕ, List, [], ◌∷◌, Option, None, Some, option_map}
+use Rattle.std.specs.Prelude.{ℕ, List, [], ◌∷◌, Option, None, option_map}
 use Rattle.plan_rules.specs.LineFaults.{of_whole}
 use Rattle.agenda_sources.specs.declared.sources.Source.{Source}
 use Rattle.agenda_sources.specs.declared.fault.SourceFault.{SourceFault}

@@ -4,7 +4,6 @@ use Rattle.plan_rules.specs.declared.crontabs.Kind.{Kind}
 use Rattle.plan_rules.specs.declared.crontabs.Kind.TheVariants as whose
 use Rattle.plan_texts.specs.Steps.{◌>>=◌}
 use Rattle.plan_rules.specs.Limits.{most_jobs}
-use Rattle.plan_rules.specs.LineFaults.{TextReading}
 use Rattle.plan_rules.specs.Job.{JobParts}
 use Rattle.plan_rules.specs.Jobs.{number_of}
 use Rattle.plan_rules.specs.Crontab.{job_name, crontab_reading}

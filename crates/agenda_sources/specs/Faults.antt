@@ -4,7 +4,7 @@ use Rattle.plan_rules.specs.declared.line_fault.LineCause.TheVariants as cause
 use Rattle.plan_rules.specs.declared.line_fault.LineFault.{LineFault}
 use Rattle.plan_rules.specs.LineFaults.{TextReading}
 use Rattle.agenda_sources.specs.declared.fault.SourceFault.{SourceFault}
-use Rattle.agenda_sources.specs.declared.fault.SourceFault.TheVariants.{NoMemory, InCrontab, InSystem, InTimer}
+use Rattle.agenda_sources.specs.declared.fault.SourceFault.TheVariants.{InCrontab, InSystem, InTimer}
 
 -- what sources mean, or their first fault
 abbrev pub SourceReading : Type 0 → Type 0

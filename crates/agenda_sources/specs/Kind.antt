@@ -1,5 +1,5 @@
 -- The kinds of sources: one table of what stands for each of them, in the order in which a plan reads them. All of it is own.
-use Rattle.std.specs.Prelude.{ℕ, nat_eq, Bool, if◌then◌else◌, List, [], ◌∷◌, codes, Option, None, Some, is_none, Ok, Err}
+use Rattle.std.specs.Prelude.{ℕ, nat_eq, Bool, if◌then◌else◌, List, [], ◌∷◌, codes, Option, None, Some, is_none, Ok}
 use Rattle.std.specs.Str.{is_utf8}
 use Rattle.plan_texts.specs.Lines.{is_too_large}
 use Rattle.plan_texts.specs.Steps.{◌>>=◌}

@@ -4,8 +4,8 @@ ghost use Rattle.std.specs.Prelude.{◌≡◌, Err, IfSome, option_map};
 ghost use Rattle.plan_texts.specs.Steps.{GivesUnless};
 ghost use Rattle.plan_rules.specs.LineFaults.{of_whole, want_of_memory};
 ghost use Rattle.plan_rules.specs.Timer.{timer_reading};
-ghost use Rattle.agenda_sources.specs.Kind.{alone, cause_at_once, fault_in, is_kind, kinds, label_of, option_of, reading_of, row_of};
-ghost use Rattle.agenda_sources.specs.Kind.{is_many, timer_cause};
+ghost use Rattle.agenda_sources.specs.Kind.{alone, cause_at_once, fault_in, is_kind, is_many, kinds, label_of, option_of};
+ghost use Rattle.agenda_sources.specs.Kind.{reading_of, timer_cause};
 
 use crate::fault::SourceFault;
 use plan_rules::{Job, Kind, LineCause, LineFault, crontab, timer};
@@ -28,17 +28,6 @@ impl SourceKind {
         ensures { result ≡ kinds }
     {
         [SourceKind::Crontab, SourceKind::System, SourceKind::Timer]
-    }
-
-    // Its place among all kinds.
-    fn row(self) -> u8
-        ensures { result ≡ row_of self }
-    {
-        match self {
-            SourceKind::Crontab => 0,
-            SourceKind::System => 1,
-            SourceKind::Timer => 2,
-        }
     }
 
     /// The name of the option, or of the argument, that gives the path of a source.
@@ -75,7 +64,7 @@ impl SourceKind {
     pub fn is(self, other: SourceKind) -> bool
         ensures { result ≡ is_kind self other }
     {
-        self.row() == other.row()
+        self == other
     }
 
     // The jobs of a source of this kind, by its name and its bytes.

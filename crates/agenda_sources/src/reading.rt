@@ -30,62 +30,74 @@ pub fn jobs_of_sources(alloc: Global, sources: &Sources) -> Result<Jobs, SourceF
     let mut jobs = Jobs::new(alloc);
     let sources = sources.as_slice();
     for (index, source) in sources.iter().enumerate() {
-        let place = place_of(source.kind, &sources[..index]);
-        add_source(alloc, &mut jobs, place, source)?;
+        add_source(alloc, &mut jobs, &sources[..index], source)?;
     }
     Ok(jobs)
 }
 
-// The place of a source among those of its kind, by the sources before it.
-fn place_of(kind: SourceKind, before: &[Source]) -> usize
-    ensures { result ≡ place_in kind before.now }
-{
-    before.iter().filter(|source| source.kind.is(kind)).count()
-}
-
-// Adds the jobs of the source at a place among those of its kind.
+// Adds the jobs of the source that comes behind those before it.
 fn add_source(
     alloc: Global,
     jobs: &mut Jobs,
-    place: usize,
+    before: &[Source],
     source: &Source,
 ) -> Result<(), SourceFault>
     requires { length jobs.old ≤ most_jobs }
-    ensures meaning { GivesUnless SourceFault.NoMemory (λ _. jobs.new) result (with_source place jobs.old source.now) }
+    ensures meaning { GivesUnless SourceFault.NoMemory (λ _. jobs.new) result
+        (with_source (place_in source.now.kind before.now) jobs.old source.now) }
     ensures few { length jobs.new ≤ most_jobs }
-    ensures at_once { IfSome (source_at_once place source.now) (λ fault. result ≡ Err fault) }
+    ensures at_once { IfSome (source_at_once (place_in source.now.kind before.now) source.now) (λ fault. result ≡ Err fault) }
 {
     match source
         .kind
         .read(alloc, source.name.as_str(), source.bytes.as_slice())
     {
-        Ok(more) => add_all(jobs, place, more),
-        Err(fault) => Err(source.kind.fault(place, fault)),
+        Ok(more) => add_all(jobs, before, source.kind, more),
+        Err(fault) => Err(source.kind.fault(place_of(source.kind, before), fault)),
     }
 }
 
-// Adds the jobs that the source at a place among those of its kind has, in order.
-fn add_all(jobs: &mut Jobs, place: usize, more: Vec<Job>) -> Result<(), SourceFault>
+// Adds the jobs that a source of a kind has, in order.
+fn add_all(
+    jobs: &mut Jobs,
+    before: &[Source],
+    kind: SourceKind,
+    more: Vec<Job>,
+) -> Result<(), SourceFault>
     requires { length jobs.old ≤ most_jobs }
-    ensures meaning { GivesUnless SourceFault.NoMemory (λ _. jobs.new) result (with_jobs place jobs.old more.items) }
+    ensures meaning { GivesUnless SourceFault.NoMemory (λ _. jobs.new) result
+        (with_jobs (place_in kind before.now) jobs.old more.items) }
     ensures few { length jobs.new ≤ most_jobs }
 {
     for job in more {
-        add_job(jobs, place, job)?;
+        add_job(jobs, before, kind, job)?;
     }
     Ok(())
 }
 
-// Adds a job that the source at a place among those of its kind has.
-fn add_job(jobs: &mut Jobs, place: usize, job: Job) -> Result<(), SourceFault>
+// Adds a job that a source of a kind has.
+fn add_job(
+    jobs: &mut Jobs,
+    before: &[Source],
+    kind: SourceKind,
+    job: Job,
+) -> Result<(), SourceFault>
     requires { length jobs.old ≤ most_jobs }
-    ensures meaning { GivesUnless SourceFault.NoMemory (λ _. jobs.new) result (with_job place jobs.old job) }
+    ensures meaning { GivesUnless SourceFault.NoMemory (λ _. jobs.new) result
+        (with_job (place_in kind before.now) jobs.old job) }
     ensures few { length jobs.new ≤ most_jobs }
 {
     match jobs.add(job) {
         Ok(_) => Ok(()),
         Err(AddFault::NoMemory(_)) => Err(SourceFault::NoMemory),
-        Err(AddFault::SameName(_)) => Err(SourceFault::SameName(place)),
+        Err(AddFault::SameName(_)) => Err(SourceFault::SameName(place_of(kind, before))),
         Err(AddFault::Full(_)) => Err(SourceFault::Full),
     }
+}
+
+// The place of a source among those of its kind, by the sources before it: only a fault asks for it.
+fn place_of(kind: SourceKind, before: &[Source]) -> usize
+    ensures { result ≡ place_in kind before.now }
+{
+    before.iter().filter(|source| source.kind.is(kind)).count()
 }

@@ -3,7 +3,6 @@
 -- (`span`), so it lies there; `steps` carries that through each definition of a reading.
 use Rattle.std.proofs.Common.{◌≡◌, ℕ, ◌+◌, ◌-◌, ◌&&◌, Bool, true, false, cond, List, [], ◌∷◌, Option, Some, None, Result, Ok, Err, IfOk, IfSome, refl, arith, subst, sym, ◌∙◌}
 use Rattle.std.proofs.lemmas.Bool.Decides.{nat_tests}
-use Rattle.std.proofs.lemmas.List.Elements.{All-nil, All-cons}
 use Rattle.std.specs.Int.{IsInRange}
 use Rattle.std.specs.List.{list_any}
 use Rattle.plan_sets.specs.declared.item.Item.{Item}
@@ -25,7 +24,7 @@ use Rattle.plan_grammar.specs.declared.field.Field.TheVariants.{Minute, Hour, Mo
 use Rattle.plan_grammar.specs.declared.component.Component.TheVariants as component
 use Rattle.plan_grammar.specs.Cron.{lowest, highest, items_reading, field_reading, has_week_day, week_days_of, five_fields, at_word, found_reading, at_reading, rule_reading, cron_reading}
 use Rattle.plan_grammar.specs.Shape.{ShapeText, shape_reading}
-use Rattle.plan_grammar.specs.Event.{component_items, component_set, component_reading, first_place_fault, is_listed_place, places_reading, weekday_items, weekdays_reading, weekdays_if_given, day_component, event_of, spelled_out, zone_dropped, expression_of, is_unknown_word, lone_word, zoneless, words_reading, has_specifier, event_reading, event_rule_reading}
+use Rattle.plan_grammar.specs.Event.{component_items, component_set, component_reading, first_place_fault, is_listed_place, places_reading, weekday_items, weekdays_reading, weekdays_if_given, day_component, event_of, spelled_out, zone_dropped, expression_of, is_unknown_word, lone_word, zoneless, words_reading, has_specifier, event_reading}
 
 -- ---- readings
 
