@@ -14,6 +14,7 @@ use Rattle.plan_match.specs.Equal.{same_rule-Decides}
 use Rattle.plan_next.specs.Starts.{starts, passing}
 use Rattle.plan_next.specs.Piece.{Part}
 use Rattle.plan_collect.specs.declared.note.Note.TheVariants as note
+use Rattle.plan_rules.specs.Limits.{most_jobs}
 use Rattle.plan_collect.specs.Span.{Bounds}
 use Rattle.plan_collect.specs.Limits.{is_limit, is_size}
 use Rattle.plan_collect.specs.Agenda.{agenda}
@@ -39,9 +40,9 @@ pub Holds-begun :
     (rules : List Rule) (span : Bounds) (limit planners : ℕ) (covered : List ℕ) (ended : List Bool) (entries : List (ℕ × ℕ))
     (many first : ℕ) →
     covered ≡ replicate many first → many ≡ length rules → first ≡ span.since → ended ≡ replicate planners false →
-    is_size planners ≡ true → is_limit limit ≡ true → span.since ≤ span.upto → entries ≡ [] →
+    is_size planners ≡ true → is_limit limit ≡ true → span.since ≤ span.upto → length rules ≤ most_jobs → entries ≡ [] →
     Holds (record { rules = rules; span = span; limit = limit; covered = covered; ended = ended }) entries
-Holds-begun rules span limit planners covered ended entries many first all many_is first_is none_ended size limited ordered none =
+Holds-begun rules span limit planners covered ended entries many first all many_is first_is none_ended size limited ordered few none =
     let is : covered ≡ replicate (length rules) span.since = all ∙ (λ i. replicate (many_is i) (first_is i)) in
     let long : length covered ≡ length rules = ap length is ∙ length-replicate (length rules) span.since in
     let senders : length ended ≡ planners = ap length none_ended ∙ length-replicate planners false in
@@ -52,6 +53,7 @@ Holds-begun rules span limit planners covered ended entries many first all many_
       few = (let empty : length entries ≡ 0 = ap length none in omega arith);
       limit = limited;
       size = ap is_size senders ∙ size;
+      few_jobs = few;
       jobs = long;
       since = λ job lt. (let at_since = each job lt in omega arith);
       upto = λ job lt. (let at_since = each job lt in omega arith);
@@ -66,6 +68,16 @@ rule_of_some (Some own) rule h = ap Some ((same_rule-Decides own rule).0 h)
 pub known_rule :
     (rules : List Rule) (job : ℕ) (rule : Rule) → is_rule_of (slice_get rules job) rule ≡ true → slice_get rules job ≡ Some rule
 known_rule rules job rule is = rule_of_some (slice_get rules job) rule is
+
+-- and is covered to some second
+pub job_covered :
+    (view c : Collected) (entries : List (ℕ × ℕ)) (job : ℕ) (rule : Rule) → view ≡ c → Holds view entries →
+    is_rule_of (slice_get c.rules job) rule ≡ true → job < length view.covered
+job_covered view c entries job rule e holds is =
+    let there : job < length c.rules = slice_get_within c.rules job rule (known_rule c.rules job rule is) in
+    let many : length view.rules ≡ length c.rules = ap (λ (v : Collected). length v.rules) e in
+    let as_many : length view.covered ≡ length view.rules = holds.jobs in
+    omega arith
 
 -- what a piece that adjoins adds
 record Fits (c : Collected) (job : ℕ) (piece : Part) : Type 0 where
@@ -129,6 +141,7 @@ Holds-more c entries new job piece holds belongs adjoins room forward is =
           omega (arith, all, length-append entries (entries_of job added), length-entries_of job added));
       limit = holds.limit;
       size = holds.size;
+      few_jobs = holds.few_jobs;
       jobs = omega arith;
       since = λ k lt. elim (cases_eq k job) [
         | inl here ↦ (let is : slice_index (slice_set c.covered job piece.upto) k ≡ piece.upto = ap

@@ -7,3 +7,5 @@ pub mod StreamLemmas
 pub mod PiecesLemmas
 pub mod MergingLemmas
 pub mod TilingLemmas
+pub mod EntryLemmas
+pub mod StampLemmas

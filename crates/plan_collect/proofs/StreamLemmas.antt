@@ -1,13 +1,13 @@
 -- A text that is written piece by piece: for `put`, `put_all` and `write_agenda` of write.rt.
 -- `AppendsAllBut` cuts a text into what was written and what waits. A lemma takes it a step further, or makes a prefix of
 -- the whole text of it, for an error.
-use Rattle.std.proofs.Common.{◌≡◌, ℕ, ◌+◌, ◌-◌, ◌<◌, List, [], ◌∷◌, ◌++◌, length, take, drop, get_or, Option, Result, Ok, Err, OnErr, IsErr, Bool, is_ok, true, false, ap, sym, subst, ◌∙◌, arith, append_assoc, append-nil, length-append}
+use Rattle.std.proofs.Common.{◌≡◌, ℕ, ◌+◌, ◌<◌, List, [], ◌∷◌, ◌++◌, length, take, drop, get_or, Option, Result, Ok, Err, OnErr, IsErr, Bool, is_ok, true, false, ap, sym, subst, ◌∙◌, arith, append_assoc, append-nil, length-append}
 use Rattle.std.specs.List.{flat_map}
 use Rattle.std.proofs.Math.Seq.{take-append-add}
 use Rattle.std.proofs.lemmas.List.{take_more, take-append-drop, take-append-le}
 use Rattle.std.proofs.lemmas.Bool.{true≢false}
 use Rattle.std.proofs.lemmas.Grind.{flat_map-append}
-use Rattle.std.proofs.KnownBytes.{Appends-trans}
+use Rattle.std.proofs.KnownBytes.{Appends-nil, Appends-trans}
 use Rattle.std.specs.Io.KnownBytes.{Appends}
 use Rattle.plan_streams.specs.Stream.{AppendsPrefix, AppendsAllBut, BreaksOff, Puts, PutsAllBut}
 
@@ -28,6 +28,22 @@ pub puts_err :
     BreaksOff takes_all old new text → Puts takes_all r old new text
 puts_err takes_all (Ok x) old new text is off = absurd (let no : false ≡ true = is in cc)
 puts_err takes_all (Err e) old new text is off = off
+
+-- all of a text waits
+pub all_waits : (a : Option (List ℕ)) (text waiting : List ℕ) → text ≡ waiting → AppendsAllBut a a text waiting
+all_waits a text waiting is = record {
+  front = [];
+  all = is;
+  written = Appends-nil a;
+}
+
+-- texts that wait one behind the other are one text behind what waited
+pub line_waits :
+    (waiting stamp name tab what end : List ℕ) →
+    waiting ++ (stamp ++ (name ++ (tab ++ (what ++ end)))) ≡ ((((waiting ++ stamp) ++ name) ++ tab) ++ what) ++ end
+line_waits waiting stamp name tab what end =
+    sym (append_assoc (((waiting ++ stamp) ++ name) ++ tab) what end ∙ append_assoc ((waiting ++ stamp) ++ name) tab (what ++ end)
+    ∙ append_assoc (waiting ++ stamp) name (tab ++ (what ++ end)) ∙ append_assoc waiting stamp (name ++ (tab ++ (what ++ end))))
 
 -- what waited was written, and then some of a text
 prefix_after :

@@ -11,6 +11,7 @@ use Rattle.plan_collect.specs.declared.note.Note.{Note}
 use Rattle.plan_collect.specs.declared.note.Note.TheVariants.{Part, Last}
 use Rattle.plan_collect.specs.declared.collector.CollectFault.{CollectFault}
 use Rattle.plan_collect.specs.declared.collector.CollectFault.TheVariants.{NoMemory, Stranger, Gap, TooMany, AfterLast, Missing}
+use Rattle.plan_rules.specs.Limits.{most_jobs}
 use Rattle.plan_collect.specs.Span.{Bounds, bounds_code}
 use Rattle.plan_collect.specs.Limits.{is_limit, is_size}
 use Rattle.plan_collect.specs.Agenda.{Planned, planned}
@@ -129,6 +130,7 @@ pub record Holds (c : Collected) (entries : List (ℕ × ℕ)) : Type 0 where
   pub few : length entries ≤ c.limit
   pub limit : is_limit c.limit ≡ true
   pub size : is_size (length c.ended) ≡ true
+  pub few_jobs : length c.rules ≤ most_jobs
   pub jobs : length c.covered ≡ length c.rules
   pub since : (job : ℕ) → job < length c.covered → c.span.since ≤ slice_index c.covered job
   pub upto : (job : ℕ) → job < length c.covered → slice_index c.covered job ≤ c.span.upto

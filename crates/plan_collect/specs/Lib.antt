@@ -13,3 +13,5 @@ pub mod Tiling
 pub mod TilingLaws
 pub mod Merging
 pub mod Causes
+pub mod Entry
+pub mod Stamp

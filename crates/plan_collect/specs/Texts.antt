@@ -5,11 +5,14 @@ use Rattle.plan_sets.specs.Moment.{moment_text_of}
 use Rattle.plan_rules.specs.Job.{JobParts}
 use Rattle.plan_collect.specs.Agenda.{Planned}
 
--- the line of an entry (own): the moment, the job's name, what it runs
+-- the end of a line (own): a job's name, what it runs
+abbrev pub line_end : (name what : List ℕ) → List ℕ
+line_end name what = name ++ (codes "\t" ++ (what ++ codes "\n"))
+
+-- the line of an entry (own): the moment, and then these
 abbrev pub line_of : ℕ → Option JobParts → List ℕ
 line_of second None = []
-line_of second (Some job) =
-    moment_text_of second ++ (codes "\t" ++ (job.name ++ (codes "\t" ++ (job.what ++ codes "\n"))))
+line_of second (Some job) = moment_text_of second ++ (codes "\t" ++ line_end job.name job.what)
 
 -- the lines of entries, in order
 abbrev pub lines_of : List (ℕ × ℕ) → List JobParts → List ℕ

@@ -3,15 +3,16 @@
 ghost use Rattle.std.specs.Prelude.{◌≡◌, ◌≤◌, ◌↔◌, [], length, slice_get, IsTrue};
 ghost use Rattle.plan_collect.specs.Agenda.{IsInYears};
 
+use crate::entry::Entry;
 use crate::span::Span;
 use plan_sets::END_SECOND;
 use std::marker::Model;
 
-/// The starts of jobs in a span: pairs of a second and a job's number, ascending by second and then by job.
+/// The starts of jobs in a span: each a second and a job's number, ascending by second and then by job.
 #[derive(Debug, Drop)]
 pub struct Agenda {
     span: Span,
-    entries: Vec<(u64, u32)>,
+    entries: Vec<Entry>,
 }
 
 impl Model for Agenda {
@@ -28,7 +29,7 @@ impl Model for Agenda {
 
 impl Agenda {
     // The agenda of these entries, over a span.
-    pub(crate) fn new(span: Span, entries: Vec<(u64, u32)>) -> Agenda
+    pub(crate) fn new(span: Span, entries: Vec<Entry>) -> Agenda
         requires { IsInYears entries.items }
         ensures { result ≡ record { span = span; entries = entries.items } }
     {
@@ -70,11 +71,12 @@ impl Agenda {
     pub fn entry(&self, place: usize) -> Option<(u64, u32)>
         ensures { result ≡ slice_get self.now.entries place }
     {
-        self.entries.get(place).copied()
+        let entry = self.entries.get(place)?;
+        Some((entry.second(), entry.job()))
     }
 
     // The entries, in order.
-    pub(crate) fn entries(&self) -> &[(u64, u32)]
+    pub(crate) fn entries(&self) -> &[Entry]
         ensures entries { result.now ≡ self.now.entries }
         ensures years { IsInYears self.now.entries }
     {

@@ -1,14 +1,18 @@
 //! The collector: it checks what planners send, keeps the starts, and makes the agenda of them.
 
-ghost use Rattle.std.specs.Prelude.{◌≡◌, ◌≢◌, ℕ, ◌+◌, ◌%◌, ◌<◌, ◌≤◌, ◌↔◌, [], ◌++◌, Bool, true, false, ◌&&◌, ◌==◌, nat_lt, nat_le, length, map, slice_get, slice_index, slice_set, IfOk, IfErr, IsOk, OnOk, OnErr};
+ghost use Rattle.std.specs.Prelude.{◌≡◌, ◌≢◌, ℕ, ◌+◌, ◌%◌, ◌<◌, ◌≤◌, ◌↔◌, [], ◌++◌, Bool, true, false, ◌&&◌, ◌==◌, nat_lt, nat_le, IsTrue, length, map, slice_get, slice_index, slice_set, IfOk, IfErr, IsOk, OnOk, OnErr};
 ghost use Rattle.std.specs.Arc.{arc_value};
 ghost use Rattle.std.specs.List.{list_all};
+ghost use Rattle.plan_sets.specs.Limits.{end_second};
 ghost use Rattle.plan_next.specs.Starts.{starts};
+ghost use Rattle.plan_rules.specs.Limits.{most_jobs};
+ghost use Rattle.plan_collect.specs.Entry.{job_numbers};
 ghost use Rattle.plan_collect.specs.Agenda.{agenda, rules_of, IsOfJobs};
 ghost use Rattle.plan_collect.specs.Limits.{is_limit, is_size};
 ghost use Rattle.plan_collect.specs.Collecting.{begun, is_rule_of, belongs, has_ended, adjoins, has_room, refusal, AddsNothing, Answers, after, finished, is_complete};
 
 use crate::agenda::Agenda;
+use crate::entry::Entry;
 use crate::note::Note;
 use crate::span::Span;
 use plan_match::Rule;
@@ -109,7 +113,7 @@ pub struct Collector {
     limit: u64,
     covered: Vec<u64>,
     ended: Vec<bool>,
-    entries: Vec<(u64, u32)>,
+    entries: Vec<Entry>,
 }
 
 impl Model for Collector {
@@ -338,7 +342,8 @@ impl Collector {
 
 // The rules of jobs, in their order.
 fn rules_in(alloc: Global, jobs: &Jobs) -> Result<Vec<Arc<Rule>>, AllocError>
-    ensures { IfOk result (λ rules. map (λ rule. arc_value rule) rules.items ≡ rules_of jobs.now) }
+    ensures rules { IfOk result (λ rules. map (λ rule. arc_value rule) rules.items ≡ rules_of jobs.now) }
+    ensures few { IfOk result (λ rules. length rules.items ≤ most_jobs) }
 {
     let mut rules = Vec::with_capacity(alloc, jobs.len())?;
     for number in 0..jobs.len() {
@@ -350,14 +355,16 @@ fn rules_in(alloc: Global, jobs: &Jobs) -> Result<Vec<Arc<Rule>>, AllocError>
 }
 
 // Appends an entry for each start of a job. Where memory is refused, which comes first, nothing is appended.
-fn append(entries: &mut Vec<(u64, u32)>, job: u32, starts: &[u64]) -> Result<(), AllocError>
+fn append(entries: &mut Vec<Entry>, job: u32, starts: &[u64]) -> Result<(), AllocError>
+    requires job { job < job_numbers }
+    requires years { IsTrue (list_all (λ second. nat_lt second end_second) starts.now) }
     ensures all { OnOk result (entries.new.items ≡ entries.old.items ++ map (λ second. (second, job)) starts.now) }
     ensures none { OnErr result (entries.new.items ≡ entries.old.items) }
     ensures spared { starts.now ≡ [] → IsOk result }
 {
     entries.reserve(starts.len())?;
     for start in starts {
-        let Ok(()) = entries.push((*start, job)) else {
+        let Ok(()) = entries.push(Entry::new(*start, job)) else {
             unreachable!()
         };
     }

@@ -6,11 +6,14 @@
 #![tactic(auto)]
 
 mod agenda;
+mod buffer;
 mod collector;
+mod entry;
 mod merging;
 mod note;
 mod sizes;
 mod span;
+mod stamp;
 mod write;
 
 pub use agenda::Agenda;

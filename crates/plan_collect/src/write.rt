@@ -4,17 +4,16 @@ ghost use Rattle.std.specs.Prelude.{◌≡◌, ◌≤◌, ◌++◌, length, slic
 ghost use Rattle.std.specs.List.{flat_map};
 ghost use Rattle.plan_collect.specs.Agenda.{IsOfJobs};
 ghost use Rattle.plan_streams.specs.Stream.{Puts, PutsAllBut};
-ghost use Rattle.plan_collect.specs.Texts.{agenda_text, header_of, line_of};
+ghost use Rattle.plan_collect.specs.Texts.{agenda_text, header_of, line_end, line_of};
 
 use crate::agenda::Agenda;
-use arrayvec::ArrayVec;
-use itoa::Buffer;
+use crate::buffer::Buffer;
+use crate::entry::Entry;
+use crate::stamp::Stamp;
+use itoa::Buffer as Digits;
 use plan_rules::Jobs;
 use plan_sets::{END_SECOND, moment_text};
 use plan_streams::{Stream, WriteFault};
-
-// How many bytes wait at most until they are written together.
-const MOST_WAITING: usize = 8_192;
 
 /// Writes the text of an agenda of these jobs. Its first line is `agenda 2`, the moments with which its span begins and before
 /// which it ends, and how many entries it has; then comes a line for each entry: the moment, the job's name, what it runs. Between
@@ -25,11 +24,12 @@ pub fn write_agenda<S: Stream>(agenda: &Agenda, jobs: &Jobs, out: &mut S) -> Res
     requires { IsOfJobs (length jobs.now) agenda.now.entries }
     ensures { Puts S.takes_all result (S.holds out.old) (S.holds out.new) (agenda_text agenda.now jobs.now) }
 {
-    let mut waiting = ArrayVec::<u8, MOST_WAITING>::new();
+    let mut waiting = Buffer::new();
     put_header(agenda, &mut waiting, out)?;
+    let mut stamp = Stamp::new(0);
     let entries = agenda.entries();
     for entry in entries {
-        put_line(entry.0, entry.1, jobs, &mut waiting, out)?;
+        put_line(*entry, jobs, &mut stamp, &mut waiting, out)?;
     }
     out.put(waiting.as_slice())
 }
@@ -37,15 +37,15 @@ pub fn write_agenda<S: Stream>(agenda: &Agenda, jobs: &Jobs, out: &mut S) -> Res
 // Puts the first line of an agenda behind what waits.
 fn put_header<S: Stream>(
     agenda: &Agenda,
-    waiting: &mut ArrayVec<u8, MOST_WAITING>,
+    waiting: &mut Buffer,
     out: &mut S,
 ) -> Result<(), WriteFault>
     ensures { PutsAllBut S.takes_all result (S.holds out.old) (S.holds out.new)
-        (waiting.old.items ++ header_of agenda.now) waiting.new.items }
+        (waiting.old ++ header_of agenda.now) waiting.new }
 {
     let upto = moment_text(agenda.upto());
     let since = moment_text(agenda.since());
-    let mut digits = Buffer::new();
+    let mut digits = Digits::new();
     let count = digits.format(agenda.len()).as_bytes();
     put_all(
         &[b"agenda 2\t", &since, b"\t", &upto, b"\t", count, b"\n"],
@@ -54,35 +54,60 @@ fn put_header<S: Stream>(
     )
 }
 
-// Puts the line of an entry behind what waits: of a second, and a job's number.
+// Puts the line of an entry behind what waits.
 fn put_line<S: Stream>(
-    second: u64,
-    job: u32,
+    entry: Entry,
     jobs: &Jobs,
-    waiting: &mut ArrayVec<u8, MOST_WAITING>,
+    stamp: &mut Stamp,
+    waiting: &mut Buffer,
     out: &mut S,
 ) -> Result<(), WriteFault>
-    requires { second ≤ END_SECOND }
+    requires { entry.0 ≤ END_SECOND }
     ensures { PutsAllBut S.takes_all result (S.holds out.old) (S.holds out.new)
-        (waiting.old.items ++ line_of second (slice_get jobs.now job)) waiting.new.items }
+        (waiting.old ++ line_of entry.0 (slice_get jobs.now entry.1)) waiting.new }
 {
-    let Some(job) = jobs.get(job as usize) else {
+    let Some(job) = jobs.get(entry.job() as usize) else {
         return Ok(());
     };
-    let moment = moment_text(second);
-    let name = job.name().as_bytes();
-    let what = job.what().as_bytes();
-    put_all(&[&moment, b"\t", name, b"\t", what, b"\n"], waiting, out)
+    stamp.show(entry.second());
+    put_parts(
+        stamp.text(),
+        job.name().as_bytes(),
+        job.what().as_bytes(),
+        waiting,
+        out,
+    )
+}
+
+// Puts the parts of a line behind what waits, the first of them with its tab: with one question for room, where there is enough.
+#[inline(always)]
+fn put_parts<S: Stream>(
+    stamp: &[u8; 21],
+    name: &[u8],
+    what: &[u8],
+    waiting: &mut Buffer,
+    out: &mut S,
+) -> Result<(), WriteFault>
+    ensures { PutsAllBut S.takes_all result (S.holds out.old) (S.holds out.new)
+        (waiting.old ++ (stamp.now ++ line_end name.now what.now)) waiting.new }
+{
+    let most = name.len().saturating_add(what.len()).saturating_add(23);
+    if !waiting.has_room(most) {
+        return put_all(&[stamp, name, b"\t", what, b"\n"], waiting, out);
+    }
+    waiting.append(stamp);
+    waiting.append(name);
+    waiting.append(b"\t");
+    waiting.append(what);
+    waiting.append(b"\n");
+    Ok(())
 }
 
 // Puts texts behind what waits, one after the other.
-fn put_all<S: Stream>(
-    texts: &[&[u8]],
-    waiting: &mut ArrayVec<u8, MOST_WAITING>,
-    out: &mut S,
-) -> Result<(), WriteFault>
+#[cold]
+fn put_all<S: Stream>(texts: &[&[u8]], waiting: &mut Buffer, out: &mut S) -> Result<(), WriteFault>
     ensures { PutsAllBut S.takes_all result (S.holds out.old) (S.holds out.new)
-        (waiting.old.items ++ flat_map (λ text. text.now) texts.now) waiting.new.items }
+        (waiting.old ++ flat_map (λ text. text.now) texts.now) waiting.new }
 {
     for text in texts {
         put(text, waiting, out)?;
@@ -91,20 +116,18 @@ fn put_all<S: Stream>(
 }
 
 // Puts a text behind what waits. Where there is no room for it, what waits is written first.
-fn put<S: Stream>(
-    text: &[u8],
-    waiting: &mut ArrayVec<u8, MOST_WAITING>,
-    out: &mut S,
-) -> Result<(), WriteFault>
+fn put<S: Stream>(text: &[u8], waiting: &mut Buffer, out: &mut S) -> Result<(), WriteFault>
     ensures { PutsAllBut S.takes_all result (S.holds out.old) (S.holds out.new)
-        (waiting.old.items ++ text.now) waiting.new.items }
+        (waiting.old ++ text.now) waiting.new }
 {
-    if waiting.try_extend_from_slice(text).is_ok() {
+    if waiting.has_room(text.len()) {
+        waiting.append(text);
         return Ok(());
     }
     out.put_part(waiting.as_slice())?;
     waiting.clear();
-    if waiting.try_extend_from_slice(text).is_ok() {
+    if waiting.has_room(text.len()) {
+        waiting.append(text);
         return Ok(());
     }
     out.put_part(text)

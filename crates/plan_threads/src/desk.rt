@@ -8,6 +8,7 @@ ghost use Rattle.plan_collect.specs.Span.{Bounds};
 ghost use Rattle.plan_mailbox.specs.Ends.{inlet_of, receipt_of, NothingKnown};
 ghost use Rattle.plan_threads.specs.Gathering.{ArePlanners, Ends, IsAccounted, IsGathering, IsThreadFault, IsWhole, Steps, all_notes};
 
+use crate::pause::Pause;
 use crate::promise::Sending;
 use plan_collect::{Agenda, CollectFault, Collector, Note, accepts_every_merging};
 use plan_mailbox::{Inlet, Receipt, takes_what_outlets_sent};
@@ -15,7 +16,6 @@ use plan_serial::PlanFault;
 use std::sync::Wait;
 use std::sync::atomic::AtomicBool;
 use std::sync::atomic::Ordering::SeqCst;
-use std::thread;
 use std::thread::{PromisedHandle, Threads};
 
 /// The thread of a planner.
@@ -63,19 +63,22 @@ impl Desk {
         desk.finish(settled)
     }
 
-    // Takes notes until all these flags are up. While none waits it yields the processor.
+    // Takes notes until all these flags are up. While none waits it steps back.
     fn take_until<R: Wait>(&mut self, rt: &R, flags: &[AtomicBool])
         ensures gathers { (planners limit : ℕ) (rules : List Rule) (span : Bounds) →
             IsGathering planners limit rules span self.old.collector (inlet_of self.old.inlet) self.old.refused →
             IsGathering planners limit rules span self.new.collector (inlet_of self.new.inlet) self.new.refused }
         ensures rings { (inlet_of self.new.inlet).rings ≡ (inlet_of self.old.inlet).rings }
     {
+        let mut pause = Pause::new();
         for _ in rt.forever() {
             if flags.iter().all(|flag| flag.load(SeqCst)) {
                 return;
             }
-            if !self.take() {
-                thread::yield_now();
+            if self.take() {
+                pause.end();
+            } else {
+                pause.step_back(rt);
             }
         }
     }

@@ -6,6 +6,7 @@
 
 mod desk;
 mod gate;
+mod pause;
 mod planner;
 mod planning;
 mod promise;

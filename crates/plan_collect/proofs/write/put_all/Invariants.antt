@@ -7,4 +7,4 @@ use Rattle.plan_collect.proofs.write.put_all.Given as goal
 abbrev pub invariant-loop-text : goal.invariant-loop-text
 invariant-loop-text g l =
     AppendsAllBut (g.S.Stream.holds l.fn.out) (g.S.Stream.holds l.out)
-    (l.fn.waiting.items ++ flat_map (λ text. text.now) (take l.text-index l.texts)) l.waiting.items
+    (l.fn.waiting ++ flat_map (λ text. text.now) (take l.text-index l.texts)) l.waiting

@@ -7,4 +7,4 @@ use Rattle.plan_collect.proofs.write.write_agenda.Given as goal
 abbrev pub invariant-loop-entry : goal.invariant-loop-entry
 invariant-loop-entry g l =
     AppendsAllBut (g.S.Stream.holds l.fn.out) (g.S.Stream.holds l.out)
-    (header_of l.agenda ++ lines_of (take l.entry-index l.entries) l.jobs) l.waiting.items
+    (header_of l.agenda ++ lines_of (take l.entry-index l.entries) l.jobs) l.waiting

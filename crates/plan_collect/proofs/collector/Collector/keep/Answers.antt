@@ -1,5 +1,7 @@
+use Rattle.std.proofs.Common.{arith}
 use Rattle.plan_collect.specs.contracts.collector.Collector.{the_view}
-use Rattle.plan_collect.proofs.HoldsLemmas.{Holds-kept}
+use Rattle.plan_collect.proofs.EntryLemmas.{starts-in_years}
+use Rattle.plan_collect.proofs.HoldsLemmas.{Holds-kept, job_covered}
 use Rattle.plan_collect.proofs.collector.Collector.keep.Goals as goal
 
 pub invariant_of-self-2 : goal.invariant_of-self-2
@@ -8,3 +10,13 @@ invariant_of-self-2 c =
     c.args.piece.now c.starts.result.now c.upto.result
     c.self.view_is c.self.invariant c.requires.known c.requires.adjoins c.requires.room c.starts.ensures c.upto.ensures.value
     c.upto.ensures.ordered c.in_ok-append.ensures.all
+
+pub append-requires-clause-years : goal.append-requires-clause-years
+append-requires-clause-years c =
+    rw c.starts.ensures (starts-in_years c.args.piece.now.rule c.args.piece.now.since c.args.piece.now.upto)
+
+pub index_mut-requires : goal.index_mut-requires
+index_mut-requires c =
+    let there = job_covered (the_view c.self.inside) c.args.self.now c.self.inside.entries.items c.args.job c.args.piece.now.rule
+    c.self.view_is c.self.invariant c.requires.known in
+    omega (arith, there, c.self.inside.covered.ok.0)

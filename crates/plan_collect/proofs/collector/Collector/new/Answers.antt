@@ -1,5 +1,6 @@
 -- A new collector holds nothing.
-use Rattle.std.proofs.Common.{rules, sym, ◌∙◌}
+use Rattle.std.proofs.Common.{arith, rules, sym, ◌∙◌}
+use Rattle.std.specs.Arc.{arc_value}
 use Rattle.std.proofs.lemmas.Bool.{and_from, le-leb}
 use Rattle.std.proofs.lemmas.List.{length-map}
 use Rattle.plan_collect.proofs.HoldsLemmas.{Holds-begun}
@@ -16,4 +17,5 @@ invariant_of-result c =
     (and_from _ _ (le-leb _ _ c.if-planners-lt1.false) (le-leb _ _ c.if-planners-gt-MOST_PLANNERS.false))
     (and_from _ _ (le-leb _ _ c.if-limit-lt1.false) (le-leb _ _ c.if-limit-gt-MOST_ENTRIES.false))
     (search rules)
+    (omega (arith, c.in_ok-rules.ensures.few, length-map c.in_ok-rules.rules.items (λ rule. arc_value rule)))
     c.new.ensures.items

@@ -1,0 +1,59 @@
+-- Entries are told apart, and ordered, by their numbers: for `Entry` of entry.rt.
+-- The second is the number's quotient by the most jobs, and the job its remainder, so the one with the greater quotient is the
+-- greater number, and where the quotients are one the remainders decide. A piece's starts have room in entries, as each is of the
+-- planner's years.
+use Rattle.std.proofs.Common.{◌≡◌, ℕ, ◌-◌, ◌/◌, ◌%◌, ◌<◌, Bool, true, false, cond, ◌&&◌, List, [], ◌∷◌, filter, refl, arith}
+use Rattle.std.specs.Prelude.{nat_lt, IsTrue}
+use Rattle.std.specs.List.{list_all, range_with_len}
+use Rattle.std.proofs.lemmas.Bool.{and_from}
+use Rattle.std.specs.Cmp.{ranks, nat_cmp_is}
+use Rattle.std.specs.Ordering.{MatchOrdering, nat_cmp, ordering_then}
+use Rattle.std.specs.declared.cmp.Ordering.{Ordering}
+use Rattle.std.specs.declared.cmp.Ordering.TheVariants.{Less, Equal, Greater}
+use Rattle.plan_sets.specs.Limits.{end_second}
+use Rattle.plan_sets.specs.Civil.{civil_fields}
+use Rattle.plan_match.specs.declared.rule.Rule.{Rule}
+use Rattle.plan_match.specs.Match.{rule_matches}
+use Rattle.plan_next.specs.Starts.{is_start, passing, starts}
+use Rattle.plan_collect.specs.Entry.{job_numbers}
+
+-- what is so of a number's parts is so of the number
+step :
+    (a b : Ordering) (n m : ℕ) → MatchOrdering a (n / job_numbers < m / job_numbers) (n / job_numbers ≡ m / job_numbers)
+    (m / job_numbers < n / job_numbers) → MatchOrdering b (n % job_numbers < m % job_numbers) (n % job_numbers ≡ m % job_numbers)
+    (m % job_numbers < n % job_numbers) → MatchOrdering (ordering_then a b) (n < m) (n ≡ m) (m < n)
+step Less b n m first second = omega arith
+step Greater b n m first second = omega arith
+step Equal Less n m first second = omega arith
+step Equal Equal n m first second = omega arith
+step Equal Greater n m first second = omega arith
+
+-- entries are ordered as their numbers are
+pub same_order :
+    (n m : ℕ) → ordering_then (nat_cmp (n / job_numbers) (m / job_numbers)) (nat_cmp (n % job_numbers) (m % job_numbers)) ≡ nat_cmp n m
+same_order n m =
+    nat_cmp_is n m (ordering_then (nat_cmp (n / job_numbers) (m / job_numbers)) (nat_cmp (n % job_numbers) (m % job_numbers)))
+    (step (nat_cmp (n / job_numbers) (m / job_numbers)) (nat_cmp (n % job_numbers) (m % job_numbers)) n m
+    (ranks (n / job_numbers) (m / job_numbers)) (ranks (n % job_numbers) (m % job_numbers)))
+
+-- seconds of the planner's years
+abbrev pub AreInYears : List ℕ → Type 0
+AreInYears seconds = IsTrue (list_all (λ second. nat_lt second end_second) seconds)
+
+one_in_years :
+    (inside passes : Bool) (n : ℕ) (rest : List ℕ) → nat_lt n end_second ≡ inside → AreInYears rest →
+    AreInYears (cond (inside && passes) (n ∷ rest) rest)
+one_in_years true true n rest is all = and_from (nat_lt n end_second) (list_all (λ second. nat_lt second end_second) rest) is all
+one_in_years true false n rest is all = all
+one_in_years false passes n rest is all = all
+
+all_in_years : (rule : Rule) (seconds : List ℕ) → AreInYears (filter (is_start rule) seconds)
+all_in_years rule [] = refl
+all_in_years rule (n ∷ seconds) =
+    one_in_years (nat_lt n end_second) (rule_matches rule (civil_fields n)) n (filter (is_start rule) seconds) refl
+    (all_in_years rule seconds)
+
+-- the starts of a rule
+pub starts-in_years : (rule : Rule) (a b : ℕ) → AreInYears (starts rule a b)
+unfolding passing
+starts-in_years rule a b = all_in_years rule (range_with_len a (b - a))

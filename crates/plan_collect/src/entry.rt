@@ -1,0 +1,101 @@
+//! Entries of an agenda: which second, and which job.
+
+ghost use Rattle.std.specs.Prelude.{◌≡◌, ◌<◌, ◌&&◌, nat_eq};
+ghost use Rattle.std.specs.Cmp.{partial_order_from_own_ties};
+ghost use Rattle.std.specs.Cmp.Rules.{comparing};
+ghost use Rattle.std.specs.Ordering.{as_partial_cmp, nat_cmp, ordering_then};
+ghost use Rattle.std.proofs.Common.{refl, rules};
+ghost use Rattle.plan_sets.specs.Limits.{end_second};
+ghost use Rattle.plan_collect.specs.Entry.{job_numbers};
+
+use std::cmp::Ordering;
+use std::marker::Model;
+
+// Job numbers are below this.
+const JOB_NUMBERS: u64 = 1_048_576;
+
+/// A second, and the number of the job that starts then. Entries are ordered by second and then by job.
+///
+/// Both stand in one number, the second in front, so that an entry takes 8 bytes and two of them are compared at once.
+#[derive(Clone, Copy, Debug)]
+pub(crate) struct Entry {
+    number: u64,
+}
+
+impl Model for Entry {
+    ghost use Rattle.std.specs.Prelude.{ℕ};
+    ghost use Rattle.plan_collect.specs.Entry.{entry_of, number_back, number_of};
+
+    ghost Value = { ℕ × ℕ };
+
+    ghost view = { λ entry. entry_of entry.number };
+
+    ghost inverse = { λ entry. record { number = number_of entry } };
+
+    ghost inverse_ok = { λ entry h i. record { number = number_back entry.number i } };
+}
+
+impl Entry {
+    /// The entry of a second and a job.
+    pub(crate) fn new(second: u64, job: u32) -> Entry
+        requires second { second < end_second }
+        requires job { job < job_numbers }
+        ensures { result ≡ (second, job) }
+    {
+        Entry {
+            number: second * JOB_NUMBERS + u64::from(job),
+        }
+    }
+
+    /// The second.
+    pub(crate) fn second(self) -> u64
+        ensures { result ≡ self.0 }
+    {
+        self.number / JOB_NUMBERS
+    }
+
+    /// The job's number.
+    pub(crate) fn job(self) -> u32
+        ensures { result ≡ self.1 }
+    {
+        (self.number % JOB_NUMBERS) as u32
+    }
+}
+
+impl PartialEq for Entry {
+    ghost eq = { λ one other. nat_eq one.0 other.0 && nat_eq one.1 other.1 };
+
+    ghost laws = { Prim.search (comparing, rules) };
+
+    fn eq(&self, other: &Entry) -> bool {
+        self.number == other.number
+    }
+}
+
+impl Eq for Entry {
+    ghost laws = { Prim.search (comparing, rules) };
+}
+
+impl Ord for Entry {
+    ghost cmp = { λ one other. ordering_then (nat_cmp one.0 other.0) (nat_cmp one.1 other.1) };
+
+    ghost total = { Prim.search (comparing, rules) };
+
+    ghost matches_partial_cmp = { λ one other. refl };
+
+    ghost matches_eq = { Prim.search (comparing, rules) };
+
+    fn cmp(&self, other: &Entry) -> Ordering {
+        self.number.cmp(&other.number)
+    }
+}
+
+impl PartialOrd for Entry {
+    ghost partial_cmp = { as_partial_cmp (λ one other. ordering_then (nat_cmp one.0 other.0) (nat_cmp one.1 other.1)) };
+
+    ghost laws = { partial_order_from_own_ties (Prim.search (comparing, rules)) (Prim.search (comparing, rules)) };
+
+    fn partial_cmp(&self, other: &Entry) -> Option<Ordering> {
+        Some(self.cmp(other))
+    }
+}
