@@ -4,5 +4,6 @@ pub mod FirstLemmas
 pub mod ItemsLemmas
 pub mod MomentLemmas
 mod MomentRows
+pub mod RangeLemmas
 pub mod ValuesLemmas
 pub mod WordsLemmas

@@ -6,6 +6,7 @@ use Rattle.std.specs.Ordering.{nat_cmp}
 use Rattle.std.specs.FinSet as set
 use Rattle.std.proofs.lemmas.Bool.{cases_lt, cases_Bool, and_left, and_right}
 use Rattle.std.proofs.lemmas.Bool.Decides.{nat_tests}
+use Rattle.plan_sets.specs.Items.{is_within}
 use Rattle.plan_sets.specs.Limits.{set_span}
 use Rattle.plan_sets.specs.Values.{Values, has_value, is_among, no_values, values_at, with_value}
 use Rattle.plan_sets.specs.ValuesLaws.{same_values, base-values_where, has_value-no_values, has_value-values_where, has_value-with_value}
@@ -93,6 +94,31 @@ module _ (lo : ℕ) (test : ℕ → Bool) (s : Values) (is : values_at lo test �
           elim (cases_Bool (is_among lo set_span u)) [
             | inl among ↦ rw among (grind (arith, nat_tests))
             | inr apart ↦ rw apart (grind (arith, nat_tests))
+          ]
+
+  -- a test that the distances of a range more pass is for the set with the numbers of that range more
+  pub has_value-range_more :
+      (first last : ℕ) (more : ℕ → Bool) → lo ≤ first → first ≤ last → last < lo + set_span →
+      ((k : ℕ) → more k ≡ (test k || is_within (first - lo) (last - lo) k)) →
+      (v : ℕ) → has_value (values_at lo more) v ≡ (has_value s v || is_within first last v)
+  has_value-range_more first last more from forwards to added v =
+      has_value-values_where lo set_span (λ u. more (u - lo)) v
+      ∙ ap (λ b. is_among lo set_span v && b) (added (v - lo))
+      ∙ member (test (v - lo))
+      ∙ ap (λ b. b || is_within first last v) (sym (has_value-values_at v))
+    where
+      member :
+          (b : Bool) →
+          (is_among lo set_span v && (b || is_within (first - lo) (last - lo) (v - lo)))
+          ≡ ((is_among lo set_span v && b) || is_within first last v)
+      member b =
+          elim (cases_Bool (is_among lo set_span v)) [
+            | inl among ↦
+                let same : is_within (first - lo) (last - lo) (v - lo) ≡ is_within first last v = grind (arith, nat_tests) in
+                rw among (ap (λ t. b || t) same)
+            | inr apart ↦
+                let none : is_within first last v ≡ false = grind (arith, nat_tests) in
+                rw (apart, none) refl
           ]
 
 -- two such sets with one base are the same where the same distances within the span pass their tests

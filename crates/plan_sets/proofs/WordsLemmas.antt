@@ -1,7 +1,7 @@
--- The bits of a row of words: one more, the first from a place on, and that they tell the words apart.
--- For `ValueSet`: one more for `insert`, the first for `first_from`, `Decides-words` for `==` and `is_empty`. Bit k is
--- bit k % word_bits of word k / word_bits; where one is set, the case to look at is another bit of the same word.
-use Rattle.std.proofs.Common.{◌≡◌, ℕ, ◌+◌, ◌-◌, ◌*◌, ◌/◌, ◌%◌, ◌^◌, ◌<◌, ◌≤◌, Decides, true, false, ◌||◌, ◌==◌, ◌≢◌, nat_eq, List, length, get_or, ap, sym, ◌∙◌, arith, inl, inr, bit_or, replicate, get_or-set_same, get_or-set_other}
+-- The bits of a row of words: some more in one word, the first from a place on, and that they tell the words apart.
+-- For `ValueSet`: one bit more for `insert`, a mask's for `insert_range` (`joined`), the first for `first_from`, `Decides-words`
+-- for `==` and `is_empty`. Bit k is bit k % word_bits of word k / word_bits; only that word has to be looked at.
+use Rattle.std.proofs.Common.{◌≡◌, ℕ, ◌+◌, ◌-◌, ◌*◌, ◌/◌, ◌%◌, ◌^◌, ◌<◌, ◌≤◌, Bool, Decides, true, false, ◌&&◌, ◌||◌, ◌==◌, ◌≢◌, nat_eq, List, length, get_or, ap, sym, ◌∙◌, arith, inl, inr, bit_or, replicate, get_or-set_same, get_or-set_other}
 use lib.ListN.{set as put}
 use Rattle.std.specs.Cmp.Lexicographic.{pointwise, bytes_decides}
 use Rattle.std.specs.Int.{bit_at, trailing_zeros, w128}
@@ -9,10 +9,10 @@ use Rattle.std.proofs.lemmas.Bool.{cases_eq, cases_lt}
 use Rattle.std.proofs.lemmas.Bool.Decides.{nat_tests}
 use Rattle.std.proofs.lemmas.List.{get_or-replicate, get_or_past, length-replicate}
 use Rattle.std.proofs.lemmas.Grind.{same_number_lists}
-use Rattle.std.proofs.lemmas.Nat.{or_lt, shr-shr, shr_le}
-use Rattle.std.proofs.lemmas.Nat.Bits.{bit_at-lt, bit_at-trailing_zeros, bit_at-zero, bit_at_above, bit_at_set_other, bit_at_set_same, same_from_bits_below}
+use Rattle.std.proofs.lemmas.Nat.{one_shl, or_lt, shr-shr, shr_le}
+use Rattle.std.proofs.lemmas.Nat.Bits.{bit_at_or, bit_at-lt, bit_at-pow_other, bit_at-pow_same, bit_at-trailing_zeros, bit_at-zero, bit_at_above, same_from_bits_below}
 use Rattle.plan_sets.specs.Limits.{set_span}
-use Rattle.plan_sets.specs.Words.{is_marked, word_bits, word_count, AreUnused, AreWords}
+use Rattle.plan_sets.specs.Words.{has_bit, is_marked, word_bits, word_count, AreUnused, AreWords}
 
 -- past the words no bit is 1
 pub is_marked-past : (words : List ℕ) (k : ℕ) → length words ≤ k / word_bits → is_marked words k ≡ false
@@ -24,41 +24,99 @@ pub is_marked-unused : (words : List ℕ) (used k : ℕ) → AreUnused words use
 is_marked-unused words used k unused past =
     ap (λ w. bit_at w (k % word_bits) == 1) (unused (k / word_bits) past) ∙ ap (λ b. b == 1) (bit_at-zero (k % word_bits))
 
+-- the row where one word has the bits of a mask more
+abbrev pub joined : List ℕ → ℕ → ℕ → List ℕ
+joined words at bits = put words at (bit_or (get_or words at 0) bits)
+
+has_bit-or : (a b i : ℕ) → has_bit (bit_or a b) i ≡ (has_bit a i || has_bit b i)
+has_bit-or a b i = grind (arith, nat_tests, bit_at_or a b i, bit_at-lt a i, bit_at-lt b i)
+
+pub is_marked-joined :
+    (words : List ℕ) (at bits j : ℕ) → at < length words →
+    is_marked (joined words at bits) j ≡ (is_marked words j || (nat_eq (j / word_bits) at && has_bit bits (j % word_bits)))
+is_marked-joined words at bits j within =
+    let i = j % word_bits in
+    let more = bit_or (get_or words at 0) bits in
+    elim (cases_eq (j / word_bits) at) [
+      | inl same ↦
+          let read : get_or (put words at more) (j / word_bits) 0 ≡ more = ap (λ n. get_or (put words at more) n 0) same
+          ∙ get_or-set_same words at more 0 within in
+          let was : has_bit (get_or words at 0) i ≡ is_marked words j = ap (λ n. has_bit (get_or words n 0) i) (sym same) in
+          let this : nat_eq (j / word_bits) at ≡ true = grind (arith, nat_tests) in
+          ap (λ n. has_bit n i) read ∙ has_bit-or (get_or words at 0) bits i ∙ ap (λ b. b || has_bit bits i) was
+          ∙ sym (ap (λ b. is_marked words j || (b && has_bit bits i)) this)
+      | inr elsewhere ↦
+          let other : nat_eq (j / word_bits) at ≡ false = grind (arith, nat_tests) in
+          ap (λ n. has_bit n i) (get_or-set_other words at (j / word_bits) more 0 elsewhere)
+          ∙ last (is_marked words j) (nat_eq (j / word_bits) at) (has_bit bits i) other
+    ]
+  where
+    last : (a b c : Bool) → b ≡ false → a ≡ (a || (b && c))
+    last a b c none = grind (arith, nat_tests)
+
+-- with a mask's bits more they stay words
+pub AreWords-joined :
+    (words : List ℕ) (at bits : ℕ) → at < length words → bits < 2 ^ word_bits → AreWords words → AreWords (joined words at bits)
+AreWords-joined words at bits within fits are w =
+    let more = bit_or (get_or words at 0) bits in
+    let more_fits : more < 2 ^ word_bits = or_lt word_bits _ _ (are at) fits in
+    elim (cases_eq w at) [
+      | inl same ↦
+          let read : get_or (put words at more) w 0 ≡ more = ap (λ i. get_or (put words at more) i 0) same
+          ∙ get_or-set_same words at more 0 within in
+          omega (arith, read, more_fits)
+      | inr other ↦ omega (arith, get_or-set_other words at w more 0 other, are w)
+    ]
+
+-- nor is one used past those that were, where this one is among them
+pub AreUnused-joined :
+    (words : List ℕ) (used at bits : ℕ) → at < used → AreUnused words used → AreUnused (joined words at bits) used
+AreUnused-joined words used at bits below unused w past =
+    let other : w ≢ at = λ same. omega (arith, same, past) in
+    omega (arith, get_or-set_other words at w (bit_or (get_or words at 0) bits) 0 other, unused w past)
+
+-- the word with one bit
+abbrev pub one_bit : ℕ → ℕ
+one_bit k = 1 * 2 ^ k % 2 ^ word_bits
+
+has_bit-one_bit : (k i : ℕ) → k < word_bits → has_bit (one_bit k) i ≡ nat_eq i k
+has_bit-one_bit k i within =
+    ap (λ n. has_bit n i) (one_shl k word_bits within)
+    ∙ elim (cases_eq i k) [
+      | inl same ↦
+          let one : bit_at (2 ^ k) i ≡ 1 = ap (bit_at (2 ^ k)) same ∙ bit_at-pow_same k in
+          grind (arith, nat_tests, one)
+      | inr apart ↦ grind (arith, nat_tests, bit_at-pow_other k i apart)
+    ]
+
 -- the row with one bit more
 abbrev pub marked_more : List ℕ → ℕ → List ℕ
-marked_more words k =
-    put words (k / word_bits) (bit_or (get_or words (k / word_bits) 0) (1 * 2 ^ (k % word_bits) % 2 ^ word_bits))
+marked_more words k = joined words (k / word_bits) (one_bit (k % word_bits))
 
 pub is_marked-more :
     (words : List ℕ) (k j : ℕ) → k / word_bits < length words →
     is_marked (marked_more words k) j ≡ (nat_eq j k || is_marked words j)
 is_marked-more words k j within =
-    let at = k / word_bits in
-    let bit = k % word_bits in
-    let word = get_or words at 0 in
-    let more = bit_or word (1 * 2 ^ bit % 2 ^ word_bits) in
-    elim (cases_eq (j / word_bits) at) [
-      | inl same ↦
-          let read : get_or (put words at more) (j / word_bits) 0 ≡ more = ap (λ i. get_or (put words at more) i 0) same
-          ∙ get_or-set_same words at more 0 within in
-          let before : get_or words (j / word_bits) 0 ≡ word = ap (λ i. get_or words i 0) same in
-          elim (cases_eq (j % word_bits) bit) [
-            | inl here ↦
-                let one : bit_at more (j % word_bits) ≡ 1 = ap (bit_at more) here ∙ bit_at_set_same w128 word bit (omega arith) in
-                let this : nat_eq j k ≡ true = grind (arith, nat_tests) in
-                ap (λ w. bit_at w (j % word_bits) == 1) read ∙ ap (λ b. b == 1) one ∙ sym (ap (λ b. b || is_marked words j) this)
-            | inr apart ↦
-                let kept : bit_at more (j % word_bits) ≡ bit_at word (j % word_bits) = bit_at_set_other w128 word bit (omega arith)
-                (j % word_bits) apart in
-                let other : nat_eq j k ≡ false = grind (arith, nat_tests) in
-                ap (λ w. bit_at w (j % word_bits) == 1) read ∙ ap (λ b. b == 1) kept ∙ ap (λ w. bit_at w (j % word_bits) == 1) (sym before)
-                ∙ sym (ap (λ b. b || is_marked words j) other)
-          ]
-      | inr elsewhere ↦
-          let other : nat_eq j k ≡ false = grind (arith, nat_tests) in
-          ap (λ w. bit_at w (j % word_bits) == 1) (get_or-set_other words at (j / word_bits) more 0 elsewhere)
-          ∙ sym (ap (λ b. b || is_marked words j) other)
-    ]
+    let place : (nat_eq (j / word_bits) (k / word_bits) && nat_eq (j % word_bits) (k % word_bits)) ≡ nat_eq j k =
+    grind (arith, nat_tests) in
+    is_marked-joined words (k / word_bits) (one_bit (k % word_bits)) j within
+    ∙ ap (λ b. is_marked words j || (nat_eq (j / word_bits) (k / word_bits) && b))
+    (has_bit-one_bit (k % word_bits) (j % word_bits) (omega arith))
+    ∙ ap (λ b. is_marked words j || b) place ∙ or_turned (is_marked words j) (nat_eq j k)
+  where
+    or_turned : (a b : Bool) → (a || b) ≡ (b || a)
+    or_turned a b = grind (arith, nat_tests)
+
+-- one bit more leaves them words
+pub AreWords-more : (words : List ℕ) (k : ℕ) → k / word_bits < length words → AreWords words → AreWords (marked_more words k)
+AreWords-more words k within are = AreWords-joined words (k / word_bits) (one_bit (k % word_bits)) within (omega arith) are
+
+-- nor does it use a word past its own
+pub AreUnused-more :
+    (words : List ℕ) (used more k : ℕ) → AreUnused words used → used ≤ more → k / word_bits < more →
+    AreUnused (marked_more words k) more
+AreUnused-more words used more k unused no_less within =
+    AreUnused-joined words more (k / word_bits) (one_bit (k % word_bits)) within (λ w past. unused w (omega (arith, past)))
 
 -- the bits of a word that was shifted
 bit_at-shr : (n below i : ℕ) → bit_at (n / 2 ^ below) i ≡ bit_at n (below + i)
@@ -139,35 +197,6 @@ AreWords-zeros n w = omega (arith, get_or-zeros n w)
 pub is_marked-zeros : (n k : ℕ) → is_marked (zeros n) k ≡ false
 is_marked-zeros n k =
     ap (λ w. bit_at w (k % word_bits) == 1) (get_or-zeros n (k / word_bits)) ∙ ap (λ b. b == 1) (bit_at-zero (k % word_bits))
-
--- one bit more leaves them words
-pub AreWords-more : (words : List ℕ) (k : ℕ) → k / word_bits < length words → AreWords words → AreWords (marked_more words k)
-AreWords-more words k within are w =
-    let at = k / word_bits in
-    let mask : 1 * 2 ^ (k % word_bits) % 2 ^ word_bits < 2 ^ word_bits = omega arith in
-    let more = bit_or (get_or words at 0) (1 * 2 ^ (k % word_bits) % 2 ^ word_bits) in
-    let fits : more < 2 ^ word_bits = or_lt word_bits _ _ (are at) mask in
-    elim (cases_eq w at) [
-      | inl same ↦
-          let read : get_or (put words at more) w 0 ≡ more = ap (λ i. get_or (put words at more) i 0) same
-          ∙ get_or-set_same words at more 0 within in
-          omega (arith, read, fits)
-      | inr other ↦ omega (arith, get_or-set_other words at w more 0 other, are w)
-    ]
-
--- nor does it use a word past its own
-pub AreUnused-more :
-    (words : List ℕ) (used more k : ℕ) → AreUnused words used → used ≤ more → k / word_bits < more →
-    AreUnused (marked_more words k) more
-AreUnused-more words used more k unused no_less within w past =
-    let at = k / word_bits in
-    let other : w ≢ at = λ same. omega (arith, same, past) in
-    omega (
-      arith,
-      get_or-set_other words at w (bit_or (get_or words at 0) (1 * 2 ^ (k % word_bits) % 2 ^ word_bits)) 0 other,
-      unused
-          w (omega (arith, past)),
-    )
 
 -- the test of two rows of a set's words tells whether they have the same bits
 pub record SameBits (xs ys : List ℕ) : Type 0 where

@@ -19,6 +19,10 @@ AreWords words = (k : ℕ) → slice_index words k < 2 ^ word_bits
 abbrev pub AreUnused : List ℕ → ℕ → Type 0
 AreUnused words used = (k : ℕ) → used ≤ k → slice_index words k ≡ 0
 
+-- the bit with the number i of a word is 1; the lowest has the number 0
+abbrev pub has_bit : ℕ → ℕ → Bool
+has_bit word i = bit_at word i == 1
+
 -- the bit with the number k of a row of words is 1; the lowest bit of the first word has the number 0
 abbrev pub is_marked : List ℕ → ℕ → Bool
 is_marked words k = bit_at (slice_index words (k / word_bits)) (k % word_bits) == 1

@@ -97,6 +97,10 @@ fn add_steps(values: &mut ValueSet, first: u16, last: u16, step: u16)
     ensures base { values.new.base ≡ values.old.base }
     ensures added { (v : ℕ) → has_value values.new v ≡ (has_value values.old v || is_step first last step v) }
 {
+    if step == 1 {
+        values.insert_range(first, last);
+        return;
+    }
     let mut value = first;
     loop {
         values.insert(value);

@@ -1,10 +1,11 @@
 //! Sets of small numbers, as the values that a field of a rule admits.
 
-ghost use Rattle.std.specs.Prelude.{◌≡◌, ℕ, ◌+◌, ◌*◌, ◌-◌, ◌^◌, ◌<◌, ◌≤◌, ◌↔◌, IsTrue};
+ghost use Rattle.std.specs.Prelude.{◌≡◌, ℕ, ◌+◌, ◌*◌, ◌-◌, ◌^◌, ◌<◌, ◌≤◌, ◌||◌, ◌↔◌, IsTrue};
 ghost use Rattle.std.specs.FinSet as set;
 ghost use Rattle.plan_sets.specs.Limits.{set_span};
+ghost use Rattle.plan_sets.specs.Items.{is_within};
 ghost use Rattle.plan_sets.specs.Values.{Values, no_values, with_value, has_value, IsLeastFrom};
-ghost use Rattle.plan_sets.specs.Words.{word_bits, word_count};
+ghost use Rattle.plan_sets.specs.Words.{has_bit, word_bits, word_count};
 
 use std::marker::Model;
 
@@ -89,6 +90,25 @@ impl ValueSet {
         self.used = self.used.max(index + 1);
     }
 
+    /// Adds every value from `first` to `last`, which lie within the span of the set.
+    pub(crate) fn insert_range(&mut self, first: u16, last: u16)
+        requires from { self.old.base ≤ first }
+        requires forwards { first ≤ last }
+        requires to { last < self.old.base + set_span }
+        ensures base { self.new.base ≡ self.old.base }
+        ensures added { (v : ℕ) → has_value self.new v ≡ (has_value self.old v || is_within first last v) }
+    {
+        let low = first - self.base;
+        let high = last - self.base;
+        let end = high / WORD_BITS + 1;
+        for index in low / WORD_BITS..end {
+            let start = index * WORD_BITS;
+            let bits = bits_from_to(low.saturating_sub(start), (high - start).min(WORD_BITS - 1));
+            self.words[usize::from(index)] |= bits;
+        }
+        self.used = self.used.max(end);
+    }
+
     /// Whether `v`, any number, is in the set.
     pub fn contains(&self, v: u16) -> bool
         ensures { result ≡ has_value self.now v }
@@ -140,4 +160,13 @@ impl ValueSet {
     {
         self.words == [0; WORDS]
     }
+}
+
+// The word whose bits from `low` to `high` are 1, and no other.
+fn bits_from_to(low: u16, high: u16) -> u128
+    requires forwards { low ≤ high }
+    requires within { high < word_bits }
+    ensures { (i : ℕ) → has_bit result i ≡ is_within low high i }
+{
+    (u128::MAX << low) & (u128::MAX >> (WORD_BITS - 1 - high))
 }
