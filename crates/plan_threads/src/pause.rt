@@ -7,6 +7,7 @@ use std::time::Duration;
 
 // The first sleep, and the longest, in microseconds.
 const FIRST_SLEEP: u64 = 20;
+
 const LONGEST_SLEEP: u64 = 320;
 
 /// Steps back further each time, so that it takes no processor from those that it waits for: it spins a little, then yields, then
