@@ -1,3 +1,4 @@
+pub mod EitherLemmas
 pub mod EventsLemmas
 pub mod FirstLemmas
 pub mod KeptLemmas

@@ -1,8 +1,10 @@
 -- Next starts: of a rule by those of its events, and each by the one before it.
 -- For `first_of_event`, `next_of_event` and `first_starts`, KeptLemmas and EventsLemmas. `IsFirstOrEnd` is the first number that
 -- passes, or the end of the part: each lemma builds one such record from others.
-use Rattle.std.proofs.Common.{◌≡◌, ℕ, ◌<◌, ◌≤◌, Bool, true, Option, Some, None, sym, ap, ◌∙◌, arith}
-use Rattle.std.specs.Prelude.{unwrap_or}
+use Rattle.std.proofs.Common.{◌≡◌, ℕ, ◌<◌, ◌≤◌, Bool, true, Option, Some, None, inl, inr, sym, ap, ◌∙◌, arith}
+use Rattle.std.specs.Prelude.{nat_lt, unwrap_or}
+use Rattle.std.specs.Bool.{then_some}
+use Rattle.std.proofs.lemmas.Bool.{cases_lt, le-ltb, lt-ltb}
 use Rattle.plan_next.specs.Next.{IsFirstOrEnd}
 use Rattle.plan_next.specs.Starts.{NoneIn, IsLeastIn, IsFirstIn}
 
@@ -29,6 +31,14 @@ IsLeastIn-next test a b n next lt = (next.from, lt, next.is lt, next.none)
 -- and where it is, there is none
 pub NoneIn-next : (test : ℕ → Bool) (a b n : ℕ) → IsFirstOrEnd test a b n → b ≤ n → NoneIn test a b
 NoneIn-next test a b n next le k low high = next.none k low (omega arith)
+
+-- the next one where it isn't the end
+pub IsFirstIn-next : (test : ℕ → Bool) (a b n : ℕ) → IsFirstOrEnd test a b n → IsFirstIn test a b (then_some (nat_lt n b) n)
+IsFirstIn-next test a b n next =
+    elim (cases_lt n b) [
+      | inl lt ↦ rw (lt-ltb n b lt) (IsLeastIn-next test a b n next lt)
+      | inr le ↦ rw (le-ltb n b le) (NoneIn-next test a b n next le)
+    ]
 
 -- a part that begins later, and not after the next number
 pub IsFirstOrEnd-later : (test : ℕ → Bool) (a b n later : ℕ) → IsFirstOrEnd test a b n → a ≤ later → later ≤ n → IsFirstOrEnd test later b n

@@ -1,5 +1,5 @@
 -- What is searched month by month is searched as a whole.
--- For `first_day_in` and `first_later_day`, and for `date` and `later` of `Month`. Days and months are compared by the
+-- For `first_open_day` and `first_later_day`, and for `date` and `later` of `Month`. Days and months are compared by the
 -- first day of a month (`ComesBefore-day`). Hard is `none_later`, on the months passed over.
 use Rattle.std.proofs.Common.{◌≡◌, ℕ, ◌+◌, ◌-◌, ◌*◌, ◌/◌, ◌%◌, ◌<◌, ◌≤◌, Bool, true, false, ◌&&◌, Option, Some, None, inl, inr, refl, ap, sym, ◌∙◌, subst, arith}
 use Rattle.std.specs.Prelude.{min}

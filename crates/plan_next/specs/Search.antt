@@ -1,12 +1,13 @@
 -- What a pattern admits (own): each field by itself, and the fields that the search puts together; and the months that it
 -- goes through.
-use Rattle.std.specs.Prelude.{◌≡◌, ℕ, ◌+◌, ◌*◌, ◌/◌, ◌%◌, ◌<◌, ◌≤◌, Bool, true, false, ◌&&◌, ◌==◌, Option, Some, None}
-use Rattle.plan_sets.specs.Values.{has_value}
+use Rattle.std.specs.Prelude.{◌≡◌, ℕ, ◌+◌, ◌-◌, ◌*◌, ◌/◌, ◌%◌, ◌<◌, ◌≤◌, Bool, true, false, ◌&&◌, ◌==◌, Option, Some, None}
+use Rattle.plan_sets.specs.Values.{has_value, Values}
 use Rattle.plan_sets.specs.Limits.{first_year, last_year, end_second, seconds_a_day}
 use Rattle.plan_sets.specs.Civil.{civil_fields}
 use Rattle.plan_sets.specs.Months.{days_of_month, IsFirstDay}
 use Rattle.plan_sets.specs.declared.civil.Civil.{Civil}
 use Rattle.plan_match.specs.Match.{day_matches}
+use Rattle.plan_match.specs.declared.cron.CronRule.{CronRule}
 use Rattle.plan_next.specs.declared.month.Month.{Month}
 use Rattle.plan_next.specs.declared.search.Pattern.{Pattern}
 use Rattle.plan_next.specs.declared.search.Pattern.TheVariants.{Cron, Event}
@@ -35,6 +36,11 @@ abbrev pub admits_date : Pattern → Civil → Bool
 admits_date (Cron rule) civil = day_matches rule.now civil
 admits_date (Event event) civil = event_day_matches event.now civil
 
+-- one of two day fields has to admit a day: those of a cron rule that are both restricted
+abbrev pub takes_either : Pattern → Bool
+takes_either (Cron rule) = rule.now.month_days_restricted && rule.now.week_days_restricted
+takes_either (Event event) = false
+
 -- the hours of a day
 abbrev pub admits_hour : Pattern → ℕ → Bool
 admits_hour (Cron rule) hour = has_value rule.now.hours hour
@@ -57,6 +63,18 @@ admits_month_number pattern month = admits_year pattern (month / 12) && admits_m
 -- the date of a day, by its day number
 abbrev pub admits_day : Pattern → ℕ → Bool
 admits_day pattern day = admits_date pattern (civil_fields (day * seconds_a_day))
+
+-- the date of a day, by its day number, where the pattern is a cron rule's
+abbrev pub cron_admits_day : CronRule → ℕ → Bool
+cron_admits_day rule day = day_matches rule (civil_fields (day * seconds_a_day))
+
+-- the day of the month of a day, where its month begins with the day `first`
+abbrev pub has_month_day : Values → (first day : ℕ) → Bool
+has_month_day places first day = has_value places (day - first + 1)
+
+-- the day of the week of a day, from 0 for Sunday; day 0 is a Thursday
+abbrev pub has_week_day : Values → ℕ → Bool
+has_week_day places day = has_value places ((day + 4) % 7)
 
 -- the minute and the second of a second of an hour
 abbrev pub admits_in_hour : Pattern → ℕ → Bool

@@ -5,11 +5,13 @@
 //! number on; `next_UNIT` the first after an admitted one, whose greater fields need no look; `first_of_later_UNITS` goes on where a
 //! unit has none left. A moment is a day and a time; a time is an hour, a minute and a second.
 
-ghost use Rattle.std.specs.Prelude.{◌≡◌, ◌+◌, ◌*◌, ◌/◌, ◌<◌, ◌≤◌, true, min};
+ghost use Rattle.std.specs.Prelude.{◌≡◌, ◌+◌, ◌*◌, ◌/◌, ◌<◌, ◌≤◌, false, true, min};
 ghost use Rattle.plan_sets.specs.Limits.{end_second, last_year, seconds_a_day};
 ghost use Rattle.plan_sets.specs.Civil.{civil_fields};
 ghost use Rattle.plan_sets.specs.Values.{has_value};
 ghost use Rattle.plan_next.specs.Starts.{IsFirstIn};
+ghost use Rattle.plan_next.specs.Next.{IsFirstOrEnd};
+ghost use Rattle.plan_next.specs.Search.{cron_admits_day, end_day, has_month_day, has_week_day, IsMonth};
 
 use crate::month::{MONTHS_A_YEAR, Month};
 use plan_match::{Calendar, CronRule, DayCount};
@@ -33,7 +35,7 @@ pub(crate) enum Pattern<'a> {
 }
 
 impl Pattern<'_> {
-    ghost use Rattle.plan_next.specs.Search.{admits_year, admits_month, admits_date, admits_hour, admits_minute, admits_second, admits_month_number, admits_day, admits_in_hour, admits_time, admits_moment, end_day, end_month, IsFirstOpen, IsMonth};
+    ghost use Rattle.plan_next.specs.Search.{admits_year, admits_month, admits_date, admits_hour, admits_minute, admits_second, admits_month_number, admits_day, admits_in_hour, admits_time, admits_moment, end_day, end_month, takes_either, IsFirstOpen, IsMonth};
 
     /// The first admitted second from `from` on, before `end`.
     pub(crate) fn first_moment(self, from: u64, end: u64) -> Option<u64>
@@ -152,6 +154,33 @@ impl Pattern<'_> {
         requires to { from ≤ month.end }
         ensures { IsFirstIn (admits_day self.entry) from (min end month.end) result }
     {
+        if !self.takes_either() {
+            return self.first_open_day(month, from, end);
+        }
+        match self {
+            Pattern::Cron(rule) => first_of_either(rule, month, from, end),
+            Pattern::Event(_) => unreachable!(),
+        }
+    }
+
+    // Whether a day is admitted by one of two fields: by those of a cron rule that are both restricted.
+    fn takes_either(self) -> bool
+        ensures { result ≡ takes_either self.entry }
+    {
+        match self {
+            Pattern::Cron(rule) => rule.month_days_restricted && rule.week_days_restricted,
+            Pattern::Event(_) => false,
+        }
+    }
+
+    // The same where no field is enough: each open place in the month is tried.
+    fn first_open_day(self, month: Month, from: u64, end: u64) -> Option<u64>
+        requires fields { takes_either self ≡ false }
+        requires month { IsMonth month }
+        requires from { month.first ≤ from }
+        requires to { from ≤ month.end }
+        ensures { IsFirstIn (admits_day self.entry) from (min end month.end) result }
+    {
         let until = end.min(month.end);
         let mut day = from;
         while day < until {
@@ -171,12 +200,10 @@ impl Pattern<'_> {
 
     // A place in the month, from `from` on, before which no day from there on is admitted in any month; `None` where no day is.
     fn first_open_place(self, from: u16) -> Option<u16>
+        requires fields { takes_either self ≡ false }
         ensures { IsFirstOpen self.entry from result }
     {
         match self {
-            Pattern::Cron(rule) if rule.month_days_restricted && rule.week_days_restricted => Some(
-                from,
-            ),
             Pattern::Cron(rule) => rule.month_days.first_from(from),
             Pattern::Event(event) => match event.day_count {
                 DayCount::FromStart => event.days.first_from(from),
@@ -206,6 +233,7 @@ impl Pattern<'_> {
     }
 
     // The first admitted time of day from `from` on, in seconds.
+    #[inline(always)]
     fn first_time(self, from: u32) -> Option<u32>
         requires { from < seconds_a_day }
         ensures { IsFirstIn (admits_time self.entry) from seconds_a_day result }
@@ -220,6 +248,7 @@ impl Pattern<'_> {
     }
 
     // The first admitted time of day after an hour, in seconds.
+    #[inline(never)]
     fn first_of_later_hours(self, hour: u16) -> Option<u32>
         requires { hour < HOURS_A_DAY }
         ensures { IsFirstIn (admits_time self.entry) ((hour + 1) * SECONDS_AN_HOUR) seconds_a_day result }
@@ -230,13 +259,14 @@ impl Pattern<'_> {
     }
 
     // The first admitted second of an hour from `from` on.
+    #[inline(always)]
     fn first_in_hour(self, from: u16) -> Option<u16>
         requires { from < SECONDS_AN_HOUR }
         ensures { IsFirstIn (admits_in_hour self.entry) from SECONDS_AN_HOUR result }
     {
         let minute = from / SECONDS_A_MINUTE;
-        if self.has_minute(minute)
-            && let Some(second) = self.first_second(from % SECONDS_A_MINUTE)
+        if let Some(second) = self.first_second(from % SECONDS_A_MINUTE)
+            && self.has_minute(minute)
         {
             return Some(minute * SECONDS_A_MINUTE + second);
         }
@@ -257,6 +287,7 @@ impl Pattern<'_> {
     }
 
     // The first admitted second of an hour after a minute.
+    #[inline(always)]
     fn first_of_later_minutes(self, minute: u16) -> Option<u16>
         requires { minute < MINUTES_AN_HOUR }
         ensures { IsFirstIn (admits_in_hour self.entry)
@@ -356,4 +387,56 @@ fn first_in(set: &ValueSet, from: u16, end: u16) -> Option<u16>
     ensures { IsFirstIn (has_value set.now) from end result }
 {
     set.first_from(from).filter(|value| *value < end)
+}
+
+// The first day of a month from `from` on, before `end`, by day numbers, that a cron rule with two restricted day fields admits:
+// one by its day of the month or one by its day of the week.
+fn first_of_either(rule: &CronRule, month: Month, from: u64, end: u64) -> Option<u64>
+    requires month { IsMonth month }
+    requires from { month.first ≤ from }
+    requires to { from ≤ month.end }
+    requires month_days { rule.now.month_days_restricted ≡ true }
+    requires week_days { rule.now.week_days_restricted ≡ true }
+    ensures { IsFirstIn (cron_admits_day rule.now) from (min end month.end) result }
+{
+    let until = end.min(month.end);
+    if from >= until {
+        return None;
+    }
+    if !rule.months().contains(month.number % MONTHS_A_YEAR + 1) {
+        return None;
+    }
+    let by_month = first_by_month(&rule.month_days, month.first, from, until);
+    let day = first_by_week(&rule.week_days, from, by_month);
+    (day < until).then_some(day)
+}
+
+// The first day from `from` on whose place in the month that begins with `first` is in a set, or `until` where none before that is.
+fn first_by_month(places: &ValueSet, first: u64, from: u64, until: u64) -> u64
+    requires from { first ≤ from }
+    requires to { from ≤ until }
+    requires month { until ≤ first + 31 }
+    requires years { until ≤ end_day }
+    ensures { IsFirstOrEnd (has_month_day places.now first) from until result }
+{
+    match places.first_from((from - first) as u16 + 1) {
+        Some(place) => until.min(first + u64::from(place) - 1),
+        None => until,
+    }
+}
+
+// The first day from `from` on whose place in the week, from 0 for Sunday, is in a set, or `until` where none before that is.
+fn first_by_week(places: &ValueSet, from: u64, until: u64) -> u64
+    requires to { from ≤ until }
+    requires years { until ≤ end_day }
+    ensures { IsFirstOrEnd (has_week_day places.now) from until result }
+{
+    let here = ((from + 4) % 7) as u16;
+    if let Some(place) = first_in(places, here, 7) {
+        return until.min(from + u64::from(place - here));
+    }
+    match first_in(places, 0, here) {
+        Some(place) => until.min(from + u64::from(7 - here + place)),
+        None => until,
+    }
 }

@@ -1,7 +1,7 @@
 use Rattle.std.proofs.Common.{◌-◌, ◌≤◌}
 use Rattle.plan_next.specs.Search.{admits_day}
 use Rattle.plan_next.specs.Starts.{NoneIn}
-use Rattle.plan_next.proofs.search.Pattern.first_day_in.Given as goal
+use Rattle.plan_next.proofs.search.Pattern.first_open_day.Given as goal
 
 -- no day up to here is admitted
 abbrev pub invariant-loop-day : goal.invariant-loop-day

@@ -1,11 +1,11 @@
--- Answers the one clause of `first_day_in`, and that the next day's number does not overflow.
+-- Answers the one clause of `first_open_day`, and that the next day's number does not overflow.
 -- The loop's invariant: no day from `from` up to here is admitted. `IsOpen` adds what the search for a place in the
 -- month found: the days passed over are not admitted (`not_open`), nor is any where it found none (`none_open`).
 use Rattle.std.proofs.Common.{◌≡◌, ◌+◌, Some, None, inl, inr, ap, sym, ◌∙◌, arith}
 use Rattle.std.proofs.lemmas.Bool.{cases_lt}
 use Rattle.plan_next.specs.Search.{admits_date, admits_day}
 use Rattle.plan_next.proofs.SearchLemmas.{IsOpen, ends_in_years, none_open, not_open}
-use Rattle.plan_next.proofs.search.Pattern.first_day_in.Goals as goal
+use Rattle.plan_next.proofs.search.Pattern.first_open_day.Goals as goal
 
 pub returns-in_err-place : goal.returns-in_err-place
 returns-in_err-place c =
