@@ -1,6 +1,6 @@
 # shellcheck shell=bash disable=SC2154
 # Rows of bin/check-examples: how many writes a run makes. A fault line goes out by one, whatever told it, and an agenda in pieces of up to
-# 8,192 bytes, each as full as it can be. The kernel counts the calls of a shell and of what it waited for in /proc/self/io; where it counts
+# 65,536 bytes, each as full as it can be. The kernel counts the calls of a shell and of what it waited for in /proc/self/io; where it counts
 # none these rows are passed over.
 
 writes_folder="$work/writes"
@@ -55,14 +55,14 @@ writes_faults() {
 }
 
 # The agenda that is the user's $1 in a plan up to the moment $2, of $3 starts. The header has 52 bytes beside the digits of their number
-# (9 of `agenda 2` and a tab, 21 of each moment and a tab, and the newline), and each line has 30. Both are in parts of at most 20, and the
-# next part has no room in a piece that goes out before the end. So each piece but the last has 8,173 to 8,192 bytes.
+# (9 of `agenda 2` and a tab, 21 of each moment and a tab, and the newline), and each line has 30. Both are in parts of at most 21, and the
+# next part has no room in a piece that goes out before the end. So each piece but the last has 65,516 to 65,536 bytes.
 writes_agenda() {
   local bytes wanted=$((52 + ${#3} + 30 * $3))
   writes_run agenda plan --since 2024-01-01T00:00:00Z --upto "$2" --limit 1000000 --crontab "$1"
   bytes=$(stat -c %s "$work/out")
   [ "$status" = 0 ] || bytes=0
-  writes_between "an agenda of $wanted bytes" $(((wanted + 8191) / 8192)) $((1 + (wanted - 1) / 8173))
+  writes_between "an agenda of $wanted bytes" $(((wanted + 65535) / 65536)) $((1 + (wanted - 1) / 65516))
   { [ "$bytes" = "$wanted" ] || echo "$bytes bytes"; } >"$work/told"
   count "the bytes of an agenda of $wanted"
 }

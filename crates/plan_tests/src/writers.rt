@@ -112,10 +112,10 @@ fn writers_that_take_some_bytes_at_a_call(rt: HostRuntime) -> Result<(), Fail> {
     Ok(())
 }
 
-// The text is a header of 56 bytes, since 1,440 has four digits, and 1,440 lines of 30 bytes. A buffer of 8,192 bytes is handed on
-// where the next part of a line, of at most 20 bytes, doesn't fit: so each write but the last has at least 8,173 of the 43,256 bytes.
+// The text is a header of 56 bytes, since 1,440 has four digits, and 1,440 lines of 30 bytes: less than the 65,536 bytes that are handed on
+// together.
 #[test]
-fn a_large_text_goes_out_by_few_writes_and_one_flush(rt: HostRuntime) -> Result<(), Fail> {
+fn a_large_text_goes_out_by_one_write_and_one_flush(rt: HostRuntime) -> Result<(), Fail> {
     let jobs = user_jobs(rt.alloc(), "* * * * * x")?;
     let agenda = planned(rt.alloc(), &jobs, 1_440, 1_440)??;
     let mut out = LimitedWriter {
@@ -129,7 +129,7 @@ fn a_large_text_goes_out_by_few_writes_and_one_flush(rt: HostRuntime) -> Result<
     };
     assert!(rt; write_agenda(&agenda, &jobs, &mut out).is_ok());
     assert_eq!(rt; out.taken.len(), 43_256);
-    assert!(rt; out.writes <= 6);
+    assert_eq!(rt; out.writes, 1);
     assert_eq!(rt; out.flushes, 1);
     Ok(())
 }
