@@ -24,7 +24,7 @@ _agenda() {
             mapfile -t COMPREPLY < <(compgen -W 'minutely hourly daily weekly monthly quarterly semiannually yearly annually' -- "$cur")
             return
             ;;
-        plan:--crontab | plan:--system-crontab)
+        plan:--crontab | plan:--system-crontab | plan:--cron-d | plan:--spool)
             _filedir
             return
             ;;
@@ -51,7 +51,7 @@ _agenda() {
             [[ ${COMPREPLY-} == *= ]] && compopt -o nospace
             ;;
         plan:-*)
-            mapfile -t COMPREPLY < <(compgen -W '--since= --upto= --crontab= --system-crontab= --planners= --room= --limit= --help' -- "$cur")
+            mapfile -t COMPREPLY < <(compgen -W '--since= --upto= --crontab= --system-crontab= --cron-d= --spool= --planners= --room= --limit= --help' -- "$cur")
             [[ ${COMPREPLY-} == *= ]] && compopt -o nospace
             ;;
         plan:*)

@@ -92,6 +92,10 @@ Options:
                             of --since and no earlier
       --crontab <F>         The path of a user crontab
       --system-crontab <F>  The path of a system crontab, whose lines name a user
+      --cron-d <F>          The path of a package's crontab, as /etc/cron.d/php;
+                            any number of times
+      --spool <F>           The path of a user's crontab in the spool folder;
+                            any number of times
       --planners <N>        How many planners search, from 1 to 8 [default: 2]
       --room <N>            How many messages of each planner may wait,
                             from 1 to 1024 [default: 16]
@@ -101,10 +105,10 @@ Options:
 
 Prints a header line with the span and the number of starts, and a line for each start:
 the moment, the job's name and what it runs, with a tab between. The lines are in order
-of moments; at one moment in order of jobs, first the user crontab's, then the system
-crontab's, then the timers as given. Where there are more starts than the limit, nothing
-is printed. The number of planners and their room change no line. The formats of the
-files are described in agenda(1).
+of moments; at one moment in order of jobs: the user crontab's, the system crontab's,
+then those of --cron-d, of --spool and the timers, each as given. Where there are more
+starts than the limit, nothing is printed. The number of planners and their room change
+no line. The formats of the files are described in agenda(1).
 
 Example:
   agenda plan --since 2024-01-01T00:00:00Z --upto 2024-01-02T00:00:00Z \
@@ -279,6 +283,9 @@ plan|$span|--limit=4294967296 => error: invalid value '4294967296' for '--limit 
 plan|$span|--count=1 => error: unexpected argument '--count' found
 plan|$span|--after=x => error: unexpected argument '--after' found
 plan|$span|--since=x => error: the argument '--since <T>' cannot be used multiple times
+plan|$span|--crontab=a|--crontab=b => error: the argument '--crontab <F>' cannot be used multiple times
+plan|$span|--cron-d => error: a value is required for '--cron-d <F>' but none was supplied
+plan|$span|--spool=a|--spool => error: a value is required for '--spool <F>' but none was supplied
 plan|$span|--version => error: unexpected argument '--version' found
 END
 }

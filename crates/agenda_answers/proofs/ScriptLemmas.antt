@@ -1,7 +1,7 @@
 -- A script of which only the first bytes were read, one past the limit: it means what the whole file means.
 -- For `done` and `failed` of `steps`. Up to the limit all was read. Past it both are too large, with `script_reading`
 -- unfolded. The other lemmas lead what `run_script` says of the bytes that were read to a script that the file may be.
-use Rattle.std.proofs.Common.{◌≡◌, ℕ, ◌≤◌, ◌<◌, true, Bool, List, [], length, take, nat_lt, Option, None, Some, refl, sym, ap, subst, ◌∙◌, arith, take_all, length-take-le, ⊎_elim}
+use Rattle.std.proofs.Common.{◌≡◌, ℕ, ◌≤◌, ◌<◌, true, List, [], length, take, nat_lt, Option, None, Some, refl, sym, ap, subst, ◌∙◌, arith, take_all, length-take-le, ⊎_elim}
 use Rattle.std.proofs.lemmas.Bool.{lt-ltb, cases_lt}
 use Rattle.plan_texts.specs.declared.lines.TheConstants.{MOST_BYTES}
 use Rattle.agenda_script.specs.declared.fault.ScriptCause.TheVariants.{TooLarge}

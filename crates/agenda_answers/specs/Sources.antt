@@ -2,7 +2,7 @@
 use Rattle.std.specs.Prelude.{◌≡◌, ⊤, ℕ, List, [], ◌∷◌, Some, slice_get}
 use Rattle.agenda_sources.specs.declared.Source.{Source}
 use Rattle.agenda_sources.specs.declared.SourcePath.{SourcePath}
-use Rattle.agenda_sources.specs.Name.{timer_name}
+use Rattle.agenda_sources.specs.Name.{file_name}
 use Rattle.agenda_faults.specs.declared.faults.RunFault.TheVariants as run
 use Rattle.agenda_faults.specs.declared.faults.Failure.{Failure}
 use Rattle.agenda_faults.specs.declared.faults.Failure.TheVariants.{File, Run}
@@ -11,7 +11,7 @@ use Rattle.agenda_answers.specs.Files.{Held, IsFrontOf, IsUnsure}
 -- a source that was read, with its kind and its name
 abbrev pub IsSourceOf : Held → SourcePath → Source → Type 0
 IsSourceOf held given source =
-    (source.kind ≡ given.kind) × (source.name ≡ timer_name given.path) × IsFrontOf (held given.path).bytes source.bytes
+    (source.kind ≡ given.kind) × (source.name ≡ file_name given.path) × IsFrontOf (held given.path).bytes source.bytes
 
 -- sources that were read, in the order of their paths
 unfoldable pub AreSourcesOf : Held → List SourcePath → List Source → Type 0

@@ -6,7 +6,7 @@ ghost use Rattle.agenda_answers.specs.Sources.{AreSourcesOf, IsFailureOf, IsGive
 
 use crate::files::{Files, read_file};
 use agenda_faults::{Failure, RunFault};
-use agenda_sources::{Bytes, Source, SourcePath, Sources, timer_name};
+use agenda_sources::{Bytes, Source, SourcePath, Sources, file_name};
 use plan_rules::Text;
 use std::alloc::Global;
 use std::io::ErrorKind;
@@ -41,7 +41,7 @@ fn read_source<F: Files>(
     ensures same { F.held files.new ≡ F.held files.old }
 {
     let bytes = read_path(alloc, files, &given.path)?;
-    let name = Text::new(String::from_str(alloc, timer_name(given.path.as_str()))?);
+    let name = Text::new(String::from_str(alloc, file_name(given.path.as_str()))?);
     Ok(Source {
         kind: given.kind,
         name,

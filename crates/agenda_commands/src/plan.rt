@@ -18,7 +18,7 @@ use std::thread::Threads;
 /// Writes the agenda of the jobs of sources over a span: its header line, then one line for each start, by time and then by job.
 /// The planners of `sizes` search, each in a thread of its own. It waits for them.
 ///
-/// The faults, in this order: `InCrontab`, `InSystem`, `InTimer`, `SameName` and `Full` where the sources make no list of jobs, the
+/// The faults, in this order: `InSource`, `SameName` and `Full` where the sources make no list of jobs, the
 /// first that stands in them; `Plan(BadSize)` where the planners or the room are out of their ranges, `Plan(BadLimit)` where the
 /// limit is; `Plan(Collect(TooMany))` where the agenda has more entries than the limit. `NoMemory` may come in place of each, but
 /// never of a fault of the first source that `jobs_of_sources` finds at once.

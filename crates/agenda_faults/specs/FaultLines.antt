@@ -1,12 +1,11 @@
 -- The lines of failures, as the program writes them on standard error. All of it is own.
 use Rattle.std.specs.Prelude.{ℕ, List, [], ◌++◌, codes, decimal, Option, None, Some, slice_get, unwrap_or}
-use Rattle.std.specs.List.{filter}
 use Rattle.plan_rules.specs.declared.RuleCause.{RuleCause}
 use Rattle.plan_rules.specs.declared.RuleCause.TheVariants as cause
 use Rattle.agenda_script.specs.declared.fault.ScriptCause.{ScriptCause}
 use Rattle.agenda_script.specs.declared.fault.ScriptCause.TheVariants as script
 use Rattle.agenda_faults.specs.declared.faults.RunFault.{RunFault}
-use Rattle.agenda_faults.specs.declared.faults.RunFault.TheVariants.{NoMemory, BadCount, Rule, InCrontab, InSystem, InTimer, SameName, Full, Plan, Script, Device}
+use Rattle.agenda_faults.specs.declared.faults.RunFault.TheVariants.{NoMemory, BadCount, Rule, InSource, SameName, Full, Plan, Script, Device}
 use Rattle.agenda_faults.specs.declared.faults.Failure.{Failure}
 use Rattle.agenda_faults.specs.declared.faults.Failure.TheVariants.{Usage, After, Since, Upto, Span, Run, File}
 use Rattle.plan_rules.specs.declared.LineCause.{LineCause}
@@ -20,10 +19,8 @@ use Rattle.plan_collect.specs.Causes.{span_cause, collect_cause}
 use Rattle.plan_grammar.specs.Causes.{rule_cause}
 use Rattle.plan_rules.specs.Causes.{line_cause}
 use Rattle.plan_sets.specs.Causes.{moment_cause}
-use Rattle.agenda_sources.specs.Name.{timer_name}
-use Rattle.agenda_sources.specs.Kind.{is_kind, label_of}
-use Rattle.agenda_sources.specs.declared.SourceKind.{SourceKind}
-use Rattle.agenda_sources.specs.declared.SourceKind.TheVariants.{Crontab, System, Timer}
+use Rattle.agenda_sources.specs.Name.{file_name}
+use Rattle.agenda_sources.specs.Kind.{label_of}
 use Rattle.agenda_sources.specs.declared.SourcePath.{SourcePath}
 
 -- memory was refused
@@ -64,18 +61,18 @@ source_line source line on_line.NoMemory = memory_line
 source_line source line (on_line.Rule fault) = source_rule_line source line fault.part fault.cause
 source_line source line refused = text_of_line source (decimal line) (line_cause refused)
 
--- the name of a source by its path, if it is there
+-- what a source is called: by the label of its kind, or by its file's name
+abbrev pub name_of : SourcePath → List ℕ
+name_of source = unwrap_or (label_of source.kind) (file_name source.path)
+
+-- the source, if it is there
 abbrev pub name_in : Option SourcePath → List ℕ
 name_in None = []
-name_in (Some source) = timer_name source.path
+name_in (Some source) = name_of source
 
--- the name of the source at a place among those of its kind, by the paths of all
-abbrev pub name_at : List SourcePath → SourceKind → ℕ → List ℕ
-name_at sources kind place = name_in (slice_get (filter (λ source. is_kind source.kind kind) sources) place)
-
--- what such a source is called: by the label of its kind, or by its name
-abbrev pub source_name : List SourcePath → SourceKind → ℕ → List ℕ
-source_name sources kind place = unwrap_or (label_of kind) (name_at sources kind place)
+-- the source at a place
+abbrev pub source_name : List SourcePath → ℕ → List ℕ
+source_name sources place = name_in (slice_get sources place)
 
 -- what a collector refused; a want of memory has no cause
 abbrev pub collect_line : CollectFault → List ℕ
@@ -95,10 +92,8 @@ abbrev pub run_line : List SourcePath → RunFault → List ℕ
 run_line sources NoMemory = memory_line
 run_line sources BadCount = codes "agenda: count: BadCount\n"
 run_line sources (Rule fault) = rule_line fault.part fault.cause
-run_line sources (InCrontab fault) = source_line (source_name sources Crontab 0) fault.line fault.cause
-run_line sources (InSystem fault) = source_line (source_name sources System 0) fault.line fault.cause
-run_line sources (InTimer place fault) = source_line (source_name sources Timer place) fault.line fault.cause
-run_line sources (SameName place) = codes "agenda: job " ++ (name_at sources Timer place ++ codes ": SameName\n")
+run_line sources (InSource place fault) = source_line (source_name sources place) fault.line fault.cause
+run_line sources (SameName name) = codes "agenda: job " ++ (name ++ codes ": SameName\n")
 run_line sources Full = codes "agenda: jobs: Full\n"
 run_line sources (Plan fault) = plan_line fault
 run_line sources (Script fault) = script_line fault.line fault.cause

@@ -4,7 +4,7 @@ use Rattle.plan_rules.specs.declared.RuleCause.{RuleCause}
 use Rattle.plan_rules.specs.declared.RuleFault.{RuleFault}
 use Rattle.plan_rules.specs.declared.RuleCause.TheVariants as cause
 use Rattle.agenda_faults.specs.declared.faults.RunFault.{RunFault}
-use Rattle.agenda_faults.specs.declared.faults.RunFault.TheVariants.{NoMemory, BadCount, Rule, InCrontab, InSystem, InTimer, SameName, Full, Plan, Script, Device}
+use Rattle.agenda_faults.specs.declared.faults.RunFault.TheVariants.{NoMemory, BadCount, Rule, InSource, SameName, Full, Plan, Script, Device}
 use Rattle.agenda_faults.specs.declared.faults.Failure.{Failure}
 use Rattle.agenda_faults.specs.declared.faults.Failure.TheVariants.{Usage, After, Since, Upto, Span, Run, File}
 use Rattle.plan_rules.specs.declared.LineCause.{LineCause}
@@ -40,10 +40,8 @@ fault_of_script fault = fault_by_script_cause fault.cause fault
 -- the fault of a run whose sources make no list of jobs (own)
 abbrev pub fault_of_sources : SourceFault → RunFault
 fault_of_sources source.NoMemory = NoMemory
-fault_of_sources (source.InCrontab fault) = InCrontab fault
-fault_of_sources (source.InSystem fault) = InSystem fault
-fault_of_sources (source.InTimer place fault) = InTimer place fault
-fault_of_sources (source.SameName place) = SameName place
+fault_of_sources (source.InSource place fault) = InSource place fault
+fault_of_sources (source.SameName name) = SameName name
 fault_of_sources source.Full = Full
 
 -- the fault of a run whose jobs make no plan: a want of memory is always the same fault (own)
@@ -96,10 +94,8 @@ abbrev pub run_status : RunFault → ℕ
 run_status NoMemory = failed_status
 run_status BadCount = refused_status
 run_status (Rule fault) = rule_status fault.cause
-run_status (InCrontab fault) = line_status fault.cause
-run_status (InSystem fault) = line_status fault.cause
-run_status (InTimer place fault) = line_status fault.cause
-run_status (SameName place) = refused_status
+run_status (InSource place fault) = line_status fault.cause
+run_status (SameName name) = refused_status
 run_status Full = refused_status
 run_status (Plan fault) = plan_status fault
 run_status (Script fault) = script_status fault.cause

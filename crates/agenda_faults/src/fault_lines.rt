@@ -3,13 +3,13 @@
 ghost use Rattle.std.specs.Prelude.{◌≡◌, ◌≤◌, ◌++◌, IfSome, codes, length, take};
 ghost use Rattle.std.specs.List.{flat_map};
 ghost use Rattle.agenda_faults.specs.Faults.{status_of};
-ghost use Rattle.agenda_faults.specs.FaultLines.{collect_line, fault_text, name_at, plan_line, rule_line, run_line};
+ghost use Rattle.agenda_faults.specs.FaultLines.{collect_line, fault_text, name_of, plan_line, rule_line, run_line};
 ghost use Rattle.agenda_faults.specs.FaultLines.{script_line, source_line, source_name, source_rule_line, text_of_line, text_of_part};
 ghost use Rattle.plan_streams.specs.Stream.{Puts, PutsOrBreaksOff};
 
 use crate::faults::{Failure, RunFault};
 use agenda_script::{ScriptCause, ScriptFault};
-use agenda_sources::{SourceKind, SourcePath, timer_name};
+use agenda_sources::{SourcePath, file_name};
 use itoa::Buffer;
 use plan_collect::CollectFault;
 use plan_rules::{LineCause, LineFault, RuleCause, RuleFault};
@@ -24,7 +24,7 @@ const MEMORY_LINE: &[u8] = b"agenda: NoMemory\n";
 
 /// Writes the line of a failure, or the text of usage, and answers the status with which the program ends: 1 where input,
 /// a size, a count or a limit was refused, 2 for usage, 3 where memory was refused, or a device or a file failed. `sources` are
-/// the paths of the sources of a plan, of which a fault names the place. A fault of this stream is passed over. Takes no memory.
+/// the paths of the sources of a plan, of which a fault names one by its place. A fault of this stream is passed over. Takes no memory.
 pub fn fault_line<S: Stream>(failure: &Failure, sources: &[SourcePath], stream: &mut S) -> u8
     ensures status { result ≡ status_of failure.now }
     ensures line { PutsOrBreaksOff S.takes_all (S.holds stream.old) (S.holds stream.new)
@@ -87,21 +87,11 @@ fn put_run_fault<S: Stream>(
         RunFault::NoMemory => stream.put(MEMORY_LINE),
         RunFault::BadCount => stream.put(b"agenda: count: BadCount\n"),
         RunFault::Rule(fault) => put_rule_fault(*fault, stream),
-        RunFault::InCrontab(fault) => {
-            let name = source_name(sources, SourceKind::Crontab, 0);
+        RunFault::InSource(place, fault) => {
+            let name = source_name(sources, *place);
             put_source_fault(name.as_bytes(), *fault, stream)
         }
-        RunFault::InSystem(fault) => {
-            let name = source_name(sources, SourceKind::System, 0);
-            put_source_fault(name.as_bytes(), *fault, stream)
-        }
-        RunFault::InTimer(place, fault) => {
-            let name = source_name(sources, SourceKind::Timer, *place);
-            put_source_fault(name.as_bytes(), *fault, stream)
-        }
-        RunFault::SameName(place) => {
-            put_same_name(name_at(sources, SourceKind::Timer, *place), stream)
-        }
+        RunFault::SameName(name) => put_same_name(name.as_str(), stream),
         RunFault::Full => stream.put(b"agenda: jobs: Full\n"),
         RunFault::Plan(fault) => put_plan_fault(*fault, stream),
         RunFault::Script(fault) => put_script_fault(*fault, stream),
@@ -109,31 +99,27 @@ fn put_run_fault<S: Stream>(
     }
 }
 
-// What lines of faults call the source at a place among those of its kind: the label of the kind, or the source's name.
-fn source_name(sources: &[SourcePath], kind: SourceKind, place: usize) -> &str
-    ensures { result.now ≡ source_name sources.now kind place }
+// What lines of faults call the source at a place, if it is there.
+fn source_name(sources: &[SourcePath], place: usize) -> &str
+    ensures { result.now ≡ source_name sources.now place }
 {
-    match kind.label() {
-        Some(label) => label,
-        None => name_at(sources, kind, place),
-    }
-}
-
-// The name of the source at a place among those of its kind, if it is there.
-fn name_at(sources: &[SourcePath], kind: SourceKind, place: usize) -> &str
-    ensures { result.now ≡ name_at sources.now kind place }
-{
-    match sources
-        .iter()
-        .filter(|source| source.kind.is(kind))
-        .nth(place)
-    {
-        Some(source) => timer_name(source.path.as_str()),
+    match sources.get(place) {
+        Some(source) => name_of(source),
         None => "",
     }
 }
 
-// Writes the line of a timer whose name another job has.
+// What they call a source: by the label of its kind, or by its file's name.
+fn name_of(source: &SourcePath) -> &str
+    ensures { result.now ≡ name_of source.now }
+{
+    match source.kind.label() {
+        Some(label) => label,
+        None => file_name(source.path.as_str()),
+    }
+}
+
+// Writes the line of a job whose name another job has.
 fn put_same_name<S: Stream>(name: &str, stream: &mut S) -> Result<(), WriteFault>
     ensures { Puts S.takes_all result (S.holds stream.old) (S.holds stream.new)
         (codes "agenda: job " ++ (name.now ++ codes ": SameName\n")) }

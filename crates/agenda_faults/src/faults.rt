@@ -14,7 +14,7 @@ use std::alloc::{AllocError, AllocFailed};
 use thiserror::Error;
 
 /// Why a command was not done.
-#[derive(Clone, Copy, Debug, PartialEq, Eq, Error)]
+#[derive(Debug, Drop, Error)]
 pub enum RunFault {
     /// 1: memory was refused.
     #[error("NoMemory")]
@@ -25,28 +25,22 @@ pub enum RunFault {
     /// 3: the text of `next` is no rule.
     #[error("{0}")]
     Rule(RuleFault),
-    /// 4: the user's crontab is refused.
-    #[error("{0}")]
-    InCrontab(LineFault),
-    /// 5: the system's crontab is refused.
-    #[error("{0}")]
-    InSystem(LineFault),
-    /// 6: the timer at this place, from 0, is refused.
+    /// 4: the source at this place, from 0, is refused.
     #[error("{1}")]
-    InTimer(usize, LineFault),
-    /// 7: a job has the name of the timer at this place, from 0.
+    InSource(usize, LineFault),
+    /// 5: another job has this name.
     #[error("SameName")]
-    SameName(usize),
-    /// 8: there are more than 1,000 jobs.
+    SameName(Text),
+    /// 6: there are more than 1,000 jobs.
     #[error("Full")]
     Full,
-    /// 9: the jobs make no plan.
+    /// 7: the jobs make no plan.
     #[error("{0}")]
     Plan(PlanFault),
-    /// 10: the script was refused.
+    /// 8: the script was refused.
     #[error("{0}")]
     Script(ScriptFault),
-    /// 11: the writer failed.
+    /// 9: the writer failed.
     #[error("Device")]
     Device,
 }
@@ -108,10 +102,8 @@ impl From<SourceFault> for RunFault {
     fn from(fault: SourceFault) -> RunFault {
         match fault {
             SourceFault::NoMemory => RunFault::NoMemory,
-            SourceFault::InCrontab(fault) => RunFault::InCrontab(fault),
-            SourceFault::InSystem(fault) => RunFault::InSystem(fault),
-            SourceFault::InTimer(place, fault) => RunFault::InTimer(place, fault),
-            SourceFault::SameName(place) => RunFault::SameName(place),
+            SourceFault::InSource(place, fault) => RunFault::InSource(place, fault),
+            SourceFault::SameName(name) => RunFault::SameName(name),
             SourceFault::Full => RunFault::Full,
         }
     }
@@ -225,8 +217,7 @@ impl RunFault {
     {
         match self {
             RunFault::Rule(fault) => rule_status(fault.cause),
-            RunFault::InCrontab(fault) | RunFault::InSystem(fault) | RunFault::InTimer(_, fault) =>
-                { line_status(fault.cause) }
+            RunFault::InSource(_, fault) => line_status(fault.cause),
             RunFault::Plan(fault) => plan_status(*fault),
             RunFault::Script(fault) => script_status(fault.cause),
             RunFault::BadCount | RunFault::SameName(_) | RunFault::Full => REFUSED,

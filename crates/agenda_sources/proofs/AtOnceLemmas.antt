@@ -1,12 +1,11 @@
 -- Faults that are found at once: a source that was read has none. For `at_once` of `jobs_of_sources` and its loop's `none`.
 -- Only the first source counts. A later one is come to where the first was read, so there is no such fault, and there is
 -- nothing to show.
-use Rattle.std.proofs.Common.{◌≡◌, ℕ, ◌<◌, List, [], ◌∷◌, length, get_or, take, Option, None, Some, Result, Ok, Err, IfSome, suc, zero, refl, ap, subst, arith}
+use Rattle.std.proofs.Common.{◌≡◌, ℕ, ◌<◌, List, [], ◌∷◌, length, get_or, Option, None, Some, Result, Ok, Err, IfSome, suc, zero, refl, ap, subst, arith}
 use Rattle.std.proofs.lemmas.Option.{IfSome_then}
 use Rattle.agenda_sources.specs.declared.fault.SourceFault.{SourceFault}
 use Rattle.agenda_sources.specs.declared.sources.Source.{Source}
 use Rattle.agenda_sources.specs.AtOnce.{source_at_once, fault_at_once}
-use Rattle.agenda_sources.specs.Sources.{place_in}
 
 -- the answer is the fault that is found at once, if there is one
 abbrev pub IsFound : {A : Type 0} → Result A SourceFault → Option SourceFault → Type 0
@@ -21,7 +20,7 @@ none_found x (Some fault) is = absurd cc
 pub source_found :
     {A : Type 0} (sources : List Source) (index : ℕ) (source : Source) (answer : Result A SourceFault) → index < length sources →
     source ≡ get_or sources index source → (0 < index → fault_at_once sources ≡ None) →
-    IsFound answer (source_at_once (place_in source.kind (take index sources)) source) → IsFound answer (fault_at_once sources)
+    IsFound answer (source_at_once index source) → IsFound answer (fault_at_once sources)
 source_found [] index source answer within is before found = tt
 source_found (first ∷ more) zero source answer within is before found =
     subst (λ (s : Source). IsFound answer (source_at_once 0 s)) is found
@@ -33,7 +32,7 @@ source_found (first ∷ more) (suc index) source answer within is before found =
 pub none_so_far :
     {A : Type 0} (x : A) (sources : List Source) (index : ℕ) (source : Source) → index < length sources →
     source ≡ get_or sources index source → (0 < index → fault_at_once sources ≡ None) →
-    IsFound (Ok x) (source_at_once (place_in source.kind (take index sources)) source) → fault_at_once sources ≡ None
+    IsFound (Ok x) (source_at_once index source) → fault_at_once sources ≡ None
 none_so_far x sources index source within is before found =
     none_found x (fault_at_once sources) (source_found sources index source (Ok x) within is before found)
 

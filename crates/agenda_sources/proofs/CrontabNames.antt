@@ -1,7 +1,7 @@
 -- The names of a crontab's jobs: each is that of a line, and no two jobs have one. For the law
 -- `crontabs_need_no_look`, by CrontabLaws.antt. By induction over the lines: the later jobs are named by
 -- later lines, and the names of two lines differ, as their numbers fit a word (`few_enough`).
-use Rattle.std.proofs.Common.{◌≡◌, ◌≢◌, ℕ, ◌+◌, ◌<◌, ◌≤◌, ◌^◌, Bool, true, false, cond, eqb, nat_le, List, [], ◌∷◌, length, map, codes, Option, Some, None, Result, Ok, Err, IfOk, refl, ap, sym, ◌∙◌, arith, get_or}
+use Rattle.std.proofs.Common.{◌≡◌, ◌≢◌, ℕ, ◌+◌, ◌<◌, ◌≤◌, ◌^◌, Bool, true, false, cond, eqb, nat_le, List, [], ◌∷◌, ◌++◌, length, map, codes, Option, Some, None, Result, Ok, Err, IfOk, refl, ap, sym, ◌∙◌, arith, get_or}
 use Rattle.std.proofs.lemmas.Fmt.{decimal_injective}
 use Rattle.std.proofs.lemmas.List.{append_cancel_left}
 use Rattle.std.proofs.lemmas.List.Elements.{All-from_recursion}
@@ -15,7 +15,7 @@ use Rattle.std.specs.Str.{bytes_eq, is_utf8}
 use Rattle.plan_texts.specs.Steps.{◌>>=◌, each}
 use Rattle.plan_texts.specs.Lines.{is_too_large, lines, without_empty_end, after_blanks}
 use Rattle.plan_rules.specs.declared.crontabs.Kind.{Kind}
-use Rattle.plan_rules.specs.declared.crontabs.Kind.TheVariants.{User, System}
+use Rattle.plan_rules.specs.declared.crontabs.Kind.TheVariants.{User}
 use Rattle.plan_rules.specs.declared.line_fault.LineCause.TheVariants.{TooLarge, NotUtf8}
 use Rattle.plan_rules.specs.LineFaults.{LineReading, TextReading, in_line, on_line}
 use Rattle.plan_rules.specs.Limits.{most_jobs}
@@ -23,11 +23,7 @@ use Rattle.plan_rules.specs.Job.{JobParts}
 use Rattle.plan_rules.specs.Jobs.{number_of, HaveDistinctNames}
 use Rattle.plan_rules.specs.Crontab.{rule_in_front, what_reading, job_name, job_reading, begins_setting, entry_reading, line_reading, numbered_reading, jobs_reading, crontab_reading}
 use Rattle.agenda_sources.specs.declared.fault.SourceFault.TheVariants.{Full}
-use Rattle.agenda_sources.specs.declared.fault.SourceFault.{SourceFault}
-use Rattle.agenda_sources.specs.declared.kind.SourceKind.TheVariants.{Crontab}
-use Rattle.plan_rules.specs.declared.line_fault.LineFault.{LineFault}
 use Rattle.agenda_sources.specs.Faults.{in_source}
-use Rattle.agenda_sources.specs.Kind.{fault_in}
 use Rattle.agenda_sources.specs.Crontabs.{with_users, HasNoLineOf}
 use Rattle.agenda_sources.proofs.NameLemmas.{other_name, AllFail, none_from_fail}
 
@@ -50,28 +46,29 @@ choice P false x y first second = second
 -- ---- the name of a line's job
 
 -- the job, if there is one, has the name of the line with this number
-abbrev IsNamedBy : Kind → ℕ → Option JobParts → Type 0
-IsNamedBy kind number None = Unit {0}
-IsNamedBy kind number (Some job) = job.name ≡ job_name kind number
+abbrev IsNamedBy : List ℕ → ℕ → Option JobParts → Type 0
+IsNamedBy label number None = Unit {0}
+IsNamedBy label number (Some job) = job.name ≡ job_name label number
 
-name_of_job : (kind : Kind) (number : ℕ) (text : List ℕ) → IfOk (job_reading kind number text) (λ j. j.name ≡ job_name kind number)
+name_of_job : (label : List ℕ) (kind : Kind) (number : ℕ) (text : List ℕ) → IfOk (job_reading label kind number text) (λ j. j.name ≡ job_name label number)
 unfolding job_reading
-name_of_job kind number text =
-    any (λ j. j.name ≡ job_name kind number) (in_line (rule_in_front text)) _
-    (λ front. any (λ j. j.name ≡ job_name kind number) (what_reading kind front.1) _ (λ what. refl))
+name_of_job label kind number text =
+    any (λ j. j.name ≡ job_name label number) (in_line (rule_in_front text)) _
+    (λ front. any (λ j. j.name ≡ job_name label number) (what_reading kind front.1) _ (λ what. refl))
 
-name_in_entry : (kind : Kind) (number : ℕ) (text : List ℕ) → IfOk (entry_reading kind number text) (IsNamedBy kind number)
-name_in_entry kind number [] = tt
-name_in_entry kind number (first ∷ rest) =
-    choice (IsNamedBy kind number) (eqb first 35) _ _ tt
-    (choice (IsNamedBy kind number) (begins_setting first) _ _
-    (choice (IsNamedBy kind number) (list_any (λ b. eqb b 61) (first ∷ rest)) (Ok None) _ tt tt)
-    (steps (λ j. j.name ≡ job_name kind number) (IsNamedBy kind number) (job_reading kind number (first ∷ rest)) _
-    (name_of_job kind number (first ∷ rest)) (λ j named. named)))
+name_in_entry :
+    (label : List ℕ) (kind : Kind) (number : ℕ) (text : List ℕ) → IfOk (entry_reading label kind number text) (IsNamedBy label number)
+name_in_entry label kind number [] = tt
+name_in_entry label kind number (first ∷ rest) =
+    choice (IsNamedBy label number) (eqb first 35) _ _ tt
+    (choice (IsNamedBy label number) (begins_setting first) _ _
+    (choice (IsNamedBy label number) (list_any (λ b. eqb b 61) (first ∷ rest)) (Ok None) _ tt tt)
+    (steps (λ j. j.name ≡ job_name label number) (IsNamedBy label number) (job_reading label kind number (first ∷ rest)) _
+    (name_of_job label kind number (first ∷ rest)) (λ j named. named)))
 
-name_in_line : (kind : Kind) (number : ℕ) (text : List ℕ) → IfOk (line_reading kind number text) (IsNamedBy kind number)
+name_in_line : (label : List ℕ) (kind : Kind) (number : ℕ) (text : List ℕ) → IfOk (line_reading label kind number text) (IsNamedBy label number)
 unfolding line_reading
-name_in_line kind number text = name_in_entry kind number (after_blanks text)
+name_in_line label kind number text = name_in_entry label kind number (after_blanks text)
 
 on : {A : Type 0} (P : A → Type 0) (number : ℕ) (r : LineReading A) → IfOk r P → IfOk (on_line number r) P
 on P number (Ok x) is = is
@@ -79,72 +76,75 @@ on P number (Err cause) is = tt
 
 -- ---- names of lines
 
-same_line : (kind : Kind) (m n : ℕ) → m < 2 ^ 64 → n < 2 ^ 64 → job_name kind m ≡ job_name kind n → m ≡ n
-same_line User m n small other is = decimal_injective m n small other (append_cancel_left (codes "cron:") (decimal m) (decimal n) is)
-same_line System m n small other is = decimal_injective m n small other (append_cancel_left (codes "system:") (decimal m) (decimal n) is)
+same_line : (label : List ℕ) (m n : ℕ) → m < 2 ^ 64 → n < 2 ^ 64 → job_name label m ≡ job_name label n → m ≡ n
+same_line label m n small other is =
+    let behind : codes ":" ++ decimal m ≡ codes ":" ++ decimal n =
+    append_cancel_left label (codes ":" ++ decimal m) (codes ":" ++ decimal n) is in
+    decimal_injective m n small other (append_cancel_left (codes ":") (decimal m) (decimal n) behind)
 
-other_kind : (m n : ℕ) → job_name System m ≢ job_name User n
-other_kind m n is = let first : 115 ≡ 99 = ap (λ name. get_or name 0 0) is in omega (arith, first)
+other_label : (m n : ℕ) → job_name (codes "system") m ≢ job_name (codes "cron") n
+other_label m n is = let first : 115 ≡ 99 = ap (λ name. get_or name 0 0) is in omega (arith, first)
 
 -- the job of a line behind this one, whose number a machine can hold
-pub record IsLineBehind (kind : Kind) (low : ℕ) (job : JobParts) : Type 0 where
+pub record IsLineBehind (label : List ℕ) (low : ℕ) (job : JobParts) : Type 0 where
   pub number : ℕ
   pub behind : low < number
   pub fits : number < 2 ^ 64
-  pub named : job.name ≡ job_name kind number
+  pub named : job.name ≡ job_name label number
 
 -- such jobs, of which no two have one name
-abbrev pub AreLinesBehind : Kind → ℕ → List JobParts → Type 0
-AreLinesBehind kind low jobs = AllByRecursion (IsLineBehind kind low) jobs × HaveDistinctNames jobs
+abbrev pub AreLinesBehind : List ℕ → ℕ → List JobParts → Type 0
+AreLinesBehind label low jobs = AllByRecursion (IsLineBehind label low) jobs × HaveDistinctNames jobs
 
 lower :
-    (kind : Kind) (low : ℕ) (jobs : List JobParts) → AllByRecursion (IsLineBehind kind (low + 1)) jobs →
-    AllByRecursion (IsLineBehind kind low) jobs
-lower kind low [] all = tt
-lower kind low (j ∷ jobs) (here, all) =
-    (record { number = here.number; behind = omega (arith, here.behind); fits = here.fits; named = here.named }, lower kind low jobs all)
+    (label : List ℕ) (low : ℕ) (jobs : List JobParts) → AllByRecursion (IsLineBehind label (low + 1)) jobs →
+    AllByRecursion (IsLineBehind label low) jobs
+lower label low [] all = tt
+lower label low (j ∷ jobs) (here, all) =
+    (record { number = here.number; behind = omega (arith, here.behind); fits = here.fits; named = here.named }, lower label low jobs all)
 
 apart :
-    (kind : Kind) (number : ℕ) (name : List ℕ) (jobs : List JobParts) → number < 2 ^ 64 → name ≡ job_name kind number →
-    AllByRecursion (IsLineBehind kind number) jobs → AllByRecursion (λ other. bytes_eq name other ≡ false) (map (λ j. j.name) jobs)
-apart kind number name [] small named all = tt
-apart kind number name (j ∷ jobs) small named (here, all) = (
-  other_name name j.name (λ same. let one = same_line kind number here.number small here.fits (sym named ∙ same ∙ here.named) in
+    (label : List ℕ) (number : ℕ) (name : List ℕ) (jobs : List JobParts) → number < 2 ^ 64 → name ≡ job_name label number →
+    AllByRecursion (IsLineBehind label number) jobs → AllByRecursion (λ other. bytes_eq name other ≡ false) (map (λ j. j.name) jobs)
+apart label number name [] small named all = tt
+apart label number name (j ∷ jobs) small named (here, all) = (
+  other_name name j.name (λ same. let one = same_line label number here.number small here.fits (sym named ∙ same ∙ here.named) in
       omega (arith, here.behind)),
-  apart kind number name jobs small named all,
+  apart label number name jobs small named all,
 )
 
 one_more :
-    (kind : Kind) (low : ℕ) (found : Option JobParts) (jobs : List JobParts) → low + 1 < 2 ^ 64 → IsNamedBy kind (low + 1) found →
-    AreLinesBehind kind (low + 1) jobs → AreLinesBehind kind low (cons_option found jobs)
+    (label : List ℕ) (low : ℕ) (found : Option JobParts) (jobs : List JobParts) → low + 1 < 2 ^ 64 → IsNamedBy label (low + 1) found →
+    AreLinesBehind label (low + 1) jobs → AreLinesBehind label low (cons_option found jobs)
 unfolding IsDistinct
-one_more kind low None jobs small named (all, distinct) = (lower kind low jobs all, distinct)
-one_more kind low (Some j) jobs small named (all, distinct) = (
-  (record { number = low + 1; behind = omega arith; fits = small; named = named }, lower kind low jobs all),
-  (apart kind (low + 1) j.name jobs small named all, distinct),
+one_more label low None jobs small named (all, distinct) = (lower label low jobs all, distinct)
+one_more label low (Some j) jobs small named (all, distinct) = (
+  (record { number = low + 1; behind = omega arith; fits = small; named = named }, lower label low jobs all),
+  (apart label (low + 1) j.name jobs small named all, distinct),
 )
 
 -- the jobs of lines, of which the first has this place
 each_line :
-    (kind : Kind) (place : ℕ) (texts : List (List ℕ)) → place + length texts < 2 ^ 64 →
-    IfOk (each (numbered_reading kind) (enumerate_from place texts)) (λ found. AreLinesBehind kind place (filter_map (λ j. j) found))
+    (label : List ℕ) (kind : Kind) (place : ℕ) (texts : List (List ℕ)) → place + length texts < 2 ^ 64 →
+    IfOk (each (numbered_reading label kind) (enumerate_from place texts)) (λ found. AreLinesBehind label place (filter_map (λ j. j) found))
 unfolding IsDistinct
-each_line kind place [] small = (tt, tt)
-each_line kind place (text ∷ texts) small =
-    steps (IsNamedBy kind (place + 1)) (λ found. AreLinesBehind kind place (filter_map (λ j. j) found))
-    (numbered_reading kind (place, text)) _
-    (on (IsNamedBy kind (place + 1)) (place + 1) (line_reading kind (place + 1) text) (name_in_line kind (place + 1) text))
-    (λ found named. steps (λ found. AreLinesBehind kind (place + 1) (filter_map (λ j. j) found))
-    (λ found. AreLinesBehind kind place (filter_map (λ j. j) found)) (each (numbered_reading kind) (enumerate_from (place + 1) texts)) _
-    (each_line kind (place + 1) texts (omega arith))
-    (λ more behind. one_more kind place found (filter_map (λ j. j) more) (omega arith) named behind))
+each_line label kind place [] small = (tt, tt)
+each_line label kind place (text ∷ texts) small =
+    steps (IsNamedBy label (place + 1)) (λ found. AreLinesBehind label place (filter_map (λ j. j) found))
+    (numbered_reading label kind (place, text)) _
+    (on (IsNamedBy label (place + 1)) (place + 1) (line_reading label kind (place + 1) text) (name_in_line label kind (place + 1) text))
+    (λ found named. steps (λ found. AreLinesBehind label (place + 1) (filter_map (λ j. j) found))
+    (λ found. AreLinesBehind label place (filter_map (λ j. j) found)) (each (numbered_reading label kind) (enumerate_from (place + 1) texts)) _
+    (each_line label kind (place + 1) texts (omega arith))
+    (λ more behind. one_more label place found (filter_map (λ j. j) more) (omega arith) named behind))
 
-all_lines : (kind : Kind) (texts : List (List ℕ)) → length texts < 2 ^ 64 → IfOk (jobs_reading kind texts) (AreLinesBehind kind 0)
+all_lines :
+    (label : List ℕ) (kind : Kind) (texts : List (List ℕ)) → length texts < 2 ^ 64 → IfOk (jobs_reading label kind texts) (AreLinesBehind label 0)
 unfolding jobs_reading
-all_lines kind texts small =
-    steps (λ found. AreLinesBehind kind 0 (filter_map (λ j. j) found)) (AreLinesBehind kind 0)
-    (each (numbered_reading kind) (enumerate_from 0 texts)) _
-    (each_line kind 0 texts (omega arith)) (λ found behind. behind)
+all_lines label kind texts small =
+    steps (λ found. AreLinesBehind label 0 (filter_map (λ j. j) found)) (AreLinesBehind label 0)
+    (each (numbered_reading label kind) (enumerate_from 0 texts)) _
+    (each_line label kind 0 texts (omega arith)) (λ found behind. behind)
 
 -- ---- how many lines there are
 
@@ -179,50 +179,49 @@ by_text P false true bytes next small = small refl
 by_text P false false bytes next small = tt
 
 -- each has the name of a line, and no two have one
-pub crontab_names : (kind : Kind) (bytes : List ℕ) → IfOk (crontab_reading kind bytes) (AreLinesBehind kind 0)
-crontab_names kind bytes =
-    by_text (AreLinesBehind kind 0) (is_too_large bytes) (is_utf8 bytes) bytes (λ text. jobs_reading kind (lines text))
-    (λ small. all_lines kind (lines bytes) (few_enough bytes small))
+pub crontab_names : (label : List ℕ) (kind : Kind) (bytes : List ℕ) → IfOk (crontab_reading label kind bytes) (AreLinesBehind label 0)
+crontab_names label kind bytes =
+    by_text (AreLinesBehind label 0) (is_too_large bytes) (is_utf8 bytes) bytes (λ text. jobs_reading label kind (lines text))
+    (λ small. all_lines label kind (lines bytes) (few_enough bytes small))
 
 -- so they are new where no line of such a crontab was read
 new_names :
-    (kind : Kind) (old jobs : List JobParts) → HasNoLineOf kind old → AllByRecursion (IsLineBehind kind 0) jobs →
+    (label : List ℕ) (old jobs : List JobParts) → HasNoLineOf label old → AllByRecursion (IsLineBehind label 0) jobs →
     AllByRecursion (λ job. number_of job.name old ≡ None) jobs
-new_names kind old [] none all = tt
-new_names kind old (j ∷ jobs) none (here, all) =
-    (ap (λ name. number_of name old) here.named ∙ none here.number, new_names kind old jobs none all)
+new_names label old [] none all = tt
+new_names label old (j ∷ jobs) none (here, all) =
+    (ap (λ name. number_of name old) here.named ∙ none here.number, new_names label old jobs none all)
 
 pub crontab_is_new :
-    (kind : Kind) (bytes : List ℕ) (old jobs : List JobParts) → HasNoLineOf kind old → crontab_reading kind bytes ≡ Ok jobs →
+    (label : List ℕ) (kind : Kind) (bytes : List ℕ) (old jobs : List JobParts) → HasNoLineOf label old → crontab_reading label kind bytes ≡ Ok jobs →
     All (λ job. number_of job.name old ≡ None) jobs
-crontab_is_new kind bytes old jobs none is =
-    let names = IfOk-at_ok (AreLinesBehind kind 0) is (crontab_names kind bytes) in
-    All-from_recursion (λ job. number_of job.name old ≡ None) jobs (new_names kind old jobs none names.0)
+crontab_is_new label kind bytes old jobs none is =
+    let names = IfOk-at_ok (AreLinesBehind label 0) is (crontab_names label kind bytes) in
+    All-from_recursion (λ job. number_of job.name old ≡ None) jobs (new_names label old jobs none names.0)
 
 pub crontab_is_distinct :
-    (kind : Kind) (bytes : List ℕ) (jobs : List JobParts) → crontab_reading kind bytes ≡ Ok jobs → HaveDistinctNames jobs
-crontab_is_distinct kind bytes jobs is = (IfOk-at_ok (AreLinesBehind kind 0) is (crontab_names kind bytes)).1
+    (label : List ℕ) (kind : Kind) (bytes : List ℕ) (jobs : List JobParts) → crontab_reading label kind bytes ≡ Ok jobs → HaveDistinctNames jobs
+crontab_is_distinct label kind bytes jobs is = (IfOk-at_ok (AreLinesBehind label 0) is (crontab_names label kind bytes)).1
 
 -- ---- the jobs of a user's crontab alone
 
 not_named :
-    (number : ℕ) (jobs : List JobParts) → AllByRecursion (IsLineBehind User 0) jobs →
-    AllFail (λ other. bytes_eq (job_name System number) other.name) jobs
+    (number : ℕ) (jobs : List JobParts) → AllByRecursion (IsLineBehind (codes "cron") 0) jobs →
+    AllFail (λ other. bytes_eq (job_name (codes "system") number) other.name) jobs
 not_named number [] all = tt
 not_named number (j ∷ jobs) (here, all) =
-    (other_name (job_name System number) j.name (λ same. other_kind number here.number (same ∙ here.named)), not_named number jobs all)
+    (other_name (job_name (codes "system") number) j.name (λ same. other_label number here.number (same ∙ here.named)), not_named number jobs all)
 
 in_a_source :
-    (P : List JobParts → Type 0) (fault_of : LineFault → SourceFault) (r : TextReading (List JobParts)) → IfOk r P →
-    IfOk (in_source fault_of r) P
-in_a_source P fault_of (Ok jobs) names = names
-in_a_source P fault_of (Err fault) names = tt
+    (P : List JobParts → Type 0) (place : ℕ) (r : TextReading (List JobParts)) → IfOk r P → IfOk (in_source place r) P
+in_a_source P place (Ok jobs) names = names
+in_a_source P place (Err fault) names = tt
 
 -- none has the name of a line of the system's
-pub users_alone : (bytes : Option (List ℕ)) → IfOk (with_users [] bytes) (HasNoLineOf System)
+pub users_alone : (bytes : Option (List ℕ)) → IfOk (with_users [] bytes) (HasNoLineOf (codes "system"))
 users_alone None = λ number. refl
 users_alone (Some bytes) =
-    steps (AreLinesBehind User 0) (HasNoLineOf System) (in_source (fault_in Crontab 0) (crontab_reading User bytes)) _
-    (in_a_source (AreLinesBehind User 0) (fault_in Crontab 0) (crontab_reading User bytes) (crontab_names User bytes))
-    (λ more names. choice (HasNoLineOf System) (nat_le (length more) most_jobs) (Ok more) (Err Full)
-    (λ number. none_from_fail (λ other. bytes_eq (job_name System number) other.name) more (not_named number more names.0)) tt)
+    steps (AreLinesBehind (codes "cron") 0) (HasNoLineOf (codes "system")) (in_source 0 (crontab_reading (codes "cron") User bytes)) _
+    (in_a_source (AreLinesBehind (codes "cron") 0) 0 (crontab_reading (codes "cron") User bytes) (crontab_names (codes "cron") User bytes))
+    (λ more names. choice (HasNoLineOf (codes "system")) (nat_le (length more) most_jobs) (Ok more) (Err Full)
+    (λ number. none_from_fail (λ other. bytes_eq (job_name (codes "system") number) other.name) more (not_named number more names.0)) tt)

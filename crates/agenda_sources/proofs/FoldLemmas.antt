@@ -1,35 +1,33 @@
 -- Sources that are read one after another: for the loop of `jobs_of_sources` and its `meaning`.
 -- What is left begins with the next source (`next_source`), so its jobs, or its fault, are those of the definition there.
-use Rattle.std.proofs.Common.{◌≡◌, ℕ, ◌+◌, ◌<◌, List, [], ◌∷◌, ◌++◌, length, get_or, take, drop, Ok, Err, refl, ap, sym, ◌∙◌}
-use Rattle.std.proofs.lemmas.List.{take_more, drop_more}
+use Rattle.std.proofs.Common.{◌≡◌, ℕ, ◌+◌, ◌<◌, List, ◌∷◌, length, get_or, drop, Ok, Err, refl, ap, sym, ◌∙◌}
+use Rattle.std.proofs.lemmas.List.{drop_more}
 use Rattle.plan_texts.specs.Steps.{◌>>=◌}
 use Rattle.plan_rules.specs.Job.{JobParts}
 use Rattle.agenda_sources.specs.declared.fault.SourceFault.{SourceFault}
 use Rattle.agenda_sources.specs.declared.sources.Source.{Source}
 use Rattle.agenda_sources.specs.Faults.{SourceReading}
-use Rattle.agenda_sources.specs.Sources.{place_in, sources_from, with_source}
+use Rattle.agenda_sources.specs.Sources.{sources_from, with_source}
 
 -- what is left, from a source on
 abbrev pub left : List Source → ℕ → List JobParts → SourceReading (List JobParts)
-left sources index jobs = sources_from (take index sources) jobs (drop index sources)
+left sources index jobs = sources_from index jobs (drop index sources)
 
 next_source :
     (sources : List Source) (index : ℕ) (source : Source) (jobs : List JobParts) → index < length sources →
     source ≡ get_or sources index source →
     left sources index jobs
-    ≡ (with_source (place_in source.kind (take index sources)) jobs source >>= λ next. left sources (index + 1) next)
+    ≡ (with_source index jobs source >>= λ next. left sources (index + 1) next)
 next_source sources index source jobs within is =
     let dropped : drop index sources ≡ source ∷ drop (index + 1) sources =
     drop_more sources index source within ∙ ap (λ (s : Source). s ∷ drop (index + 1) sources) (sym is) in
-    let taken : take (index + 1) sources ≡ take index sources ++ source ∷ [] =
-    take_more sources index source within ∙ ap (λ (s : Source). take index sources ++ s ∷ []) (sym is) in
-    rw (dropped, taken) refl
+    rw (dropped) refl
 
 -- the source was read
 pub read_on :
     (sources : List Source) (index : ℕ) (source : Source) (jobs next : List JobParts) (whole : SourceReading (List JobParts)) →
     index < length sources → source ≡ get_or sources index source → left sources index jobs ≡ whole →
-    with_source (place_in source.kind (take index sources)) jobs source ≡ Ok next → left sources (index + 1) next ≡ whole
+    with_source index jobs source ≡ Ok next → left sources (index + 1) next ≡ whole
 read_on sources index source jobs next whole within is so_far read =
     sym (ap (λ (r : SourceReading (List JobParts)). r >>= λ next. left sources (index + 1) next) read) ∙
     sym (next_source sources index source jobs within is) ∙ so_far
@@ -39,7 +37,7 @@ pub read_fault :
     (sources : List Source) (index : ℕ) (source : Source) (jobs : List JobParts) (fault : SourceFault)
     (whole : SourceReading (List JobParts)) →
     index < length sources → source ≡ get_or sources index source → left sources index jobs ≡ whole →
-    with_source (place_in source.kind (take index sources)) jobs source ≡ Err fault → whole ≡ Err fault
+    with_source index jobs source ≡ Err fault → whole ≡ Err fault
 read_fault sources index source jobs fault whole within is so_far read =
     sym so_far ∙ next_source sources index source jobs within is ∙
     ap (λ (r : SourceReading (List JobParts)). r >>= λ next. left sources (index + 1) next) read

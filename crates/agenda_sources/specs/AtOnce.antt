@@ -1,15 +1,16 @@
--- The faults of sources that are found at once, before any memory is asked for: those of a timer's name, of the number of bytes and of
+-- The faults of sources that are found at once, before any memory is asked for: those of a file's name, of the number of bytes and of
 -- bytes that are no UTF-8. All of it is own.
 use Rattle.std.specs.Prelude.{ℕ, List, [], ◌∷◌, Option, None, option_map}
 use Rattle.plan_rules.specs.LineFaults.{of_whole}
 use Rattle.agenda_sources.specs.declared.sources.Source.{Source}
 use Rattle.agenda_sources.specs.declared.fault.SourceFault.{SourceFault}
-use Rattle.agenda_sources.specs.Kind.{cause_at_once, fault_in}
+use Rattle.agenda_sources.specs.Faults.{fault_at}
+use Rattle.agenda_sources.specs.Kind.{cause_at_once}
 
--- the fault of the source at a place among those of its kind
+-- the fault of the source at a place
 abbrev pub source_at_once : ℕ → Source → Option SourceFault
 source_at_once place source =
-    option_map (λ cause. fault_in source.kind place (of_whole cause)) (cause_at_once source.kind source.name source.bytes)
+    option_map (λ cause. fault_at place (of_whole cause)) (cause_at_once source.kind source.name source.bytes)
 
 -- the fault of the sources that is found at once: that of the first of them, if there is one
 abbrev pub fault_at_once : List Source → Option SourceFault

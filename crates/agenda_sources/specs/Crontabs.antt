@@ -1,6 +1,5 @@
 -- Crontabs at the front of a plan, whose jobs need no look at their names: the lines' numbers tell them apart. All of it is own.
-use Rattle.std.specs.Prelude.{ℕ, ◌≡◌, nat_le, if◌then◌else◌, List, [], ◌∷◌, ◌++◌, length, Option, Some, None, Ok, Err}
-use Rattle.plan_rules.specs.declared.crontabs.Kind.{Kind}
+use Rattle.std.specs.Prelude.{ℕ, ◌+◌, ◌≡◌, nat_le, if◌then◌else◌, List, [], ◌∷◌, ◌++◌, length, codes, Option, Some, None, Ok, Err}
 use Rattle.plan_rules.specs.declared.crontabs.Kind.TheVariants as whose
 use Rattle.plan_texts.specs.Steps.{◌>>=◌}
 use Rattle.plan_rules.specs.Limits.{most_jobs}
@@ -11,7 +10,6 @@ use Rattle.agenda_sources.specs.declared.kind.SourceKind.TheVariants.{Crontab, S
 use Rattle.agenda_sources.specs.declared.sources.Source.{Source}
 use Rattle.agenda_sources.specs.declared.fault.SourceFault.TheVariants.{Full}
 use Rattle.agenda_sources.specs.Faults.{SourceReading, in_source}
-use Rattle.agenda_sources.specs.Kind.{fault_in}
 
 -- a user's crontab, if there is one
 abbrev pub users_source : List ℕ → Option (List ℕ) → List Source
@@ -31,24 +29,29 @@ behind jobs more = if nat_le (length (jobs ++ more)) most_jobs then Ok (jobs ++ 
 abbrev pub with_users : List JobParts → Option (List ℕ) → SourceReading (List JobParts)
 with_users jobs None = Ok jobs
 with_users jobs (Some bytes) = do
-  more ← in_source (fault_in Crontab 0) (crontab_reading whose.User bytes)
+  more ← in_source 0 (crontab_reading (codes "cron") whose.User bytes)
   behind jobs more
 
--- the jobs of the system's, if there is one
-abbrev pub with_systems : List JobParts → Option (List ℕ) → SourceReading (List JobParts)
-with_systems jobs None = Ok jobs
-with_systems jobs (Some bytes) = do
-  more ← in_source (fault_in System 0) (crontab_reading whose.System bytes)
+-- the jobs of the system's, if there is one, which stands at a place
+abbrev pub with_systems : ℕ → List JobParts → Option (List ℕ) → SourceReading (List JobParts)
+with_systems place jobs None = Ok jobs
+with_systems place jobs (Some bytes) = do
+  more ← in_source place (crontab_reading (codes "system") whose.System bytes)
   behind jobs more
 
--- the user's crontab, then the system's, then what is behind them
+-- how many sources a crontab is, which may be missing
+abbrev pub count_of : Option (List ℕ) → ℕ
+count_of None = 0
+count_of (Some bytes) = 1
+
+-- the user's crontab, then the system's, then the sources behind them
 abbrev pub crontabs_first :
-    Option (List ℕ) → Option (List ℕ) → (List JobParts → SourceReading (List JobParts)) → SourceReading (List JobParts)
+    Option (List ℕ) → Option (List ℕ) → (ℕ → List JobParts → SourceReading (List JobParts)) → SourceReading (List JobParts)
 crontabs_first user system behind_them = do
   users ← with_users [] user
-  systems ← with_systems users system
-  behind_them systems
+  systems ← with_systems (count_of user) users system
+  behind_them (count_of user + count_of system) systems
 
--- no job has the name of a line of a crontab of this kind
-abbrev pub HasNoLineOf : Kind → List JobParts → Type 0
-HasNoLineOf kind jobs = (line : ℕ) → number_of (job_name kind line) jobs ≡ None
+-- no job has the name of a line of a crontab with this label
+abbrev pub HasNoLineOf : List ℕ → List JobParts → Type 0
+HasNoLineOf label jobs = (line : ℕ) → number_of (job_name label line) jobs ≡ None

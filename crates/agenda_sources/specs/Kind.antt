@@ -1,36 +1,26 @@
 -- The kinds of sources: one table of what stands for each of them, in the order in which a plan reads them. All of it is own.
-use Rattle.std.specs.Prelude.{ℕ, nat_eq, Bool, if◌then◌else◌, List, [], ◌∷◌, codes, Option, None, Some, is_none, Ok}
+use Rattle.std.specs.Prelude.{ℕ, Bool, if◌then◌else◌, List, [], ◌∷◌, codes, Option, None, Some, is_none, Ok}
 use Rattle.std.specs.Str.{is_utf8}
 use Rattle.plan_texts.specs.Lines.{is_too_large}
 use Rattle.plan_texts.specs.Steps.{◌>>=◌}
 use Rattle.plan_rules.specs.declared.crontabs.Kind.TheVariants as whose
 use Rattle.plan_rules.specs.declared.line_fault.LineCause.{LineCause}
 use Rattle.plan_rules.specs.declared.line_fault.LineCause.TheVariants as cause
-use Rattle.plan_rules.specs.declared.line_fault.LineFault.{LineFault}
 use Rattle.plan_rules.specs.LineFaults.{TextReading}
 use Rattle.plan_rules.specs.Job.{JobParts}
 use Rattle.plan_rules.specs.Crontab.{crontab_reading}
+use Rattle.plan_rules.specs.Tabs.{is_tab_name, tab_reading}
 use Rattle.plan_rules.specs.Timer.{is_timer_name, timer_reading}
+use Rattle.plan_rules.specs.declared.tabs.TabFolder.{TabFolder}
+use Rattle.plan_rules.specs.declared.tabs.TabFolder.TheVariants as folder
 use Rattle.agenda_sources.specs.declared.kind.SourceKind.{SourceKind}
-use Rattle.agenda_sources.specs.declared.kind.SourceKind.TheVariants.{Crontab, System, Timer}
-use Rattle.agenda_sources.specs.declared.fault.SourceFault.{SourceFault}
-use Rattle.agenda_sources.specs.declared.fault.SourceFault.TheVariants.{NoMemory, InCrontab, InSystem, InTimer}
+use Rattle.agenda_sources.specs.declared.kind.SourceKind.TheVariants.{Crontab, System, CronD, Spool, Timer}
 
 -- ---- which kinds there are
 
 -- all of them, in the order in which a plan reads their sources
 abbrev pub kinds : List SourceKind
-kinds = Crontab ∷ System ∷ Timer ∷ []
-
--- the place of a kind among them
-abbrev pub row_of : SourceKind → ℕ
-row_of Crontab = 0
-row_of System = 1
-row_of Timer = 2
-
--- whether both are one kind
-abbrev pub is_kind : SourceKind → SourceKind → Bool
-is_kind kind other = nat_eq (row_of kind) (row_of other)
+kinds = Crontab ∷ System ∷ CronD ∷ Spool ∷ Timer ∷ []
 
 -- ---- what they are called
 
@@ -38,6 +28,8 @@ is_kind kind other = nat_eq (row_of kind) (row_of other)
 abbrev pub option_of : SourceKind → List ℕ
 option_of Crontab = codes "crontab"
 option_of System = codes "system-crontab"
+option_of CronD = codes "cron-d"
+option_of Spool = codes "spool"
 option_of Timer = codes "timer"
 
 -- the label in lines of faults, for a kind of which a plan is given one source at most. The sources of another kind are told apart
@@ -45,6 +37,8 @@ option_of Timer = codes "timer"
 abbrev pub label_of : SourceKind → Option (List ℕ)
 label_of Crontab = Some (codes "crontab")
 label_of System = Some (codes "system crontab")
+label_of CronD = None
+label_of Spool = None
 label_of Timer = None
 
 -- whether a plan may be given more than one source of this kind
@@ -59,16 +53,22 @@ alone reading = do
   job ← reading
   Ok (job ∷ [])
 
--- the jobs of a source, by its name and its bytes: crontabs have no name that counts
+-- the jobs of a source, by its name and its bytes: of two kinds of crontabs the name doesn't count, and their jobs have labels
 abbrev pub reading_of : SourceKind → (name bytes : List ℕ) → TextReading (List JobParts)
-reading_of Crontab name bytes = crontab_reading whose.User bytes
-reading_of System name bytes = crontab_reading whose.System bytes
+reading_of Crontab name bytes = crontab_reading (codes "cron") whose.User bytes
+reading_of System name bytes = crontab_reading (codes "system") whose.System bytes
+reading_of CronD name bytes = tab_reading folder.CronD name bytes
+reading_of Spool name bytes = tab_reading folder.Spool name bytes
 reading_of Timer name bytes = alone (timer_reading name bytes)
 
 -- what is wrong with a source's bytes, found before any memory is asked for: their number is looked at first
 abbrev pub bytes_cause : List ℕ → Option LineCause
 bytes_cause bytes =
     if is_too_large bytes then Some cause.TooLarge else (if is_utf8 bytes then None else Some cause.NotUtf8)
+
+-- what is so found of a crontab that has a name: the name is looked at first
+abbrev pub tab_cause : TabFolder → (name bytes : List ℕ) → Option LineCause
+tab_cause folder name bytes = if is_tab_name folder name then bytes_cause bytes else Some cause.BadTabName
 
 -- what is so found of a timer: its name is looked at first
 abbrev pub timer_cause : (name bytes : List ℕ) → Option LineCause
@@ -78,21 +78,6 @@ timer_cause name bytes = if is_timer_name name then bytes_cause bytes else Some 
 abbrev pub cause_at_once : SourceKind → (name bytes : List ℕ) → Option LineCause
 cause_at_once Crontab name bytes = bytes_cause bytes
 cause_at_once System name bytes = bytes_cause bytes
+cause_at_once CronD name bytes = tab_cause folder.CronD name bytes
+cause_at_once Spool name bytes = tab_cause folder.Spool name bytes
 cause_at_once Timer name bytes = timer_cause name bytes
-
--- ---- what their faults are
-
--- the fault of the source at a place among those of its kind, where that is no want of memory
-abbrev pub own_fault_in : SourceKind → ℕ → LineFault → SourceFault
-own_fault_in Crontab place fault = InCrontab fault
-own_fault_in System place fault = InSystem fault
-own_fault_in Timer place fault = InTimer place fault
-
--- a source's fault, of which the cause is known: a want of memory inside it is a want of memory
-abbrev pub fault_by_cause : LineCause → SourceFault → SourceFault
-fault_by_cause cause.NoMemory fault = NoMemory
-fault_by_cause other fault = fault
-
--- the fault of the source at a place, from 0, among those of its kind
-abbrev pub fault_in : SourceKind → ℕ → LineFault → SourceFault
-fault_in kind place fault = fault_by_cause fault.cause (own_fault_in kind place fault)

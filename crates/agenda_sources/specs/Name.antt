@@ -1,4 +1,4 @@
--- The name of a timer, by the path of its file. All of it is own.
+-- The name of a file, by its path. All of it is own.
 use Rattle.std.specs.Prelude.{ℕ, ◌==◌, Bool, false, ◌||◌, if◌then◌else◌, List, [], ◌∷◌}
 use Rattle.std.specs.Path.{slash}
 
@@ -7,7 +7,7 @@ unfoldable pub has_slash : List ℕ → Bool
 has_slash [] = false
 has_slash (byte ∷ path) = byte == slash || has_slash path
 
--- a timer's name: its path after the last `/`
-unfoldable pub timer_name : List ℕ → List ℕ
-timer_name [] = []
-timer_name (byte ∷ path) = if has_slash (byte ∷ path) then timer_name path else byte ∷ path
+-- a file's name: its path after the last `/`
+unfoldable pub file_name : List ℕ → List ℕ
+file_name [] = []
+file_name (byte ∷ path) = if has_slash (byte ∷ path) then file_name path else byte ∷ path

@@ -1,27 +1,36 @@
 //! Why sources make no list of jobs.
 
-use plan_rules::LineFault;
+ghost use Rattle.std.specs.Prelude.{◌≡◌};
+ghost use Rattle.agenda_sources.specs.Faults.{fault_at};
+
+use plan_rules::{LineCause, LineFault, Text};
 use thiserror::Error;
 
-/// The first fault of sources. A source's place is counted from 0, among those of its kind.
-#[derive(Clone, Copy, Debug, PartialEq, Eq, Error)]
+/// The first fault of sources.
+#[derive(Debug, Drop, Error)]
 pub enum SourceFault {
     /// Memory was refused.
     #[error("NoMemory")]
     NoMemory,
-    /// The user's crontab is refused, with its first fault, whose cause is never `NoMemory`.
-    #[error("{0}")]
-    InCrontab(LineFault),
-    /// The system's crontab is refused, with its first fault, whose cause is never `NoMemory`.
-    #[error("{0}")]
-    InSystem(LineFault),
-    /// The timer at this place is refused, with its first fault, whose cause is never `NoMemory`.
+    /// The source at this place, from 0, is refused, with its first fault, whose cause is never `NoMemory`.
     #[error("{1}")]
-    InTimer(usize, LineFault),
-    /// A job has the name of the timer at this place.
+    InSource(usize, LineFault),
+    /// Another job has this name.
     #[error("SameName")]
-    SameName(usize),
+    SameName(Text),
     /// There are more than 1,000 jobs.
     #[error("Full")]
     Full,
+}
+
+impl SourceFault {
+    // The fault of the source at a place. A want of memory inside it is a want of memory.
+    pub(crate) fn in_source(place: usize, fault: LineFault) -> SourceFault
+        ensures { result ≡ fault_at place fault }
+    {
+        match fault.cause {
+            LineCause::NoMemory => SourceFault::NoMemory,
+            _ => SourceFault::InSource(place, fault),
+        }
+    }
 }

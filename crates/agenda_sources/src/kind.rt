@@ -4,11 +4,9 @@ ghost use Rattle.std.specs.Prelude.{◌≡◌, Err, IfSome, option_map};
 ghost use Rattle.plan_texts.specs.Steps.{GivesUnless};
 ghost use Rattle.plan_rules.specs.LineFaults.{of_whole, want_of_memory};
 ghost use Rattle.plan_rules.specs.Timer.{timer_reading};
-ghost use Rattle.agenda_sources.specs.Kind.{alone, cause_at_once, fault_in, is_kind, is_many, kinds, label_of, option_of};
-ghost use Rattle.agenda_sources.specs.Kind.{reading_of, timer_cause};
+ghost use Rattle.agenda_sources.specs.Kind.{alone, cause_at_once, is_many, kinds, label_of, option_of, reading_of, timer_cause};
 
-use crate::fault::SourceFault;
-use plan_rules::{Job, Kind, LineCause, LineFault, crontab, timer};
+use plan_rules::{Job, Kind, LineFault, TabFolder, crontab, tab, timer};
 use std::alloc::Global;
 
 /// A kind of source. A plan reads its sources in the order of their kinds.
@@ -18,16 +16,26 @@ pub enum SourceKind {
     Crontab,
     /// The system's crontab: a user stands before each command.
     System,
+    /// The crontab of a package, of /etc/cron.d: a user stands before each command (cron(8) of Debian).
+    CronD,
+    /// The crontab of a user, of the spool folder (cron(8) of Debian).
+    Spool,
     /// A timer file (systemd.timer(5)).
     Timer,
 }
 
 impl SourceKind {
     /// All kinds, in their order.
-    pub fn all() -> [SourceKind; 3]
+    pub fn all() -> [SourceKind; 5]
         ensures { result ≡ kinds }
     {
-        [SourceKind::Crontab, SourceKind::System, SourceKind::Timer]
+        [
+            SourceKind::Crontab,
+            SourceKind::System,
+            SourceKind::CronD,
+            SourceKind::Spool,
+            SourceKind::Timer,
+        ]
     }
 
     /// The name of the option, or of the argument, that gives the path of a source.
@@ -37,6 +45,8 @@ impl SourceKind {
         match self {
             SourceKind::Crontab => "crontab",
             SourceKind::System => "system-crontab",
+            SourceKind::CronD => "cron-d",
+            SourceKind::Spool => "spool",
             SourceKind::Timer => "timer",
         }
     }
@@ -49,7 +59,7 @@ impl SourceKind {
         match self {
             SourceKind::Crontab => Some("crontab"),
             SourceKind::System => Some("system crontab"),
-            SourceKind::Timer => None,
+            SourceKind::CronD | SourceKind::Spool | SourceKind::Timer => None,
         }
     }
 
@@ -58,13 +68,6 @@ impl SourceKind {
         ensures { result ≡ is_many self }
     {
         self.label().is_none()
-    }
-
-    /// Whether both are one kind.
-    pub fn is(self, other: SourceKind) -> bool
-        ensures { result ≡ is_kind self other }
-    {
-        self == other
     }
 
     // The jobs of a source of this kind, by its name and its bytes.
@@ -76,21 +79,11 @@ impl SourceKind {
             (λ cause. result ≡ Err (of_whole cause)) }
     {
         match self {
-            SourceKind::Crontab => crontab(alloc, bytes, Kind::User),
-            SourceKind::System => crontab(alloc, bytes, Kind::System),
+            SourceKind::Crontab => crontab(alloc, "cron", bytes, Kind::User),
+            SourceKind::System => crontab(alloc, "system", bytes, Kind::System),
+            SourceKind::CronD => tab(alloc, name, bytes, TabFolder::CronD),
+            SourceKind::Spool => tab(alloc, name, bytes, TabFolder::Spool),
             SourceKind::Timer => timer_alone(alloc, name, bytes),
-        }
-    }
-
-    // The fault of the source at a place among those of this kind. A want of memory inside it is a want of memory.
-    pub(crate) fn fault(self, place: usize, fault: LineFault) -> SourceFault
-        ensures { result ≡ fault_in self place fault }
-    {
-        match (fault.cause, self) {
-            (LineCause::NoMemory, _) => SourceFault::NoMemory,
-            (_, SourceKind::Crontab) => SourceFault::InCrontab(fault),
-            (_, SourceKind::System) => SourceFault::InSystem(fault),
-            (_, SourceKind::Timer) => SourceFault::InTimer(place, fault),
         }
     }
 }

@@ -12,5 +12,5 @@ ghost use Rattle.agenda_sources.specs.declared.sources.Source.{Source};
 pub fn crontabs_need_no_look()
     ensures { (name other : List ℕ) (user system : Option (List ℕ)) (more : List Source) →
         sources_reading (users_source name user ++ (system_source other system ++ more))
-        ≡ crontabs_first user system (λ jobs. sources_from (users_source name user ++ system_source other system) jobs more) }
+        ≡ crontabs_first user system (λ place jobs. sources_from place jobs more) }
 {}

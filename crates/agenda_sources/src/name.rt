@@ -1,11 +1,11 @@
-//! The name of a timer, by the path of its file.
+//! The name of a file, by its path.
 
 ghost use Rattle.std.specs.Prelude.{◌≡◌};
-ghost use Rattle.agenda_sources.specs.Name.{timer_name};
+ghost use Rattle.agenda_sources.specs.Name.{file_name};
 
-/// A timer's name: its path after the last `/`.
-pub fn timer_name(path: &str) -> &str
-    ensures { result.now ≡ timer_name path.now }
+/// A file's name: its path after the last `/`.
+pub fn file_name(path: &str) -> &str
+    ensures { result.now ≡ file_name path.now }
 {
     match path.rsplit_once('/') {
         Some((_, name)) => name,

@@ -5,20 +5,19 @@ ghost use Rattle.plan_texts.specs.Steps.{GivesUnless};
 ghost use Rattle.plan_rules.specs.Limits.{most_jobs};
 ghost use Rattle.agenda_sources.specs.AtOnce.{fault_at_once, source_at_once};
 ghost use Rattle.agenda_sources.specs.Faults.{IsOwnFault};
-ghost use Rattle.agenda_sources.specs.Sources.{place_in, with_job, with_jobs, with_source, sources_reading};
+ghost use Rattle.agenda_sources.specs.Sources.{with_job, with_jobs, with_source, sources_reading};
 
 use crate::fault::SourceFault;
-use crate::kind::SourceKind;
 use crate::sources::{Source, Sources};
 use plan_rules::{AddFault, Job, Jobs};
 use std::alloc::Global;
 
 /// The jobs that sources make, in the order of the sources: those of a crontab's lines, and one of each timer.
 ///
-/// Each source's jobs are added before the next source is read, and the first fault is the answer: `InCrontab`, `InSystem` and
-/// `InTimer` for the first fault of a source, as `crontab` and `timer` find it; `SameName` where a job has a timer's name;
-/// `Full` where there are more than 1,000 jobs; `NoMemory`, also in place of one that stands in a source's fault, but never in place
-/// of a fault of the first source that is found before its lines are read: `BadTimerName`, `TooLarge` and `NotUtf8`.
+/// Each source's jobs are added before the next source is read, and the first fault is the answer: `InSource` for the first fault of a
+/// source, as `crontab`, `tab` and `timer` find it; `SameName` where another job has a job's name; `Full` where there are more than
+/// 1,000 jobs; `NoMemory`, also in place of one that stands in a source's fault, but never in place of a fault of the first source that
+/// is found before its lines are read: `BadTabName`, `BadTimerName`, `TooLarge` and `NotUtf8`.
 pub fn jobs_of_sources(alloc: Global, sources: &Sources) -> Result<Jobs, SourceFault>
     ensures meaning { GivesUnless SourceFault.NoMemory (λ jobs. jobs) result (sources_reading sources.now) }
     ensures own_fault { IfErr result IsOwnFault }
@@ -29,75 +28,57 @@ pub fn jobs_of_sources(alloc: Global, sources: &Sources) -> Result<Jobs, SourceF
 {
     let mut jobs = Jobs::new(alloc);
     let sources = sources.as_slice();
-    for (index, source) in sources.iter().enumerate() {
-        add_source(alloc, &mut jobs, &sources[..index], source)?;
+    for (place, source) in sources.iter().enumerate() {
+        add_source(alloc, &mut jobs, place, source)?;
     }
     Ok(jobs)
 }
 
-// Adds the jobs of the source that comes behind those before it.
+// Adds the jobs of the source at a place.
 fn add_source(
     alloc: Global,
     jobs: &mut Jobs,
-    before: &[Source],
+    place: usize,
     source: &Source,
 ) -> Result<(), SourceFault>
     requires { length jobs.old ≤ most_jobs }
     ensures meaning { GivesUnless SourceFault.NoMemory (λ _. jobs.new) result
-        (with_source (place_in source.now.kind before.now) jobs.old source.now) }
+        (with_source place jobs.old source.now) }
     ensures few { length jobs.new ≤ most_jobs }
-    ensures at_once { IfSome (source_at_once (place_in source.now.kind before.now) source.now) (λ fault. result ≡ Err fault) }
+    ensures at_once { IfSome (source_at_once place source.now) (λ fault. result ≡ Err fault) }
 {
     match source
         .kind
         .read(alloc, source.name.as_str(), source.bytes.as_slice())
     {
-        Ok(more) => add_all(jobs, before, source.kind, more),
-        Err(fault) => Err(source.kind.fault(place_of(source.kind, before), fault)),
+        Ok(more) => add_all(jobs, more),
+        Err(fault) => Err(SourceFault::in_source(place, fault)),
     }
 }
 
-// Adds the jobs that a source of a kind has, in order.
-fn add_all(
-    jobs: &mut Jobs,
-    before: &[Source],
-    kind: SourceKind,
-    more: Vec<Job>,
-) -> Result<(), SourceFault>
+// Adds the jobs that a source has, in order.
+fn add_all(jobs: &mut Jobs, more: Vec<Job>) -> Result<(), SourceFault>
     requires { length jobs.old ≤ most_jobs }
     ensures meaning { GivesUnless SourceFault.NoMemory (λ _. jobs.new) result
-        (with_jobs (place_in kind before.now) jobs.old more.items) }
+        (with_jobs jobs.old more.items) }
     ensures few { length jobs.new ≤ most_jobs }
 {
     for job in more {
-        add_job(jobs, before, kind, job)?;
+        add_job(jobs, job)?;
     }
     Ok(())
 }
 
-// Adds a job that a source of a kind has.
-fn add_job(
-    jobs: &mut Jobs,
-    before: &[Source],
-    kind: SourceKind,
-    job: Job,
-) -> Result<(), SourceFault>
+// Adds a job that a source has.
+fn add_job(jobs: &mut Jobs, job: Job) -> Result<(), SourceFault>
     requires { length jobs.old ≤ most_jobs }
-    ensures meaning { GivesUnless SourceFault.NoMemory (λ _. jobs.new) result
-        (with_job (place_in kind before.now) jobs.old job) }
+    ensures meaning { GivesUnless SourceFault.NoMemory (λ _. jobs.new) result (with_job jobs.old job) }
     ensures few { length jobs.new ≤ most_jobs }
 {
     match jobs.add(job) {
         Ok(_) => Ok(()),
         Err(AddFault::NoMemory(_)) => Err(SourceFault::NoMemory),
-        Err(AddFault::SameName(_)) => Err(SourceFault::SameName(place_of(kind, before))),
+        Err(AddFault::SameName(job)) => Err(SourceFault::SameName(job.into_name())),
         Err(AddFault::Full(_)) => Err(SourceFault::Full),
     }
-}
-
-// The place of a source among those of its kind, by the sources before it: only a fault asks for it.
-fn place_of(kind: SourceKind, before: &[Source]) -> usize
-    ensures { result ≡ place_in kind before.now }
-{
-    before.iter().filter(|source| source.kind.is(kind)).count()
 }

@@ -47,6 +47,10 @@ fn bad_rule(line: u32, part: u8, cause: RuleCause) -> LineFault {
     }
 }
 
+fn in_source(place: usize, fault: LineFault) -> Failure {
+    Failure::Run(RunFault::InSource(place, fault))
+}
+
 // The path of a source.
 fn path_of(rt: &impl AllocGlobal, kind: SourceKind, path: &str) -> Result<SourcePath, Fail> {
     let path = Text::new(String::from_str(rt.alloc(), path)?);
@@ -55,23 +59,34 @@ fn path_of(rt: &impl AllocGlobal, kind: SourceKind, path: &str) -> Result<Source
 
 #[test]
 fn a_line_of_a_source_goes_out_by_one_write(rt: HostRuntime) -> Result<(), Fail> {
-    let (line, cause) = (3, LineCause::NoCommand);
-    let fault = RunFault::InCrontab(LineFault { line, cause });
-    let text = "agenda: crontab: line 3: NoCommand\n";
-    writes(&rt, Failure::Run(fault), 128, text, 1);
-    let fault = RunFault::InSystem(bad_rule(12, 4, RuleCause::BadName));
-    let text = "agenda: system crontab: line 12: part 4: BadName\n";
-    writes(&rt, Failure::Run(fault), 128, text, 1);
-    let backwards = RuleCause::Values(SetFault::Backwards);
-    let fault = Failure::Run(RunFault::InTimer(0, bad_rule(2, 1, backwards)));
-    let text = "agenda: rot.timer: line 2: part 1: Backwards\n";
     let sources = [
         path_of(&rt, SourceKind::Crontab, "jobs")?,
+        path_of(&rt, SourceKind::System, "/etc/crontab")?,
+        path_of(&rt, SourceKind::CronD, "cron.d/php")?,
+        path_of(&rt, SourceKind::Spool, "anna")?,
         path_of(&rt, SourceKind::Timer, "a/rot.timer")?,
     ];
+    let (line, cause) = (3, LineCause::NoCommand);
+    let fault = in_source(0, LineFault { line, cause });
+    let text = "agenda: crontab: line 3: NoCommand\n";
     writes_of(&rt, &fault, &sources, 128, text, 1);
+    let fault = in_source(1, bad_rule(12, 4, RuleCause::BadName));
+    let text = "agenda: system crontab: line 12: part 4: BadName\n";
+    writes_of(&rt, &fault, &sources, 128, text, 1);
+    let (line, cause) = (0, LineCause::BadTabName);
+    let fault = in_source(2, LineFault { line, cause });
+    let text = "agenda: php: line 0: BadTabName\n";
+    writes_of(&rt, &fault, &sources, 128, text, 1);
+    let fault = in_source(3, bad_rule(1, 5, RuleCause::BadName));
+    let text = "agenda: anna: line 1: part 5: BadName\n";
+    writes_of(&rt, &fault, &sources, 128, text, 1);
+    let backwards = RuleCause::Values(SetFault::Backwards);
+    let fault = in_source(4, bad_rule(2, 1, backwards));
+    let text = "agenda: rot.timer: line 2: part 1: Backwards\n";
+    writes_of(&rt, &fault, &sources, 128, text, 1);
+    let name = Text::new(String::from_str(rt.alloc(), "rot.timer")?);
     let text = "agenda: job rot.timer: SameName\n";
-    let fault = Failure::Run(RunFault::SameName(0));
+    let fault = Failure::Run(RunFault::SameName(name));
     writes_of(&rt, &fault, &sources, 128, text, 1);
     let usage = Text::new(String::from_str(rt.alloc(), "no use\nof agenda\n")?);
     writes(&rt, Failure::Usage(usage), 128, "no use\nof agenda\n", 2);

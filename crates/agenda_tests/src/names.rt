@@ -2,7 +2,7 @@ use agenda_faults::RunFault;
 use agenda_script::{ScriptCause, ScriptFault};
 use agenda_sources::SourceFault;
 use plan_collect::CollectFault;
-use plan_rules::{LineCause, LineFault, RuleCause, RuleFault};
+use plan_rules::{LineCause, LineFault, RuleCause, RuleFault, Text};
 use plan_serial::PlanFault;
 use plan_streams::WriteFault;
 use std::fmt::Display;
@@ -36,13 +36,12 @@ fn names_of_faults_of_commands(rt: HostRuntime) -> Result<(), Fail> {
     prints(&rt, &RunFault::BadCount, "BadCount")?;
     prints(&rt, &RunFault::Rule(rule), "WrongParts")?;
     prints(&rt, &RunFault::Script(script), "BadLine")?;
-    let fault = RunFault::InCrontab(bad(1, LineCause::NoCommand));
+    let fault = RunFault::InSource(0, bad(1, LineCause::NoCommand));
     prints(&rt, &fault, "NoCommand")?;
-    let fault = RunFault::InSystem(bad(1, LineCause::BadSetting));
-    prints(&rt, &fault, "BadSetting")?;
-    let fault = RunFault::InTimer(0, bad(0, LineCause::NoTimerSection));
-    prints(&rt, &fault, "NoTimerSection")?;
-    prints(&rt, &RunFault::SameName(0), "SameName")?;
+    let fault = RunFault::InSource(7, bad(0, LineCause::BadTabName));
+    prints(&rt, &fault, "BadTabName")?;
+    let name = Text::new(String::from_str(rt.alloc(), "a:1")?);
+    prints(&rt, &RunFault::SameName(name), "SameName")?;
     prints(&rt, &RunFault::Full, "Full")?;
     let missing = PlanFault::Collect(CollectFault::Missing);
     prints(&rt, &RunFault::Plan(missing), "Missing")?;
@@ -54,13 +53,12 @@ fn names_of_faults_of_commands(rt: HostRuntime) -> Result<(), Fail> {
 #[test]
 fn names_of_faults_of_sources(rt: HostRuntime) -> Result<(), Fail> {
     prints(&rt, &SourceFault::NoMemory, "NoMemory")?;
-    let fault = SourceFault::InCrontab(bad(1, LineCause::NoCommand));
-    prints(&rt, &fault, "NoCommand")?;
-    let fault = SourceFault::InSystem(bad(1, LineCause::BadSetting));
+    let fault = SourceFault::InSource(0, bad(1, LineCause::BadSetting));
     prints(&rt, &fault, "BadSetting")?;
-    let fault = SourceFault::InTimer(0, bad(0, LineCause::NoTimerSection));
+    let fault = SourceFault::InSource(1, bad(0, LineCause::NoTimerSection));
     prints(&rt, &fault, "NoTimerSection")?;
-    prints(&rt, &SourceFault::SameName(0), "SameName")?;
+    let name = Text::new(String::from_str(rt.alloc(), "a:1")?);
+    prints(&rt, &SourceFault::SameName(name), "SameName")?;
     prints(&rt, &SourceFault::Full, "Full")
 }
 

@@ -8,7 +8,7 @@ use Rattle.clap.proofs.OnLiterals.{clap_on_literals}
 use Rattle.plan_collect.specs.declared.Sizes.{Sizes}
 use Rattle.agenda_words.specs.declared.ask.Ask.TheVariants.{Next, Plan, Steps}
 use Rattle.agenda_words.specs.declared.ask.Asked.TheVariants.{Cron, Event}
-use Rattle.agenda_sources.specs.declared.SourceKind.TheVariants.{Crontab, System, Timer}
+use Rattle.agenda_sources.specs.declared.SourceKind.TheVariants.{Crontab, System, CronD, Spool, Timer}
 use Rattle.agenda_words.specs.Words.{asked_by, is_usage, path_of, wants_help}
 
 abbrev moment : List ℕ
@@ -153,6 +153,13 @@ sources_in_order : asked_by (plan_with (codes "t.timer" ∷ codes "--system-cron
     (sized 2 16 10000))
 unfolding asked_by clap_on_literals
 sources_in_order = refl
+
+-- crontabs that have names, in any number; of one kind they stand in the order of the words
+named_crontabs : asked_by (plan_with (codes "--spool=u" ∷ codes "--cron-d" ∷ codes "b" ∷ codes "--cron-d=a" ∷ codes "--spool" ∷ codes "-" ∷ []))
+    ≡ Ok (Plan moment (codes "u") (path_of CronD (codes "b") ∷ path_of CronD (codes "a") ∷ path_of Spool (codes "u")
+    ∷ path_of Spool (codes "-") ∷ []) (sized 2 16 10000))
+unfolding asked_by clap_on_literals
+named_crontabs = refl
 
 -- two user crontabs, which clap refuses
 two_crontabs_are_given : asked_by (plan_with (codes "--crontab" ∷ codes "c" ∷ codes "--crontab=d" ∷ [])) ≡ Err is_usage

@@ -5,7 +5,7 @@ use Rattle.clap.specs.Simple.{on_top}
 use Rattle.clap.specs.declared.builder.action.ArgAction.TheVariants.{Append}
 use Rattle.clap.specs.declared.builder.value_parser.ValueParser.TheVariants as parser
 use Rattle.agenda_sources.specs.declared.SourceKind.{SourceKind}
-use Rattle.agenda_sources.specs.declared.SourceKind.TheVariants.{Crontab, System, Timer}
+use Rattle.agenda_sources.specs.declared.SourceKind.TheVariants.{Crontab, System, CronD, Spool, Timer}
 use Rattle.agenda_sources.specs.Kind.{kinds, option_of}
 
 -- own: an argument `VALUE`, which may be missing
@@ -31,10 +31,12 @@ number_option name default = record (option_named name) {
 abbrev pub file_argument : Rule
 file_argument = record (argument_named (codes "file")) { required = true }
 
--- own: where jobs come from: `--crontab F`, `--system-crontab F`, or `TIMER ..`, of which there may be any number
+-- own: where jobs come from: `--crontab F`, `--system-crontab F`, and in any number `--cron-d F`, `--spool F` and `TIMER ..`
 abbrev pub source_rule : SourceKind → Rule
 source_rule Crontab = option_named (option_of Crontab)
 source_rule System = option_named (option_of System)
+source_rule CronD = record (option_named (option_of CronD)) { action = Some Append }
+source_rule Spool = record (option_named (option_of Spool)) { action = Some Append }
 source_rule Timer = record (argument_named (option_of Timer)) { action = Some Append }
 
 -- own: a command with further arguments, one after the other
@@ -50,7 +52,7 @@ with_rules app rules = on_top (λ s. record s { rules = s.rules ++ rules }) app
 abbrev pub subcommand_with : List ℕ → List Rule → App
 subcommand_with name rules = with_rules (new_app name) rules
 
--- own: a command with what gives the sources of each kind: `[--crontab F] [--system-crontab F] [TIMER ..]`
+-- own: a command with what gives the sources of each kind: `[--crontab F] [--system-crontab F] [--cron-d F ..] [--spool F ..] [TIMER ..]`
 abbrev pub with_sources : App → App
 with_sources app = with_each app (map source_rule kinds)
 
@@ -60,7 +62,7 @@ abbrev pub next : App
 next = subcommand_with (codes "next") (moment_option (codes "after") ∷ number_option (codes "count") (codes "1")
     ∷ option_named (codes "cron") ∷ option_named (codes "calendar") ∷ [])
 
--- own: `plan --since T --upto T [--crontab F] [--system-crontab F] [TIMER ..] [--planners N] [--room N] [--limit N]`
+-- own: `plan --since T --upto T`, what gives the sources, `[--planners N] [--room N] [--limit N]`
 abbrev pub plan : App
 plan = with_rules (with_sources (subcommand_with (codes "plan") (moment_option (codes "since") ∷ moment_option (codes "upto") ∷ [])))
     (number_option (codes "planners") (codes "2") ∷ number_option (codes "room") (codes "16")

@@ -94,9 +94,10 @@ fn with_sources<'a>(alloc: Global, command: Command<'a>) -> Result<Command<'a>, 
     ensures app { IfOk result (λ new. app_of new ≡ with_sources (app_of command.entry)) }
     ensures local { IfOk result (λ new. (out-Command new).has_globals ≡ false) }
 {
-    let command = with_argument(command, source_argument(alloc, SourceKind::Crontab))?;
-    let command = with_argument(command, source_argument(alloc, SourceKind::System))?;
-    let command = with_argument(command, source_argument(alloc, SourceKind::Timer))?;
+    let mut command = command;
+    for kind in SourceKind::all() {
+        command = with_argument(command, source_argument(alloc, kind))?;
+    }
     Ok(command)
 }
 
@@ -118,7 +119,7 @@ fn file_argument<'a>(alloc: Global) -> Arg<'a>
     argument(alloc, "file", "FILE", help::FILE).required(true)
 }
 
-// `--crontab F`, `--system-crontab F`, or `TIMER ..`, of which there may be any number.
+// `--crontab F`, `--system-crontab F`, or, any number of times, `--cron-d F`, `--spool F` or `TIMER`.
 fn source_argument<'a>(alloc: Global, kind: SourceKind) -> Arg<'a>
     ensures rule { rule_of result ≡ source_rule kind }
     ensures local { result.global ≡ false }
@@ -126,6 +127,12 @@ fn source_argument<'a>(alloc: Global, kind: SourceKind) -> Arg<'a>
     match kind {
         SourceKind::Crontab => text_option(alloc, "crontab", "F", help::CRONTAB),
         SourceKind::System => { text_option(alloc, "system-crontab", "F", help::SYSTEM_CRONTAB) },
+        SourceKind::CronD => {
+            text_option(alloc, "cron-d", "F", help::CRON_D).action(ArgAction::Append)
+        }
+        SourceKind::Spool => {
+            text_option(alloc, "spool", "F", help::SPOOL).action(ArgAction::Append)
+        }
         SourceKind::Timer => {
             argument(alloc, "timer", "TIMER", help::TIMER).action(ArgAction::Append)
         }

@@ -25,7 +25,7 @@ pub fn jobs_of(alloc: Global, source: &[u8]) -> Option<Jobs> {
             jobs.add(timer(alloc, name, source).ok()?).ok()?;
         }
     } else {
-        for job in crontab(alloc, source, Kind::User).ok()? {
+        for job in crontab(alloc, "cron", source, Kind::User).ok()? {
             jobs.add(job).ok()?;
         }
     }
@@ -37,7 +37,7 @@ pub fn job_of(alloc: Global, source: &[u8]) -> Option<Job> {
     if is_timer(source) {
         return timer(alloc, NAMES[0], source).ok();
     }
-    crontab(alloc, source, Kind::User).ok()?.pop()
+    crontab(alloc, "cron", source, Kind::User).ok()?.pop()
 }
 
 // Whether a source is a timer file, which begins with its section.

@@ -10,7 +10,7 @@ use Rattle.plan_grammar.specs.declared.fault.RuleFault.{RuleFault}
 use Rattle.plan_grammar.specs.declared.fault.RuleCause.{RuleCause}
 use Rattle.plan_grammar.specs.declared.fault.RuleCause.TheVariants as cause
 use Rattle.plan_rules.specs.declared.line_fault.LineCause.{LineCause}
-use Rattle.plan_rules.specs.declared.line_fault.LineCause.TheVariants.{NoMemory, NotUtf8, TooLarge, Rule, BadSetting, BadTimerName}
+use Rattle.plan_rules.specs.declared.line_fault.LineCause.TheVariants.{NoMemory, NotUtf8, TooLarge, Rule, BadSetting, BadTimerName, BadTabName}
 use Rattle.plan_rules.specs.declared.line_fault.LineFault.{LineFault}
 use Rattle.plan_texts.specs.Steps.{◌>>=◌, each, GivesUnless}
 use Rattle.plan_grammar.specs.Readings.{Reading}
@@ -24,6 +24,7 @@ IsLineCause (Rule fault) = fault.cause ≢ cause.NoMemory
 IsLineCause NotUtf8 = ⊥
 IsLineCause TooLarge = ⊥
 IsLineCause BadTimerName = ⊥
+IsLineCause BadTabName = ⊥
 IsLineCause other = Unit {0}
 
 pub own_cause : (c : LineCause) → IsLineCause c → IsOwnCause c
@@ -70,23 +71,23 @@ unfolding what_reading
 what User text = command (after_blanks text)
 what System text = user (cut_word text)
 
-job : (kind : Kind) (number : ℕ) (text : List ℕ) → IfErr (job_reading kind number text) IsLineCause
+job : (label : List ℕ) (kind : Kind) (number : ℕ) (text : List ℕ) → IfErr (job_reading label kind number text) IsLineCause
 unfolding job_reading
-job kind number text =
+job label kind number text =
     steps IsLineCause (in_line (rule_in_front text)) _ (rule_in (rule_in_front text))
     (λ front. steps IsLineCause (what_reading kind front.1) _ (what kind front.1) (λ c. tt))
 
-entry : (kind : Kind) (number : ℕ) (text : List ℕ) → IfErr (entry_reading kind number text) IsLineCause
-entry kind number [] = tt
-entry kind number (first ∷ rest) =
+entry : (label : List ℕ) (kind : Kind) (number : ℕ) (text : List ℕ) → IfErr (entry_reading label kind number text) IsLineCause
+entry label kind number [] = tt
+entry label kind number (first ∷ rest) =
     choice IsLineCause (eqb first 35) _ _ tt
     (choice IsLineCause (begins_setting first) _ _
     (choice IsLineCause (list_any (λ b. eqb b 61) (first ∷ rest)) (Ok None) (Err BadSetting) tt tt)
-    (steps IsLineCause (job_reading kind number (first ∷ rest)) _ (job kind number (first ∷ rest)) (λ j. tt)))
+    (steps IsLineCause (job_reading label kind number (first ∷ rest)) _ (job label kind number (first ∷ rest)) (λ j. tt)))
 
-line : (kind : Kind) (number : ℕ) (text : List ℕ) → IfErr (line_reading kind number text) IsLineCause
+line : (label : List ℕ) (kind : Kind) (number : ℕ) (text : List ℕ) → IfErr (line_reading label kind number text) IsLineCause
 unfolding line_reading
-line kind number text = entry kind number (after_blanks text)
+line label kind number text = entry label kind number (after_blanks text)
 
 -- ---- the fault of a text
 
@@ -98,12 +99,12 @@ pub on : {A : Type 0} (number : ℕ) (r : LineReading A) → IfErr r IsLineCause
 on number (Ok x) own = tt
 on number (Err c) own = fault_of number c own
 
-pub jobs : (kind : Kind) (texts : List (List ℕ)) → IfErr (jobs_reading kind texts) IsOwnFault
+pub jobs : (label : List ℕ) (kind : Kind) (texts : List (List ℕ)) → IfErr (jobs_reading label kind texts) IsOwnFault
 unfolding jobs_reading
-jobs kind texts =
-    steps IsOwnFault (each (numbered_reading kind) (enumerate_from 0 texts)) _
-    (elements IsOwnFault (numbered_reading kind) (λ text. on (text.0 + 1) (line_reading kind (text.0 + 1) text.1)
-    (line kind (text.0 + 1) text.1)) (enumerate_from 0 texts))
+jobs label kind texts =
+    steps IsOwnFault (each (numbered_reading label kind) (enumerate_from 0 texts)) _
+    (elements IsOwnFault (numbered_reading label kind) (λ text. on (text.0 + 1) (line_reading label kind (text.0 + 1) text.1)
+    (line label kind (text.0 + 1) text.1)) (enumerate_from 0 texts))
     (λ found. tt)
 
 -- ---- so each fault that a call answers

@@ -49,7 +49,7 @@ abbrev parts_of : TextReading (List JobParts) → List (List ℕ × List ℕ)
 parts_of (Ok jobs) = map (λ job. (job.name, job.what)) jobs
 parts_of (Err fault) = []
 
-reboot_and_daily : parts_of (crontab_reading User nightly) ≡ (codes "cron:3", codes "a") ∷ (codes "cron:4", codes "b") ∷ []
+reboot_and_daily : parts_of (crontab_reading (codes "cron") User nightly) ≡ (codes "cron:3", codes "a") ∷ (codes "cron:4", codes "b") ∷ []
 unfolding is_utf8 chars lib.Utf8.encode digits lines cut_word words at_word_in_front what_reading job_reading line_reading jobs_reading
     cut_at number_of set_reading rule_reading five_fields field_reading items_reading item_reading side_reading value_reading step_reading
 reboot_and_daily = refl
@@ -58,7 +58,7 @@ reboot_and_daily = refl
 abbrev parts_hourly : List ℕ
 parts_hourly = codes "17 * * * * root cd / && run-parts x"
 
-run_parts : parts_of (crontab_reading System parts_hourly) ≡ (codes "system:1", codes "root cd / && run-parts x") ∷ []
+run_parts : parts_of (crontab_reading (codes "system") System parts_hourly) ≡ (codes "system:1", codes "root cd / && run-parts x") ∷ []
 unfolding is_utf8 chars lib.Utf8.encode digits lines cut_word words fields_in_front what_reading job_reading line_reading jobs_reading
     cut_at number_of set_reading rule_reading five_fields field_reading items_reading item_reading side_reading value_reading step_reading
 run_parts = refl
@@ -69,14 +69,14 @@ first_matches (Ok (job ∷ jobs)) times = map (λ (time : ℕ × ℕ). rule_matc
 first_matches other times = []
 
 -- at 00:17:00 and 01:17:00, not at 00:00:00
-run_parts_hourly : first_matches (crontab_reading System parts_hourly) ((0, 17) ∷ (1, 17) ∷ (0, 0) ∷ []) ≡ true ∷ true ∷ false ∷ []
+run_parts_hourly : first_matches (crontab_reading (codes "system") System parts_hourly) ((0, 17) ∷ (1, 17) ∷ (0, 0) ∷ []) ≡ true ∷ true ∷ false ∷ []
 unfolding is_utf8 chars lib.Utf8.encode digits lines cut_word words fields_in_front what_reading job_reading line_reading jobs_reading
     cut_at number_of set_reading rule_reading five_fields field_reading items_reading item_reading side_reading value_reading step_reading
     week_days_of at_minute
 run_parts_hourly = simp has_value-values_where
 
 -- what a user's job runs is kept as it is written, after the blanks in front of it
-kept_as_written : map (λ text. parts_of (crontab_reading User text))
+kept_as_written : map (λ text. parts_of (crontab_reading (codes "cron") User text))
     (codes " \t# * * * * x\n \n@daily\t a # b % \n" ∷ codes "\"A\"=x\n@daily a\r" ∷ [])
     ≡ ((codes "cron:3", codes "a # b % ") ∷ [])
     ∷ ((codes "cron:2", codes "a\r") ∷ [])
@@ -86,7 +86,7 @@ unfolding is_utf8 chars lib.Utf8.encode digits lines cut_word words at_word_in_f
 kept_as_written = refl
 
 -- refused texts of a user, each with its one fault
-user_refusals : map (crontab_reading User)
+user_refusals : map (crontab_reading (codes "cron") User)
     (codes "MAILTO x"
     ∷ codes "* * * * *"
     ∷ codes "@daily"
@@ -122,7 +122,7 @@ user_refusals = refl
 
 -- a user without a command
 user_alone :
-    map (crontab_reading System) (codes "* * * * * root" ∷ codes "@daily root \t" ∷ codes "@daily" ∷ []) ≡
+    map (crontab_reading (codes "system") System) (codes "* * * * * root" ∷ codes "@daily root \t" ∷ codes "@daily" ∷ []) ≡
     on 1 NoCommand ∷ on 1 NoCommand ∷ on 1 NoCommand ∷ []
 unfolding on is_utf8 chars lib.Utf8.encode digits lines cut_word words fields_in_front at_word_in_front what_reading job_reading
     line_reading jobs_reading cut_at number_of set_reading rule_reading five_fields field_reading items_reading item_reading side_reading
@@ -130,6 +130,6 @@ unfolding on is_utf8 chars lib.Utf8.encode digits lines cut_word words fields_in
 user_alone = refl
 
 -- a byte too many
-too_large : (bytes : List ℕ) → length bytes ≡ 1048577 → crontab_reading User bytes ≡ on 0 TooLarge
+too_large : (bytes : List ℕ) → length bytes ≡ 1048577 → crontab_reading (codes "cron") User bytes ≡ on 0 TooLarge
 unfolding on
 too_large bytes long = rw long refl

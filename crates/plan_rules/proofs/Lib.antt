@@ -1,6 +1,7 @@
 pub mod CrontabLemmas
 pub mod CrontabFaults
 pub mod FileFaults
+pub mod TabFaults
 mod CrontabRows
 pub mod JobsLemmas
 pub mod TimerLemmas

@@ -68,17 +68,16 @@ what_reading System text = user_and_command (cut_word text)
 
 -- ---- a line
 
--- the name of a line's job (own)
-abbrev pub job_name : Kind → ℕ → List ℕ
-job_name User number = codes "cron:" ++ decimal number
-job_name System number = codes "system:" ++ decimal number
+-- the name of a line's job: the crontab's label, a colon and the line's number in decimal (own)
+abbrev pub job_name : List ℕ → ℕ → List ℕ
+job_name label number = label ++ (codes ":" ++ decimal number)
 
 -- the job of a line without blanks in front: its rule is read first (own)
-unfoldable pub job_reading : Kind → ℕ → List ℕ → LineReading JobParts
-job_reading kind number text = do
+unfoldable pub job_reading : (label : List ℕ) → Kind → ℕ → List ℕ → LineReading JobParts
+job_reading label kind number text = do
   front ← in_line (rule_in_front text)
   what ← what_reading kind (front.1)
-  Ok (record { name = job_name kind number; what = what; rule = front.0 })
+  Ok (record { name = job_name label number; what = what; rule = front.0 })
 
 -- the first characters of a setting: a letter, `_`, or a quote (own)
 abbrev pub begins_setting : ℕ → Bool
@@ -90,33 +89,33 @@ setting_reading text = if list_any (λ b. b == byte "=") text then Ok None else 
 
 -- a line without blanks in front, by its first character: it may be empty, a comment or a setting, and else it is a job
 -- (crontab(5))
-abbrev pub entry_reading : Kind → ℕ → List ℕ → LineReading (Option JobParts)
-entry_reading kind number [] = Ok None
-entry_reading kind number (first ∷ rest) =
+abbrev pub entry_reading : (label : List ℕ) → Kind → ℕ → List ℕ → LineReading (Option JobParts)
+entry_reading label kind number [] = Ok None
+entry_reading label kind number (first ∷ rest) =
     if first == byte "#" then Ok None
     else (if begins_setting first then setting_reading (first ∷ rest)
     else (do
-      job ← job_reading kind number (first ∷ rest)
+      job ← job_reading label kind number (first ∷ rest)
       Ok (Some job)))
 
 -- a line; blanks in front of it are ignored (crontab(5))
-unfoldable pub line_reading : Kind → ℕ → List ℕ → LineReading (Option JobParts)
-line_reading kind number line = entry_reading kind number (after_blanks line)
+unfoldable pub line_reading : (label : List ℕ) → Kind → ℕ → List ℕ → LineReading (Option JobParts)
+line_reading label kind number line = entry_reading label kind number (after_blanks line)
 
 -- ---- a crontab
 
 -- the reading of the line at a place, from 0: its number counts from 1 (own)
-abbrev pub numbered_reading : Kind → ℕ × List ℕ → TextReading (Option JobParts)
-numbered_reading kind line = on_line (line.0 + 1) (line_reading kind (line.0 + 1) (line.1))
+abbrev pub numbered_reading : (label : List ℕ) → Kind → ℕ × List ℕ → TextReading (Option JobParts)
+numbered_reading label kind line = on_line (line.0 + 1) (line_reading label kind (line.0 + 1) (line.1))
 
 -- the jobs of the lines in order; the first faulty line decides
-unfoldable pub jobs_reading : Kind → List (List ℕ) → TextReading (List JobParts)
-jobs_reading kind lines = do
-  found ← each (numbered_reading kind) (enumerate_from 0 lines)
+unfoldable pub jobs_reading : (label : List ℕ) → Kind → List (List ℕ) → TextReading (List JobParts)
+jobs_reading label kind lines = do
+  found ← each (numbered_reading label kind) (enumerate_from 0 lines)
   Ok (filter_map (λ job. job) found)
 
 -- the meaning of a crontab: its bytes are looked at first, then its lines (own)
-abbrev pub crontab_reading : Kind → List ℕ → TextReading (List JobParts)
-crontab_reading kind bytes = do
+abbrev pub crontab_reading : (label : List ℕ) → Kind → List ℕ → TextReading (List JobParts)
+crontab_reading label kind bytes = do
   text ← text_reading bytes
-  jobs_reading kind (lines text)
+  jobs_reading label kind (lines text)

@@ -14,6 +14,7 @@ pub mod LineFaults
 pub mod FileText
 pub mod Job
 pub mod Crontab
+pub mod Tabs
 pub mod Jobs
 pub mod Timer
 pub mod TimerSteps

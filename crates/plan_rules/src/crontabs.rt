@@ -33,14 +33,14 @@ pub enum Kind {
 ///
 /// A line is empty, a comment that begins with `#`, a setting that begins with a letter, `_` or a quote, or a job: a word
 /// that begins with `@` or five fields, as `cron_rule` reads them, then in the system's crontab a user, then the command to
-/// the line's end. The job of line n, from 1, is named `cron:n`, or `system:n` in the system's crontab.
+/// the line's end. The job of line n, from 1, is named `LABEL:n`, by the label that is given.
 ///
 /// Faults, the first that stands in the bytes: `TooLarge` for more than 1,048,576 bytes and `NotUtf8`, both of line 0, then
 /// those of the first bad line: `BadSetting` where a setting has no `=`; `Rule` for the fault of a job's rule; `NoCommand`
 /// where no command or, in the system's crontab, no user follows it. `NoMemory` is of line 0.
-pub fn crontab(alloc: Global, bytes: &[u8], kind: Kind) -> Result<Vec<Job>, LineFault>
+pub fn crontab(alloc: Global, label: &str, bytes: &[u8], kind: Kind) -> Result<Vec<Job>, LineFault>
     ensures meaning { GivesUnless want_of_memory (λ jobs. jobs.items) result
-        (crontab_reading kind bytes.now) }
+        (crontab_reading label.now kind bytes.now) }
     // These two are found before any memory is asked for.
     ensures too_large { (result ≡ Err (of_whole LineCause.TooLarge)) ↔ IsTrue (is_too_large bytes.now) }
     ensures not_utf8 { (result ≡ Err (of_whole LineCause.NotUtf8))
@@ -50,18 +50,23 @@ pub fn crontab(alloc: Global, bytes: &[u8], kind: Kind) -> Result<Vec<Job>, Line
 {
     let text = text_of(bytes)?;
     let lines = lines(alloc, text)?;
-    jobs_of_lines(alloc, kind, lines.as_slice())
+    jobs_of_lines(alloc, label, kind, lines.as_slice())
 }
 
 // The jobs of lines, in order.
-fn jobs_of_lines(alloc: Global, kind: Kind, lines: &[&str]) -> Result<Vec<Job>, LineFault>
+fn jobs_of_lines(
+    alloc: Global,
+    label: &str,
+    kind: Kind,
+    lines: &[&str],
+) -> Result<Vec<Job>, LineFault>
     requires { length lines.now ≤ most_bytes }
     ensures { GivesUnless want_of_memory (λ jobs. jobs.items) result
-        (jobs_reading kind (map (λ line. line.now) lines.now)) }
+        (jobs_reading label.now kind (map (λ line. line.now) lines.now)) }
 {
     let mut jobs = Vec::new(alloc);
     for (place, line) in lines.iter().enumerate() {
-        if let Some(job) = numbered_job(alloc, kind, place as u32 + 1, line)? {
+        if let Some(job) = numbered_job(alloc, label, kind, place as u32 + 1, line)? {
             jobs.push(job)?;
         }
     }
@@ -71,14 +76,15 @@ fn jobs_of_lines(alloc: Global, kind: Kind, lines: &[&str]) -> Result<Vec<Job>, 
 // The job of the line with a number, if it has one.
 fn numbered_job(
     alloc: Global,
+    label: &str,
     kind: Kind,
     number: u32,
     line: &str,
 ) -> Result<Option<Job>, LineFault>
     ensures { GivesUnless want_of_memory (λ job. job) result
-        (on_line number (line_reading kind number line.now)) }
+        (on_line number (line_reading label.now kind number line.now)) }
 {
-    match job_of_line(alloc, kind, number, line) {
+    match job_of_line(alloc, label, kind, number, line) {
         Ok(job) => Ok(job),
         Err(cause) => Err(cause.on_line(number)),
     }
@@ -86,14 +92,20 @@ fn numbered_job(
 
 // The job of a line, if it has one, by the line's first character.
 #[tactic(auto, unfolding(crate::specs::Crontab::line_reading))]
-fn job_of_line(alloc: Global, kind: Kind, number: u32, line: &str) -> Result<Option<Job>, LineCause>
-    ensures { GivesLine result (line_reading kind number line.now) }
+fn job_of_line(
+    alloc: Global,
+    label: &str,
+    kind: Kind,
+    number: u32,
+    line: &str,
+) -> Result<Option<Job>, LineCause>
+    ensures { GivesLine result (line_reading label.now kind number line.now) }
 {
     let line = after_blanks(line);
     match line.as_bytes() {
         [] | [b'#', ..] => Ok(None),
         [first, ..] if begins_setting(*first) => setting(line),
-        _ => Ok(Some(job(alloc, kind, number, line)?)),
+        _ => Ok(Some(job(alloc, label, kind, number, line)?)),
     }
 }
 
@@ -116,12 +128,12 @@ fn setting(line: &str) -> Result<Option<Job>, LineCause>
 
 // The job of a line without blanks in front.
 #[tactic(auto, unfolding(crate::specs::Crontab::job_reading))]
-fn job(alloc: Global, kind: Kind, number: u32, line: &str) -> Result<Job, LineCause>
-    ensures { GivesLine result (job_reading kind number line.now) }
+fn job(alloc: Global, label: &str, kind: Kind, number: u32, line: &str) -> Result<Job, LineCause>
+    ensures { GivesLine result (job_reading label.now kind number line.now) }
 {
     let (rule, rest) = rule_in_front(alloc, line)?;
     let what = what(alloc, kind, rest)?;
-    let name = name(alloc, kind, number)?;
+    let name = name(alloc, label, number)?;
     Ok(Job::new(name, what, Arc::new(alloc, rule)?))
 }
 
@@ -193,11 +205,8 @@ fn command(text: &str) -> Result<&str, LineCause>
 }
 
 // The name of the job of a line.
-fn name(alloc: Global, kind: Kind, number: u32) -> Result<String, AllocError>
-    ensures { IfOk result (λ name. string_bytes name ≡ job_name kind number) }
+fn name(alloc: Global, label: &str, number: u32) -> Result<String, AllocError>
+    ensures { IfOk result (λ name. string_bytes name ≡ job_name label.now number) }
 {
-    match kind {
-        Kind::User => format!(in alloc; "cron:{number}"),
-        Kind::System => format!(in alloc; "system:{number}"),
-    }
+    format!(in alloc; "{label}:{number}")
 }

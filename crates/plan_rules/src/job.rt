@@ -4,6 +4,7 @@ ghost use Rattle.std.specs.Prelude.{◌≡◌, string_bytes};
 ghost use Rattle.std.specs.Arc.{arc_value};
 
 use plan_match::Rule;
+use plan_texts::Text;
 use std::marker::Model;
 use std::sync::Arc;
 
@@ -41,12 +42,19 @@ impl Job {
         Job { name, what, rule }
     }
 
-    /// The job's name, which tells it from other jobs: `cron:n` of line n of a user's crontab, `system:n` of the system's, the file's
-    /// own name of a timer file.
+    /// The job's name, which tells it from other jobs: of line n of a crontab `LABEL:n`, by the crontab's label or its file's name; the
+    /// file's own name of a timer file.
     pub fn name(&self) -> &str
         ensures { result.now ≡ self.now.name }
     {
         self.name.as_str()
+    }
+
+    /// The job's name alone, kept.
+    pub fn into_name(self) -> Text
+        ensures { result ≡ self.name }
+    {
+        Text::new(self.name)
     }
 
     /// What the job runs, as it was written: a command; of the system's crontab the user, a space and the command;

@@ -2,7 +2,8 @@
 //! (systemd.time(7)), timer files (systemd.timer(5), systemd.syntax(7)), and the list of jobs by their names.
 //!
 //! It stands on the four crates below it, from plan_sets to plan_grammar, and passes their names on, so that those above it know this
-//! crate alone. Open `crontabs` first, then `timers`; both take the `file_text` and make a `job`, and `jobs` is the list.
+//! crate alone. Open `crontabs` first, then `tabs`, the crontabs that have names, and `timers`; all take the `file_text` and make a
+//! `job`, and `jobs` is the list.
 #![tactic(auto)]
 
 mod crontabs;
@@ -10,6 +11,7 @@ mod file_text;
 mod job;
 mod jobs;
 mod line_fault;
+mod tabs;
 mod timers;
 
 pub use crontabs::{Kind, crontab};
@@ -19,4 +21,5 @@ pub use line_fault::{LineCause, LineFault};
 pub use plan_grammar::{RuleCause, RuleFault, calendar_event, calendar_rule, cron_rule};
 pub use plan_match::{Calendar, CronRule, DayCount, Events, Rule};
 pub use plan_texts::{Text, cut, lines, number};
+pub use tabs::{TabFolder, tab};
 pub use timers::{MOST_EVENTS, timer};

@@ -26,6 +26,8 @@ pub enum LineCause {
     NoTimerSection,
     /// 9: the list of a timer's events would hold more than 64.
     TooManyLines,
+    /// 10: the file's name is no name of a crontab in its folder; its line is 0.
+    BadTabName,
 }
 
 /// The first fault of a text of lines.
@@ -57,6 +59,7 @@ impl LineCause {
             LineCause::BadTimerName => "BadTimerName",
             LineCause::NoTimerSection => "NoTimerSection",
             LineCause::TooManyLines => "TooManyLines",
+            LineCause::BadTabName => "BadTabName",
         }
     }
 

@@ -9,7 +9,7 @@ use std::test::Fail;
 // The jobs of a user's crontab.
 pub fn user_jobs(alloc: Global, text: &str) -> Result<Jobs, Fail> {
     let mut jobs = Jobs::new(alloc);
-    for job in crontab(alloc, text.as_bytes(), Kind::User)? {
+    for job in crontab(alloc, "cron", text.as_bytes(), Kind::User)? {
         jobs.add(job)?;
     }
     Ok(jobs)

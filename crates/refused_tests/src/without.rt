@@ -74,7 +74,7 @@ fn mailboxes_reply(rt: HostRuntime) -> Result<(), Fail> {
 #[test]
 fn jobs_and_pieces_are_read(rt: HostRuntime) -> Result<(), Fail> {
     let mut jobs = Jobs::new(rt.alloc());
-    for job in crontab(rt.alloc(), b"0 * * * * x\n", Kind::User)? {
+    for job in crontab(rt.alloc(), "cron", b"0 * * * * x\n", Kind::User)? {
         jobs.add(job)?;
     }
     let rule = Arc::new(rt.alloc(), cron_rule(rt.alloc(), "0 * * * *")?)?;
@@ -153,7 +153,7 @@ fn assert_lines(rt: &impl Abort, lines: &Lines, text: &str) {
 #[test]
 fn an_agenda_is_written(rt: HostRuntime) -> Result<(), Fail> {
     let mut jobs = Jobs::new(rt.alloc());
-    for job in crontab(rt.alloc(), b"@daily b\n", Kind::User)? {
+    for job in crontab(rt.alloc(), "cron", b"@daily b\n", Kind::User)? {
         jobs.add(job)?;
     }
     let agenda = plan_serial(rt.alloc(), &jobs, Span::new(0, 86_400)?, 10)?;

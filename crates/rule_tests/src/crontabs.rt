@@ -5,7 +5,7 @@ use std::test::Fail;
 
 // The jobs of a user's crontab.
 fn jobs_of(alloc: Global, text: &str) -> Result<Vec<Job>, Fail> {
-    Ok(crontab(alloc, text.as_bytes(), Kind::User)?)
+    Ok(crontab(alloc, "cron", text.as_bytes(), Kind::User)?)
 }
 
 // A text so many times.

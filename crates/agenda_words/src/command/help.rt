@@ -50,6 +50,14 @@ pub(super) const CRONTAB: &str = "The path of a user crontab";
 
 pub(super) const SYSTEM_CRONTAB: &str = "The path of a system crontab, whose lines name a user";
 
+pub(super) const CRON_D: &str = "\
+The path of a package's crontab, as /etc/cron.d/php;
+any number of times";
+
+pub(super) const SPOOL: &str = "\
+The path of a user's crontab in the spool folder;
+any number of times";
+
 pub(super) const PLANNERS: &str = "How many planners search, from 1 to 8";
 
 pub(super) const ROOM: &str = "\
@@ -65,10 +73,10 @@ pub(super) const TIMER: &str = "The path of a systemd timer's file, as backup.ti
 pub(super) const AFTER_PLAN: &str = "\
 Prints a header line with the span and the number of starts, and a line for each start:
 the moment, the job's name and what it runs, with a tab between. The lines are in order
-of moments; at one moment in order of jobs, first the user crontab's, then the system
-crontab's, then the timers as given. Where there are more starts than the limit, nothing
-is printed. The number of planners and their room change no line. The formats of the
-files are described in agenda(1).
+of moments; at one moment in order of jobs: the user crontab's, the system crontab's,
+then those of --cron-d, of --spool and the timers, each as given. Where there are more
+starts than the limit, nothing is printed. The number of planners and their room change
+no line. The formats of the files are described in agenda(1).
 
 Example:
   agenda plan --since 2024-01-01T00:00:00Z --upto 2024-01-02T00:00:00Z \\

@@ -21,7 +21,7 @@ returns-in-Device g c =
 
 pub returns-in-SameName : goal.returns-in-SameName
 returns-in-SameName g c =
-    let name = ap (λ (l : List ℕ). codes "agenda: job " ++ (l ++ codes ": SameName\n")) c.name_at.ensures in
+    let name = ap (λ (l : List ℕ). codes "agenda: job " ++ (l ++ codes ": SameName\n")) c.as_str.ensures in
     puts_as g.S.Stream.takes_all c.put_same_name.result (g.S.Stream.holds c.args.stream.now) (g.S.Stream.holds c.put_same_name.new.stream) _
     _
     c.put_same_name.ensures (name ∙ ap (run_line c.args.sources.now) (sym c.in-SameName.is))

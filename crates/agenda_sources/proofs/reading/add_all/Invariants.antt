@@ -1,13 +1,12 @@
 use Rattle.std.proofs.Common.{◌≡◌, ◌≤◌, length}
 use Rattle.std.specs.Vec.Iter.{into_iter_items}
 use Rattle.plan_rules.specs.Limits.{most_jobs}
-use Rattle.agenda_sources.specs.Sources.{place_in, with_jobs}
+use Rattle.agenda_sources.specs.Sources.{with_jobs}
 use Rattle.agenda_sources.proofs.reading.add_all.Given as goal
 
 -- what is left, with the jobs so far, means what all mean
 abbrev pub invariant-loop-job : goal.invariant-loop-job
 invariant-loop-job l = record {
   few : length l.jobs ≤ most_jobs;
-  left : with_jobs (place_in l.kind l.before) l.jobs (into_iter_items l.job-iterator)
-      ≡ with_jobs (place_in l.kind l.before) l.fn.jobs l.fn.more.items;
+  left : with_jobs l.jobs (into_iter_items l.job-iterator) ≡ with_jobs l.fn.jobs l.fn.more.items;
 }

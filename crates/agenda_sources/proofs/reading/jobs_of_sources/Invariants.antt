@@ -1,13 +1,13 @@
-use Rattle.std.proofs.Common.{◌≡◌, ◌≤◌, ◌<◌, None, drop, length, take}
+use Rattle.std.proofs.Common.{◌≡◌, ◌≤◌, ◌<◌, None, drop, length}
 use Rattle.plan_rules.specs.Limits.{most_jobs}
 use Rattle.agenda_sources.specs.AtOnce.{fault_at_once}
 use Rattle.agenda_sources.specs.Sources.{sources_from, sources_reading}
 use Rattle.agenda_sources.proofs.reading.jobs_of_sources.Given as goal
 
 -- what is left, with the jobs so far, means what all sources mean, and the first had no fault that is found at once
-abbrev pub invariant-loop-index : goal.invariant-loop-index
-invariant-loop-index l = record {
+abbrev pub invariant-loop-place : goal.invariant-loop-place
+invariant-loop-place l = record {
   few : length l.jobs ≤ most_jobs;
-  meaning : sources_from (take l.index l.sources) l.jobs (drop l.index l.sources) ≡ sources_reading l.sources;
-  none : 0 < l.index → fault_at_once l.sources ≡ None;
+  meaning : sources_from l.place l.jobs (drop l.place l.sources) ≡ sources_reading l.sources;
+  none : 0 < l.place → fault_at_once l.sources ≡ None;
 }

@@ -11,22 +11,22 @@ pub returns-clause-too_large : goal.returns-clause-too_large
 returns-clause-too_large c =
     too_large c.jobs_of_lines.result c.args.bytes.now c.in_ok-text.text.now c.in_ok-text.ensures.value
     (answered (λ jobs. jobs.items) c.jobs_of_lines.result _ c.jobs_of_lines.ensures
-    (jobs c.args.kind (map (λ line. line.now) c.as_slice.result.now)))
+    (jobs c.args.label.now c.args.kind (map (λ line. line.now) c.as_slice.result.now)))
 
 pub returns-clause-not_utf8 : goal.returns-clause-not_utf8
 returns-clause-not_utf8 c =
     not_utf8 c.jobs_of_lines.result c.args.bytes.now c.in_ok-text.text.now c.in_ok-text.ensures.value
     (answered (λ jobs. jobs.items) c.jobs_of_lines.result _ c.jobs_of_lines.ensures
-    (jobs c.args.kind (map (λ line. line.now) c.as_slice.result.now)))
+    (jobs c.args.label.now c.args.kind (map (λ line. line.now) c.as_slice.result.now)))
 
 pub returns-clause-memory : goal.returns-clause-memory
 returns-clause-memory c =
     IfErr-weaker c.jobs_of_lines.result IsOwnFault (λ fault. fault.cause ≡ NoMemory → fault.line ≡ 0) (λ fault own. own.0)
     (answered (λ jobs. jobs.items) c.jobs_of_lines.result _ c.jobs_of_lines.ensures
-    (jobs c.args.kind (map (λ line. line.now) c.as_slice.result.now)))
+    (jobs c.args.label.now c.args.kind (map (λ line. line.now) c.as_slice.result.now)))
 
 pub returns-clause-own_cause : goal.returns-clause-own_cause
 returns-clause-own_cause c =
     IfErr-weaker c.jobs_of_lines.result IsOwnFault (λ fault. IsOwnCause fault.cause) (λ fault own. own_cause fault.cause own.1)
     (answered (λ jobs. jobs.items) c.jobs_of_lines.result _ c.jobs_of_lines.ensures
-    (jobs c.args.kind (map (λ line. line.now) c.as_slice.result.now)))
+    (jobs c.args.label.now c.args.kind (map (λ line. line.now) c.as_slice.result.now)))

@@ -8,5 +8,5 @@ use Rattle.plan_rules.proofs.crontabs.jobs_of_lines.Given as goal
 abbrev pub invariant-loop-place : goal.invariant-loop-place
 invariant-loop-place l =
     (found : List (Option JobParts))
-    × (each (numbered_reading l.kind) (take l.place (enumerate_from 0 (map (λ line. line.now) l.lines))) ≡ Ok found)
+    × (each (numbered_reading l.label l.kind) (take l.place (enumerate_from 0 (map (λ line. line.now) l.lines))) ≡ Ok found)
     × (l.jobs.items ≡ filter_map (λ job. job) found)

@@ -1,5 +1,5 @@
 use Rattle.agenda_sources.proofs.SlashLemmas.{name_cut, name_uncut}
-use Rattle.agenda_sources.proofs.name.timer_name.Goals as goal
+use Rattle.agenda_sources.proofs.name.file_name.Goals as goal
 
 pub returns-in-Some : goal.returns-in-Some
 returns-in-Some c =

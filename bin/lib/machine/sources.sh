@@ -1,0 +1,210 @@
+# shellcheck shell=bash disable=SC2154,SC2034
+# Which sources agenda-machine finds: crontabs, timers and the drop-ins of timers. It sources this file, after links.sh and units.sh.
+
+# A row for each source, and behind that of a timer one for each of its drop-ins: its kind, the name that agenda gets, the path where
+# it was found, what stands at the end of the links, how many bytes it had where no link led to it, and a timer's own name.
+kinds=()
+names=()
+paths=()
+reals=()
+sizes=()
+units=()
+
+add_row() {
+  kinds+=("$1")
+  names+=("$2")
+  paths+=("$3")
+  reals+=("$real")
+  sizes+=("$4")
+  units+=("$5")
+}
+
+# The names of the sources that were taken, by kind and name.
+declare -A taken=()
+
+# Takes the system's crontab.
+find_crontab() {
+  look etc/crontab
+  case $? in
+    1) return ;;
+    0)
+      if is_readable; then
+        add_row system-crontab crontab etc/crontab '' ''
+        # its jobs are named system:N, as those of a file of this name in cron.d would be, or of a user's
+        taken["cron/system"]=yes
+        return
+      fi
+      ;;
+  esac
+  left_out etc/crontab 'not readable'
+}
+
+# Takes the file $3 of the folder $2, which stands at `folder`, as a source of the kind $1 with the name $4, if it can be read and no
+# earlier one has the name.
+take_crontab() {
+  if ! follow "$folder" "$3" || ! is_readable; then
+    left_out "$2/$3" 'not readable'
+  elif [[ -n ${taken["cron/$4"]-} ]]; then
+    left_out "$2/$3" 'name taken'
+  else
+    add_row "$1" "$4" "$2/$3" '' ''
+    taken["cron/$4"]=yes
+    taken["$1/$4"]=yes
+  fi
+}
+
+# Takes the files of packages.
+find_cron_d() {
+  local name
+  list_folder etc/cron.d || return 0
+  for name in "${ordered[@]}"; do
+    if [[ $name = *[!A-Za-z0-9_-]* ]]; then
+      left_out "etc/cron.d/$name" 'bad name'
+    else
+      take_crontab cron-d etc/cron.d "$name" "$name"
+    fi
+  done
+}
+
+# Takes the crontabs of users. One whose name a file of cron.d has gets another, unless an entry of the folder has that.
+find_spool() {
+  local name given spool=var/spool/cron/crontabs
+  list_folder "$spool" || return 0
+  for name in "${ordered[@]}"; do
+    given=$name
+    if [[ -n ${taken["cron-d/$name"]-} && ! -e $base/$folder/$name.user && ! -L $base/$folder/$name.user ]]; then
+      given=$name.user
+    fi
+    if [[ $name = *[!A-Za-z0-9_.-]* ]]; then
+      left_out "$spool/$name" 'bad name'
+    else
+      take_crontab spool "$spool" "$name" "$given"
+    fi
+  done
+}
+
+# Whether agenda takes the timer's name $1.
+is_timer_name() {
+  [[ $1 = ?*.timer && $1 != *[!A-Za-z0-9:_.\\-]* && ${#1} -le 255 ]]
+}
+
+# Takes the timer with the name $1, which was wished for, or says why not.
+take_timer() {
+  local name=$1 wish=${wishes[$1]} given=${1//@/-} file=$1 number is_alias state
+  if [[ $name = @* ]] || ! is_timer_name "$given"; then
+    left_out "$wish" 'bad name'
+  elif is_template "$name"; then
+    left_out "$wish" template
+  elif [[ $name = *@* && $name = *\\* ]]; then
+    left_out "$wish" escape
+  elif ! find_unit "$file" && ! { [[ $name = *@* ]] && file=${name%%@*}@.timer && find_unit "$file"; }; then
+    left_out "$wish" 'no such timer'
+  elif [[ $is_alias = yes ]]; then
+    left_out "${unit_folders[number]}/$file" alias
+  elif judge "${unit_reals[number]}" "$file" "${types["$number/$file"]}" && [[ $state != readable ]]; then
+    left_out "${unit_folders[number]}/$file" "$state"
+  elif [[ -n ${taken["timer/$given"]-} ]]; then
+    left_out "$wish" 'name taken'
+  else
+    taken["timer/$given"]=yes
+    add_unit_row timer "$given" "$number" "$file" "$name"
+    take_drop_ins "$name" "$given"
+  fi
+}
+
+# Adds a row of kind $1 for the path $4 below folder number $3 of units, of the timer that agenda gets as $2 and that is named $5.
+add_unit_row() {
+  local size=
+  [[ ${types["$3/$4"]} != f ]] || size=${bytes["$3/$4"]}
+  add_row "$1" "$2" "${unit_folders[$3]}/$4" "$size" "$5"
+}
+
+# Sets `relatives` to the names by which the timer $1 has drop-ins: its own, of an instance that of its template, and those that are cut
+# after a dash. For each cut of an instance comes that of the name without an instance first, once; then that of the instance itself.
+find_relatives() {
+  local front=${1%.timer} prefix tail middle cuts=() cut
+  prefix=${front%%@*}
+  tail=${front:${#prefix}}
+  relatives=("$1")
+  [[ -z $tail ]] || relatives+=("$prefix@.timer")
+  # a dash counts between the first character and the last
+  while [[ $prefix = ?*-?* ]]; do
+    middle=${prefix:1:-1}
+    prefix=${prefix:0:1}${middle%-*}-
+    cuts+=("$prefix")
+    relatives+=("$prefix.timer")
+  done
+  [[ -n $tail ]] || return 0
+  for cut in "${cuts[@]}"; do
+    relatives+=("$cut$tail.timer" "$cut@.timer")
+  done
+}
+
+# Sets for each of the names in folder $2 of folder number $1 of units who comes first.
+gather_drop_ins() {
+  local name place
+  is_listed "$1" "$2" || return 0
+  split_names "${drop_ins["$1/$2"]-}"
+  for name in "${split[@]}"; do
+    place=${places[$name]}
+    [[ -n ${first[place]-} ]] || first[place]=$1/$2/$name
+  done
+}
+
+# Takes the drop-ins of the timer with the name $1, which agenda gets as $2. `first` has those that count, in the order of their names.
+take_drop_ins() {
+  local relatives folders=() first=() number folder drop_in
+  [[ ${#drop_folders[@]} != 0 ]] || return 0
+  find_relatives "$1"
+  for folder in "${relatives[@]/%/.d}"; do
+    [[ -z ${drop_folders[$folder]-} ]] || folders+=("$folder")
+  done
+  for number in 0 1 2 3 4; do
+    for folder in "${folders[@]}"; do
+      [[ -z ${types["$number/$folder"]-} ]] || gather_drop_ins "$number" "$folder"
+    done
+  done
+  for number in ${drop_folders[timer.d]:+0 1 2 3 4}; do
+    [[ -z ${types["$number/timer.d"]-} ]] || gather_drop_ins "$number" timer.d
+  done
+  for drop_in in "${first[@]}"; do
+    number=${drop_in%%/*}
+    take_drop_in "$number" "${drop_in#*/}" "$2" "$1"
+  done
+}
+
+# Takes the drop-in with path $2 below folder number $1 of units, of the timer that agenda gets as $3 and that is named $4.
+take_drop_in() {
+  local state
+  judge "${unit_reals[$1]}" "$2" "${types["$1/$2"]}"
+  if [[ $state = readable ]]; then
+    add_unit_row drop-in "$3" "$1" "$2" "$4"
+  else
+    left_out "${unit_folders[$1]}/$2" "$state"
+  fi
+}
+
+# Takes the timers that are wished for, with their drop-ins: first those without an instance, then the instances.
+find_timers() {
+  local number name names_in_order
+  for number in 0 1 2 3 4; do
+    list_units "$number"
+  done
+  [[ $wants_all = no ]] || wish_all
+  order_drop_ins
+  order "${!wishes[@]}"
+  names_in_order=("${ordered[@]}")
+  for name in "${names_in_order[@]}"; do
+    [[ $name = *@* ]] || take_timer "$name"
+  done
+  for name in "${names_in_order[@]}"; do
+    [[ $name != *@* ]] || take_timer "$name"
+  done
+}
+
+find_sources() {
+  find_crontab
+  find_cron_d
+  find_spool
+  find_timers
+}

@@ -1,0 +1,81 @@
+# shellcheck shell=bash disable=SC2154
+# Has agenda-machine find what some packages of Debian ship for cron and of timers, all below one root, and has agenda plan a day of it.
+# bin/witness sources this file.
+
+# Puts the files of the packages below the root.
+unpack_machine() {
+  local deb
+  mkdir -p "$machine"
+  for deb in "$fetched"/debs/*.deb; do
+    [ -f "$deb" ] || continue
+    dpkg-deb --fsys-tarfile "$deb" | tar -x -C "$machine" --wildcards './etc/crontab' './etc/cron.d/*' '*/systemd/system/*.timer' \
+      '*/systemd/system/*.timer.d/*' '*/systemd/system/*.wants/*' 2>/dev/null
+  done
+}
+
+# Writes the paths below the root of the timers that the packages ship: those that are templates where $1 says so, or else the others.
+shipped_timers() {
+  find "$machine/lib/systemd/system" "$machine/usr/lib/systemd/system" -maxdepth 1 -name '*.timer' -type f 2>/dev/null | sort |
+    if [ "$1" = templates ]; then grep '@[.]timer$'; else grep -v '@[.]timer$'; fi
+}
+
+# Has the targets wish for the timers, as their [Install] says; of a template for the instance `one`.
+enable_timers() {
+  local path name target
+  while IFS= read -r path; do
+    name=${path##*/}
+    while IFS= read -r target; do
+      mkdir -p "$machine/etc/systemd/system/$target.wants"
+      ln -sf "${path#"$machine"}" "$machine/etc/systemd/system/$target.wants/${name/@./@one.}"
+    done < <(sed -nE 's/^(WantedBy|RequiredBy)=//p' "$path" | tr -s ' \r' '\n' | grep .)
+  done < <(shipped_timers others && shipped_timers templates)
+}
+
+# Tells which of the paths of standard input agenda-machine neither lists, in the file $1, nor says to have left out, in the file $2.
+tell_unnamed() {
+  local path
+  while IFS= read -r path; do
+    cut -f 3 "$1" | grep -qxF -e "$path" || grep -qF -e "left out $path: " "$2" || echo "not named: ${path#"$machine"}"
+  done
+}
+
+# Compares what agenda-machine finds of the packages with their files.
+compare_machine() {
+  local machine=$work/machine path wishes templates
+  unpack_machine
+  if [ -z "$(find "$machine" -type f -print -quit)" ]; then
+    echo "the packages as one machine: passed over, since they can't be fetched here"
+    return
+  fi
+  enable_timers
+  mkdir "$work/machine.bin"
+  cp -R -- "$top/bin/agenda-machine" "$top/bin/lib" "$work/machine.bin/"
+  ln -s "$program" "$work/machine.bin/agenda"
+  "$work/machine.bin/agenda-machine" --root "$machine" --all sources >"$work/all" 2>"$work/all.left" </dev/null
+  "$work/machine.bin/agenda-machine" --root "$machine" sources >"$work/wished" 2>"$work/wished.left" </dev/null
+  {
+    find "$machine/etc/crontab" "$machine/etc/cron.d" -type f -not -name '.*' 2>/dev/null
+    shipped_timers others
+  } | tell_unnamed "$work/all" "$work/all.left" >"$work/told"
+  count "the files of the packages as one machine"
+  # what is wished for
+  while IFS= read -r path; do
+    find "$machine"/{etc,lib,usr/lib}/systemd/system -path "*.target.wants/$(basename "${path/@./@one.}")" 2>/dev/null | grep -q . && echo "$path"
+  done < <(shipped_timers others && shipped_timers templates) >"$work/wishes"
+  tell_unnamed "$work/wished" "$work/wished.left" <"$work/wishes" >"$work/told"
+  count "the timers of the packages that a target wishes for"
+  wishes=$(wc -l <"$work/wishes")
+  templates=$(grep -c '@[.]timer$' "$work/wishes")
+  plan_machine
+  echo "the packages as one machine: $(wc -l <"$work/all") sources, of which $wishes timers are wished for, $templates of them by a template; \
+$(sort -u "$work/all.left" "$work/wished.left" | wc -l) files are left out; a day has $planned starts"
+}
+
+# Has agenda plan the first day of the month of all of them.
+plan_machine() {
+  "$work/machine.bin/agenda-machine" --root "$machine" --all plan --since "$since" --upto '+1 day' --limit 1000000 \
+    >"$work/planned" 2>"$work/planned.told" </dev/null || tell "the plan of a day: status $?, $(grep -v 'left out' "$work/planned.told")"
+  planned=$(($(wc -l <"$work/planned") - 1))
+  [ "$planned" -gt 0 ] || tell "the plan of a day has no starts"
+  count "a day of the packages as one machine"
+}

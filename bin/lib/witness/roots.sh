@@ -1,0 +1,143 @@
+# shellcheck shell=bash disable=SC2154
+# Compares what agenda-machine finds below made roots with what systemd loads below them. bin/witness sources this file.
+#
+# systemd needs not run for it: `systemd-analyze verify` loads what a target wishes for. Each file of a made root has an event that is
+# refused, so that the log names each file that is read, in order, and the text with its specifiers written out.
+
+roots=100
+
+# Makes those roots of standard input, which roots.awk writes, whose number has the rest $1 by the number $2.
+make_roots() {
+  local number kind path text
+  while IFS=$'\t' read -r number kind path text; do
+    [ $((number % $2)) = "$1" ] || continue
+    path=$work/roots/$number/$path
+    # nothing is written through a link, which may lead out of the root
+    if [ -L "$path" ] || [ -L "${path%/*}" ]; then continue; fi
+    [ -d "${path%/*}" ] || mkdir -p -- "${path%/*}"
+    case $kind in
+      file) printf '[Timer]\nOnCalendar=%%n %%N %%p %%i %%j %%I %%P 0%%%%\n' >"$path" ;;
+      target) printf '[Unit]\nDescription=wishes\n' >"$path" ;;
+      empty) : >"$path" ;;
+      folder) mkdir -p -- "$path" ;;
+      link) ln -s -- "$text" "$path" ;;
+    esac
+  done
+}
+
+# What systemd loads below the root $1, in the file $1.loaded: of each timer its name and the files that are read; in $1.written the texts of
+# instances; and in $1.masked the names that are masked. Drop-ins of a timer that isn't there are read too, so that the files of one are
+# those whose text has its name, before the line that says that it is read. The file of a timer that has a link of another name may have
+# that name.
+ask_systemd_of() {
+  systemd-analyze --root="$1" verify {x,y,z}.target 2>&1 </dev/null | awk -v root="$1/" -v written="$1.written" '
+    at = index($0, ": Failed to parse calendar specification, ignoring: ") {
+      path = substr($0, length(root) + 1, at - length(root) - 1)
+      sub(/:[0-9]+$/, "", path)
+      text = substr($0, at + 52)
+      name = text
+      sub(/ .*/, "", name)
+      if (name == "alias.timer" && path !~ /[.]timer[.]d[/]/) main = " " path
+      else files[name] = files[name] " " path
+      texts[name] = texts[name] text "\n"
+    }
+    sub(/: Timer unit lacks value setting[.] Refusing[.]$/, "") {
+      print $0 main files[$0]
+      if (/@/) printf "%s", texts[$0] >written
+      main = ""
+    }
+    /^Assertion / { print }' | sort >"$1.loaded"
+  systemctl --root="$1" list-unit-files --type=timer --no-legend 2>/dev/null </dev/null |
+    awk '$2 ~ /^(masked|masked-runtime|bad)$/ { print $1 }' >"$1.masked"
+}
+
+# What agenda-machine finds below the root $1, as ask_systemd_of tells it; what it leaves out is in $1.left.
+ask_machine_of() {
+  "$work/roots.bin/agenda-machine" --root "$1" sources 2>"$1.left" </dev/null | awk -F '\t' -v root="$1/" '
+    { path = substr($3, length(root) + 1) }
+    $1 == "timer" { if (line != "") print line; line = $2 " " path }
+    $1 == "drop-in" { line = line " " path }
+    END { if (line != "") print line }' | sort >"$1.found"
+  # the program that is beside the script here prints the texts that no specifier is left in
+  "$work/roots.bin/agenda-machine" --root "$1" check 2>/dev/null </dev/null | sort >"$1.texts"
+}
+
+# Takes from what systemd loads below the root $1 what agenda-machine leaves out by a rule of its own, and says so: templates, of which
+# systemd makes an instance by the target's name, escapes, and names that are given to another.
+drop_known() {
+  awk -v left="$1.left" '
+    BEGIN {
+      while ((getline line <left) > 0) {
+        if (!match(line, /: (escape|template|name taken)$/)) continue
+        path = substr(line, 1, RSTART - 1)
+        name = folder = path
+        sub(/.*[/]/, "", name)
+        sub(/[.]target[.](wants|requires)[/][^/]*$/, "", folder)
+        sub(/.*[/]/, "", folder)
+        if (line ~ /: template$/) sub(/@/, "@" folder, name)
+        known[name] = 1
+      }
+    }
+    { name = $1 }
+    name in known { next }
+    { gsub(/@/, "-", $1); print }' "$1.loaded" | sort
+}
+
+# Tells how the two differ of the root $1. Where /lib is a link to /usr/lib, a path may be told by either. Where systemctl says that a name
+# is bad, a folder of it stands before the mask.
+compare_root() {
+  local path
+  [ ! -L "$1/lib" ] || sed -i 's, lib/, usr/lib/,g' "$1.loaded" "$1.found"
+  drop_known "$1" | diff --label systemd --label agenda-machine - "$1.found"
+  while IFS= read -r path; do
+    grep -qxF -e "${path##*/}" "$1.masked" || echo "not masked: $path"
+  done < <(sed -nE '/[.]target[.](wants|requires)[/]/d; s/^agenda-machine: left out (.*[.]timer): masked$/\1/p' "$1.left")
+  [ -f "$1.written" ] || : >"$1.written"
+  sort -u "$1.texts" | comm -13 <(sort -u "$1.written") - | sed 's/^/other text: /'
+}
+
+# Makes and compares the roots whose number has the rest $1 by the number $2.
+compare_share() {
+  local number root
+  make_roots "$1" "$2" <"$work/roots.list"
+  for ((number = 1; number <= roots; number++)); do
+    [ $((number % $2)) = "$1" ] || continue
+    root=$work/roots/$number
+    ask_systemd_of "$root"
+    ask_machine_of "$root"
+    compare_root "$root" >"$root.told" 2>&1
+  done
+}
+
+# A copy of agenda-machine beside a program that prints the events of the timers that it is given, where no specifier is left in them.
+make_machine() {
+  mkdir -p "$work/roots.bin/lib" || return
+  cp -R -- "$top/bin/lib/machine" "$work/roots.bin/lib/" && cp -- "$top/bin/agenda-machine" "$work/roots.bin/" || return
+  cat >"$work/roots.bin/agenda" <<'PROGRAM'
+#!/usr/bin/env bash
+for word in "$@"; do
+  [ ! -f "$word" ] || sed -n '/%%/d; s/^OnCalendar=//p' "$word"
+done
+PROGRAM
+  chmod 755 "$work/roots.bin/agenda"
+}
+
+# Compares agenda-machine with systemd below the made roots.
+compare_roots() {
+  local shares share number
+  local -a children=()
+  make_machine || stop "agenda-machine can't be copied"
+  awk -f "$parts/roots.awk" -v seed="$seed" -v count="$roots" >"$work/roots.list" </dev/null
+  shares=$(nproc)
+  for ((share = 0; share < shares; share++)); do
+    compare_share "$share" "$shares" &
+    children+=($!)
+  done
+  wait "${children[@]}"
+  for ((number = 1; number <= roots; number++)); do
+    cp "$work/roots/$number.told" "$work/told"
+    count "root $number of seed $seed"
+  done
+  echo "roots: $roots, agenda-machine beside systemd: $(cat "$work"/roots/*.found | wc -l) timers with $(cat "$work"/roots/*.found |
+    awk '{ count += NF - 2 } END { print count + 0 }') drop-ins are the same; $(cat "$work"/roots/*.left | wc -l) lines say what is left out"
+}

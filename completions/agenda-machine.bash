@@ -1,0 +1,70 @@
+# Completion of agenda-machine for bash. It asks for the package bash-completion.
+
+_agenda_machine() {
+    local cur prev words cword split
+    _init_completion -s || return
+
+    local command=
+    local at
+    for ((at = 1; at < cword; at++)); do
+        case ${words[at]} in
+            --root)
+                # the folder is no command
+                ((++at))
+                ;;
+            plan | upcoming | quiet | check | sources)
+                command=${words[at]}
+                break
+                ;;
+        esac
+    done
+
+    case $command:$prev in
+        :--root)
+            _filedir -d
+            return
+            ;;
+        sources:*)
+            return
+            ;;
+        *:--crontab | *:--system-crontab | *:--cron-d | *:--spool)
+            _filedir
+            return
+            ;;
+        plan:--planners | quiet:--planners)
+            mapfile -t COMPREPLY < <(compgen -W '1 2 3 4 5 6 7 8' -- "$cur")
+            return
+            ;;
+        *:--since | *:--upto | *:--after | *:--room | *:--limit | *:--least)
+            # a moment or a number, which has no list
+            return
+            ;;
+    esac
+    $split && return
+
+    local sources='--crontab= --system-crontab= --cron-d= --spool= --help'
+    case $command:$cur in
+        :-*)
+            mapfile -t COMPREPLY < <(compgen -W '--root --all --help' -- "$cur")
+            ;;
+        :*)
+            mapfile -t COMPREPLY < <(compgen -W 'plan upcoming quiet check sources' -- "$cur")
+            ;;
+        plan:-*)
+            mapfile -t COMPREPLY < <(compgen -W "--since= --upto= --planners= --room= --limit= $sources" -- "$cur")
+            ;;
+        upcoming:-*)
+            mapfile -t COMPREPLY < <(compgen -W "--after= $sources" -- "$cur")
+            ;;
+        quiet:-*)
+            mapfile -t COMPREPLY < <(compgen -W "--since= --upto= --least= --planners= --room= --limit= $sources" -- "$cur")
+            ;;
+        check:-*)
+            mapfile -t COMPREPLY < <(compgen -W "$sources" -- "$cur")
+            ;;
+        *)
+            _filedir timer
+            ;;
+    esac
+    [[ ${COMPREPLY-} == *= ]] && compopt -o nospace
+} && complete -F _agenda_machine agenda-machine

@@ -1,0 +1,42 @@
+-- The meaning of a crontab whose jobs have its file's name: those that packages bring in /etc/cron.d, and those of users in the spool
+-- folder (cron(8) of Debian).
+use Rattle.std.specs.Prelude.{ℕ, Bool, false, ◌&&◌, ◌||◌, ◌==◌, if◌then◌else◌, List, [], ◌∷◌, Err}
+use Rattle.std.specs.Char.{is_ascii_alphabetic, is_ascii_digit}
+use Rattle.std.specs.List.{list_all}
+use Rattle.std.specs.Str.{byte}
+use Rattle.plan_rules.specs.declared.crontabs.Kind.{Kind}
+use Rattle.plan_rules.specs.declared.crontabs.Kind.TheVariants.{User, System}
+use Rattle.plan_rules.specs.declared.line_fault.LineCause.TheVariants.{BadTabName}
+use Rattle.plan_rules.specs.declared.tabs.TabFolder.{TabFolder}
+use Rattle.plan_rules.specs.declared.tabs.TabFolder.TheVariants.{CronD, Spool}
+use Rattle.plan_rules.specs.LineFaults.{TextReading, on_line}
+use Rattle.plan_rules.specs.Job.{JobParts}
+use Rattle.plan_rules.specs.Crontab.{crontab_reading}
+
+-- ---- the name
+
+-- the characters of a name in /etc/cron.d: letters, digits, `_` and `-`; other files there cron leaves out (cron(8) of Debian)
+abbrev pub is_package_byte : ℕ → Bool
+is_package_byte b = is_ascii_alphabetic b || (is_ascii_digit b || ((b == byte "_") || (b == byte "-")))
+
+-- those behind the first character of a name: a user's name may have `.` there too (own)
+abbrev pub is_tab_byte : TabFolder → ℕ → Bool
+is_tab_byte CronD b = is_package_byte b
+is_tab_byte Spool b = is_package_byte b || (b == byte ".")
+
+-- a name has one character at least (own)
+unfoldable pub is_tab_name : TabFolder → List ℕ → Bool
+is_tab_name folder [] = false
+is_tab_name folder (first ∷ rest) = is_package_byte first && list_all (is_tab_byte folder) rest
+
+-- ---- the crontab
+
+-- in /etc/cron.d a user stands before each command, as in the system's crontab; a user's file has none (crontab(5))
+abbrev pub kind_in : TabFolder → Kind
+kind_in CronD = System
+kind_in Spool = User
+
+-- its jobs are named by the file's name, which is looked at first (own)
+abbrev pub tab_reading : TabFolder → (name bytes : List ℕ) → TextReading (List JobParts)
+tab_reading folder name bytes =
+    if is_tab_name folder name then crontab_reading name (kind_in folder) bytes else on_line 0 (Err BadTabName)

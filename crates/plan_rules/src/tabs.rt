@@ -1,0 +1,97 @@
+//! Crontabs that have names: those of packages, and those of users (cron(8) of Debian).
+
+ghost use Rattle.std.specs.Prelude.{◌≡◌, ◌↔◌, Bool, false, Err, IfErr, IsTrue};
+ghost use Rattle.std.specs.List.{list_all};
+ghost use Rattle.std.specs.Str.{is_utf8};
+ghost use Rattle.plan_texts.specs.Lines.{is_too_large};
+ghost use Rattle.plan_texts.specs.Steps.{GivesUnless};
+ghost use Rattle.plan_rules.specs.LineFaults.{of_whole, want_of_memory, IsOwnCause};
+ghost use Rattle.plan_rules.specs.Tabs.{is_package_byte, is_tab_byte, is_tab_name, kind_in, tab_reading};
+
+use crate::crontabs::{Kind, crontab};
+use crate::job::Job;
+use crate::line_fault::{LineCause, LineFault};
+use std::alloc::Global;
+
+/// The folder in which a crontab that has a name stands.
+#[derive(Clone, Copy, Debug, PartialEq, Eq)]
+pub enum TabFolder {
+    /// /etc/cron.d, with a file of each package: the user who runs the command stands before it.
+    CronD,
+    /// The spool folder, with a file of each user: the command follows a line's rule.
+    Spool,
+}
+
+/// The jobs of a crontab that has a name, in the order of their lines (cron(8) of Debian).
+///
+/// The job of line n, from 1, is named `NAME:n`; for all else it is read as `crontab` reads it.
+///
+/// Faults, in this order: `BadTabName` where the name is empty or has another character than letters, digits, `_`, `-` and, in the
+/// spool folder and not as the first, `.`; then those of `crontab`. `BadTabName` is of line 0.
+pub fn tab(
+    alloc: Global,
+    name: &str,
+    bytes: &[u8],
+    folder: TabFolder,
+) -> Result<Vec<Job>, LineFault>
+    ensures meaning { GivesUnless want_of_memory (λ jobs. jobs.items) result
+        (tab_reading folder name.now bytes.now) }
+    // These three are found before any memory is asked for.
+    ensures bad_name { (result ≡ Err (of_whole LineCause.BadTabName)) ↔ (is_tab_name folder name.now ≡ false) }
+    ensures too_large { (result ≡ Err (of_whole LineCause.TooLarge))
+        ↔ (IsTrue (is_tab_name folder name.now) × IsTrue (is_too_large bytes.now)) }
+    ensures not_utf8 { (result ≡ Err (of_whole LineCause.NotUtf8))
+        ↔ (IsTrue (is_tab_name folder name.now) × ((is_too_large bytes.now ≡ false) × (is_utf8 bytes.now ≡ false))) }
+    ensures memory { IfErr result (λ fault. fault.cause ≡ LineCause.NoMemory → fault.line ≡ 0) }
+    ensures own_cause { IfErr result (λ fault. IsOwnCause fault.cause) }
+{
+    if !is_tab_name(folder, name.as_bytes()) {
+        return Err(LineCause::BadTabName.on_line(0));
+    }
+    crontab(alloc, name, bytes, kind_in(folder))
+}
+
+// Whose the crontabs of a folder are.
+fn kind_in(folder: TabFolder) -> Kind
+    ensures { result ≡ kind_in folder }
+{
+    match folder {
+        TabFolder::CronD => Kind::System,
+        TabFolder::Spool => Kind::User,
+    }
+}
+
+// Whether a crontab in the folder may have this name.
+#[tactic(auto, unfolding(crate::specs::Tabs::is_tab_name))]
+fn is_tab_name(folder: TabFolder, name: &[u8]) -> bool
+    ensures { result ≡ is_tab_name folder name.now }
+{
+    match name {
+        [first, rest @ ..] => is_package_byte(*first) && are_tab_bytes(folder, rest),
+        [] => false,
+    }
+}
+
+// Whether all these bytes may stand behind the first of a name.
+fn are_tab_bytes(folder: TabFolder, bytes: &[u8]) -> bool
+    ensures { result ≡ list_all (is_tab_byte folder) bytes.now }
+{
+    bytes.iter().all(|byte| is_tab_byte(folder, *byte))
+}
+
+// Whether a byte may stand behind the first of a name.
+fn is_tab_byte(folder: TabFolder, byte: u8) -> bool
+    ensures { result ≡ is_tab_byte folder byte }
+{
+    match folder {
+        TabFolder::CronD => is_package_byte(byte),
+        TabFolder::Spool => is_package_byte(byte) || byte == b'.',
+    }
+}
+
+// Whether a byte may stand in the name of a package's crontab.
+fn is_package_byte(byte: u8) -> bool
+    ensures { result ≡ is_package_byte byte }
+{
+    byte.is_ascii_alphabetic() || byte.is_ascii_digit() || matches!(byte, b'_' | b'-')
+}

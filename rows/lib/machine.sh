@@ -1,0 +1,253 @@
+# shellcheck shell=bash disable=SC2154
+# Rows of agenda-machine: small roots that are made of a line, and a copy of the script beside a stub that stands for the program `agenda`.
+# The tables of rows/ that need it source it.
+#
+# A root's description has these, with a blank between; escapes are those of printf's %b, so that a blank in a name is \x20:
+#
+#   PATH         a file whose text is a comment that names it
+#   PATH=TEXT    a file of this text
+#   PATH>TEXT    a link
+#   PATH/        a folder
+#   PATH!        a named pipe
+#   *NAME        the wish for a timer: a link in D to /lib/systemd/system/NAME
+#
+# The first letter of a PATH may stand for a folder: E, R, L, B and U for the five of units in their order, C for etc/cron.d, S for the
+# spool folder, and D for the folder of the wishes of x.target in E.
+
+machine_folder=$work/machine
+machine_bin=$machine_folder/bin
+machine_temporary=$machine_folder/temporary
+# What stands before the script's own name, such as a program that takes rights away.
+machine_by=()
+machine_root=root
+declare -A machine_short=(
+  [E]=etc/systemd/system [R]=run/systemd/system [L]=usr/local/lib/systemd/system [B]=lib/systemd/system [U]=usr/lib/systemd/system
+  [C]=etc/cron.d [S]=var/spool/cron/crontabs [D]=etc/systemd/system/x.target.wants
+)
+
+# The stub keeps the words that it is given, one a line, and of each file its option, the end of its path and its text. A path of the
+# temporary folder is written as TMP and its end. Where it is to find something, that is in each file, and in each of its lines.
+machine_write_stub() {
+  cat >"$machine_folder/bin/agenda" <<'STUB'
+#!/usr/bin/env bash
+: >"$MACHINE_LOG.texts"
+: >"$MACHINE_LOG.words"
+before=
+for word in "$@"; do
+  case $word in
+    "${TMPDIR:-/tmp}"/*) echo "TMP/${word##*/}" ;;
+    *) printf '%s\n' "$word" ;;
+  esac >>"$MACHINE_LOG.words"
+  if [ -f "$word" ]; then
+    option=${before#--}
+    [ "$option" != "$before" ] || option=timer
+    { echo "== $option ${word##*/}" && cat -- "$word" && echo '<end>'; } >>"$MACHINE_LOG.texts"
+    if [ -n "${MACHINE_FINDS:-}" ]; then
+      echo "$word: NoTimerSection"
+      number=0
+      while IFS= read -r line || [ -n "$line" ]; do
+        number=$((number + 1))
+        [ -z "$line" ] || [ "$line" = '[Unit]' ] || echo "$word:$number: $line"
+      done <"$word"
+    fi
+  fi
+  before=$word
+done
+[ -z "${MACHINE_SAYS:-}" ] || printf '%b' "$MACHINE_SAYS"
+[ -z "${MACHINE_COMPLAINS:-}" ] || printf '%b' "$MACHINE_COMPLAINS" >&2
+[ -z "${MACHINE_SLEEPS:-}" ] || sleep "$MACHINE_SLEEPS"
+exit "${MACHINE_STATUS:-0}"
+STUB
+  chmod 755 "$machine_folder/bin/agenda"
+}
+
+# Makes the folders of the rows, with a copy of the script and its parts beside the stub, in `bin`, and another beside the program, in `whole`.
+machine_begin() {
+  local folder
+  mkdir -p "$machine_temporary"
+  for folder in bin whole; do
+    mkdir -p "$machine_folder/$folder/lib"
+    cp -- "$top/bin/agenda-machine" "$machine_folder/$folder/"
+    cp -R -- "$top/bin/lib/machine" "$machine_folder/$folder/lib/"
+  done
+  machine_write_stub
+  ln -s "$program" "$machine_folder/whole/agenda"
+  export MACHINE_LOG=$machine_folder/log
+}
+
+# Sets `path` to the path of $1 below the root, without its escapes.
+machine_path() {
+  path=$1
+  if [[ $path = [A-Z]/* ]] && [ -n "${machine_short[${path:0:1}]-}" ]; then
+    path=${machine_short[${path:0:1}]}${path:1}
+  fi
+  [[ $path != *\\* ]] || printf -v path '%b' "$path"
+}
+
+# Ends the rows where a name of `path` below the root is a link: nothing is ever written through one, since it may lead out of the root.
+machine_refuse_links() {
+  local rest=$path/ at=$machine_folder/$machine_root
+  while [ -n "$rest" ]; do
+    at+=/${rest%%/*}
+    rest=${rest#*/}
+    [ ! -L "$at" ] || refuse "a row writes through the link $at"
+  done
+}
+
+# Makes the entry $1 of a description below the root. Its folders are made where they aren't there.
+machine_entry() {
+  local name=${1%%[=>]*} rest path folder
+  rest=${1#"$name"}
+  if [ "$name" != "${name#\*}" ]; then
+    rest=">/lib/systemd/system/${name#\*}"
+    name=D/${name#\*}
+  fi
+  machine_path "$name"
+  machine_refuse_links
+  folder=$machine_folder/$machine_root/${path%/*}
+  [[ $path = */* ]] || folder=$machine_folder/$machine_root
+  [ -d "$folder" ] || mkdir -p -- "$folder"
+  path=$machine_folder/$machine_root/$path
+  case $rest in
+    =*) printf '%b' "${rest#=}" >"$path" ;;
+    \>*)
+      printf -v rest '%b' "${rest#>}"
+      ln -sT -- "$rest" "$path"
+      [[ $path = *.@(wants|requires)/* ]] || machine_links=yes
+      ;;
+    *)
+      case $path in
+        */) ;;
+        *!) mkfifo -- "${path%!}" ;;
+        *) echo "# ${path#"$machine_folder/$machine_root/"}" >"$path" ;;
+      esac
+      ;;
+  esac
+}
+
+# Makes the root of the description $1, anew.
+machine_make() {
+  local entry
+  local -a entries
+  machine_links=no
+  rm -rf -- "${machine_folder:?}/$machine_root"
+  mkdir -p -- "$machine_folder/$machine_root"
+  IFS=$' \n' read -r -d '' -a entries <<<"$1"
+  for entry in "${entries[@]}"; do
+    machine_entry "$entry"
+  done
+}
+
+# Runs the script with the words $@, from the folder in which the root stands. Its temporary folder has to be gone then. What it wrote to
+# standard error is put in order.
+machine_run() {
+  rm -f "$MACHINE_LOG.words" "$MACHINE_LOG.texts"
+  TMPDIR=$machine_temporary run_in "$machine_folder" "${machine_by[@]}" "$machine_bin/agenda-machine" "$@"
+  sort -o "$work/err" "$work/err"
+  machine_left=$(ls -A "$machine_temporary")
+}
+
+# Counts the last run, which $1 names, as compare does, by the wanted files $2 and $3 and the status $4. Where $5 is words, texts or names,
+# these are what the program has to be given, and the file $6 has them; where it is none, the program mustn't be run.
+machine_compare() {
+  {
+    diff -a -u --label "standard output wanted" --label "standard output" -- "$2" "$work/out"
+    diff -a -u --label "standard error wanted" --label "standard error" -- "$3" "$work/err"
+    [ "$status" = "$4" ] || echo "status $status, and not $4"
+    [ -z "$machine_left" ] || echo "left in the temporary folder: $machine_left"
+    case ${5:-} in
+      '') ;;
+      none) [ ! -e "$MACHINE_LOG.words" ] || echo "agenda was run" ;;
+      *) diff -a -u --label "$5 wanted" --label "$5" -- "$6" "$MACHINE_LOG.$5" ;;
+    esac
+  } >"$work/told" 2>&1
+  count "agenda-machine: $1"
+}
+
+# Writes what standard error has to say where $1 is left out: paths with what is wrong, a comma between.
+machine_left_out() {
+  local -a parts
+  local part path
+  IFS=, read -r -a parts <<<"$1"
+  for part in "${parts[@]}"; do
+    part=${part#"${part%%[! ]*}"}
+    machine_path "${part%% *}"
+    printf '%s\n' "agenda-machine: left out $machine_root/$path: ${part#* }"
+  done | sort >"$work/err.wanted"
+}
+
+# Writes the listing of the sources $1: paths, `+` before that of a drop-in, and after `=` the name that the program gets where that is
+# another than the path's end. The file texts.wanted has what the program has to be given of them.
+machine_listing() {
+  local -a list
+  local source kind name path given=''
+  : >"$work/texts.wanted"
+  IFS=' ' read -r -a list <<<"$1"
+  for source in "${list[@]}"; do
+    path=${source%%=*}
+    machine_path "${path#+}"
+    name=${path##*/}
+    [ "$source" = "${source#*=}" ] || name=${source#*=}
+    case $source in
+      +*) kind=drop-in name=$given ;;
+      etc/crontab) kind=system-crontab ;;
+      C/*) kind=cron-d ;;
+      S/*) kind=spool ;;
+      *) kind=timer given=$name ;;
+    esac
+    printf '%s\t%s\t%s\n' "$kind" "$name" "$machine_root/$path" >>"$work/out.wanted"
+    machine_text "$kind" "$name" "$machine_folder/$machine_root/$path"
+  done
+  [ ${#list[@]} = 0 ] || echo '<end>' >>"$work/texts.wanted"
+}
+
+# Adds to the texts that the program has to be given that of a source of kind $1, named $2, whose file is $3.
+machine_text() {
+  {
+    if [ "$1" = drop-in ]; then
+      printf '\n[Unit]\n'
+    else
+      [ ! -s "$work/texts.wanted" ] || echo '<end>'
+      echo "== $1 $2"
+    fi
+    [ ! -f "$3" ] || cat -- "$3"
+  } >"$work/text"
+  cat "$work/text" >>"$work/texts.wanted"
+}
+
+# Rows of standard input: a root, its sources, and what is left out, as machine_listing and machine_left_out take them. The words $@ stand
+# before the command. Of several sources the program gets the same in the same order, and where no file is a link, their texts joined.
+machine_sources() {
+  local root sources left
+  while IFS='|' read -r root sources left; do
+    machine_make "$root"
+    machine_left_out "$left"
+    : >"$work/out.wanted"
+    machine_listing "$sources"
+    machine_run --root "$machine_root" "$@" sources
+    machine_compare "$* sources of '$root'" "$work/out.wanted" "$work/err.wanted" 0 none
+    # one source without a drop-in has no order
+    [[ $sources = *' '* || $sources = *=* ]] || continue
+    machine_run --root "$machine_root" "$@" plan --since 2024-01-01T00:00:00Z --upto 2024-01-02T00:00:00Z
+    if [ "$machine_links" = no ]; then
+      machine_compare "$* plan of '$root'" /dev/null "$work/err.wanted" 0 texts "$work/texts.wanted"
+    else
+      grep -a '^== ' "$work/texts.wanted" >"$work/names.wanted"
+      grep -a '^== ' "$MACHINE_LOG.texts" >"$MACHINE_LOG.names"
+      machine_compare "$* plan of '$root'" /dev/null "$work/err.wanted" 0 names "$work/names.wanted"
+    fi
+  done
+}
+
+# Rows of standard input: a root of one source, its option and name, and the escaped text that the program gets of it.
+machine_texts() {
+  local root name text
+  while IFS='|' read -r root name text; do
+    machine_make "$root"
+    { echo "== $name" && printf '%b' "$text" && echo '<end>'; } >"$work/texts.wanted"
+    machine_run --root "$machine_root" plan --since 2024-01-01T00:00:00Z --upto 2024-01-02T00:00:00Z
+    machine_compare "text of '$root'" /dev/null /dev/null 0 texts "$work/texts.wanted"
+  done
+}
+
+[ -d "$machine_folder" ] || machine_begin

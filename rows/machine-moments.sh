@@ -1,0 +1,183 @@
+# shellcheck shell=bash disable=SC2154
+# Rows of the moments that agenda-machine adds and reads, of the zone that it tells, and of what it hands on of agenda's answer. The program
+# agenda is a stub.
+
+# shellcheck source=/dev/null
+. "$top/rows/lib/machine.sh"
+
+# Prints the moment of the second $1.
+machine_moment() {
+  date -u -d "@$1" +%Y-%m-%dT%H:%M:%SZ
+}
+
+# Writes to words.wanted the words $1, with bars between. NOW is a moment from the second $2 on up to now, which stands at its place in the
+# words of the last run, and NEXT is a day after it.
+machine_wanted_words() {
+  local at moment=0
+  local -a wanted given
+  IFS='|' read -r -a wanted <<<"$1"
+  mapfile -t given <"$MACHINE_LOG.words"
+  for at in "${!wanted[@]}"; do
+    [[ ${wanted[at]} != *NOW ]] || moment=$(date -u -d "${given[at]##*=}" +%s)
+  done
+  if [[ $1 = *NOW* ]] && { [ "$moment" -lt "$2" ] || [ "$moment" -gt "$(date +%s)" ]; }; then
+    wanted+=("not now")
+  fi
+  wanted=("${wanted[@]//NOW/$(machine_moment "$moment")}")
+  printf '%s\n' "${wanted[@]//NEXT/$(machine_moment $((moment + 86400)))}" >"$work/words.wanted"
+}
+
+# Rows of words and of those that agenda gets, with bars between. DAY is the begin of 2024.
+machine_moments() {
+  local row wanted words begun
+  machine_make x/
+  while IFS='>' read -r row wanted; do
+    row=${row//DAY/2024-01-01T00:00:00Z}
+    IFS='|' read -r -a words <<<"$row"
+    begun=$(date +%s)
+    machine_run --root root "${words[@]}"
+    machine_wanted_words "${wanted//DAY/2024-01-01T00:00:00Z}" "$begun"
+    machine_compare "moments of '$row'" /dev/null /dev/null 0 words "$work/words.wanted"
+  done
+}
+
+machine_moments <<'ROWS'
+plan>plan|--since|NOW|--upto|NEXT
+quiet>quiet|--since|NOW|--upto|NEXT
+upcoming>upcoming|--after|NOW
+check>check
+plan|--limit|5|x>plan|--since|NOW|--upto|NEXT|--limit|5|x
+quiet|--least|5>quiet|--since|NOW|--upto|NEXT|--least|5
+upcoming|x>upcoming|--after|NOW|x
+plan|--since|DAY>plan|--upto|2024-01-02T00:00:00Z|--since|DAY
+plan|--since=DAY>plan|--upto|2024-01-02T00:00:00Z|--since=DAY
+quiet|--since|2024-02-28T23:59:59Z>quiet|--upto|2024-02-29T23:59:59Z|--since|2024-02-28T23:59:59Z
+plan|--since=2023-12-31T12:34:56Z>plan|--upto|2024-01-01T12:34:56Z|--since=2023-12-31T12:34:56Z
+plan|--upto|2999-01-01T00:00:00Z>plan|--since|NOW|--upto|2999-01-01T00:00:00Z
+plan|--upto=2999-01-01T00:00:00Z>plan|--since|NOW|--upto=2999-01-01T00:00:00Z
+plan|--since|DAY|--upto|DAY>plan|--since|DAY|--upto|DAY
+upcoming|--after|DAY>upcoming|--after|DAY
+upcoming|--after=DAY>upcoming|--after=DAY
+plan|x|--since|DAY|y|--upto=DAY|z>plan|x|--since|DAY|y|--upto=DAY|z
+plan|--|--since|DAY>plan|--since|NOW|--upto|NEXT|--|--since|DAY
+plan|--since|DAY|--|--upto=DAY>plan|--upto|2024-01-02T00:00:00Z|--since|DAY|--|--upto=DAY
+quiet|--|--upto|frob|--since=frob>quiet|--since|NOW|--upto|NEXT|--|--upto|frob|--since=frob
+upcoming|--|--after|frob>upcoming|--after|NOW|--|--after|frob
+plan|--sinces|DAY|--upton=DAY>plan|--since|NOW|--upto|NEXT|--sinces|DAY|--upton=DAY
+plan|since|--sinc|-since|x>plan|--since|NOW|--upto|NEXT|since|--sinc|-since|x
+ROWS
+
+# Other texts are date's, in UTC, and those of --upto that begin with + count from since.
+machine_moments <<'ROWS'
+plan|--since|2024-02-29 12:00>plan|--upto|2024-03-01T12:00:00Z|--since|2024-02-29T12:00:00Z
+plan|--since=2024-02-29>plan|--upto|2024-03-01T00:00:00Z|--since=2024-02-29T00:00:00Z
+plan|--since=2024-02-29 12:00 +0200>plan|--upto|2024-03-01T10:00:00Z|--since=2024-02-29T10:00:00Z
+plan|--since|@0>plan|--upto|1970-01-02T00:00:00Z|--since|1970-01-01T00:00:00Z
+plan|--since|@-1|--upto|@1>plan|--since|1969-12-31T23:59:59Z|--upto|1970-01-01T00:00:01Z
+plan|--since|2024-01-01T00:00:00z>plan|--upto|2024-01-02T00:00:00Z|--since|2024-01-01T00:00:00Z
+plan|--since|2024-01-01T00:00:00+01:00>plan|--upto|2024-01-01T23:00:00Z|--since|2023-12-31T23:00:00Z
+plan|--since|2024-01-01T00:00Z>plan|--upto|2024-01-02T00:00:00Z|--since|2024-01-01T00:00:00Z
+plan|--since|DAY|--upto|2024-01-31 06:00>plan|--since|DAY|--upto|2024-01-31T06:00:00Z
+quiet|--since|DAY|--upto=1 feb 2024>quiet|--since|DAY|--upto=2024-02-01T00:00:00Z
+plan|--since|DAY|--upto|+8 hours>plan|--since|DAY|--upto|2024-01-01T08:00:00Z
+plan|--since|DAY|--upto=+8 hours>plan|--since|DAY|--upto=2024-01-01T08:00:00Z
+plan|--upto|+90 min|--since=2024-02-28 23:00>plan|--upto|2024-02-29T00:30:00Z|--since=2024-02-28T23:00:00Z
+plan|--since|2024-01-31|--upto|+1 month>plan|--since|2024-01-31T00:00:00Z|--upto|2024-03-02T00:00:00Z
+quiet|--upto=+1 week|--since|DAY>quiet|--upto=2024-01-08T00:00:00Z|--since|DAY
+plan|--upto|+1 day>plan|--since|NOW|--upto|NEXT
+plan|--upto=+24 hours|x>plan|--since|NOW|--upto=NEXT|x
+plan|--since|now>plan|--upto|NEXT|--since|NOW
+plan|--since=now|--upto|+1 day>plan|--since=NOW|--upto|NEXT
+upcoming|--after|2024-02-29 12:00>upcoming|--after|2024-02-29T12:00:00Z
+upcoming|--after=now>upcoming|--after=NOW
+upcoming|--after|now|x>upcoming|--after|NOW|x
+plan|--upto|DAY|--since>plan|--upto|DAY|--since
+plan|--since|DAY|--upto>plan|--since|DAY|--upto
+upcoming|--after>upcoming|--after
+quiet|x|--upto=DAY|--since>quiet|x|--upto=DAY|--since
+check|--since|now|--upto=+1 day|--after|x>check|--since|now|--upto=+1 day|--after|x
+ROWS
+
+# An empty text is date's too: today.
+machine_today() {
+  local day
+  machine_make x/
+  day=$(date -u +%F)T00:00:00Z
+  machine_run --root root plan --since= --upto '+1 hour'
+  printf '%s\n' plan "--since=$day" --upto "${day/T00/T01}" >"$work/words.wanted"
+  machine_compare "an empty text" /dev/null /dev/null 0 words "$work/words.wanted"
+  machine_run --root root upcoming --after ''
+  printf '%s\n' upcoming --after "$day" >"$work/words.wanted"
+  machine_compare "an empty word" /dev/null /dev/null 0 words "$work/words.wanted"
+  # the caller's zone changes nothing, with a winter's end between
+  TZ=EST5EDT,M3.2.0,M11.1.0 machine_run --root root plan --since '2024-03-09 12:00' --upto @1720000000
+  printf '%s\n' plan --since 2024-03-09T12:00:00Z --upto 2024-07-03T09:46:40Z >"$work/words.wanted"
+  machine_compare "texts in another zone" /dev/null /dev/null 0 words "$work/words.wanted"
+  TZ=EST5EDT,M3.2.0,M11.1.0 machine_run --root root plan --since @1709985600
+  printf '%s\n' plan --upto 2024-03-10T12:00:00Z --since 2024-03-09T12:00:00Z >"$work/words.wanted"
+  machine_compare "a day in another zone" /dev/null /dev/null 0 words "$work/words.wanted"
+}
+
+# Rows of the escaped text of etc/localtime, a link, and of the zone that is told; `-` where none is.
+machine_zones() {
+  local text zone command
+  while IFS='|' read -r text zone; do
+    machine_make "$text"
+    : >"$work/err.wanted"
+    [ "$zone" = - ] || echo "agenda-machine: rules are read as UTC; the zone of this machine is $zone" >"$work/err.wanted"
+    for command in plan upcoming quiet check sources; do
+      machine_run --root root "$command"
+      machine_compare "zone by $command of '$text'" /dev/null "$work/err.wanted" 0
+    done
+  done
+}
+
+# What agenda writes and its status are handed on, for each command.
+machine_answers() {
+  local command code
+  machine_make 'etc/crontab C/a.b'
+  for command in plan upcoming quiet check; do
+    for code in 0 1 2 3 77; do
+      printf 'one\n\ttwo\n' >"$work/out.wanted"
+      printf '%s\n' 'agenda-machine: left out root/etc/cron.d/a.b: bad name' 'agenda: jobs: Full' | sort >"$work/err.wanted"
+      MACHINE_SAYS='one\n\ttwo\n' MACHINE_COMPLAINS='agenda: jobs: Full\n' MACHINE_STATUS=$code machine_run --root root "$command"
+      machine_compare "the answer of $command with status $code" "$work/out.wanted" "$work/err.wanted" "$code"
+    done
+  done
+  # what is left out is said first
+  run_in "$machine_folder" env MACHINE_COMPLAINS='agenda: jobs: Full\n' "$machine_bin/agenda-machine" --root root plan
+  printf '%s\n' 'agenda-machine: left out root/etc/cron.d/a.b: bad name' 'agenda: jobs: Full' >"$work/err.wanted"
+  machine_compare "what is said before agenda runs" /dev/null "$work/err.wanted" 0
+  MACHINE_SAYS='a\0b\n\xff' machine_run --root root plan
+  printf 'a\0b\n\xff' >"$work/out.wanted"
+  echo 'agenda-machine: left out root/etc/cron.d/a.b: bad name' >"$work/err.wanted"
+  machine_compare "bytes of an answer" "$work/out.wanted" "$work/err.wanted" 0
+}
+
+machine_today
+machine_zones <<'ROWS'
+x/|-
+etc/localtime>../usr/share/zoneinfo/Europe/Berlin|Europe/Berlin
+etc/localtime>/usr/share/zoneinfo/America/Argentina/Salta|America/Argentina/Salta
+etc/localtime>/usr/share/zoneinfo/UTC|-
+etc/localtime>../usr/share/zoneinfo/Etc/UTC|-
+etc/localtime>/usr/share/zoneinfo/UCT|-
+etc/localtime>/usr/share/zoneinfo/Etc/UCT|-
+etc/localtime>/usr/share/zoneinfo/Zulu|-
+etc/localtime>/usr/share/zoneinfo/Etc/Zulu|-
+etc/localtime>/usr/share/zoneinfo/Universal|-
+etc/localtime>/usr/share/zoneinfo/Etc/Universal|-
+etc/localtime>/usr/share/zoneinfo/GMT|GMT
+etc/localtime>/usr/share/zoneinfo/Etc/GMT|Etc/GMT
+etc/localtime>/usr/share/zoneinfo/utc|utc
+etc/localtime>/usr/share/zoneinfo/posix/UTC|posix/UTC
+etc/localtime>/usr/share/zoneinfo/UTC/x|UTC/x
+etc/localtime>/zoneinfo/zoneinfo/UTC|zoneinfo/UTC
+etc/localtime>zoneinfo/A/zoneinfo/B|A/zoneinfo/B
+etc/localtime>/opt/Berlin|unknown
+etc/localtime>UTC|unknown
+etc/localtime=TZif2|unknown
+etc/localtime/|unknown
+etc>/opt/e opt/e/localtime>/usr/share/zoneinfo/Asia/Tokyo|Asia/Tokyo
+ROWS
+machine_answers

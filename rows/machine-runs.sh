@@ -1,0 +1,181 @@
+# shellcheck shell=bash disable=SC2154
+# Rows of how agenda-machine runs: files that it may not read, signals, what it leaves behind, the programs that it needs, and whole plans
+# by the program itself.
+
+# shellcheck source=/dev/null
+. "$top/rows/lib/machine.sh"
+
+# Makes what stands in machine_by take the rights of root away, where the rows run as root. Fails where that can't be done.
+machine_as_nobody() {
+  [ "$(id -u)" = 0 ] || return 0
+  machine_by=(setpriv --reuid=65534 --regid=65534 --clear-groups)
+  command -v setpriv >/dev/null && "${machine_by[@]}" true 2>/dev/null || return
+  chmod 711 "$work"
+  chmod 1777 "$machine_folder" "$machine_temporary"
+}
+
+# Each row: a root, its files or folders without rights, its sources, and what is left out.
+machine_locked() {
+  local root locked path sources left
+  while IFS='|' read -r root locked sources left; do
+    machine_make "$root"
+    for path in $locked; do
+      machine_path "$path"
+      chmod 000 "$machine_folder/$machine_root/$path"
+    done
+    machine_left_out "$left"
+    : >"$work/out.wanted"
+    machine_listing "$sources"
+    machine_run --root "$machine_root" sources
+    machine_compare "sources of '$root' without rights" "$work/out.wanted" "$work/err.wanted" 0 none
+    grep -a '^== ' "$work/texts.wanted" >"$work/names.wanted"
+    machine_run --root "$machine_root" plan
+    grep -a '^== ' "$MACHINE_LOG.texts" >"$MACHINE_LOG.names"
+    machine_compare "plan of '$root' without rights" /dev/null "$work/err.wanted" 0 names "$work/names.wanted"
+    chmod -R u+rwX "$machine_folder/$machine_root"
+  done
+}
+
+# The script ends by a signal, $1, with the words of timeout in $2, while agenda runs: the temporary folder is gone.
+machine_signalled() {
+  local machine_by=(timeout ${2:+"$2"} -s "$1" 0.4)
+  MACHINE_SLEEPS=1.5 machine_run --root root plan
+  [ -e "$MACHINE_LOG.words" ] || tell "agenda wasn't run"
+  [ "$status" != 0 ] || tell "status 0"
+  [ -z "$machine_left" ] || tell "left in the temporary folder: $machine_left"
+  count "agenda-machine: the signal $1 ${2:+by $2}"
+}
+
+machine_signals() {
+  local signal
+  machine_make 'etc/crontab *a.timer U/a.timer E/a.timer.d/x.conf'
+  for signal in HUP INT QUIT TERM; do
+    machine_signalled "$signal" ''
+  done
+  machine_signalled TERM --foreground
+  # its reader goes away
+  rm -f "$work/err"
+  # shellcheck disable=SC2016
+  TMPDIR=$machine_temporary run_in "$machine_folder" bash -c '"$1" --root root sources | head -c 1; "$1" --root root check | :' \
+    closed "$machine_bin/agenda-machine"
+  ls -A "$machine_temporary" >"$work/told"
+  count "agenda-machine: its reader goes away"
+}
+
+# It runs with the programs of bash, coreutils and findutils alone.
+machine_alone() {
+  local path folder=$machine_folder/programs
+  if ! dpkg -L bash coreutils findutils >"$work/programs" 2>/dev/null; then
+    echo "agenda-machine: passed over its programs, since dpkg can't name those of coreutils here"
+    return
+  fi
+  mkdir "$folder"
+  while IFS= read -r path; do
+    [[ $path != */bin/* ]] || ! [ -x "$path" ] || [ -d "$path" ] || ln -sf "$path" "$folder/"
+  done <"$work/programs"
+  machine_make 'etc/crontab>/opt/x opt/x=A C/a S/a *a@b.timer *c.timer U/a@.timer=%i\n E/a@.timer.d/x.conf U/c.timer etc/localtime>/zoneinfo/A'
+  for path in sources check plan; do
+    machine_run --root root "$path"
+    cp "$work/out" "$work/out.wanted"
+    cp "$work/err" "$work/err.wanted"
+    machine_by=(env "PATH=$folder")
+    machine_run --root root "$path"
+    machine_compare "$path by bash, coreutils and findutils" "$work/out.wanted" "$work/err.wanted" 0
+    machine_by=()
+  done
+}
+
+# Neither the caller's settings nor the name of the folder for temporary files change what it does.
+machine_settings() {
+  local machine_temporary="$machine_folder/a b*"
+  mkdir "$machine_temporary"
+  machine_make 'C/_ C/B C/a *a@b.timer *c.timer U/a@.timer=%i\n E/a@.timer.d/x.conf=p\n U/c.timer U/c.timer.d/y.conf'
+  : >"$work/out.wanted"
+  machine_listing 'C/B C/_ C/a U/c.timer +U/c.timer.d/y.conf U/a@.timer=a-b.timer +E/a@.timer.d/x.conf'
+  sed -i 's/^%i$/b/' "$work/texts.wanted"
+  machine_by=(env CDPATH=/etc:/ LC_ALL=C.UTF-8 POSIXLY_CORRECT=1 GLOBIGNORE=* TIME_STYLE=iso BLOCK_SIZE=1M QUOTING_STYLE=c IFS=/)
+  machine_run --root root sources
+  machine_compare "sources with other settings" "$work/out.wanted" /dev/null 0 none
+  machine_run --root root plan
+  machine_compare "plan with other settings" /dev/null /dev/null 0 texts "$work/texts.wanted"
+  machine_by=()
+}
+
+# Each row: a root, the lines of its plan of a day behind the header, with `;` between, and what is left out. The program is that of the
+# other rows.
+machine_plans() {
+  local root plan left
+  while IFS='|' read -r root plan left; do
+    machine_make "$root"
+    machine_left_out "$left"
+    printf '%b' "${plan//;/\\n}" >"$work/lines.wanted"
+    [ ! -s "$work/lines.wanted" ] || echo >>"$work/lines.wanted"
+    sed -i 's/^/2024-01-01T/' "$work/lines.wanted"
+    machine_run --root root plan "${day[@]}"
+    headed "${day[@]}" <"$work/lines.wanted" >"$work/agenda.headed"
+    machine_compare "plan by agenda of '$root'" "$work/agenda.headed" "$work/err.wanted" 0
+  done
+}
+
+# Each row: a root, and the fault line of its plan.
+machine_faults() {
+  local root fault
+  while IFS='|' read -r root fault; do
+    machine_make "$root"
+    echo "agenda: $fault" >"$work/err.wanted"
+    machine_run --root root plan "${day[@]}"
+    machine_compare "fault by agenda of '$root'" /dev/null "$work/err.wanted" 1
+  done
+}
+
+if machine_as_nobody; then
+  machine_locked <<'ROWS'
+etc/crontab C/a S/b *a.timer *b.timer U/a.timer U/b.timer|etc/crontab C/a S/b U/a.timer|U/b.timer|etc/crontab not readable,C/a not readable,S/b not readable,U/a.timer not readable
+C/a.b S/a~|C/a.b S/a~||C/a.b bad name,S/a~ bad name
+C/a S/a S/a.user|S/a|C/a S/a.user|S/a not readable
+C/a S/a|C/a|S/a|C/a not readable
+C/a S/b|etc/cron.d|S/b|etc/cron.d not readable
+*a.timer U/a.timer E/a.timer.d/x.conf U/a.timer.d/x.conf U/a.timer.d/y.conf|E/a.timer.d/x.conf|U/a.timer +U/a.timer.d/y.conf|E/a.timer.d/x.conf not readable
+*a.timer U/a.timer E/a.timer.d/x.conf U/a.timer.d/y.conf|E/a.timer.d|U/a.timer +U/a.timer.d/y.conf|E/a.timer.d not readable
+*a@b.timer *a@c.timer U/a@.timer|U/a@.timer||U/a@.timer not readable
+*a.timer E/a.timer= U/a.timer|E/a.timer||E/a.timer masked
+*a.timer E/a.timer U/a.timer|E/a.timer||E/a.timer not readable
+*a.timer E/y.target.wants/b.timer>y U/a.timer U/b.timer|E/y.target.wants|U/a.timer|E/y.target.wants not readable
+*a.timer E/x.target.requires/b.timer>y U/a.timer U/b.timer L/c.timer|usr/local/lib/systemd/system|U/a.timer U/b.timer|usr/local/lib/systemd/system not readable
+etc/crontab>/opt/x opt/x C/a|opt|C/a|etc/crontab not readable
+ROWS
+else
+  echo "agenda-machine: passed over the rows without rights, since setpriv can't take those of root away here"
+fi
+machine_by=()
+machine_signals
+machine_alone
+machine_settings
+
+machine_bin=$machine_folder/whole
+machine_plans <<'ROWS'
+x/||
+etc/crontab=0\x201\x20*\x20*\x20*\x20root\x20a\n|01:00:00Z\tsystem:1\troot a|
+etc/crontab=@daily\x20root\x20a\n C/b=@daily\x20root\x20b\n C/a=\n@daily\x20u\x20c\n|00:00:00Z\tsystem:1\troot a;00:00:00Z\ta:2\tu c;00:00:00Z\tb:1\troot b|
+S/u=@daily\x20a\n S/t.x=@daily\x20b|00:00:00Z\tt.x:1\tb;00:00:00Z\tu:1\ta|
+C/a=@daily\x20root\x20a S/a=@daily\x20b|00:00:00Z\ta:1\troot a;00:00:00Z\ta.user:1\tb|
+C/a.b=? S/a~=?||C/a.b bad name,S/a~ bad name
+*a.timer U/a.timer=[Timer]\nOnCalendar=daily\n|00:00:00Z\ta.timer\ta.service|
+*a.timer U/a.timer=[Timer]\nOnCalendar=daily E/a.timer.d/x.conf=[Timer]\nOnCalendar=\nOnCalendar=3:00|03:00:00Z\ta.timer\ta.service|
+*a.timer U/a.timer=[Timer]\nOnCalendar=daily\n E/a.timer.d/x.conf=OnCalendar=3:00|00:00:00Z\ta.timer\ta.service|
+*a.timer U/a.timer=[Timer]\nOnCalendar=daily\\ E/a.timer.d/x.conf=[Timer]\nUnit=b.service|00:00:00Z\ta.timer\tb.service|
+*a.timer U/a.timer=[Timer]\nOnBootSec=5\n||
+*a@b.timer *a@c.timer U/a@.timer=[Timer]\nOnCalendar=daily\nUnit=x-%i@%p.service\n|00:00:00Z\ta-b.timer\tx-b@a.service;00:00:00Z\ta-c.timer\tx-c@a.service|
+*a@4.timer U/a@.timer=[Timer]\nOnCalendar=%i:00\n|04:00:00Z\ta-4.timer\ta-4.service|
+*a.timer E/a.timer>/dev/null U/a.timer=?||E/a.timer masked
+ROWS
+machine_faults <<'ROWS'
+C/a=@daily\n|a: line 1: NoCommand
+S/u=\n@daily\n|u: line 2: NoCommand
+C/a=@daily\x20root\x20a S/a=@daily\n|a.user: line 1: NoCommand
+*a.timer U/a.timer=[Unit]\n|a.timer: line 0: NoTimerSection
+*a.timer U/a.timer=[Timer]\nOnCalendar=daily\n E/a.timer.d/x.conf=[Timer]\nOnCalendar=fortnightly\n|a.timer: line 6: part 0: UnknownWord
+*a@b.timer U/a@.timer=[Timer]\nOnCalendar=%H\n|a-b.timer: line 2: part 0: Specifier
+*a.timer U/a.timer=[Timer]\nOnCalendar=daily\\\n E/a.timer.d/x.conf=[Timer]\nOnCalendar=%i\n|a.timer: line 6: part 0: Specifier
+ROWS
+machine_bin=$machine_folder/bin

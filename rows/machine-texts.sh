@@ -1,0 +1,162 @@
+# shellcheck shell=bash disable=SC2154
+# Rows of the texts that agenda-machine hands to agenda: links that are followed below the root alone, joined files, specifiers of
+# instances, and the findings of `check`, which are told of the files that the texts came from. The program agenda is a stub.
+
+# shellcheck source=/dev/null
+. "$top/rows/lib/machine.sh"
+
+# Each row: a root, and what `check` says of it, with `;` between. The stub says something of each file, and of each of its lines.
+machine_findings() {
+  local root findings finding path
+  local -a list
+  while IFS='|' read -r root findings; do
+    machine_make "$root"
+    IFS=';' read -r -a list <<<"$findings"
+    for finding in "${list[@]}"; do
+      machine_path "$finding"
+      printf '%s\n' "$machine_root/$path"
+    done >"$work/out.wanted"
+    MACHINE_FINDS=yes MACHINE_STATUS=1 machine_run --root "$machine_root" check
+    machine_compare "findings of '$root'" "$work/out.wanted" /dev/null 1
+  done
+}
+
+# A root whose name is of characters that a shell may read as others: what is found, what agenda gets, and what is said of it.
+machine_odd_root() {
+  local machine_root=$1
+  machine_make '*a.timer U/a.timer=p\n U/a.timer.d/x.conf=q\n C/b=r C/c.d S/e'
+  : >"$work/out.wanted"
+  machine_listing 'C/b S/e U/a.timer +U/a.timer.d/x.conf'
+  machine_left_out 'C/c.d bad name'
+  machine_run --root "$machine_root" sources
+  machine_compare "sources of the folder '$1'" "$work/out.wanted" "$work/err.wanted" 0 none
+  printf '%s\n' "$1/etc/cron.d/b: NoTimerSection" "$1/etc/cron.d/b:1: r" "$1/var/spool/cron/crontabs/e: NoTimerSection" \
+    "$1/var/spool/cron/crontabs/e:1: # var/spool/cron/crontabs/e" "$1/usr/lib/systemd/system/a.timer: NoTimerSection" \
+    "$1/usr/lib/systemd/system/a.timer:1: p" "$1/usr/lib/systemd/system/a.timer.d/x.conf:1: q" >"$work/out.wanted"
+  MACHINE_FINDS=yes machine_run --root "$machine_root" check
+  machine_compare "findings of the folder '$1'" "$work/out.wanted" "$work/err.wanted" 0 texts "$work/texts.wanted"
+  rm -rf -- "${machine_folder:?}/$1"
+}
+
+# Links are followed as if the root were that of the machine.
+echo outside >"$machine_folder/outside"
+mkdir "$machine_folder/out.d"
+echo outside >"$machine_folder/out.d/a"
+machine_texts <<'ROWS'
+etc/crontab>/opt/x opt/x=A\n|system-crontab crontab|A\n
+etc/crontab>../opt/x opt/x=A\n|system-crontab crontab|A\n
+etc/crontab>../../../../../../../opt/x opt/x=A\n|system-crontab crontab|A\n
+etc/crontab>../outside outside=A\n|system-crontab crontab|A\n
+etc/crontab>../../outside outside=A\n|system-crontab crontab|A\n
+etc/crontab>/../outside outside=A\n|system-crontab crontab|A\n
+etc/crontab>/opt/x opt/x>y opt/y>/opt/z opt/z>../../w w=A\n|system-crontab crontab|A\n
+etc/crontab>/opt/x opt>/srv srv/x=A\n|system-crontab crontab|A\n
+etc/crontab>/opt/x opt>srv/y/z srv/y/z/x=A\n|system-crontab crontab|A\n
+etc/crontab>/opt/../x opt>srv/y srv/x=A\n srv/y/ x=B|system-crontab crontab|A\n
+etc>o/p o/p/crontab>../x o/x=A\n|system-crontab crontab|A\n
+etc>/o/p o/p/crontab=A\n|system-crontab crontab|A\n
+etc>../../o o/crontab=A\n|system-crontab crontab|A\n
+etc/crontab>\x2f\x2fopt\x2f\x2f.\x2fx opt/x=A\n|system-crontab crontab|A\n
+C/a>/opt/b.c opt/b.c=A\n|cron-d a|A\n
+C/a>../crontab.x etc/crontab.x=A\n|cron-d a|A\n
+etc/cron.d>/opt/c opt/c/a>../x opt/x=A\n|cron-d a|A\n
+etc/cron.d>../../../out.d out.d/a=A\n|cron-d a|A\n
+S/a>/opt/b opt/b=A\n|spool a|A\n
+var/spool>/opt/s opt/s/cron/crontabs/a=A\n|spool a|A\n
+*a.timer E/a.timer>/opt/b opt/b=A\n|timer a.timer|A\n
+*a.timer E/a.timer>../../../../../outside outside=A\n|timer a.timer|A\n
+*a.timer lib>usr/lib U/a.timer=A\n|timer a.timer|A\n
+*a.timer lib>/usr/lib U/a.timer=A\n|timer a.timer|A\n
+etc/systemd/system>/opt/u opt/u/x.target.wants/a.timer>b opt/u/a.timer=A\n|timer a.timer|A\n
+*a.timer U/a.timer=A\n U/a.timer.d/x.conf>/opt/x opt/x=B\n|timer a.timer|A\n\n[Unit]\nB\n
+*a.timer U/a.timer=A\n E/a.timer.d/x.conf>../../../../../../../opt/x opt/x=B\n|timer a.timer|A\n\n[Unit]\nB\n
+*a.timer usr/lib/systemd>/opt/s opt/s/system/a.timer.d/x.conf=B\n opt/s/system/a.timer=C\n|timer a.timer|C\n\n[Unit]\nB\n
+ROWS
+
+# What leads out of the root isn't there.
+machine_sources <<ROWS
+etc/crontab>$machine_folder/outside C/a>$machine_folder/outside S/a>$machine_folder/outside||etc/crontab not readable,C/a not readable,S/a not readable
+etc/crontab>../../outside C/a>../../../outside S/a>../../../../../outside||etc/crontab not readable,C/a not readable,S/a not readable
+*a.timer E/a.timer>$machine_folder/outside||E/a.timer not readable
+etc/cron.d>../../out.d||etc/cron.d not readable
+etc/cron.d>$machine_folder/out.d||etc/cron.d not readable
+*a.timer U/a.timer E/a.timer.d/x.conf>$machine_folder/outside|U/a.timer|E/a.timer.d/x.conf not readable
+ROWS
+
+# How files are joined: an empty line and a line [Unit] between, and a newline at each file's end.
+machine_texts <<'ROWS'
+*a.timer U/a.timer=A|timer a.timer|A
+*a.timer U/a.timer=A\n\n|timer a.timer|A\n\n
+*a.timer U/a.timer=A\n E/a.timer.d/x.conf=B\n|timer a.timer|A\n\n[Unit]\nB\n
+*a.timer U/a.timer=A E/a.timer.d/x.conf=B\n|timer a.timer|A\n\n[Unit]\nB\n
+*a.timer U/a.timer=A E/a.timer.d/x.conf=B U/a.timer.d/y.conf=C\n|timer a.timer|A\n\n[Unit]\nB\n\n[Unit]\nC\n
+*a.timer U/a.timer=A E/a.timer.d/y.conf=B\n U/timer.d/x.conf=C|timer a.timer|A\n\n[Unit]\nC\n\n[Unit]\nB\n
+*a.timer U/a.timer=A\n E/a.timer.d/x.conf=B|timer a.timer|A\n\n[Unit]\nB\n
+*a.timer U/a.timer=A\n\n\n E/a.timer.d/x.conf=\n|timer a.timer|A\n\n\n\n[Unit]\n\n
+*a.timer U/a.timer=A\\\n E/a.timer.d/x.conf=B\n|timer a.timer|A\\\n\n[Unit]\nB\n
+*a.timer U/a.timer=A\\ E/a.timer.d/x.conf=B\\\n E/a.timer.d/y.conf=C\n|timer a.timer|A\\\n\n[Unit]\nB\\\n\n[Unit]\nC\n
+*a.timer U/a.timer=A\r\n E/a.timer.d/x.conf=\xff\0\xc3\xa0\n|timer a.timer|A\r\n\n[Unit]\n\xff\0\xc3\xa0\n
+*a.timer U/a.timer=A\0 E/a.timer.d/x.conf=B\n|timer a.timer|A\0\n\n[Unit]\nB\n
+*a.timer U/a.timer=A%i%n%%\n E/a.timer.d/x.conf=%p%%\n|timer a.timer|A%i%n%%\n\n[Unit]\n%p%%\n
+C/a=A%i|cron-d a|A%i
+ROWS
+
+# Specifiers are those of an instance alone: what is between the first @ and the end, and what stands before it.
+# shellcheck disable=SC2016
+machine_texts <<'ROWS'
+*a@b.timer U/a@.timer=A\n|timer a-b.timer|A\n
+*a@b.timer U/a@b.timer=%i\n U/a@.timer=A\n|timer a-b.timer|b\n
+*a@b.timer U/a@.timer=%i,%n,%N,%p,%j,%%\n|timer a-b.timer|b,a@b.timer,a@b,a,a,%\n
+*x-y-z@b-c.d.timer U/x-y-z@.timer=%i,%n,%N,%p,%j\n|timer x-y-z-b-c.d.timer|b-c.d,x-y-z@b-c.d.timer,x-y-z@b-c.d,x-y-z,z\n
+*x-y-z@b-c.d.timer U/x-y-z@.timer=%I,%P,%J\n|timer x-y-z-b-c.d.timer|b/c.d,x/y/z,z\n
+*x-@-c-.timer U/x-@.timer=<%i,%I,%p,%P,%j,%J>\n|timer x---c-.timer|<-c-,/c/,x-,x/,,>\n
+*-x@b.timer U/-x@.timer=%p,%j,%P\n|timer -x-b.timer|-x,x,/x\n
+*a@b@c.timer U/a@.timer=%i,%n,%N,%p\n|timer a-b-c.timer|b@c,a@b@c.timer,a@b@c,a\n
+*a@@.timer U/a@.timer=%i,%n\n|timer a--.timer|@,a@@.timer\n
+*a@b.timer.timer U/a@.timer=%i,%n,%N\n|timer a-b.timer.timer|b.timer,a@b.timer.timer,a@b.timer\n
+*a@b.timer U/a@.timer=%%i,%%%i,%%%%i,%i%i%%\n|timer a-b.timer|%i,%b,%%i,bb%\n
+*a@b.timer U/a@.timer=%a,%f,%H,%t,%u,%b,%,%1,%.,%\x20i\n|timer a-b.timer|%a,%f,%H,%t,%u,%b,%,%1,%.,%\x20i\n
+*a@b.timer U/a@.timer=%\n%i%\n%\n|timer a-b.timer|%\nb%\n%\n
+*a@b.timer U/a@.timer=%q%i%%q%\xc3\xa0%\xff\n|timer a-b.timer|%qb%q%\xc3\xa0%\xff\n
+*a@b.timer U/a@.timer=\t\x20%i\x20\\%i\\\n*?[%i]$i\n|timer a-b.timer|\t\x20b\x20\\b\\\n*?[b]$i\n
+*a@b.timer U/a@.timer=%i\n E/a@b.timer.d/x.conf=%n%%\n|timer a-b.timer|b\n\n[Unit]\na@b.timer%\n
+*a@b.timer U/a@.timer=A% E/a@.timer.d/x.conf=i%i%|timer a-b.timer|A%\n\n[Unit]\nib%\n
+*a@b.timer U/a@.timer=%i\n\n\n|timer a-b.timer|b\n\n\n
+*a@b.timer U/a@.timer=A\0%i\0\n|timer a-b.timer|A\0b\0\n
+ROWS
+
+# Findings of joined, renamed and other files, which are told where they were found.
+machine_findings <<'ROWS'
+etc/crontab=p\nq\n C/a=r\n S/b=s\n|etc/crontab: NoTimerSection;etc/crontab:1: p;etc/crontab:2: q;C/a: NoTimerSection;C/a:1: r;S/b: NoTimerSection;S/b:1: s
+C/a=r\n S/a=s\nt\n|C/a: NoTimerSection;C/a:1: r;S/a: NoTimerSection;S/a:1: s;S/a:2: t
+*a.timer U/a.timer=p\n\nq\n|U/a.timer: NoTimerSection;U/a.timer:1: p;U/a.timer:3: q
+*a.timer U/a.timer=p\nq\n E/a.timer.d/x.conf=r\n\ns\n|U/a.timer: NoTimerSection;U/a.timer:1: p;U/a.timer:2: q;E/a.timer.d/x.conf:1: r;E/a.timer.d/x.conf:3: s
+*a.timer U/a.timer=p E/a.timer.d/x.conf=r U/timer.d/y.conf=s\n B/a.timer.d/z.conf=\nt|U/a.timer: NoTimerSection;U/a.timer:1: p;E/a.timer.d/x.conf:1: r;U/timer.d/y.conf:1: s;B/a.timer.d/z.conf:2: t
+*a.timer U/a.timer=p\n\n\n E/a.timer.d/x.conf=r\n|U/a.timer: NoTimerSection;U/a.timer:1: p;E/a.timer.d/x.conf:1: r
+*a@b.timer U/a@.timer=p%i\n E/a@b.timer.d/x.conf=%n\n|U/a@.timer: NoTimerSection;U/a@.timer:1: pb;E/a@b.timer.d/x.conf:1: a@b.timer
+*a@b.timer *a@c.timer U/a@.timer=%i\n|U/a@.timer: NoTimerSection;U/a@.timer:1: b;U/a@.timer: NoTimerSection;U/a@.timer:1: c
+*a:1.timer *a.timer U/a:1.timer=p\n U/a.timer=q\n U/timer.d/x:2.conf=r\n|U/a.timer: NoTimerSection;U/a.timer:1: q;U/timer.d/x:2.conf:1: r;U/a:1.timer: NoTimerSection;U/a:1.timer:1: p;U/timer.d/x:2.conf:1: r
+etc/crontab>/opt/x opt/x=p\n C/a>../../opt/y opt/y=q\n S/b>/opt/y|etc/crontab: NoTimerSection;etc/crontab:1: p;C/a: NoTimerSection;C/a:1: q;S/b: NoTimerSection;S/b:1: q
+*a.timer E/a.timer>/opt/x opt/x=p\n|E/a.timer: NoTimerSection;E/a.timer:1: p
+*a.timer E/a.timer>../../../opt/x opt/x=p\n E/a.timer.d/x.conf>/opt/y opt/y=q\n|E/a.timer: NoTimerSection;E/a.timer:1: p;E/a.timer.d/x.conf:1: q
+*a.timer lib>usr/lib U/a.timer=p\n|B/a.timer: NoTimerSection;B/a.timer:1: p
+*a.timer U/a.timer=p:1:\x20q\n E/a.timer.d/x\x20y.conf=r:\x20s|U/a.timer: NoTimerSection;U/a.timer:1: p:1: q;E/a.timer.d/x\x20y.conf:1: r: s
+*a.timer U/a.timer=1\n2\n3\n4\n5\n6\n7\n8\n9\n10\n E/a.timer.d/x.conf=\n\n\n\n\n\n\n\n\n10\n|U/a.timer: NoTimerSection;U/a.timer:1: 1;U/a.timer:2: 2;U/a.timer:3: 3;U/a.timer:4: 4;U/a.timer:5: 5;U/a.timer:6: 6;U/a.timer:7: 7;U/a.timer:8: 8;U/a.timer:9: 9;U/a.timer:10: 10;E/a.timer.d/x.conf:10: 10
+ROWS
+
+while IFS= read -r machine_odd; do
+  machine_odd_root "$machine_odd"
+done <<'ROWS'
+a b
+[r]*
+-r
+'r"
+r\x
+à
+$r
+~
+r:1: x
+r&
+%i
+#
+ROWS

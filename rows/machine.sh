@@ -1,0 +1,243 @@
+# shellcheck shell=bash disable=SC2154
+# Rows of what agenda-machine finds of cron, of its words, its help and its usage. The program agenda is a stub.
+
+# shellcheck source=/dev/null
+. "$top/rows/lib/machine.sh"
+
+# Rows of words, with bars between, that are usage: nothing is written to standard output, and agenda isn't run. The root is there.
+machine_usage() {
+  local row words
+  machine_make etc/crontab
+  while IFS= read -r row; do
+    IFS='|' read -r -a words <<<"$row"
+    machine_run "${words[@]}"
+    [ -s "$work/err" ] || echo "nothing on standard error" >"$work/out"
+    machine_compare "usage of '$row'" /dev/null "$work/err" 2 none
+  done
+}
+
+# Rows of words that ask for help: some lines that name the script and its commands.
+machine_helps() {
+  local row word words
+  while IFS= read -r row; do
+    IFS='|' read -r -a words <<<"$row"
+    machine_run "${words[@]}"
+    cp "$work/out" "$work/out.wanted"
+    for word in agenda-machine --root --all plan upcoming quiet check sources; do
+      grep -qe "$word" "$work/out" || echo "no word of $word" >>"$work/out.wanted"
+    done
+    machine_compare "help by '$row'" "$work/out.wanted" /dev/null 0 none
+  done
+}
+
+# Rows of words, with bars between, and of the folder of which they say that it is none.
+machine_no_folders() {
+  local row name words
+  machine_make file
+  while IFS='>' read -r row name; do
+    IFS='|' read -r -a words <<<"$row"
+    echo "agenda-machine: $name: no folder" >"$work/err.wanted"
+    machine_run "${words[@]}"
+    machine_compare "no folder by '$row'" /dev/null "$work/err.wanted" 1 none
+  done
+}
+
+# Rows of a root as it is given, and of what stands before the paths then. The folder below is `root`.
+machine_roots() {
+  local given front
+  machine_make 'etc/crontab C/a.b *a.timer U/a.timer E/a.timer.d/x.conf'
+  while IFS='|' read -r given front; do
+    given=${given/PWD/$machine_folder} front=${front/PWD/$machine_folder}
+    printf '%s\t%s\t%s\n' system-crontab crontab "$front/etc/crontab" timer a.timer "$front/usr/lib/systemd/system/a.timer" \
+      drop-in a.timer "$front/etc/systemd/system/a.timer.d/x.conf" >"$work/out.wanted"
+    echo "agenda-machine: left out $front/etc/cron.d/a.b: bad name" >"$work/err.wanted"
+    machine_run --root "$given" sources
+    machine_compare "--root '$given'" "$work/out.wanted" "$work/err.wanted" 0 none
+  done
+}
+
+# Without a root it is that of the machine, as by --root /: no path has two slashes.
+machine_whole() {
+  machine_run --root / sources
+  cp "$work/out" "$work/out.wanted"
+  cp "$work/err" "$work/err.wanted"
+  ! grep -qF // "$work/out" "$work/err" || echo "no two slashes" >>"$work/out.wanted"
+  machine_run sources
+  machine_compare "sources of this machine" "$work/out.wanted" "$work/err.wanted" 0 none
+  machine_run --root /// --all sources
+  cp "$work/out" "$work/out.wanted"
+  cp "$work/err" "$work/err.wanted"
+  ! grep -qF // "$work/out" "$work/err" || echo "no two slashes" >>"$work/out.wanted"
+  machine_run --all sources
+  machine_compare "all sources of this machine" "$work/out.wanted" "$work/err.wanted" 0 none
+}
+
+# What is told of a name with a newline is a line too: it is written as a shell reads it.
+machine_newlines() {
+  machine_make '*a.timer U/a.timer U/a.timer.d/x\ny.conf C/a\nb *c\nd.timer'
+  printf '%s\n' $'timer\ta.timer\troot/usr/lib/systemd/system/a.timer' \
+    "drop-in${tab}a.timer${tab}\$'root/usr/lib/systemd/system/a.timer.d/x\\ny.conf'" >"$work/out.wanted"
+  printf '%s\n' "agenda-machine: left out \$'root/etc/cron.d/a\\nb': bad name" \
+    "agenda-machine: left out \$'root/etc/systemd/system/x.target.wants/c\\nd.timer': bad name" >"$work/err.wanted"
+  machine_run --root root sources
+  machine_compare "names with a newline" "$work/out.wanted" "$work/err.wanted" 0 none
+}
+
+# Rows of words, with bars between, and of those that agenda gets, in which FILES stands for the sources of the root.
+machine_words() {
+  local row wanted files words
+  machine_make 'etc/crontab C/a C/b S/b S/c *a.timer *b.timer *c@d.timer U/a.timer U/b.timer U/c@.timer E/b.timer.d/x.conf'
+  files="--system-crontab|root/etc/crontab|--cron-d|root/etc/cron.d/a|--cron-d|root/etc/cron.d/b|--spool|TMP/b.user|--spool|"
+  files+="root/var/spool/cron/crontabs/c|root/usr/lib/systemd/system/a.timer|TMP/b.timer|TMP/c-d.timer"
+  while IFS='>' read -r row wanted; do
+    IFS='|' read -r -a words <<<"$row"
+    wanted=${wanted/FILES/$files}
+    printf '%s\n' "${wanted//|/$'\n'}" >"$work/words.wanted"
+    machine_run --root root "${words[@]}"
+    machine_compare "words '$row'" /dev/null /dev/null 0 words "$work/words.wanted"
+  done
+}
+
+# The rows of all roots: what is there, the order of sources and of names.
+machine_sources <<'ROWS'
+x/||
+etc||
+etc/crontab|etc/crontab|
+etc/crontab=|etc/crontab|
+C/a|C/a|
+C/a=|C/a|
+S/a|S/a|
+S/a=|S/a|
+C/ S/ E/ U/||
+U/a.timer||
+*a.timer U/a.timer|U/a.timer|
+*e.timer *d.timer U/d.timer R/e.timer S/u S/t C/b C/a etc/crontab|etc/crontab C/a C/b S/t S/u U/d.timer R/e.timer|
+C/a C/_ C/B C/0 C/- C/aa C/a-|C/- C/0 C/B C/_ C/a C/a- C/aa|
+S/a S/_ S/B S/0 S/- S/a.b S/a. S/a0|S/- S/0 S/B S/_ S/a S/a. S/a.b S/a0|
+C/.a C/.b.c S/.a S/.b~ C/.c/ S/.c>nowhere||
+etc/cron.daily/a etc/anacrontab var/spool/cron/a var/spool/cron/crontabs.x/a||
+ROWS
+
+# What can't be a source, and which of its faults is told.
+machine_sources <<'ROWS'
+C/a.b C/c|C/c|C/a.b bad name
+C/a~ C/a\x20b C/\x20 C/a# C/\xc3\xa0 C/a@ C/* C/a:||C/a~ bad name,C/a\x20b bad name,C/\x20 bad name,C/a# bad name,C/\xc3\xa0 bad name,C/a@ bad name,C/* bad name,C/a: bad name
+S/a~ S/a\x20b S/\xff S/a\\b S/a,b S/? S/c|S/c|S/a~ bad name,S/a\x20b bad name,S/\xff bad name,S/a\\b bad name,S/? bad name,S/a\x2cb bad name
+C/a/ C/b!||C/a not readable,C/b not readable
+S/a/ S/b!||S/a not readable,S/b not readable
+etc/crontab/||etc/crontab not readable
+etc/crontab!||etc/crontab not readable
+etc/crontab>nowhere||etc/crontab not readable
+etc/crontab>/dev/null||etc/crontab not readable
+C/a>nowhere C/b>/dev/null C/c>c C/d>e C/e>d C/f>/opt opt/x||C/a not readable,C/b not readable,C/c not readable,C/d not readable,C/e not readable,C/f not readable
+S/a>nowhere S/b>/dev/null S/c>c||S/a not readable,S/b not readable,S/c not readable
+C/a.b/ C/c.d>nowhere C/e~! S/a~/ S/b~>nowhere||C/a.b bad name,C/c.d bad name,C/e~ bad name,S/a~ bad name,S/b~ bad name
+etc/cron.d||etc/cron.d not readable
+var/spool/cron/crontabs||var/spool/cron/crontabs not readable
+etc/cron.d>nowhere||etc/cron.d not readable
+etc/cron.d>cron.d||etc/cron.d not readable
+etc/systemd/system U/x.target.wants/a.timer>x U/a.timer|U/a.timer|etc/systemd/system not readable
+ROWS
+
+# Names of the spool folder that cron.d has.
+machine_sources <<'ROWS'
+C/a S/a|C/a S/a=a.user|
+C/a C/b S/a S/b S/c|C/a C/b S/a=a.user S/b=b.user S/c|
+C/a S/a S/a.user|C/a S/a.user|S/a name taken
+C/a S/a S/a.user S/a.user.user|C/a S/a.user S/a.user.user|S/a name taken
+C/a S/a S/a.user/|C/a|S/a name taken,S/a.user not readable
+C/a S/a S/a.user>nowhere|C/a|S/a name taken,S/a.user not readable
+C/a S/a S/.a.user|C/a S/a=a.user|
+C/a S/a>nowhere|C/a|S/a not readable
+C/a S/a/ S/a.user|C/a S/a.user|S/a not readable
+C/a/ S/a|S/a|C/a not readable
+C/a/ S/a S/a.user|S/a S/a.user|C/a not readable
+C/a>nowhere S/a|S/a|C/a not readable
+C/a.b S/a.b|S/a.b|C/a.b bad name
+etc/crontab C/crontab S/crontab|etc/crontab C/crontab S/crontab=crontab.user|
+C/a S/a.user|C/a S/a.user|
+etc/crontab C/system S/system|etc/crontab|C/system name taken,S/system name taken
+C/system S/system|C/system S/system=system.user|
+etc/crontab/ C/system|C/system|etc/crontab not readable
+ROWS
+
+machine_usage <<'ROWS'
+
+frob
+steps
+next|--cron|@daily
+--version
+-r|root|sources
+--root
+--root|root
+--root=root|sources
+--all
+--all|--root|root
+--frob|plan
+--|sources
+--root|root|frob
+--root|root||
+--root|root|sources|x
+--root|root|sources|--all
+--root|root|sources|--help
+--root|root|sources|--
+--root|root|sources|--since|2024-01-01T00:00:00Z
+--root|root|all|plan
+--root|missing|frob
+--root|missing
+--root|missing|sources|x
+--root|missing|plan|--since|frob
+--root|root|plan|--since|frob
+--root|root|plan|--since=frob
+--root|root|plan|--upto|frob
+--root|root|plan|--upto=frob|--since|2024-01-01T00:00:00Z
+--root|root|quiet|--upto|+frob
+--root|root|quiet|--since|+frob
+--root|root|plan|--since|--upto
+--root|root|upcoming|--after|frob
+--root|root|upcoming|--after=frob
+ROWS
+
+machine_helps <<'ROWS'
+--help
+--all|--help
+--root|root|--help
+--root|missing|--help
+ROWS
+
+machine_no_folders <<'ROWS'
+--root|missing|plan>missing
+--root|missing|sources>missing
+--root|missing|check|x>missing
+--root|missing|--all|quiet>missing
+--all|--root|missing|upcoming>missing
+--root|missing//|sources>missing
+--root|root/file|sources>root/file
+--root|root/file/|sources>root/file
+ROWS
+
+ln -s root "$machine_folder/linked"
+machine_roots <<'ROWS'
+root|root
+root/|root
+root///|root
+./root|./root
+../machine/root|../machine/root
+PWD/root|PWD/root
+PWD//root/|PWD//root
+linked|linked
+linked/|linked
+ROWS
+machine_whole
+machine_newlines
+
+machine_words <<'ROWS'
+check>check|FILES
+check|--since|yesterday|x.timer>check|FILES|--since|yesterday|x.timer
+check|--|--upto>check|FILES|--|--upto
+check|--help>check|FILES|--help
+plan|--since|2024-01-01T00:00:00Z|--upto|2024-01-02T00:00:00Z>plan|FILES|--since|2024-01-01T00:00:00Z|--upto|2024-01-02T00:00:00Z
+plan|--limit|5|--since=2024-01-01T00:00:00Z|x y|--upto=2024-01-02T00:00:00Z|z>plan|FILES|--limit|5|--since=2024-01-01T00:00:00Z|x y|--upto=2024-01-02T00:00:00Z|z
+quiet|--least|9|--since|2024-01-01T00:00:00Z>quiet|FILES|--upto|2024-01-02T00:00:00Z|--least|9|--since|2024-01-01T00:00:00Z
+upcoming|x|--after|2024-01-01T00:00:00Z|--|y>upcoming|FILES|x|--after|2024-01-01T00:00:00Z|--|y
+ROWS
