@@ -20,7 +20,7 @@ function comes(times) { return any(100) < times }
 
 function make(kind, path, text) {
   if ((number, path) in made) return
-  made[number, path] = 1
+  made[number, path] = kind
   print number "\t" kind "\t" path "\t" text
 }
 
@@ -42,12 +42,21 @@ function make_unit(folder, name, other) {
   else make("folder", folder "/" name)
 }
 
+# Whether the path of the unit $1 below /lib has a file or nothing, and keeps it so. A link by that path may wish for the unit then: what
+# systemd, which follows it out of the root here, sees at its end is no mask either.
+function is_no_mask(name, path) {
+  path = folders[4] "/" name
+  if (!((number, path) in made)) made[number, path] = "nothing"
+  return made[number, path] == "file" || made[number, path] == "nothing"
+}
+
 # A wish for the unit $1, or what stands in place of one.
-function make_wish(name, folder, other) {
+function make_wish(name, folder, other, text) {
   folder = folders[1 + any(5)] "/" targets[1 + any(2)] ".target." (comes(75) ? "wants" : "requires")
   if ((number, folder) in made) return
   other = any(100)
-  if (other < 84) make("link", folder "/" name, comes(50) ? "/lib/systemd/system/" name : comes(50) ? "../" name : "nowhere")
+  text = comes(50) && is_no_mask(name) ? "/lib/systemd/system/" name : comes(50) ? "../" name : "nowhere"
+  if (other < 84) make("link", folder "/" name, text)
   else if (other < 89) make("link", folder "/" name, "/dev/null")
   else if (other < 92) make("empty", folder "/" name)
   else if (other < 95) make("link", folder "/" name, elsewhere(folder, "empty"))
