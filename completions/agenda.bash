@@ -8,7 +8,7 @@ _agenda() {
     local at
     for ((at = 1; at < cword; at++)); do
         case ${words[at]} in
-            next | plan | steps)
+            next | plan | upcoming | quiet | steps)
                 command=${words[at]}
                 break
                 ;;
@@ -24,37 +24,46 @@ _agenda() {
             mapfile -t COMPREPLY < <(compgen -W 'minutely hourly daily weekly monthly quarterly semiannually yearly annually' -- "$cur")
             return
             ;;
-        plan:--crontab | plan:--system-crontab | plan:--cron-d | plan:--spool)
+        *:--crontab | *:--system-crontab | *:--cron-d | *:--spool)
             _filedir
             return
             ;;
-        plan:--planners)
+        *:--planners)
             mapfile -t COMPREPLY < <(compgen -W '1 2 3 4 5 6 7 8' -- "$cur")
             return
             ;;
-        next:--after | next:--count | plan:--since | plan:--upto | plan:--room | plan:--limit)
+        *:--after | *:--count | *:--since | *:--upto | *:--least | *:--room | *:--limit)
             # a moment or a number, which has no list
             return
             ;;
     esac
     $split && return
 
+    local sources='--crontab= --system-crontab= --cron-d= --spool= --help'
     case $command:$cur in
         :-*)
             mapfile -t COMPREPLY < <(compgen -W '--help --version' -- "$cur")
             ;;
         :*)
-            mapfile -t COMPREPLY < <(compgen -W 'next plan steps' -- "$cur")
+            mapfile -t COMPREPLY < <(compgen -W 'next plan upcoming quiet steps' -- "$cur")
             ;;
         next:*)
             mapfile -t COMPREPLY < <(compgen -W '--after= --count= --cron= --calendar= --help' -- "$cur")
             [[ ${COMPREPLY-} == *= ]] && compopt -o nospace
             ;;
         plan:-*)
-            mapfile -t COMPREPLY < <(compgen -W '--since= --upto= --crontab= --system-crontab= --cron-d= --spool= --planners= --room= --limit= --help' -- "$cur")
+            mapfile -t COMPREPLY < <(compgen -W "--since= --upto= --planners= --room= --limit= $sources" -- "$cur")
             [[ ${COMPREPLY-} == *= ]] && compopt -o nospace
             ;;
-        plan:*)
+        upcoming:-*)
+            mapfile -t COMPREPLY < <(compgen -W "--after= $sources" -- "$cur")
+            [[ ${COMPREPLY-} == *= ]] && compopt -o nospace
+            ;;
+        quiet:-*)
+            mapfile -t COMPREPLY < <(compgen -W "--since= --upto= --least= --planners= --room= --limit= $sources" -- "$cur")
+            [[ ${COMPREPLY-} == *= ]] && compopt -o nospace
+            ;;
+        plan:* | upcoming:* | quiet:*)
             _filedir timer
             ;;
         steps:-*)

@@ -2,31 +2,43 @@
 
 complete -c agenda -f
 
-set -l none 'not __fish_seen_subcommand_from next plan steps'
+set -l none 'not __fish_seen_subcommand_from next plan upcoming quiet steps'
 complete -c agenda -n $none -a next -d 'Print the next starts of one rule'
 complete -c agenda -n $none -a plan -d 'Print when the jobs of crontabs and timers start'
+complete -c agenda -n $none -a upcoming -d 'Print when each job of crontabs and timers starts next'
+complete -c agenda -n $none -a quiet -d 'Print when no job of crontabs and timers starts'
 complete -c agenda -n $none -a steps -d 'Print what a mailbox replies to the steps of a script'
 complete -c agenda -s h -l help -d 'Print help'
 complete -c agenda -n $none -s V -l version -d 'Print the version'
 
+set -l after '__fish_seen_subcommand_from next upcoming'
+complete -c agenda -n $after -l after -x -d 'The starts are later than this moment'
+
 set -l next '__fish_seen_subcommand_from next'
-complete -c agenda -n $next -l after -x -d 'The starts are later than this moment'
 complete -c agenda -n $next -l count -x -d 'How many starts, from 1 to 1000 [1]'
 complete -c agenda -n $next -l cron -x -d 'A cron rule' \
     -a '@yearly @annually @monthly @weekly @daily @midnight @hourly @reboot'
 complete -c agenda -n $next -l calendar -x -d 'A calendar event' \
     -a 'minutely hourly daily weekly monthly quarterly semiannually yearly annually'
 
+set -l span '__fish_seen_subcommand_from plan quiet'
+complete -c agenda -n $span -l since -x -d 'The first moment of the span'
+complete -c agenda -n $span -l upto -x -d 'The moment at which the span ends'
+complete -c agenda -n $span -l planners -x -d 'How many planners [2]' -a '1 2 3 4 5 6 7 8'
+complete -c agenda -n $span -l room -x -d 'How many notes of a planner may wait, from 1 to 1024 [16]'
+
 set -l plan '__fish_seen_subcommand_from plan'
-complete -c agenda -n $plan -l since -x -d 'The first moment of the span'
-complete -c agenda -n $plan -l upto -x -d 'The moment at which the span ends'
-complete -c agenda -n $plan -l crontab -r -F -d 'A user\'s crontab'
-complete -c agenda -n $plan -l system-crontab -r -F -d 'The system\'s crontab'
-complete -c agenda -n $plan -l cron-d -r -F -d 'A crontab of a package'
-complete -c agenda -n $plan -l spool -r -F -d 'A user\'s crontab, named by the user'
-complete -c agenda -n $plan -l planners -x -d 'How many planners [2]' -a '1 2 3 4 5 6 7 8'
-complete -c agenda -n $plan -l room -x -d 'How many notes of a planner may wait, from 1 to 1024 [16]'
 complete -c agenda -n $plan -l limit -x -d 'The most starts, from 1 to 1000000 [10000]'
-complete -c agenda -n $plan -k -a '(__fish_complete_suffix .timer)'
+
+set -l quiet '__fish_seen_subcommand_from quiet'
+complete -c agenda -n $quiet -l limit -x -d 'The most starts, from 1 to 1000000 [1000000]'
+complete -c agenda -n $quiet -l least -x -d 'How many seconds a gap has at least [1800]'
+
+set -l sources '__fish_seen_subcommand_from plan upcoming quiet'
+complete -c agenda -n $sources -l crontab -r -F -d 'A user\'s crontab'
+complete -c agenda -n $sources -l system-crontab -r -F -d 'The system\'s crontab'
+complete -c agenda -n $sources -l cron-d -r -F -d 'A crontab of a package'
+complete -c agenda -n $sources -l spool -r -F -d 'A user\'s crontab, named by the user'
+complete -c agenda -n $sources -k -a '(__fish_complete_suffix .timer)'
 
 complete -c agenda -n '__fish_seen_subcommand_from steps' -F

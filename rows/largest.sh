@@ -102,6 +102,9 @@ largest_jobs() {
     largest_run jobs 1000 plan "${largest_day[@]}" --limit 1000 --planners "$planners" --room 1 --crontab jobs
     compare_agenda "1,000 jobs of 1,048,576 bytes by $planners planners" "$work/agenda.wanted"
   done
+  awk -v OFS='\t' '{ print "2024-01-02T00:00:00Z", "cron:" NR, substr($0, 8) }' "$largest_folder/jobs" >"$work/upcoming.wanted"
+  largest_run jobs 0 upcoming --after "$largest_since" --crontab jobs
+  compare "the next starts of 1,000 jobs of 1,048,576 bytes" "$work/upcoming.wanted" /dev/null 0
   yes '@daily x' | largest_file jobs 1048572
   largest_text "116,508 jobs" jobs "agenda: jobs: Full"
 }
@@ -149,10 +152,30 @@ ROWS
   is_refused "a start each second, and the limit that is not given" "plan: TooMany" 1
 }
 
+# The gaps of the same starts, of a minute each and of a second each. The limit that is not given is the largest.
+largest_gaps() {
+  local planners
+  awk 'function moment(minute) { return sprintf("2024-01-01T%02d:%02d:00Z", int(minute / 60), minute % 60) }
+    BEGIN { for (minute = 0; minute < 1000; minute++) printf "%s\t%s\t60\n", moment(minute), moment(minute + 1) }' >"$work/gaps.wanted"
+  for planners in 1 8; do
+    largest_run minutes 1000000 quiet --since "$largest_since" --upto 2024-01-01T16:40:00Z --least 60 --planners "$planners" \
+      --crontab minutes
+    compare "the gaps of 1,000,000 starts by $planners planners, 1,000 in each minute" "$work/gaps.wanted" /dev/null 0
+    largest_run s.timer 1000000 quiet --since "$largest_since" --upto 2024-01-12T13:46:40Z --least 1 --planners "$planners" s.timer
+    mv "$work/out" "$largest_folder/out"
+    # shellcheck disable=SC2016
+    run_in "$largest_folder" sh -c 'wc -l <out; cut -f 3 out | uniq -c | awk "{ print \$1, \$2 }"; tail -n 1 out'
+    compare_texts "the gaps of 1,000,000 starts by $planners planners, one in each second" \
+      $'1000000\n1000000 1\n'"2024-01-12T13:46:39Z${tab}2024-01-12T13:46:40Z${tab}1"$'\n' '' 0
+  done
+}
+
 # That the memory is bounded: 8 MB are too little for the largest agenda.
 largest_bound() {
   largest_run minutes 0 plan --since "$largest_since" --upto 2024-01-01T16:40:00Z --limit 1000000 --crontab minutes
   is_refused "1,000,000 starts without memory for them" NoMemory 3
+  largest_run minutes 0 quiet --since "$largest_since" --upto 2024-01-01T16:40:00Z --crontab minutes
+  is_refused "the gaps of 1,000,000 starts without memory for these" NoMemory 3
 }
 
 largest_newlines
@@ -161,4 +184,5 @@ largest_resets
 largest_continued
 largest_jobs
 largest_agendas
+largest_gaps
 largest_bound

@@ -117,6 +117,18 @@ machine_plans() {
   done
 }
 
+# Each row: a root, the words of a command, and its answer, escaped.
+machine_answers() {
+  local root written answer words
+  while IFS='|' read -r root written answer; do
+    machine_make "$root"
+    read -r -a words <<<"$written"
+    printf '%b' "$answer" >"$work/answer.wanted"
+    machine_run --root root "${words[@]}"
+    machine_compare "$written by agenda of '$root'" "$work/answer.wanted" /dev/null 0
+  done
+}
+
 # Each row: a root, and the fault line of its plan.
 machine_faults() {
   local root fault
@@ -168,6 +180,14 @@ C/a.b=? S/a~=?||C/a.b bad name,S/a~ bad name
 *a@b.timer *a@c.timer U/a@.timer=[Timer]\nOnCalendar=daily\nUnit=x-%i@%p.service\n|00:00:00Z\ta-b.timer\tx-b@a.service;00:00:00Z\ta-c.timer\tx-c@a.service|
 *a@4.timer U/a@.timer=[Timer]\nOnCalendar=%i:00\n|04:00:00Z\ta-4.timer\ta-4.service|
 *a.timer E/a.timer>/dev/null U/a.timer=?||E/a.timer masked
+ROWS
+machine_answers <<'ROWS'
+x/|upcoming|
+etc/crontab=@daily\x20root\x20a\n *a@b.timer U/a@.timer=[Timer]\nOnCalendar=6:00\n|upcoming --after 2024-01-01T00:00:00Z|2024-01-01T06:00:00Z\ta-b.timer\ta-b.service\n2024-01-02T00:00:00Z\tsystem:1\troot a\n
+C/a=@reboot\x20root\x20a S/a=@daily\x20b|upcoming --after 2024-01-01T00:00:00Z|2024-01-02T00:00:00Z\ta.user:1\tb\nnone\ta:1\troot a\n
+etc/crontab=@daily\x20root\x20a\n *a@b.timer U/a@.timer=[Timer]\nOnCalendar=6:00\n|quiet --since 2024-01-01T00:00:00Z|2024-01-01T00:00:00Z\t2024-01-01T06:00:00Z\t21600\n2024-01-01T06:00:00Z\t2024-01-02T00:00:00Z\t64800\n
+x/|quiet --since 2024-01-01T00:00:00Z --upto +1hour --least 3600|2024-01-01T00:00:00Z\t2024-01-01T01:00:00Z\t3600\n
+x/|quiet --since 2024-01-01T00:00:00Z --upto +1hour --least 3601|
 ROWS
 machine_faults <<'ROWS'
 C/a=@daily\n|a: line 1: NoCommand

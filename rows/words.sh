@@ -33,9 +33,11 @@ When jobs start, by the rules of cron and of systemd timers
 Usage: agenda <COMMAND>
 
 Commands:
-  next   Prints the next starts of one rule
-  plan   Prints which jobs of crontabs and timers start when
-  steps  Prints what a mailbox replies to the steps of a script
+  next      Prints the next starts of one rule
+  plan      Prints which jobs of crontabs and timers start when
+  upcoming  Prints when each job of crontabs and timers starts next
+  quiet     Prints when no job of crontabs and timers starts
+  steps     Prints what a mailbox replies to the steps of a script
 
 Options:
   -h, --help     Print help
@@ -47,6 +49,8 @@ what each fault line means are described in agenda(1).
 Examples:
   agenda next --cron @daily --after 2024-01-01T00:00:00Z
   agenda plan --since 2024-01-01T00:00:00Z --upto 2024-01-02T00:00:00Z backup.timer
+  agenda upcoming --after 2024-01-01T00:00:00Z --crontab jobs backup.timer
+  agenda quiet --since 2024-01-01T00:00:00Z --upto 2024-01-02T00:00:00Z --crontab jobs
   agenda steps script
 END
 }
@@ -116,6 +120,77 @@ Example:
 END
 }
 
+words_make_help_of_upcoming() {
+  cat >"$work/words/upcoming.text" <<'END'
+Prints when each job of crontabs and timers starts next
+
+Usage: agenda upcoming [OPTIONS] --after <T> [TIMER]...
+
+Arguments:
+  [TIMER]...  The path of a systemd timer's file, as backup.timer
+
+Options:
+      --after <T>           The starts are later than this moment, in UTC, as
+                            2024-01-01T00:00:00Z; the years are 1970 to 2999
+      --crontab <F>         The path of a user crontab
+      --system-crontab <F>  The path of a system crontab, whose lines name a user
+      --cron-d <F>          The path of a package's crontab, as /etc/cron.d/php;
+                            any number of times
+      --spool <F>           The path of a user's crontab in the spool folder;
+                            any number of times
+  -h, --help                Print help
+
+Prints a line for each job: the moment of its next start, the job's name and what it
+runs, with a tab between. The lines are in order of moments; at one moment in order of
+jobs, as those of plan. Jobs that have no further start before the year 3000 come last,
+with none in place of the moment. The formats of the files are described in agenda(1).
+
+Example:
+  agenda upcoming --after 2024-01-01T00:00:00Z --crontab jobs backup.timer
+END
+}
+
+words_make_help_of_quiet() {
+  cat >"$work/words/quiet.text" <<'END'
+Prints when no job of crontabs and timers starts
+
+Usage: agenda quiet [OPTIONS] --since <T> --upto <T> [TIMER]...
+
+Arguments:
+  [TIMER]...  The path of a systemd timer's file, as backup.timer
+
+Options:
+      --since <T>           The first moment of the span, in UTC, as
+                            2024-01-01T00:00:00Z; the years are 1970 to 2999
+      --upto <T>            The moment before which the span ends, written as that
+                            of --since and no earlier
+      --crontab <F>         The path of a user crontab
+      --system-crontab <F>  The path of a system crontab, whose lines name a user
+      --cron-d <F>          The path of a package's crontab, as /etc/cron.d/php;
+                            any number of times
+      --spool <F>           The path of a user's crontab in the spool folder;
+                            any number of times
+      --least <N>           How many seconds a gap has at least,
+                            from 1 to 4294967295 [default: 1800]
+      --planners <N>        How many planners search, from 1 to 8 [default: 2]
+      --room <N>            How many messages of each planner may wait,
+                            from 1 to 1024 [default: 16]
+      --limit <N>           How many starts there may be in all,
+                            from 1 to 1000000 [default: 1000000]
+  -h, --help                Print help
+
+Prints a line for each gap of the span in which nothing starts: the moment at which it
+begins, that at which it ends and the seconds between them, with a tab between. A gap
+begins at a start or with the span, and ends at the next start or with the span. Where
+there are more starts than the limit, nothing is printed. The number of planners and
+their room change no line. The formats of the files are described in agenda(1).
+
+Example:
+  agenda quiet --since 2024-01-01T00:00:00Z --upto 2024-01-08T00:00:00Z \
+    --least 3600 --crontab jobs backup.timer
+END
+}
+
 words_make_help_of_steps() {
   cat >"$work/words/steps.text" <<'END'
 Prints what a mailbox replies to the steps of a script
@@ -163,6 +238,12 @@ next next|--after|2024-01-01T00:00:00Z|-h
 plan plan|--help
 plan plan|-h
 plan plan|--since|2024-01-01T00:00:00Z|-h
+upcoming upcoming|--help
+upcoming upcoming|-h
+upcoming upcoming|--after|2024-01-01T00:00:00Z|-h
+quiet quiet|--help
+quiet quiet|-h
+quiet quiet|--since|2024-01-01T00:00:00Z|--least|0|-h
 steps steps|--help
 steps steps|-h
 steps steps|script|-h
@@ -179,7 +260,7 @@ words_tell_usage() {
 words_tell_usage_of_agenda() {
   words_tell_usage '' <<'END'
 error: 'agenda' requires a subcommand but one was not provided
-  [subcommands: next, plan, steps]
+  [subcommands: next, plan, upcoming, quiet, steps]
 
 Usage: agenda <COMMAND>
 
@@ -260,6 +341,7 @@ next => error: the following required arguments were not provided:\n  --after <T
 next|--version => error: unexpected argument '--version' found
 next|$after|--cron => error: a value is required for '--cron <TEXT>' but none was supplied
 next|$after|$cron|daily => error: unexpected argument 'daily' found
+next|$after|$cron|--least=1 => error: unexpected argument '--least' found
 next|$after|$cron|--count|-1 => error: unexpected argument '-1' found
 next|$after|$cron|--count|4294967296 => error: invalid value '4294967296' for '--count <N>': 4294967296 is not in 0..=4294967295
 next|$after|$cron|$cron => error: the argument '--cron <TEXT>' cannot be used multiple times
@@ -282,11 +364,54 @@ plan|$span|--room=-1 => error: invalid value '-1' for '--room <N>': -1 is not in
 plan|$span|--limit=4294967296 => error: invalid value '4294967296' for '--limit <N>': 4294967296 is not in 0..=4294967295
 plan|$span|--count=1 => error: unexpected argument '--count' found
 plan|$span|--after=x => error: unexpected argument '--after' found
+plan|$span|--least=1 => error: unexpected argument '--least' found
 plan|$span|--since=x => error: the argument '--since <T>' cannot be used multiple times
 plan|$span|--crontab=a|--crontab=b => error: the argument '--crontab <F>' cannot be used multiple times
 plan|$span|--cron-d => error: a value is required for '--cron-d <F>' but none was supplied
 plan|$span|--spool=a|--spool => error: a value is required for '--spool <F>' but none was supplied
 plan|$span|--version => error: unexpected argument '--version' found
+END
+}
+
+# What the two commands don't take, among it what others take.
+words_begin_usage_of_upcoming_and_quiet() {
+  local after="--after|2024-01-01T00:00:00Z" span="--since|2024-01-01T00:00:00Z|--upto|2024-01-02T00:00:00Z"
+  local missing="error: the following required arguments were not provided:"
+  words_begin_usage <<END
+upcoming => $missing\n  --after <T>
+upcoming|--crontab|jobs|a.timer => $missing\n  --after <T>
+upcoming|$after|--after=x => error: the argument '--after <T>' cannot be used multiple times
+upcoming|$after|--crontab=a|--crontab=b => error: the argument '--crontab <F>' cannot be used multiple times
+upcoming|$after|--cron-d => error: a value is required for '--cron-d <F>' but none was supplied
+upcoming|$after|--count=1 => error: unexpected argument '--count' found
+upcoming|$after|--since=x => error: unexpected argument '--since' found
+upcoming|$after|--upto=x => error: unexpected argument '--upto' found
+upcoming|$after|--least=1 => error: unexpected argument '--least' found
+upcoming|$after|--planners=1 => error: unexpected argument '--planners' found
+upcoming|$after|--room=1 => error: unexpected argument '--room' found
+upcoming|$after|--limit=1 => error: unexpected argument '--limit' found
+upcoming|$after|--cron=@daily => error: unexpected argument '--cron' found
+upcoming|$after|--calendar=daily => error: unexpected argument '--calendar' found
+upcoming|$after|--version => error: unexpected argument '--version' found
+quiet => $missing\n  --since <T>\n  --upto <T>
+quiet|--since|x|--least=1|a.timer => $missing\n  --upto <T>
+quiet|--upto|2024-01-02T00:00:00Z => $missing\n  --since <T>
+quiet|$span|--least=x => error: invalid value 'x' for '--least <N>': invalid digit found in string
+quiet|$span|--least= => error: invalid value '' for '--least <N>': cannot parse integer from empty string
+quiet|$span|--least|-1 => error: unexpected argument '-1' found
+quiet|$span|--least=-1 => error: invalid value '-1' for '--least <N>': -1 is not in 0..=4294967295
+quiet|$span|--least=4294967296 => error: invalid value '4294967296' for '--least <N>': 4294967296 is not in 0..=4294967295
+quiet|$span|--least => error: a value is required for '--least <N>' but none was supplied
+quiet|$span|--least=1|--least=1 => error: the argument '--least <N>' cannot be used multiple times
+quiet|$span|--planners=x => error: invalid value 'x' for '--planners <N>': invalid digit found in string
+quiet|$span|--room=-1 => error: invalid value '-1' for '--room <N>': -1 is not in 0..=4294967295
+quiet|$span|--limit=4294967296 => error: invalid value '4294967296' for '--limit <N>': 4294967296 is not in 0..=4294967295
+quiet|$span|--since=x => error: the argument '--since <T>' cannot be used multiple times
+quiet|$span|--spool=a|--spool => error: a value is required for '--spool <F>' but none was supplied
+quiet|$span|--count=1 => error: unexpected argument '--count' found
+quiet|$span|--after=x => error: unexpected argument '--after' found
+quiet|$span|--cron=@daily => error: unexpected argument '--cron' found
+quiet|$span|--version => error: unexpected argument '--version' found
 END
 }
 
@@ -343,6 +468,20 @@ plan|--limit=1000001|$span => 1 plan: BadLimit
 plan|--limit=4294967295|$span => 1 plan: BadLimit
 plan|--limit|1|$span|b.timer => 1 plan: TooMany
 plan|$span|--crontab|jobs|--system-crontab|etc/crontab|--planners|3|--room|4|--limit|4|b.timer|a.timer => 1 plan: TooMany
+upcoming|--crontab=none|--after= => 1 after: BadForm
+upcoming|c|$after|--crontab|jobs|a => 3 c: Device
+upcoming|c.timer|$after|b.timer|c.timer|--|--limit => 1 job c.timer: SameName
+upcoming|$after|--|--limit => 1 --limit: line 0: BadTimerName
+upcoming|$after|--|--after => 3 --after: Device
+quiet|--least=0|--planners=0|--since=x|--upto=y => 1 since: BadForm
+quiet|--least=0|--planners=0|$span => 1 quiet: BadLeast
+quiet|$span|--least|0|b.timer|b.timer => 1 quiet: BadLeast
+quiet|$span|--|--limit => 1 --limit: line 0: BadTimerName
+quiet|$span|--|--least => 3 --least: Device
+quiet|$span|--least=4294967295|--limit=0 => 1 plan: BadLimit
+quiet|$span|--least=4294967295|--planners=9 => 1 plan: BadSize
+quiet|$span|--least=1|--limit|1|b.timer => 1 plan: TooMany
+quiet|$span|--crontab|jobs|--system-crontab|etc/crontab|--planners|3|--room|4|--limit|4|b.timer|a.timer => 1 plan: TooMany
 END
 }
 
@@ -406,6 +545,53 @@ END
 END
 }
 
+# The words $1 ask for what standard input has, with `|` for tabs.
+words_ask_for_text() {
+  tr '|' '\t' >"$work/words/answer"
+  words_run "$1"
+  compare "words: $1" "$work/words/answer" /dev/null 0
+}
+
+words_ask_for_upcoming() {
+  local after="--after|2023-12-31T23:59:59Z" start="2024-01-01T00:00:00Z"
+  words_ask_for_text "upcoming|$after" </dev/null
+  words_ask_for_text "upcoming|$after|--crontab|jobs" <<<"$start|cron:1|root says jobs"
+  words_ask_for_text "upcoming|--system-crontab=my jobs-ä|--after=$start" <<<"2024-01-02T00:00:00Z|system:1|root says my jobs-ä"
+  words_ask_for_text "upcoming|b.timer|--system-crontab|etc/crontab|--after|$start|--crontab|jobs|--|--limit.timer|a.timer" <<END
+2024-01-01T12:00:00Z|b.timer|b.service
+2024-01-02T00:00:00Z|cron:1|root says jobs
+2024-01-02T00:00:00Z|system:1|root says etc/crontab
+2024-01-02T00:00:00Z|--limit.timer|--limit.service
+2024-01-02T00:00:00Z|a.timer|a.service
+END
+  words_ask_for_text "upcoming|--cron-d|jobs|--after|2024-02-28T23:59:58Z|--spool=etc/crontab|second.timer" <<END
+2024-02-28T23:59:59Z|second.timer|second.service
+2024-02-29T00:00:00Z|jobs:1|root says jobs
+2024-02-29T00:00:00Z|crontab:1|root says etc/crontab
+END
+}
+
+# None of the four numbers of `quiet` is taken for another: each is too large here for those that the others are taken for.
+words_ask_for_quiet() {
+  local span="--since|2024-01-01T00:00:00Z|--upto|2024-01-02T00:00:00Z" start="2024-01-01T00:00:00Z" words
+  words_ask_for_text "quiet|$span" <<<"$start|2024-01-02T00:00:00Z|86400"
+  words_ask_for_text "quiet|$span|--crontab|jobs" <<<"$start|2024-01-02T00:00:00Z|86400"
+  words_ask_for_text "quiet|b.timer|$span|--|--limit.timer" <<END
+$start|2024-01-01T12:00:00Z|43200
+2024-01-01T12:00:00Z|2024-01-02T00:00:00Z|43200
+END
+  for words in '--least|43200' '--least=0043200' '--planners|1|--room|1' '--planners=8|--room=1024' '--limit=2' \
+    '--limit|1000000|--least=9|--planners=8|--room=9' '--room|9|--limit|1025|--least|1026'; do
+    words_ask_for_text "quiet|$words|$span|b.timer" <<END
+$start|2024-01-01T12:00:00Z|43200
+2024-01-01T12:00:00Z|2024-01-02T00:00:00Z|43200
+END
+  done
+  for words in '--least|43201' '--least=1000001' '--least|4294967295|--limit|2'; do
+    words_ask_for_text "quiet|$words|$span|b.timer" </dev/null
+  done
+}
+
 # Planners and room change no line: that they aren't taken for each other shows where a number is too large for planners alone.
 words_ask_for_sizes() {
   local span="--since|2024-01-01T00:00:00Z|--upto|2024-01-02T00:00:00Z" line="2024-01-01T00:00:00Z|a.timer|a.service" words
@@ -437,6 +623,8 @@ words_make_files
 words_make_help_of_agenda
 words_make_help_of_next
 words_make_help_of_plan
+words_make_help_of_upcoming
+words_make_help_of_quiet
 words_make_help_of_steps
 words_make_version
 words_tell_help
@@ -444,11 +632,14 @@ words_tell_usage_of_agenda
 words_tell_usage_of_commands
 words_begin_usage_of_agenda_next_and_steps
 words_begin_usage_of_plan
+words_begin_usage_of_upcoming_and_quiet
 words_ask_for_starts
 words_ask_for_what_is_refused
 words_ask_for_replies
 words_ask_for_sources
 words_ask_for_timers
+words_ask_for_upcoming
+words_ask_for_quiet
 words_ask_for_sizes
 words_ask_for_limit 10000 ''
 words_ask_for_limit 7 --limit=007

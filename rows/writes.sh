@@ -82,6 +82,8 @@ plan|d.timer|--room|0>1>plan: BadSize
 plan|--crontab|minutes|--limit|1>1>plan: TooMany
 steps|script>1>script: line 2: BadLine
 plan|--crontab|nothing>3>nothing: Device
+upcoming|--after|2024-01-01T00:00:00Z|--crontab|crontab>1>crontab: line 2: NoCommand
+quiet|--since|2024-01-01T00:00:00Z|--upto|2024-01-02T00:00:00Z|--least|0>1>quiet: BadLeast
 ROWS
   # 1,024 bytes are the longest line that goes out by one write
   writes_run agenda steps "$(yes p | tr -d '\n' | head -c 1007)"

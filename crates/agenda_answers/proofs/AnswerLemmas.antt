@@ -65,3 +65,4 @@ fails_as takes_all P Q R S (run.SameName name) old new texts faults (is, kept) =
 fails_as takes_all P Q R S run.Full old new texts faults (is, kept) = (faults _ is, kept)
 fails_as takes_all P Q R S (run.Plan fault) old new texts faults (is, kept) = (faults _ is, kept)
 fails_as takes_all P Q R S (run.Script fault) old new texts faults (is, kept) = (faults _ is, kept)
+fails_as takes_all P Q R S run.BadLeast old new texts faults (is, kept) = (faults _ is, kept)

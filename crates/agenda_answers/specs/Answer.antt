@@ -4,7 +4,7 @@ use Rattle.std.specs.Io.KnownBytes.{Keeps}
 use Rattle.plan_sets.specs.Limits.{end_second}
 use Rattle.plan_sets.specs.Moment.{HasFault, moment_text_of}
 use Rattle.agenda_words.specs.declared.Ask.{Ask}
-use Rattle.agenda_words.specs.declared.Ask.TheVariants.{Next, Plan, Steps}
+use Rattle.agenda_words.specs.declared.Ask.TheVariants.{Next, Plan, Upcoming, Quiet, Steps}
 use Rattle.agenda_words.specs.declared.Asked.{Asked}
 use Rattle.agenda_words.specs.declared.UsageFault.{UsageFault}
 use Rattle.agenda_words.specs.declared.UsageFault.TheVariants as usage
@@ -24,7 +24,9 @@ use Rattle.agenda_answers.specs.Files.{Held, IsHeld, IsUnsure}
 use Rattle.agenda_commands.specs.Command.{Writes}
 use Rattle.agenda_commands.specs.Next.{IsTextOfNext, RefusesNext}
 use Rattle.agenda_commands.specs.Plan.{IsTextOfPlan, RefusesPlan}
+use Rattle.agenda_commands.specs.Quiet.{IsTextOfQuiet, RefusesQuiet}
 use Rattle.agenda_commands.specs.Script.{IsTextOfRun, RefusesRun}
+use Rattle.agenda_commands.specs.Upcoming.{IsTextOfUpcoming, RefusesUpcoming}
 use Rattle.agenda_answers.specs.Sources.{AreSourcesOf, IsGiven}
 use Rattle.plan_streams.specs.Stream.{BreaksOff, PutsOrBreaksOff}
 
@@ -77,6 +79,39 @@ FailsPlan held wanted (Run fault) =
     ⊎ ((sources : List Source) × AreSourcesOf held wanted.sources sources × RefusesPlan sources span wanted.sizes fault))
 FailsPlan held wanted failure = GivesNoSpan wanted.since wanted.upto failure
 
+-- what `quiet` prints
+abbrev pub GivesQuiet : Held → Wanted → (least : ℕ) → List ℕ → Type 0
+GivesQuiet held wanted least text =
+    (span : Bounds) × (sources : List Source) × IsSpan wanted.since wanted.upto span × AreSourcesOf held wanted.sources sources
+    × IsTextOfQuiet sources span wanted.sizes least text
+
+-- when each failure of `quiet` comes: as of `plan`
+abbrev pub FailsQuiet : Held → Wanted → (least : ℕ) → Failure → Type 0
+FailsQuiet held wanted least (File path) =
+    (span : Bounds) × IsSpan wanted.since wanted.upto span × IsGiven wanted.sources path × IsUnsure (held path)
+FailsQuiet held wanted least (Run fault) =
+    (span : Bounds) × IsSpan wanted.since wanted.upto span
+    × ((fault ≡ run.NoMemory)
+    ⊎ ((sources : List Source) × AreSourcesOf held wanted.sources sources × RefusesQuiet sources span wanted.sizes least fault))
+FailsQuiet held wanted least failure = GivesNoSpan wanted.since wanted.upto failure
+
+-- what `upcoming` prints
+abbrev pub GivesUpcoming : Held → (after : List ℕ) → List SourcePath → List ℕ → Type 0
+GivesUpcoming held after paths text =
+    (moment : ℕ) × (sources : List Source) × IsMoment after moment × AreSourcesOf held paths sources × IsTextOfUpcoming sources moment text
+
+-- when each failure of `upcoming` comes: the moment is looked at first, then the files are read, of which one is the failure only where
+-- it may fail, then their texts; memory may be refused anywhere behind the moment
+abbrev pub FailsUpcoming : Held → (after : List ℕ) → List SourcePath → Failure → Type 0
+FailsUpcoming held after paths (After fault) = HasFault after fault
+FailsUpcoming held after paths (File path) =
+    (moment : ℕ) × IsMoment after moment × IsGiven paths path × IsUnsure (held path)
+FailsUpcoming held after paths (Run fault) =
+    (moment : ℕ) × IsMoment after moment
+    × ((fault ≡ run.NoMemory)
+    ⊎ ((sources : List Source) × AreSourcesOf held paths sources × RefusesUpcoming sources fault))
+FailsUpcoming held after paths failure = ⊥
+
 -- what `steps` prints
 abbrev pub GivesSteps : Held → List ℕ → List ℕ → Type 0
 GivesSteps held file text = (script : List ℕ) × IsHeld (held file).bytes script × IsTextOfRun script text
@@ -87,7 +122,7 @@ FailsSteps held file (File path) = (path ≡ file) × IsUnsure (held path)
 FailsSteps held file (Run fault) = (script : List ℕ) × IsHeld (held file).bytes script × RefusesRun script fault
 FailsSteps held file failure = ⊥
 
--- what is wanted of `plan`, by what it was given
+-- what is wanted of a plan, by what was given
 abbrev pub wanted_of : (since upto : List ℕ) → List SourcePath → Sizes → Wanted
 wanted_of since upto sources sizes = record { since = since; upto = upto; sources = sources; sizes = sizes }
 
@@ -95,10 +130,20 @@ wanted_of since upto sources sizes = record { since = since; upto = upto; source
 abbrev pub asked_plan : Wanted → Ask
 asked_plan wanted = Plan wanted.since wanted.upto wanted.sources wanted.sizes
 
+-- `quiet`, by what is wanted of the plan
+abbrev pub asked_quiet : Wanted → (least : ℕ) → Ask
+asked_quiet wanted least = Quiet wanted.since wanted.upto wanted.sources wanted.sizes least
+
+-- `upcoming`, by the moment and the paths of the sources
+abbrev pub asked_upcoming : (after : List ℕ) → List SourcePath → Ask
+asked_upcoming after paths = Upcoming after paths
+
 -- what is printed for what was asked: the text of a command, or that of help
 abbrev pub Prints : Held → Result Ask UsageFault → List ℕ → Type 0
 Prints held (Ok (Next after count rule)) text = GivesNext after count rule text
 Prints held (Ok (Plan since upto sources sizes)) text = GivesPlan held (wanted_of since upto sources sizes) text
+Prints held (Ok (Upcoming after sources)) text = GivesUpcoming held after sources text
+Prints held (Ok (Quiet since upto sources sizes least)) text = GivesQuiet held (wanted_of since upto sources sizes) least text
 Prints held (Ok (Steps file)) text = GivesSteps held file text
 Prints held (Err (usage.Help help)) text = text ≡ help
 Prints held (Err refusal) text = ⊥
@@ -107,6 +152,8 @@ Prints held (Err refusal) text = ⊥
 abbrev pub Refuses : Held → Result Ask UsageFault → Failure → Type 0
 Refuses held (Ok (Next after count rule)) failure = FailsNext after count rule failure
 Refuses held (Ok (Plan since upto sources sizes)) failure = FailsPlan held (wanted_of since upto sources sizes) failure
+Refuses held (Ok (Upcoming after sources)) failure = FailsUpcoming held after sources failure
+Refuses held (Ok (Quiet since upto sources sizes least)) failure = FailsQuiet held (wanted_of since upto sources sizes) least failure
 Refuses held (Ok (Steps file)) failure = FailsSteps held file failure
 Refuses held (Err (usage.Help text)) failure = ⊥
 Refuses held (Err (usage.Usage text)) failure = failure ≡ Usage text
@@ -121,6 +168,8 @@ Stops takes_all IsText IsRefused failure old new = IsRefused failure × Keeps ol
 -- the paths of the sources that were given
 abbrev pub sources_of : Result Ask UsageFault → List SourcePath
 sources_of (Ok (Plan since upto sources sizes)) = sources
+sources_of (Ok (Upcoming after sources)) = sources
+sources_of (Ok (Quiet since upto sources sizes least)) = sources
 sources_of other = []
 
 -- a stream: whether it takes all, and what it held before and after

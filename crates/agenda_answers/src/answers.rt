@@ -4,13 +4,16 @@ ghost use Rattle.std.specs.Prelude.{◌≡◌, ◌≢◌, IfErr, IfOk, Ok, OnOk,
 ghost use Rattle.std.specs.Io.KnownBytes.{Keeps};
 ghost use Rattle.agenda_faults.specs.FaultLines.{fault_text};
 ghost use Rattle.agenda_faults.specs.Faults.{status_of as failure_status};
-ghost use Rattle.agenda_answers.specs.Answer.{Answers, AnswersWords, asked_plan, FailsNext, FailsPlan, FailsSteps, GivesNext, GivesNoSpan, GivesPlan, GivesSteps, IsSpan, SaysNotUtf8, Stops};
+ghost use Rattle.agenda_answers.specs.Answer.{Answers, AnswersWords, asked_plan, asked_quiet, asked_upcoming};
+ghost use Rattle.agenda_answers.specs.Answer.{FailsNext, FailsPlan, FailsQuiet, FailsSteps, FailsUpcoming};
+ghost use Rattle.agenda_answers.specs.Answer.{GivesNext, GivesNoSpan, GivesPlan, GivesQuiet, GivesSteps, GivesUpcoming};
+ghost use Rattle.agenda_answers.specs.Answer.{IsSpan, SaysNotUtf8, Stops};
 ghost use Rattle.agenda_commands.specs.Command.{Writes};
 ghost use Rattle.plan_streams.specs.Stream.{PutsOrBreaksOff};
 
 use crate::files::{Files, read_file};
 use crate::sources::read_sources;
-use agenda_commands::{run_next, run_plan, run_script};
+use agenda_commands::{run_next, run_plan, run_quiet, run_script, run_upcoming};
 use agenda_faults::{Failure, RunFault, fault_line};
 use agenda_sources::{SourcePath, SourcePaths};
 use agenda_words::{Ask, Asked, UsageFault, read_words};
@@ -23,7 +26,7 @@ use std::io::ErrorKind;
 use std::sync::Wait;
 use std::thread::Threads;
 
-// What is wanted of `plan`: the texts of two moments, the paths of its sources, and its sizes.
+// What is wanted of a plan: the texts of two moments, the paths of its sources, and its sizes.
 #[derive(Drop)]
 struct Wanted {
     since: Text,
@@ -91,6 +94,26 @@ pub fn answer<R: Threads + Wait + Sync, F: Files, O: Stream, E: Stream>(
             };
             answer_plan(rt, alloc, &wanted, files, out, err)
         }
+        Ok(Ask::Upcoming { after, sources }) => {
+            answer_upcoming(alloc, &after, &sources, files, out, err)
+        }
+        Ok(
+            Ask::Quiet {
+                since,
+                upto,
+                sources,
+                sizes,
+                least,
+            },
+        ) => {
+            let wanted = Wanted {
+                since,
+                upto,
+                sources,
+                sizes,
+            };
+            answer_quiet(rt, alloc, &wanted, least, files, out, err)
+        }
         Ok(Ask::Steps { file }) => status_of(steps(alloc, file, files, out), &[], err),
         Err(UsageFault::Help(text)) => status_of(help(&text, out), &[], err),
         Err(UsageFault::Usage(text)) => status_of(Err(Failure::Usage(text)), &[], err),
@@ -126,6 +149,41 @@ fn answer_plan<R: Threads + Wait + Sync, F: Files, O: Stream, E: Stream>(
         (record { takes_all = E.takes_all; old = E.holds err.old; new = E.holds err.new }) }
 {
     let done = plan(rt, alloc, wanted, files, out);
+    status_of(done, wanted.sources.as_slice(), err)
+}
+
+// The answer to `upcoming`.
+fn answer_upcoming<F: Files, O: Stream, E: Stream>(
+    alloc: Global,
+    after: &Text,
+    sources: &SourcePaths,
+    files: &mut F,
+    out: &mut O,
+    err: &mut E,
+) -> u8
+    ensures { Answers (F.held files.old) (Ok (asked_upcoming after.now sources.now)) result
+        (record { takes_all = O.takes_all; old = O.holds out.old; new = O.holds out.new })
+        (record { takes_all = E.takes_all; old = E.holds err.old; new = E.holds err.new }) }
+{
+    let done = upcoming(alloc, after, sources, files, out);
+    status_of(done, sources.as_slice(), err)
+}
+
+// The answer to `quiet`.
+fn answer_quiet<R: Threads + Wait + Sync, F: Files, O: Stream, E: Stream>(
+    rt: &R,
+    alloc: Global,
+    wanted: &Wanted,
+    least: u32,
+    files: &mut F,
+    out: &mut O,
+    err: &mut E,
+) -> u8
+    ensures { Answers (F.held files.old) (Ok (asked_quiet wanted.now least)) result
+        (record { takes_all = O.takes_all; old = O.holds out.old; new = O.holds out.new })
+        (record { takes_all = E.takes_all; old = E.holds err.old; new = E.holds err.new }) }
+{
+    let done = quiet(rt, alloc, wanted, least, files, out);
     status_of(done, wanted.sources.as_slice(), err)
 }
 
@@ -178,6 +236,50 @@ fn plan<R: Threads + Wait + Sync, F: Files, S: Stream>(
     let span = span_between(&wanted.since, &wanted.upto)?;
     let sources = read_sources(alloc, files, wanted.sources.as_slice())?;
     match run_plan(rt, alloc, &sources, span, wanted.sizes, out) {
+        Ok(()) => Ok(()),
+        Err(fault) => Err(Failure::Run(fault)),
+    }
+}
+
+// The command `upcoming`.
+fn upcoming<F: Files, S: Stream>(
+    alloc: Global,
+    after: &Text,
+    paths: &SourcePaths,
+    files: &mut F,
+    out: &mut S,
+) -> Result<(), Failure>
+    ensures done { OnOk result (Writes (GivesUpcoming (F.held files.old) after.now paths.now) (S.holds out.old) (S.holds out.new)) }
+    ensures failed { IfErr result (λ failure. Stops S.takes_all (GivesUpcoming (F.held files.old) after.now paths.now)
+        (FailsUpcoming (F.held files.old) after.now paths.now) failure (S.holds out.old) (S.holds out.new)) }
+{
+    let moment = match read_moment(after.as_str()) {
+        Ok(moment) => moment,
+        Err(fault) => return Err(Failure::After(fault)),
+    };
+    let sources = read_sources(alloc, files, paths.as_slice())?;
+    match run_upcoming(alloc, &sources, moment, out) {
+        Ok(()) => Ok(()),
+        Err(fault) => Err(Failure::Run(fault)),
+    }
+}
+
+// The command `quiet`.
+fn quiet<R: Threads + Wait + Sync, F: Files, S: Stream>(
+    rt: &R,
+    alloc: Global,
+    wanted: &Wanted,
+    least: u32,
+    files: &mut F,
+    out: &mut S,
+) -> Result<(), Failure>
+    ensures done { OnOk result (Writes (GivesQuiet (F.held files.old) wanted.now least) (S.holds out.old) (S.holds out.new)) }
+    ensures failed { IfErr result (λ failure. Stops S.takes_all (GivesQuiet (F.held files.old) wanted.now least)
+        (FailsQuiet (F.held files.old) wanted.now least) failure (S.holds out.old) (S.holds out.new)) }
+{
+    let span = span_between(&wanted.since, &wanted.upto)?;
+    let sources = read_sources(alloc, files, wanted.sources.as_slice())?;
+    match run_quiet(rt, alloc, &sources, span, wanted.sizes, least, out) {
         Ok(()) => Ok(()),
         Err(fault) => Err(Failure::Run(fault)),
     }

@@ -1,4 +1,6 @@
 pub mod Command
 pub mod Next
 pub mod Plan
+pub mod Quiet
 pub mod Script
+pub mod Upcoming

@@ -17,12 +17,14 @@ use Rattle.agenda_faults.specs.declared.faults.RunFault.{RunFault}
 use Rattle.agenda_faults.specs.declared.faults.RunFault.TheVariants.{NoMemory, Plan}
 use Rattle.agenda_faults.specs.Faults.{fault_of_sources}
 
--- what is printed for jobs: their agenda over the span, where the sizes and the limit are good ones, and it has no more entries
--- than that
-abbrev pub IsTextFor : List JobParts → Bounds → Sizes → List ℕ → Type 0
-IsTextFor jobs span sizes text =
+-- the jobs make a plan: the sizes and the limit are good ones, and their agenda over the span has no more entries than that
+abbrev pub MakePlan : List JobParts → Bounds → Sizes → Type 0
+MakePlan jobs span sizes =
     (is_size sizes.planners sizes.room ≡ true) × (is_limit sizes.limit ≡ true) × (length (agenda (rules_of jobs) span) ≤ sizes.limit)
-    × (text ≡ agenda_text (planned (rules_of jobs) span) jobs)
+
+-- what is printed for jobs that make a plan: their agenda over the span
+abbrev pub IsTextFor : List JobParts → Bounds → Sizes → List ℕ → Type 0
+IsTextFor jobs span sizes text = MakePlan jobs span sizes × (text ≡ agenda_text (planned (rules_of jobs) span) jobs)
 
 -- what is printed for sources: the agenda of their jobs
 abbrev pub IsTextOfPlan : List Source → Bounds → Sizes → List ℕ → Type 0

@@ -5,7 +5,7 @@ use Rattle.plan_rules.specs.declared.RuleCause.TheVariants as cause
 use Rattle.agenda_script.specs.declared.fault.ScriptCause.{ScriptCause}
 use Rattle.agenda_script.specs.declared.fault.ScriptCause.TheVariants as script
 use Rattle.agenda_faults.specs.declared.faults.RunFault.{RunFault}
-use Rattle.agenda_faults.specs.declared.faults.RunFault.TheVariants.{NoMemory, BadCount, Rule, InSource, SameName, Full, Plan, Script, Device}
+use Rattle.agenda_faults.specs.declared.faults.RunFault.TheVariants.{NoMemory, BadCount, Rule, InSource, SameName, Full, Plan, Script, Device, BadLeast}
 use Rattle.agenda_faults.specs.declared.faults.Failure.{Failure}
 use Rattle.agenda_faults.specs.declared.faults.Failure.TheVariants.{Usage, After, Since, Upto, Span, Run, File}
 use Rattle.plan_rules.specs.declared.LineCause.{LineCause}
@@ -98,6 +98,7 @@ run_line sources Full = codes "agenda: jobs: Full\n"
 run_line sources (Plan fault) = plan_line fault
 run_line sources (Script fault) = script_line fault.line fault.cause
 run_line sources Device = codes "agenda: Device\n"
+run_line sources BadLeast = codes "agenda: quiet: BadLeast\n"
 
 -- what standard error gets: the text of usage as it is, or one line
 abbrev pub fault_text : List SourcePath → Failure → List ℕ

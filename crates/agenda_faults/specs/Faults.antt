@@ -4,7 +4,7 @@ use Rattle.plan_rules.specs.declared.RuleCause.{RuleCause}
 use Rattle.plan_rules.specs.declared.RuleFault.{RuleFault}
 use Rattle.plan_rules.specs.declared.RuleCause.TheVariants as cause
 use Rattle.agenda_faults.specs.declared.faults.RunFault.{RunFault}
-use Rattle.agenda_faults.specs.declared.faults.RunFault.TheVariants.{NoMemory, BadCount, Rule, InSource, SameName, Full, Plan, Script, Device}
+use Rattle.agenda_faults.specs.declared.faults.RunFault.TheVariants.{NoMemory, BadCount, Rule, InSource, SameName, Full, Plan, Script, Device, BadLeast}
 use Rattle.agenda_faults.specs.declared.faults.Failure.{Failure}
 use Rattle.agenda_faults.specs.declared.faults.Failure.TheVariants.{Usage, After, Since, Upto, Span, Run, File}
 use Rattle.plan_rules.specs.declared.LineCause.{LineCause}
@@ -100,6 +100,7 @@ run_status Full = refused_status
 run_status (Plan fault) = plan_status fault
 run_status (Script fault) = script_status fault.cause
 run_status Device = failed_status
+run_status BadLeast = refused_status
 
 -- the status with which the program ends on a failure (own)
 abbrev pub status_of : Failure → ℕ

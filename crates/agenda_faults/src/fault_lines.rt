@@ -96,6 +96,7 @@ fn put_run_fault<S: Stream>(
         RunFault::Plan(fault) => put_plan_fault(*fault, stream),
         RunFault::Script(fault) => put_script_fault(*fault, stream),
         RunFault::Device => stream.put(b"agenda: Device\n"),
+        RunFault::BadLeast => stream.put(b"agenda: quiet: BadLeast\n"),
     }
 }
 

@@ -43,6 +43,9 @@ pub enum RunFault {
     /// 9: the writer failed.
     #[error("Device")]
     Device,
+    /// 10: the least gap of `quiet` is 0 seconds.
+    #[error("BadLeast")]
+    BadLeast,
 }
 
 impl From<AllocError> for RunFault {
@@ -220,7 +223,9 @@ impl RunFault {
             RunFault::InSource(_, fault) => line_status(fault.cause),
             RunFault::Plan(fault) => plan_status(*fault),
             RunFault::Script(fault) => script_status(fault.cause),
-            RunFault::BadCount | RunFault::SameName(_) | RunFault::Full => REFUSED,
+            RunFault::BadCount | RunFault::BadLeast | RunFault::SameName(_) | RunFault::Full => {
+                REFUSED
+            }
             RunFault::NoMemory | RunFault::Device => FAILED,
         }
     }

@@ -151,6 +151,15 @@ fn standard_output_that_fails_at_each_byte(rt: HostRuntime) -> Result<(), Fail> 
     fails_at_each_byte(&rt, words, &NIGHTLY, NIGHTLY_TEXT.as_bytes(), 126)
 }
 
+#[test]
+fn answers_of_upcoming_and_quiet_that_fail_at_each_byte(rt: HostRuntime) -> Result<(), Fail> {
+    let words = "agenda|upcoming|--after|2024-01-01T00:00:00Z|--crontab|crontab|timers/rot.timer";
+    fails_at_each_byte(&rt, words, &NIGHTLY, UPCOMING_TEXT.as_bytes(), 87)?;
+    let words =
+        "agenda|quiet|--since|2024-01-01T00:00:00Z|--upto|2024-01-02T00:00:00Z|--crontab|crontab|timers/rot.timer";
+    fails_at_each_byte(&rt, words, &NIGHTLY, QUIET_TEXT.as_bytes(), 48)
+}
+
 // That words write nothing to standard output, and end with this status where standard error fails at any byte of their
 // line.
 fn faults_at_each_byte(
@@ -224,6 +233,12 @@ const NIGHTLY: [(&str, &[u8]); 2] = [
 const NIGHTLY_TEXT: &str = "agenda 2\t2024-01-01T00:00:00Z\t2024-01-02T00:00:00Z\t2\n\
     2024-01-01T00:00:00Z\tcron:4\tb\n2024-01-01T00:00:00Z\trot.timer\trot.service\n";
 
+// Lines of 30, 43 and 14 bytes.
+const UPCOMING_TEXT: &str = "2024-01-02T00:00:00Z\tcron:4\tb\n\
+    2024-01-02T00:00:00Z\trot.timer\trot.service\nnone\tcron:3\ta\n";
+
+const QUIET_TEXT: &str = "2024-01-01T00:00:00Z\t2024-01-02T00:00:00Z\t86400\n";
+
 // That a plan of the nightly jobs from the begin of 2024 leaves these texts behind, and opens so many files.
 fn plans(
     rt: &(impl Threads + Wait + Sync + Abort + AllocGlobal),
@@ -273,4 +288,23 @@ fn which_files_a_plan_opens(rt: HostRuntime) -> Result<(), Fail> {
     )?;
     let missing = "2024-01-02T00:00:00Z|--crontab|crontab|--system-crontab|a b|c.timer";
     plans(&rt, missing, 3, ("", "agenda: a b: Device\n"), 2)
+}
+
+// The moment of `upcoming` comes before any file, and the least gap of `quiet` behind all files and before their texts.
+#[test]
+fn which_files_upcoming_and_quiet_open(rt: HostRuntime) -> Result<(), Fail> {
+    let files = FewFiles::new(&NIGHTLY, 4_096, false);
+    let line = "agenda: after: BadForm\n";
+    leaves(
+        &rt,
+        "agenda|upcoming|--after|x|timers/rot.timer",
+        files,
+        1,
+        ("", line),
+        0,
+    )?;
+    let files = FewFiles::new(&NIGHTLY, 4_096, false);
+    let words =
+        "agenda|quiet|--since|2024-01-01T00:00:00Z|--upto|2024-01-02T00:00:00Z|--least|0|--crontab|timers/rot.timer|--cron-d|crontab";
+    leaves(&rt, words, files, 1, ("", "agenda: quiet: BadLeast\n"), 2)
 }

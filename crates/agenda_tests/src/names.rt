@@ -34,6 +34,7 @@ fn names_of_faults_of_commands(rt: HostRuntime) -> Result<(), Fail> {
     };
     prints(&rt, &RunFault::NoMemory, "NoMemory")?;
     prints(&rt, &RunFault::BadCount, "BadCount")?;
+    prints(&rt, &RunFault::BadLeast, "BadLeast")?;
     prints(&rt, &RunFault::Rule(rule), "WrongParts")?;
     prints(&rt, &RunFault::Script(script), "BadLine")?;
     let fault = RunFault::InSource(0, bad(1, LineCause::NoCommand));

@@ -6,7 +6,7 @@ use Rattle.std.specs.Str.{bytes_eq}
 use Rattle.clap.specs.Lexer.{long_of, short_of}
 use Rattle.clap.proofs.OnLiterals.{clap_on_literals}
 use Rattle.plan_collect.specs.declared.Sizes.{Sizes}
-use Rattle.agenda_words.specs.declared.ask.Ask.TheVariants.{Next, Plan, Steps}
+use Rattle.agenda_words.specs.declared.ask.Ask.TheVariants.{Next, Plan, Upcoming, Quiet, Steps}
 use Rattle.agenda_words.specs.declared.ask.Asked.TheVariants.{Cron, Event}
 use Rattle.agenda_sources.specs.declared.SourceKind.TheVariants.{Crontab, System, CronD, Spool, Timer}
 use Rattle.agenda_words.specs.Words.{asked_by, is_usage, path_of, wants_help}
@@ -184,3 +184,23 @@ version_is_wanted = refl
 no_version_of_next : asked_by (next_with (codes "--version" ∷ [])) ≡ Err is_usage
 unfolding asked_by clap_on_literals
 no_version_of_next = refl
+
+-- `upcoming` of a crontab and a timer
+upcoming_of_two :
+    asked_by (codes "agenda" ∷ codes "upcoming" ∷ codes "a.timer" ∷ codes "--crontab" ∷ codes "c" ∷ codes "--after" ∷ moment ∷ [])
+    ≡ Ok (Upcoming moment (path_of Crontab (codes "c") ∷ path_of Timer (codes "a.timer") ∷ []))
+unfolding asked_by clap_on_literals
+upcoming_of_two = refl
+
+-- `quiet` without what may be missing: gaps of half an hour, and a limit of 1,000,000
+quiet_by_default : asked_by (codes "agenda" ∷ codes "quiet" ∷ codes "--since" ∷ moment ∷ codes "--upto" ∷ codes "z" ∷ [])
+    ≡ Ok (Quiet moment (codes "z") [] (record { planners = 2; room = 16; limit = 1000000 }) 1800)
+unfolding asked_by clap_on_literals
+quiet_by_default = refl
+
+-- a gap of less than nothing
+quiet_of_less :
+    asked_by (codes "agenda" ∷ codes "quiet" ∷ codes "--since" ∷ moment ∷ codes "--upto" ∷ moment ∷ codes "--least" ∷ codes "-1" ∷ [])
+    ≡ Err is_usage
+unfolding asked_by clap_on_literals
+quiet_of_less = refl

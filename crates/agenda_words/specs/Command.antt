@@ -62,11 +62,28 @@ abbrev pub next : App
 next = subcommand_with (codes "next") (moment_option (codes "after") ∷ number_option (codes "count") (codes "1")
     ∷ option_named (codes "cron") ∷ option_named (codes "calendar") ∷ [])
 
--- own: `plan --since T --upto T`, what gives the sources, `[--planners N] [--room N] [--limit N]`
+-- own: a command with the sizes of a plan: `[--planners N] [--room N] [--limit N]`; where the limit is missing, it is the default
+abbrev pub with_sizes : App → (default : List ℕ) → App
+with_sizes app default = with_rules app (number_option (codes "planners") (codes "2") ∷ number_option (codes "room") (codes "16")
+    ∷ number_option (codes "limit") default ∷ [])
+
+-- own: the span of a plan: `--since T --upto T`
+abbrev pub span_rules : List Rule
+span_rules = moment_option (codes "since") ∷ moment_option (codes "upto") ∷ []
+
+-- own: `plan --since T --upto T`, what gives the sources, and the sizes
 abbrev pub plan : App
-plan = with_rules (with_sources (subcommand_with (codes "plan") (moment_option (codes "since") ∷ moment_option (codes "upto") ∷ [])))
-    (number_option (codes "planners") (codes "2") ∷ number_option (codes "room") (codes "16")
-    ∷ number_option (codes "limit") (codes "10000") ∷ [])
+plan = with_sizes (with_sources (subcommand_with (codes "plan") span_rules)) (codes "10000")
+
+-- own: `upcoming --after T`, and what gives the sources
+abbrev pub upcoming : App
+upcoming = with_sources (subcommand_with (codes "upcoming") (moment_option (codes "after") ∷ []))
+
+-- own: `quiet --since T --upto T`, what gives the sources, `[--least N]`, and the sizes
+abbrev pub quiet : App
+quiet = with_sizes
+    (with_rules (with_sources (subcommand_with (codes "quiet") span_rules)) (number_option (codes "least") (codes "1800") ∷ []))
+    (codes "1000000")
 
 -- own: `steps FILE`
 abbrev pub steps : App
@@ -81,6 +98,8 @@ agenda_alone = on_top (λ s. record s {
   disable_help_subcommand = true;
 }) (new_app (codes "agenda"))
 
--- own: `agenda next ..`, `agenda plan ..` or `agenda steps ..`
+-- own: `agenda next ..`, `agenda plan ..`, `agenda upcoming ..`, `agenda quiet ..` or `agenda steps ..`
 abbrev pub agenda : App
-agenda = with_subcommand (with_subcommand (with_subcommand agenda_alone next.top) plan.top) steps.top
+agenda =
+    with_subcommand (with_subcommand (with_subcommand (with_subcommand (with_subcommand agenda_alone next.top) plan.top) upcoming.top)
+    quiet.top) steps.top

@@ -11,7 +11,7 @@ use Rattle.clap.specs.declared.error.kind.ErrorKind.{ErrorKind}
 use Rattle.clap.specs.declared.error.kind.ErrorKind.TheVariants.{DisplayHelp, DisplayVersion, OutOfMemory}
 use Rattle.plan_collect.specs.declared.Sizes.{Sizes}
 use Rattle.agenda_words.specs.declared.ask.Ask.{Ask}
-use Rattle.agenda_words.specs.declared.ask.Ask.TheVariants.{Next, Plan, Steps}
+use Rattle.agenda_words.specs.declared.ask.Ask.TheVariants.{Next, Plan, Upcoming, Quiet, Steps}
 use Rattle.agenda_words.specs.declared.ask.Asked.{Asked}
 use Rattle.agenda_words.specs.declared.ask.Asked.TheVariants.{Cron, Event}
 use Rattle.agenda_words.specs.declared.ask.UsageFault.{UsageFault}
@@ -94,6 +94,21 @@ asked_by_plan rows = do
   sizes ← sizes_in rows
   Ok (Plan since upto (sources_in rows) sizes)
 
+-- own: the values that `upcoming` was given; there may be no source
+abbrev pub asked_by_upcoming : List Row → Result Ask Refusal
+asked_by_upcoming rows = do
+  after ← wanted (first_of (codes "after") rows)
+  Ok (Upcoming after (sources_in rows))
+
+-- own: the values that `quiet` was given; there may be no source
+abbrev pub asked_by_quiet : List Row → Result Ask Refusal
+asked_by_quiet rows = do
+  since ← wanted (first_of (codes "since") rows)
+  upto ← wanted (first_of (codes "upto") rows)
+  least ← wanted (number_in (one_of (codes "least") rows))
+  sizes ← sizes_in rows
+  Ok (Quiet since upto (sources_in rows) sizes least)
+
 -- own: the file that `steps` was given
 abbrev pub asked_by_steps : List Row → Result Ask Refusal
 asked_by_steps rows = do
@@ -106,7 +121,9 @@ asked_by_subcommand None = Err is_usage
 asked_by_subcommand (Some met) =
     if bytes_eq met.0 (codes "next") then asked_by_next met.1
     else (if bytes_eq met.0 (codes "plan") then asked_by_plan met.1
-    else (if bytes_eq met.0 (codes "steps") then asked_by_steps met.1 else Err is_usage))
+    else (if bytes_eq met.0 (codes "upcoming") then asked_by_upcoming met.1
+    else (if bytes_eq met.0 (codes "quiet") then asked_by_quiet met.1
+    else (if bytes_eq met.0 (codes "steps") then asked_by_steps met.1 else Err is_usage))))
 
 -- own: a call for help or for the version is answered, and each other fault is usage
 abbrev pub refusal_of : ErrorKind → Refusal

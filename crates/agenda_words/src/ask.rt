@@ -29,6 +29,26 @@ pub enum Ask {
         /// How many planners, with how much room each, and how many starts at most.
         sizes: Sizes,
     },
+    /// When each job of crontabs and timers starts next.
+    Upcoming {
+        /// The text of a moment: the starts are later.
+        after: Text,
+        /// The paths of the sources, in the order of a plan's.
+        sources: SourcePaths,
+    },
+    /// When no job of crontabs and timers starts.
+    Quiet {
+        /// The text of a moment: the span begins with it.
+        since: Text,
+        /// The text of a moment: the span ends before it.
+        upto: Text,
+        /// The paths of the sources, in the order of a plan's.
+        sources: SourcePaths,
+        /// The sizes of the plan of which the gaps are.
+        sizes: Sizes,
+        /// How many seconds a gap lasts at least.
+        least: u32,
+    },
     /// The replies to the steps of a script.
     Steps {
         /// The path of the script.

@@ -3,8 +3,8 @@ ghost use Rattle.std.specs.Prelude.{◌≡◌, [], ◌∷◌, IfOk, false};
 ghost use Rattle.clap.specs.Words.{app_of, items_of, rule_of, with_rule, with_subcommand};
 ghost use Rattle.clap.specs.declared.builder.command.Command.TheViews.{out-Command};
 ghost use Rattle.agenda_words.specs.Command.{agenda, argument_named, file_argument, moment_option, next};
-ghost use Rattle.agenda_words.specs.Command.{number_option, option_named, plan, steps};
-ghost use Rattle.agenda_words.specs.Command.{source_rule, with_sources};
+ghost use Rattle.agenda_words.specs.Command.{number_option, option_named, plan, quiet, steps, upcoming};
+ghost use Rattle.agenda_words.specs.Command.{source_rule, with_sizes, with_sources};
 
 mod help;
 
@@ -28,6 +28,8 @@ pub(crate) fn agenda_command<'a>(alloc: Global) -> Result<Command<'a>, AllocErro
         .disable_help_subcommand(true);
     let command = with_command(command, next_command(alloc)?)?;
     let command = with_command(command, plan_command(alloc)?)?;
+    let command = with_command(command, upcoming_command(alloc)?)?;
+    let command = with_command(command, quiet_command(alloc)?)?;
     let command = with_command(command, steps_command(alloc)?)?;
     Ok(command)
 }
@@ -60,12 +62,34 @@ fn plan_command<'a>(alloc: Global) -> Result<Command<'a>, AllocError>
     let command = with_argument(command, moment_option(alloc, "since", help::SINCE))?;
     let command = with_argument(command, moment_option(alloc, "upto", help::UPTO))?;
     let command = with_sources(alloc, command)?;
-    let command = with_argument(
-        command,
-        number_option(alloc, "planners", "2", help::PLANNERS),
-    )?;
-    let command = with_argument(command, number_option(alloc, "room", "16", help::ROOM))?;
-    let command = with_argument(command, number_option(alloc, "limit", "10000", help::LIMIT))?;
+    let command = with_sizes(alloc, command, "10000")?;
+    Ok(command)
+}
+
+fn upcoming_command<'a>(alloc: Global) -> Result<Command<'a>, AllocError>
+    ensures app { IfOk result (λ command. app_of command ≡ upcoming) }
+    ensures local { IfOk result (λ command. (out-Command command).has_globals ≡ false) }
+{
+    let command = Command::new(alloc, "upcoming")
+        .about(help::UPCOMING)
+        .after_help(help::AFTER_UPCOMING);
+    let command = with_argument(command, moment_option(alloc, "after", help::AFTER))?;
+    let command = with_sources(alloc, command)?;
+    Ok(command)
+}
+
+fn quiet_command<'a>(alloc: Global) -> Result<Command<'a>, AllocError>
+    ensures app { IfOk result (λ command. app_of command ≡ quiet) }
+    ensures local { IfOk result (λ command. (out-Command command).has_globals ≡ false) }
+{
+    let command = Command::new(alloc, "quiet")
+        .about(help::QUIET)
+        .after_help(help::AFTER_QUIET);
+    let command = with_argument(command, moment_option(alloc, "since", help::SINCE))?;
+    let command = with_argument(command, moment_option(alloc, "upto", help::UPTO))?;
+    let command = with_sources(alloc, command)?;
+    let command = with_argument(command, number_option(alloc, "least", "1800", help::LEAST))?;
+    let command = with_sizes(alloc, command, "1000000")?;
     Ok(command)
 }
 
@@ -98,6 +122,25 @@ fn with_sources<'a>(alloc: Global, command: Command<'a>) -> Result<Command<'a>, 
     for kind in SourceKind::all() {
         command = with_argument(command, source_argument(alloc, kind))?;
     }
+    Ok(command)
+}
+
+// The command with the sizes of a plan, the limit of which has this default.
+fn with_sizes<'a>(
+    alloc: Global,
+    command: Command<'a>,
+    limit: &'a str,
+) -> Result<Command<'a>, AllocError>
+    requires local { (out-Command command).has_globals ≡ false }
+    ensures app { IfOk result (λ new. app_of new ≡ with_sizes (app_of command.entry) limit.entry.now) }
+    ensures local { IfOk result (λ new. (out-Command new).has_globals ≡ false) }
+{
+    let command = with_argument(
+        command,
+        number_option(alloc, "planners", "2", help::PLANNERS),
+    )?;
+    let command = with_argument(command, number_option(alloc, "room", "16", help::ROOM))?;
+    let command = with_argument(command, number_option(alloc, "limit", limit, help::LIMIT))?;
     Ok(command)
 }
 

@@ -2,7 +2,8 @@
 ghost use Rattle.std.specs.Prelude.{IfOk, map, string_bytes};
 ghost use Rattle.clap.specs.Words.{found_of, kind_of, rows_of, subcommand_rows_of};
 ghost use Rattle.agenda_words.specs.Words.{Gives, IsAnswerTo, asked_by, asked_by_next};
-ghost use Rattle.agenda_words.specs.Words.{asked_by_plan, asked_by_steps, asked_by_subcommand, sizes_in};
+ghost use Rattle.agenda_words.specs.Words.{asked_by_plan, asked_by_quiet, asked_by_steps, asked_by_subcommand};
+ghost use Rattle.agenda_words.specs.Words.{asked_by_upcoming, sizes_in};
 
 use crate::ask::{Ask, Asked, UsageFault};
 use crate::command::agenda_command;
@@ -41,6 +42,12 @@ fn asked_by_subcommand(alloc: Global, matches: &ArgMatches<'_>) -> Result<Ask, U
     if let Some(given) = matches.subcommand_matches("plan") {
         return asked_by_plan(alloc, given);
     }
+    if let Some(given) = matches.subcommand_matches("upcoming") {
+        return asked_by_upcoming(alloc, given);
+    }
+    if let Some(given) = matches.subcommand_matches("quiet") {
+        return asked_by_quiet(alloc, given);
+    }
     match matches.subcommand_matches("steps") {
         Some(given) => asked_by_steps(alloc, given),
         None => Err(UsageFault::Usage(text(alloc, NO_SUBCOMMAND)?)),
@@ -74,6 +81,31 @@ fn asked_by_plan(alloc: Global, given: &ArgMatches<'_>) -> Result<Ask, UsageFaul
         upto,
         sources,
         sizes,
+    })
+}
+
+fn asked_by_upcoming(alloc: Global, given: &ArgMatches<'_>) -> Result<Ask, UsageFault>
+    ensures { Gives result (asked_by_upcoming (rows_of (found_of given.now))) }
+{
+    let after = text_of(alloc, given, "after")?;
+    let sources = sources_of(alloc, given)?;
+    Ok(Ask::Upcoming { after, sources })
+}
+
+fn asked_by_quiet(alloc: Global, given: &ArgMatches<'_>) -> Result<Ask, UsageFault>
+    ensures { Gives result (asked_by_quiet (rows_of (found_of given.now))) }
+{
+    let since = text_of(alloc, given, "since")?;
+    let upto = text_of(alloc, given, "upto")?;
+    let least = number_of(alloc, given, "least")?;
+    let sizes = sizes_of(alloc, given)?;
+    let sources = sources_of(alloc, given)?;
+    Ok(Ask::Quiet {
+        since,
+        upto,
+        sources,
+        sizes,
+        least,
     })
 }
 

@@ -9,3 +9,5 @@ pub mod MergingLemmas
 pub mod TilingLemmas
 pub mod EntryLemmas
 pub mod StampLemmas
+pub mod QuietLemmas
+pub mod QuietLaws

@@ -141,3 +141,42 @@ pub loop_breaks_off :
     BreaksOff takes_all b c (waiting ++ f (get_or xs i d)) → BreaksOff takes_all a c (start ++ flat_map f xs)
 loop_breaks_off f xs i d takes_all a b c start waiting so_far lt (fails, more) =
     (fails, loop_prefix f xs i d a b c start waiting so_far lt more)
+
+-- of a whole text the stream took all but what still waits and what is left
+pub record PutsAllBefore (old new : Option (List ℕ)) (whole waiting left : List ℕ) : Type 0 where
+  pub so_far : List ℕ
+  pub put : AppendsAllBut old new so_far waiting
+  pub is : so_far ++ left ≡ whole
+
+-- at first all is left
+pub before_first : (a : Option (List ℕ)) (whole waiting : List ℕ) → waiting ≡ [] → PutsAllBefore a a whole waiting whole
+before_first a whole waiting none = record {
+  so_far = [];
+  put = all_waits a [] waiting (sym none);
+  is = λ i. whole;
+}
+
+-- one more text of those that are left
+pub before_more :
+    (a b c : Option (List ℕ)) (whole waiting after text left : List ℕ) → PutsAllBefore a b whole waiting (text ++ left) →
+    AppendsAllBut b c (waiting ++ text) after → PutsAllBefore a c whole after left
+before_more a b c whole waiting after text left so_far more = record {
+  so_far = so_far.so_far ++ text;
+  put = all_but_more a b c so_far.so_far text waiting after so_far.put more;
+  is = append_assoc so_far.so_far text left ∙ so_far.is;
+}
+
+-- which could not be written
+pub before_off :
+    (takes_all : Bool) (a b c : Option (List ℕ)) (whole waiting text left : List ℕ) → PutsAllBefore a b whole waiting (text ++ left) →
+    BreaksOff takes_all b c (waiting ++ text) → BreaksOff takes_all a c whole
+before_off takes_all a b c whole waiting text left so_far (fails, more) =
+    subst (BreaksOff takes_all a c) (append_assoc so_far.so_far text left ∙ so_far.is)
+    (breaks_off_longer takes_all a c (so_far.so_far ++ text) left
+    (fails, prefix_more a b c so_far.so_far text waiting so_far.put more))
+
+-- where nothing is left, all of it was put
+pub before_all :
+    (a b : Option (List ℕ)) (whole waiting : List ℕ) → PutsAllBefore a b whole waiting [] → AppendsAllBut a b whole waiting
+before_all a b whole waiting so_far =
+    subst (λ text. AppendsAllBut a b text waiting) (sym (append-nil so_far.so_far) ∙ so_far.is) so_far.put

@@ -15,3 +15,5 @@ pub mod Merging
 pub mod Causes
 pub mod Entry
 pub mod Stamp
+pub mod Upcoming
+pub mod Quiet

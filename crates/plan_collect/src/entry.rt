@@ -1,6 +1,6 @@
 //! Entries of an agenda: which second, and which job.
 
-ghost use Rattle.std.specs.Prelude.{◌≡◌, ◌<◌, ◌&&◌, nat_eq};
+ghost use Rattle.std.specs.Prelude.{◌≡◌, ◌<◌, ◌≤◌, ◌&&◌, nat_eq};
 ghost use Rattle.std.specs.Cmp.{partial_order_from_own_ties};
 ghost use Rattle.std.specs.Cmp.Rules.{comparing};
 ghost use Rattle.std.specs.Ordering.{as_partial_cmp, nat_cmp, ordering_then};
@@ -38,7 +38,7 @@ impl Model for Entry {
 impl Entry {
     /// The entry of a second and a job.
     pub(crate) fn new(second: u64, job: u32) -> Entry
-        requires second { second < end_second }
+        requires second { second ≤ end_second }
         requires job { job < job_numbers }
         ensures { result ≡ (second, job) }
     {

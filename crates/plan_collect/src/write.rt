@@ -55,7 +55,7 @@ fn put_header<S: Stream>(
 }
 
 // Puts the line of an entry behind what waits.
-fn put_line<S: Stream>(
+pub(crate) fn put_line<S: Stream>(
     entry: Entry,
     jobs: &Jobs,
     stamp: &mut Stamp,
@@ -105,7 +105,11 @@ fn put_parts<S: Stream>(
 
 // Puts texts behind what waits, one after the other.
 #[cold]
-fn put_all<S: Stream>(texts: &[&[u8]], waiting: &mut Buffer, out: &mut S) -> Result<(), WriteFault>
+pub(crate) fn put_all<S: Stream>(
+    texts: &[&[u8]],
+    waiting: &mut Buffer,
+    out: &mut S,
+) -> Result<(), WriteFault>
     ensures { PutsAllBut S.takes_all result (S.holds out.old) (S.holds out.new)
         (waiting.old ++ flat_map (λ text. text.now) texts.now) waiting.new }
 {

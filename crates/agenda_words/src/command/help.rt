@@ -9,6 +9,8 @@ what each fault line means are described in agenda(1).
 Examples:
   agenda next --cron @daily --after 2024-01-01T00:00:00Z
   agenda plan --since 2024-01-01T00:00:00Z --upto 2024-01-02T00:00:00Z backup.timer
+  agenda upcoming --after 2024-01-01T00:00:00Z --crontab jobs backup.timer
+  agenda quiet --since 2024-01-01T00:00:00Z --upto 2024-01-02T00:00:00Z --crontab jobs
   agenda steps script";
 
 pub(super) const NEXT: &str = "Prints the next starts of one rule";
@@ -81,6 +83,34 @@ no line. The formats of the files are described in agenda(1).
 Example:
   agenda plan --since 2024-01-01T00:00:00Z --upto 2024-01-02T00:00:00Z \\
     --crontab jobs --limit 100 backup.timer rotate.timer";
+
+pub(super) const UPCOMING: &str = "Prints when each job of crontabs and timers starts next";
+
+pub(super) const AFTER_UPCOMING: &str = "\
+Prints a line for each job: the moment of its next start, the job's name and what it
+runs, with a tab between. The lines are in order of moments; at one moment in order of
+jobs, as those of plan. Jobs that have no further start before the year 3000 come last,
+with none in place of the moment. The formats of the files are described in agenda(1).
+
+Example:
+  agenda upcoming --after 2024-01-01T00:00:00Z --crontab jobs backup.timer";
+
+pub(super) const QUIET: &str = "Prints when no job of crontabs and timers starts";
+
+pub(super) const LEAST: &str = "\
+How many seconds a gap has at least,
+from 1 to 4294967295";
+
+pub(super) const AFTER_QUIET: &str = "\
+Prints a line for each gap of the span in which nothing starts: the moment at which it
+begins, that at which it ends and the seconds between them, with a tab between. A gap
+begins at a start or with the span, and ends at the next start or with the span. Where
+there are more starts than the limit, nothing is printed. The number of planners and
+their room change no line. The formats of the files are described in agenda(1).
+
+Example:
+  agenda quiet --since 2024-01-01T00:00:00Z --upto 2024-01-08T00:00:00Z \\
+    --least 3600 --crontab jobs backup.timer";
 
 pub(super) const STEPS: &str = "Prints what a mailbox replies to the steps of a script";
 

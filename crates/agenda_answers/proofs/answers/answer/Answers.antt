@@ -1,7 +1,7 @@
 -- Arm by arm: what was asked is what the arm says (`subst`), and it was done, or was not, and then its line was written
 -- (`command_answers`). Refused words are a failure by themselves.
 use Rattle.std.proofs.Common.{◌≡◌, [], Ok, Err, refl, ap, sym, subst, ◌∙◌}
-use Rattle.agenda_words.specs.declared.Ask.TheVariants.{Next, Plan, Steps}
+use Rattle.agenda_words.specs.declared.Ask.TheVariants.{Next, Plan, Upcoming, Quiet, Steps}
 use Rattle.agenda_words.specs.declared.UsageFault.TheVariants as usage
 use Rattle.agenda_answers.specs.Answer.{Answers, Stream}
 use Rattle.agenda_answers.proofs.AnswerLemmas.{command_answers, memory_answers, usage_answers}
@@ -42,6 +42,40 @@ returns-in-Ok-Plan g c =
     let ask = Plan c.in-Ok-Plan.since c.in-Ok-Plan.upto c.in-Ok-Plan.sources c.in-Ok-Plan.sizes in
     let asked : c.args.asked ≡ Ok ask = c.in-Ok-Plan.is ∙ ap Ok c.in-Ok-Plan.field-0-is in
     subst (λ a. Answers held a c.answer_plan.result out err) (sym asked) c.answer_plan.ensures
+
+pub returns-in-Ok-Upcoming : goal.returns-in-Ok-Upcoming
+returns-in-Ok-Upcoming g c =
+    let held = g.F.Files.held c.args.files.now in
+    let out : Stream = record {
+      takes_all = g.O.Stream.takes_all;
+      old = g.O.Stream.holds c.args.out.now;
+      new = g.O.Stream.holds c.answer_upcoming.new.out;
+    } in
+    let err : Stream = record {
+      takes_all = g.E.Stream.takes_all;
+      old = g.E.Stream.holds c.args.err.now;
+      new = g.E.Stream.holds c.answer_upcoming.new.err;
+    } in
+    let ask = Upcoming c.in-Ok-Upcoming.after c.in-Ok-Upcoming.sources in
+    let asked : c.args.asked ≡ Ok ask = c.in-Ok-Upcoming.is ∙ ap Ok c.in-Ok-Upcoming.field-0-is in
+    subst (λ a. Answers held a c.answer_upcoming.result out err) (sym asked) c.answer_upcoming.ensures
+
+pub returns-in-Ok-Quiet : goal.returns-in-Ok-Quiet
+returns-in-Ok-Quiet g c =
+    let held = g.F.Files.held c.args.files.now in
+    let out : Stream = record {
+      takes_all = g.O.Stream.takes_all;
+      old = g.O.Stream.holds c.args.out.now;
+      new = g.O.Stream.holds c.answer_quiet.new.out;
+    } in
+    let err : Stream = record {
+      takes_all = g.E.Stream.takes_all;
+      old = g.E.Stream.holds c.args.err.now;
+      new = g.E.Stream.holds c.answer_quiet.new.err;
+    } in
+    let ask = Quiet c.in-Ok-Quiet.since c.in-Ok-Quiet.upto c.in-Ok-Quiet.sources c.in-Ok-Quiet.sizes c.in-Ok-Quiet.least in
+    let asked : c.args.asked ≡ Ok ask = c.in-Ok-Quiet.is ∙ ap Ok c.in-Ok-Quiet.field-0-is in
+    subst (λ a. Answers held a c.answer_quiet.result out err) (sym asked) c.answer_quiet.ensures
 
 pub returns-in-Ok-Steps : goal.returns-in-Ok-Steps
 returns-in-Ok-Steps g c =

@@ -30,3 +30,9 @@ pub returns-in-Full : goal.returns-in-Full
 returns-in-Full g c =
     puts_as g.S.Stream.takes_all c.put-in-Full.result (g.S.Stream.holds c.args.stream.now) (g.S.Stream.holds c.put-in-Full.new.self) _ _
     c.put-in-Full.ensures (ap (run_line c.args.sources.now) (sym c.in-Full.is))
+
+pub returns-in-BadLeast : goal.returns-in-BadLeast
+returns-in-BadLeast g c =
+    puts_as g.S.Stream.takes_all c.put-in-BadLeast.result (g.S.Stream.holds c.args.stream.now) (g.S.Stream.holds c.put-in-BadLeast.new.self)
+    _ _
+    c.put-in-BadLeast.ensures (ap (run_line c.args.sources.now) (sym c.in-BadLeast.is))

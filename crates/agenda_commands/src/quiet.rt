@@ -1,0 +1,47 @@
+//! When no job of crontabs and timer files starts.
+
+ghost use Rattle.std.specs.Prelude.{◌≡◌, ◌≤◌, IfErr, IfSome, OnOk};
+ghost use Rattle.agenda_sources.specs.AtOnce.{fault_at_once};
+ghost use Rattle.agenda_faults.specs.Faults.{fault_of_sources};
+ghost use Rattle.agenda_commands.specs.Command.{Fails, Writes};
+ghost use Rattle.agenda_commands.specs.Quiet.{IsTextOfQuiet, RefusesQuiet};
+
+use agenda_faults::RunFault;
+use agenda_sources::{Sources, jobs_of_sources};
+use plan_collect::{Sizes, Span, write_quiet};
+use plan_streams::Stream;
+use plan_threads::{NoGate, plan};
+use std::alloc::Global;
+use std::sync::Wait;
+use std::thread::Threads;
+
+/// Writes the gaps of a span in which no job of sources starts and that last `least` seconds or longer, a line for each, in order. Its
+/// plan is made as `run_plan` makes it.
+///
+/// The faults: `BadLeast` where `least` is 0, and else those of `run_plan`, in its order. Nothing is written then. `Device` where the
+/// stream fails, which then took the first bytes of the text.
+pub fn run_quiet<R: Threads + Wait + Sync, S: Stream>(
+    rt: &R,
+    alloc: Global,
+    sources: &Sources,
+    span: Span,
+    sizes: Sizes,
+    least: u32,
+    out: &mut S,
+) -> Result<(), RunFault>
+    ensures written { OnOk result (Writes (IsTextOfQuiet sources.now span sizes least) (S.holds out.old) (S.holds out.new)) }
+    ensures refused { IfErr result (λ fault. Fails S.takes_all (IsTextOfQuiet sources.now span sizes least)
+        (RefusesQuiet sources.now span sizes least) fault (S.holds out.old) (S.holds out.new)) }
+
+    // These are found before any memory is asked for.
+    ensures bad_least { least ≡ 0 → result ≡ Err RunFault.BadLeast }
+    ensures at_once { 1 ≤ least → IfSome (fault_at_once sources.now) (λ fault. result ≡ Err (fault_of_sources fault)) }
+{
+    if least == 0 {
+        return Err(RunFault::BadLeast);
+    }
+    let jobs = jobs_of_sources(alloc, sources)?;
+    let agenda = plan(rt, alloc, &jobs, span, sizes, &NoGate)?;
+    write_quiet(&agenda, u64::from(least), out)?;
+    Ok(())
+}

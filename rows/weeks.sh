@@ -1,0 +1,207 @@
+# shellcheck shell=bash disable=SC2154
+# Rows of bin/check-examples: a week as text, by examples/week-text/week.awk, and as a picture, by examples/week-picture/week.gnuplot. The
+# cells of both pictures are read and held beside the counts of the rows: the numbers in week.svg, and the colours in week.svg and week.png.
+
+weeks_folder="$work/weeks"
+mkdir "$weeks_folder"
+cp -- "$top/examples/week-text/week.awk" "$top"/examples/week-picture/{crontab,etc-crontab,mirror.timer,week.gnuplot} "$weeks_folder"
+weeks_since="2024-06-03T00:00:00Z"
+weeks_upto="2024-06-10T00:00:00Z"
+
+# Rows of a span, and of the days that the text has for it, with the count of each, where the job starts at 00:00 and at 12:00.
+weeks_days() {
+  local since upto days
+  printf '0 0,12 * * * a\n' >"$weeks_folder/noons"
+  while IFS='|' read -r since upto days; do
+    # shellcheck disable=SC2016
+    run_in "$weeks_folder" bash -c 'agenda plan --since "$0" --upto "$1" --crontab noons | awk -f week.awk | tail -n +3 |
+      awk "{ print \$1, \$2, \$NF }"' "$since" "$upto"
+    compare_texts "the days as text from $since to $upto" "${days//;/$'\n'}"$'\n' '' 0
+  done
+}
+
+# 2024 and 2000 have a leap day, 2100 has none. The days of the week are those of a calendar. A day counts from its begin in the span, and
+# up to the end of it.
+weeks_days <<'ROWS'
+2024-02-28T00:00:00Z|2024-03-02T00:00:00Z|Wed 2024-02-28 2;Thu 2024-02-29 2;Fri 2024-03-01 2;all days 6
+2023-02-28T00:00:00Z|2023-03-02T00:00:00Z|Tue 2023-02-28 2;Wed 2023-03-01 2;all days 4
+2000-02-28T00:00:00Z|2000-03-02T00:00:00Z|Mon 2000-02-28 2;Tue 2000-02-29 2;Wed 2000-03-01 2;all days 6
+2100-02-28T00:00:00Z|2100-03-02T00:00:00Z|Sun 2100-02-28 2;Mon 2100-03-01 2;all days 4
+1999-12-31T00:00:00Z|2000-01-02T00:00:00Z|Fri 1999-12-31 2;Sat 2000-01-01 2;all days 4
+2024-04-30T00:00:00Z|2024-05-02T00:00:00Z|Tue 2024-04-30 2;Wed 2024-05-01 2;all days 4
+1970-01-01T00:00:00Z|1970-01-02T00:00:00Z|Thu 1970-01-01 2;all days 2
+2999-12-31T00:00:00Z|3000-01-01T00:00:00Z|Tue 2999-12-31 2;all days 2
+2024-06-03T06:00:00Z|2024-06-05T12:00:01Z|Mon 2024-06-03 1;Tue 2024-06-04 2;Wed 2024-06-05 2;all days 5
+2024-06-03T00:00:01Z|2024-06-05T00:00:00Z|Mon 2024-06-03 1;Tue 2024-06-04 2;all days 3
+2024-06-03T13:00:00Z|2024-06-03T14:00:00Z|Mon 2024-06-03 0;all days 0
+2024-06-03T00:00:00Z|2024-06-03T00:00:00Z|all days 0
+ROWS
+
+# A digit up to 9, and then #; where nothing starts a dot. Without an agenda there is nothing, and a status.
+weeks_marks() {
+  printf '0-8 0 * * * a\n0-9 1 * * * a\n0 23 * * * a\n' >"$weeks_folder/marks"
+  run_in "$weeks_folder" bash -c "agenda plan ${day[*]} --crontab marks | awk -f week.awk | tail -n 1"
+  compare_texts "the marks of 9 and of 10 starts" "all days        9 # . . . . . . . . . . . . . . . . . . . . . 1     20"$'\n' '' 0
+  run_in "$weeks_folder" awk -f week.awk
+  compare_texts "no agenda as text" '' '' 1
+}
+
+# Writes the cells of week.svg, a line for each day: the number in the cell and its colour, as three numbers with commas between.
+weeks_svg() {
+  awk '
+    # the cell around the point: between 88 and 788 from the left there are 24 hours, and between 44 and 304 from above 7 days
+    function cell(x, y) {
+      return x < 88 || x >= 788 || y < 44 || y >= 304 ? "" : int((y - 44) / 260 * 7) " " int((x - 88) / 700 * 24)
+    }
+    /<polygon/ {
+      gsub(/[^0-9.]+/, " ")
+      split($0, part, " ")
+      colour[cell((part[4] + part[8]) / 2, (part[5] + part[9]) / 2)] = part[1] "," part[2] "," part[3]
+    }
+    /translate\(/ {
+      sub(/.*translate\(/, "")
+      split($0, at, /[,)]/)
+    }
+    /<text>/ {
+      gsub(/<[^>]*>|[ \t]/, "")
+      number[cell(at[1], at[2])] = $0
+    }
+    END {
+      for (d = 0; d < 7; d++)
+        for (h = 0; h < 24; h++) printf "%s:%s%s", number[d " " h], colour[d " " h], (h < 23 ? " " : "\n")
+    }' "$weeks_folder/week.svg"
+}
+
+# Writes the bytes of the pixels of week.png, which its chunks of the kind IDAT hold: what zlib deflated is read by gzip.
+weeks_inflated() {
+  local at=8 size kind
+  {
+    printf '\037\213\010\0\0\0\0\0\0\003'
+    while kind=$(tail -c +$((at + 5)) "$weeks_folder/week.png" | head -c 4) && [ -n "$kind" ]; do
+      size=$(od -A n -t u4 --endian=big -j "$at" -N 4 "$weeks_folder/week.png")
+      [ "$kind" != IDAT ] || tail -c +$((at + 9)) "$weeks_folder/week.png" | head -c "$size"
+      at=$((at + 12 + size))
+    done | tail -c +3
+  } | gzip -dc 2>/dev/null
+}
+
+# Writes the colours of the cells of week.png, a line for each day: those of the pixels 6 below the middle of a cell's upper edge. A row of
+# pixels is a byte that says how it is filtered, and three for each pixel.
+weeks_png() {
+  weeks_inflated | od -A n -v -t u1 -w2401 | awk '
+    function far(a, b) { return a < b ? b - a : a - b }
+    # what the filter foretells of a byte: a is the one to the left of it, b the one above and c the one above to the left
+    function foretold(a, b, c,   left, above, corner) {
+      if (filter < 3) return filter == 1 ? a : filter == 2 ? b : 0
+      if (filter == 3) return int((a + b) / 2)
+      left = far(b, c)
+      above = far(a, c)
+      corner = far(a + b, 2 * c)
+      return left <= above && left <= corner ? a : above <= corner ? b : c
+    }
+    {
+      filter = $1
+      for (i = 2; i <= NF; i++) {
+        byte = ($i + foretold(now[i - 3] + 0, before[i] + 0, before[i - 3] + 0)) % 256
+        now[i] = byte
+      }
+      for (i = 2; i <= NF; i++) before[i] = now[i]
+    }
+    NR - 1 == int(44 + d * 260 / 7 + 6) && d < 7 {
+      for (h = 0; h < 24; h++) {
+        i = 2 + 3 * int(88 + (h + 0.5) * 700 / 24)
+        printf "%s,%s,%s%s", now[i], now[i + 1], now[i + 2], (h < 23 ? " " : "\n")
+      }
+      d++
+    }'
+}
+
+# Writes the cells of the picture of the counts of standard input, a line for each day, as weeks_svg does.
+weeks_cells() {
+  awk '
+    function colour(n) {
+      if (n < 4) return n == 0 ? "240,240,240" : "255,255,204"
+      if (n < 30) return n < 12 ? "161,218,180" : "65,182,196"
+      return n < 60 ? "44,127,184" : "37,52,148"
+    }
+    { for (h = 1; h <= 24; h++) printf "%s:%s%s", ($h == 0 ? "" : $h), colour($h), (h < 24 ? " " : "\n") }'
+}
+
+# Draws week.agenda, and keeps the cells of both pictures in the files `svg` and `png`.
+weeks_draw() {
+  run_in "$weeks_folder" gnuplot week.gnuplot
+  compare_texts "the picture of $1" '' '' 0
+  weeks_svg >"$weeks_folder/svg"
+  weeks_png >"$weeks_folder/png"
+}
+
+# The pictures of the week in which the words from $2 on start something have the counts of standard input: a line for each day.
+weeks_drawn() {
+  local name=$1
+  shift
+  weeks_cells >"$weeks_folder/cells"
+  sed 's/[0-9]*://g' "$weeks_folder/cells" >"$weeks_folder/colours"
+  run_in "$weeks_folder" agenda plan --since "$weeks_since" --upto "$weeks_upto" "$@"
+  cp -- "$work/out" "$weeks_folder/week.agenda"
+  weeks_draw "$name"
+  diff "$weeks_folder/cells" "$weeks_folder/svg" >"$work/told" 2>&1
+  count "the numbers and the colours in week.svg of $name"
+  diff "$weeks_folder/colours" "$weeks_folder/png" >"$work/told" 2>&1
+  count "the colours in week.png of $name"
+}
+
+# Tells where the cells of the file $2 differ from those of $1, unless that is in the cell $3 alone, which are counted from 1 on.
+weeks_differ() {
+  diff <(tr ' ' '\n' <"$weeks_folder/$1") <(tr ' ' '\n' <"$weeks_folder/$2") | grep '^[0-9]' >"$work/differs"
+  [ "$(cat "$work/differs")" = "$3c$3" ] || tell "$2 differs otherwise: $(tr '\n' ' ' <"$work/differs")"
+}
+
+# A picture that lacks the last start of the agenda that was drawn last is told from it, by the cell $1 alone.
+weeks_wrong() {
+  sed -i '$d' "$weeks_folder/week.agenda"
+  weeks_draw "a week that lacks a start"
+  weeks_differ cells svg "$1"
+  weeks_differ colours png "$1"
+  count "the cells of a picture that lacks a start"
+}
+
+# Of a plan that is refused there is no picture, and a status.
+weeks_no_picture() {
+  rm -f "$weeks_folder"/week.{agenda,png,svg}
+  : >"$weeks_folder/week.agenda"
+  run_in "$weeks_folder" gnuplot week.gnuplot
+  [ "$status" = 1 ] || tell "status $status, and not 1"
+  grep -q "week.agenda has no agenda" "$work/err" || tell "standard error doesn't say that there is no agenda"
+  [ -z "$(find "$weeks_folder" -name 'week.[ps][nv]g')" ] || tell "there is a picture"
+  count "no agenda as a picture"
+}
+
+weeks_pictures() {
+  ! passed_over "the pictures of rows/weeks.sh" gnuplot || return
+  weeks_no_picture
+  weeks_drawn "the example" --crontab crontab --system-crontab etc-crontab mirror.timer <<'COUNTS'
+1 2 0 0 0 0 3 13 13 13 13 13 14 13 13 13 13 13 14 7 7 1 1 0
+1 2 0 0 0 0 3 13 13 13 13 13 33 33 13 13 13 13 14 7 7 1 1 0
+1 2 0 0 0 0 3 13 13 13 13 13 14 13 13 13 13 13 14 7 7 1 61 0
+1 2 0 0 0 0 3 13 13 13 13 13 33 33 13 13 13 13 14 7 7 1 1 0
+1 2 0 0 0 0 3 13 13 13 13 13 14 13 13 13 13 13 14 7 7 1 1 60
+1 2 0 0 0 0 3 1 5 5 5 5 6 5 5 5 5 5 6 5 5 5 1 0
+1 2 30 30 30 0 4 1 1 1 1 1 2 1 1 1 1 1 2 1 1 1 1 0
+COUNTS
+  # on the Sunday at 22:17
+  weeks_wrong $((6 * 24 + 23))
+  # both sides of each edge between two classes, on the Wednesday
+  printf '%s %s * * wed a\n' 0-2 1 0-3 2 0-10 3 0-11 4 0-28 20 0-29 21 0-58 22 '*' 23 >"$weeks_folder/edges"
+  weeks_drawn "the edges of classes" --crontab edges <<'COUNTS'
+0 0 0 0 0 0 0 0 0 0 0 0 0 0 0 0 0 0 0 0 0 0 0 0
+0 0 0 0 0 0 0 0 0 0 0 0 0 0 0 0 0 0 0 0 0 0 0 0
+0 3 4 11 12 0 0 0 0 0 0 0 0 0 0 0 0 0 0 0 29 30 59 60
+0 0 0 0 0 0 0 0 0 0 0 0 0 0 0 0 0 0 0 0 0 0 0 0
+0 0 0 0 0 0 0 0 0 0 0 0 0 0 0 0 0 0 0 0 0 0 0 0
+0 0 0 0 0 0 0 0 0 0 0 0 0 0 0 0 0 0 0 0 0 0 0 0
+0 0 0 0 0 0 0 0 0 0 0 0 0 0 0 0 0 0 0 0 0 0 0 0
+COUNTS
+}
+
+weeks_marks
+weeks_pictures
