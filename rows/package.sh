@@ -10,7 +10,6 @@ package_machine=$(uname -m)
 package_archive=agenda-$package_version-linux-$package_machine
 package_deb=
 ! command -v dpkg-deb >/dev/null || package_deb=agenda_${package_version}_$(dpkg --print-architecture).deb
-package_plan=(--since 2024-01-01T00:00:00Z --upto 2024-01-02T00:00:00Z)
 
 # What the program needs of a machine, by readelf.
 package_linker='' package_libraries='' package_libc=''
@@ -189,12 +188,12 @@ package_runs() {
   agenda --version >"$work/out.wanted"
   run_in "$package_folder" "$1" --version
   compare "$1 --version" "$work/out.wanted" /dev/null 0
-  run_in "$package_folder" "$1" plan "${package_plan[@]}" --crontab jobs
+  run_in "$package_folder" "$1" plan "${day[@]}" --crontab jobs
   compare_lines "$1 plan" "2024-01-01T01:30:00Z${tab}cron:1${tab}dump-database"$'\n'
   run_in "$package_folder" env -i PATH=/usr/bin:/bin "$2" --root "$root" sources
   compare_texts "$2 sources" \
     "system-crontab${tab}crontab${tab}$root/etc/crontab"$'\n'"timer${tab}a.timer${tab}$root/usr/lib/systemd/system/a.timer"$'\n' '' 0
-  run_in "$package_folder" env -i PATH=/usr/bin:/bin "$2" --root "$root" plan "${package_plan[@]}"
+  run_in "$package_folder" env -i PATH=/usr/bin:/bin "$2" --root "$root" plan "${day[@]}"
   compare_lines "$2 plan" \
     "2024-01-01T03:00:00Z${tab}a.timer${tab}a.service"$'\n'"2024-01-01T04:00:00Z${tab}system:1${tab}root b"$'\n'
 }
@@ -274,15 +273,17 @@ package_alone() {
   run_in "$package_folder" chroot "$1" /usr/bin/agenda --version
   compare "the package in a root with nothing else: --version" "$work/out.wanted" /dev/null 0
   cp "$package_folder/jobs" "$1/jobs"
-  run_in "$package_folder" chroot "$1" /usr/bin/agenda plan "${package_plan[@]}" --crontab jobs
+  run_in "$package_folder" chroot "$1" /usr/bin/agenda plan "${day[@]}" --crontab jobs
   compare_lines "the package in a root with nothing else: plan" "2024-01-01T01:30:00Z${tab}cron:1${tab}dump-database"$'\n'
 }
 
-# lintian has nothing to say.
+# lintian has nothing to say of the package in the folder $1. The words behind that are for lintian.
 package_lint() {
-  passed_over "lintian of the package" lintian && return
-  run_in "$package_folder" lintian --allow-root --fail-on error,warning "$1/$package_deb"
-  compare_texts "lintian of ${1##*/}/$package_deb" '' '' 0
+  local folder=$1
+  shift
+  passed_over "lintian of $folder/$package_deb" lintian && return
+  run_in "$package_folder" lintian --allow-root --fail-on error,warning "$@" "$folder/$package_deb"
+  compare_texts "lintian of $folder/$package_deb" '' '' 0
 }
 
 # The changelog of the package, in the folder $1.
@@ -363,7 +364,7 @@ package_lacking() {
   compare_texts "what that package depends on" "libc6 (>= $package_libc)"$'\n' '' 0
   run_in "$package_folder" bash -c "dpkg-deb -x few-made/$package_deb whole && cmp whole/usr/bin/agenda \"\$1\"" whole "$program"
   compare_texts "the program that isn't stripped" '' '' 0
-  package_lint few-made
+  package_lint few-made --tags unstripped-binary-or-object
 }
 
 # Where nothing is said of the time it is the commit's, and without one a stated one. FOLDER is out/ of the project.
