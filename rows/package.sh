@@ -67,7 +67,7 @@ package_shows() {
   compare_texts "$1" "$2" '' 0
 }
 
-# A copy of what bin/package reads of the project, with other times and fewer rights, in the folder $1.
+# Makes a copy of what bin/package reads of the project, with other times and fewer rights: the folder $1.
 package_copy() {
   mkdir -p "$1"
   cp -R -- "$top/bin" "$top/man" "$top/completions" "$1/"
@@ -84,16 +84,24 @@ package_make() {
     < <(ls -A "$package_folder/one")
 }
 
-# The same tree gives the same bytes: from another folder, with other times and rights of its files, by another mask, zone, language and
-# folder for temporary files, on one processor, in another second.
+# The same tree gives the same bytes: by another user, from another folder, with other times and rights of its files, by another mask, zone,
+# language and folder for temporary files, on one processor, in another second.
 package_again() {
-  local one=() file
-  ! taskset -c 0 true 2>/dev/null || one=(taskset -c 0)
+  local by=() file nobody=(setpriv --reuid=65534 --regid=65534 --clear-groups)
   package_copy "$package_folder/a copy"
+  cp -- "$program" "$package_folder/a copy/agenda"
+  mkdir "$package_folder/the second"
   mkdir -m 2775 "$package_folder/temporary"
+  if [ "$(id -u)" = 0 ] && "${nobody[@]}" true 2>/dev/null; then
+    chmod 711 "$work"
+    chown -R 65534:65534 "$package_folder/a copy" "$package_folder/the second" "$package_folder/temporary"
+    chmod 2775 "$package_folder/temporary"
+    by=("${nobody[@]}")
+  fi
+  ! taskset -c 0 true 2>/dev/null || by+=(taskset -c 0)
   # shellcheck disable=SC2016
-  run_in "$package_folder" env AGENDA_PROGRAM="$program" TZ=Asia/Tokyo LC_ALL=C.UTF-8 TMPDIR="$package_folder/temporary" TAR_OPTIONS=-v \
-    POSIXLY_CORRECT=1 DPKG_DEB_COMPRESSOR_LEVEL=1 CDPATH=/ "${one[@]}" bash -c 'umask 077; exec "$@"' again \
+  run_in "$package_folder" env AGENDA_PROGRAM="a copy/agenda" HOME=/ TZ=Asia/Tokyo LC_ALL=C.UTF-8 TMPDIR="$package_folder/temporary" \
+    TAR_OPTIONS=-v POSIXLY_CORRECT=1 DPKG_DEB_COMPRESSOR_LEVEL=1 CDPATH=/ "${by[@]}" bash -c 'umask 077; exec "$@"' again \
     "a copy/bin/package" "the second/time"
   package_written "bin/package of the same tree again" "the second/time"
   ls -A "$package_folder/temporary" >"$work/told"
@@ -102,6 +110,13 @@ package_again() {
     cmp "$package_folder/one/$file" "$package_folder/the second/time/$file" >"$work/told" 2>&1
     count "$file has the same bytes again"
   done
+  # another file system may list a folder in another order
+  tar -tzf "$package_folder/one/$package_archive.tar.gz" >"$work/names"
+  package_shows "the archive's files are in order" "$(tr / '\001' <"$work/names" | sort | tr '\001' /)"$'\n' <"$work/names"
+  if [ -n "$package_deb" ]; then
+    dpkg-deb --fsys-tarfile "$package_folder/one/$package_deb" | tar -t >"$work/names"
+    package_shows "the package's files are in order" "$(tr / '\001' <"$work/names" | sort | tr '\001' /)"$'\n' <"$work/names"
+  fi
 }
 
 # Writes the lines of a listing for the rows of standard input: a mode and a path. Each file is of root, and has the day.
@@ -213,7 +228,10 @@ package_page() {
   passed_over "man -l ${1##*/}" man && return
   run_in "$package_folder" env -i PATH="$PATH" MANWIDTH=80 man -l "$top/$2"
   cp "$work/out" "$work/out.wanted"
-  grep -q 'agenda' "$work/out.wanted" || tell "man shows no page"
+  if ! grep -q agenda "$work/out.wanted"; then
+    echo "man -l ${1##*/}: passed over, since man shows no page here"
+    return
+  fi
   run_in "$package_folder" env -i PATH="$PATH" MANWIDTH=80 man -l "$1"
   compare "man -l ${1#"$package_folder/"}" "$work/out.wanted" /dev/null 0
 }
@@ -225,11 +243,12 @@ package_empty_root() {
     "Version: $2" "Description: the C library" >"$1/var/lib/dpkg/status"
 }
 
-# Runs dpkg on the empty root $1.
+# Runs dpkg on the empty root $1. This machine may be set to leave manual pages out.
 package_dpkg() {
   local root=$1
   shift
-  run_in "$package_folder" env PATH="$PATH:/usr/sbin:/sbin" dpkg --root="$package_folder/$root" --log=/dev/null --force-not-root "$@"
+  run_in "$package_folder" env PATH="$PATH:/usr/sbin:/sbin" dpkg --root="$package_folder/$root" --log=/dev/null --force-not-root \
+    --path-include='/usr/share/*' "$@"
 }
 
 # dpkg installs the package into an empty root, where program and script run, and takes it away again. It refuses that where the C library
@@ -369,8 +388,9 @@ package_lacking() {
 
 # Where nothing is said of the time it is the commit's, and without one a stated one. FOLDER is out/ of the project.
 package_times() {
-  local copy="$package_folder/a copy" said="bin/package: dpkg-deb is not here: there is no Debian package"
+  local copy="$package_folder/a tree" said="bin/package: dpkg-deb is not here: there is no Debian package"
   unset SOURCE_DATE_EPOCH
+  package_copy "$copy"
   package_few strip
   run_in "$package_folder" env AGENDA_PROGRAM="$program" PATH="$package_folder/few" "$copy/bin/package"
   grep -v 'strip is not here' "$work/err" >"$work/said"
