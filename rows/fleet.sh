@@ -218,11 +218,11 @@ fleet_names() {
   fleet_compare "names of machines" 0 "$fleet_by"
 }
 
-# More machines than sort holds open, so that it merges several times: 40, of which two fail.
+# More machines than sort holds open, so that it merges several times: 40, of which two fail, given against the order of their names.
 fleet_forty() {
   local number folders=() hour
   fleet_want </dev/null
-  for number in {01..40}; do
+  for number in {40..01}; do
     folders+=("m$number")
     [ ! -d "$fleet_folder/m$number" ] || continue
     mkdir -p "$fleet_folder/m$number/etc"
@@ -230,12 +230,12 @@ fleet_forty() {
   done
   echo '0 1,24 * * * root h' | tee "$fleet_folder/m07/etc/crontab" >"$fleet_folder/m33/etc/crontab"
   for hour in 01 02; do
-    for number in {01..40}; do
+    for number in {40..01}; do
       [ "$number" = 07 ] || [ "$number" = 33 ] ||
         printf '2024-01-01T%s:00:00Z\tm%s\tsystem:1\troot h\n' "$hour" "$number" >>"$work/out.wanted"
     done
   done
-  printf 'm%s: agenda: system crontab: line 1: part 2: OutOfRange\n' 07 33 >"$work/err.wanted"
+  printf 'm%s: agenda: system crontab: line 1: part 2: OutOfRange\n' 33 07 >"$work/err.wanted"
   fleet_run 2024-01-01T00:00:00Z 2024-01-02T00:00:00Z "${folders[@]}"
   fleet_compare "40 machines" 1 "$fleet_by"
 }
