@@ -1,18 +1,9 @@
-# shellcheck shell=bash disable=SC2154
+# shellcheck shell=bash disable=SC2154,SC2034
 # Rows of how agenda-machine runs: files that it may not read, signals, what it leaves behind, the programs that it needs, and whole plans
 # by the program itself.
 
 # shellcheck source=/dev/null
 . "$top/rows/lib/machine.sh"
-
-# Makes what stands in machine_by take the rights of root away, where the rows run as root. Fails where that can't be done.
-machine_as_nobody() {
-  [ "$(id -u)" = 0 ] || return 0
-  machine_by=(setpriv --reuid=65534 --regid=65534 --clear-groups)
-  command -v setpriv >/dev/null && "${machine_by[@]}" true 2>/dev/null || return
-  chmod 711 "$work"
-  chmod 1777 "$machine_folder" "$machine_temporary"
-}
 
 # Each row: a root, its files or folders without rights, its sources, and what is left out.
 machine_locked() {

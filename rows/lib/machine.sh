@@ -250,4 +250,13 @@ machine_texts() {
   done
 }
 
+# Makes what stands in machine_by take the rights of root away, where the rows run as root. Fails where that can't be done.
+machine_as_nobody() {
+  [ "$(id -u)" = 0 ] || return 0
+  machine_by=(setpriv --reuid=65534 --regid=65534 --clear-groups)
+  command -v setpriv >/dev/null && "${machine_by[@]}" true 2>/dev/null || return
+  chmod 711 "$work"
+  chmod 1777 "$machine_folder" "$machine_temporary"
+}
+
 [ -d "$machine_folder" ] || machine_begin
