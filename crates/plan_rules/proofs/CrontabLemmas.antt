@@ -13,10 +13,10 @@ use Rattle.plan_texts.specs.EachLaws.{each-push, each-fault}
 abbrev pub placed : {A : Type 0} → (A → List ℕ) → List A → List (ℕ × List ℕ)
 placed v lines = enumerate_from 0 (map v lines)
 
-length-placed : {A : Type 0} (v : A → List ℕ) (lines : List A) → length (placed v lines) ≡ length lines
+pub length-placed : {A : Type 0} (v : A → List ℕ) (lines : List A) → length (placed v lines) ≡ length lines
 length-placed v lines = length-enumerate_from 0 (map v lines) ∙ simp length-map
 
-at_place :
+pub at_place :
     {A : Type 0} (v : A → List ℕ) (lines : List A) (place : ℕ) (d : A) (e : ℕ × List ℕ) → place < length lines →
     get_or (placed v lines) place e ≡ (place, v (get_or lines place d))
 at_place v lines place d e inside =

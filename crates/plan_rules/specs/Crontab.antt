@@ -7,6 +7,7 @@ use Rattle.std.specs.Str.{byte}
 use Rattle.plan_rules.specs.declared.crontabs.Kind.{Kind}
 use Rattle.plan_rules.specs.declared.crontabs.Kind.TheVariants.{User, System}
 use Rattle.plan_grammar.specs.declared.fault.RuleCause.TheVariants.{WrongParts}
+use Rattle.plan_rules.specs.declared.entry.Entry.{Entry}
 use Rattle.plan_rules.specs.declared.line_fault.LineCause.TheVariants.{BadSetting, NoCommand}
 use Rattle.plan_match.specs.declared.rule.Rule.{Rule}
 use Rattle.plan_texts.specs.Text.{begins_with}
@@ -15,6 +16,7 @@ use Rattle.plan_grammar.specs.Readings.{Reading}
 use Rattle.plan_grammar.specs.Cron.{five_fields, at_word, found_reading}
 use Rattle.plan_texts.specs.Lines.{lines, after_blanks, cut_word}
 use Rattle.plan_rules.specs.LineFaults.{LineReading, TextReading, in_line, on_line}
+use Rattle.plan_rules.specs.Entries.{entry_on, meant_by}
 use Rattle.plan_rules.specs.FileText.{text_reading}
 use Rattle.plan_rules.specs.Job.{JobParts}
 
@@ -119,3 +121,25 @@ abbrev pub crontab_reading : (label : List ℕ) → Kind → List ℕ → TextRe
 crontab_reading label kind bytes = do
   text ← text_reading bytes
   jobs_reading label kind (lines text)
+
+-- ---- the lines of a crontab, each by itself
+
+-- the entry of the line at a place, from 0
+abbrev pub line_entry : (label : List ℕ) → Kind → ℕ × List ℕ → Option (Entry JobParts)
+line_entry label kind line = entry_on (line.0 + 1) (line_reading label kind (line.0 + 1) (line.1))
+
+-- the entries of lines, in order; a line that is empty, a comment or a setting has none
+unfoldable pub entries_of_lines : (label : List ℕ) → Kind → List (List ℕ) → List (Entry JobParts)
+entries_of_lines label kind lines = filter_map (line_entry label kind) (enumerate_from 0 lines)
+
+-- the entries of a crontab: its bytes are looked at first (own)
+abbrev pub crontab_entries : (label : List ℕ) → Kind → List ℕ → TextReading (List (Entry JobParts))
+crontab_entries label kind bytes = do
+  text ← text_reading bytes
+  Ok (entries_of_lines label kind (lines text))
+
+-- the meaning of a crontab by its entries
+abbrev pub crontab_by_entries : (label : List ℕ) → Kind → List ℕ → TextReading (List JobParts)
+crontab_by_entries label kind bytes = do
+  entries ← crontab_entries label kind bytes
+  meant_by entries

@@ -12,10 +12,13 @@ pub use Rattle.plan_grammar.specs.Event
 pub mod Limits
 pub mod LineFaults
 pub mod FileText
+pub mod Entries
 pub mod Job
 pub mod Crontab
 pub mod Tabs
 pub mod Jobs
 pub mod Timer
+pub mod TimerEntries
 pub mod TimerSteps
+pub mod EventSteps
 pub mod Causes

@@ -7,8 +7,8 @@ use Rattle.std.specs.Str.{byte, bytes_eq}
 use Rattle.plan_match.specs.declared.event.Calendar.{Calendar}
 use Rattle.plan_rules.specs.declared.line_fault.LineCause.TheVariants.{BadTimerName, NoTimerSection, TooManyLines}
 use Rattle.plan_match.specs.declared.rule.Rule.TheVariants.{Events}
-use Rattle.plan_rules.specs.declared.timers.Key.{Key}
-use Rattle.plan_rules.specs.declared.timers.Key.TheVariants.{OnCalendar, Monotonic, UnitName, OtherKey}
+use Rattle.plan_rules.specs.declared.timer_lines.Key.{Key}
+use Rattle.plan_rules.specs.declared.timer_lines.Key.TheVariants.{OnCalendar, Monotonic, UnitName, OtherKey}
 use Rattle.plan_rules.specs.Limits.{least_name, most_name, most_events}
 use Rattle.plan_texts.specs.Text.{begins_with}
 use Rattle.plan_texts.specs.Steps.{◌>>=◌}

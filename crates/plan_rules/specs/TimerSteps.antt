@@ -2,10 +2,31 @@
 use Rattle.std.specs.Prelude.{ℕ, Bool, false, ◌||◌, List, [], ◌∷◌, ◌++◌, Option, Some, Ok, unwrap_or, string_bytes}
 use Rattle.std.specs.Option.{option_map}
 use Rattle.plan_match.specs.declared.event.Calendar.{Calendar}
+use Rattle.plan_rules.specs.declared.timer_lines.LineEffect.{LineEffect}
+use Rattle.plan_rules.specs.declared.timer_lines.LineEffect.TheVariants as does
+use Rattle.plan_rules.specs.declared.timer_lines.Sections.{Sections}
 use Rattle.plan_rules.specs.declared.timers.Settings.{Settings}
 use Rattle.plan_texts.specs.Steps.{◌>>=◌}
 use Rattle.plan_rules.specs.LineFaults.{LineReading}
 use Rattle.plan_rules.specs.Timer.{Effect, Reset, Event, Starts, Nothing, added_event, inside_after, line_effect, section_name, setting_of}
+
+-- ---- what a line does
+
+-- what a line does, as the code has it
+abbrev pub effect_shown : LineEffect → Effect
+effect_shown does.Reset = Reset
+effect_shown (does.Event text) = Event text.now
+effect_shown (does.Starts unit) = Starts unit.now
+effect_shown does.Nothing = Nothing
+
+-- the sections after a line, by the section that it begins
+abbrev pub sections_after : Sections → Option (List ℕ) → Sections
+sections_after sections section = record {
+  inside = inside_after sections.inside section;
+  found = sections.found || inside_after false section;
+}
+
+-- ---- what the settings hold
 
 -- whether the next line stands in a `[Timer]` section, whether there was one, the list of events, and the unit that was named
 pub record Draft : Type 0 where
@@ -17,8 +38,8 @@ pub record Draft : Type 0 where
 -- what the settings hold
 abbrev pub draft_of : Settings → Draft
 draft_of settings = record {
-  inside = settings.inside;
-  found = settings.found;
+  inside = settings.sections.inside;
+  found = settings.sections.found;
   events = settings.events;
   unit = option_map (λ unit. string_bytes unit) settings.unit;
 }
@@ -29,11 +50,15 @@ after_event draft text = do
   event ← added_event draft.events text
   Ok (record draft { events = draft.events ++ event ∷ [] })
 
--- what a line does; the unit that is named first counts
+-- the unit that is named first counts
+abbrev pub after_unit : Draft → List ℕ → Draft
+after_unit draft unit = record draft { unit = Some (unwrap_or draft.unit unit) }
+
+-- what a line does
 abbrev pub after_effect : Draft → Effect → LineReading Draft
 after_effect draft Reset = Ok (record draft { events = [] })
 after_effect draft (Event text) = after_event draft text
-after_effect draft (Starts unit) = Ok (record draft { unit = Some (unwrap_or draft.unit unit) })
+after_effect draft (Starts unit) = Ok (after_unit draft unit)
 after_effect draft Nothing = Ok draft
 
 -- the section that a line begins

@@ -7,19 +7,24 @@
 #![tactic(auto)]
 
 mod crontabs;
+mod entry;
 mod file_text;
 mod job;
 mod jobs;
 mod line_fault;
 mod tabs;
+mod timer_events;
+mod timer_lines;
 mod timers;
 
-pub use crontabs::{Kind, crontab};
+pub use crontabs::{Kind, crontab, crontab_entries, crontab_is_its_entries};
+pub use entry::Entry;
 pub use job::Job;
 pub use jobs::{AddFault, Jobs, MOST_JOBS};
 pub use line_fault::{LineCause, LineFault};
 pub use plan_grammar::{RuleCause, RuleFault, calendar_event, calendar_rule, cron_rule};
 pub use plan_match::{Calendar, CronRule, DayCount, Events, Rule};
 pub use plan_texts::{Text, cut, lines, number};
-pub use tabs::{TabFolder, tab};
-pub use timers::{MOST_EVENTS, timer};
+pub use tabs::{TabFolder, is_tab_name, kind_in, tab};
+pub use timer_events::{TimerEntries, timer_entries, timer_is_its_entries};
+pub use timers::{MOST_EVENTS, is_timer_name, timer};

@@ -51,8 +51,8 @@ pub fn tab(
     crontab(alloc, name, bytes, kind_in(folder))
 }
 
-// Whose the crontabs of a folder are.
-fn kind_in(folder: TabFolder) -> Kind
+/// Whose the crontabs of a folder are: in /etc/cron.d a user stands before each command, and in the spool folder none (crontab(5)).
+pub fn kind_in(folder: TabFolder) -> Kind
     ensures { result ≡ kind_in folder }
 {
     match folder {
@@ -61,9 +61,10 @@ fn kind_in(folder: TabFolder) -> Kind
     }
 }
 
-// Whether a crontab in the folder may have this name.
+/// Whether a crontab in the folder may have this name (cron(8) of Debian): it isn't empty and has letters, digits, `_` and `-` alone, and
+/// in the spool folder, but not first, `.`.
 #[tactic(auto, unfolding(crate::specs::Tabs::is_tab_name))]
-fn is_tab_name(folder: TabFolder, name: &[u8]) -> bool
+pub fn is_tab_name(folder: TabFolder, name: &[u8]) -> bool
     ensures { result ≡ is_tab_name folder name.now }
 {
     match name {

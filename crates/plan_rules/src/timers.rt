@@ -1,6 +1,6 @@
 //! Timer files, and the job of each (systemd.timer(5), systemd.syntax(7)).
 
-ghost use Rattle.std.specs.Prelude.{◌≡◌, ◌↔◌, Bool, true, false, [], Err, IfErr, IfOk, IsTrue, map, string_bytes};
+ghost use Rattle.std.specs.Prelude.{◌≡◌, ◌↔◌, Bool, true, false, [], Ok, Err, IfErr, IfOk, IsTrue, map, string_bytes};
 ghost use Rattle.std.specs.List.{list_all};
 ghost use Rattle.std.specs.Option.{option_map};
 ghost use Rattle.std.specs.Str.{is_utf8};
@@ -8,11 +8,12 @@ ghost use Rattle.plan_texts.specs.Steps.{GivesUnless};
 ghost use Rattle.plan_rules.specs.LineFaults.{of_whole, want_of_memory, IsOwnCause};
 ghost use Rattle.plan_texts.specs.Lines.{is_too_large};
 ghost use Rattle.plan_texts.specs.WholeLines.{trimmed};
-ghost use Rattle.plan_rules.specs.Timer.{is_name_byte, is_timer_name, service_name, section_name, setting_of, key_of, timer_of_lines, timer_reading, job_with};
+ghost use Rattle.plan_rules.specs.Timer.{is_name_byte, is_timer_name, service_name, timer_of_lines, timer_reading, job_with};
 
 use crate::file_text::text_of;
 use crate::job::Job;
 use crate::line_fault::{LineCause, LineFault};
+use crate::timer_lines::{LineEffect, Sections};
 use plan_grammar::calendar_event;
 use plan_match::{Events, Rule};
 use plan_texts::whole_lines::{WholeLine, trimmed, whole_lines};
@@ -30,19 +31,6 @@ const MOST_NAME: usize = 255;
 
 /// How many events the list of a timer holds at most.
 pub const MOST_EVENTS: usize = 64;
-
-/// What a setting of the `[Timer]` section is about.
-#[derive(Clone, Copy)]
-pub enum Key {
-    /// `OnCalendar`: a calendar event.
-    OnCalendar,
-    /// `OnBootSec` and the like: a time after some other event.
-    Monotonic,
-    /// `Unit`: the unit that is started.
-    UnitName,
-    /// Anything else.
-    OtherKey,
-}
 
 /// The job of a timer file, which has the file's name (systemd.timer(5)).
 ///
@@ -73,9 +61,10 @@ pub fn timer(alloc: Global, name: &str, bytes: &[u8]) -> Result<Job, LineFault>
     timer_of_lines(alloc, name, lines.as_slice())
 }
 
-// Whether a file with this name is a timer file.
+/// Whether a file with this name is a timer file: it has 7 to 255 bytes, ends in `.timer` and holds letters, digits, `:`, `-`, `_`, `.` and
+/// `\\` alone.
 #[tactic(auto, unfolding(crate::specs::Timer::is_timer_name))]
-fn is_timer_name(name: &[u8]) -> bool
+pub fn is_timer_name(name: &[u8]) -> bool
     ensures { result ≡ is_timer_name name.now }
 {
     if name.len() < LEAST_NAME || name.len() > MOST_NAME {
@@ -115,41 +104,6 @@ fn timer_of_lines(alloc: Global, name: &str, lines: &[WholeLine]) -> Result<Job,
     settings.into_job(alloc, name)
 }
 
-// The name of the section that a line begins.
-#[tactic(auto, unfolding(crate::specs::Timer::section_name))]
-fn section_name(text: &[u8]) -> Option<&[u8]>
-    ensures { option_map (λ name. name.now) result ≡ section_name text.now }
-{
-    match text {
-        [b'[', name @ .., b']'] => Some(name),
-        _ => None,
-    }
-}
-
-// The key and the value of a setting.
-#[tactic(auto, unfolding(crate::specs::Timer::setting_of))]
-fn setting_of(text: &str) -> Option<(&str, &str)>
-    ensures { option_map (λ setting. (setting.0.now, setting.1.now)) result ≡ setting_of text.now }
-{
-    let (key, value) = text.split_once('=')?;
-    Some((trimmed(key), trimmed(value)))
-}
-
-// What a setting with this key is about.
-#[tactic(auto, unfolding(crate::specs::Timer::key_of))]
-fn key_of(key: &str) -> Key
-    ensures { result ≡ key_of key.now }
-{
-    match key {
-        "OnCalendar" => Key::OnCalendar,
-        "OnActiveSec" | "OnBootSec" | "OnStartupSec" | "OnUnitActiveSec" | "OnUnitInactiveSec" => {
-            Key::Monotonic
-        }
-        "Unit" => Key::UnitName,
-        _ => Key::OtherKey,
-    }
-}
-
 // The name of the service that a timer starts if it names no unit.
 fn service_name(alloc: Global, name: &str) -> Result<String, AllocError>
     requires { is_timer_name name.now ≡ true }
@@ -162,26 +116,21 @@ fn service_name(alloc: Global, name: &str) -> Result<String, AllocError>
 // What was read of the settings of a timer file.
 #[derive(Drop)]
 struct Settings {
-    // Whether the next line stands in a `[Timer]` section.
-    inside: bool,
-    // Whether there was a `[Timer]` section.
-    found: bool,
+    sections: Sections,
     events: Events,
     // The unit that was named first.
     unit: Option<String>,
 }
 
 impl Settings {
-    ghost use Rattle.plan_rules.specs.Timer.{effect_of};
-    ghost use Rattle.plan_rules.specs.TimerSteps.{draft_of, after_event, after_effect, after_line};
+    ghost use Rattle.plan_rules.specs.TimerSteps.{draft_of, after_event, after_line, after_unit};
 
     // Before the first line.
     fn new(alloc: Global) -> Settings
         ensures { draft_of result ≡ record { inside = false; found = false; events = []; unit = None } }
     {
         Settings {
-            inside: false,
-            found: false,
+            sections: Sections::new(),
             events: Events::new(alloc),
             unit: None,
         }
@@ -191,36 +140,14 @@ impl Settings {
     fn read(&mut self, alloc: Global, text: &str) -> Result<(), LineCause>
         ensures { GivesUnless LineCause.NoMemory (λ _. draft_of self.new) result (after_line (draft_of self.old) text.now) }
     {
-        if let Some(section) = section_name(text.as_bytes()) {
-            self.inside = section == b"Timer".as_slice();
-            self.found |= self.inside;
-            return Ok(());
-        }
-        if !self.inside {
-            return Ok(());
-        }
-        let Some((key, value)) = setting_of(text) else {
-            return Ok(());
-        };
-        self.set(alloc, key_of(key), value)
-    }
-
-    // Does what a setting of the `[Timer]` section says.
-    fn set(&mut self, alloc: Global, key: Key, value: &str) -> Result<(), LineCause>
-        ensures { GivesUnless LineCause.NoMemory (λ _. draft_of self.new) result
-            (after_effect (draft_of self.old) (effect_of key value.now)) }
-    {
-        match key {
-            Key::OnCalendar | Key::Monotonic if value.is_empty() => {
+        match self.sections.effect(text) {
+            LineEffect::Reset => {
                 self.events.clear();
                 Ok(())
             }
-            Key::OnCalendar => self.add_event(alloc, value),
-            Key::UnitName if !value.is_empty() && self.unit.is_none() => {
-                self.unit = Some(String::from_str(alloc, value)?);
-                Ok(())
-            }
-            _ => Ok(()),
+            LineEffect::Event(text) => self.add_event(alloc, text),
+            LineEffect::Starts(unit) => self.name_unit(alloc, unit),
+            LineEffect::Nothing => Ok(()),
         }
     }
 
@@ -236,19 +163,28 @@ impl Settings {
         Ok(())
     }
 
+    // Keeps the unit, if it is the first that is named.
+    fn name_unit(&mut self, alloc: Global, unit: &str) -> Result<(), LineCause>
+        ensures { GivesUnless LineCause.NoMemory (λ _. draft_of self.new) result (Ok (after_unit (draft_of self.old) unit.now)) }
+    {
+        if self.unit.is_none() {
+            self.unit = Some(String::from_str(alloc, unit)?);
+        }
+        Ok(())
+    }
+
     // The job of the timer file with this name, once all its lines are read.
     fn into_job(self, alloc: Global, name: &str) -> Result<Job, LineFault>
         requires { is_timer_name name.now ≡ true }
         ensures { GivesUnless want_of_memory (λ job. job) result
-            (job_with self.found name.now (option_map (λ unit. string_bytes unit) self.unit) self.events) }
+            (job_with self.sections.found name.now (option_map (λ unit. string_bytes unit) self.unit) self.events) }
     {
         let Settings {
-            inside: _,
-            found,
+            sections,
             events,
             unit,
         } = self;
-        if !found {
+        if !sections.found {
             return Err(LineCause::NoTimerSection.on_line(0));
         }
         let what = match unit {

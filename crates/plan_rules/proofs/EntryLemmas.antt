@@ -1,0 +1,97 @@
+-- The entries of lines, and what the lines mean together: for `entries_of_lines` of crontabs and the law of their entries.
+-- A text whose lines are read one after the other, up to the first fault, means what its entries do (`each_by_entries`).
+use Rattle.std.proofs.Common.{◌≡◌, ℕ, ◌+◌, ◌<◌, ◌≤◌, List, [], ◌∷◌, ◌++◌, length, take, get_or, Option, Some, None, Ok, Err, refl, ap, sym, ◌∙◌, arith}
+use Rattle.std.proofs.lemmas.List.{take_more, take_all}
+use Rattle.std.proofs.lemmas.List.Elements.{filter_map-append}
+use Rattle.std.specs.List.{filter_map, cons_option, enumerate_from}
+use Rattle.plan_rules.specs.declared.entry.Entry.{Entry}
+use Rattle.plan_rules.specs.declared.line_fault.LineFault.{LineFault}
+use Rattle.plan_texts.specs.Steps.{◌>>=◌, each}
+use Rattle.plan_rules.specs.LineFaults.{LineReading, TextReading, on_line}
+use Rattle.plan_rules.specs.FileText.{text_reading}
+use Rattle.plan_rules.specs.declared.crontabs.Kind.{Kind}
+use Rattle.plan_texts.specs.Lines.{lines}
+use Rattle.plan_rules.specs.Crontab.{line_reading, jobs_reading, entries_of_lines, crontab_reading, crontab_by_entries}
+use Rattle.plan_rules.specs.Entries.{entry_on, refusals, given, unless_refused, meant_by}
+use Rattle.plan_rules.proofs.CrontabLemmas.{placed, at_place, length-placed}
+
+-- ---- the loop
+
+-- one line more
+entries_more :
+    {A B : Type 0} (f : ℕ × List ℕ → Option B) (v : A → List ℕ) (lines : List A) (place : ℕ) (d : A) → place < length lines →
+    filter_map f (take (place + 1) (placed v lines))
+    ≡ filter_map f (take place (placed v lines)) ++ cons_option (f (place, v (get_or lines place d))) []
+entries_more f v lines place d inside =
+    let long = length-placed v lines in
+    let within : place < length (placed v lines) = omega arith in
+    ap (filter_map f) (take_more (placed v lines) place (place, v (get_or lines place d)) within ∙
+    ap (λ l. take place (placed v lines) ++ l ∷ []) (at_place v lines place d (place, v (get_or lines place d)) inside))
+    ∙ filter_map-append f (take place (placed v lines)) ((place, v (get_or lines place d)) ∷ [])
+
+-- and so the entries so far are one more, or none
+pub entries_push :
+    {A B : Type 0} (f : ℕ × List ℕ → Option B) (v : A → List ℕ) (lines : List A) (place : ℕ) (d : A) (so_far next : List B) →
+    place < length lines → so_far ≡ filter_map f (take place (placed v lines)) →
+    next ≡ so_far ++ cons_option (f (place, v (get_or lines place d))) [] → next ≡ filter_map f (take (place + 1) (placed v lines))
+entries_push f v lines place d so_far next inside is here =
+    here
+    ∙ ap (λ xs. xs ++ cons_option (f (place, v (get_or lines place d))) []) is
+    ∙ sym (entries_more f v lines place d inside)
+
+-- all lines
+pub entries_all :
+    {A B : Type 0} (f : ℕ × List ℕ → Option B) (v : A → List ℕ) (lines : List A) (place : ℕ) → length lines ≤ place →
+    filter_map f (take place (placed v lines)) ≡ filter_map f (placed v lines)
+entries_all f v lines place past =
+    let long = length-placed v lines in
+    ap (filter_map f) (take_all place (placed v lines) (omega arith))
+
+-- ---- the law of a crontab
+
+with_first :
+    {B : Type 0} (x : B) (later : TextReading (List (Option B))) (faults : List LineFault) (xs : List B) →
+    (later >>= λ found. Ok (filter_map (λ job. job) found)) ≡ unless_refused faults xs →
+    ((later >>= λ ys. Ok (Some x ∷ ys)) >>= λ found. Ok (filter_map (λ job. job) found)) ≡ unless_refused faults (x ∷ xs)
+with_first x (Ok ys) [] xs is = let same : filter_map (λ job. job) ys ≡ xs = cc in ap (λ rest. Ok (x ∷ rest)) same
+with_first x (Ok ys) (fault ∷ more) xs is = absurd cc
+with_first x (Err e) [] xs is = absurd cc
+with_first x (Err e) (fault ∷ more) xs is = is
+
+without_first :
+    {B : Type 0} (later : TextReading (List (Option B))) →
+    ((later >>= λ ys. Ok (None ∷ ys)) >>= λ found. Ok (filter_map (λ job. job) found))
+    ≡ (later >>= λ found. Ok (filter_map (λ (job : Option B). job) found))
+without_first (Ok ys) = refl
+without_first (Err e) = refl
+
+first_line :
+    {B : Type 0} (number : ℕ) (r : LineReading (Option B)) (later : TextReading (List (Option B))) (entries : List (Entry B)) →
+    (later >>= λ found. Ok (filter_map (λ job. job) found)) ≡ meant_by entries →
+    ((on_line number r >>= λ y. later >>= λ ys. Ok (y ∷ ys)) >>= λ found. Ok (filter_map (λ job. job) found))
+    ≡ meant_by (cons_option (entry_on number r) entries)
+first_line number (Err cause) later entries is = refl
+first_line number (Ok None) later entries is = without_first later ∙ is
+first_line number (Ok (Some x)) later entries is = with_first x later (refusals entries) (given entries) is
+
+-- lines that are read in order mean what their entries do
+pub each_by_entries :
+    {A B : Type 0} (n : A → ℕ) (f : A → LineReading (Option B)) (xs : List A) →
+    (each (λ x. on_line (n x) (f x)) xs >>= λ found. Ok (filter_map (λ job. job) found))
+    ≡ meant_by (filter_map (λ x. entry_on (n x) (f x)) xs)
+each_by_entries n f [] = refl
+each_by_entries n f (x ∷ xs) =
+    first_line (n x) (f x) (each (λ x. on_line (n x) (f x)) xs) (filter_map (λ x. entry_on (n x) (f x)) xs) (each_by_entries n f xs)
+
+of_text :
+    (label : List ℕ) (kind : Kind) (text : TextReading (List ℕ)) →
+    (text >>= λ t. jobs_reading label kind (lines t))
+    ≡ ((text >>= λ t. Ok (entries_of_lines label kind (lines t))) >>= λ entries. meant_by entries)
+unfolding jobs_reading entries_of_lines
+of_text label kind (Ok text) =
+    each_by_entries (λ (line : ℕ × List ℕ). line.0 + 1) (λ line. line_reading label kind (line.0 + 1) line.1)
+    (enumerate_from 0 (lines text))
+of_text label kind (Err fault) = refl
+
+pub crontab_law : (label : List ℕ) (kind : Kind) (bytes : List ℕ) → crontab_reading label kind bytes ≡ crontab_by_entries label kind bytes
+crontab_law label kind bytes = of_text label kind (text_reading bytes)

@@ -1,0 +1,140 @@
+-- The events of a timer file, read one after the other and each by itself: for `entries_of_lines` of timers and the law of a timer.
+-- While no event was refused, the list holds as many as were counted (`events_by_entries`); so 64 are found there at the same event.
+use Rattle.std.proofs.Common.{◌≡◌, ℕ, ◌+◌, ◌<◌, Bool, true, false, ◌||◌, cond, nat_lt, List, [], ◌∷◌, ◌++◌, length, drop, get_or, map, Option, Some, None, Ok, Err, refl, ap, sym, ◌∙◌, length-append, append_assoc}
+use Rattle.std.proofs.lemmas.List.{drop_more}
+use Rattle.std.specs.List.{cons_option}
+use Rattle.std.specs.Result.{result_ok}
+use Rattle.plan_match.specs.declared.event.Calendar.{Calendar}
+use Rattle.plan_rules.specs.declared.line_fault.LineCause.TheVariants.{BadTimerName, TooManyLines}
+use Rattle.plan_rules.specs.Limits.{most_events}
+use Rattle.plan_texts.specs.Steps.{◌>>=◌}
+use Rattle.plan_grammar.specs.Event.{event_reading}
+use Rattle.plan_rules.specs.LineFaults.{LineReading, TextReading, in_line, on_line}
+use Rattle.plan_rules.specs.declared.entry.Entry.{Entry}
+use Rattle.plan_rules.specs.declared.timer_lines.Sections.{Sections}
+use Rattle.plan_rules.specs.Entries.{refusals, unless_refused}
+use Rattle.plan_rules.specs.FileText.{text_reading}
+use Rattle.plan_rules.specs.Job.{JobParts}
+use Rattle.plan_texts.specs.WholeLines.{whole_lines, trimmed}
+use Rattle.plan_rules.specs.Timer.{Effect, Reset, Event, Starts, Nothing, effects_from, events_from, first_unit, has_timer, inside_after, is_timer_name, job_with, line_effect, section_name, setting_of, timer_of_lines, timer_reading}
+use Rattle.plan_rules.specs.TimerSteps.{sections_after}
+use Rattle.plan_rules.specs.TimerEntries.{EventCount, count_after, count_from, entry_by, entries_from, events_after, lines_by_entries, parts_of_lines, read_by, timer_by_entries, timer_entries}
+
+-- an event that is read, before those that follow
+event_read :
+    (number : ℕ) (held : List Calendar) (r : LineReading Calendar) (more : List (ℕ × Effect)) →
+    ((next : List Calendar) → length next ≡ length held + 1 → events_from next more
+    ≡ unless_refused (refusals (entries_from (record { held = length held + 1; told = false }) more)) (events_after next more)) →
+    (on_line number r >>= λ event. events_from (held ++ event ∷ []) more)
+    ≡ unless_refused
+    (refusals (cons_option (entry_by number (Some r)) (entries_from (record { held = length held + 1; told = false }) more)))
+    (events_after (held ++ cons_option (result_ok r) []) more)
+event_read number held (Ok event) more later = later (held ++ event ∷ []) (length-append held (event ∷ []))
+event_read number held (Err cause) more later = refl
+
+-- an event, where the list has room or not
+event_held :
+    (room : Bool) (number : ℕ) (held : List Calendar) (r : LineReading Calendar) (more : List (ℕ × Effect)) →
+    ((next : List Calendar) → length next ≡ length held + 1 → events_from next more
+    ≡ unless_refused (refusals (entries_from (record { held = length held + 1; told = false }) more)) (events_after next more)) →
+    (on_line number (cond room r (Err TooManyLines)) >>= λ event. events_from (held ++ event ∷ []) more)
+    ≡ unless_refused (refusals (cons_option (entry_by number (cond room (Some r) (Some (Err TooManyLines))))
+    (entries_from (cond room (record { held = length held + 1; told = false }) (record { held = length held; told = true })) more)))
+    (events_after (held ++ cons_option (result_ok r) []) more)
+event_held true number held r more later = event_read number held r more later
+event_held false number held r more later = refl
+
+pub events_by_entries :
+    (count : ℕ) (held : List Calendar) (effects : List (ℕ × Effect)) → length held ≡ count →
+    events_from held effects
+    ≡ unless_refused (refusals (entries_from (record { held = count; told = false }) effects)) (events_after held effects)
+events_by_entries count held [] same = refl
+events_by_entries count held ((number, Reset) ∷ more) same = events_by_entries 0 [] more refl
+events_by_entries count held ((number, Event text) ∷ more) same =
+    rw (← same) (event_held (nat_lt (length held) most_events) number held (in_line (event_reading text)) more
+    (λ next long. events_by_entries (length held + 1) next more long))
+events_by_entries count held ((number, Starts unit) ∷ more) same = events_by_entries count held more same
+events_by_entries count held ((number, Nothing) ∷ more) same = events_by_entries count held more same
+
+of_lines : (name : List ℕ) (lines : List (ℕ × List ℕ)) → timer_of_lines name lines ≡ lines_by_entries name lines
+of_lines name lines =
+    ap (λ (events : TextReading (List Calendar)). events
+    >>= λ held. job_with (has_timer lines) name (first_unit (effects_from false lines)) held)
+    (events_by_entries 0 [] (effects_from false lines) refl)
+
+of_text :
+    (name : List ℕ) (text : TextReading (List ℕ)) →
+    (text >>= λ t. timer_of_lines name (map (λ line. (line.0, trimmed line.1)) (whole_lines t)))
+    ≡ (text >>= λ t. lines_by_entries name (map (λ line. (line.0, trimmed line.1)) (whole_lines t)))
+of_text name (Ok text) = of_lines name (map (λ line. (line.0, trimmed line.1)) (whole_lines text))
+of_text name (Err fault) = refl
+
+pub timer_law : (name bytes : List ℕ) → timer_reading name bytes ≡ timer_by_entries name bytes
+timer_law name bytes =
+    ap (λ (read : TextReading JobParts). cond (is_timer_name name) read (on_line 0 (Err BadTimerName))) (of_text name (text_reading bytes))
+
+-- ---- the loop
+
+-- what is left begins with the next line
+pub lines_more :
+    {A : Type 0} (v : A → ℕ × List ℕ) (lines : List A) (place : ℕ) (line : A) → place < length lines → line ≡ get_or lines place line →
+    map v (drop place lines) ≡ v line ∷ map v (drop (place + 1) lines)
+lines_more v lines place line inside is =
+    ap (map v) (drop_more lines place line inside ∙ ap (λ first. first ∷ drop (place + 1) lines) (sym is))
+
+cons_front : {A : Type 0} (o : Option A) (xs : List A) → cons_option o [] ++ xs ≡ cons_option o xs
+cons_front None xs = refl
+cons_front (Some x) xs = refl
+
+-- the entries, once a line more was read
+pub entries_step :
+    (events next : List (Entry Calendar)) (count counted : EventCount) (sections after : Sections) (line : ℕ × List ℕ)
+    (more : List (ℕ × List ℕ)) (whole : List (Entry Calendar)) →
+    next ≡ events
+    ++ cons_option (entry_by line.0 (read_by count (line_effect sections.inside (section_name line.1) (setting_of line.1)))) [] →
+    counted ≡ count_after count (line_effect sections.inside (section_name line.1) (setting_of line.1)) →
+    after ≡ sections_after sections (section_name line.1) →
+    events ++ entries_from count (effects_from sections.inside (line ∷ more)) ≡ whole →
+    next ++ entries_from counted (effects_from after.inside more) ≡ whole
+entries_step events next count counted sections after line more whole is count_is after_is so_far =
+    let effect = line_effect sections.inside (section_name line.1) (setting_of line.1) in
+    let here : Option (Entry Calendar) = entry_by line.0 (read_by count effect) in
+    let left : List (Entry Calendar) =
+    entries_from (count_after count effect) (effects_from (inside_after sections.inside (section_name line.1)) more) in
+    (λ i. is i ++ entries_from (count_is i) (effects_from (after_is i).inside more))
+    ∙ append_assoc events (cons_option here []) left
+    ∙ ap (λ rest. events ++ rest) (cons_front here left)
+    ∙ so_far
+
+or_assoc : (a b c : Bool) → (a || (b || c)) ≡ ((a || b) || c)
+or_assoc true b c = refl
+or_assoc false b c = refl
+
+-- whether there is a section
+pub section_step :
+    (sections after : Sections) (line : ℕ × List ℕ) (more : List (ℕ × List ℕ)) (whole : Bool) →
+    after ≡ sections_after sections (section_name line.1) → (sections.found || has_timer (line ∷ more)) ≡ whole →
+    (after.found || has_timer more) ≡ whole
+section_step sections after line more whole after_is so_far =
+    ap (λ (s : Sections). s.found || has_timer more) after_is
+    ∙ sym (or_assoc sections.found (inside_after false (section_name line.1)) (has_timer more))
+    ∙ so_far
+
+-- how many events the list holds
+pub count_step :
+    (count counted : EventCount) (sections after : Sections) (line : ℕ × List ℕ) (more : List (ℕ × List ℕ)) (whole : EventCount) →
+    counted ≡ count_after count (line_effect sections.inside (section_name line.1) (setting_of line.1)) →
+    after ≡ sections_after sections (section_name line.1) →
+    count_from count (effects_from sections.inside (line ∷ more)) ≡ whole →
+    count_from counted (effects_from after.inside more) ≡ whole
+count_step count counted sections after line more whole count_is after_is so_far =
+    (λ i. count_from (count_is i) (effects_from (after_is i).inside more)) ∙ so_far
+
+-- what is known of a file, by its text and the whole lines of that
+pub parts_of_file :
+    (bytes text : List ℕ) (lines : List (ℕ × List ℕ)) → Ok text ≡ text_reading bytes →
+    lines ≡ map {B = ℕ × List ℕ} (λ line. (line.0, trimmed line.1)) (whole_lines text) → timer_entries bytes ≡ Ok (parts_of_lines lines)
+parts_of_file bytes text lines read is =
+    ap (λ (t : TextReading (List ℕ)). t >>= λ found. Ok (parts_of_lines (map (λ line. (line.0, trimmed line.1)) (whole_lines found))))
+    (sym read)
+    ∙ ap (λ (whole : List (ℕ × List ℕ)). Ok (parts_of_lines whole)) (sym is)

@@ -1,0 +1,19 @@
+-- What is held of the list of events while the whole lines of a timer file are read.
+use Rattle.std.specs.Prelude.{ℕ, Bool, List, string_bytes}
+use Rattle.plan_texts.specs.declared.whole_lines.WholeLine.{WholeLine}
+use Rattle.plan_texts.specs.WholeLines.{trimmed}
+use Rattle.plan_rules.specs.Timer.{Effect, line_effect, section_name, setting_of}
+use Rattle.plan_rules.specs.declared.timer_events.EventReader.{EventReader}
+use Rattle.plan_rules.specs.TimerEntries.{EventCount}
+
+-- the list, as the code counts it
+abbrev pub count_of : EventReader → EventCount
+count_of reader = record { held = reader.held; told = reader.told }
+
+-- a whole line that is held: its number and its text, without blanks at its ends
+abbrev pub shown_line : WholeLine → ℕ × List ℕ
+shown_line line = (line.number, trimmed (string_bytes line.text))
+
+-- what a line does, by its text
+abbrev pub effect_at : Bool → List ℕ → Effect
+effect_at inside text = line_effect inside (section_name text) (setting_of text)

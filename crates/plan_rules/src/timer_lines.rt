@@ -1,0 +1,130 @@
+//! What the lines of a timer file do (systemd.timer(5), systemd.syntax(7)).
+
+ghost use Rattle.std.specs.Prelude.{◌≡◌, false, Some};
+ghost use Rattle.std.specs.Option.{option_map};
+ghost use Rattle.plan_texts.specs.WholeLines.{trimmed};
+ghost use Rattle.plan_rules.specs.Timer.{effect_of, key_of, line_effect, section_name, setting_of};
+ghost use Rattle.plan_rules.specs.TimerSteps.{effect_shown, sections_after};
+
+use plan_texts::whole_lines::trimmed;
+
+/// What a setting of the `[Timer]` section is about.
+#[derive(Clone, Copy)]
+pub enum Key {
+    /// `OnCalendar`: a calendar event.
+    OnCalendar,
+    /// `OnBootSec` and the like: a time after some other event.
+    Monotonic,
+    /// `Unit`: the unit that is started.
+    UnitName,
+    /// Anything else.
+    OtherKey,
+}
+
+/// What a line does to the list of a timer's events, and to the unit that it starts.
+#[derive(Clone, Copy)]
+pub enum LineEffect<'a> {
+    /// It empties the list.
+    Reset,
+    /// It adds the event of this text to the list.
+    Event(&'a str),
+    /// It names the unit that is started.
+    Starts(&'a str),
+    /// Nothing.
+    Nothing,
+}
+
+/// The sections of a timer file, up to some line.
+#[derive(Drop)]
+pub struct Sections {
+    /// Whether the next line stands in a `[Timer]` section.
+    pub inside: bool,
+    /// Whether there was a `[Timer]` section.
+    pub found: bool,
+}
+
+impl Sections {
+    // Before the first line.
+    pub(crate) fn new() -> Sections
+        ensures { result ≡ record { inside = false; found = false } }
+    {
+        Sections {
+            inside: false,
+            found: false,
+        }
+    }
+
+    // What the next whole line does, which has no blanks at its ends.
+    pub(crate) fn effect<'a>(&mut self, text: &'a str) -> LineEffect<'a>
+        ensures effect { effect_shown result
+            ≡ line_effect self.old.inside (section_name text.now) (setting_of text.now) }
+        ensures sections { self.new ≡ sections_after self.old (section_name text.now) }
+    {
+        if let Some(section) = section_name(text.as_bytes()) {
+            self.begin(section);
+            return LineEffect::Nothing;
+        }
+        if !self.inside {
+            return LineEffect::Nothing;
+        }
+        match setting_of(text) {
+            Some((key, value)) => effect_of(key_of(key), value),
+            None => LineEffect::Nothing,
+        }
+    }
+
+    // Begins the section with a name.
+    fn begin(&mut self, section: &[u8])
+        ensures { self.new ≡ sections_after self.old (Some section.now) }
+    {
+        self.inside = section == b"Timer".as_slice();
+        self.found |= self.inside;
+    }
+}
+
+// What a setting of the `[Timer]` section does.
+fn effect_of<'a>(key: Key, value: &'a str) -> LineEffect<'a>
+    ensures { effect_shown result ≡ effect_of key value.now }
+{
+    match key {
+        Key::OnCalendar | Key::Monotonic if value.is_empty() => LineEffect::Reset,
+        Key::OnCalendar => LineEffect::Event(value),
+        Key::UnitName if !value.is_empty() => LineEffect::Starts(value),
+        _ => LineEffect::Nothing,
+    }
+}
+
+// The name of the section that a line begins.
+#[tactic(auto, unfolding(crate::specs::Timer::section_name))]
+fn section_name(text: &[u8]) -> Option<&[u8]>
+    ensures { option_map (λ name. name.now) result ≡ section_name text.now }
+{
+    match text {
+        [b'[', name @ .., b']'] => Some(name),
+        _ => None,
+    }
+}
+
+// The key and the value of a setting.
+#[tactic(auto, unfolding(crate::specs::Timer::setting_of))]
+fn setting_of(text: &str) -> Option<(&str, &str)>
+    ensures { option_map (λ setting. (setting.0.now, setting.1.now)) result ≡ setting_of text.now }
+{
+    let (key, value) = text.split_once('=')?;
+    Some((trimmed(key), trimmed(value)))
+}
+
+// What a setting with this key is about.
+#[tactic(auto, unfolding(crate::specs::Timer::key_of))]
+fn key_of(key: &str) -> Key
+    ensures { result ≡ key_of key.now }
+{
+    match key {
+        "OnCalendar" => Key::OnCalendar,
+        "OnActiveSec" | "OnBootSec" | "OnStartupSec" | "OnUnitActiveSec" | "OnUnitInactiveSec" => {
+            Key::Monotonic
+        }
+        "Unit" => Key::UnitName,
+        _ => Key::OtherKey,
+    }
+}
