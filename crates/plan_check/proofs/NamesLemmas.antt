@@ -1,0 +1,42 @@
+-- The names that are kept: the bytes of the keys of a set. For `has` and `add` of `Names`.
+-- A search in a mapped list finds what one for mapped items finds (`list_any-map`), and a key whose bytes no other has goes last.
+use Rattle.std.proofs.Common.{◌≡◌, ℕ, Bool, true, false, ◌||◌, if◌then◌else◌, nat_lt, length, List, [], ◌∷◌, ◌++◌, map, String, Global, string_bytes, refl, ap, sym, ◌∙◌}
+use Rattle.std.proofs.lemmas.List.{map-append}
+use Rattle.std.specs.List.{list_any}
+use Rattle.std.specs.Str.{bytes_eq}
+use Rattle.std.specs.String.{string_eq}
+use Rattle.indexmap.specs.IndexSet.{insert_key}
+use Rattle.plan_rules.specs.Limits.{most_jobs}
+use Rattle.plan_check.specs.Names.{KnownNames, is_added, names_after}
+
+list_any-map : {A B : Type 0} (p : B → Bool) (f : A → B) (xs : List A) → list_any p (map f xs) ≡ list_any (λ x. p (f x)) xs
+list_any-map p f [] = refl
+list_any-map p f (x ∷ xs) = ap (λ found. p (f x) || found) (list_any-map p f xs)
+
+-- a name is that of a key where it has the bytes of one
+pub is_added-keys :
+    (name : List ℕ) (keys : List (String Global)) →
+    list_any (λ key. bytes_eq name (string_bytes key)) keys ≡ is_added name (map string_bytes keys)
+is_added-keys name keys = sym (list_any-map (bytes_eq name) string_bytes keys)
+
+-- a key whose bytes no other has goes last
+pub insert_key-name :
+    (keys : List (String Global)) (key : String Global) (name : List ℕ) → string_bytes key ≡ name →
+    is_added name (map string_bytes keys) ≡ false →
+    map string_bytes (insert_key string_eq keys key) ≡ map string_bytes keys ++ name ∷ []
+insert_key-name keys key name named absent =
+    let found : list_any (string_eq key) keys ≡ false =
+    is_added-keys (string_bytes key) keys ∙ ap (λ bytes. is_added bytes (map string_bytes keys)) named ∙ absent in
+    ap (λ (is : Bool). map string_bytes (if is then keys else keys ++ key ∷ [])) found
+    ∙ map-append string_bytes keys (key ∷ [])
+    ∙ ap (λ bytes. map string_bytes keys ++ bytes ∷ []) named
+
+-- a name that no job has is added, where there are few
+pub names_after-new :
+    (known : KnownNames) (name : List ℕ) → is_added name known.added ≡ false → nat_lt (length known.added) most_jobs ≡ true →
+    names_after known name ≡ record known { added = known.added ++ name ∷ [] }
+names_after-new known name absent few =
+    let new : KnownNames = record known { added = known.added ++ name ∷ [] } in
+    let told : KnownNames = record known { told = true } in
+    ap (λ (is : Bool). if is then known else (if nat_lt (length known.added) most_jobs then new else told)) absent
+    ∙ ap (λ (is : Bool). if is then new else told) few

@@ -1,0 +1,11 @@
+use Rattle.std.proofs.Common.{◌≡◌, ◌++◌}
+use Rattle.std.specs.List.{flat_map}
+use Rattle.std.specs.Vec.Iter.{into_iter_items}
+use Rattle.plan_check.specs.Timers.{event_findings}
+use Rattle.plan_check.proofs.timers.add_events.Given as goal
+
+-- what was found, and what is found of the events that are left, is what all events have
+abbrev pub invariant-loop-event : goal.invariant-loop-event
+invariant-loop-event l =
+    l.found.items ++ flat_map event_findings (into_iter_items l.event-iterator)
+    ≡ l.fn.found.items ++ flat_map event_findings l.fn.events.items

@@ -1,0 +1,71 @@
+-- What is found of several files, and whether jobs can be made of them. All of it is own.
+use Rattle.std.specs.Prelude.{ℕ, nat_lt, if◌then◌else◌, List, [], ◌∷◌, ◌++◌, length, Option, Some, None, Ok, Err}
+use Rattle.plan_rules.specs.declared.crontabs.Kind.{Kind}
+use Rattle.plan_rules.specs.declared.tabs.TabFolder.{TabFolder}
+use Rattle.plan_texts.specs.Steps.{◌>>=◌}
+use Rattle.plan_rules.specs.Crontab.{crontab_reading}
+use Rattle.plan_rules.specs.Job.{JobParts}
+use Rattle.plan_rules.specs.Limits.{most_jobs}
+use Rattle.plan_rules.specs.LineFaults.{TextReading}
+use Rattle.plan_rules.specs.Tabs.{tab_reading}
+use Rattle.plan_rules.specs.Timer.{timer_reading}
+use Rattle.plan_check.specs.declared.finding.Finding.{Finding}
+use Rattle.plan_check.specs.Crontabs.{crontab_findings, after_crontab, tab_findings, after_tab}
+use Rattle.plan_check.specs.Names.{KnownNames, is_added}
+use Rattle.plan_check.specs.Timers.{timer_findings, after_timer}
+
+-- a file: a crontab whose jobs have a label, one whose jobs have its own name, or a timer
+pub data File : Type 0 where
+  Crontab : (label : List ℕ) (kind : Kind) (bytes : List ℕ) → File
+  Tab : (folder : TabFolder) (name bytes : List ℕ) → File
+  Timer : (name bytes : List ℕ) → File
+
+-- ---- what is found
+
+-- of a file, and the names of jobs after it
+abbrev pub file_findings : KnownNames → File → List Finding
+file_findings known (Crontab label kind bytes) = crontab_findings known label kind bytes
+file_findings known (Tab folder name bytes) = tab_findings known folder name bytes
+file_findings known (Timer name bytes) = timer_findings known name bytes
+
+abbrev pub after_file : KnownNames → File → KnownNames
+after_file known (Crontab label kind bytes) = after_crontab known label kind bytes
+after_file known (Tab folder name bytes) = after_tab known folder name bytes
+after_file known (Timer name bytes) = after_timer known name
+
+-- of files, in order
+abbrev pub files_findings : KnownNames → List File → List Finding
+files_findings known [] = []
+files_findings known (file ∷ more) = file_findings known file ++ files_findings (after_file known file) more
+
+-- ---- the jobs that are made
+
+-- the jobs of a file, or its first fault
+abbrev pub file_reading : File → TextReading (List JobParts)
+file_reading (Crontab label kind bytes) = crontab_reading label kind bytes
+file_reading (Tab folder name bytes) = tab_reading folder name bytes
+file_reading (Timer name bytes) = do
+  job ← timer_reading name bytes
+  Ok (job ∷ [])
+
+-- the names once jobs are added, if none has the name of another and there are at most 1,000
+abbrev pub names_with : List (List ℕ) → List JobParts → Option (List (List ℕ))
+names_with added [] = Some added
+names_with added (job ∷ more) =
+    if is_added job.name added then None
+    else (if nat_lt (length added) most_jobs then names_with (added ++ job.name ∷ []) more else None)
+
+-- the names once the jobs of a reading are added
+abbrev pub names_by : List (List ℕ) → TextReading (List JobParts) → Option (List (List ℕ))
+names_by added (Ok jobs) = names_with added jobs
+names_by added (Err fault) = None
+
+-- some names, if there are any, and what follows them
+abbrev pub names_then : Option (List (List ℕ)) → (List (List ℕ) → Option (List (List ℕ))) → Option (List (List ℕ))
+names_then None next = None
+names_then (Some added) next = next added
+
+-- the names of the jobs of files, if jobs can be made of all of them
+abbrev pub files_names : List (List ℕ) → List File → Option (List (List ℕ))
+files_names added [] = Some added
+files_names added (file ∷ more) = names_then (names_by added (file_reading file)) (λ next. files_names next more)

@@ -1,0 +1,30 @@
+-- What is noted of rules that are right.
+use Rattle.std.specs.Prelude.{ℕ, Bool, true, false, not, ◌&&◌, List, ◌++◌, is_none, slice_get}
+use Rattle.plan_sets.specs.Limits.{end_second}
+use Rattle.plan_match.specs.declared.rule.Rule.{Rule}
+use Rattle.plan_match.specs.declared.rule.Rule.TheVariants.{Cron, Never, Events}
+use Rattle.plan_next.specs.Starts.{starts}
+use Rattle.plan_check.specs.declared.finding.Finding.{Finding}
+use Rattle.plan_check.specs.declared.finding.Note.TheVariants.{NeverStarts, EitherDay}
+use Rattle.plan_check.specs.Finding.{noted_if}
+
+-- a rule has no start in all years (own)
+abbrev pub never_starts : Rule → Bool
+never_starts rule = is_none (slice_get (starts rule 0 end_second) 0)
+
+-- the rule of `@reboot` is meant to have none (crontab(5), extensions)
+abbrev pub is_reboot : Rule → Bool
+is_reboot Never = true
+is_reboot (Cron rule) = false
+is_reboot (Events events) = false
+
+-- both day fields are restricted, so that either suffices (crontab(5), the note on the day of a command's run)
+abbrev pub is_either_day : Rule → Bool
+is_either_day (Cron rule) = rule.month_days_restricted && rule.week_days_restricted
+is_either_day Never = false
+is_either_day (Events events) = false
+
+-- the notes on the rule of a line, in this order (own)
+abbrev pub rule_notes : ℕ → Rule → List Finding
+rule_notes line rule =
+    noted_if (not (is_reboot rule) && never_starts rule) line NeverStarts ++ noted_if (is_either_day rule) line EitherDay

@@ -1,0 +1,49 @@
+-- What is found of a timer file (systemd.timer(5)). What is found, and in which order, is own.
+use Rattle.std.specs.Prelude.{ℕ, Bool, not, ◌&&◌, ◌==◌, List, [], ◌∷◌, ◌++◌, option_map, Ok, Err}
+use Rattle.std.specs.List.{cons_option, flat_map}
+use Rattle.plan_match.specs.declared.event.Calendar.{Calendar}
+use Rattle.plan_match.specs.declared.rule.Rule.TheVariants.{Events}
+use Rattle.plan_rules.specs.declared.entry.Entry.{Entry}
+use Rattle.plan_rules.specs.declared.line_fault.LineCause.TheVariants.{BadTimerName, NoTimerSection}
+use Rattle.plan_rules.specs.LineFaults.{LineReading, TextReading}
+use Rattle.plan_rules.specs.Timer.{is_timer_name}
+use Rattle.plan_rules.specs.TimerEntries.{TimerParts, timer_entries}
+use Rattle.plan_check.specs.declared.finding.Finding.{Finding}
+use Rattle.plan_check.specs.declared.finding.Note.TheVariants.{NeverStarts, NoEvents}
+use Rattle.plan_check.specs.Finding.{finding_at, noted_if, refused_at, refused_if}
+use Rattle.plan_check.specs.Names.{KnownNames, fault_where, after_where}
+use Rattle.plan_check.specs.Notes.{never_starts}
+
+-- ---- one event
+
+-- what is found of an event: its fault, or that it has no start by itself
+abbrev pub read_findings : ℕ → LineReading Calendar → List Finding
+read_findings line (Ok event) = noted_if (never_starts (Events (event ∷ []))) line NeverStarts
+read_findings line (Err cause) = refused_at line cause ∷ []
+
+abbrev pub event_findings : Entry Calendar → List Finding
+event_findings entry = read_findings entry.line entry.read
+
+-- ---- a timer file
+
+-- what is wrong with the name of the timer's job; each timer makes a job, whatever else is refused, but one whose name is bad
+abbrev pub job_findings : Bool → KnownNames → List ℕ → List Finding
+job_findings is_named known name = cons_option (option_map (λ what. finding_at 0 what) (fault_where is_named known name)) []
+
+-- what is found of the text: first of the whole file, then of its events. Of a text that is too large or no UTF-8 there are no lines,
+-- so no section is missed
+abbrev pub text_findings : Bool → KnownNames → List ℕ → TextReading TimerParts → List Finding
+text_findings is_named known name (Ok parts) =
+    refused_if (not parts.has_section) 0 NoTimerSection
+    ++ (job_findings is_named known name
+    ++ (noted_if (parts.has_section && (parts.held == 0)) 0 NoEvents ++ flat_map event_findings parts.events))
+text_findings is_named known name (Err fault) = refused_at fault.line fault.cause ∷ job_findings is_named known name
+
+-- what is found of a timer file: its name is looked at first, and the rest whatever it is
+abbrev pub timer_findings : KnownNames → (name bytes : List ℕ) → List Finding
+timer_findings known name bytes =
+    refused_if (not (is_timer_name name)) 0 BadTimerName ++ text_findings (is_timer_name name) known name (timer_entries bytes)
+
+-- the names after it
+abbrev pub after_timer : KnownNames → (name : List ℕ) → KnownNames
+after_timer known name = after_where (is_timer_name name) known name

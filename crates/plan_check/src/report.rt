@@ -1,0 +1,76 @@
+//! How findings are added to those before them.
+
+ghost use Rattle.std.specs.Prelude.{◌≡◌, ◌++◌, ◌∷◌, [], OnOk, option_map};
+ghost use Rattle.std.specs.List.{cons_option};
+ghost use Rattle.plan_check.specs.Finding.{finding_at, noted_if, refused_at, refused_if};
+ghost use Rattle.plan_check.specs.Names.{after_where, fault_where};
+
+use crate::finding::{Finding, Note, What};
+use crate::names::Names;
+use plan_rules::LineCause;
+use std::alloc::{AllocError, Global};
+
+// Adds a note on a line, where it is so.
+pub(crate) fn note_if(
+    found: &mut Vec<Finding>,
+    is_so: bool,
+    line: u32,
+    note: Note,
+) -> Result<(), AllocError>
+    ensures { OnOk result (found.new.items ≡ found.old.items ++ noted_if is_so line note) }
+{
+    if is_so {
+        let what = What::Noted(note);
+        found.push(Finding { line, what })?;
+    }
+    Ok(())
+}
+
+// Adds that a whole file is refused, where it is so.
+pub(crate) fn refuse_if(
+    found: &mut Vec<Finding>,
+    is_so: bool,
+    cause: LineCause,
+) -> Result<(), AllocError>
+    ensures { OnOk result (found.new.items ≡ found.old.items ++ refused_if is_so 0 cause) }
+{
+    if is_so {
+        refuse(found, 0, cause)?;
+    }
+    Ok(())
+}
+
+// Adds that a line is refused, or the whole file.
+pub(crate) fn refuse(
+    found: &mut Vec<Finding>,
+    line: u32,
+    cause: LineCause,
+) -> Result<(), AllocError>
+    ensures { OnOk result (found.new.items ≡ found.old.items ++ refused_at line cause ∷ []) }
+{
+    let what = What::Refused(cause);
+    found.push(Finding { line, what })?;
+    Ok(())
+}
+
+// Adds what is wrong with the name of a line's job, unless the file's name is bad, and keeps the name.
+pub(crate) fn add_job(
+    alloc: Global,
+    names: &mut Names,
+    found: &mut Vec<Finding>,
+    is_named: bool,
+    line: u32,
+    name: &str,
+) -> Result<(), AllocError>
+    ensures found { OnOk result (found.new.items ≡ found.old.items
+        ++ cons_option (option_map (λ what. finding_at line what) (fault_where is_named names.old name.now)) []) }
+    ensures names { OnOk result (names.new ≡ after_where is_named names.old name.now) }
+{
+    if !is_named {
+        return Ok(());
+    }
+    if let Some(what) = names.add(alloc, name)? {
+        found.push(Finding { line, what })?;
+    }
+    Ok(())
+}

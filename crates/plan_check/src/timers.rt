@@ -1,0 +1,125 @@
+//! What is found of a timer file (systemd.timer(5)).
+
+ghost use Rattle.std.specs.Prelude.{◌≡◌, ◌++◌, ◌∷◌, [], IfOk, OnOk, Ok};
+ghost use Rattle.std.specs.List.{flat_map};
+ghost use Rattle.plan_rules.specs.TimerEntries.{timer_entries, timer_parts};
+ghost use Rattle.plan_check.specs.Finding.{refused_at};
+ghost use Rattle.plan_check.specs.Names.{after_where};
+ghost use Rattle.plan_check.specs.Timers.{after_timer, event_findings, job_findings, read_findings, text_findings, timer_findings};
+
+use crate::finding::{Finding, Note};
+use crate::names::Names;
+use crate::notes::never_starts;
+use crate::report::{add_job, note_if, refuse, refuse_if};
+use plan_rules::{
+    Calendar, Entry, Events, LineCause, LineFault, Rule, TimerEntries, is_timer_name, timer_entries,
+};
+use std::alloc::{AllocError, Global};
+
+/// All findings of a timer file (systemd.timer(5)); `names` are those of the jobs before, and become those after it. What they are
+/// where memory is refused isn't said.
+///
+/// Of the whole file, in this order: `BadTimerName`; `TooLarge` for more than 1,048,576 bytes, else `NotUtf8`; `NoTimerSection`, unless
+/// one of these two is found; `SameName` where another job has the file's name, else `Full` where 1,000 jobs are there, once for all
+/// files; and the note `NoEvents` where there is a `[Timer]` section and the list of events is empty at the end. A file whose name is
+/// bad makes no job. Then by lines each event's fault, or the note `NeverStarts`, as `timer_entries` of plan_rules reads them.
+pub fn timer_findings(
+    alloc: Global,
+    names: &mut Names,
+    name: &str,
+    bytes: &[u8],
+) -> Result<Vec<Finding>, AllocError>
+    ensures found { IfOk result (λ found. found.items ≡ timer_findings names.old name.now bytes.now) }
+    ensures names { OnOk result (names.new ≡ after_timer names.old name.now) }
+{
+    let mut found = Vec::new(alloc);
+    let is_named = is_timer_name(name.as_bytes());
+    refuse_if(&mut found, !is_named, LineCause::BadTimerName)?;
+    add_text(alloc, names, &mut found, is_named, name, bytes)?;
+    Ok(found)
+}
+
+// Adds what is found of a timer's text.
+fn add_text(
+    alloc: Global,
+    names: &mut Names,
+    found: &mut Vec<Finding>,
+    is_named: bool,
+    name: &str,
+    bytes: &[u8],
+) -> Result<(), AllocError>
+    ensures found { OnOk result (found.new.items ≡ found.old.items
+        ++ text_findings is_named names.old name.now (timer_entries bytes.now)) }
+    ensures names { OnOk result (names.new ≡ after_where is_named names.old name.now) }
+{
+    match timer_entries(alloc, bytes) {
+        Ok(entries) => add_entries(alloc, names, found, is_named, name, entries),
+        Err(
+            LineFault {
+                line: _,
+                cause: LineCause::NoMemory,
+            },
+        ) => Err(AllocError),
+        Err(LineFault { line, cause }) => {
+            refuse(found, line, cause)?;
+            add_job(alloc, names, found, is_named, 0, name)
+        }
+    }
+}
+
+// Adds what is found of the whole file that has a text, and then of its events.
+fn add_entries(
+    alloc: Global,
+    names: &mut Names,
+    found: &mut Vec<Finding>,
+    is_named: bool,
+    name: &str,
+    entries: TimerEntries,
+) -> Result<(), AllocError>
+    ensures found { OnOk result (found.new.items ≡ found.old.items
+        ++ text_findings is_named names.old name.now (Ok (timer_parts entries))) }
+    ensures names { OnOk result (names.new ≡ after_where is_named names.old name.now) }
+{
+    let TimerEntries {
+        events,
+        has_section,
+        held,
+    } = entries;
+    refuse_if(found, !has_section, LineCause::NoTimerSection)?;
+    add_job(alloc, names, found, is_named, 0, name)?;
+    note_if(found, has_section && held == 0, 0, Note::NoEvents)?;
+    add_events(alloc, found, events)
+}
+
+// Adds what is found of events, in order.
+fn add_events(
+    alloc: Global,
+    found: &mut Vec<Finding>,
+    events: Vec<Entry<Calendar>>,
+) -> Result<(), AllocError>
+    ensures { OnOk result (found.new.items ≡ found.old.items ++ flat_map event_findings events.items) }
+{
+    for event in events {
+        let Entry { line, read } = event;
+        add_event(alloc, found, line, read)?;
+    }
+    Ok(())
+}
+
+// Adds what is found of an event.
+fn add_event(
+    alloc: Global,
+    found: &mut Vec<Finding>,
+    line: u32,
+    read: Result<Calendar, LineCause>,
+) -> Result<(), AllocError>
+    ensures { OnOk result (found.new.items ≡ found.old.items ++ read_findings line read) }
+{
+    match read {
+        Ok(event) => {
+            let rule = Rule::Events(Events::one(alloc, event)?);
+            note_if(found, never_starts(&rule), line, Note::NeverStarts)
+        }
+        Err(cause) => refuse(found, line, cause),
+    }
+}
