@@ -5,3 +5,4 @@ mod FoldLemmas
 mod NameLemmas
 mod SlashLemmas
 mod SourceFaults
+mod FindingLemmas

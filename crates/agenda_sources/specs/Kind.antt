@@ -13,6 +13,8 @@ use Rattle.plan_rules.specs.Tabs.{is_tab_name, tab_reading}
 use Rattle.plan_rules.specs.Timer.{is_timer_name, timer_reading}
 use Rattle.plan_rules.specs.declared.tabs.TabFolder.{TabFolder}
 use Rattle.plan_rules.specs.declared.tabs.TabFolder.TheVariants as folder
+use Rattle.plan_check.specs.Files.{File}
+use Rattle.plan_check.specs.Files as file
 use Rattle.agenda_sources.specs.declared.kind.SourceKind.{SourceKind}
 use Rattle.agenda_sources.specs.declared.kind.SourceKind.TheVariants.{Crontab, System, CronD, Spool, Timer}
 
@@ -60,6 +62,14 @@ reading_of System name bytes = crontab_reading (codes "system") whose.System byt
 reading_of CronD name bytes = tab_reading folder.CronD name bytes
 reading_of Spool name bytes = tab_reading folder.Spool name bytes
 reading_of Timer name bytes = alone (timer_reading name bytes)
+
+-- the same as a file, of which all that is found is told
+abbrev pub file_of : SourceKind → (name bytes : List ℕ) → File
+file_of Crontab name bytes = file.Crontab (codes "cron") whose.User bytes
+file_of System name bytes = file.Crontab (codes "system") whose.System bytes
+file_of CronD name bytes = file.Tab folder.CronD name bytes
+file_of Spool name bytes = file.Tab folder.Spool name bytes
+file_of Timer name bytes = file.Timer name bytes
 
 -- what is wrong with a source's bytes, found before any memory is asked for: their number is looked at first
 abbrev pub bytes_cause : List ℕ → Option LineCause

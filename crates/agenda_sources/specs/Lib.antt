@@ -1,6 +1,7 @@
 pub mod AtOnce
 pub mod Crontabs
 pub mod Faults
+pub mod Findings
 pub mod Kind
 pub mod Name
 pub mod Sources

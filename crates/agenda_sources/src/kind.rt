@@ -1,13 +1,15 @@
 //! The kinds of sources: one table of what stands for each of them.
 
-ghost use Rattle.std.specs.Prelude.{◌≡◌, Err, IfSome, option_map};
+ghost use Rattle.std.specs.Prelude.{◌≡◌, Err, IfOk, IfSome, OnOk, option_map};
 ghost use Rattle.plan_texts.specs.Steps.{GivesUnless};
 ghost use Rattle.plan_rules.specs.LineFaults.{of_whole, want_of_memory};
 ghost use Rattle.plan_rules.specs.Timer.{timer_reading};
-ghost use Rattle.agenda_sources.specs.Kind.{alone, cause_at_once, is_many, kinds, label_of, option_of, reading_of, timer_cause};
+ghost use Rattle.plan_check.specs.Files.{after_file, file_findings};
+ghost use Rattle.agenda_sources.specs.Kind.{alone, cause_at_once, file_of, is_many, kinds, label_of, option_of, reading_of, timer_cause};
 
+use plan_check::{Finding, Names, crontab_findings, tab_findings, timer_findings};
 use plan_rules::{Job, Kind, LineFault, TabFolder, crontab, tab, timer};
-use std::alloc::Global;
+use std::alloc::{AllocError, Global};
 
 /// A kind of source. A plan reads its sources in the order of their kinds.
 #[derive(Clone, Copy, Debug, PartialEq, Eq)]
@@ -84,6 +86,26 @@ impl SourceKind {
             SourceKind::CronD => tab(alloc, name, bytes, TabFolder::CronD),
             SourceKind::Spool => tab(alloc, name, bytes, TabFolder::Spool),
             SourceKind::Timer => timer_alone(alloc, name, bytes),
+        }
+    }
+
+    // All findings of a source of this kind, by its name and its bytes. The names are those of the jobs before, and become those after.
+    pub(crate) fn find(
+        self,
+        alloc: Global,
+        names: &mut Names,
+        name: &str,
+        bytes: &[u8],
+    ) -> Result<Vec<Finding>, AllocError>
+        ensures found { IfOk result (λ found. found.items ≡ file_findings names.old (file_of self name.now bytes.now)) }
+        ensures names { OnOk result (names.new ≡ after_file names.old (file_of self name.now bytes.now)) }
+    {
+        match self {
+            SourceKind::Crontab => crontab_findings(alloc, names, "cron", bytes, Kind::User),
+            SourceKind::System => crontab_findings(alloc, names, "system", bytes, Kind::System),
+            SourceKind::CronD => tab_findings(alloc, names, name, bytes, TabFolder::CronD),
+            SourceKind::Spool => tab_findings(alloc, names, name, bytes, TabFolder::Spool),
+            SourceKind::Timer => timer_findings(alloc, names, name, bytes),
         }
     }
 }

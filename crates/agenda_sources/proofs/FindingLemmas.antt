@@ -1,0 +1,168 @@
+-- Nothing is refused of sources exactly where they make a list of jobs: for `findings_of_sources`. The law of plan_check says so of
+-- files and the names of their jobs; here sources are such files, and the names are those of the jobs (`same_with`, `same_from`).
+use Rattle.std.proofs.Common.{◌≡◌, ℕ, zero, suc, ◌+◌, Bool, true, false, List, [], ◌∷◌, ◌++◌, length, map, drop, Option, None, Some, Ok, Err}
+use Rattle.std.proofs.Common.{inl, inr, refl, ap, sym, ◌∙◌, arith, ◌≤◌, append-nil}
+use Rattle.std.specs.Prelude.{is_ok, is_some, nat_lt, if◌then◌else◌}
+use Rattle.std.specs.List.{position_or_len}
+use Rattle.std.specs.Str.{bytes_eq}
+use Rattle.std.proofs.lemmas.Bool.{cases_Bool, cases_lt, lt-ltb, le-ltb}
+use Rattle.plan_texts.specs.Steps.{◌>>=◌}
+use Rattle.std.proofs.lemmas.List.{map-append, length-map}
+use Rattle.plan_rules.specs.Job.{JobParts}
+use Rattle.plan_rules.specs.Jobs.{is_named, number_of}
+use Rattle.plan_rules.specs.Limits.{most_jobs}
+use Rattle.plan_rules.specs.LineFaults.{TextReading}
+use Rattle.plan_check.specs.declared.finding.Finding.{Finding}
+use Rattle.plan_check.specs.Files.{File, after_file, file_findings, file_reading, files_findings, files_names, names_by, names_then, names_with}
+use Rattle.plan_check.specs.Finding.{is_clean}
+use Rattle.plan_check.specs.Names.{KnownNames, is_added, no_names}
+use Rattle.agenda_sources.specs.declared.findings.Found.{Found}
+use Rattle.agenda_sources.specs.declared.kind.SourceKind.{SourceKind}
+use Rattle.agenda_sources.specs.declared.kind.SourceKind.TheVariants.{Crontab, System, CronD, Spool, Timer}
+use Rattle.agenda_sources.specs.declared.sources.Source.{Source}
+use Rattle.agenda_sources.specs.Faults.{SourceReading, in_source}
+use Rattle.agenda_sources.specs.Findings.{found_at, found_from, is_all_clean, source_file, sources_findings}
+use Rattle.agenda_sources.specs.Kind.{file_of, reading_of}
+use Rattle.agenda_sources.specs.Sources.{sources_from, sources_reading, with_jobs, with_source}
+
+-- ---- sources as files
+
+abbrev files_of : List Source → List File
+files_of sources = map source_file sources
+
+findings_back : (place : ℕ) (found : List Finding) → map (λ (one : Found). one.finding) (map (found_at place) found) ≡ found
+findings_back place [] = refl
+findings_back place (finding ∷ found) = ap (λ more. finding ∷ more) (findings_back place found)
+
+-- what is found of sources is what is found of them as files
+found_files :
+    (place : ℕ) (known : KnownNames) (sources : List Source) →
+    map (λ (one : Found). one.finding) (found_from place known sources) ≡ files_findings known (files_of sources)
+found_files place known [] = refl
+found_files place known (source ∷ more) =
+    let here = file_findings known (source_file source) in
+    let after = after_file known (source_file source) in
+    map-append (λ (one : Found). one.finding) (map (found_at place) here) (found_from (place + 1) after more)
+    ∙ (λ i. findings_back place here i ++ found_files (place + 1) after more i)
+
+-- a source means what it means as a file
+same_reading : (kind : SourceKind) (name bytes : List ℕ) → file_reading (file_of kind name bytes) ≡ reading_of kind name bytes
+same_reading Crontab name bytes = refl
+same_reading System name bytes = refl
+same_reading CronD name bytes = refl
+same_reading Spool name bytes = refl
+same_reading Timer name bytes = refl
+
+-- ---- names and jobs
+
+abbrev names_of : List JobParts → List (List ℕ)
+names_of jobs = map (λ job. job.name) jobs
+
+some_where : (is : Bool) (n : ℕ) → is_some (if is then Some n else None) ≡ is
+some_where true n = refl
+some_where false n = refl
+
+-- one place is below one length where the places before them are
+one_more : (m n : ℕ) → nat_lt (1 + m) (suc n) ≡ nat_lt m n
+one_more m n = elim (cases_lt m n) [
+  | inl lt ↦ lt-ltb (1 + m) (suc n) (omega arith) ∙ sym (lt-ltb m n lt)
+  | inr at ↦ le-ltb (1 + m) (suc n) (omega arith) ∙ sym (le-ltb m n at)
+]
+
+-- a job has a name where a place of the list has it
+place_of : (name : List ℕ) (jobs : List JobParts) →
+    nat_lt (position_or_len (is_named name) jobs) (length jobs) ≡ is_added name (names_of jobs)
+place_of name [] = refl
+place_of name (job ∷ jobs) = elim (cases_Bool (bytes_eq name job.name)) [
+  | inl is ↦ rw is (lt-ltb 0 (length (job ∷ jobs)) (omega arith))
+  | inr not ↦ rw not (one_more (position_or_len (is_named name) jobs) (length jobs) ∙ place_of name jobs)
+]
+
+same_name : (name : List ℕ) (jobs : List JobParts) → is_some (number_of name jobs) ≡ is_added name (names_of jobs)
+same_name name jobs =
+    some_where (nat_lt (position_or_len (is_named name) jobs) (length jobs)) (position_or_len (is_named name) jobs)
+    ∙ place_of name jobs
+
+-- ---- jobs behind the others, and their names
+
+-- the names of the jobs that were read, if they were
+abbrev names_read : SourceReading (List JobParts) → Option (List (List ℕ))
+names_read (Ok jobs) = Some (names_of jobs)
+names_read (Err fault) = None
+
+same_with : (jobs more : List JobParts) → names_with (names_of jobs) more ≡ names_read (with_jobs jobs more)
+same_with jobs [] = refl
+same_with jobs (job ∷ more) = elim (cases_Bool (is_added job.name (names_of jobs))) [
+  | inl there ↦ (
+      let there' : is_some (number_of job.name jobs) ≡ true = same_name job.name jobs ∙ there in
+      rw (there, there') refl)
+  | inr new ↦ (
+      let new' : is_some (number_of job.name jobs) ≡ false = same_name job.name jobs ∙ new in
+      let long : length (names_of jobs) ≡ length jobs = length-map jobs (λ (j : JobParts). j.name) in
+      let names : names_of jobs ++ job.name ∷ [] ≡ names_of (jobs ++ job ∷ []) = sym (map-append (λ (j : JobParts). j.name) jobs (job ∷ [])) in
+      elim (cases_Bool (nat_lt (length jobs) most_jobs)) [
+        | inl room ↦ (
+            let room' : nat_lt (length (names_of jobs)) most_jobs ≡ true = ap (λ n. nat_lt n most_jobs) long ∙ room in
+            rw (new, new', room, room') (ap (λ added. names_with added more) names ∙ same_with (jobs ++ job ∷ []) more))
+        | inr full ↦ (
+            let full' : nat_lt (length (names_of jobs)) most_jobs ≡ false = ap (λ n. nat_lt n most_jobs) long ∙ full in
+            rw (new, new', full, full') refl)
+      ])
+]
+
+-- the jobs of one more source
+same_then :
+    (place : ℕ) (jobs : List JobParts) (reading : TextReading (List JobParts)) →
+    names_by (names_of jobs) reading ≡ names_read (do
+      more ← in_source place reading
+      with_jobs jobs more)
+same_then place jobs (Ok more) = same_with jobs more
+same_then place jobs (Err fault) = refl
+
+on_then :
+    (read : SourceReading (List JobParts)) (files : List File) (place : ℕ) (more : List Source) →
+    ((jobs : List JobParts) → is_some (files_names (names_of jobs) files) ≡ is_ok (sources_from place jobs more)) →
+    is_some (names_then (names_read read) (λ next. files_names next files)) ≡ is_ok (do
+      next ← read
+      sources_from place next more)
+on_then (Ok jobs) files place more later = later jobs
+on_then (Err fault) files place more later = refl
+
+same_from :
+    (place : ℕ) (sources : List Source) (jobs : List JobParts) →
+    is_some (files_names (names_of jobs) (files_of sources)) ≡ is_ok (sources_from place jobs sources)
+same_from place [] jobs = refl
+same_from place (source ∷ more) jobs =
+    let read : names_by (names_of jobs) (file_reading (source_file source)) ≡ names_read (with_source place jobs source) =
+    ap (names_by (names_of jobs)) (same_reading source.kind source.name source.bytes)
+    ∙ same_then place jobs (reading_of source.kind source.name source.bytes) in
+    ap (λ names. is_some (names_then names (λ next. files_names next (files_of more)))) read
+    ∙ on_then (with_source place jobs source) (files_of more) (place + 1) more (λ next. same_from (place + 1) more next)
+
+-- ---- the law
+
+pub clean_sources :
+    ((files : List File) → is_clean (files_findings no_names files) ≡ is_some (files_names [] files)) → (sources : List Source) →
+    is_all_clean (sources_findings sources) ≡ is_ok (sources_reading sources)
+clean_sources law sources = ap is_clean (found_files 0 no_names sources) ∙ law (files_of sources) ∙ same_from 0 sources []
+
+-- the same of findings that were made
+pub clean_made :
+    ((files : List File) → is_clean (files_findings no_names files) ≡ is_some (files_names [] files)) → (sources : List Source) →
+    (found : List Found) → found ≡ sources_findings sources → is_all_clean found ≡ is_ok (sources_reading sources)
+clean_made law sources found is = ap is_all_clean is ∙ clean_sources law sources
+
+-- ---- the loop
+
+none_left : (sources : List Source) (place : ℕ) → length sources ≤ place → drop place sources ≡ []
+none_left [] zero few = refl
+none_left [] (suc place) few = refl
+none_left (source ∷ sources) zero few = absurd (omega arith)
+none_left (source ∷ sources) (suc place) few = none_left sources place (omega arith)
+
+-- behind the last source all is found
+pub all_found :
+    (place : ℕ) (known : KnownNames) (sources : List Source) (found all : List Found) → length sources ≤ place →
+    found ++ found_from place known (drop place sources) ≡ all → found ≡ all
+all_found place known sources found all few so_far =
+    sym (append-nil found) ∙ ap (λ left. found ++ found_from place known left) (sym (none_left sources place few)) ∙ so_far

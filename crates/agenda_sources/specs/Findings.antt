@@ -1,0 +1,32 @@
+-- What is found of sources, one after another. All of it is own.
+use Rattle.std.specs.Prelude.{ℕ, ◌+◌, Bool, List, [], ◌∷◌, ◌++◌, map}
+use Rattle.plan_check.specs.declared.finding.Finding.{Finding}
+use Rattle.plan_check.specs.Files.{File, file_findings, after_file}
+use Rattle.plan_check.specs.Finding.{is_clean}
+use Rattle.plan_check.specs.Names.{KnownNames, no_names}
+use Rattle.agenda_sources.specs.declared.findings.Found.{Found}
+use Rattle.agenda_sources.specs.declared.sources.Source.{Source}
+use Rattle.agenda_sources.specs.Kind.{file_of}
+
+-- a source as a file
+abbrev pub source_file : Source → File
+source_file source = file_of source.kind source.name source.bytes
+
+-- that something is found of the source at a place
+abbrev pub found_at : (place : ℕ) → Finding → Found
+found_at place finding = record { place = place; finding = finding }
+
+-- what is found of sources in order, of which the first stands at a place, where jobs have some names already
+abbrev pub found_from : (place : ℕ) → KnownNames → List Source → List Found
+found_from place known [] = []
+found_from place known (source ∷ more) =
+    map (found_at place) (file_findings known (source_file source))
+    ++ found_from (place + 1) (after_file known (source_file source)) more
+
+-- of all of them
+abbrev pub sources_findings : List Source → List Found
+sources_findings sources = found_from 0 no_names sources
+
+-- whether nothing is refused
+abbrev pub is_all_clean : List Found → Bool
+is_all_clean found = is_clean (map (λ one. one.finding) found)

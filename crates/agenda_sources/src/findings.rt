@@ -1,0 +1,65 @@
+//! What is found of sources, one after another.
+
+ghost use Rattle.std.specs.Prelude.{◌≡◌, ◌++◌, IfOk, OnOk, is_ok, map};
+ghost use Rattle.plan_check.specs.Files.{after_file, file_findings};
+ghost use Rattle.agenda_sources.specs.Findings.{found_at, is_all_clean, source_file, sources_findings};
+ghost use Rattle.agenda_sources.specs.Sources.{sources_reading};
+
+use crate::sources::{Source, Sources};
+use plan_check::{Finding, Names, clean_where_jobs_are};
+use std::alloc::{AllocError, Global};
+
+/// What is found of one of several sources.
+#[derive(Clone, Copy, Debug, PartialEq, Eq)]
+pub struct Found {
+    /// The place of the source, from 0.
+    pub place: usize,
+    /// What is found of it.
+    pub finding: Finding,
+}
+
+/// All findings of sources, in the order of the sources: of each what is found of the whole file and then by lines, as
+/// `crontab_findings`, `tab_findings` and `timer_findings` of plan_check find it. It fails where memory is refused.
+pub fn findings_of_sources(alloc: Global, sources: &Sources) -> Result<Vec<Found>, AllocError>
+    ensures found { IfOk result (λ found. found.items ≡ sources_findings sources.now) }
+    // Nothing is refused exactly where the sources make a list of jobs, as `jobs_of_sources` makes it.
+    ensures clean { IfOk result (λ found. is_all_clean found.items ≡ is_ok (sources_reading sources.now)) }
+{
+    clean_where_jobs_are();
+    let mut names = Names::new(alloc);
+    let mut found = Vec::new(alloc);
+    let sources = sources.as_slice();
+    for (place, source) in sources.iter().enumerate() {
+        add_source(alloc, &mut names, &mut found, place, source)?;
+    }
+    Ok(found)
+}
+
+// Adds what is found of the source at a place.
+fn add_source(
+    alloc: Global,
+    names: &mut Names,
+    found: &mut Vec<Found>,
+    place: usize,
+    source: &Source,
+) -> Result<(), AllocError>
+    ensures found { OnOk result (found.new.items ≡ found.old.items
+        ++ map (found_at place) (file_findings names.old (source_file source.now))) }
+    ensures names { OnOk result (names.new ≡ after_file names.old (source_file source.now)) }
+{
+    let more = source.kind.find(alloc, names, source.name.as_str(), source.bytes.as_slice())?;
+    add_all(found, place, more.as_slice())
+}
+
+// Adds findings of the source at a place.
+fn add_all(found: &mut Vec<Found>, place: usize, more: &[Finding]) -> Result<(), AllocError>
+    ensures { OnOk result (found.new.items ≡ found.old.items ++ map (found_at place) more.now) }
+{
+    for finding in more {
+        found.push(Found {
+            place,
+            finding: *finding,
+        })?;
+    }
+    Ok(())
+}
