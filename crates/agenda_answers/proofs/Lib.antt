@@ -1,4 +1,5 @@
 pub mod AnswerLemmas
+pub mod CheckLemmas
 pub mod FileLemmas
 pub mod ScriptLemmas
 pub mod SourcesLemmas

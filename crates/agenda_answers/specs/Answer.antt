@@ -4,7 +4,7 @@ use Rattle.std.specs.Io.KnownBytes.{Keeps}
 use Rattle.plan_sets.specs.Limits.{end_second}
 use Rattle.plan_sets.specs.Moment.{HasFault, moment_text_of}
 use Rattle.agenda_words.specs.declared.Ask.{Ask}
-use Rattle.agenda_words.specs.declared.Ask.TheVariants.{Next, Plan, Upcoming, Quiet, Steps}
+use Rattle.agenda_words.specs.declared.Ask.TheVariants.{Next, Plan, Upcoming, Quiet, Check, Steps}
 use Rattle.agenda_words.specs.declared.Asked.{Asked}
 use Rattle.agenda_words.specs.declared.UsageFault.{UsageFault}
 use Rattle.agenda_words.specs.declared.UsageFault.TheVariants as usage
@@ -19,8 +19,11 @@ use Rattle.plan_collect.specs.Span.{Bounds}
 use Rattle.plan_collect.specs.declared.Sizes.{Sizes}
 use Rattle.plan_collect.specs.declared.SpanFault.TheVariants.{Backwards}
 use Rattle.agenda_faults.specs.FaultLines.{fault_text}
-use Rattle.agenda_faults.specs.Faults.{status_of}
+use Rattle.agenda_faults.specs.Faults.{refused_status, status_of}
 use Rattle.agenda_answers.specs.Files.{Held, IsHeld, IsUnsure}
+use Rattle.agenda_commands.specs.declared.Verdict.{Verdict}
+use Rattle.agenda_commands.specs.declared.Verdict.TheVariants.{Clean, Refused}
+use Rattle.agenda_commands.specs.Check.{IsTextOfCheck}
 use Rattle.agenda_commands.specs.Command.{Writes}
 use Rattle.agenda_commands.specs.Next.{IsTextOfNext, RefusesNext}
 use Rattle.agenda_commands.specs.Plan.{IsTextOfPlan, RefusesPlan}
@@ -112,6 +115,23 @@ FailsUpcoming held after paths (Run fault) =
     ⊎ ((sources : List Source) × AreSourcesOf held paths sources × RefusesUpcoming sources fault))
 FailsUpcoming held after paths failure = ⊥
 
+-- the status of a check
+abbrev pub status_on : Verdict → ℕ
+status_on Clean = 0
+status_on Refused = refused_status
+
+-- what `check` prints, and the status with which it ends
+abbrev pub GivesCheck : Held → List SourcePath → (status : ℕ) → List ℕ → Type 0
+GivesCheck held paths status text =
+    (sources : List Source) × (verdict : Verdict) × AreSourcesOf held paths sources × IsTextOfCheck paths sources verdict text
+    × (status ≡ status_on verdict)
+
+-- when each failure of `check` comes: the files are read, of which one is the failure only where it may fail, and memory is refused anywhere
+abbrev pub FailsCheck : Held → List SourcePath → Failure → Type 0
+FailsCheck held paths (File path) = IsGiven paths path × IsUnsure (held path)
+FailsCheck held paths (Run run.NoMemory) = ⊤
+FailsCheck held paths failure = ⊥
+
 -- what `steps` prints
 abbrev pub GivesSteps : Held → List ℕ → List ℕ → Type 0
 GivesSteps held file text = (script : List ℕ) × IsHeld (held file).bytes script × IsTextOfRun script text
@@ -134,19 +154,29 @@ asked_plan wanted = Plan wanted.since wanted.upto wanted.sources wanted.sizes
 abbrev pub asked_quiet : Wanted → (least : ℕ) → Ask
 asked_quiet wanted least = Quiet wanted.since wanted.upto wanted.sources wanted.sizes least
 
+-- `check`, by the paths of the sources
+abbrev pub asked_check : List SourcePath → Ask
+asked_check paths = Check paths
+
 -- `upcoming`, by the moment and the paths of the sources
 abbrev pub asked_upcoming : (after : List ℕ) → List SourcePath → Ask
 asked_upcoming after paths = Upcoming after paths
 
--- what is printed for what was asked: the text of a command, or that of help
-abbrev pub Prints : Held → Result Ask UsageFault → List ℕ → Type 0
-Prints held (Ok (Next after count rule)) text = GivesNext after count rule text
-Prints held (Ok (Plan since upto sources sizes)) text = GivesPlan held (wanted_of since upto sources sizes) text
-Prints held (Ok (Upcoming after sources)) text = GivesUpcoming held after sources text
-Prints held (Ok (Quiet since upto sources sizes least)) text = GivesQuiet held (wanted_of since upto sources sizes) least text
-Prints held (Ok (Steps file)) text = GivesSteps held file text
-Prints held (Err (usage.Help help)) text = text ≡ help
-Prints held (Err refusal) text = ⊥
+-- what is printed for what was asked, and the status with which it ends: the text of a command, or that of help
+abbrev pub Prints : Held → Result Ask UsageFault → (status : ℕ) → List ℕ → Type 0
+Prints held (Ok (Next after count rule)) status text = (status ≡ 0) × GivesNext after count rule text
+Prints held (Ok (Plan since upto sources sizes)) status text = (status ≡ 0) × GivesPlan held (wanted_of since upto sources sizes) text
+Prints held (Ok (Upcoming after sources)) status text = (status ≡ 0) × GivesUpcoming held after sources text
+Prints held (Ok (Quiet since upto sources sizes least)) status text =
+    (status ≡ 0) × GivesQuiet held (wanted_of since upto sources sizes) least text
+Prints held (Ok (Check sources)) status text = GivesCheck held sources status text
+Prints held (Ok (Steps file)) status text = (status ≡ 0) × GivesSteps held file text
+Prints held (Err (usage.Help help)) status text = (status ≡ 0) × (text ≡ help)
+Prints held (Err refusal) status text = ⊥
+
+-- what may be printed, with whatever status
+abbrev pub MayPrint : Held → Result Ask UsageFault → List ℕ → Type 0
+MayPrint held asked text = (status : ℕ) × Prints held asked status text
 
 -- when what was asked is refused: words that are no use of the program are a failure of their own, and help is never refused
 abbrev pub Refuses : Held → Result Ask UsageFault → Failure → Type 0
@@ -154,6 +184,7 @@ Refuses held (Ok (Next after count rule)) failure = FailsNext after count rule f
 Refuses held (Ok (Plan since upto sources sizes)) failure = FailsPlan held (wanted_of since upto sources sizes) failure
 Refuses held (Ok (Upcoming after sources)) failure = FailsUpcoming held after sources failure
 Refuses held (Ok (Quiet since upto sources sizes least)) failure = FailsQuiet held (wanted_of since upto sources sizes) least failure
+Refuses held (Ok (Check sources)) failure = FailsCheck held sources failure
 Refuses held (Ok (Steps file)) failure = FailsSteps held file failure
 Refuses held (Err (usage.Help text)) failure = ⊥
 Refuses held (Err (usage.Usage text)) failure = failure ≡ Usage text
@@ -170,6 +201,7 @@ abbrev pub sources_of : Result Ask UsageFault → List SourcePath
 sources_of (Ok (Plan since upto sources sizes)) = sources
 sources_of (Ok (Upcoming after sources)) = sources
 sources_of (Ok (Quiet since upto sources sizes least)) = sources
+sources_of (Ok (Check sources)) = sources
 sources_of other = []
 
 -- a stream: whether it takes all, and what it held before and after
@@ -178,12 +210,12 @@ pub record Stream : Type 0 where
   pub old : Option (List ℕ)
   pub new : Option (List ℕ)
 
--- the program's answer: status 0, the answer on standard output, and nothing on standard error; or the status of a failure,
--- and its line on standard error
+-- the program's answer: the answer on standard output with its status, which is 0 unless a check refuses something, and nothing on
+-- standard error; or the status of a failure, and its line on standard error
 abbrev pub Answers : Held → Result Ask UsageFault → ℕ → (out err : Stream) → Type 0
 Answers held asked status out err =
-    ((status ≡ 0) × Writes (Prints held asked) out.old out.new × Keeps err.old err.new)
-    ⊎ ((failure : Failure) × Stops out.takes_all (Prints held asked) (Refuses held asked) failure out.old out.new
+    (Writes (Prints held asked status) out.old out.new × Keeps err.old err.new)
+    ⊎ ((failure : Failure) × Stops out.takes_all (MayPrint held asked) (Refuses held asked) failure out.old out.new
     × (status ≡ status_of failure) × PutsOrBreaksOff err.takes_all err.old err.new (fault_text (sources_of asked) failure))
 
 -- the same, by the words of the command line

@@ -1,19 +1,21 @@
 //! What the program does, over any files and streams.
 
-ghost use Rattle.std.specs.Prelude.{◌≡◌, ◌≢◌, IfErr, IfOk, Ok, OnOk, map, string_bytes};
+ghost use Rattle.std.specs.Prelude.{◌≡◌, ◌≢◌, ℕ, IfErr, IfOk, Ok, OnOk, map, string_bytes};
 ghost use Rattle.std.specs.Io.KnownBytes.{Keeps};
 ghost use Rattle.agenda_faults.specs.FaultLines.{fault_text};
 ghost use Rattle.agenda_faults.specs.Faults.{status_of as failure_status};
 ghost use Rattle.agenda_answers.specs.Answer.{Answers, AnswersWords, asked_plan, asked_quiet, asked_upcoming};
-ghost use Rattle.agenda_answers.specs.Answer.{FailsNext, FailsPlan, FailsQuiet, FailsSteps, FailsUpcoming};
-ghost use Rattle.agenda_answers.specs.Answer.{GivesNext, GivesNoSpan, GivesPlan, GivesQuiet, GivesSteps, GivesUpcoming};
-ghost use Rattle.agenda_answers.specs.Answer.{IsSpan, SaysNotUtf8, Stops};
+ghost use Rattle.agenda_answers.specs.Answer.{FailsCheck, FailsNext, FailsPlan, FailsQuiet, FailsSteps, FailsUpcoming};
+ghost use Rattle.agenda_answers.specs.Answer.{GivesCheck, GivesNext, GivesNoSpan, GivesPlan, GivesQuiet, GivesSteps, GivesUpcoming};
+ghost use Rattle.agenda_answers.specs.Answer.{IsSpan, SaysNotUtf8, Stops, asked_check, status_on};
 ghost use Rattle.agenda_commands.specs.Command.{Writes};
 ghost use Rattle.plan_streams.specs.Stream.{PutsOrBreaksOff};
 
 use crate::files::{Files, read_file};
 use crate::sources::read_sources;
-use agenda_commands::{run_next, run_plan, run_quiet, run_script, run_upcoming};
+use agenda_commands::{
+    Verdict, run_check, run_next, run_plan, run_quiet, run_script, run_upcoming,
+};
 use agenda_faults::{Failure, RunFault, fault_line};
 use agenda_sources::{SourcePath, SourcePaths};
 use agenda_words::{Ask, Asked, UsageFault, read_words};
@@ -38,12 +40,15 @@ struct Wanted {
 // The status of what was done, and of help.
 const DONE: u8 = 0;
 
+// The status of a check that refuses something.
+const REFUSED: u8 = 1;
+
 // The text of usage where a word isn't UTF-8.
 const NOT_UTF8: &str = "a word of the command line is not UTF-8\n";
 
 /// Does what the words of the command line ask for, of which the first is the program's name, and answers the status with
-/// which the program ends: 0 where it was done, and for help; 1 where input or a count was refused; 2 where the words are no
-/// use of the program; 3 where memory was refused, or a device or a file failed.
+/// which the program ends: 0 where it was done, and for help; 1 where input or a count was refused, or a check refuses
+/// something; 2 where the words are no use of the program; 3 where memory was refused, or a device or a file failed.
 ///
 /// The answer goes to `out`. One line of a fault, or the text of usage, goes to `err`.
 pub fn answer_words<R: Threads + Wait + Sync, F: Files, O: Stream, E: Stream>(
@@ -114,6 +119,7 @@ pub fn answer<R: Threads + Wait + Sync, F: Files, O: Stream, E: Stream>(
             };
             answer_quiet(rt, alloc, &wanted, least, files, out, err)
         }
+        Ok(Ask::Check { sources }) => answer_check(alloc, &sources, files, out, err),
         Ok(Ask::Steps { file }) => status_of(steps(alloc, file, files, out), &[], err),
         Err(UsageFault::Help(text)) => status_of(help(&text, out), &[], err),
         Err(UsageFault::Usage(text)) => status_of(Err(Failure::Usage(text)), &[], err),
@@ -185,6 +191,25 @@ fn answer_quiet<R: Threads + Wait + Sync, F: Files, O: Stream, E: Stream>(
 {
     let done = quiet(rt, alloc, wanted, least, files, out);
     status_of(done, wanted.sources.as_slice(), err)
+}
+
+// The answer to `check`.
+fn answer_check<F: Files, O: Stream, E: Stream>(
+    alloc: Global,
+    sources: &SourcePaths,
+    files: &mut F,
+    out: &mut O,
+    err: &mut E,
+) -> u8
+    ensures { Answers (F.held files.old) (Ok (asked_check sources.now)) result
+        (record { takes_all = O.takes_all; old = O.holds out.old; new = O.holds out.new })
+        (record { takes_all = E.takes_all; old = E.holds err.old; new = E.holds err.new }) }
+{
+    match check(alloc, sources.as_slice(), files, out) {
+        Ok(Verdict::Clean) => DONE,
+        Ok(Verdict::Refused) => REFUSED,
+        Err(failure) => fault_line(&failure, sources.as_slice(), err),
+    }
 }
 
 // The status of what was done, or was not. `sources` are the paths of the sources of a plan.
@@ -281,6 +306,25 @@ fn quiet<R: Threads + Wait + Sync, F: Files, S: Stream>(
     let sources = read_sources(alloc, files, wanted.sources.as_slice())?;
     match run_quiet(rt, alloc, &sources, span, wanted.sizes, least, out) {
         Ok(()) => Ok(()),
+        Err(fault) => Err(Failure::Run(fault)),
+    }
+}
+
+// The command `check`.
+fn check<F: Files, S: Stream>(
+    alloc: Global,
+    paths: &[SourcePath],
+    files: &mut F,
+    out: &mut S,
+) -> Result<Verdict, Failure>
+    ensures done { IfOk result (λ verdict. Writes (GivesCheck (F.held files.old) paths.now (status_on verdict))
+        (S.holds out.old) (S.holds out.new)) }
+    ensures failed { IfErr result (λ failure. Stops S.takes_all (λ text. (status : ℕ) × GivesCheck (F.held files.old) paths.now status text)
+        (FailsCheck (F.held files.old) paths.now) failure (S.holds out.old) (S.holds out.new)) }
+{
+    let sources = read_sources(alloc, files, paths)?;
+    match run_check(alloc, paths, &sources, out) {
+        Ok(verdict) => Ok(verdict),
         Err(fault) => Err(Failure::Run(fault)),
     }
 }

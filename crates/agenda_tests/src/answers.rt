@@ -160,6 +160,22 @@ fn answers_of_upcoming_and_quiet_that_fail_at_each_byte(rt: HostRuntime) -> Resu
     fails_at_each_byte(&rt, words, &NIGHTLY, QUIET_TEXT.as_bytes(), 48)
 }
 
+// A crontab and a timer that are right, and of which all may not be meant.
+const UNMEANT: [(&str, &[u8]); 2] = [
+    ("crontab", b"0 0 31 2 * a\n0 0 1 * 1 b\n"),
+    ("n.timer", b"[Timer]\n"),
+];
+
+// Lines of 29, 27 and 24 bytes.
+const UNMEANT_TEXT: &str =
+    "crontab:1: note: NeverStarts\ncrontab:2: note: EitherDay\nn.timer: note: NoEvents\n";
+
+#[test]
+fn an_answer_of_check_that_fails_at_each_byte(rt: HostRuntime) -> Result<(), Fail> {
+    let words = "agenda|check|--crontab|crontab|n.timer";
+    fails_at_each_byte(&rt, words, &UNMEANT, UNMEANT_TEXT.as_bytes(), 80)
+}
+
 // That words write nothing to standard output, and end with this status where standard error fails at any byte of their
 // line.
 fn faults_at_each_byte(
@@ -288,6 +304,22 @@ fn which_files_a_plan_opens(rt: HostRuntime) -> Result<(), Fail> {
     )?;
     let missing = "2024-01-02T00:00:00Z|--crontab|crontab|--system-crontab|a b|c.timer";
     plans(&rt, missing, 3, ("", "agenda: a b: Device\n"), 2)
+}
+
+// Each source of `check` is opened once, up to the first that can't be read; what it refuses has a status, and no line of a fault.
+#[test]
+fn which_files_a_check_opens(rt: HostRuntime) -> Result<(), Fail> {
+    let files = FewFiles::new(&NIGHTLY, 4_096, false);
+    let words = "agenda|check|--crontab|crontab|timers/rot.timer";
+    leaves(&rt, words, files, 0, ("", ""), 2)?;
+    let files = FewFiles::new(&NIGHTLY, 4_096, false);
+    let words = "agenda|check|--cron-d|timers/rot.timer|crontab";
+    let text = "timers/rot.timer: BadTabName\ntimers/rot.timer:1: part 0: WrongParts\n\
+        crontab: BadTimerName\ncrontab: NoTimerSection\n";
+    leaves(&rt, words, files, 1, (text, ""), 2)?;
+    let files = FewFiles::new(&NIGHTLY, 4_096, false);
+    let words = "agenda|check|--crontab|crontab|--system-crontab|a b|c.timer";
+    leaves(&rt, words, files, 3, ("", "agenda: a b: Device\n"), 2)
 }
 
 // The moment of `upcoming` comes before any file, and the least gap of `quiet` behind all files and before their texts.

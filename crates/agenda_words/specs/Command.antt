@@ -85,6 +85,10 @@ quiet = with_sizes
     (with_rules (with_sources (subcommand_with (codes "quiet") span_rules)) (number_option (codes "least") (codes "1800") ∷ []))
     (codes "1000000")
 
+-- own: `check`, and what gives the sources
+abbrev pub check : App
+check = with_sources (subcommand_with (codes "check") [])
+
 -- own: `steps FILE`
 abbrev pub steps : App
 steps = subcommand_with (codes "steps") (file_argument ∷ [])
@@ -98,8 +102,8 @@ agenda_alone = on_top (λ s. record s {
   disable_help_subcommand = true;
 }) (new_app (codes "agenda"))
 
--- own: `agenda next ..`, `agenda plan ..`, `agenda upcoming ..`, `agenda quiet ..` or `agenda steps ..`
+-- own: `agenda next ..`, `agenda plan ..`, `agenda upcoming ..`, `agenda quiet ..`, `agenda check ..` or `agenda steps ..`
 abbrev pub agenda : App
 agenda =
-    with_subcommand (with_subcommand (with_subcommand (with_subcommand (with_subcommand agenda_alone next.top) plan.top) upcoming.top)
-    quiet.top) steps.top
+    with_subcommand (with_subcommand (with_subcommand (with_subcommand (with_subcommand (with_subcommand agenda_alone next.top) plan.top)
+    upcoming.top) quiet.top) check.top) steps.top

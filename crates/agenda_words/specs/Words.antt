@@ -11,7 +11,7 @@ use Rattle.clap.specs.declared.error.kind.ErrorKind.{ErrorKind}
 use Rattle.clap.specs.declared.error.kind.ErrorKind.TheVariants.{DisplayHelp, DisplayVersion, OutOfMemory}
 use Rattle.plan_collect.specs.declared.Sizes.{Sizes}
 use Rattle.agenda_words.specs.declared.ask.Ask.{Ask}
-use Rattle.agenda_words.specs.declared.ask.Ask.TheVariants.{Next, Plan, Upcoming, Quiet, Steps}
+use Rattle.agenda_words.specs.declared.ask.Ask.TheVariants.{Next, Plan, Upcoming, Quiet, Check, Steps}
 use Rattle.agenda_words.specs.declared.ask.Asked.{Asked}
 use Rattle.agenda_words.specs.declared.ask.Asked.TheVariants.{Cron, Event}
 use Rattle.agenda_words.specs.declared.ask.UsageFault.{UsageFault}
@@ -109,6 +109,10 @@ asked_by_quiet rows = do
   sizes ← sizes_in rows
   Ok (Quiet since upto (sources_in rows) sizes least)
 
+-- own: the values that `check` was given; there may be no source
+abbrev pub asked_by_check : List Row → Result Ask Refusal
+asked_by_check rows = Ok (Check (sources_in rows))
+
 -- own: the file that `steps` was given
 abbrev pub asked_by_steps : List Row → Result Ask Refusal
 asked_by_steps rows = do
@@ -123,7 +127,8 @@ asked_by_subcommand (Some met) =
     else (if bytes_eq met.0 (codes "plan") then asked_by_plan met.1
     else (if bytes_eq met.0 (codes "upcoming") then asked_by_upcoming met.1
     else (if bytes_eq met.0 (codes "quiet") then asked_by_quiet met.1
-    else (if bytes_eq met.0 (codes "steps") then asked_by_steps met.1 else Err is_usage))))
+    else (if bytes_eq met.0 (codes "check") then asked_by_check met.1
+    else (if bytes_eq met.0 (codes "steps") then asked_by_steps met.1 else Err is_usage)))))
 
 -- own: a call for help or for the version is answered, and each other fault is usage
 abbrev pub refusal_of : ErrorKind → Refusal

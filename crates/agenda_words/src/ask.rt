@@ -49,6 +49,11 @@ pub enum Ask {
         /// How many seconds a gap lasts at least.
         least: u32,
     },
+    /// What is wrong with crontabs and timers.
+    Check {
+        /// The paths of the sources, in the order of a plan's.
+        sources: SourcePaths,
+    },
     /// The replies to the steps of a script.
     Steps {
         /// The path of the script.

@@ -2,7 +2,7 @@
 ghost use Rattle.std.specs.Prelude.{◌≡◌, [], ◌∷◌, IfOk, false};
 ghost use Rattle.clap.specs.Words.{app_of, items_of, rule_of, with_rule, with_subcommand};
 ghost use Rattle.clap.specs.declared.builder.command.Command.TheViews.{out-Command};
-ghost use Rattle.agenda_words.specs.Command.{agenda, argument_named, file_argument, moment_option, next};
+ghost use Rattle.agenda_words.specs.Command.{agenda, argument_named, check, file_argument, moment_option, next};
 ghost use Rattle.agenda_words.specs.Command.{number_option, option_named, plan, quiet, steps, upcoming};
 ghost use Rattle.agenda_words.specs.Command.{source_rule, with_sizes, with_sources};
 
@@ -30,6 +30,7 @@ pub(crate) fn agenda_command<'a>(alloc: Global) -> Result<Command<'a>, AllocErro
     let command = with_command(command, plan_command(alloc)?)?;
     let command = with_command(command, upcoming_command(alloc)?)?;
     let command = with_command(command, quiet_command(alloc)?)?;
+    let command = with_command(command, check_command(alloc)?)?;
     let command = with_command(command, steps_command(alloc)?)?;
     Ok(command)
 }
@@ -90,6 +91,17 @@ fn quiet_command<'a>(alloc: Global) -> Result<Command<'a>, AllocError>
     let command = with_sources(alloc, command)?;
     let command = with_argument(command, number_option(alloc, "least", "1800", help::LEAST))?;
     let command = with_sizes(alloc, command, "1000000")?;
+    Ok(command)
+}
+
+fn check_command<'a>(alloc: Global) -> Result<Command<'a>, AllocError>
+    ensures app { IfOk result (λ command. app_of command ≡ check) }
+    ensures local { IfOk result (λ command. (out-Command command).has_globals ≡ false) }
+{
+    let command = Command::new(alloc, "check")
+        .about(help::CHECK)
+        .after_help(help::AFTER_CHECK);
+    let command = with_sources(alloc, command)?;
     Ok(command)
 }
 

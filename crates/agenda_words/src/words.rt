@@ -1,7 +1,7 @@
 //! How the words of the command line are read.
 ghost use Rattle.std.specs.Prelude.{IfOk, map, string_bytes};
 ghost use Rattle.clap.specs.Words.{found_of, kind_of, rows_of, subcommand_rows_of};
-ghost use Rattle.agenda_words.specs.Words.{Gives, IsAnswerTo, asked_by, asked_by_next};
+ghost use Rattle.agenda_words.specs.Words.{Gives, IsAnswerTo, asked_by, asked_by_check, asked_by_next};
 ghost use Rattle.agenda_words.specs.Words.{asked_by_plan, asked_by_quiet, asked_by_steps, asked_by_subcommand};
 ghost use Rattle.agenda_words.specs.Words.{asked_by_upcoming, sizes_in};
 
@@ -47,6 +47,9 @@ fn asked_by_subcommand(alloc: Global, matches: &ArgMatches<'_>) -> Result<Ask, U
     }
     if let Some(given) = matches.subcommand_matches("quiet") {
         return asked_by_quiet(alloc, given);
+    }
+    if let Some(given) = matches.subcommand_matches("check") {
+        return asked_by_check(alloc, given);
     }
     match matches.subcommand_matches("steps") {
         Some(given) => asked_by_steps(alloc, given),
@@ -121,6 +124,13 @@ fn sizes_of(alloc: Global, given: &ArgMatches<'_>) -> Result<Sizes, UsageFault>
         room: room as usize,
         limit: u64::from(limit),
     })
+}
+
+fn asked_by_check(alloc: Global, given: &ArgMatches<'_>) -> Result<Ask, UsageFault>
+    ensures { Gives result (asked_by_check (rows_of (found_of given.now))) }
+{
+    let sources = sources_of(alloc, given)?;
+    Ok(Ask::Check { sources })
 }
 
 fn asked_by_steps(alloc: Global, given: &ArgMatches<'_>) -> Result<Ask, UsageFault>

@@ -11,6 +11,7 @@ Examples:
   agenda plan --since 2024-01-01T00:00:00Z --upto 2024-01-02T00:00:00Z backup.timer
   agenda upcoming --after 2024-01-01T00:00:00Z --crontab jobs backup.timer
   agenda quiet --since 2024-01-01T00:00:00Z --upto 2024-01-02T00:00:00Z --crontab jobs
+  agenda check --crontab jobs backup.timer
   agenda steps script";
 
 pub(super) const NEXT: &str = "Prints the next starts of one rule";
@@ -111,6 +112,17 @@ their room change no line. The formats of the files are described in agenda(1).
 Example:
   agenda quiet --since 2024-01-01T00:00:00Z --upto 2024-01-08T00:00:00Z \\
     --least 3600 --crontab jobs backup.timer";
+
+pub(super) const CHECK: &str = "Prints what is wrong with crontabs and timers";
+
+pub(super) const AFTER_CHECK: &str = "\
+Prints all faults of all files, one a line, as PATH:LINE: CAUSE, and notes on what is
+right and may not be meant, as PATH:LINE: note: NOTE. What is said of a whole file has
+no line. Ends with status 1 where anything is refused, else with 0. The causes and the
+notes are described in agenda(1).
+
+Example:
+  agenda check --crontab jobs backup.timer";
 
 pub(super) const STEPS: &str = "Prints what a mailbox replies to the steps of a script";
 

@@ -1,9 +1,9 @@
 -- Arm by arm: what was asked is what the arm says (`subst`), and it was done, or was not, and then its line was written
 -- (`command_answers`). Refused words are a failure by themselves.
 use Rattle.std.proofs.Common.{◌≡◌, [], Ok, Err, refl, ap, sym, subst, ◌∙◌}
-use Rattle.agenda_words.specs.declared.Ask.TheVariants.{Next, Plan, Upcoming, Quiet, Steps}
+use Rattle.agenda_words.specs.declared.Ask.TheVariants.{Next, Plan, Upcoming, Quiet, Check, Steps}
 use Rattle.agenda_words.specs.declared.UsageFault.TheVariants as usage
-use Rattle.agenda_answers.specs.Answer.{Answers, Stream}
+use Rattle.agenda_answers.specs.Answer.{Answers, GivesNext, GivesSteps, Stream}
 use Rattle.agenda_answers.proofs.AnswerLemmas.{command_answers, memory_answers, usage_answers}
 use Rattle.agenda_answers.proofs.answers.answer.Goals as goal
 
@@ -23,7 +23,9 @@ returns-in-Ok-Next g c =
     let ask = Next c.in-Ok-Next.after c.in-Ok-Next.count c.in-Ok-Next.rule in
     let asked : c.args.asked ≡ Ok ask = c.in-Ok-Next.is ∙ ap Ok c.in-Ok-Next.field-0-is in
     subst (λ a. Answers held a c.status_of.result out err) (sym asked)
-    (command_answers held (Ok ask) [] c.status_of.result out err c.next.result c.next.ensures.done c.next.ensures.failed refl
+    (command_answers held (Ok ask) [] c.status_of.result out err
+    (GivesNext c.in-Ok-Next.after c.in-Ok-Next.count c.in-Ok-Next.rule) c.next.result (λ text is. (refl, is))
+    c.next.ensures.done c.next.ensures.failed refl
     c.status_of.ensures.done c.status_of.ensures.failed)
 
 pub returns-in-Ok-Plan : goal.returns-in-Ok-Plan
@@ -77,6 +79,23 @@ returns-in-Ok-Quiet g c =
     let asked : c.args.asked ≡ Ok ask = c.in-Ok-Quiet.is ∙ ap Ok c.in-Ok-Quiet.field-0-is in
     subst (λ a. Answers held a c.answer_quiet.result out err) (sym asked) c.answer_quiet.ensures
 
+pub returns-in-Ok-Check : goal.returns-in-Ok-Check
+returns-in-Ok-Check g c =
+    let held = g.F.Files.held c.args.files.now in
+    let out : Stream = record {
+      takes_all = g.O.Stream.takes_all;
+      old = g.O.Stream.holds c.args.out.now;
+      new = g.O.Stream.holds c.answer_check.new.out;
+    } in
+    let err : Stream = record {
+      takes_all = g.E.Stream.takes_all;
+      old = g.E.Stream.holds c.args.err.now;
+      new = g.E.Stream.holds c.answer_check.new.err;
+    } in
+    let ask = Check c.in-Ok-Check.sources in
+    let asked : c.args.asked ≡ Ok ask = c.in-Ok-Check.is ∙ ap Ok c.in-Ok-Check.field-0-is in
+    subst (λ a. Answers held a c.answer_check.result out err) (sym asked) c.answer_check.ensures
+
 pub returns-in-Ok-Steps : goal.returns-in-Ok-Steps
 returns-in-Ok-Steps g c =
     let held = g.F.Files.held c.args.files.now in
@@ -93,8 +112,29 @@ returns-in-Ok-Steps g c =
     let ask = Steps c.in-Ok-Steps.file in
     let asked : c.args.asked ≡ Ok ask = c.in-Ok-Steps.is ∙ ap Ok c.in-Ok-Steps.field-0-is in
     subst (λ a. Answers held a c.status_of-in-Ok-Steps.result out err) (sym asked)
-    (command_answers held (Ok ask) [] c.status_of-in-Ok-Steps.result out err c.steps.result c.steps.ensures.done c.steps.ensures.failed
-    refl c.status_of-in-Ok-Steps.ensures.done c.status_of-in-Ok-Steps.ensures.failed)
+    (command_answers held (Ok ask) [] c.status_of-in-Ok-Steps.result out err (GivesSteps held c.in-Ok-Steps.file) c.steps.result
+    (λ text is. (refl, is)) c.steps.ensures.done c.steps.ensures.failed refl
+    c.status_of-in-Ok-Steps.ensures.done c.status_of-in-Ok-Steps.ensures.failed)
+
+pub returns-in-Err-Help : goal.returns-in-Err-Help
+returns-in-Err-Help g c =
+    let held = g.F.Files.held c.args.files.now in
+    let out : Stream = record {
+      takes_all = g.O.Stream.takes_all;
+      old = g.O.Stream.holds c.args.out.now;
+      new = g.O.Stream.holds c.help.new.out;
+    } in
+    let err : Stream = record {
+      takes_all = g.E.Stream.takes_all;
+      old = g.E.Stream.holds c.args.err.now;
+      new = g.E.Stream.holds c.status_of-in-Err-Help.new.err;
+    } in
+    let help = c.in-Err-Help.text in
+    let asked : c.args.asked ≡ Err (usage.Help help) = c.in-Err-Help.is ∙ ap Err c.in-Err-Help.field-0-is in
+    subst (λ a. Answers held a c.status_of-in-Err-Help.result out err) (sym asked)
+    (command_answers held (Err (usage.Help help)) [] c.status_of-in-Err-Help.result out err (λ printed. printed ≡ help) c.help.result
+    (λ text is. (refl, is)) (rw c.in-Err-Help.text-is at c.help.ensures.done) (rw c.in-Err-Help.text-is at c.help.ensures.failed) refl
+    c.status_of-in-Err-Help.ensures.done c.status_of-in-Err-Help.ensures.failed)
 
 pub returns-in-Err-Usage : goal.returns-in-Err-Usage
 returns-in-Err-Usage g c =

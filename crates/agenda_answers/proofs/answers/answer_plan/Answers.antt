@@ -1,5 +1,5 @@
-use Rattle.std.proofs.Common.{Ok}
-use Rattle.agenda_answers.specs.Answer.{Stream, asked_plan}
+use Rattle.std.proofs.Common.{Ok, refl}
+use Rattle.agenda_answers.specs.Answer.{GivesPlan, Stream, asked_plan}
 use Rattle.agenda_answers.proofs.AnswerLemmas.{command_answers}
 use Rattle.agenda_answers.proofs.answers.answer_plan.Goals as goal
 
@@ -16,5 +16,6 @@ returns g c =
       old = g.E.Stream.holds c.args.err.now;
       new = g.E.Stream.holds c.status_of.new.err;
     } in
-    command_answers held (Ok (asked_plan c.args.wanted.now)) c.as_slice.result.now c.status_of.result out err c.plan-done.result
+    command_answers held (Ok (asked_plan c.args.wanted.now)) c.as_slice.result.now c.status_of.result out err
+    (GivesPlan held c.args.wanted.now) c.plan-done.result (λ text is. (refl, is))
     c.plan-done.ensures.done c.plan-done.ensures.failed c.as_slice.ensures c.status_of.ensures.done c.status_of.ensures.failed

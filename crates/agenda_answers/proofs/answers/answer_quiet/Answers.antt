@@ -1,5 +1,5 @@
-use Rattle.std.proofs.Common.{Ok}
-use Rattle.agenda_answers.specs.Answer.{Stream, asked_quiet}
+use Rattle.std.proofs.Common.{Ok, refl}
+use Rattle.agenda_answers.specs.Answer.{GivesQuiet, Stream, asked_quiet}
 use Rattle.agenda_answers.proofs.AnswerLemmas.{command_answers}
 use Rattle.agenda_answers.proofs.answers.answer_quiet.Goals as goal
 
@@ -17,5 +17,5 @@ returns g c =
       new = g.E.Stream.holds c.status_of.new.err;
     } in
     command_answers held (Ok (asked_quiet c.args.wanted.now c.args.least)) c.as_slice.result.now c.status_of.result out err
-    c.quiet-done.result c.quiet-done.ensures.done c.quiet-done.ensures.failed c.as_slice.ensures
-    c.status_of.ensures.done c.status_of.ensures.failed
+    (GivesQuiet held c.args.wanted.now c.args.least) c.quiet-done.result (λ text is. (refl, is))
+    c.quiet-done.ensures.done c.quiet-done.ensures.failed c.as_slice.ensures c.status_of.ensures.done c.status_of.ensures.failed

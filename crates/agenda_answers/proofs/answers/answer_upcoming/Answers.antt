@@ -1,5 +1,5 @@
-use Rattle.std.proofs.Common.{Ok}
-use Rattle.agenda_answers.specs.Answer.{Stream, asked_upcoming}
+use Rattle.std.proofs.Common.{Ok, refl}
+use Rattle.agenda_answers.specs.Answer.{GivesUpcoming, Stream, asked_upcoming}
 use Rattle.agenda_answers.proofs.AnswerLemmas.{command_answers}
 use Rattle.agenda_answers.proofs.answers.answer_upcoming.Goals as goal
 
@@ -17,5 +17,5 @@ returns g c =
       new = g.E.Stream.holds c.status_of.new.err;
     } in
     command_answers held (Ok (asked_upcoming c.args.after.now c.args.sources.now)) c.as_slice.result.now c.status_of.result out err
-    c.upcoming-done.result c.upcoming-done.ensures.done c.upcoming-done.ensures.failed c.as_slice.ensures
-    c.status_of.ensures.done c.status_of.ensures.failed
+    (GivesUpcoming held c.args.after.now c.args.sources.now) c.upcoming-done.result (λ text is. (refl, is))
+    c.upcoming-done.ensures.done c.upcoming-done.ensures.failed c.as_slice.ensures c.status_of.ensures.done c.status_of.ensures.failed

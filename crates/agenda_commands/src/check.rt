@@ -1,0 +1,156 @@
+//! All that is wrong with crontabs and timer files, and what of them may not be meant.
+
+ghost use Rattle.std.specs.Prelude.{◌≡◌, ◌++◌, IfErr, IfOk, OnOk};
+ghost use Rattle.std.specs.List.{list_all};
+ghost use Rattle.plan_check.specs.Finding.{is_note};
+ghost use Rattle.agenda_sources.specs.Findings.{is_all_clean, sources_findings};
+ghost use Rattle.agenda_commands.specs.Command.{Fails, Writes};
+ghost use Rattle.agenda_commands.specs.Check.{IsTextOfCheck, RefusesCheck, cause_text, check_text, finding_line, line_mark, path_at, verdict_of, what_text};
+
+use agenda_faults::RunFault;
+use agenda_sources::{Found, SourcePath, Sources, findings_of_sources};
+use itoa::Buffer as Digits;
+use plan_check::{Finding, What};
+use plan_rules::LineCause;
+use plan_streams::Stream;
+use std::alloc::{AllocError, Global};
+
+/// What a check comes to.
+#[derive(Clone, Copy, Debug, PartialEq, Eq)]
+pub enum Verdict {
+    /// Nothing is refused: the sources make a list of jobs.
+    Clean,
+    /// Something is refused.
+    Refused,
+}
+
+/// Writes all that is found of sources, a line for each finding, in the order of the sources: the path of the source, of which `paths`
+/// has that of each, the number of the line where it isn't the whole file, and what is found. It answers whether anything is refused.
+///
+/// `NoMemory` where memory was refused; nothing is written then. `Device` where the stream fails, which then took the first bytes of
+/// the text.
+pub fn run_check<S: Stream>(
+    alloc: Global,
+    paths: &[SourcePath],
+    sources: &Sources,
+    out: &mut S,
+) -> Result<Verdict, RunFault>
+    ensures written { IfOk result (λ verdict. Writes (IsTextOfCheck paths.now sources.now verdict) (S.holds out.old) (S.holds out.new)) }
+    ensures refused { IfErr result (λ fault. Fails S.takes_all (λ text. text ≡ check_text paths.now (sources_findings sources.now))
+        RefusesCheck fault (S.holds out.old) (S.holds out.new)) }
+{
+    let found = findings_of_sources(alloc, sources)?;
+    let text = check_text(alloc, paths, found.as_slice())?;
+    out.put(text.as_slice())?;
+    Ok(verdict_on(found.as_slice()))
+}
+
+// What these findings come to.
+fn verdict_on(found: &[Found]) -> Verdict
+    ensures { result ≡ verdict_of (is_all_clean found.now) }
+{
+    if are_notes(found) {
+        Verdict::Clean
+    } else {
+        Verdict::Refused
+    }
+}
+
+// Whether all of them are notes.
+fn are_notes(found: &[Found]) -> bool
+    ensures { result ≡ list_all (λ one. is_note one.finding.what) found.now }
+{
+    found.iter().all(|one| is_note(one.finding.what))
+}
+
+// Whether it is a note, of something that isn't refused.
+fn is_note(what: What) -> bool
+    ensures { result ≡ is_note what }
+{
+    matches!(what, What::Noted(_))
+}
+
+// The text of findings.
+fn check_text(alloc: Global, paths: &[SourcePath], found: &[Found]) -> Result<Vec<u8>, AllocError>
+    ensures { IfOk result (λ text. text.items ≡ check_text paths.now found.now) }
+{
+    let mut text = Vec::new(alloc);
+    for one in found {
+        add_line(&mut text, path_at(paths, one.place), one.finding)?;
+    }
+    Ok(text)
+}
+
+// The path at a place.
+fn path_at(paths: &[SourcePath], place: usize) -> &str
+    ensures { result.now ≡ path_at paths.now place }
+{
+    match paths.get(place) {
+        Some(source) => source.path.as_str(),
+        None => "",
+    }
+}
+
+// Adds the line of a finding.
+fn add_line(text: &mut Vec<u8>, path: &str, finding: Finding) -> Result<(), AllocError>
+    ensures { OnOk result (text.new.items ≡ text.old.items ++ finding_line path.now finding) }
+{
+    text.extend_from_slice(path.as_bytes())?;
+    add_mark(text, finding.line)?;
+    text.extend_from_slice(b": ")?;
+    add_what(text, finding.what)?;
+    text.extend_from_slice(b"\n")?;
+    Ok(())
+}
+
+// Adds the number of a line.
+fn add_mark(text: &mut Vec<u8>, line: u32) -> Result<(), AllocError>
+    ensures { OnOk result (text.new.items ≡ text.old.items ++ line_mark line) }
+{
+    if line == 0 {
+        return Ok(());
+    }
+    let mut digits = Digits::new();
+    text.extend_from_slice(b":")?;
+    text.extend_from_slice(digits.format(line).as_bytes())?;
+    Ok(())
+}
+
+// Adds what is found.
+fn add_what(text: &mut Vec<u8>, what: What) -> Result<(), AllocError>
+    ensures { OnOk result (text.new.items ≡ text.old.items ++ what_text what) }
+{
+    match what {
+        What::Refused(cause) => add_cause(text, cause),
+        What::SameName => add(text, b"SameName"),
+        What::Full => add(text, b"Full"),
+        What::Noted(note) => {
+            text.extend_from_slice(b"note: ")?;
+            add(text, note.name().as_bytes())
+        }
+    }
+}
+
+// Adds why a line is refused.
+fn add_cause(text: &mut Vec<u8>, cause: LineCause) -> Result<(), AllocError>
+    ensures { OnOk result (text.new.items ≡ text.old.items ++ cause_text cause) }
+{
+    match cause {
+        LineCause::Rule(fault) => {
+            let mut digits = Digits::new();
+            text.extend_from_slice(b"part ")?;
+            text.extend_from_slice(digits.format(fault.part).as_bytes())?;
+            text.extend_from_slice(b": ")?;
+            add(text, fault.cause.name().as_bytes())
+        }
+        cause => add(text, cause.name().as_bytes()),
+    }
+}
+
+// Adds bytes.
+fn add(text: &mut Vec<u8>, bytes: &[u8]) -> Result<(), AllocError>
+    ensures { OnOk result (text.new.items ≡ text.old.items ++ bytes.now) }
+{
+    text.extend_from_slice(bytes)?;
+    Ok(())
+}
