@@ -8,7 +8,7 @@ _agenda() {
     local at
     for ((at = 1; at < cword; at++)); do
         case ${words[at]} in
-            next | plan | upcoming | quiet | steps)
+            next | plan | upcoming | quiet | check | steps)
                 command=${words[at]}
                 break
                 ;;
@@ -45,7 +45,7 @@ _agenda() {
             mapfile -t COMPREPLY < <(compgen -W '--help --version' -- "$cur")
             ;;
         :*)
-            mapfile -t COMPREPLY < <(compgen -W 'next plan upcoming quiet steps' -- "$cur")
+            mapfile -t COMPREPLY < <(compgen -W 'next plan upcoming quiet check steps' -- "$cur")
             ;;
         next:*)
             mapfile -t COMPREPLY < <(compgen -W '--after= --count= --cron= --calendar= --help' -- "$cur")
@@ -63,7 +63,11 @@ _agenda() {
             mapfile -t COMPREPLY < <(compgen -W "--since= --upto= --least= --planners= --room= --limit= $sources" -- "$cur")
             [[ ${COMPREPLY-} == *= ]] && compopt -o nospace
             ;;
-        plan:* | upcoming:* | quiet:*)
+        check:-*)
+            mapfile -t COMPREPLY < <(compgen -W "$sources" -- "$cur")
+            [[ ${COMPREPLY-} == *= ]] && compopt -o nospace
+            ;;
+        plan:* | upcoming:* | quiet:* | check:*)
             _filedir timer
             ;;
         steps:-*)

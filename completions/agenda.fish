@@ -2,11 +2,12 @@
 
 complete -c agenda -f
 
-set -l none 'not __fish_seen_subcommand_from next plan upcoming quiet steps'
+set -l none 'not __fish_seen_subcommand_from next plan upcoming quiet check steps'
 complete -c agenda -n $none -a next -d 'Print the next starts of one rule'
 complete -c agenda -n $none -a plan -d 'Print when the jobs of crontabs and timers start'
 complete -c agenda -n $none -a upcoming -d 'Print when each job of crontabs and timers starts next'
 complete -c agenda -n $none -a quiet -d 'Print when no job of crontabs and timers starts'
+complete -c agenda -n $none -a check -d 'Print what is wrong with crontabs and timers'
 complete -c agenda -n $none -a steps -d 'Print what a mailbox replies to the steps of a script'
 complete -c agenda -s h -l help -d 'Print help'
 complete -c agenda -n $none -s V -l version -d 'Print the version'
@@ -34,7 +35,7 @@ set -l quiet '__fish_seen_subcommand_from quiet'
 complete -c agenda -n $quiet -l limit -x -d 'The most starts, from 1 to 1000000 [1000000]'
 complete -c agenda -n $quiet -l least -x -d 'How many seconds a gap has at least [1800]'
 
-set -l sources '__fish_seen_subcommand_from plan upcoming quiet'
+set -l sources '__fish_seen_subcommand_from plan upcoming quiet check'
 complete -c agenda -n $sources -l crontab -r -F -d 'A user\'s crontab'
 complete -c agenda -n $sources -l system-crontab -r -F -d 'The system\'s crontab'
 complete -c agenda -n $sources -l cron-d -r -F -d 'A crontab of a package'

@@ -60,6 +60,8 @@ devices_untold() {
 # Standard output fails, whatever else is closed: `Device` where standard error tells it. A fault is told as ever.
 devices_streams() {
   local start="2024-01-01T00:00:00Z"
+  devices_run 'exec agenda check --crontab /dev/zero zero.timer <&- 2>&-'
+  compare_texts "a check of what has no end" $'/dev/zero: TooLarge\nzero.timer: TooLarge\n' '' 1
   devices_run 'exec agenda steps script >&- 2>&- <&-'
   compare_texts "steps, all streams closed" '' '' 3
   devices_run 'exec agenda steps script >&- <&-'
@@ -95,12 +97,15 @@ plan --crontab jobs/|3|jobs/: Device
 plan --system-crontab jobs/jobs|3|jobs/jobs: Device
 plan loop.timer|3|loop.timer: Device
 steps /|3|/: Device
+check --crontab jobs/|3|jobs/: Device
+check --crontab jobs d.timer loop.timer .|3|loop.timer: Device
 ROWS
 
 if [ -c /dev/full ]; then
   devices_refused <<'ROWS'
 plan --crontab /dev/full|1|crontab: line 0: TooLarge
 plan --crontab jobs --limit 1 d.timer >/dev/null|1|plan: TooMany
+check zero.timer >/dev/full|3|Device
 steps script >/dev/full|3|Device
 ROWS
 fi
@@ -131,6 +136,7 @@ next --after 2024 --cron x|1
 plan --since 2024-01-01T00:00:00Z --upto 2024-01-01T00:01:00Z zero.timer|1
 steps nothing|3
 plan --since 2024-01-01T00:00:00Z --upto 2024-01-01T00:01:00Z loop.timer|3
+check loop.timer|3
 ROWS
 fi
 devices_streams

@@ -109,6 +109,26 @@ largest_jobs() {
   largest_text "116,508 jobs" jobs "agenda: jobs: Full"
 }
 
+# What `check` says of texts of 1,048,576 bytes: a fault of each line, a job of each line, or an event of each line of a timer.
+largest_checks() {
+  yes '@' | largest_file faults 1048576
+  seq -f 'faults:%.0f: part 0: UnknownWord' 524288 >"$work/findings.wanted"
+  largest_run faults 0 check --crontab faults
+  compare "check of 524,288 faults" "$work/findings.wanted" /dev/null 1
+  yes '* * * * * x' | largest_file checked 1048572
+  largest_run checked 0 check --crontab checked
+  compare_texts "check of 87,381 jobs" $'checked:1001: Full\n' '' 1
+  { yes '0 0 1 * 1 x' | head -n 87380 && printf '60 * * * * x'; } | largest_file checked 1048576
+  { seq -f 'checked:%.0f: note: EitherDay' 87380 | sed '1001i checked:1001: Full' && echo 'checked:87381: part 1: OutOfRange'; } \
+    >"$work/findings.wanted"
+  largest_run checked 0 check --crontab checked
+  compare "check of 87,380 notes, and a fault behind them" "$work/findings.wanted" /dev/null 1
+  { echo '[Timer]' && yes 'OnCalendar=x'; } | largest_file events.timer 1048562
+  { seq -f 'events.timer:%.0f: part 0: UnknownWord' 2 65 && echo 'events.timer:66: TooManyLines'; } >"$work/findings.wanted"
+  largest_run events.timer 0 check events.timer
+  compare "check of 80,658 events" "$work/findings.wanted" /dev/null 1
+}
+
 # Rows of standard input: the moment up to which is planned, the limit, further words, and the fault of the plan by 1 planner and by 8.
 largest_refused() {
   local upto limit words cause planners
@@ -183,6 +203,7 @@ largest_lines
 largest_resets
 largest_continued
 largest_jobs
+largest_checks
 largest_agendas
 largest_gaps
 largest_bound

@@ -131,6 +131,26 @@ machine_faults() {
   done
 }
 
+# Each row: a root, and what `check` finds in it, with `;` between; a path there begins as one of a root's description does. The status is 1
+# where one of the findings is no note.
+machine_checks() {
+  local root findings finding wanted path
+  local -a list
+  while IFS='|' read -r root findings; do
+    machine_make "$root"
+    : >"$work/findings.wanted"
+    IFS=';' read -r -a list <<<"$findings"
+    for finding in "${list[@]}"; do
+      machine_path "${finding%%:*}"
+      echo "$machine_root/$path:${finding#*:}" >>"$work/findings.wanted"
+    done
+    wanted=0
+    ! grep -qv ': note: ' "$work/findings.wanted" || wanted=1
+    machine_run --root "$machine_root" check
+    machine_compare "check by agenda of '$root'" "$work/findings.wanted" /dev/null "$wanted"
+  done
+}
+
 if machine_as_nobody; then
   machine_locked <<'ROWS'
 etc/crontab C/a S/b *a.timer *b.timer U/a.timer U/b.timer|etc/crontab C/a S/b U/a.timer|U/b.timer|etc/crontab not readable,C/a not readable,S/b not readable,U/a.timer not readable
@@ -189,4 +209,31 @@ C/a=@daily\x20root\x20a S/a=@daily\n|a.user: line 1: NoCommand
 *a@b.timer U/a@.timer=[Timer]\nOnCalendar=%H\n|a-b.timer: line 2: part 0: Specifier
 *a.timer U/a.timer=[Timer]\nOnCalendar=daily\\\n E/a.timer.d/x.conf=[Timer]\nOnCalendar=%i\n|a.timer: line 6: part 0: Specifier
 ROWS
+# files as they are; one that gets another name; drop-ins, whose lines are their own, and what is said of the whole; instances
+machine_checks <<'ROWS'
+x/|
+etc/crontab=@daily\x20root\x20a\n *a.timer U/a.timer=[Timer]\nOnCalendar=daily\n|
+etc/crontab=60\x20*\x20*\x20*\x20*\x20root\x20a\n@daily\x20root\n|etc/crontab:1: part 1: OutOfRange;etc/crontab:2: NoCommand
+C/b=@x C/a=\xff S/u=@daily etc/crontab=A|etc/crontab:1: BadSetting;C/a: NotUtf8;C/b:1: part 0: UnknownWord;S/u:1: NoCommand
+C/a=@daily\x20root\x20a S/a=\n@daily\n0\x200\x2031\x202\x20*\x20x|S/a:2: NoCommand;S/a:3: note: NeverStarts
+C/a=0\x200\x2013\x20*\x205\x20root\x20a *a.timer U/a.timer=[Timer]\n|C/a:1: note: EitherDay;U/a.timer: note: NoEvents
+*a.timer U/a.timer=[Unit]\n|U/a.timer: NoTimerSection
+*a.timer U/a.timer=[Timer]\nOnCalendar=25:00 E/a.timer.d/x.conf=[Timer]\nOnCalendar=x\n E/a.timer.d/y.conf=\n[Timer]\nOnCalendar=*-2-30|U/a.timer:2: part 5: OutOfRange;E/a.timer.d/x.conf:2: part 0: UnknownWord;E/a.timer.d/y.conf:3: note: NeverStarts
+*a.timer U/a.timer=[Timer]\nOnCalendar=daily\n E/a.timer.d/x.conf=[Timer]\nOnCalendar=\n|U/a.timer: note: NoEvents
+*a.timer U/a.timer=[Unit]\n E/a.timer.d/x.conf=OnCalendar=x|U/a.timer: NoTimerSection
+*a.timer U/a.timer=[Timer]\nOnCalendar=daily\n E/a.timer.d/x.conf=\xff|U/a.timer: NotUtf8
+*a.timer U/a.timer=[Timer]\nOnCalendar=Mon\\ E/a.timer.d/x.conf=[Timer]\nOnCalendar=Mon\\\n25:00|E/a.timer.d/x.conf:2: part 5: OutOfRange
+*a@b.timer U/a@.timer=[Timer]\nOnCalendar=%H|U/a@.timer:2: part 0: Specifier
+*a@4.timer *a@24.timer U/a@.timer=[Timer]\nOnCalendar=%i:00|U/a@.timer:2: part 5: OutOfRange
+*a@b.timer *a@c.timer U/a@.timer=[Timer]\n|U/a@.timer: note: NoEvents;U/a@.timer: note: NoEvents
+ROWS
+# the caller's own file
+printf '@daily\n' >"$machine_folder/own"
+machine_make 'S/u=@daily'
+printf '%s\n' own:1:\ NoCommand "$machine_root/var/spool/cron/crontabs/u:1: NoCommand" >"$work/findings.wanted"
+machine_run --root "$machine_root" check --crontab own
+machine_compare "check by agenda of a further crontab" "$work/findings.wanted" /dev/null 1
+echo 'agenda: nothing: Device' >"$work/err.wanted"
+machine_run --root "$machine_root" check --crontab nothing
+machine_compare "check by agenda of no crontab" /dev/null "$work/err.wanted" 3
 machine_bin=$machine_folder/bin

@@ -37,6 +37,7 @@ Commands:
   plan      Prints which jobs of crontabs and timers start when
   upcoming  Prints when each job of crontabs and timers starts next
   quiet     Prints when no job of crontabs and timers starts
+  check     Prints what is wrong with crontabs and timers
   steps     Prints what a mailbox replies to the steps of a script
 
 Options:
@@ -51,6 +52,7 @@ Examples:
   agenda plan --since 2024-01-01T00:00:00Z --upto 2024-01-02T00:00:00Z backup.timer
   agenda upcoming --after 2024-01-01T00:00:00Z --crontab jobs backup.timer
   agenda quiet --since 2024-01-01T00:00:00Z --upto 2024-01-02T00:00:00Z --crontab jobs
+  agenda check --crontab jobs backup.timer
   agenda steps script
 END
 }
@@ -191,6 +193,34 @@ Example:
 END
 }
 
+words_make_help_of_check() {
+  cat >"$work/words/check.text" <<'END'
+Prints what is wrong with crontabs and timers
+
+Usage: agenda check [OPTIONS] [TIMER]...
+
+Arguments:
+  [TIMER]...  The path of a systemd timer's file, as backup.timer
+
+Options:
+      --crontab <F>         The path of a user crontab
+      --system-crontab <F>  The path of a system crontab, whose lines name a user
+      --cron-d <F>          The path of a package's crontab, as /etc/cron.d/php;
+                            any number of times
+      --spool <F>           The path of a user's crontab in the spool folder;
+                            any number of times
+  -h, --help                Print help
+
+Prints all faults of all files, one a line, as PATH:LINE: CAUSE, and notes on what is
+right and may not be meant, as PATH:LINE: note: NOTE. What is said of a whole file has
+no line. Ends with status 1 where anything is refused, else with 0. The causes and the
+notes are described in agenda(1).
+
+Example:
+  agenda check --crontab jobs backup.timer
+END
+}
+
 words_make_help_of_steps() {
   cat >"$work/words/steps.text" <<'END'
 Prints what a mailbox replies to the steps of a script
@@ -244,6 +274,9 @@ upcoming upcoming|--after|2024-01-01T00:00:00Z|-h
 quiet quiet|--help
 quiet quiet|-h
 quiet quiet|--since|2024-01-01T00:00:00Z|--least|0|-h
+check check|--help
+check check|-h
+check check|--crontab|nothing|nothing|-h
 steps steps|--help
 steps steps|-h
 steps steps|script|-h
@@ -260,7 +293,7 @@ words_tell_usage() {
 words_tell_usage_of_agenda() {
   words_tell_usage '' <<'END'
 error: 'agenda' requires a subcommand but one was not provided
-  [subcommands: next, plan, upcoming, quiet, steps]
+  [subcommands: next, plan, upcoming, quiet, check, steps]
 
 Usage: agenda <COMMAND>
 
@@ -310,6 +343,15 @@ END
     'next|--after|2024-01-01T00:00:00Z|--cron|30 4 1,15 * 5|--calendar|daily'; do
     words_tell_usage "$words" <<<'exactly one of --cron and --calendar'
   done
+  words_tell_usage 'check|--since|2024-01-01T00:00:00Z|a.timer' <<'END'
+error: unexpected argument '--since' found
+
+  tip: to pass '--since' as a value, use '-- --since'
+
+Usage: agenda check [OPTIONS] [TIMER]...
+
+For more information, try '--help'.
+END
   # a word that is not UTF-8
   words_tell_usage $'steps|\xff' <<<'a word of the command line is not UTF-8'
 }
@@ -415,6 +457,28 @@ quiet|$span|--version => error: unexpected argument '--version' found
 END
 }
 
+# What check doesn't take: a moment, a span, sizes and limits.
+words_begin_usage_of_check() {
+  words_begin_usage <<END
+check|--crontab=a|--crontab=b => error: the argument '--crontab <F>' cannot be used multiple times
+check|--system-crontab=a|--system-crontab=b => error: the argument '--system-crontab <F>' cannot be used multiple times
+check|--cron-d => error: a value is required for '--cron-d <F>' but none was supplied
+check|--spool=a|--spool => error: a value is required for '--spool <F>' but none was supplied
+check|--after=x => error: unexpected argument '--after' found
+check|--since=x => error: unexpected argument '--since' found
+check|--upto=x => error: unexpected argument '--upto' found
+check|--count=1 => error: unexpected argument '--count' found
+check|--least=1 => error: unexpected argument '--least' found
+check|--planners=1 => error: unexpected argument '--planners' found
+check|--room=1 => error: unexpected argument '--room' found
+check|--limit=1 => error: unexpected argument '--limit' found
+check|--cron=@daily => error: unexpected argument '--cron' found
+check|--calendar=daily => error: unexpected argument '--calendar' found
+check|--version => error: unexpected argument '--version' found
+check|-x => error: unexpected argument '-x' found
+END
+}
+
 # Each row has words of `next`, ` => ` and the starts that they ask for. Where each second is a start, the next is one after the moment.
 words_ask_for_starts() {
   local row starts after="--after|2024-01-01T00:00:00Z"
@@ -473,6 +537,9 @@ upcoming|c|$after|--crontab|jobs|a => 3 c: Device
 upcoming|c.timer|$after|b.timer|c.timer|--|--limit => 1 job c.timer: SameName
 upcoming|$after|--|--limit => 1 --limit: line 0: BadTimerName
 upcoming|$after|--|--after => 3 --after: Device
+check|c|--crontab|jobs|a => 3 c: Device
+check|a.timer|--spool=nothing|--cron-d|c => 3 c: Device
+check|--|--help.timer => 3 --help.timer: Device
 quiet|--least=0|--planners=0|--since=x|--upto=y => 1 since: BadForm
 quiet|--least=0|--planners=0|$span => 1 quiet: BadLeast
 quiet|$span|--least|0|b.timer|b.timer => 1 quiet: BadLeast
@@ -592,6 +659,30 @@ END
   done
 }
 
+# The words $1 ask for what is wrong with the files, which is that of standard input.
+words_ask_for_findings() {
+  cat >"$work/words/answer"
+  words_run "$1"
+  compare "words: $1" "$work/words/answer" /dev/null 1
+}
+
+# The files hold no fault but their names, and so show which options and paths were read.
+words_ask_for_check() {
+  words_ask_for_text "check" </dev/null
+  words_ask_for_text "check|--crontab|jobs" </dev/null
+  words_ask_for_text "check|--crontab|jobs|--system-crontab=etc/crontab|--cron-d|jobs|b.timer|--spool|etc/crontab|--|--limit.timer" </dev/null
+  words_ask_for_findings "check|b.timer|--cron-d=my jobs-ä|--|jobs|--limit" <<'END'
+my jobs-ä: BadTabName
+jobs: BadTimerName
+jobs: NoTimerSection
+--limit: BadTimerName
+END
+  words_ask_for_findings "check|a.timer|a.timer|--spool|jobs|--spool=jobs|--cron-d|etc/crontab" <<'END'
+jobs:1: SameName
+a.timer: SameName
+END
+}
+
 # Planners and room change no line: that they aren't taken for each other shows where a number is too large for planners alone.
 words_ask_for_sizes() {
   local span="--since|2024-01-01T00:00:00Z|--upto|2024-01-02T00:00:00Z" line="2024-01-01T00:00:00Z|a.timer|a.service" words
@@ -625,6 +716,7 @@ words_make_help_of_next
 words_make_help_of_plan
 words_make_help_of_upcoming
 words_make_help_of_quiet
+words_make_help_of_check
 words_make_help_of_steps
 words_make_version
 words_tell_help
@@ -633,6 +725,7 @@ words_tell_usage_of_commands
 words_begin_usage_of_agenda_next_and_steps
 words_begin_usage_of_plan
 words_begin_usage_of_upcoming_and_quiet
+words_begin_usage_of_check
 words_ask_for_starts
 words_ask_for_what_is_refused
 words_ask_for_replies
@@ -640,6 +733,7 @@ words_ask_for_sources
 words_ask_for_timers
 words_ask_for_upcoming
 words_ask_for_quiet
+words_ask_for_check
 words_ask_for_sizes
 words_ask_for_limit 10000 ''
 words_ask_for_limit 7 --limit=007

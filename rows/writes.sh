@@ -1,6 +1,6 @@
 # shellcheck shell=bash disable=SC2154
-# Rows of bin/check-examples: how many writes a run makes. A fault line goes out by one, whatever told it, and an agenda in pieces of up to
-# 65,536 bytes, each as full as it can be. The kernel counts the calls of a shell and of what it waited for in /proc/self/io; where it counts
+# Rows of bin/check-examples: how many writes a run makes. A fault line goes out by one, whatever told it, and so do all findings of a check;
+# an agenda goes in pieces of up to 65,536 bytes, each as full as it can be. The kernel counts the calls of a shell and of what it waited for in /proc/self/io; where it counts
 # none these rows are passed over.
 
 writes_folder="$work/writes"
@@ -84,7 +84,14 @@ steps|script>1>script: line 2: BadLine
 plan|--crontab|nothing>3>nothing: Device
 upcoming|--after|2024-01-01T00:00:00Z|--crontab|crontab>1>crontab: line 2: NoCommand
 quiet|--since|2024-01-01T00:00:00Z|--upto|2024-01-02T00:00:00Z|--least|0>1>quiet: BadLeast
+check|d.timer|nothing>3>nothing: Device
 ROWS
+  writes_run agenda check --crontab crontab --system-crontab system faulty.timer none.timer
+  compare_texts "findings of four sources" $'crontab:2: NoCommand\nsystem:1: NoCommand\nsystem:3: NoCommand
+faulty.timer:2: part 5: OutOfRange\nnone.timer: NoTimerSection\n' '' 1
+  writes_between "findings of four sources by one write" 1 1
+  writes_run agenda check d.timer
+  writes_between "no finding without a write" 0 0
   # 1,024 bytes are the longest line that goes out by one write
   writes_run agenda steps "$(yes p | tr -d '\n' | head -c 1007)"
   writes_between "a fault line of 1,024 bytes by one write" 1 1

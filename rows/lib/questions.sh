@@ -1,6 +1,6 @@
 # shellcheck shell=bash disable=SC2154
-# What the rows of `agenda upcoming` and of `agenda quiet` share: both take the sources of a plan, and refuse of them what a plan refuses.
-# The tables of rows/ that need it source it.
+# What the rows of `agenda upcoming`, of `agenda quiet` and of `agenda check` share: all take the sources of a plan, and refuse of them what
+# a plan refuses. The tables of rows/ that need it source it.
 
 questions_folder="$work/questions"
 

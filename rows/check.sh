@@ -1,0 +1,619 @@
+# shellcheck shell=bash disable=SC2154
+# Rows of bin/check-examples: what `agenda check` says of crontabs and timers, in which order and with which status, and what it refuses. It
+# is held beside what `agenda plan` refuses of the same sources too.
+
+# shellcheck source=/dev/null
+. "$top/rows/lib/questions.sh"
+
+check_folder="$work/check"
+mkdir -p "$check_folder"/{one,two,cron.d,spool,folder.timer}
+
+# Writes the escaped text $2 to the file $1.
+check_file() {
+  printf '%b' "$2" >"$check_folder/$1"
+}
+
+check_run() {
+  run_in "$check_folder" agenda check "$@"
+}
+
+# Compares the last run, which $1 names, with the lines of the file findings.wanted. The status is 1 where one of them is no note.
+check_compare() {
+  local wanted=0
+  ! grep -qv ': note: ' "$work/findings.wanted" || wanted=1
+  compare "$1" "$work/findings.wanted" /dev/null "$wanted"
+}
+
+# Compares the last run, which $1 names, with the findings $2, with `;` between.
+check_findings() {
+  printf '%s' "${2:+$2;}" | tr ';' '\n' >"$work/findings.wanted"
+  check_compare "$1"
+}
+
+# Rows of standard input: words, and all findings, with `;` between.
+check_rows() {
+  local written findings words
+  while IFS='|' read -r written findings; do
+    read -r -a words <<<"$written"
+    check_run "${words[@]}"
+    check_findings "check $written" "$findings"
+  done
+}
+
+# Rows of standard input: words that end in the path of a file, its escaped text, and what is said of it, with `;` between, each from the
+# `:` behind the path on.
+check_texts() {
+  local written text findings words path
+  while IFS='|' read -r written text findings; do
+    read -r -a words <<<"$written"
+    path=${words[*]: -1}
+    check_file "$path" "$text"
+    check_run "${words[@]}"
+    findings=${findings:+$path$findings}
+    check_findings "check $written '$text'" "${findings//;:/;$path:}"
+  done
+}
+
+# Rows of standard input: rules of a crontab, or events where $1 is calendar, and behind a bar the notes on each, with a blank between. All
+# of them stand in one file, so each is told of its own line alone.
+check_notes() {
+  local rule notes note line=0 path=jobs words=(--crontab jobs)
+  : >"$work/findings.wanted"
+  if [ "$1" = calendar ]; then
+    path=a.timer words=(a.timer)
+    check_file "$path" '[Timer]\n'
+    line=1
+  else
+    check_file "$path" ''
+  fi
+  while IFS='|' read -r rule notes; do
+    line=$((line + 1))
+    if [ "$1" = calendar ]; then
+      printf 'OnCalendar=%s\n' "$rule"
+    else
+      printf '%s x\n' "$rule"
+    fi >>"$check_folder/$path"
+    for note in $notes; do
+      echo "$path:$line: note: $note" >>"$work/findings.wanted"
+    done
+  done
+  check_run "${words[@]}"
+  check_compare "the notes on $line lines of $path"
+}
+
+# The file $1 is the escaped text $3, filled with newlines up to $2 bytes.
+check_filled() {
+  { printf '%b' "$3" && head -c "$2" /dev/zero | tr '\0' '\n'; } | head -c "$2" >"$check_folder/$1"
+}
+
+# Prints the line $2 so many times: $1.
+check_times() {
+  yes "$2" | head -n "$1"
+}
+
+# Rows of standard input: parts of a timer of the section [Timer], each a number, a blank and an event that stands there so often, with `;`
+# between, and what is said of the timer, as check_texts takes it. Nothing is an empty value.
+check_lists() {
+  local written findings part
+  local -a parts
+  while IFS='|' read -r written findings; do
+    IFS=';' read -r -a parts <<<"$written"
+    check_file a.timer '[Timer]\n'
+    for part in "${parts[@]}"; do
+      check_times "${part%% *}" "OnCalendar=${part#* }" >>"$check_folder/a.timer"
+    done
+    findings=${findings:+a.timer$findings}
+    check_run a.timer
+    check_findings "check a timer of $written" "${findings//;:/;a.timer:}"
+  done
+}
+
+# Rows of standard input: words of sources. `check` refuses something exactly where `plan` refuses the sources. A span without a second has
+# no start, so no limit is reached.
+check_as_plan() {
+  local written words planned
+  while IFS= read -r written; do
+    read -r -a words <<<"$written"
+    run_in "$check_folder" agenda plan --since 2024-01-01T00:00:00Z --upto 2024-01-01T00:00:00Z "${words[@]}"
+    planned=$status
+    [ "$planned" = 0 ] || [ "$planned" = 1 ] || tell "plan ended with status $planned"
+    check_run "${words[@]}"
+    [ "$status" = "$planned" ] || tell "status $status, and plan has $planned"
+    grep -qv ': note: ' "$work/out" && [ "$status" = 0 ] && tell "status 0, and something is refused"
+    [ "$status" = 0 ] || grep -qv ': note: ' "$work/out" || tell "status $status, and nothing is refused"
+    [ ! -s "$work/err" ] || tell "standard error: $(cat "$work/err")"
+    count "check as plan: $written"
+  done
+}
+
+# Each source of standard input, and two of them one after the other.
+check_pairs_as_plan() {
+  local source other
+  local -a sources
+  mapfile -t sources
+  check_as_plan < <(
+    for source in "${sources[@]}"; do
+      echo "$source"
+      for other in "${sources[@]}"; do
+        [[ $source$other = *--crontab*--crontab* ]] || echo "$source $other"
+      done
+    done
+  )
+}
+
+# Rows of standard input: an option and an escaped text. The first thing that `check` refuses of this crontab is the line and the cause
+# that `plan` tells.
+check_first_as_plan() {
+  local option text fault line
+  while IFS='|' read -r option text; do
+    check_file cron.d/jobs "$text"
+    run_in "$check_folder" agenda plan --since 2024-01-01T00:00:00Z --upto 2024-01-01T00:00:00Z "$option" cron.d/jobs
+    [ "$status" = 1 ] || tell "plan ended with status $status"
+    fault=$(cat "$work/err")
+    fault=${fault#*: line }
+    line=:${fault%%:*}
+    check_run "$option" cron.d/jobs
+    echo "cron.d/jobs${line#:0}: ${fault#*: }" >"$work/first.wanted"
+    grep -v ': note: ' "$work/out" | head -n 1 | diff -u --label plan --label check "$work/first.wanted" - >>"$work/told" 2>&1
+    count "the first fault as plan has it: $option '$text'"
+  done
+}
+
+# Nothing is written where nothing is to be said: no source, no job, jobs that are right.
+check_file daily '@daily a\n'
+check_file none '# no job\n\n \t\nMAILTO=x\n'
+check_file d.timer '[Timer]\nOnCalendar=daily\n'
+check_rows <<'ROWS'
+|
+--crontab daily|
+--crontab none --cron-d none --spool none|
+--crontab daily d.timer|
+ROWS
+
+# Of a line that is refused: its number, the part of its rule where there is one, and the one fault that plan tells of it.
+check_texts <<'ROWS'
+--crontab jobs|60 * * * * x\n|:1: part 1: OutOfRange
+--crontab jobs|* 24 * * *\n|:1: part 2: OutOfRange
+--crontab jobs|60 24 32 13 8 x\n|:1: part 1: OutOfRange
+--crontab jobs|60 24 * *\n|:1: part 0: WrongParts
+--crontab jobs|* * * *\n|:1: part 0: WrongParts
+--crontab jobs|5/15 * * * * x\n|:1: part 1: WrongParts
+--crontab jobs|1,,2 * * * * x\n|:1: part 1: WrongParts
+--crontab jobs|12345 * * * * x\n|:1: part 1: BadNumber
+--crontab jobs|* * x * * y\n|:1: part 3: BadName
+--crontab jobs|* * * foo * y\n|:1: part 4: BadName
+--crontab jobs|* * * * sat-sun y\n|:1: part 5: Backwards
+--crontab jobs|*/0 * * * * x\n|:1: part 1: ZeroStep
+--crontab jobs|@Daily x\n|:1: part 0: UnknownWord
+--crontab jobs|@daily\n|:1: NoCommand
+--crontab jobs|* * * * *  \n|:1: NoCommand
+--crontab jobs|MAILTO\n|:1: BadSetting
+--crontab jobs|\n# c\n \t\n \t60 * * * * x|:4: part 1: OutOfRange
+--system-crontab jobs|@daily root x\n@daily root\n|:2: NoCommand
+--cron-d jobs|@daily root x\n@daily root\n|:2: NoCommand
+--spool jobs|@daily root x\n@daily\n|:2: NoCommand
+a.timer|[Timer]\nOnCalendar=%H\n|:2: part 0: Specifier
+a.timer|[Timer]\nOnCalendar=12\n|:2: part 0: WrongParts
+a.timer|[Timer]\nOnCalendar=fortnightly\n|:2: part 0: UnknownWord
+a.timer|[Timer]\nOnCalendar=Foo 12:00\n|:2: part 1: BadName
+a.timer|[Timer]\nOnCalendar=Fri..Mon\n|:2: part 1: Backwards
+a.timer|[Timer]\nOnCalendar=1969-1-1\n|:2: part 2: OutOfRange
+a.timer|[Timer]\nOnCalendar=*-13-1\n|:2: part 3: OutOfRange
+a.timer|[Timer]\nOnCalendar=*-*-5..3\n|:2: part 4: Backwards
+a.timer|[Timer]\nOnCalendar=25:00\n|:2: part 5: OutOfRange
+a.timer|[Timer]\nOnCalendar=*:0/0\n|:2: part 6: ZeroStep
+a.timer|[Timer]\nOnCalendar=12:00:00.5\n|:2: part 7: Fraction
+a.timer|[Timer]\nOnCalendar=12:00 Mars\n|:2: part 8: Zone
+ROWS
+
+# All faults of all lines, in their order; between them lines that are right, settings and remarks.
+check_texts <<'ROWS'
+--crontab jobs|60 * * * * x\n@daily\nMAILTO\n# c\n* * * * * x\nA=b\n@never x\n* * * * * x|:1: part 1: OutOfRange;:2: NoCommand;:3: BadSetting;:7: part 0: UnknownWord
+--spool jobs|@x\n@x\n@x|:1: part 0: UnknownWord;:2: part 0: UnknownWord;:3: part 0: UnknownWord
+a.timer|[Timer]\nOnCalendar=25:00\nOnCalendar=daily\n[Unit]\nOnCalendar=x\n[Timer]\nOnCalendar=x\n|:2: part 5: OutOfRange;:7: part 0: UnknownWord
+ROWS
+
+# Of a whole file there is no line.
+check_texts <<'ROWS'
+--crontab jobs|@daily \xe4\n|: NotUtf8
+--system-crontab jobs|\xff|: NotUtf8
+--cron-d a.b|@daily u x\n|: BadTabName
+--cron-d a~||: BadTabName
+--spool .a|@daily x\n|: BadTabName
+--spool a~|@daily x\n|: BadTabName
+jobs|[Timer]\nOnCalendar=daily\n|: BadTimerName
+a@.timer|[Timer]\nOnCalendar=daily\n|: BadTimerName
+a.timer||: NoTimerSection
+a.timer|[Unit]\nOnCalendar=x\n|: NoTimerSection
+a.timer|[timer]\nOnCalendar=x\n|: NoTimerSection
+a.timer|[Timer]\nOnCalendar=daily \xe4\n|: NotUtf8
+ROWS
+
+# --crontab and --system-crontab ask for no name.
+check_texts <<'ROWS'
+--crontab a.b+c|@daily x\n|
+--system-crontab .a~|@daily u x\n|
+ROWS
+
+# After a bad name the rest is looked at all the same, as if it were good.
+check_texts <<'ROWS'
+--cron-d a.b|60 * * * * u x\n0 0 31 2 * u x\n0 0 1 * 1 u x\n@daily u\n|: BadTabName;:1: part 1: OutOfRange;:2: note: NeverStarts;:3: note: EitherDay;:4: NoCommand
+--cron-d a.b|\xff|: BadTabName;: NotUtf8
+--spool .a|\n60 * * * * x\n0 0 31 2 * x\n|: BadTabName;:2: part 1: OutOfRange;:3: note: NeverStarts
+--spool a~|60 * * * * x\n\xff|: BadTabName;: NotUtf8
+jobs|[Timer]\nOnCalendar=25:00\nOnCalendar=*-2-30\n|: BadTimerName;:2: part 5: OutOfRange;:3: note: NeverStarts
+jobs|[Timer]\n|: BadTimerName;: note: NoEvents
+jobs|[Unit]\n|: BadTimerName;: NoTimerSection
+jobs|\xff|: BadTimerName;: NotUtf8
+a@b.timer|[Timer]\nOnCalendar=%i\n|: BadTimerName;:2: part 0: Specifier
+ROWS
+
+# Of a text that is no UTF-8 there are no lines, and so no section and no notes either.
+check_texts <<'ROWS'
+--crontab jobs|60 * * * * x\n0 0 31 2 * x\n\xff\n|: NotUtf8
+--crontab jobs|# \xc3\n60 * * * * x\n|: NotUtf8
+a.timer|[Unit]\n\xff\n|: NotUtf8
+a.timer|[Timer]\n\xff\n|: NotUtf8
+a.timer|[Timer]\nOnCalendar=25:00\nOnCalendar=*-2-30\n#\xff\n|: NotUtf8
+ROWS
+
+# Nor are there of a text that is too large. Whether it is UTF-8 isn't asked then. One byte less, and all is read.
+check_filled most 1048576 '60 * * * * x\n0 0 31 2 * u x\n'
+check_filled more 1048577 '60 * * * * x\n0 0 31 2 * u x\n'
+check_filled more~ 1048577 '60 * * * * x\n\xff\n'
+check_filled most.timer 1048576 '[Timer]\nOnCalendar=25:00\nOnCalendar=*-2-30\n'
+check_filled more.timer 1048577 '[Timer]\nOnCalendar=25:00\nOnCalendar=*-2-30\n'
+check_filled unit.timer 1048577 '[Unit]\n\xff\n'
+check_rows <<'ROWS'
+--crontab most most.timer|most:1: part 1: OutOfRange;most:2: note: NeverStarts;most.timer:2: part 5: OutOfRange;most.timer:3: note: NeverStarts
+--crontab more|more: TooLarge
+--system-crontab more|more: TooLarge
+--cron-d more|more: TooLarge
+--cron-d more~|more~: BadTabName;more~: TooLarge
+--spool more~|more~: BadTabName;more~: TooLarge
+--crontab more~|more~: TooLarge
+more.timer|more.timer: TooLarge
+unit.timer|unit.timer: TooLarge
+more|more: BadTimerName;more: TooLarge
+--crontab /dev/zero|/dev/zero: TooLarge
+--cron-d /dev/zero /dev/zero|/dev/zero: TooLarge;/dev/zero: BadTimerName;/dev/zero: TooLarge
+ROWS
+
+# A refused assignment is told at the first line of its joined line, also where a later one takes all events away. Where there is no
+# section [Timer] nothing is read.
+check_texts <<'ROWS'
+a.timer|[Timer]\nOnCalendar=Mon \\\n# note\n25:00\nOnCalendar=x\n|:2: part 5: OutOfRange;:5: part 0: UnknownWord
+a.timer|[Timer]\nUnit=a \\\nOnCalendar=x\nOnCalendar=\\\n\\\n25:00|:4: part 5: OutOfRange
+a.timer|[Timer]\r\nOnCalendar=Mon \\\r\n25:00\r\n|:2: part 5: OutOfRange
+a.timer|[Timer]\nOnCalendar=daily\nOnCalendar=fortnightly\nOnCalendar=\nOnCalendar=weekly\n|:3: part 0: UnknownWord
+a.timer|[Timer]\nOnCalendar=x\nOnActiveSec=\nOnCalendar=x\nOnBootSec=\nOnCalendar=x\nOnStartupSec=\nOnCalendar=daily|:2: part 0: UnknownWord;:4: part 0: UnknownWord;:6: part 0: UnknownWord
+a.timer|[Timer]\nOnCalendar=x\nOnUnitActiveSec=\nOnCalendar=x\nOnUnitInactiveSec=\n|: note: NoEvents;:2: part 0: UnknownWord;:4: part 0: UnknownWord
+a.timer|OnCalendar=x\n[Unit]\nOnCalendar=x\n[Timer]\nOnCalendar=daily\n[Install]\nOnCalendar=x\n|
+a.timer|[Timer]\noncalendar=x\nOnCalendar x\nOnBootSec=x\nUnit=\nOnCalendar=daily\n|
+ROWS
+
+# TooManyLines stands at the first event that finds 64 in the list, and the next that do have no finding. None of them is read. A refused
+# event counts as if it were right, and an empty value takes all away.
+check_lists <<'ROWS'
+64 daily|
+65 daily|:66: TooManyLines
+99 daily|:66: TooManyLines
+64 daily;1 25:00|:66: TooManyLines
+64 daily;1 *-2-30|:66: TooManyLines
+64 daily;1 daily;1 25:00;1 *-2-30|:66: TooManyLines
+1 25:00;63 daily|:2: part 5: OutOfRange
+1 25:00;63 daily;1 daily|:2: part 5: OutOfRange;:66: TooManyLines
+63 daily;1 x;2 y|:65: part 0: UnknownWord;:66: TooManyLines
+63 daily;1 *-2-30;2 y|:65: note: NeverStarts;:66: TooManyLines
+64 daily;1 ;64 daily|
+64 daily;1 ;65 daily|:131: TooManyLines
+65 daily;1 ;65 daily|:66: TooManyLines
+65 daily;1 ;1 x;1 *-2-30|:66: TooManyLines;:68: part 0: UnknownWord;:69: note: NeverStarts
+66 daily;1 ;64 daily;1 x;1 ;1 25:00|:66: TooManyLines;:135: part 5: OutOfRange
+40 daily;1 ;40 daily|
+65 daily;1 |: note: NoEvents;:66: TooManyLines
+64 daily;1 |: note: NoEvents
+ROWS
+{ echo '[Timer]' && check_times 66 'OnCalendar=%i'; } >"$check_folder/a.timer"
+{ seq -f 'a.timer:%g: part 0: Specifier' 2 65 && echo 'a.timer:66: TooManyLines'; } >"$work/findings.wanted"
+check_run a.timer
+check_compare "check a timer of 66 refused events"
+# a joined line
+{ echo '[Timer]' && check_times 64 'OnCalendar=daily' && printf '%b' 'OnCalendar=\\\n#\nMon \\\n25:00\n'; } >"$check_folder/a.timer"
+check_run a.timer
+check_findings "check a joined line that finds 64 events" 'a.timer:66: TooManyLines'
+
+# Two jobs of one name: the second is told at its line, or as a timer, and is not added. A line that is refused makes no job, nor does a
+# file whose name is bad; a timer is a job whatever else is refused of it.
+check_file system '@daily root b\n'
+check_file one/x '\n@daily u a\n'
+check_file two/x '\n@daily u b\n60 * * * * u c\n'
+check_file one/cron '@daily a\n'
+check_file one/system '@daily u a\n'
+check_file one/y '@daily a\n# b\n@reboot c\n'
+check_file two/y '@daily u\n\n@daily c\n'
+check_file one/z '60 * * * * u x\n'
+check_file two/z '@daily u x\n'
+check_file one/a.b '@daily u x\n'
+check_file two/a.b '@daily x\n'
+check_file one/.a '@daily x\n'
+check_file one/latin '@daily x \xff\n'
+check_file two/latin '@daily x\n'
+check_file one/d.timer '[Timer]\nOnCalendar=25:00\n'
+check_file one/e.timer '[Unit]\n'
+check_file two/e.timer '[Timer]\nOnCalendar=daily\n'
+check_file one/f.timer '\xff'
+check_file two/f.timer '[Timer]\nOnCalendar=weekly\n'
+check_file g.timer '[Timer]\n'
+check_filled one/h.timer 1048577 '[Timer]\n'
+check_file two/h.timer '[Timer]\nOnCalendar=daily\n'
+check_file a@b.timer '[Timer]\nOnCalendar=daily\n'
+check_rows <<'ROWS'
+--cron-d one/x --cron-d two/x|two/x:2: SameName;two/x:3: part 1: OutOfRange
+--cron-d one/x --cron-d one/x|one/x:2: SameName
+--cron-d one/x --cron-d one/x --cron-d one/x|one/x:2: SameName;one/x:2: SameName
+--spool one/y --spool one/y|one/y:1: SameName;one/y:3: SameName
+--spool one/y --spool two/y|two/y:1: SameName;two/y:3: SameName
+--cron-d two/y --spool one/y|two/y:1: NoCommand;two/y:3: NoCommand
+--spool two/y --cron-d one/x|
+--crontab daily --spool one/cron|one/cron:1: SameName
+--crontab daily --cron-d one/cron|one/cron:1: NoCommand
+--system-crontab system --cron-d one/system|one/system:1: SameName
+--system-crontab system --spool one/cron|
+--cron-d one/z --cron-d two/z|one/z:1: part 1: OutOfRange
+--cron-d two/z --cron-d one/z|one/z:1: part 1: OutOfRange
+--cron-d one/a.b --spool two/a.b|one/a.b: BadTabName
+--cron-d one/a.b --cron-d one/a.b|one/a.b: BadTabName;one/a.b: BadTabName
+--spool one/.a --spool one/.a|one/.a: BadTabName;one/.a: BadTabName
+--spool one/latin --spool two/latin|one/latin: NotUtf8
+d.timer d.timer|d.timer: SameName
+d.timer one/d.timer|one/d.timer: SameName;one/d.timer:2: part 5: OutOfRange
+one/d.timer d.timer|one/d.timer:2: part 5: OutOfRange;d.timer: SameName
+one/e.timer two/e.timer|one/e.timer: NoTimerSection;two/e.timer: SameName
+two/e.timer one/e.timer|one/e.timer: NoTimerSection;one/e.timer: SameName
+one/f.timer two/f.timer|one/f.timer: NotUtf8;two/f.timer: SameName
+two/f.timer one/f.timer|one/f.timer: NotUtf8;one/f.timer: SameName
+one/h.timer two/h.timer|one/h.timer: TooLarge;two/h.timer: SameName
+two/h.timer one/h.timer|one/h.timer: TooLarge;one/h.timer: SameName
+g.timer g.timer|g.timer: note: NoEvents;g.timer: SameName;g.timer: note: NoEvents
+daily daily|daily: BadTimerName;daily: NoTimerSection;daily: BadTimerName;daily: NoTimerSection
+a@b.timer a@b.timer|a@b.timer: BadTimerName;a@b.timer: BadTimerName
+ROWS
+
+# A thousand jobs are the most. The next is Full, once in all; those after it aren't added either and have no finding. A name that is there
+# is told all the same; what wasn't added isn't there.
+check_times 999 '* * * * * x' >"$check_folder/most999"
+check_times 1000 '* * * * * x' >"$check_folder/thousand"
+{ check_times 1000 '* * * * * x' && printf '%b' '0 0 31 2 * x\n* * * * * x\n0 0 1 * 1 x\n60 * * * * x\n'; } >"$check_folder/many"
+{ check_times 1000 '#' && printf '@daily x\n'; } >"$check_folder/two/cron"
+check_file bad.timer '[Timer]\nOnCalendar=25:00\n'
+check_file n.timer '[Unit]\n'
+check_rows <<'ROWS'
+--crontab thousand|
+--crontab most999 d.timer|
+--crontab most999 --spool one/a.b --spool one/.a a@b.timer d.timer|one/.a: BadTabName;a@b.timer: BadTimerName;d.timer: Full
+--crontab most999 --cron-d one/a.b --spool one/.a a@b.timer d.timer|one/a.b: BadTabName;one/.a: BadTabName;a@b.timer: BadTimerName
+--crontab most999 --cron-d one/z d.timer two/e.timer|one/z:1: part 1: OutOfRange;two/e.timer: Full
+--crontab most999 --spool one/cron d.timer two/e.timer|one/cron:1: SameName;two/e.timer: Full
+--crontab many|many:1001: Full;many:1001: note: NeverStarts;many:1003: note: EitherDay;many:1004: part 1: OutOfRange
+--crontab thousand --system-crontab system|system:1: Full
+--crontab thousand --spool one/y|one/y:1: Full
+--crontab thousand --spool one/cron|one/cron:1: SameName
+--crontab thousand --spool one/cron d.timer|one/cron:1: SameName;d.timer: Full
+--crontab thousand d.timer two/e.timer two/e.timer|d.timer: Full
+--crontab thousand bad.timer|bad.timer: Full;bad.timer:2: part 5: OutOfRange
+--crontab thousand n.timer|n.timer: NoTimerSection;n.timer: Full
+--crontab thousand one/f.timer|one/f.timer: NotUtf8;one/f.timer: Full
+--crontab thousand g.timer|g.timer: Full;g.timer: note: NoEvents
+--crontab thousand a@b.timer --spool one/.a|one/.a: BadTabName;a@b.timer: BadTimerName
+--crontab thousand --cron-d one/z one/f.timer bad.timer|one/z:1: part 1: OutOfRange;one/f.timer: NotUtf8;one/f.timer: Full;bad.timer:2: part 5: OutOfRange
+--crontab thousand --system-crontab system --cron-d one/x --spool one/cron|system:1: Full;one/cron:1: SameName
+--crontab many --spool two/cron|many:1001: Full;many:1001: note: NeverStarts;many:1003: note: EitherDay;many:1004: part 1: OutOfRange
+ROWS
+
+# No start in all years: days that no month has, and dates that have another weekday. 2100 has no leap day, and a month has no more days
+# from its end than from its begin. 2024-01-02 is a Tuesday, 1970-01-01 a Thursday and 2999-12-31 a Tuesday; all of these days are starts.
+# `@reboot` never starts either, and is meant so.
+check_notes cron <<'ROWS'
+0 0 31 2 *|NeverStarts
+0 0 30 2 *|NeverStarts
+0 0 30-31 feb *|NeverStarts
+0 0 31 2,4,6,9,11 *|NeverStarts
+* * 31 */2 *|
+0 0 31 4-6/2 *|NeverStarts
+0 0 30 2 */2|NeverStarts
+0 0 29 2 *|
+0 0 29 2 */7|
+0 0 28-31 2 *|
+0 0 31 2-3 *|
+0 0 31 * *|
+@reboot|
+@yearly|
+@monthly|
+@weekly|
+ROWS
+check_notes calendar <<'ROWS'
+*-2-30|NeverStarts
+*-02-30,31 12:00|NeverStarts
+*-4,6,9,11-31|NeverStarts
+*-2~30|NeverStarts
+*-4~31 *:*:*|NeverStarts
+*-2~29|
+*-4~30|
+2100-2-29|NeverStarts
+2000-2-29|
+2100..2103-2-29|NeverStarts
+2100..2104-2-29|
+Mon 2024-1-2|NeverStarts
+Tue 2024-1-2|
+Mon..Wed,Fri..Sun 1970-1-1|NeverStarts
+1970-1-1|
+Thu 1970-1-1 00:00:00|
+2999-12-31 23:59:59|
+Tue 2999-12-31|
+Mon 2999-12-31|NeverStarts
+Fri *-*-13|
+daily|
+ROWS
+
+# Either day suffices where both day fields are restricted, as one is whose first character isn't `*`. In a month each weekday comes, so
+# such a line starts also where no month has its day.
+check_notes cron <<'ROWS'
+0 0 1 * 1|EitherDay
+30 4 1,15 * 5|EitherDay
+0 0 1-31 * 0-7|EitherDay
+0 0 31 2 1|EitherDay
+0 0 30 feb mon-fri|EitherDay
+0 0 1 * *|
+0 0 * * 1|
+0 0 */2 * 1|
+0 0 1 * */2|
+0 0 */2 * */2|
+0 0 *,1 * 1|
+0 0 1,* * 1|EitherDay
+0 0 1 * 1,*|EitherDay
+@monthly|
+@weekly|
+ROWS
+
+# No events: the section is there, and the list is empty at the end. What counts is the list, in which a refused event stands too.
+check_texts <<'ROWS'
+a.timer|[Timer]\n|: note: NoEvents
+a.timer|[Timer]|: note: NoEvents
+a.timer|[Timer]\nOnBootSec=5\nUnit=x.service\n|: note: NoEvents
+a.timer|[Timer]\nOnCalendar=daily\nOnCalendar=\n|: note: NoEvents
+a.timer|[Timer]\nOnCalendar=daily\nOnUnitActiveSec=\n|: note: NoEvents
+a.timer|[Timer]\nOnCalendar=daily\nOnUnitActiveSec=5\n|
+a.timer|[Timer]\nOnCalendar=\nOnCalendar=daily\n|
+a.timer|[Timer]\n[Timer]\nOnCalendar=daily\n|
+a.timer|[Timer]\n[Unit]\nOnCalendar=daily\n|: note: NoEvents
+a.timer|[Timer]\nOnCalendar=25:00\n|:2: part 5: OutOfRange
+a.timer|[Timer]\nOnCalendar=25:00\nOnCalendar=\n|: note: NoEvents;:2: part 5: OutOfRange
+a.timer|[Timer]\nOnCalendar=*-2-30\nOnCalendar=\n|: note: NoEvents;:2: note: NeverStarts
+a.timer|[Unit]\n[Timer\n|: NoTimerSection
+ROWS
+
+# A note stands where the text is right, also where the name or the job is refused. On a line that is refused there is none. Of one line
+# comes first what is refused.
+check_file one/n '0 0 31 2 * u a\n0 0 1 * 1 u b\n'
+check_file two/n '0 0 31 2 * c\n0 0 1 * 1 d\n'
+check_file never '0 0 31 2 * x\n@reboot x\n'
+check_file one/never.timer '[Timer]\nOnCalendar=*-2-30\n'
+check_file two/never.timer '[Timer]\nOnCalendar=Mon 2024-1-2\n'
+check_rows <<'ROWS'
+--cron-d one/n|one/n:1: note: NeverStarts;one/n:2: note: EitherDay
+--cron-d one/n --spool two/n|one/n:1: note: NeverStarts;one/n:2: note: EitherDay;two/n:1: SameName;two/n:1: note: NeverStarts;two/n:2: SameName;two/n:2: note: EitherDay
+--crontab thousand --spool two/n|two/n:1: Full;two/n:1: note: NeverStarts;two/n:2: note: EitherDay
+--crontab never|never:1: note: NeverStarts
+--crontab never one/never.timer|never:1: note: NeverStarts;one/never.timer:2: note: NeverStarts
+one/never.timer two/never.timer|one/never.timer:2: note: NeverStarts;two/never.timer: SameName;two/never.timer:2: note: NeverStarts
+--crontab thousand one/never.timer|one/never.timer: Full;one/never.timer:2: note: NeverStarts
+ROWS
+check_texts <<'ROWS'
+--crontab jobs|0 0 31 2 *\n0 0 1 * 1\n0 0 31 2 1 x\n|:1: NoCommand;:2: NoCommand;:3: note: EitherDay
+--system-crontab jobs|0 0 31 2 * u\n0 0 1 * 1 u\n0 0 31 2 * u x|:1: NoCommand;:2: NoCommand;:3: note: NeverStarts
+--crontab jobs|60 0 1 * 1 x\n0 0 1 * 8 x\n|:1: part 1: OutOfRange;:2: part 5: OutOfRange
+a.timer|[Timer]\nOnCalendar=Mon \\\n2024-1-2\nOnCalendar=25:00\n|:2: note: NeverStarts;:4: part 5: OutOfRange
+ROWS
+
+# The sources stand in the order of the options in the synopsis, and those of one option in the order given.
+check_file cron.d/p '@daily root\n'
+check_file cron.d/q '@x root a\n'
+check_file spool/u '60 * * * * x\n'
+check_file spool/v 'MAILTO\n'
+check_rows <<'ROWS'
+g.timer bad.timer --spool spool/v --cron-d cron.d/q --system-crontab cron.d/p --spool spool/u --cron-d cron.d/p --crontab spool/u|spool/u:1: part 1: OutOfRange;cron.d/p:1: NoCommand;cron.d/q:1: part 0: UnknownWord;cron.d/p:1: NoCommand;spool/v:1: BadSetting;spool/u:1: part 1: OutOfRange;g.timer: note: NoEvents;bad.timer:2: part 5: OutOfRange
+bad.timer g.timer n.timer|bad.timer:2: part 5: OutOfRange;g.timer: note: NoEvents;n.timer: NoTimerSection
+ROWS
+
+# The path is written as it was given.
+check_file 'a:7' '60 * * * * x\n'
+check_file '-' '@daily u\n'
+check_rows <<ROWS
+--crontab ./spool/u|./spool/u:1: part 1: OutOfRange
+--crontab=spool//u|spool//u:1: part 1: OutOfRange
+--spool spool/../spool/u --spool=./spool/v|spool/../spool/u:1: part 1: OutOfRange;./spool/v:1: BadSetting
+--crontab $check_folder/spool/u|$check_folder/spool/u:1: part 1: OutOfRange
+--crontab a:7|a:7:1: part 1: OutOfRange
+--spool a:7|a:7: BadTabName;a:7:1: part 1: OutOfRange
+--cron-d -|-:1: NoCommand
+./bad.timer one/../g.timer|./bad.timer:2: part 5: OutOfRange;one/../g.timer: note: NoEvents
+-- bad.timer -|bad.timer:2: part 5: OutOfRange;-: BadTimerName;-: NoTimerSection
+ROWS
+check_file 'one/a b: c' '@daily\n'
+check_run --spool 'one/a b: c' --crontab 'one/a b: c'
+check_findings "check a path with blanks" 'one/a b: c:1: NoCommand;one/a b: c: BadTabName;one/a b: c:1: NoCommand'
+run_in "$check_folder" bash -c "printf '@daily a\n@daily' | agenda check --crontab /dev/stdin"
+check_findings "check a pipe as crontab" '/dev/stdin:2: NoCommand'
+
+# A file that can't be read comes before every fault of a text, and nothing else is written then.
+questions_folder=$check_folder questions_refused check <<'ROWS'
+--crontab nothing|nothing: Device
+--system-crontab nothing|nothing: Device
+--cron-d nothing|nothing: Device
+--spool nothing|nothing: Device
+--cron-d one/|one/: Device
+--crontab .|.: Device
+nothing.timer|nothing.timer: Device
+folder.timer|folder.timer: Device
+nothing|nothing: Device
+nothing~ --spool nothing~4 --cron-d nothing~3 --system-crontab nothing2 --crontab nothing1|nothing1: Device
+nothing~ --spool nothing~4 --cron-d nothing~3 --system-crontab nothing2|nothing2: Device
+nothing~ --spool nothing~4 --cron-d nothing~3|nothing~3: Device
+nothing~ --spool nothing~4|nothing~4: Device
+--cron-d cron.d/p --cron-d nothing3 --cron-d nothing4|nothing3: Device
+--crontab spool/u bad.timer nothing.timer|nothing.timer: Device
+nothing.timer bad.timer --crontab spool/u|nothing.timer: Device
+--crontab /dev/zero nothing|nothing: Device
+--crontab daily nothing|nothing: Device
+ROWS
+
+check_run --crontab ''
+is_refused "check --crontab ''" ": Device" 3
+
+# Something is refused exactly where plan refuses the sources.
+check_as_plan <<ROWS
+
+--crontab most999 d.timer
+--crontab most999 d.timer two/e.timer
+--crontab thousand
+--crontab many
+--crontab thousand --spool one/cron
+--crontab thousand --spool two/cron
+--crontab thousand a@b.timer
+--crontab /dev/zero
+--crontab most most.timer
+--crontab more
+more.timer
+--system-crontab $top/examples/server-and-timers/etc-crontab $top/examples/server-and-timers/scrub.timer
+--crontab $top/examples/window-user-crontab/crontab $top/examples/friday-the-13th/friday.timer
+--crontab $top/examples/faulty-line/crontab
+$top/examples/timer-with-resets/backup.timer $top/examples/all-timers-of-folder/timers/a-first.timer
+$top/examples/template-timer/backup@home.timer
+ROWS
+check_pairs_as_plan <<'ROWS'
+--crontab daily
+--crontab spool/u
+--cron-d one/x
+--cron-d two/x
+--cron-d one/a.b
+--spool one/cron
+--spool one/latin
+d.timer
+one/d.timer
+one/never.timer
+n.timer
+ROWS
+
+# The first refused line of a crontab is the one that plan tells, with its cause; so is the whole file.
+for option in --crontab --system-crontab --cron-d --spool; do
+  check_first_as_plan <<ROWS
+$option|0 0 31 2 * u x\n60 * * * * u x\n@daily\n
+$option|# a\n@daily\n60 * * * * u x\n
+$option|@daily u x\nMAILTO\n* * * * *\n
+$option|0 0 1 * 1 u x\n* * * sat * u x\n* * * 13 * u x\n
+$option|@daily u x\n@hour u x\n@hourly\n
+$option|* * * *\n99 * * * * u x\n
+$option|60 * * * * u x\n\xff\n
+ROWS
+done
