@@ -2,7 +2,9 @@
 
 ghost use Rattle.std.specs.Prelude.{◌≡◌, Bool, IsTrue, map};
 ghost use Rattle.std.specs.Str.{bytes_eq};
+ghost use Rattle.plan_sets.specs.Items.{set_reading};
 ghost use Rattle.plan_grammar.specs.Readings.{Gives, GivesBy};
+ghost use Rattle.plan_grammar.specs.Elements.{set_in_part};
 ghost use Rattle.plan_grammar.specs.Cron.{part_of, lowest, highest, names_of, named_value, value_reading, step_reading, side_reading, item_of, item_reading, items_reading, field_reading, is_restricted};
 
 use crate::element::{Side, number_in};
@@ -176,16 +178,27 @@ impl Field {
         Ok(items)
     }
 
-    /// The values that the field's text admits.
+    // The set of the values of the field's items.
+    fn set_of_items(self, items: &[Item]) -> Result<ValueSet, RuleFault>
+        ensures { result ≡ set_in_part (part_of self) (set_reading items.now (lowest self) (highest self)) }
+    {
+        match set_of(items, self.lowest(), self.highest()) {
+            Ok(values) => Ok(values),
+            Err(fault) => Err(self.fault(RuleCause::Values(fault))),
+        }
+    }
+
+    /// The values that the field's text admits. A text without a comma is one element, which takes no memory.
     #[tactic(auto, unfolding(crate::specs::Cron::field_reading))]
     pub fn values(self, alloc: Global, text: &[u8]) -> Result<ValueSet, RuleFault>
         ensures { Gives result (field_reading self text.now) }
     {
-        let items = self.items(alloc, text)?;
-        match set_of(items.as_slice(), self.lowest(), self.highest()) {
-            Ok(values) => Ok(values),
-            Err(fault) => Err(self.fault(RuleCause::Values(fault))),
+        if !text.contains(&b',') {
+            let item = self.item(text)?;
+            return self.set_of_items(&[item]);
         }
+        let items = self.items(alloc, text)?;
+        self.set_of_items(items.as_slice())
     }
 }
 
