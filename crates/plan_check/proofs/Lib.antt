@@ -1,3 +1,4 @@
 pub mod FirstLemmas
 pub mod CleanLemmas
+pub mod LinesLemmas
 pub mod NamesLemmas

@@ -1,8 +1,11 @@
 //! What is found of a crontab (crontab(5)).
 
-ghost use Rattle.std.specs.Prelude.{◌≡◌, ◌++◌, IfOk, OnOk};
+ghost use Rattle.std.specs.Prelude.{◌≡◌, ◌≤◌, ◌++◌, [], length, map, IfOk, OnOk};
+ghost use Rattle.std.specs.List.{cons_option};
 ghost use Rattle.std.specs.Result.{result_err};
-ghost use Rattle.plan_rules.specs.Crontab.{crontab_entries, crontab_reading};
+ghost use Rattle.plan_texts.specs.Limits.{most_bytes};
+ghost use Rattle.plan_rules.specs.Crontab.{crontab_entries, crontab_reading, entries_of_lines, line_reading};
+ghost use Rattle.plan_rules.specs.Entries.{entry_on};
 ghost use Rattle.plan_check.specs.Finding.{first_fault};
 ghost use Rattle.plan_check.specs.Crontabs.{after_crontab, after_entries, after_line, after_tab, after_text, crontab_findings, entries_findings, line_findings, tab_findings, text_findings};
 
@@ -10,9 +13,10 @@ use crate::finding::Finding;
 use crate::names::Names;
 use crate::notes::add_notes;
 use crate::report::{add_job, refuse, refuse_if};
+use plan_rules::lines::lines;
 use plan_rules::{
-    Entry, Job, Kind, LineCause, LineFault, TabFolder, crontab_entries, crontab_is_its_entries,
-    is_tab_name, kind_in,
+    Entry, Job, Kind, LineCause, LineFault, TabFolder, crontab_entry, crontab_is_its_entries,
+    is_tab_name, kind_in, text_of,
 };
 use std::alloc::{AllocError, Global};
 
@@ -78,37 +82,70 @@ fn add_text(
         ++ text_findings is_named names.old (crontab_entries label.now kind bytes.now)) }
     ensures names { OnOk result (names.new ≡ after_text is_named names.old (crontab_entries label.now kind bytes.now)) }
 {
-    match crontab_entries(alloc, label, bytes, kind) {
-        Ok(entries) => add_entries(alloc, names, found, is_named, entries.as_slice()),
-        Err(
-            LineFault {
-                line: _,
-                cause: LineCause::NoMemory,
-            },
-        ) => Err(AllocError),
+    match text_of(bytes) {
+        Ok(text) => {
+            let lines = lines(alloc, text)?;
+            add_lines(alloc, names, found, is_named, label, kind, lines.as_slice())
+        }
         Err(LineFault { line, cause }) => refuse(found, line, cause),
     }
 }
 
-// Adds what is found of lines, in order.
-fn add_entries(
+// Adds what is found of lines, in order. Of each the job is dropped before the next is read.
+#[tactic(auto, unfolding(plan_rules::specs::Crontab::entries_of_lines))]
+fn add_lines(
     alloc: Global,
     names: &mut Names,
     found: &mut Vec<Finding>,
     is_named: bool,
-    entries: &[Entry<Job>],
+    label: &str,
+    kind: Kind,
+    lines: &[&str],
 ) -> Result<(), AllocError>
+    requires { length lines.now ≤ most_bytes }
     ensures found { OnOk result (found.new.items ≡ found.old.items
-        ++ entries_findings is_named names.old entries.now) }
-    ensures names { OnOk result (names.new ≡ after_entries is_named names.old entries.now) }
+        ++ entries_findings is_named names.old (entries_of_lines label.now kind (map (λ line. line.now) lines.now))) }
+    ensures names { OnOk result (names.new
+        ≡ after_entries is_named names.old (entries_of_lines label.now kind (map (λ line. line.now) lines.now))) }
 {
-    for entry in entries {
-        add_entry(alloc, names, found, is_named, entry)?;
+    for (place, line) in lines.iter().enumerate() {
+        add_line(
+            alloc,
+            names,
+            found,
+            is_named,
+            label,
+            kind,
+            place as u32 + 1,
+            line,
+        )?;
     }
     Ok(())
 }
 
-// Adds what is found of a line.
+// Adds what is found of the line with a number.
+fn add_line(
+    alloc: Global,
+    names: &mut Names,
+    found: &mut Vec<Finding>,
+    is_named: bool,
+    label: &str,
+    kind: Kind,
+    number: u32,
+    line: &str,
+) -> Result<(), AllocError>
+    ensures found { OnOk result (found.new.items ≡ found.old.items
+        ++ entries_findings is_named names.old (cons_option (entry_on number (line_reading label.now kind number line.now)) [])) }
+    ensures names { OnOk result (names.new
+        ≡ after_entries is_named names.old (cons_option (entry_on number (line_reading label.now kind number line.now)) [])) }
+{
+    match crontab_entry(alloc, label, kind, number, line)? {
+        Some(entry) => add_entry(alloc, names, found, is_named, &entry),
+        None => Ok(()),
+    }
+}
+
+// Adds what is found of a line that says something or is refused.
 fn add_entry(
     alloc: Global,
     names: &mut Names,

@@ -1,4 +1,4 @@
--- The entries of lines, and what the lines mean together: for `entries_of_lines` of crontabs and the law of their entries.
+-- The entries of lines, and what the lines mean together: for who reads them one after the other, and for the law of their entries.
 -- A text whose lines are read one after the other, up to the first fault, means what its entries do (`each_by_entries`).
 use Rattle.std.proofs.Common.{◌≡◌, ℕ, ◌+◌, ◌<◌, ◌≤◌, List, [], ◌∷◌, ◌++◌, length, take, get_or, Option, Some, None, Ok, Err, refl, ap, sym, ◌∙◌, arith}
 use Rattle.std.proofs.lemmas.List.{take_more, take_all}

@@ -1,7 +1,6 @@
 //! Crontabs, and the jobs of their lines (crontab(5)).
 
-ghost use Rattle.std.specs.Prelude.{◌≡◌, ◌≤◌, ◌↔◌, ℕ, List, Bool, false, Err, IfErr, IfOk, IsTrue, OnOk, [], ◌++◌, length, map, string_bytes};
-ghost use Rattle.std.specs.List.{cons_option};
+ghost use Rattle.std.specs.Prelude.{◌≡◌, ◌≤◌, ◌↔◌, ℕ, List, Bool, false, Err, IfErr, IfOk, IsTrue, length, map, string_bytes};
 ghost use Rattle.std.specs.Result.{result_map_both};
 ghost use Rattle.std.specs.Str.{is_utf8};
 ghost use Rattle.plan_texts.specs.Limits.{most_bytes};
@@ -11,7 +10,7 @@ ghost use Rattle.plan_texts.specs.Lines.{after_blanks, is_too_large};
 ghost use Rattle.plan_rules.specs.LineFaults.{on_line, of_whole, want_of_memory, GivesLine, IsOwnCause};
 ghost use Rattle.plan_rules.specs.declared.crontabs.Kind.{Kind};
 ghost use Rattle.plan_rules.specs.Entries.{entry_on};
-ghost use Rattle.plan_rules.specs.Crontab.{crontab_by_entries, crontab_entries, entries_of_lines, rule_in_front, at_word_in_front, fields_in_front, command_reading, what_reading, job_name, job_reading, begins_setting, setting_reading, line_reading, jobs_reading, crontab_reading};
+ghost use Rattle.plan_rules.specs.Crontab.{crontab_by_entries, rule_in_front, at_word_in_front, fields_in_front, command_reading, what_reading, job_name, job_reading, begins_setting, setting_reading, line_reading, jobs_reading, crontab_reading};
 
 use crate::entry::Entry;
 use crate::file_text::text_of;
@@ -57,23 +56,25 @@ pub fn crontab(alloc: Global, label: &str, bytes: &[u8], kind: Kind) -> Result<V
     jobs_of_lines(alloc, label, kind, lines.as_slice())
 }
 
-/// The entries of a crontab: of each line that makes a job its number, from 1, and the job, and of each that is refused its number and
-/// the one fault that it has, in the order of the lines (crontab(5)).
-///
-/// A line is read as `crontab` reads it, and the others count for nothing. Faults are those of the whole file: `TooLarge` for more than
-/// 1,048,576 bytes, then `NotUtf8`, then `NoMemory`; all are of line 0.
-pub fn crontab_entries(
+/// The entry of the line of a crontab with a number, from 1: the job that it makes, or the one fault that it is refused for; `None` where
+/// it is neither (crontab(5)). It is read as `crontab` reads it, whatever is wrong with other lines, and makes the same job. It fails
+/// where memory is refused.
+pub fn crontab_entry(
     alloc: Global,
     label: &str,
-    bytes: &[u8],
     kind: Kind,
-) -> Result<Vec<Entry<Job>>, LineFault>
-    ensures meaning { GivesUnless want_of_memory (λ entries. entries.items) result
-        (crontab_entries label.now kind bytes.now) }
+    number: u32,
+    line: &str,
+) -> Result<Option<Entry<Job>>, AllocError>
+    ensures { IfOk result (λ entry. entry ≡ entry_on number (line_reading label.now kind number line.now)) }
 {
-    let text = text_of(bytes)?;
-    let lines = lines(alloc, text)?;
-    Ok(entries_of_lines(alloc, label, kind, lines.as_slice())?)
+    let read = match job_of_line(alloc, label, kind, number, line) {
+        Ok(None) => return Ok(None),
+        Ok(Some(job)) => Ok(job),
+        Err(LineCause::NoMemory) => return Err(AllocError),
+        Err(cause) => Err(cause),
+    };
+    Ok(Some(Entry { line: number, read }))
 }
 
 /// The law of a crontab's entries: a crontab means the jobs of its entries where none is refused, and else it has the fault of the first
@@ -84,53 +85,6 @@ pub fn crontab_is_its_entries()
     ensures { (label : List ℕ) (kind : Kind) (bytes : List ℕ) →
         crontab_reading label kind bytes ≡ crontab_by_entries label kind bytes }
 {}
-
-// The entries of lines, in order.
-#[tactic(auto, unfolding(crate::specs::Crontab::entries_of_lines))]
-fn entries_of_lines(
-    alloc: Global,
-    label: &str,
-    kind: Kind,
-    lines: &[&str],
-) -> Result<Vec<Entry<Job>>, AllocError>
-    requires { length lines.now ≤ most_bytes }
-    ensures { IfOk result (λ entries. entries.items
-        ≡ entries_of_lines label.now kind (map (λ line. line.now) lines.now)) }
-{
-    let mut entries = Vec::new(alloc);
-    for (place, line) in lines.iter().enumerate() {
-        add_line(alloc, &mut entries, label, kind, place as u32 + 1, line)?;
-    }
-    Ok(entries)
-}
-
-// Adds the entry of the line with a number, if it has one.
-fn add_line(
-    alloc: Global,
-    entries: &mut Vec<Entry<Job>>,
-    label: &str,
-    kind: Kind,
-    number: u32,
-    line: &str,
-) -> Result<(), AllocError>
-    ensures { OnOk result (entries.new.items ≡ entries.old.items
-        ++ cons_option (entry_on number (line_reading label.now kind number line.now)) []) }
-{
-    match job_of_line(alloc, label, kind, number, line) {
-        Ok(None) => Ok(()),
-        Ok(Some(job)) => {
-            let read = Ok(job);
-            entries.push(Entry { line: number, read })?;
-            Ok(())
-        }
-        Err(LineCause::NoMemory) => Err(AllocError),
-        Err(cause) => {
-            let read = Err(cause);
-            entries.push(Entry { line: number, read })?;
-            Ok(())
-        }
-    }
-}
 
 // The jobs of lines, in order.
 fn jobs_of_lines(

@@ -17,8 +17,9 @@ mod timer_events;
 mod timer_lines;
 mod timers;
 
-pub use crontabs::{Kind, crontab, crontab_entries, crontab_is_its_entries};
+pub use crontabs::{Kind, crontab, crontab_entry, crontab_is_its_entries};
 pub use entry::Entry;
+pub use file_text::text_of;
 pub use job::Job;
 pub use jobs::{AddFault, Jobs, MOST_JOBS};
 pub use line_fault::{LineCause, LineFault};

@@ -1,0 +1,71 @@
+-- What is found of lines, one after the other: for `add_lines`. What is found of two lists of entries is what is found of the first, and
+-- then of the second with the names after it (`entries_findings-append`); a line adds its entry, if it has one (`entries_push`).
+use Rattle.std.proofs.Common.{◌≡◌, ℕ, ◌+◌, ◌<◌, ◌≤◌, Bool, List, [], ◌∷◌, ◌++◌, length, take, get_or, map, Option, refl, ap, sym, ◌∙◌}
+use Rattle.std.proofs.lemmas.List.{append_assoc}
+use Rattle.std.specs.List.{cons_option, filter_map}
+use Rattle.plan_rules.specs.declared.entry.Entry.{Entry}
+use Rattle.plan_rules.specs.Job.{JobParts}
+use Rattle.plan_rules.proofs.CrontabLemmas.{placed}
+use Rattle.plan_rules.proofs.EntryLemmas.{entries_push}
+use Rattle.plan_check.specs.declared.finding.Finding.{Finding}
+use Rattle.plan_check.specs.Crontabs.{line_findings, after_line, entries_findings, after_entries}
+use Rattle.plan_check.specs.Names.{KnownNames}
+
+entries_findings-append :
+    (is_named : Bool) (known : KnownNames) (first second : List (Entry JobParts)) →
+    entries_findings is_named known (first ++ second)
+    ≡ entries_findings is_named known first ++ entries_findings is_named (after_entries is_named known first) second
+entries_findings-append is_named known [] second = refl
+entries_findings-append is_named known (entry ∷ more) second =
+    let here = line_findings is_named known entry.line entry.read in
+    let next = after_line is_named known entry.read in
+    ap (λ found. here ++ found) (entries_findings-append is_named next more second)
+    ∙ sym (append_assoc here (entries_findings is_named next more) (entries_findings is_named (after_entries is_named next more) second))
+
+after_entries-append :
+    (is_named : Bool) (known : KnownNames) (first second : List (Entry JobParts)) →
+    after_entries is_named known (first ++ second) ≡ after_entries is_named (after_entries is_named known first) second
+after_entries-append is_named known [] second = refl
+after_entries-append is_named known (entry ∷ more) second =
+    after_entries-append is_named (after_line is_named known entry.read) more second
+
+-- the entries of the lines so far, and that of one line more
+grown :
+    {A : Type 0} (f : ℕ × List ℕ → Option (Entry JobParts)) (v : A → List ℕ) (lines : List A) (place : ℕ) (d : A) →
+    place < length lines →
+    filter_map f (take place (placed v lines)) ++ cons_option (f (place, v (get_or lines place d))) []
+    ≡ filter_map f (take (place + 1) (placed v lines))
+grown f v lines place d inside = entries_push f v lines place d _ _ inside refl refl
+
+-- so is what was found
+pub found_more :
+    {A : Type 0} (is_named : Bool) (known : KnownNames) (f : ℕ × List ℕ → Option (Entry JobParts)) (v : A → List ℕ) (lines : List A)
+    (place : ℕ) (d : A) (before so_far next : List Finding) (names : KnownNames) → place < length lines →
+    so_far ≡ before ++ entries_findings is_named known (filter_map f (take place (placed v lines))) →
+    names ≡ after_entries is_named known (filter_map f (take place (placed v lines))) →
+    next ≡ so_far ++ entries_findings is_named names (cons_option (f (place, v (get_or lines place d))) []) →
+    next ≡ before ++ entries_findings is_named known (filter_map f (take (place + 1) (placed v lines)))
+found_more is_named known f v lines place d before so_far next names inside found after here =
+    let first = filter_map f (take place (placed v lines)) in
+    let second = cons_option (f (place, v (get_or lines place d))) [] in
+    here
+    ∙ (λ i. found i ++ entries_findings is_named (after i) second)
+    ∙ append_assoc before (entries_findings is_named known first)
+    (entries_findings is_named (after_entries is_named known first) second)
+    ∙ ap (λ found. before ++ found)
+    (sym (entries_findings-append is_named known first second) ∙ ap (entries_findings is_named known) (grown f v lines place d inside))
+
+-- and so are the names
+pub names_more :
+    {A : Type 0} (is_named : Bool) (known : KnownNames) (f : ℕ × List ℕ → Option (Entry JobParts)) (v : A → List ℕ) (lines : List A)
+    (place : ℕ) (d : A) (names next : KnownNames) → place < length lines →
+    names ≡ after_entries is_named known (filter_map f (take place (placed v lines))) →
+    next ≡ after_entries is_named names (cons_option (f (place, v (get_or lines place d))) []) →
+    next ≡ after_entries is_named known (filter_map f (take (place + 1) (placed v lines)))
+names_more is_named known f v lines place d names next inside after here =
+    let first = filter_map f (take place (placed v lines)) in
+    let second = cons_option (f (place, v (get_or lines place d))) [] in
+    here
+    ∙ ap (λ known. after_entries is_named known second) after
+    ∙ sym (after_entries-append is_named known first second)
+    ∙ ap (after_entries is_named known) (grown f v lines place d inside)
