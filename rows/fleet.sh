@@ -309,6 +309,11 @@ fleet_signalled() {
   [ ! -s "$work/out" ] || tell "something on standard output"
   [ -z "$machine_left" ] || tell "left in the temporary folder: $machine_left"
   process=$(cat "$machine_folder/fleet.sleeper")
+  # it was sent the signal, and sleeps for 20 s else
+  for _ in {1..100}; do
+    kill -0 "$process" 2>/dev/null || break
+    sleep 0.05
+  done
   ! kill -0 "$process" 2>/dev/null || tell "agenda runs on"
   count "fleet by $fleet_by: the signal $1"
 }
