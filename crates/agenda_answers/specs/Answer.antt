@@ -5,7 +5,7 @@ use Rattle.plan_sets.specs.Limits.{end_second}
 use Rattle.plan_sets.specs.Moment.{HasFault, moment_text_of}
 use Rattle.agenda_words.specs.declared.Ask.{Ask}
 use Rattle.agenda_words.specs.declared.Ask.TheVariants.{Next, Plan, Upcoming, Quiet, Check, Steps}
-use Rattle.agenda_words.specs.declared.Asked.{Asked}
+use Rattle.agenda_sources.specs.declared.Asked.{Asked}
 use Rattle.agenda_words.specs.declared.UsageFault.{UsageFault}
 use Rattle.agenda_words.specs.declared.UsageFault.TheVariants as usage
 use Rattle.agenda_words.specs.Words.{Gives, asked_by}

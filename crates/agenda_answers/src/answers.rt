@@ -17,8 +17,8 @@ use agenda_commands::{
     Verdict, run_check, run_next, run_plan, run_quiet, run_script, run_upcoming,
 };
 use agenda_faults::{Failure, RunFault, fault_line};
-use agenda_sources::{SourcePath, SourcePaths};
-use agenda_words::{Ask, Asked, UsageFault, read_words};
+use agenda_sources::{Asked, SourcePath, SourcePaths};
+use agenda_words::{Ask, UsageFault, read_words};
 use plan_collect::{Sizes, Span};
 use plan_rules::Text;
 use plan_sets::read_moment;

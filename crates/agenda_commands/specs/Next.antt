@@ -8,8 +8,8 @@ use Rattle.plan_rules.specs.Cron.{cron_reading}
 use Rattle.plan_rules.specs.Event.{event_rule_reading}
 use Rattle.plan_rules.specs.Readings.{Reading}
 use Rattle.plan_next.specs.Starts.{starts}
-use Rattle.agenda_words.specs.declared.Asked.{Asked}
-use Rattle.agenda_words.specs.declared.Asked.TheVariants.{Cron, Event}
+use Rattle.agenda_sources.specs.declared.Asked.{Asked}
+use Rattle.agenda_sources.specs.declared.Asked.TheVariants.{Cron, Event}
 use Rattle.agenda_faults.specs.declared.faults.RunFault.{RunFault}
 use Rattle.agenda_faults.specs.declared.faults.RunFault.TheVariants.{NoMemory, BadCount, Rule as BadRule}
 

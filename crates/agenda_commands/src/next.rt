@@ -6,7 +6,7 @@ ghost use Rattle.agenda_commands.specs.Next.{next_text, IsTextOfNext, RefusesNex
 ghost use Rattle.plan_rules.specs.Readings.{Gives};
 
 use agenda_faults::RunFault;
-use agenda_words::Asked;
+use agenda_sources::Asked;
 use plan_next::next_start;
 use plan_rules::{Rule, RuleFault, calendar_rule, cron_rule};
 use plan_sets::moment_text;

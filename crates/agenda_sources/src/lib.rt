@@ -5,6 +5,7 @@
 //! `sources`, `reading` and `findings`.
 #![tactic(auto)]
 
+mod asked;
 mod bytes;
 mod fault;
 mod findings;
@@ -15,6 +16,7 @@ mod paths;
 mod reading;
 mod sources;
 
+pub use asked::Asked;
 pub use bytes::Bytes;
 pub use fault::SourceFault;
 pub use findings::{Found, findings_of_sources};

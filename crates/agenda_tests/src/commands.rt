@@ -1,7 +1,7 @@
 use crate::writers::{End, Limited, took};
 use agenda_commands::{run_next, run_script};
 use agenda_faults::RunFault;
-use agenda_words::Asked;
+use agenda_sources::Asked;
 use plan_rules::Text;
 use std::process::Abort;
 use std::test::Fail;

@@ -7,7 +7,7 @@ use Rattle.clap.specs.Lexer.{long_of, short_of}
 use Rattle.clap.proofs.OnLiterals.{clap_on_literals}
 use Rattle.plan_collect.specs.declared.Sizes.{Sizes}
 use Rattle.agenda_words.specs.declared.ask.Ask.TheVariants.{Next, Plan, Upcoming, Quiet, Steps}
-use Rattle.agenda_words.specs.declared.ask.Asked.TheVariants.{Cron, Event}
+use Rattle.agenda_sources.specs.declared.Asked.TheVariants.{Cron, Event}
 use Rattle.agenda_sources.specs.declared.SourceKind.TheVariants.{Crontab, System, CronD, Spool, Timer}
 use Rattle.agenda_words.specs.Words.{asked_by, is_usage, path_of, wants_help}
 

@@ -12,8 +12,8 @@ use Rattle.clap.specs.declared.error.kind.ErrorKind.TheVariants.{DisplayHelp, Di
 use Rattle.plan_collect.specs.declared.Sizes.{Sizes}
 use Rattle.agenda_words.specs.declared.ask.Ask.{Ask}
 use Rattle.agenda_words.specs.declared.ask.Ask.TheVariants.{Next, Plan, Upcoming, Quiet, Check, Steps}
-use Rattle.agenda_words.specs.declared.ask.Asked.{Asked}
-use Rattle.agenda_words.specs.declared.ask.Asked.TheVariants.{Cron, Event}
+use Rattle.agenda_sources.specs.declared.Asked.{Asked}
+use Rattle.agenda_sources.specs.declared.Asked.TheVariants.{Cron, Event}
 use Rattle.agenda_words.specs.declared.ask.UsageFault.{UsageFault}
 use Rattle.agenda_words.specs.declared.ask.UsageFault.TheVariants.{NoMemory, Usage, Help}
 use Rattle.agenda_sources.specs.declared.SourceKind.{SourceKind}

@@ -1,6 +1,6 @@
 //! What the words of the command line ask for.
 
-use agenda_sources::SourcePaths;
+use agenda_sources::{Asked, SourcePaths};
 use plan_collect::Sizes;
 use plan_texts::Text;
 use std::alloc::AllocError;
@@ -59,15 +59,6 @@ pub enum Ask {
         /// The path of the script.
         file: Text,
     },
-}
-
-/// The rule that is asked about.
-#[derive(Debug, Drop)]
-pub enum Asked {
-    /// The text of a cron rule.
-    Cron(Text),
-    /// The text of a calendar event.
-    Event(Text),
 }
 
 /// Why the words ask for nothing.

@@ -10,5 +10,5 @@ mod paths;
 mod values;
 mod words;
 
-pub use ask::{Ask, Asked, UsageFault};
+pub use ask::{Ask, UsageFault};
 pub use words::read_words;

@@ -5,10 +5,11 @@ ghost use Rattle.agenda_words.specs.Words.{Gives, IsAnswerTo, asked_by, asked_by
 ghost use Rattle.agenda_words.specs.Words.{asked_by_plan, asked_by_quiet, asked_by_steps, asked_by_subcommand};
 ghost use Rattle.agenda_words.specs.Words.{asked_by_upcoming, sizes_in};
 
-use crate::ask::{Ask, Asked, UsageFault};
+use crate::ask::{Ask, UsageFault};
 use crate::command::agenda_command;
 use crate::paths::sources_of;
 use crate::values::{number_of, text, text_if_given, text_of};
+use agenda_sources::Asked;
 use clap::ArgMatches;
 use clap::error::ErrorKind;
 use plan_collect::Sizes;

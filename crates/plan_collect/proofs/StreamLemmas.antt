@@ -37,13 +37,9 @@ all_waits a text waiting is = record {
   written = Appends-nil a;
 }
 
--- texts that wait one behind the other are one text behind what waited
-pub line_waits :
-    (waiting stamp name tab what end : List ℕ) →
-    waiting ++ (stamp ++ (name ++ (tab ++ (what ++ end)))) ≡ ((((waiting ++ stamp) ++ name) ++ tab) ++ what) ++ end
-line_waits waiting stamp name tab what end =
-    sym (append_assoc (((waiting ++ stamp) ++ name) ++ tab) what end ∙ append_assoc ((waiting ++ stamp) ++ name) tab (what ++ end)
-    ∙ append_assoc (waiting ++ stamp) name (tab ++ (what ++ end)) ∙ append_assoc waiting stamp (name ++ (tab ++ (what ++ end))))
+-- two texts that wait one behind the other are one text behind what waited
+pub line_waits : (waiting stamp end : List ℕ) → waiting ++ (stamp ++ end) ≡ (waiting ++ stamp) ++ end
+line_waits waiting stamp end = sym (append_assoc waiting stamp end)
 
 -- what waited was written, and then some of a text
 prefix_after :

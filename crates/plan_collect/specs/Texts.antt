@@ -2,12 +2,9 @@
 use Rattle.std.specs.Prelude.{ℕ, List, [], ◌++◌, codes, decimal, length, Option, Some, None, slice_get}
 use Rattle.std.specs.List.{flat_map}
 use Rattle.plan_sets.specs.Moment.{moment_text_of}
+pub use Rattle.plan_rules.specs.Job.{line_end}
 use Rattle.plan_rules.specs.Job.{JobParts}
 use Rattle.plan_collect.specs.Agenda.{Planned}
-
--- the end of a line (own): a job's name, what it runs
-abbrev pub line_end : (name what : List ℕ) → List ℕ
-line_end name what = name ++ (codes "\t" ++ (what ++ codes "\n"))
 
 -- the line of an entry (own): the moment, and then these
 abbrev pub line_of : ℕ → Option JobParts → List ℕ

@@ -110,15 +110,5 @@ fn put_next<S: Stream>(
     let Some(job) = jobs.get(next.job() as usize) else {
         return Ok(());
     };
-    put_all(
-        &[
-            b"none\t",
-            job.name().as_bytes(),
-            b"\t",
-            job.what().as_bytes(),
-            b"\n",
-        ],
-        waiting,
-        out,
-    )
+    put_all(&[b"none\t", job.line_end().as_bytes()], waiting, out)
 }

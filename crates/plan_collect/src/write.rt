@@ -4,7 +4,7 @@ ghost use Rattle.std.specs.Prelude.{◌≡◌, ◌≤◌, ◌++◌, length, slic
 ghost use Rattle.std.specs.List.{flat_map};
 ghost use Rattle.plan_collect.specs.Agenda.{IsOfJobs};
 ghost use Rattle.plan_streams.specs.Stream.{Puts, PutsAllBut};
-ghost use Rattle.plan_collect.specs.Texts.{agenda_text, header_of, line_end, line_of};
+ghost use Rattle.plan_collect.specs.Texts.{agenda_text, header_of, line_of};
 
 use crate::agenda::Agenda;
 use crate::buffer::Buffer;
@@ -55,6 +55,7 @@ fn put_header<S: Stream>(
 }
 
 // Puts the line of an entry behind what waits.
+#[inline(always)]
 pub(crate) fn put_line<S: Stream>(
     entry: Entry,
     jobs: &Jobs,
@@ -70,36 +71,25 @@ pub(crate) fn put_line<S: Stream>(
         return Ok(());
     };
     stamp.show(entry.second());
-    put_parts(
-        stamp.text(),
-        job.name().as_bytes(),
-        job.what().as_bytes(),
-        waiting,
-        out,
-    )
+    put_parts(stamp.text(), job.line_end().as_bytes(), waiting, out)
 }
 
-// Puts the parts of a line behind what waits, the first of them with its tab: with one question for room, where there is enough.
+// Puts the two parts of a line behind what waits, the first of them with its tab: with one question for room, where there is enough.
 #[inline(always)]
 fn put_parts<S: Stream>(
     stamp: &[u8; 21],
-    name: &[u8],
-    what: &[u8],
+    end: &[u8],
     waiting: &mut Buffer,
     out: &mut S,
 ) -> Result<(), WriteFault>
     ensures { PutsAllBut S.takes_all result (S.holds out.old) (S.holds out.new)
-        (waiting.old ++ (stamp.now ++ line_end name.now what.now)) waiting.new }
+        (waiting.old ++ (stamp.now ++ end.now)) waiting.new }
 {
-    let most = name.len().saturating_add(what.len()).saturating_add(23);
-    if !waiting.has_room(most) {
-        return put_all(&[stamp, name, b"\t", what, b"\n"], waiting, out);
+    if !waiting.has_room(end.len().saturating_add(21)) {
+        return put_all(&[stamp, end], waiting, out);
     }
     waiting.append(stamp);
-    waiting.append(name);
-    waiting.append(b"\t");
-    waiting.append(what);
-    waiting.append(b"\n");
+    waiting.append(end);
     Ok(())
 }
 

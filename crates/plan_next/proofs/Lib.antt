@@ -2,6 +2,7 @@ pub mod EitherLemmas
 pub mod EventsLemmas
 pub mod FirstLemmas
 pub mod KeptLemmas
+pub mod MinuteLemmas
 pub mod MonthLemmas
 pub mod NextsLemmas
 pub mod PieceLemmas

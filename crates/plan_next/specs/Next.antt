@@ -1,6 +1,8 @@
 -- The next starts of a rule and of its events.
-use Rattle.std.specs.Prelude.{◌≡◌, ℕ, ◌<◌, ◌≤◌, Bool, true, List, length, Some, slice_get, slice_index}
+use Rattle.std.specs.Prelude.{◌≡◌, ℕ, ◌+◌, ◌/◌, ◌%◌, ◌<◌, ◌≤◌, Bool, true, ◌&&◌, nat_lt, List, length, Some, slice_get, slice_index}
+use Rattle.plan_sets.specs.Values.{has_value}
 use Rattle.plan_sets.specs.Civil.{civil_fields}
+use Rattle.plan_match.specs.declared.cron.CronRule.{CronRule}
 use Rattle.plan_match.specs.declared.event.Calendar.{Calendar}
 use Rattle.plan_match.specs.declared.rule.Rule.{Rule}
 use Rattle.plan_match.specs.declared.rule.Rule.TheVariants.{Cron, Never, Events}
@@ -17,6 +19,10 @@ pub record IsFirstOrEnd (test : ℕ → Bool) (a b n : ℕ) : Type 0 where
   pub to : n ≤ b
   pub none : NoneIn test a n
   pub is : n < b → test n ≡ true
+
+-- the minute after that of second n is of the same hour, and one of the rule's
+abbrev pub has_next_minute : CronRule → ℕ → Bool
+has_next_minute rule n = nat_lt (n / 60 % 60 + 1) 60 && has_value rule.minutes (n / 60 % 60 + 1)
 
 -- the event matches the fields of second n
 abbrev pub matches_at : Calendar → ℕ → Bool

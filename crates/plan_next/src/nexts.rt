@@ -4,10 +4,10 @@
 ghost use Rattle.std.specs.Prelude.{◌≡◌, ◌+◌, ◌<◌, ◌≤◌, true, length};
 ghost use Rattle.plan_sets.specs.Limits.{end_second};
 ghost use Rattle.plan_next.specs.Starts.{is_start, IsFirstIn};
-ghost use Rattle.plan_next.specs.Next.{matches_at, most_kept, AreNexts, IsFirstOrEnd, KeepsNexts};
+ghost use Rattle.plan_next.specs.Next.{has_next_minute, matches_at, most_kept, AreNexts, IsFirstOrEnd, KeepsNexts};
 
 use crate::next::{first_of_cron, first_of_events};
-use crate::search::Pattern;
+use crate::search::{MINUTES_AN_HOUR, Pattern, SECONDS_A_MINUTE};
 use plan_match::{Calendar, CronRule, Events, Rule};
 
 /// The longest list of events of which each keeps its next start.
@@ -49,14 +49,27 @@ pub(crate) fn next_or_end(rule: &Rule, start: u64, end: u64, kept: &mut [u64; MO
     }
 }
 
-// The first start of a cron rule after `start`, before `end`.
+// The first start of a cron rule after `start`, before `end`. The minute after is tried first: where it is one, nothing that comes
+// later waits for the search.
 fn next_of_cron(rule: &CronRule, start: u64, end: u64) -> Option<u64>
     requires part { start < end }
     requires years { end ≤ end_second }
     requires start { is_start (Rule.Cron rule.now) start ≡ true }
     ensures { IsFirstIn (is_start (Rule.Cron rule.now)) (start + 1) end result }
 {
+    let later = start + u64::from(SECONDS_A_MINUTE);
+    if later < end && has_next_minute(rule, start) {
+        return Some(later);
+    }
     Pattern::Cron(rule).next_moment(start, end)
+}
+
+// Whether the minute after that of `start` is of the same hour, and one of the rule's.
+fn has_next_minute(rule: &CronRule, start: u64) -> bool
+    ensures { result ≡ has_next_minute rule.now start }
+{
+    let minute = (start / u64::from(SECONDS_A_MINUTE) % u64::from(MINUTES_AN_HOUR)) as u16 + 1;
+    minute < MINUTES_AN_HOUR && rule.minutes().contains(minute)
 }
 
 // Finds the first start of each event from `from` on, or `end` where it has none, and answers the earliest.

@@ -19,9 +19,9 @@ use plan_sets::{Civil, LAST_YEAR, SECONDS_A_DAY, ValueSet, civil_of};
 
 const HOURS_A_DAY: u16 = 24;
 
-const MINUTES_AN_HOUR: u16 = 60;
+pub(crate) const MINUTES_AN_HOUR: u16 = 60;
 
-const SECONDS_A_MINUTE: u16 = 60;
+pub(crate) const SECONDS_A_MINUTE: u16 = 60;
 
 const SECONDS_AN_HOUR: u32 = 3_600;
 

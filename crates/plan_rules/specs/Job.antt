@@ -1,5 +1,5 @@
 -- What contracts see of a job.
-use Rattle.std.specs.Prelude.{ℕ, List, refl}
+use Rattle.std.specs.Prelude.{ℕ, List, ◌++◌, codes, refl}
 use Rattle.std.specs.Coded.{Coded, code_by, coded×, coded_list, coded_ℕ}
 use Rattle.plan_match.specs.contracts.rule.Rule.{the_row}
 use Rattle.plan_match.specs.declared.rule.Rule.{Rule}
@@ -15,3 +15,7 @@ abbrev pub job_code : Coded JobParts
 job_code =
     code_by (List ℕ × (List ℕ × Rule)) (coded× (coded_list coded_ℕ) (coded× (coded_list coded_ℕ) the_row.coded))
     (λ job. (job.name, (job.what, job.rule))) (λ p. record { name = p.0; what = p.1.0; rule = p.1.1 }) (λ _. refl)
+
+-- the end of each line of a job (own): its name, what it runs
+abbrev pub line_end : (name what : List ℕ) → List ℕ
+line_end name what = name ++ (codes "\t" ++ (what ++ codes "\n"))

@@ -167,7 +167,7 @@ fn job(alloc: Global, label: &str, kind: Kind, number: u32, line: &str) -> Resul
     let (rule, rest) = rule_in_front(alloc, line)?;
     let what = what(alloc, kind, rest)?;
     let name = name(alloc, label, number)?;
-    Ok(Job::new(name, what, Arc::new(alloc, rule)?))
+    Ok(Job::new(alloc, name, what, Arc::new(alloc, rule)?)?)
 }
 
 // The rule in front of a line without blanks in front, and what follows it.

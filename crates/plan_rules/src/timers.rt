@@ -192,6 +192,7 @@ impl Settings {
             None => service_name(alloc, name)?,
         };
         let name = String::from_str(alloc, name)?;
-        Ok(Job::new(name, what, Arc::new(alloc, Rule::Events(events))?))
+        let rule = Arc::new(alloc, Rule::Events(events))?;
+        Ok(Job::new(alloc, name, what, rule)?)
     }
 }

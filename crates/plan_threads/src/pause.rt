@@ -6,7 +6,7 @@ use std::thread::Parker;
 use std::time::Duration;
 
 // The first sleep, and the longest, in microseconds.
-const FIRST_SLEEP: u64 = 20;
+const FIRST_SLEEP: u64 = 60;
 
 const LONGEST_SLEEP: u64 = 320;
 

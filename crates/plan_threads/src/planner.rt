@@ -11,6 +11,7 @@ ghost use Rattle.plan_mailbox.specs.History.{IsPrefix};
 ghost use Rattle.plan_threads.specs.Sending.{after_send, cut_rest};
 
 use crate::gate::Gate;
+use crate::pause::Pause;
 use plan_collect::{Note, PIECE_STARTS, Span};
 use plan_mailbox::{Outlet, Receipt};
 use plan_match::Rule;
@@ -18,7 +19,6 @@ use plan_next::{NoMemory, next_piece};
 use plan_rules::Jobs;
 use std::alloc::Global;
 use std::sync::{Arc, Wait};
-use std::thread;
 
 /// Sends the notes of the outlet's planner, and closes the outlet: for each of its jobs ascending, the pieces that adjoin
 /// over the span, each with at most 1,024 starts and at least one, and then its last note. Job j is that of planner j mod
@@ -139,16 +139,17 @@ fn send_job<R: Wait>(
     }
 }
 
-// Sends the note, and tries a full outlet again.
+// Sends the note. While the outlet is full it steps back, and tries again.
 fn send<R: Wait>(rt: &R, outlet: &mut Outlet<Note>, note: Note)
     ensures { outlet_of outlet.new ≡ after_send (outlet_of outlet.old) note }
 {
+    let mut pause = Pause::new();
     let mut note = note;
     for _ in rt.forever() {
         match outlet.try_send(note) {
             Ok(()) => return,
             Err(back) => note = back,
         }
-        thread::yield_now();
+        pause.step_back(rt);
     }
 }
