@@ -7,6 +7,9 @@ use std::fs::File;
 use std::process::ExitCode;
 use std::{env, io};
 
+#[cfg(test)]
+mod tests;
+
 // The files of the machine.
 #[derive(Drop)]
 struct HostFiles<'a>(&'a HostRuntime);

@@ -1,6 +1,6 @@
 //! What words leave behind on both streams, and how often a file is opened, where files and streams fail.
-use crate::files::FewFiles;
-use crate::writers::{End, Limited};
+use crate::tests::files::FewFiles;
+use crate::tests::writers::{End, Limited};
 use agenda_answers::{answer, answer_words, unread_words};
 use std::alloc::Global;
 use std::io::ErrorKind;

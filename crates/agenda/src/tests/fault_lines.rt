@@ -1,4 +1,4 @@
-use crate::writers::{End, Limited, took};
+use crate::tests::writers::{End, Limited, took};
 use agenda_faults::{Failure, RunFault, fault_line};
 use agenda_script::{ScriptCause, ScriptFault};
 use agenda_sources::{SourceKind, SourcePath};

@@ -1,4 +1,4 @@
-use crate::writers::{End, Limited, took};
+use crate::tests::writers::{End, Limited, took};
 use agenda_commands::{run_next, run_script};
 use agenda_faults::RunFault;
 use agenda_sources::Asked;
