@@ -126,7 +126,7 @@ GivesCheck held paths status text =
     (sources : List Source) × (verdict : Verdict) × AreSourcesOf held paths sources × IsTextOfCheck paths sources verdict text
     × (status ≡ status_on verdict)
 
--- when each failure of `check` comes: the files are read, of which one is the failure only where it may fail, and memory is refused anywhere
+-- when each failure of `check` comes: the files are read, of which one is the failure only where it may fail; memory is refused anywhere
 abbrev pub FailsCheck : Held → List SourcePath → Failure → Type 0
 FailsCheck held paths (File path) = IsGiven paths path × IsUnsure (held path)
 FailsCheck held paths (Run run.NoMemory) = ⊤

@@ -50,7 +50,9 @@ abbrev IsNamedBy : List ℕ → ℕ → Option JobParts → Type 0
 IsNamedBy label number None = Unit {0}
 IsNamedBy label number (Some job) = job.name ≡ job_name label number
 
-name_of_job : (label : List ℕ) (kind : Kind) (number : ℕ) (text : List ℕ) → IfOk (job_reading label kind number text) (λ j. j.name ≡ job_name label number)
+name_of_job :
+    (label : List ℕ) (kind : Kind) (number : ℕ) (text : List ℕ) →
+    IfOk (job_reading label kind number text) (λ j. j.name ≡ job_name label number)
 unfolding job_reading
 name_of_job label kind number text =
     any (λ j. j.name ≡ job_name label number) (in_line (rule_in_front text)) _
@@ -66,7 +68,8 @@ name_in_entry label kind number (first ∷ rest) =
     (steps (λ j. j.name ≡ job_name label number) (IsNamedBy label number) (job_reading label kind number (first ∷ rest)) _
     (name_of_job label kind number (first ∷ rest)) (λ j named. named)))
 
-name_in_line : (label : List ℕ) (kind : Kind) (number : ℕ) (text : List ℕ) → IfOk (line_reading label kind number text) (IsNamedBy label number)
+name_in_line :
+    (label : List ℕ) (kind : Kind) (number : ℕ) (text : List ℕ) → IfOk (line_reading label kind number text) (IsNamedBy label number)
 unfolding line_reading
 name_in_line label kind number text = name_in_entry label kind number (after_blanks text)
 
@@ -134,12 +137,14 @@ each_line label kind place (text ∷ texts) small =
     (numbered_reading label kind (place, text)) _
     (on (IsNamedBy label (place + 1)) (place + 1) (line_reading label kind (place + 1) text) (name_in_line label kind (place + 1) text))
     (λ found named. steps (λ found. AreLinesBehind label (place + 1) (filter_map (λ j. j) found))
-    (λ found. AreLinesBehind label place (filter_map (λ j. j) found)) (each (numbered_reading label kind) (enumerate_from (place + 1) texts)) _
+    (λ found. AreLinesBehind label place (filter_map (λ j. j) found))
+    (each (numbered_reading label kind) (enumerate_from (place + 1) texts)) _
     (each_line label kind (place + 1) texts (omega arith))
     (λ more behind. one_more label place found (filter_map (λ j. j) more) (omega arith) named behind))
 
 all_lines :
-    (label : List ℕ) (kind : Kind) (texts : List (List ℕ)) → length texts < 2 ^ 64 → IfOk (jobs_reading label kind texts) (AreLinesBehind label 0)
+    (label : List ℕ) (kind : Kind) (texts : List (List ℕ)) → length texts < 2 ^ 64 →
+    IfOk (jobs_reading label kind texts) (AreLinesBehind label 0)
 unfolding jobs_reading
 all_lines label kind texts small =
     steps (λ found. AreLinesBehind label 0 (filter_map (λ j. j) found)) (AreLinesBehind label 0)
@@ -193,14 +198,15 @@ new_names label old (j ∷ jobs) none (here, all) =
     (ap (λ name. number_of name old) here.named ∙ none here.number, new_names label old jobs none all)
 
 pub crontab_is_new :
-    (label : List ℕ) (kind : Kind) (bytes : List ℕ) (old jobs : List JobParts) → HasNoLineOf label old → crontab_reading label kind bytes ≡ Ok jobs →
-    All (λ job. number_of job.name old ≡ None) jobs
+    (label : List ℕ) (kind : Kind) (bytes : List ℕ) (old jobs : List JobParts) → HasNoLineOf label old →
+    crontab_reading label kind bytes ≡ Ok jobs → All (λ job. number_of job.name old ≡ None) jobs
 crontab_is_new label kind bytes old jobs none is =
     let names = IfOk-at_ok (AreLinesBehind label 0) is (crontab_names label kind bytes) in
     All-from_recursion (λ job. number_of job.name old ≡ None) jobs (new_names label old jobs none names.0)
 
 pub crontab_is_distinct :
-    (label : List ℕ) (kind : Kind) (bytes : List ℕ) (jobs : List JobParts) → crontab_reading label kind bytes ≡ Ok jobs → HaveDistinctNames jobs
+    (label : List ℕ) (kind : Kind) (bytes : List ℕ) (jobs : List JobParts) →
+    crontab_reading label kind bytes ≡ Ok jobs → HaveDistinctNames jobs
 crontab_is_distinct label kind bytes jobs is = (IfOk-at_ok (AreLinesBehind label 0) is (crontab_names label kind bytes)).1
 
 -- ---- the jobs of a user's crontab alone
@@ -209,8 +215,10 @@ not_named :
     (number : ℕ) (jobs : List JobParts) → AllByRecursion (IsLineBehind (codes "cron") 0) jobs →
     AllFail (λ other. bytes_eq (job_name (codes "system") number) other.name) jobs
 not_named number [] all = tt
-not_named number (j ∷ jobs) (here, all) =
-    (other_name (job_name (codes "system") number) j.name (λ same. other_label number here.number (same ∙ here.named)), not_named number jobs all)
+not_named number (j ∷ jobs) (here, all) = (
+  other_name (job_name (codes "system") number) j.name (λ same. other_label number here.number (same ∙ here.named)),
+  not_named number jobs all,
+)
 
 in_a_source :
     (P : List JobParts → Type 0) (place : ℕ) (r : TextReading (List JobParts)) → IfOk r P → IfOk (in_source place r) P

@@ -99,7 +99,9 @@ same_with jobs (job ∷ more) = elim (cases_Bool (is_added job.name (names_of jo
   | inr new ↦ (
       let new' : is_some (number_of job.name jobs) ≡ false = same_name job.name jobs ∙ new in
       let long : length (names_of jobs) ≡ length jobs = length-map jobs (λ (j : JobParts). j.name) in
-      let names : names_of jobs ++ job.name ∷ [] ≡ names_of (jobs ++ job ∷ []) = sym (map-append (λ (j : JobParts). j.name) jobs (job ∷ [])) in
+      let names : names_of jobs ++ job.name ∷ [] ≡ names_of (jobs ++ job ∷ []) =
+      sym (map-append (λ (j : JobParts). j.name) jobs (job ∷ []))
+      in
       elim (cases_Bool (nat_lt (length jobs) most_jobs)) [
         | inl room ↦ (
             let room' : nat_lt (length (names_of jobs)) most_jobs ≡ true = ap (λ n. nat_lt n most_jobs) long ∙ room in

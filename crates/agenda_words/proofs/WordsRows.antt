@@ -155,7 +155,8 @@ unfolding asked_by clap_on_literals
 sources_in_order = refl
 
 -- crontabs that have names, in any number; of one kind they stand in the order of the words
-named_crontabs : asked_by (plan_with (codes "--spool=u" ∷ codes "--cron-d" ∷ codes "b" ∷ codes "--cron-d=a" ∷ codes "--spool" ∷ codes "-" ∷ []))
+named_crontabs :
+    asked_by (plan_with (codes "--spool=u" ∷ codes "--cron-d" ∷ codes "b" ∷ codes "--cron-d=a" ∷ codes "--spool" ∷ codes "-" ∷ []))
     ≡ Ok (Plan moment (codes "u") (path_of CronD (codes "b") ∷ path_of CronD (codes "a") ∷ path_of Spool (codes "u")
     ∷ path_of Spool (codes "-") ∷ []) (sized 2 16 10000))
 unfolding asked_by clap_on_literals

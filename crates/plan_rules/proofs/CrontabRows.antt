@@ -69,7 +69,8 @@ first_matches (Ok (job ∷ jobs)) times = map (λ (time : ℕ × ℕ). rule_matc
 first_matches other times = []
 
 -- at 00:17:00 and 01:17:00, not at 00:00:00
-run_parts_hourly : first_matches (crontab_reading (codes "system") System parts_hourly) ((0, 17) ∷ (1, 17) ∷ (0, 0) ∷ []) ≡ true ∷ true ∷ false ∷ []
+run_parts_hourly :
+    first_matches (crontab_reading (codes "system") System parts_hourly) ((0, 17) ∷ (1, 17) ∷ (0, 0) ∷ []) ≡ true ∷ true ∷ false ∷ []
 unfolding is_utf8 chars lib.Utf8.encode digits lines cut_word words fields_in_front what_reading job_reading line_reading jobs_reading
     cut_at number_of set_reading rule_reading five_fields field_reading items_reading item_reading side_reading value_reading step_reading
     week_days_of at_minute

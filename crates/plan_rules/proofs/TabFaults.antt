@@ -22,7 +22,8 @@ of_line : (c : LineCause) → IsLineCause c → c ≢ BadTabName
 of_line BadTabName own = absurd own
 of_line c own = λ same. cc
 
-of_text : (large utf8 : Bool) (bytes : List ℕ) → IfErr (on_line 0 (cond large (Err TooLarge) (cond utf8 (Ok bytes) (Err NotUtf8)))) IsOfNoName
+of_text :
+    (large utf8 : Bool) (bytes : List ℕ) → IfErr (on_line 0 (cond large (Err TooLarge) (cond utf8 (Ok bytes) (Err NotUtf8)))) IsOfNoName
 of_text true utf8 bytes = λ same. cc
 of_text false true bytes = tt
 of_text false false bytes = λ same. cc

@@ -17,8 +17,8 @@ returns-in_err-job c =
     let (found, so_far, jobs) = c.loop-place.invariant in
     rw (p.1, p.2)
     (λ kept. ap (λ r. r >>= λ found. Ok (filter_map (λ job. job) found))
-    (read_fault (numbered_reading c.args.label.now c.args.kind) (λ line. line.now) c.args.lines.now c.loop-place.place _ found _ c.loop-place-test.true
-    so_far (c.in_err-job.ensures kept)))
+    (read_fault (numbered_reading c.args.label.now c.args.kind) (λ line. line.now) c.args.lines.now c.loop-place.place _ found _
+    c.loop-place-test.true so_far (c.in_err-job.ensures kept)))
 
 pub loop-place-preserved : goal.loop-place-preserved
 loop-place-preserved c =
@@ -26,15 +26,15 @@ loop-place-preserved c =
     elim c.match-branch-2.branch [
       | in-Some+in_ok-push w ↦ (
         found ++ c.in_ok-job.field-0 ∷ [],
-        read_more (numbered_reading c.args.label.now c.args.kind) (λ line. line.now) c.args.lines.now c.loop-place.place _ found _ c.loop-place-test.true
-            so_far c.in_ok-job.ensures,
+        read_more (numbered_reading c.args.label.now c.args.kind) (λ line. line.now) c.args.lines.now c.loop-place.place _ found _
+            c.loop-place-test.true so_far c.in_ok-job.ensures,
         ap (λ v. v.items) w.jobs-is ∙ w.in_ok-push.ensures.items ∙ ap (λ xs. xs ++ w.in-Some.job ∷ []) jobs
             ∙ sym (jobs_push found w.in-Some.job) ∙ ap (λ j. filter_map (λ job. job) (found ++ j ∷ [])) (sym w.in-Some.is),
       )
       | in_default w ↦ (
         found ++ c.in_ok-job.field-0 ∷ [],
-        read_more (numbered_reading c.args.label.now c.args.kind) (λ line. line.now) c.args.lines.now c.loop-place.place _ found _ c.loop-place-test.true
-            so_far c.in_ok-job.ensures,
+        read_more (numbered_reading c.args.label.now c.args.kind) (λ line. line.now) c.args.lines.now c.loop-place.place _ found _
+            c.loop-place-test.true so_far c.in_ok-job.ensures,
         ap (λ v. v.items) w.jobs-is ∙ jobs ∙ sym (jobs_pass found) ∙ ap (λ j. filter_map (λ job. job) (found ++ j ∷ []))
             (sym w.in_default.is),
       )
@@ -45,5 +45,6 @@ unfolding jobs_reading
 returns c =
     let (found, so_far, jobs) = c.loop-place.invariant in
     ap (λ r. r >>= λ found. Ok (filter_map (λ job. job) found))
-    (read_all (numbered_reading c.args.label.now c.args.kind) (λ line. line.now) c.args.lines.now c.loop-place.place found c.loop-place-test.false so_far)
+    (read_all (numbered_reading c.args.label.now c.args.kind) (λ line. line.now) c.args.lines.now c.loop-place.place found
+    c.loop-place-test.false so_far)
     ∙ ap Ok (sym jobs)
