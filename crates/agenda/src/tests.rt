@@ -3,7 +3,6 @@
 //! faults print. They stand with the program, which has next to nothing else that the gate proves once more for them.
 
 mod answers;
-mod bytes;
 mod commands;
 mod fault_lines;
 mod files;

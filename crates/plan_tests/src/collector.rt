@@ -140,28 +140,6 @@ fn a_last_note_or_a_piece_is_missing(rt: HostRuntime) -> Result<(), Fail> {
     Ok(())
 }
 
-// A collector of so many planners, with this limit, is refused so or not at all.
-fn assert_collector(
-    rt: &(impl Abort + AllocGlobal),
-    planners: usize,
-    limit: u64,
-    fault: Option<CollectorFault>,
-) -> Result<(), Fail> {
-    let collector = collector(rt.alloc(), EVERY_MINUTE, 120, planners, limit)?;
-    assert!(rt; collector.err() == fault);
-    Ok(())
-}
-
-#[test]
-fn sizes_and_limits(rt: HostRuntime) -> Result<(), Fail> {
-    assert_collector(&rt, 1, 0, Some(CollectorFault::BadLimit))?;
-    assert_collector(&rt, 8, 1_000_001, Some(CollectorFault::BadLimit))?;
-    assert_collector(&rt, 9, 2, Some(CollectorFault::BadSize))?;
-    assert_collector(&rt, 0, 0, Some(CollectorFault::BadSize))?;
-    assert_collector(&rt, 8, 1_000_000, None)?;
-    assert_collector(&rt, 1, 1, None)
-}
-
 // A collector of a job that starts each minute and one that starts each other minute, of two planners.
 fn two_jobs(alloc: Global) -> Result<Collector, Fail> {
     Ok(collector(alloc, "* * * * * x\n*/2 * * * * y\n", 180, 2, 10)??)

@@ -1,6 +1,6 @@
 //! The tests of what plan_mailbox, plan_collect and plan_threads offer: mailboxes, the ends of their rings, a mailbox behind a lock, and
 //! plans. They stand in a crate that has nothing else: with tests in it, the gate proves a crate once more. What the program shows of
-//! plans stands in rows/agendas.sh.
+//! plans stands in rows/agendas.sh, and what writers take of them in the tests of the program.
 #![tactic(auto)]
 
 #[cfg(test)]
@@ -21,7 +21,3 @@ mod plans;
 mod senders;
 #[cfg(test)]
 mod serial;
-#[cfg(test)]
-mod spans;
-#[cfg(test)]
-mod writers;

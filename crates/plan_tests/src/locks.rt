@@ -1,25 +1,9 @@
 use crate::mailboxes::assert_reply;
-use plan_mailbox::{Locked, NewFault, Reply};
+use plan_mailbox::{Locked, Reply};
 use std::process::Abort;
 use std::sync::Wait;
 use std::test::Fail;
 use std::thread;
-
-fn assert_bad_size(rt: &(impl Abort + AllocGlobal), senders: usize, room: usize) {
-    let fault = Locked::<char>::new(rt.alloc(), senders, room).err();
-    assert_eq!(rt; fault, Some(NewFault::BadSize), "{senders} {room}");
-}
-
-#[test]
-fn sizes_of_a_mailbox_behind_a_lock(rt: HostRuntime) -> Result<(), Fail> {
-    assert_bad_size(&rt, 0, 1);
-    assert_bad_size(&rt, 9, 1);
-    assert_bad_size(&rt, 1, 0);
-    assert_bad_size(&rt, 1, 1025);
-    let largest = Locked::new(rt.alloc(), 8, 1024)?;
-    assert_reply(&rt, largest.send(&rt, 7, 'a'), Reply::Sent);
-    Ok(())
-}
 
 #[test]
 fn one_sender_with_room_for_two(rt: HostRuntime) -> Result<(), Fail> {

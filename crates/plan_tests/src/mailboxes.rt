@@ -1,9 +1,9 @@
 use plan_mailbox::{
-    Core, MOST_ROOM, MOST_SENDERS, NewFault, Post, Reply, Rings, Step, run_steps,
-    takes_what_outlets_sent, takes_what_was_sent,
+    Core, MOST_ROOM, MOST_SENDERS, Post, Reply, Rings, Step, run_steps, takes_what_outlets_sent,
+    takes_what_was_sent,
 };
 use std::alloc::Global;
-use std::fmt::{Debug, Display};
+use std::fmt::Debug;
 use std::process::Abort;
 use std::test::Fail;
 
@@ -178,38 +178,6 @@ fn ten_thousand_steps_at_the_largest_sizes(rt: HostRuntime) -> Result<(), Fail> 
     Ok(())
 }
 
-fn assert_bad_size(rt: &(impl Abort + AllocGlobal), senders: usize, room: usize) {
-    let fault = Core::<char>::new(rt.alloc(), senders, room).err();
-    assert_eq!(rt; fault, Some(NewFault::BadSize), "Core {senders} {room}");
-    let fault = Rings::<char>::new(rt.alloc(), senders, room).err();
-    assert_eq!(rt; fault, Some(NewFault::BadSize), "Rings {senders} {room}");
-}
-
-fn assert_size(rt: &(impl Abort + AllocGlobal), senders: usize, room: usize) -> Result<(), Fail> {
-    assert_new(rt, &Core::new(rt.alloc(), senders, room)?, senders, room);
-    assert_new(rt, &Rings::new(rt.alloc(), senders, room)?, senders, room);
-    Ok(())
-}
-
-#[test]
-fn sizes_of_a_mailbox(rt: HostRuntime) -> Result<(), Fail> {
-    assert_bad_size(&rt, 0, 1);
-    assert_bad_size(&rt, 9, 1);
-    assert_bad_size(&rt, 1, 0);
-    assert_bad_size(&rt, 1, 1025);
-    assert_bad_size(&rt, 0, 0);
-    assert_bad_size(&rt, usize::MAX, 1);
-    assert_size(&rt, 1, 1)?;
-    assert_size(&rt, 8, 1024)?;
-    assert_size(&rt, 2, 16)
-}
-
-fn assert_new<P: Post<char>>(rt: &impl Abort, post: &P, senders: usize, room: usize) {
-    assert!(rt; post.is_new());
-    assert_eq!(rt; post.senders(), senders);
-    assert_eq!(rt; post.room(), room);
-}
-
 #[test]
 fn a_message_comes_back_as_it_was(rt: HostRuntime) -> Result<(), Fail> {
     assert_comes_back(&rt, &mut Core::new(rt.alloc(), 1, 1)?);
@@ -227,23 +195,6 @@ fn assert_comes_back<P: Post<Parcel>>(rt: &impl Abort, post: &mut P) {
     assert_reply(rt, post.take(), Reply::Took(0, Parcel(2)));
     assert_reply(rt, post.take(), Reply::Ended);
     assert!(rt; !post.is_new(), "a message was sent");
-}
-
-/// The fault shows this name.
-fn assert_shown(
-    rt: &(impl Abort + AllocGlobal),
-    fault: &impl Display,
-    wanted: &str,
-) -> Result<(), Fail> {
-    let shown = fault.to_string(rt.alloc())?;
-    assert_eq!(rt; shown.as_str(), wanted);
-    Ok(())
-}
-
-#[test]
-fn faults_show_their_names(rt: HostRuntime) -> Result<(), Fail> {
-    assert_shown(&rt, &NewFault::NoMemory, "NoMemory")?;
-    assert_shown(&rt, &NewFault::BadSize, "BadSize")
 }
 
 #[test]

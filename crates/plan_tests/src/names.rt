@@ -1,6 +1,6 @@
 use plan_collect::{CollectFault, CollectorFault, SpanFault};
+use plan_mailbox::NewFault;
 use plan_serial::PlanFault;
-use plan_streams::WriteFault;
 use std::fmt::Display;
 use std::process::Abort;
 use std::test::Fail;
@@ -26,7 +26,8 @@ fn names_of_faults(rt: HostRuntime) -> Result<(), Fail> {
     assert_name(&rt, &PlanFault::NoMemory, "NoMemory")?;
     assert_name(&rt, &PlanFault::BadSize, "BadSize")?;
     assert_name(&rt, &PlanFault::BadLimit, "BadLimit")?;
-    assert_name(&rt, &WriteFault::Device, "Device")
+    assert_name(&rt, &NewFault::NoMemory, "NoMemory")?;
+    assert_name(&rt, &NewFault::BadSize, "BadSize")
 }
 
 #[test]

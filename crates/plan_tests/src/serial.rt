@@ -1,6 +1,3 @@
-ghost use Rattle.std.specs.Prelude.{length, IfOk};
-ghost use Rattle.plan_collect.specs.Agenda.{IsOfJobs};
-
 use crate::collector::{EVERY_MINUTE, assert_entry, span, user_jobs};
 use plan_collect::{Agenda, CollectFault};
 use plan_rules::Jobs;
@@ -13,14 +10,12 @@ use std::test::Fail;
 const NEW_YEAR: u64 = 1_704_067_200;
 
 // What one planner makes of jobs over so many minutes from the start of 2024 on.
-pub fn planned(
+fn planned(
     alloc: Global,
     jobs: &Jobs,
     minutes: u64,
     limit: u64,
-) -> Result<Result<Agenda, PlanFault>, Fail>
-    ensures { IfOk result (λ planned. IfOk planned (λ made. IsOfJobs (length jobs.now) made.entries)) }
-{
+) -> Result<Result<Agenda, PlanFault>, Fail> {
     let upto = NEW_YEAR.saturating_add(minutes.saturating_mul(60));
     let span = span(NEW_YEAR, upto)?;
     Ok(plan_serial(alloc, jobs, span, limit))

@@ -4,18 +4,16 @@ ghost use Rattle.std.specs.Prelude.{◌≡◌, [], IfOk, Some, slice_get};
 ghost use Rattle.plan_mailbox.specs.Ends.{inlet_of, outlet_of};
 
 use agenda_faults::{Failure, RunFault, fault_line};
-use agenda_sources::{Bytes, Source, SourceKind, SourcePaths, Sources};
-use plan_collect::{Span, SpanFault, write_agenda};
+use plan_collect::{Span, write_agenda};
 use plan_mailbox::{Core, Inlet, Outlet, Post, Reply, Rings};
-use plan_next::{next_from, next_piece, next_start};
-use plan_rules::{Jobs, Kind, Rule, Text, calendar_event, calendar_rule, cron_rule, crontab};
+use plan_next::{next_from, next_start};
+use plan_rules::{Jobs, Kind, Rule, calendar_rule, cron_rule, crontab};
 use plan_serial::plan_serial;
-use plan_sets::{MomentFault, civil_of, read_moment};
+use plan_sets::civil_of;
 use std::alloc::Global;
 use std::io;
 use std::io::Write;
 use std::process::Abort;
-use std::sync::Arc;
 use std::test::Fail;
 
 // How many bytes the last request has that a test makes before the calls.
@@ -67,27 +65,6 @@ fn mailboxes_reply(rt: HostRuntime) -> Result<(), Fail> {
     let ended = ends(rt.alloc());
     assert_replies(&rt, &mut core);
     assert_replies(&rt, &mut rings);
-    assert_ended(&rt, ended);
-    Ok(())
-}
-
-#[test]
-fn jobs_and_pieces_are_read(rt: HostRuntime) -> Result<(), Fail> {
-    let mut jobs = Jobs::new(rt.alloc());
-    for job in crontab(rt.alloc(), "cron", b"0 * * * * x\n", Kind::User)? {
-        jobs.add(job)?;
-    }
-    let rule = Arc::new(rt.alloc(), cron_rule(rt.alloc(), "0 * * * *")?)?;
-    let piece = next_piece(rt.alloc(), &rule, 0, 7_200, 10)?;
-    let ended = ends(rt.alloc());
-    assert!(rt; Jobs::new(rt.alloc()).is_empty());
-    assert!(rt; jobs.len() == 1 && jobs.number_of("cron:1") == Some(0));
-    let job = jobs.get(0).expect(&rt, "a job");
-    assert!(rt; job.name() == "cron:1" && job.what() == "x" && **job.rule() == *rule);
-    assert!(rt;
-        piece.since() == 0 && piece.upto() == 7_200 && piece.starts() == [0, 3_600].as_slice()
-    );
-    assert!(rt; **piece.rule() == *rule);
     assert_ended(&rt, ended);
     Ok(())
 }
@@ -178,68 +155,6 @@ fn an_agenda_is_written(rt: HostRuntime) -> Result<(), Fail> {
     assert_lines(&rt, &out, text);
     assert!(rt; fault_line(&Failure::Run(RunFault::NoMemory), &[], &mut err) == 3);
     assert_lines(&rt, &err, "agenda: NoMemory\n");
-    assert_ended(&rt, ended);
-    Ok(())
-}
-
-#[test]
-fn rules_are_read(rt: HostRuntime) -> Result<(), Fail> {
-    let cron = cron_rule(rt.alloc(), "30 4 1,15 * 5")?;
-    let third = calendar_event(rt.alloc(), "*-02~03")?;
-    let events = calendar_rule(rt.alloc(), "*-02~03")?;
-    let text = String::from_str(rt.alloc(), "a")?;
-    let ended = ends(rt.alloc());
-    let text = Text::new(text);
-    assert!(rt; text.as_str() == "a");
-    let day = civil_of(1_708_992_000);
-    assert!(rt; third.day_matches(&day) && third.matches(&day) && cron != events);
-    assert!(rt; third.years().contains(2024) && third.months().first_from(1) == Some(2));
-    assert!(rt;
-        third.hours().contains(0) && third.minutes().contains(0) && third.seconds().contains(0)
-    );
-    match (&cron, &events) {
-        (Rule::Cron(cron), Rule::Events(events)) => {
-            assert!(rt; cron.hours().contains(4) && cron.minutes().contains(30));
-            assert!(rt; cron.months().contains(2) && !cron.day_matches(&day));
-            assert!(rt; events.len() == 1 && events.get(0) == Some(&third));
-        }
-        _ => panic!(rt; "other rules"),
-    }
-    assert_ended(&rt, ended);
-    Ok(())
-}
-
-#[test]
-fn moments_and_spans_are_read(rt: HostRuntime) {
-    let ended = ends(rt.alloc());
-    assert!(rt; read_moment("2999-12-31T23:59:59Z") == Ok(32_503_679_999));
-    assert!(rt; read_moment("2024-1-1T00:00:00Z") == Err(MomentFault::BadForm));
-    assert!(rt; read_moment("2024-02-30T00:00:00Z") == Err(MomentFault::NoSuchDate));
-    assert!(rt; read_moment("3000-01-01T00:00:01Z") == Err(MomentFault::OutOfYears));
-    assert!(rt; Span::new(1, 0).err() == Some(SpanFault::Backwards));
-    assert!(rt; Span::new(0, 32_503_680_001).err() == Some(SpanFault::OutOfYears));
-    assert_ended(&rt, ended);
-}
-
-#[test]
-fn lists_are_kept_and_lent(rt: HostRuntime) -> Result<(), Fail> {
-    let alloc = rt.alloc();
-    let bytes = Vec::from_array(alloc, [1, 2])?;
-    let name = String::from_str(alloc, "a.timer")?;
-    let read = Vec::from_array(alloc, [3])?;
-    let mut sources = Vec::with_capacity(alloc, 1)?;
-    let ended = ends(alloc);
-    assert!(rt; Bytes::new(bytes).as_slice() == [1, 2].as_slice());
-    assert!(rt; SourcePaths::new(alloc).as_slice().is_empty());
-    let source = Source {
-        kind: SourceKind::Timer,
-        name: Text::new(name),
-        bytes: Bytes::new(read),
-    };
-    assert!(rt; sources.push(source).is_ok());
-    let sources = Sources::new(sources);
-    let source = sources.as_slice().first().expect(&rt, "a source");
-    assert!(rt; source.name.as_str() == "a.timer" && source.bytes.as_slice() == [3].as_slice());
     assert_ended(&rt, ended);
     Ok(())
 }

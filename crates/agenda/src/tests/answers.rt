@@ -1,9 +1,8 @@
 //! What words leave behind on both streams, and how often a file is opened, where files and streams fail.
 use crate::tests::files::FewFiles;
 use crate::tests::writers::{End, Limited};
-use agenda_answers::{answer, answer_words, unread_words};
+use agenda_answers::answer_words;
 use std::alloc::Global;
-use std::io::ErrorKind;
 use std::process::Abort;
 use std::sync::Wait;
 use std::test::Fail;
@@ -30,7 +29,7 @@ fn run(
     Ok(answer_words(rt, rt.alloc(), line.as_slice(), files, out, err))
 }
 
-// That words end with this status, write these texts to the two streams, and open so many files.
+// That words end with this status, write these texts to the two streams, each by one write and one flush, and open so many files.
 fn leaves(
     rt: &(impl Threads + Wait + Sync + Abort + AllocGlobal),
     words: &str,
@@ -44,6 +43,8 @@ fn leaves(
     assert_eq!(rt; ended, status, "{words}");
     assert_eq!(rt; out.bytes(), texts.0.as_bytes(), "{words}");
     assert_eq!(rt; err.bytes(), texts.1.as_bytes(), "{words}");
+    assert!(rt; out.calls.max(err.calls) <= 1, "{words}");
+    assert!(rt; out.flushes.max(err.flushes) <= 1, "{words}");
     assert_eq!(rt; files.opened, opened, "{words}");
     Ok(())
 }
@@ -211,32 +212,6 @@ fn standard_error_that_fails_at_each_byte(rt: HostRuntime) -> Result<(), Fail> {
         2,
     )?;
     faults_at_each_byte(&rt, "agenda|steps|b", b"agenda: b: Device\n", 3)
-}
-
-// That words which can't be read end with this status, and this line on standard error alone.
-fn unread(
-    rt: &(impl Threads + Wait + Sync + Abort + AllocGlobal),
-    kind: ErrorKind,
-    wanted: u8,
-    line: &str,
-) {
-    let asked = Err(unread_words(rt.alloc(), kind));
-    let (mut files, mut out, mut err) = (
-        FewFiles::new(&[], 1, false),
-        Limited::ample(),
-        Limited::ample(),
-    );
-    let status = answer(rt, rt.alloc(), asked, &mut files, &mut out, &mut err);
-    assert_eq!(rt; status, wanted, "{line}");
-    assert_eq!(rt; out.calls, 0);
-    assert_eq!(rt; err.bytes(), line.as_bytes());
-}
-
-#[test]
-fn words_that_are_not_read(rt: HostRuntime) {
-    let line = "a word of the command line is not UTF-8\n";
-    unread(&rt, ErrorKind::InvalidData, 2, line);
-    unread(&rt, ErrorKind::OutOfMemory, 3, "agenda: NoMemory\n");
 }
 
 // A crontab of which one job starts at midnight, and a timer that does.
