@@ -2,6 +2,7 @@
 # What the scripts of bin/ and .ci/run know of the project: where it stands, its program, and a folder to work in. They source this file.
 
 top=$(cd "${BASH_SOURCE[0]%/*}/../.." && pwd) || exit 3
+# shellcheck disable=SC2034
 program=$top/crates/agenda/out/agenda
 
 # Says on standard error, in the name of the script of bin/ that runs, what is wrong: $1.
@@ -15,10 +16,10 @@ stop() {
   exit "${2:-3}"
 }
 
-# The program is there, and as new as its sources.
+# The program $1, which the project makes, is there, and as new as its sources.
 is_current() {
-  [ -x "$program" ] && [ -z "$(find "$top/crates.txt" "$top/crates" -name out -prune -o \
-    -type f \( -name '*.rt' -o -name '*.antt' -o -name crates.txt \) -newer "$program" -print -quit)" ]
+  [ -x "$1" ] && [ -z "$(find "$top/crates.txt" "$top/crates" -name out -prune -o \
+    -type f \( -name '*.rt' -o -name '*.antt' -o -name crates.txt \) -newer "$1" -print -quit)" ]
 }
 
 # Has bin/agenda prove and build the program where it isn't there, or is older than its sources.

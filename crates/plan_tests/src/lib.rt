@@ -1,6 +1,6 @@
-//! The tests of what plan_mailbox, plan_collect and plan_threads offer: mailboxes, the ends of their rings, a mailbox behind a lock, and
-//! plans. They stand in a crate that has nothing else: with tests in it, the gate proves a crate once more. What the program shows of
-//! plans stands in rows/agendas.sh, and what writers take of them in the tests of the program.
+//! The tests of what the crates from plan_sets to plan_threads offer and no command of the program shows: the names of faults, names of
+//! timers, mailboxes, the ends of their rings, a mailbox behind a lock, and plans. They stand in a crate that has nothing else: with tests
+//! in it, the gate proves a crate once more. What the program shows stands in rows/, and what writers take of plans in its tests.
 #![tactic(auto)]
 
 #[cfg(test)]
@@ -21,3 +21,5 @@ mod plans;
 mod senders;
 #[cfg(test)]
 mod serial;
+#[cfg(test)]
+mod timers;

@@ -1,6 +1,11 @@
 use plan_collect::{CollectFault, CollectorFault, SpanFault};
+use plan_grammar::{RuleCause, RuleFault};
 use plan_mailbox::NewFault;
+use plan_next::NoMemory;
+use plan_rules::{AddFault, Job, LineCause, LineFault, timer};
 use plan_serial::PlanFault;
+use plan_sets::{MomentFault, SetFault};
+use std::alloc::Global;
 use std::fmt::Display;
 use std::process::Abort;
 use std::test::Fail;
@@ -16,8 +21,80 @@ fn assert_name(
     Ok(())
 }
 
+// The cause shows this name, and so does a fault in a part that it is the cause of.
+fn assert_rule_name(
+    rt: &(impl Abort + AllocGlobal),
+    cause: RuleCause,
+    name: &str,
+) -> Result<(), Fail> {
+    assert_name(rt, &cause, name)?;
+    assert_name(rt, &RuleFault { part: 1, cause }, name)
+}
+
+#[test]
+fn names_of_the_faults_of_rules(rt: HostRuntime) -> Result<(), Fail> {
+    assert_rule_name(&rt, RuleCause::NoMemory, "NoMemory")?;
+    assert_rule_name(&rt, RuleCause::WrongParts, "WrongParts")?;
+    assert_rule_name(&rt, RuleCause::BadNumber, "BadNumber")?;
+    assert_rule_name(&rt, RuleCause::BadName, "BadName")?;
+    assert_rule_name(&rt, RuleCause::Values(SetFault::NoItem), "NoItem")?;
+    assert_rule_name(&rt, RuleCause::Values(SetFault::OutOfRange), "OutOfRange")?;
+    assert_rule_name(&rt, RuleCause::Values(SetFault::Backwards), "Backwards")?;
+    assert_rule_name(&rt, RuleCause::Values(SetFault::ZeroStep), "ZeroStep")?;
+    assert_rule_name(&rt, RuleCause::Fraction, "Fraction")?;
+    assert_rule_name(&rt, RuleCause::Zone, "Zone")?;
+    assert_rule_name(&rt, RuleCause::UnknownWord, "UnknownWord")?;
+    assert_rule_name(&rt, RuleCause::Specifier, "Specifier")
+}
+
+// The cause of a fault in a line shows this name.
+fn assert_line_name(
+    rt: &(impl Abort + AllocGlobal),
+    cause: LineCause,
+    name: &str,
+) -> Result<(), Fail> {
+    assert_name(rt, &LineFault { line: 3, cause }, name)
+}
+
+// A rule's fault in a line.
+fn rule_fault(part: u8, cause: RuleCause) -> LineCause {
+    LineCause::Rule(RuleFault { part, cause })
+}
+
+#[test]
+fn names_of_the_faults_of_lines(rt: HostRuntime) -> Result<(), Fail> {
+    assert_line_name(&rt, LineCause::NoMemory, "NoMemory")?;
+    assert_line_name(&rt, LineCause::NotUtf8, "NotUtf8")?;
+    assert_line_name(&rt, LineCause::TooLarge, "TooLarge")?;
+    assert_line_name(&rt, LineCause::BadSetting, "BadSetting")?;
+    assert_line_name(&rt, rule_fault(0, RuleCause::UnknownWord), "UnknownWord")?;
+    let backwards = RuleCause::Values(SetFault::Backwards);
+    assert_line_name(&rt, rule_fault(5, backwards), "Backwards")?;
+    assert_line_name(&rt, LineCause::NoCommand, "NoCommand")?;
+    assert_line_name(&rt, LineCause::BadTimerName, "BadTimerName")?;
+    assert_line_name(&rt, LineCause::NoTimerSection, "NoTimerSection")?;
+    assert_line_name(&rt, LineCause::TooManyLines, "TooManyLines")
+}
+
+// A job without starts.
+fn job(alloc: Global) -> Result<Job, Fail> {
+    Ok(timer(alloc, "a.timer", b"[Timer]\n")?)
+}
+
+#[test]
+fn names_of_the_faults_of_jobs(rt: HostRuntime) -> Result<(), Fail> {
+    assert_name(&rt, &AddFault::NoMemory(job(rt.alloc())?), "NoMemory")?;
+    assert_name(&rt, &AddFault::SameName(job(rt.alloc())?), "SameName")?;
+    assert_name(&rt, &AddFault::Full(job(rt.alloc())?), "Full")
+}
+
 #[test]
 fn names_of_faults(rt: HostRuntime) -> Result<(), Fail> {
+    assert_name(&rt, &MomentFault::BadForm, "BadForm")?;
+    assert_name(&rt, &MomentFault::NoSuchDate, "NoSuchDate")?;
+    assert_name(&rt, &MomentFault::OutOfYears, "OutOfYears")?;
+    assert_name(&rt, &SetFault::NoItem, "NoItem")?;
+    assert_name(&rt, &NoMemory, "NoMemory")?;
     assert_name(&rt, &SpanFault::Backwards, "Backwards")?;
     assert_name(&rt, &SpanFault::OutOfYears, "OutOfYears")?;
     assert_name(&rt, &CollectorFault::NoMemory, "NoMemory")?;

@@ -10,14 +10,14 @@ fn the_planners_years(rt: HostRuntime) {
     assert!(rt; SECONDS_A_DAY == 86_400 && END_SECOND == 32_503_680_000);
 }
 
-/// The civil fields of a second before `END_SECOND`.
-pub fn fields(rt: &impl Abort, second: u64) -> Civil {
+// The civil fields of a second before `END_SECOND`.
+fn fields(rt: &impl Abort, second: u64) -> Civil {
     assert!(rt; second < END_SECOND);
     civil_of(second)
 }
 
-/// The second of a moment's text.
-pub fn second(rt: &impl Abort, text: &str) -> u64 {
+// The second of a moment's text.
+fn second(rt: &impl Abort, text: &str) -> u64 {
     read_moment(text).expect(rt, "a moment")
 }
 
