@@ -5,10 +5,10 @@ use Rattle.plan_mailbox.specs.Mailbox.{is_size}
 use Rattle.plan_collect.specs.Agenda.{agenda, planned, rules_of}
 use Rattle.plan_collect.specs.Limits.{is_limit}
 use Rattle.plan_collect.specs.Span.{Bounds}
-use Rattle.plan_collect.specs.Texts.{agenda_text}
+use Rattle.plan_write.specs.Texts.{agenda_text}
 use Rattle.plan_collect.specs.declared.CollectFault.TheVariants as collect
-use Rattle.plan_serial.specs.declared.PlanFault.{PlanFault}
-use Rattle.plan_serial.specs.declared.PlanFault.TheVariants as plan
+use Rattle.plan_collect.specs.declared.PlanFault.{PlanFault}
+use Rattle.plan_collect.specs.declared.PlanFault.TheVariants as plan
 use Rattle.plan_collect.specs.declared.Sizes.{Sizes}
 use Rattle.agenda_sources.specs.Sources.{sources_reading}
 use Rattle.agenda_sources.specs.declared.Source.{Source}

@@ -2,7 +2,7 @@
 use Rattle.std.specs.Prelude.{◌≡◌, ℕ, ◌≤◌, List, Ok}
 use Rattle.plan_rules.specs.Job.{JobParts}
 use Rattle.plan_collect.specs.Agenda.{planned, rules_of}
-use Rattle.plan_collect.specs.Quiet.{quiet_text}
+use Rattle.plan_write.specs.Quiet.{quiet_text}
 use Rattle.plan_collect.specs.Span.{Bounds}
 use Rattle.plan_collect.specs.declared.Sizes.{Sizes}
 use Rattle.agenda_sources.specs.Sources.{sources_reading}

@@ -1,7 +1,7 @@
 -- What is written of the next starts of jobs. All of it is own.
 use Rattle.std.specs.Prelude.{◌≡◌, ⊤, ℕ, List, Ok, Err}
 use Rattle.plan_rules.specs.Job.{JobParts}
-use Rattle.plan_collect.specs.Upcoming.{AreUpcoming, upcoming_text}
+use Rattle.plan_write.specs.Upcoming.{AreUpcoming, upcoming_text}
 use Rattle.agenda_sources.specs.Sources.{sources_reading}
 use Rattle.agenda_sources.specs.declared.Source.{Source}
 use Rattle.agenda_sources.specs.declared.SourceFault.{SourceFault}

@@ -8,9 +8,10 @@ ghost use Rattle.agenda_commands.specs.Quiet.{IsTextOfQuiet, RefusesQuiet};
 
 use agenda_faults::RunFault;
 use agenda_sources::{Sources, jobs_of_sources};
-use plan_collect::{Sizes, Span, write_quiet};
+use plan_collect::{Sizes, Span};
 use plan_streams::Stream;
 use plan_threads::{NoGate, plan};
+use plan_write::write_quiet;
 use std::alloc::Global;
 use std::sync::Wait;
 use std::thread::Threads;

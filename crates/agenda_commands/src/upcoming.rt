@@ -8,8 +8,8 @@ ghost use Rattle.agenda_commands.specs.Upcoming.{IsTextOfUpcoming, RefusesUpcomi
 
 use agenda_faults::RunFault;
 use agenda_sources::{Sources, jobs_of_sources};
-use plan_collect::{Upcoming, write_upcoming};
 use plan_streams::Stream;
+use plan_write::{Upcoming, write_upcoming};
 use std::alloc::Global;
 
 /// Writes when each job of sources starts next, later than `after`, in seconds since 1970-01-01T00:00:00Z: a line for each job, by

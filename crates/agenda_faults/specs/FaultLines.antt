@@ -12,8 +12,8 @@ use Rattle.plan_rules.specs.declared.LineCause.{LineCause}
 use Rattle.plan_rules.specs.declared.LineCause.TheVariants as on_line
 use Rattle.plan_collect.specs.declared.CollectFault.{CollectFault}
 use Rattle.plan_collect.specs.declared.CollectFault.TheVariants as collect
-use Rattle.plan_serial.specs.declared.PlanFault.{PlanFault}
-use Rattle.plan_serial.specs.declared.PlanFault.TheVariants as plan
+use Rattle.plan_collect.specs.declared.PlanFault.{PlanFault}
+use Rattle.plan_collect.specs.declared.PlanFault.TheVariants as plan
 use Rattle.agenda_script.specs.Causes.{script_cause}
 use Rattle.plan_collect.specs.Causes.{span_cause, collect_cause}
 use Rattle.plan_grammar.specs.Causes.{rule_cause}

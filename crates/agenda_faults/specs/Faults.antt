@@ -11,8 +11,8 @@ use Rattle.plan_rules.specs.declared.LineCause.{LineCause}
 use Rattle.plan_rules.specs.declared.LineCause.TheVariants as line
 use Rattle.plan_collect.specs.declared.CollectFault.{CollectFault}
 use Rattle.plan_collect.specs.declared.CollectFault.TheVariants as collect
-use Rattle.plan_serial.specs.declared.PlanFault.{PlanFault}
-use Rattle.plan_serial.specs.declared.PlanFault.TheVariants as plan
+use Rattle.plan_collect.specs.declared.PlanFault.{PlanFault}
+use Rattle.plan_collect.specs.declared.PlanFault.TheVariants as plan
 use Rattle.agenda_sources.specs.declared.SourceFault.{SourceFault}
 use Rattle.agenda_sources.specs.declared.SourceFault.TheVariants as source
 use Rattle.agenda_script.specs.declared.fault.ScriptCause.{ScriptCause}

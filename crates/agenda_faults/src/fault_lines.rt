@@ -11,9 +11,8 @@ use crate::faults::{Failure, RunFault};
 use agenda_script::{ScriptCause, ScriptFault};
 use agenda_sources::{SourcePath, file_name};
 use itoa::Buffer;
-use plan_collect::CollectFault;
+use plan_collect::{CollectFault, PlanFault};
 use plan_rules::{LineCause, LineFault, RuleCause, RuleFault};
-use plan_serial::PlanFault;
 use plan_streams::{Stream, WriteFault};
 
 // How many bytes of a line go out by one write: all but those with a very long path.

@@ -5,9 +5,8 @@ ghost use Rattle.agenda_faults.specs.Faults.{line_status, plan_status, rule_stat
 
 use agenda_script::{ScriptCause, ScriptFault};
 use agenda_sources::SourceFault;
-use plan_collect::{CollectFault, SpanFault};
+use plan_collect::{CollectFault, PlanFault, SpanFault};
 use plan_rules::{LineCause, LineFault, RuleCause, RuleFault, Text};
-use plan_serial::PlanFault;
 use plan_sets::MomentFault;
 use plan_streams::WriteFault;
 use std::alloc::{AllocError, AllocFailed};

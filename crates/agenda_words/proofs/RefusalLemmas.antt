@@ -27,6 +27,7 @@ use Rattle.agenda_words.specs.declared.ask.UsageFault.{UsageFault}
 use Rattle.agenda_words.specs.declared.ask.UsageFault.TheVariants.{NoMemory}
 use Rattle.agenda_words.specs.Command.{agenda}
 use Rattle.agenda_words.specs.Words.{Gives, IsAnswerTo, Refusal, asked_unless, is_usage, refusal_of}
+use Rattle.agenda_words.proofs.OnLiterals.{agenda_on_literals}
 
 -- any two of the kinds stand for one refusal
 pub record Alike (kinds : Kinds) : Type 0 where
@@ -248,16 +249,16 @@ built_alike a words top subs =
 
 -- clap's contracts say exactly what it makes of the command
 pub agenda_is_simple : is_simple agenda ≡ true
-unfolding clap_on_literals
+unfolding clap_on_literals agenda_on_literals
 agenda_is_simple = refl
 
 pub agenda_is_free : is_simple_and_free agenda ≡ true
-unfolding clap_on_literals
+unfolding clap_on_literals agenda_on_literals
 agenda_is_free = refl
 
 -- the kinds of error that clap leaves open are answered alike
 pub agenda_alike : (words : List Text) → Alike (fault_of agenda words)
-unfolding clap_on_literals
+unfolding clap_on_literals agenda_on_literals
 agenda_alike words = built_alike (built agenda) (argument_words agenda words) refl refl
 
 -- an error that clap gives is answered as the definition says

@@ -10,6 +10,7 @@ use Rattle.agenda_words.specs.declared.ask.Ask.TheVariants.{Next, Plan, Upcoming
 use Rattle.agenda_sources.specs.declared.Asked.TheVariants.{Cron, Event}
 use Rattle.agenda_sources.specs.declared.SourceKind.TheVariants.{Crontab, System, CronD, Spool, Timer}
 use Rattle.agenda_words.specs.Words.{asked_by, is_usage, path_of, wants_help}
+use Rattle.agenda_words.proofs.OnLiterals.{agenda_on_literals}
 
 abbrev moment : List ℕ
 moment = codes "2024-01-01T00:00:00Z"
@@ -22,52 +23,52 @@ next_with words = codes "agenda" ∷ codes "next" ∷ codes "--after" ∷ moment
 
 -- both values and the number
 four_starts : asked_by (next_with (codes "--count" ∷ codes "4" ∷ codes "--cron" ∷ rule ∷ [])) ≡ Ok (Next moment 4 (Cron rule))
-unfolding asked_by clap_on_literals
+unfolding asked_by clap_on_literals agenda_on_literals
 four_starts = refl
 
 -- without `--count` one start is wanted
 one_start_by_default : asked_by (next_with (codes "--cron" ∷ rule ∷ [])) ≡ Ok (Next moment 1 (Cron rule))
-unfolding asked_by clap_on_literals
+unfolding asked_by clap_on_literals agenda_on_literals
 one_start_by_default = refl
 
 -- none may be wanted
 no_start : asked_by (next_with (codes "--count" ∷ codes "0" ∷ codes "--cron" ∷ rule ∷ [])) ≡ Ok (Next moment 0 (Cron rule))
-unfolding asked_by clap_on_literals
+unfolding asked_by clap_on_literals agenda_on_literals
 no_start = refl
 
 -- the most that 32 bits hold
 most_starts : asked_by (next_with (codes "--count=4294967295" ∷ codes "--cron" ∷ rule ∷ [])) ≡ Ok (Next moment 4294967295 (Cron rule))
-unfolding asked_by clap_on_literals
+unfolding asked_by clap_on_literals agenda_on_literals
 most_starts = refl
 
 -- and one more
 one_start_too_many : asked_by (next_with (codes "--count=4294967296" ∷ codes "--cron" ∷ rule ∷ [])) ≡ Err is_usage
-unfolding asked_by clap_on_literals
+unfolding asked_by clap_on_literals agenda_on_literals
 one_start_too_many = refl
 
 -- a count that is no number
 count_is_no_number : asked_by (next_with (codes "--count" ∷ codes "x" ∷ codes "--cron" ∷ rule ∷ [])) ≡ Err is_usage
-unfolding asked_by clap_on_literals
+unfolding asked_by clap_on_literals agenda_on_literals
 count_is_no_number = refl
 
 -- no `--cron`, which clap lets through
 no_rule_is_given : asked_by (next_with []) ≡ Err is_usage
-unfolding asked_by clap_on_literals
+unfolding asked_by clap_on_literals agenda_on_literals
 no_rule_is_given = refl
 
 -- no `--after`, which clap refuses
 no_moment_is_given : asked_by (codes "agenda" ∷ codes "next" ∷ codes "--cron" ∷ rule ∷ []) ≡ Err is_usage
-unfolding asked_by clap_on_literals
+unfolding asked_by clap_on_literals agenda_on_literals
 no_moment_is_given = refl
 
 -- the program's name alone
 no_subcommand_is_given : asked_by (codes "agenda" ∷ []) ≡ Err is_usage
-unfolding asked_by clap_on_literals
+unfolding asked_by clap_on_literals agenda_on_literals
 no_subcommand_is_given = refl
 
 -- help comes before what is missing
 help_is_wanted : asked_by (codes "agenda" ∷ codes "next" ∷ codes "--help" ∷ []) ≡ Err wants_help
-unfolding asked_by clap_on_literals
+unfolding asked_by clap_on_literals agenda_on_literals
 help_is_wanted = refl
 
 -- a word that is no flag, as clap reads it
@@ -79,37 +80,37 @@ record IsPlainWord (word : List ℕ) : Type 0 where
 -- any two plain words are taken
 any_moment_and_rule : (name after cron : List ℕ) → IsPlainWord after → IsPlainWord cron
     → asked_by (name ∷ codes "next" ∷ codes "--after" ∷ after ∷ codes "--cron" ∷ cron ∷ []) ≡ Ok (Next after 1 (Cron cron))
-unfolding asked_by clap_on_literals
+unfolding asked_by clap_on_literals agenda_on_literals
 any_moment_and_rule name after cron a c = rw (a.trailing, a.long, a.short, c.trailing, c.long, c.short) refl
 
 -- a calendar event
 an_event_is_given : asked_by (next_with (codes "--calendar" ∷ codes "daily" ∷ [])) ≡ Ok (Next moment 1 (Event (codes "daily")))
-unfolding asked_by clap_on_literals
+unfolding asked_by clap_on_literals agenda_on_literals
 an_event_is_given = refl
 
 -- both
 two_rules_are_given : asked_by (next_with (codes "--calendar" ∷ codes "daily" ∷ codes "--cron" ∷ rule ∷ [])) ≡ Err is_usage
-unfolding asked_by clap_on_literals
+unfolding asked_by clap_on_literals agenda_on_literals
 two_rules_are_given = refl
 
 -- a script's path
 a_script_is_given : asked_by (codes "agenda" ∷ codes "steps" ∷ codes "a/b c" ∷ []) ≡ Ok (Steps (codes "a/b c"))
-unfolding asked_by clap_on_literals
+unfolding asked_by clap_on_literals agenda_on_literals
 a_script_is_given = refl
 
 -- no path
 no_script_is_given : asked_by (codes "agenda" ∷ codes "steps" ∷ []) ≡ Err is_usage
-unfolding asked_by clap_on_literals
+unfolding asked_by clap_on_literals agenda_on_literals
 no_script_is_given = refl
 
 -- two paths
 two_scripts_are_given : asked_by (codes "agenda" ∷ codes "steps" ∷ codes "a" ∷ codes "b" ∷ []) ≡ Err is_usage
-unfolding asked_by clap_on_literals
+unfolding asked_by clap_on_literals agenda_on_literals
 two_scripts_are_given = refl
 
 -- another subcommand
 plans_is_no_subcommand : asked_by (codes "agenda" ∷ codes "plans" ∷ []) ≡ Err is_usage
-unfolding asked_by clap_on_literals
+unfolding asked_by clap_on_literals agenda_on_literals
 plans_is_no_subcommand = refl
 
 abbrev plan_with : List (List ℕ) → List (List ℕ)
@@ -120,38 +121,38 @@ sized planners room limit = record { planners = planners; room = room; limit = l
 
 -- a span alone: no crontab, no timer, and each number by its default
 a_span_is_given : asked_by (plan_with []) ≡ Ok (Plan moment (codes "u") [] (sized 2 16 10000))
-unfolding asked_by clap_on_literals
+unfolding asked_by clap_on_literals agenda_on_literals
 a_span_is_given = refl
 
 -- every option
 all_is_given : asked_by (plan_with (codes "--crontab" ∷ codes "c" ∷ codes "--system-crontab" ∷ codes "s" ∷ codes "--planners" ∷ codes "3"
     ∷ codes "--room" ∷ codes "4" ∷ codes "--limit" ∷ codes "5" ∷ []))
     ≡ Ok (Plan moment (codes "u") (path_of Crontab (codes "c") ∷ path_of System (codes "s") ∷ []) (sized 3 4 5))
-unfolding asked_by clap_on_literals
+unfolding asked_by clap_on_literals agenda_on_literals
 all_is_given = refl
 
 -- timers, also between options, in the order of the words
 timers_are_given : asked_by (plan_with (codes "b.timer" ∷ codes "--room=1" ∷ codes "a.timer" ∷ codes "--" ∷ codes "-c" ∷ []))
     ≡ Ok (Plan moment (codes "u") (path_of Timer (codes "b.timer") ∷ path_of Timer (codes "a.timer") ∷ path_of Timer (codes "-c") ∷ [])
     (sized 2 1 10000))
-unfolding asked_by clap_on_literals
+unfolding asked_by clap_on_literals agenda_on_literals
 timers_are_given = refl
 
 -- no `--since`
 no_beginning_is_given : asked_by (codes "agenda" ∷ codes "plan" ∷ codes "--upto" ∷ moment ∷ []) ≡ Err is_usage
-unfolding asked_by clap_on_literals
+unfolding asked_by clap_on_literals agenda_on_literals
 no_beginning_is_given = refl
 
 -- no `--upto`
 no_end_is_given : asked_by (codes "agenda" ∷ codes "plan" ∷ codes "--since" ∷ moment ∷ []) ≡ Err is_usage
-unfolding asked_by clap_on_literals
+unfolding asked_by clap_on_literals agenda_on_literals
 no_end_is_given = refl
 
 -- a timer before the options of crontabs: the sources are in the order of their kinds
 sources_in_order : asked_by (plan_with (codes "t.timer" ∷ codes "--system-crontab" ∷ codes "s" ∷ codes "--crontab" ∷ codes "c" ∷ []))
     ≡ Ok (Plan moment (codes "u") (path_of Crontab (codes "c") ∷ path_of System (codes "s") ∷ path_of Timer (codes "t.timer") ∷ [])
     (sized 2 16 10000))
-unfolding asked_by clap_on_literals
+unfolding asked_by clap_on_literals agenda_on_literals
 sources_in_order = refl
 
 -- crontabs that have names, in any number; of one kind they stand in the order of the words
@@ -159,49 +160,49 @@ named_crontabs :
     asked_by (plan_with (codes "--spool=u" ∷ codes "--cron-d" ∷ codes "b" ∷ codes "--cron-d=a" ∷ codes "--spool" ∷ codes "-" ∷ []))
     ≡ Ok (Plan moment (codes "u") (path_of CronD (codes "b") ∷ path_of CronD (codes "a") ∷ path_of Spool (codes "u")
     ∷ path_of Spool (codes "-") ∷ []) (sized 2 16 10000))
-unfolding asked_by clap_on_literals
+unfolding asked_by clap_on_literals agenda_on_literals
 named_crontabs = refl
 
 -- two user crontabs, which clap refuses
 two_crontabs_are_given : asked_by (plan_with (codes "--crontab" ∷ codes "c" ∷ codes "--crontab=d" ∷ [])) ≡ Err is_usage
-unfolding asked_by clap_on_literals
+unfolding asked_by clap_on_literals agenda_on_literals
 two_crontabs_are_given = refl
 
 -- planners that are no number
 planners_are_no_number : asked_by (plan_with (codes "--planners" ∷ codes "x" ∷ [])) ≡ Err is_usage
-unfolding asked_by clap_on_literals
+unfolding asked_by clap_on_literals agenda_on_literals
 planners_are_no_number = refl
 
 -- a limit of more than 32 bits
 limit_is_too_large : asked_by (plan_with (codes "--limit=4294967296" ∷ [])) ≡ Err is_usage
-unfolding asked_by clap_on_literals
+unfolding asked_by clap_on_literals agenda_on_literals
 limit_is_too_large = refl
 
 -- the version is told, of the program alone
 version_is_wanted : asked_by (codes "agenda" ∷ codes "--version" ∷ []) ≡ Err wants_help
-unfolding asked_by clap_on_literals
+unfolding asked_by clap_on_literals agenda_on_literals
 version_is_wanted = refl
 
 no_version_of_next : asked_by (next_with (codes "--version" ∷ [])) ≡ Err is_usage
-unfolding asked_by clap_on_literals
+unfolding asked_by clap_on_literals agenda_on_literals
 no_version_of_next = refl
 
 -- `upcoming` of a crontab and a timer
 upcoming_of_two :
     asked_by (codes "agenda" ∷ codes "upcoming" ∷ codes "a.timer" ∷ codes "--crontab" ∷ codes "c" ∷ codes "--after" ∷ moment ∷ [])
     ≡ Ok (Upcoming moment (path_of Crontab (codes "c") ∷ path_of Timer (codes "a.timer") ∷ []))
-unfolding asked_by clap_on_literals
+unfolding asked_by clap_on_literals agenda_on_literals
 upcoming_of_two = refl
 
 -- `quiet` without what may be missing: gaps of half an hour, and a limit of 1,000,000
 quiet_by_default : asked_by (codes "agenda" ∷ codes "quiet" ∷ codes "--since" ∷ moment ∷ codes "--upto" ∷ codes "z" ∷ [])
     ≡ Ok (Quiet moment (codes "z") [] (record { planners = 2; room = 16; limit = 1000000 }) 1800)
-unfolding asked_by clap_on_literals
+unfolding asked_by clap_on_literals agenda_on_literals
 quiet_by_default = refl
 
 -- a gap of less than nothing
 quiet_of_less :
     asked_by (codes "agenda" ∷ codes "quiet" ∷ codes "--since" ∷ moment ∷ codes "--upto" ∷ moment ∷ codes "--least" ∷ codes "-1" ∷ [])
     ≡ Err is_usage
-unfolding asked_by clap_on_literals
+unfolding asked_by clap_on_literals agenda_on_literals
 quiet_of_less = refl

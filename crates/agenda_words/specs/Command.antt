@@ -53,17 +53,17 @@ abbrev pub subcommand_with : List ℕ → List Rule → App
 subcommand_with name rules = with_rules (new_app name) rules
 
 -- own: a command with what gives the sources of each kind: `[--crontab F] [--system-crontab F] [--cron-d F ..] [--spool F ..] [TIMER ..]`
-abbrev pub with_sources : App → App
+unfoldable pub with_sources : App → App
 with_sources app = with_each app (map source_rule kinds)
 
 -- own: `next --after T [--count N] (--cron TEXT or --calendar TEXT)`; that exactly one of the last two is there is tested
 -- after the parse
-abbrev pub next : App
+unfoldable pub next : App
 next = subcommand_with (codes "next") (moment_option (codes "after") ∷ number_option (codes "count") (codes "1")
     ∷ option_named (codes "cron") ∷ option_named (codes "calendar") ∷ [])
 
 -- own: a command with the sizes of a plan: `[--planners N] [--room N] [--limit N]`; where the limit is missing, it is the default
-abbrev pub with_sizes : App → (default : List ℕ) → App
+unfoldable pub with_sizes : App → (default : List ℕ) → App
 with_sizes app default = with_rules app (number_option (codes "planners") (codes "2") ∷ number_option (codes "room") (codes "16")
     ∷ number_option (codes "limit") default ∷ [])
 
@@ -72,25 +72,25 @@ abbrev pub span_rules : List Rule
 span_rules = moment_option (codes "since") ∷ moment_option (codes "upto") ∷ []
 
 -- own: `plan --since T --upto T`, what gives the sources, and the sizes
-abbrev pub plan : App
+unfoldable pub plan : App
 plan = with_sizes (with_sources (subcommand_with (codes "plan") span_rules)) (codes "10000")
 
 -- own: `upcoming --after T`, and what gives the sources
-abbrev pub upcoming : App
+unfoldable pub upcoming : App
 upcoming = with_sources (subcommand_with (codes "upcoming") (moment_option (codes "after") ∷ []))
 
 -- own: `quiet --since T --upto T`, what gives the sources, `[--least N]`, and the sizes
-abbrev pub quiet : App
+unfoldable pub quiet : App
 quiet = with_sizes
     (with_rules (with_sources (subcommand_with (codes "quiet") span_rules)) (number_option (codes "least") (codes "1800") ∷ []))
     (codes "1000000")
 
 -- own: `check`, and what gives the sources
-abbrev pub check : App
+unfoldable pub check : App
 check = with_sources (subcommand_with (codes "check") [])
 
 -- own: `steps FILE`
-abbrev pub steps : App
+unfoldable pub steps : App
 steps = subcommand_with (codes "steps") (file_argument ∷ [])
 
 -- own: `agenda`, which a subcommand follows or `--version`; there is no subcommand `help`, so that each fault of clap has
@@ -103,7 +103,7 @@ agenda_alone = on_top (λ s. record s {
 }) (new_app (codes "agenda"))
 
 -- own: `agenda next ..`, `agenda plan ..`, `agenda upcoming ..`, `agenda quiet ..`, `agenda check ..` or `agenda steps ..`
-abbrev pub agenda : App
+unfoldable pub agenda : App
 agenda =
     with_subcommand (with_subcommand (with_subcommand (with_subcommand (with_subcommand (with_subcommand agenda_alone next.top) plan.top)
     upcoming.top) quiet.top) check.top) steps.top

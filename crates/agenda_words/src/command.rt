@@ -16,6 +16,7 @@ use std::alloc::{AllocError, Global};
 const VERSION: &str = "0.1.0\nproved with rattle-kit-13f logic dac8208d650f15bf";
 
 /// The command line of the program.
+#[tactic(auto, unfolding(crate::specs::Command::agenda))]
 pub(crate) fn agenda_command<'a>(alloc: Global) -> Result<Command<'a>, AllocError>
     ensures { IfOk result (λ command. app_of command ≡ agenda) }
 {
@@ -35,6 +36,7 @@ pub(crate) fn agenda_command<'a>(alloc: Global) -> Result<Command<'a>, AllocErro
     Ok(command)
 }
 
+#[tactic(auto, unfolding(crate::specs::Command::next))]
 fn next_command<'a>(alloc: Global) -> Result<Command<'a>, AllocError>
     ensures app { IfOk result (λ command. app_of command ≡ next) }
     ensures local { IfOk result (λ command. (out-Command command).has_globals ≡ false) }
@@ -53,6 +55,7 @@ fn next_command<'a>(alloc: Global) -> Result<Command<'a>, AllocError>
     Ok(command)
 }
 
+#[tactic(auto, unfolding(crate::specs::Command::plan))]
 fn plan_command<'a>(alloc: Global) -> Result<Command<'a>, AllocError>
     ensures app { IfOk result (λ command. app_of command ≡ plan) }
     ensures local { IfOk result (λ command. (out-Command command).has_globals ≡ false) }
@@ -67,6 +70,7 @@ fn plan_command<'a>(alloc: Global) -> Result<Command<'a>, AllocError>
     Ok(command)
 }
 
+#[tactic(auto, unfolding(crate::specs::Command::upcoming))]
 fn upcoming_command<'a>(alloc: Global) -> Result<Command<'a>, AllocError>
     ensures app { IfOk result (λ command. app_of command ≡ upcoming) }
     ensures local { IfOk result (λ command. (out-Command command).has_globals ≡ false) }
@@ -79,6 +83,7 @@ fn upcoming_command<'a>(alloc: Global) -> Result<Command<'a>, AllocError>
     Ok(command)
 }
 
+#[tactic(auto, unfolding(crate::specs::Command::quiet))]
 fn quiet_command<'a>(alloc: Global) -> Result<Command<'a>, AllocError>
     ensures app { IfOk result (λ command. app_of command ≡ quiet) }
     ensures local { IfOk result (λ command. (out-Command command).has_globals ≡ false) }
@@ -94,6 +99,7 @@ fn quiet_command<'a>(alloc: Global) -> Result<Command<'a>, AllocError>
     Ok(command)
 }
 
+#[tactic(auto, unfolding(crate::specs::Command::check))]
 fn check_command<'a>(alloc: Global) -> Result<Command<'a>, AllocError>
     ensures app { IfOk result (λ command. app_of command ≡ check) }
     ensures local { IfOk result (λ command. (out-Command command).has_globals ≡ false) }
@@ -105,6 +111,7 @@ fn check_command<'a>(alloc: Global) -> Result<Command<'a>, AllocError>
     Ok(command)
 }
 
+#[tactic(auto, unfolding(crate::specs::Command::steps))]
 fn steps_command<'a>(alloc: Global) -> Result<Command<'a>, AllocError>
     ensures app { IfOk result (λ command. app_of command ≡ steps) }
     ensures local { IfOk result (λ command. (out-Command command).has_globals ≡ false) }
@@ -125,6 +132,7 @@ fn with_command<'a>(command: Command<'a>, below: Command<'a>) -> Result<Command<
 }
 
 // The command with the arguments that name where its jobs come from.
+#[tactic(auto, unfolding(crate::specs::Command::with_sources))]
 fn with_sources<'a>(alloc: Global, command: Command<'a>) -> Result<Command<'a>, AllocError>
     requires local { (out-Command command).has_globals ≡ false }
     ensures app { IfOk result (λ new. app_of new ≡ with_sources (app_of command.entry)) }
@@ -138,6 +146,7 @@ fn with_sources<'a>(alloc: Global, command: Command<'a>) -> Result<Command<'a>, 
 }
 
 // The command with the sizes of a plan, the limit of which has this default.
+#[tactic(auto, unfolding(crate::specs::Command::with_sizes))]
 fn with_sizes<'a>(
     alloc: Global,
     command: Command<'a>,

@@ -1,8 +1,8 @@
 //! Plans in one thread.
 
 use crate::sources::jobs_of;
-use plan_collect::{CollectFault, Span};
-use plan_serial::{PlanFault, plan_serial};
+use plan_collect::{CollectFault, PlanFault, Span};
+use plan_serial::plan_serial;
 use std::alloc::Global;
 
 // The begin of 2024.

@@ -3,11 +3,7 @@ pub mod EntriesLemmas
 pub mod HeldLemmas
 pub mod HoldsLemmas
 pub mod JobsLemmas
-pub mod StreamLemmas
 pub mod PiecesLemmas
 pub mod MergingLemmas
 pub mod TilingLemmas
 pub mod EntryLemmas
-pub mod StampLemmas
-pub mod QuietLemmas
-pub mod QuietLaws

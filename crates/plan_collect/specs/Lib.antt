@@ -8,12 +8,9 @@ pub mod AgendaLaws
 pub mod Collecting
 pub mod Limits
 pub mod Span
-pub mod Texts
 pub mod Tiling
 pub mod TilingLaws
 pub mod Merging
+pub mod PlanFault
 pub mod Causes
 pub mod Entry
-pub mod Stamp
-pub mod Upcoming
-pub mod Quiet

@@ -75,8 +75,8 @@ impl Agenda {
         Some((entry.second(), entry.job()))
     }
 
-    // The entries, in order.
-    pub(crate) fn entries(&self) -> &[Entry]
+    /// The entries, in order.
+    pub fn entries(&self) -> &[Entry]
         ensures entries { result.now ≡ self.now.entries }
         ensures years { IsInYears self.now.entries }
     {

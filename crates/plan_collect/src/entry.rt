@@ -18,7 +18,7 @@ const JOB_NUMBERS: u64 = 1_048_576;
 ///
 /// Both stand in one number, the second in front, so that an entry takes 8 bytes and two of them are compared at once.
 #[derive(Clone, Copy, Debug)]
-pub(crate) struct Entry {
+pub struct Entry {
     number: u64,
 }
 
@@ -36,8 +36,8 @@ impl Model for Entry {
 }
 
 impl Entry {
-    /// The entry of a second and a job.
-    pub(crate) fn new(second: u64, job: u32) -> Entry
+    /// The entry of a second and the number of a job.
+    pub fn new(second: u64, job: u32) -> Entry
         requires second { second ≤ end_second }
         requires job { job < job_numbers }
         ensures { result ≡ (second, job) }
@@ -47,15 +47,15 @@ impl Entry {
         }
     }
 
-    /// The second.
-    pub(crate) fn second(self) -> u64
+    /// The second, since 1970-01-01T00:00:00Z.
+    pub fn second(self) -> u64
         ensures { result ≡ self.0 }
     {
         self.number / JOB_NUMBERS
     }
 
     /// The job's number.
-    pub(crate) fn job(self) -> u32
+    pub fn job(self) -> u32
         ensures { result ≡ self.1 }
     {
         (self.number % JOB_NUMBERS) as u32

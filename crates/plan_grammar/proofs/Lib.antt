@@ -1,9 +1,7 @@
 pub mod WeekDaysLemmas
 pub mod NameLemmas
-pub mod CronRows
 pub mod TextFaults
 pub mod LimitsLemmas
 pub mod FieldLemmas
 pub mod PlacesLemmas
 pub mod EventFaults
-mod EventRows

@@ -3,5 +3,4 @@ pub mod Elements
 pub mod Cron
 pub mod Shape
 pub mod Event
-pub mod Rows
 pub mod Causes

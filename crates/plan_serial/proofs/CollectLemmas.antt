@@ -13,7 +13,8 @@ use Rattle.plan_collect.specs.declared.collector.CollectFault.{CollectFault}
 use Rattle.plan_collect.specs.declared.collector.CollectFault.TheVariants.{NoMemory, Stranger, Gap, TooMany, AfterLast, Missing}
 use Rattle.plan_collect.specs.Agenda.{agenda}
 use Rattle.plan_collect.specs.Collecting.{Collected, is_rule_of, belongs, has_ended, adjoins, has_room, refusal, Answers}
-use Rattle.plan_serial.specs.Planning.{PlanFails, of_collect}
+use Rattle.plan_serial.specs.Planning.{PlanFails}
+use Rattle.plan_collect.specs.PlanFault.{of_collect}
 
 -- of one job the pieces up to this second were collected
 pub record IsAt (old now : Collected) (job since : ℕ) : Type 0 where

@@ -1,14 +1,10 @@
 -- What a plan answers (own).
 use Rattle.std.specs.Prelude.{◌≡◌, ℕ, ◌<◌, ◌≤◌, true, false, List, length, Result, Ok, Err}
 use Rattle.plan_match.specs.declared.rule.Rule.{Rule}
-use Rattle.plan_collect.specs.declared.collector.CollectFault.{CollectFault}
-use Rattle.plan_collect.specs.declared.collector.CollectFault.TheVariants as collect
 use Rattle.plan_collect.specs.declared.collector.CollectFault.TheVariants.{TooMany}
-use Rattle.plan_collect.specs.declared.collector.CollectorFault.{CollectorFault}
-use Rattle.plan_collect.specs.declared.collector.CollectorFault.TheVariants as collector
 use Rattle.plan_collect.specs.Collecting.{Collected}
-use Rattle.plan_serial.specs.declared.fault.PlanFault.{PlanFault}
-use Rattle.plan_serial.specs.declared.fault.PlanFault.TheVariants.{NoMemory, BadSize, Collect, NotSettled, BadLimit}
+use Rattle.plan_collect.specs.declared.plan_fault.PlanFault.{PlanFault}
+use Rattle.plan_collect.specs.declared.plan_fault.PlanFault.TheVariants.{NoMemory, BadSize, Collect, NotSettled, BadLimit}
 use Rattle.plan_collect.specs.Span.{Bounds}
 use Rattle.plan_collect.specs.Limits.{is_limit}
 use Rattle.plan_collect.specs.Agenda.{Planned, agenda, planned}
@@ -24,17 +20,6 @@ Plans (Err (Collect fault)) rules span limit =
     (is_limit limit ≡ true) × (fault ≡ TooMany) × (limit < length (agenda rules span))
 Plans (Err (NotSettled unsettled)) rules span limit = ⊥
 Plans (Err BadLimit) rules span limit = is_limit limit ≡ false
-
--- what a collector's fault is to a plan
-abbrev pub of_collector : CollectorFault → PlanFault
-of_collector collector.NoMemory = NoMemory
-of_collector collector.BadLimit = BadLimit
-of_collector collector.BadSize = BadSize
-
--- what the refusal of a note is to a plan; want of memory is always the same fault
-abbrev pub of_collect : CollectFault → PlanFault
-of_collect collect.NoMemory = NoMemory
-of_collect fault = Collect fault
 
 -- why a plan stops while it collects
 abbrev pub PlanFails : Collected → PlanFault → Type 0

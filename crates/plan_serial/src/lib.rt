@@ -1,11 +1,7 @@
-//! A plan by one planner, without threads, and why jobs make no plan.
-//!
-//! It stands on plan_collect, for the collector, and on plan_next, whose pieces it hands over. Open `serial` first; `fault` is what plans
-//! by threads are refused with too.
+//! A plan by one planner, without threads: what plans by threads come to, and what `bin/bench` takes the time of. The program doesn't need
+//! it. It stands on plan_collect, for the collector, and on plan_next, whose pieces it hands over.
 #![tactic(auto)]
 
-mod fault;
 mod serial;
 
-pub use fault::PlanFault;
 pub use serial::plan_serial;

@@ -7,8 +7,7 @@ ghost use Rattle.plan_collect.specs.Agenda.{rules_of, IsOfJobs};
 ghost use Rattle.plan_collect.specs.Limits.{most_starts};
 ghost use Rattle.plan_serial.specs.Planning.{Plans, PlanFails};
 
-use crate::fault::PlanFault;
-use plan_collect::{Agenda, Collector, Note, PIECE_STARTS, Span};
+use plan_collect::{Agenda, Collector, Note, PIECE_STARTS, PlanFault, Span};
 use plan_match::Rule;
 use plan_next::{NoMemory, Piece, next_piece};
 use plan_rules::Jobs;

@@ -1,9 +1,8 @@
-use plan_collect::{CollectFault, CollectorFault, SpanFault};
+use plan_collect::{CollectFault, CollectorFault, PlanFault, SpanFault};
 use plan_grammar::{RuleCause, RuleFault};
 use plan_mailbox::NewFault;
 use plan_next::NoMemory;
 use plan_rules::{AddFault, Job, LineCause, LineFault, timer};
-use plan_serial::PlanFault;
 use plan_sets::{MomentFault, SetFault};
 use std::alloc::Global;
 use std::fmt::Display;

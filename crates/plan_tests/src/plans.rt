@@ -1,6 +1,5 @@
 use crate::collector::{span, user_jobs};
-use plan_collect::{CollectFault, Sizes};
-use plan_serial::PlanFault;
+use plan_collect::{CollectFault, PlanFault, Sizes};
 use plan_threads::{Gate, plan};
 use std::process::Abort;
 use std::sync::Wait;

@@ -1,7 +1,7 @@
 use crate::collector::{EVERY_MINUTE, assert_entry, span, user_jobs};
-use plan_collect::{Agenda, CollectFault};
+use plan_collect::{Agenda, CollectFault, PlanFault};
 use plan_rules::Jobs;
-use plan_serial::{PlanFault, plan_serial};
+use plan_serial::plan_serial;
 use std::alloc::Global;
 use std::process::Abort;
 use std::test::Fail;

@@ -11,7 +11,7 @@ use Rattle.plan_collect.specs.declared.note.Note.{Note}
 use Rattle.plan_collect.specs.declared.note.Note.TheVariants as note
 use Rattle.plan_collect.specs.declared.collector.CollectFault.{CollectFault}
 use Rattle.plan_collect.specs.declared.collector.CollectFault.TheVariants as collect
-use Rattle.plan_serial.specs.declared.fault.PlanFault.{PlanFault}
+use Rattle.plan_collect.specs.declared.plan_fault.PlanFault.{PlanFault}
 use Rattle.plan_collect.specs.Agenda.{Planned, agenda}
 use Rattle.plan_collect.specs.Span.{Bounds}
 use Rattle.plan_collect.specs.Limits.{is_size}

@@ -6,7 +6,7 @@ use Rattle.std.specs.Prelude.{Bool, slice_get, IsOk, OnOk, IfErr}
 use Rattle.std.specs.Result.{result_and}
 use Rattle.std.proofs.lemmas.Bool.{cases_eq}
 use Rattle.plan_collect.specs.declared.note.Note.{Note}
-use Rattle.plan_serial.specs.declared.fault.PlanFault.{PlanFault}
+use Rattle.plan_collect.specs.declared.plan_fault.PlanFault.{PlanFault}
 use Rattle.plan_collect.specs.Collecting.{Collected}
 use Rattle.plan_collect.specs.Tiling.{sent_by}
 use Rattle.plan_mailbox.specs.declared.outlet.Receipt.{Receipt}

@@ -5,8 +5,8 @@ use Rattle.plan_collect.specs.declared.note.Note.{Note}
 use Rattle.plan_collect.specs.declared.collector.CollectFault.{CollectFault}
 use Rattle.plan_collect.specs.declared.collector.CollectFault.TheVariants as collect
 use Rattle.plan_collect.specs.declared.collector.CollectFault.TheVariants.{TooMany}
-use Rattle.plan_serial.specs.declared.fault.PlanFault.{PlanFault}
-use Rattle.plan_serial.specs.declared.fault.PlanFault.TheVariants as plan
+use Rattle.plan_collect.specs.declared.plan_fault.PlanFault.{PlanFault}
+use Rattle.plan_collect.specs.declared.plan_fault.PlanFault.TheVariants as plan
 use Rattle.plan_collect.specs.Agenda.{Planned, agenda, planned, rules_of, IsOfJobs}
 use Rattle.plan_collect.specs.Span.{Bounds}
 use Rattle.plan_collect.specs.Collecting.{Collected, begun, refusal, after, is_complete}

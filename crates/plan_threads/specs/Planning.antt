@@ -2,8 +2,8 @@
 use Rattle.std.specs.Prelude.{◌≡◌, ◌<◌, ◌≤◌, true, false, List, length, Result, Ok, Err}
 use Rattle.plan_match.specs.declared.rule.Rule.{Rule}
 use Rattle.plan_collect.specs.declared.collector.CollectFault.TheVariants.{TooMany}
-use Rattle.plan_serial.specs.declared.fault.PlanFault.{PlanFault}
-use Rattle.plan_serial.specs.declared.fault.PlanFault.TheVariants.{NoMemory, BadSize, Collect, NotSettled, BadLimit}
+use Rattle.plan_collect.specs.declared.plan_fault.PlanFault.{PlanFault}
+use Rattle.plan_collect.specs.declared.plan_fault.PlanFault.TheVariants.{NoMemory, BadSize, Collect, NotSettled, BadLimit}
 use Rattle.plan_collect.specs.declared.sizes.Sizes.{Sizes}
 use Rattle.plan_collect.specs.Agenda.{Planned, agenda, planned}
 use Rattle.plan_collect.specs.Limits.{is_limit}

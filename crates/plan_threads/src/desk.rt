@@ -10,9 +10,8 @@ ghost use Rattle.plan_threads.specs.Gathering.{ArePlanners, Ends, IsAccounted, I
 
 use crate::pause::Pause;
 use crate::promise::Sending;
-use plan_collect::{Agenda, CollectFault, Collector, Note, accepts_every_merging};
+use plan_collect::{Agenda, CollectFault, Collector, Note, PlanFault, accepts_every_merging};
 use plan_mailbox::{Inlet, Receipt, takes_what_outlets_sent};
-use plan_serial::PlanFault;
 use std::sync::Wait;
 use std::sync::atomic::AtomicBool;
 use std::sync::atomic::Ordering::SeqCst;

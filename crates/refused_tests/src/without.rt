@@ -4,12 +4,13 @@ ghost use Rattle.std.specs.Prelude.{◌≡◌, [], IfOk, Some, slice_get};
 ghost use Rattle.plan_mailbox.specs.Ends.{inlet_of, outlet_of};
 
 use agenda_faults::{Failure, RunFault, fault_line};
-use plan_collect::{Span, write_agenda};
+use plan_collect::Span;
 use plan_mailbox::{Core, Inlet, Outlet, Post, Reply, Rings};
 use plan_next::{next_from, next_start};
 use plan_rules::{Jobs, Kind, Rule, calendar_rule, cron_rule, crontab};
 use plan_serial::plan_serial;
 use plan_sets::civil_of;
+use plan_write::write_agenda;
 use std::alloc::Global;
 use std::io;
 use std::io::Write;

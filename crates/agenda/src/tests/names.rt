@@ -1,9 +1,8 @@
 use agenda_faults::RunFault;
 use agenda_script::{ScriptCause, ScriptFault};
 use agenda_sources::SourceFault;
-use plan_collect::CollectFault;
+use plan_collect::{CollectFault, PlanFault};
 use plan_rules::{LineCause, LineFault, RuleCause, RuleFault, Text};
-use plan_serial::PlanFault;
 use plan_streams::WriteFault;
 use std::fmt::Display;
 use std::process::Abort;

@@ -1,7 +1,8 @@
 use Rattle.std.proofs.Common.{◌≤◌, ap, sym, subst, arith}
 use Rattle.plan_next.specs.Piece.{Part}
 use Rattle.plan_collect.specs.Span.{Bounds}
-use Rattle.plan_serial.specs.Planning.{PlanFails, of_collect}
+use Rattle.plan_serial.specs.Planning.{PlanFails}
+use Rattle.plan_collect.specs.PlanFault.{of_collect}
 use Rattle.plan_serial.proofs.CollectLemmas.{IsAt, IsAt-more, piece_refused}
 use Rattle.plan_serial.proofs.SerialLemmas.{if_err}
 use Rattle.plan_serial.proofs.serial.collect_job.Goals as goal

@@ -1,5 +1,0 @@
-use Rattle.plan_collect.proofs.QuietLaws.{nothing_starts}
-use Rattle.plan_collect.proofs.quiet.nothing_starts_in_gaps.Goals as goal
-
-pub returns : goal.returns
-returns c = nothing_starts

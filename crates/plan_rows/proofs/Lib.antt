@@ -1,0 +1,6 @@
+mod CivilRows
+mod MomentRows
+mod CronRows
+mod EventRows
+mod CrontabRows
+mod TimerRows

@@ -1,0 +1,5 @@
+pub use Rattle.plan_sets.specs.Moment
+pub mod Texts
+pub mod Stamp
+pub mod Upcoming
+pub mod Quiet
