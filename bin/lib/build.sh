@@ -1,51 +1,77 @@
 # shellcheck shell=bash disable=SC2154
-# How a program of the project is proved and built: each crate that it stands on by an `rt ci` of its own, in a copy of that crate and of those
-# below it, without their edits and the program's tests, which `rt ci` would try and prove too. It keeps on this machine what it proved: so the
-# run of a crate has those below it, and a later build has all that an interrupted one had done.
-# bin/agenda and bin/bench source this file, behind bin/lib/project.sh and bin/lib/memory.sh. The copies are in the folder $work.
+# How a program of the project is proved and built: each crate that it stands on by `rattle`, the compiler of the kit, over the libraries that
+# were made of those below it, several crates side by side and each on several processors. A crate's library stays beside the program, named by
+# a sum of all that it was made of: so an interrupted build goes on where it was, and one after an edit makes anew what the edit concerns.
+# bin/agenda and bin/bench source this file, behind bin/lib/project.sh and bin/lib/memory.sh. The sources that are read are copied to the
+# folder $work, where the libraries are too.
 
-# Of each crate: those below it, how many stand above it at most, one on the other, where its build stands (waiting, at_work, built), and the
-# process that builds it. The names are in order: each behind those below it, and last the program.
-declare -A below=() above=() state=() child=()
+# Of each crate: all crates that it names, those of the project among them, the sum of all that it is made of, the bytes of its sources and
+# of the heaviest chain of crates above it, where its build stands (waiting, at_work, built), and the process that builds it. The names are in
+# order: each behind those below it, and last the program.
+declare -A named=() below=() sum=() bytes=() above=() state=() child=()
 names=()
+libraries=${program%/*}/libraries
 
-# Prints a line for each crate that crate $1 stands on, and one for itself: its name and those below it, each behind their lines.
+# Prints a line for each crate that crate $1 stands on, and one for itself: its name and those that it names, each behind their lines.
 crate_lines() {
   awk -v wanted="$1" '
     { sub(/#.*/, "") }
-    at = index($0, ":") { split(substr($0, 1, at - 1), head, " "); below[head[1]] = substr($0, at + 1) }
-    function visit(name, count, deps, i, own) {
+    at = index($0, ":") { split(substr($0, 1, at - 1), head, " "); named[head[1]] = substr($0, at + 1) }
+    function visit(name, count, deps, i) {
       if (name in seen) return
       seen[name] = 1
-      count = split(below[name], deps, " ")
-      for (i = 1; i <= count; i++) if (deps[i] in below) { visit(deps[i]); own = own " " deps[i] }
-      print name own
+      count = split(named[name], deps, " ")
+      for (i = 1; i <= count; i++) if (deps[i] in named) visit(deps[i])
+      print name " " named[name]
     }
     END { visit(wanted) }' "$top/crates.txt"
 }
 
-# Whether `rt ci` keeps what it proves, which it does beside the kit, where that folder is ours and 5 GB of the disk are left.
-keeps_proofs() {
-  local kit kept free
-  kit=$(dirname "$(rt doc)") || return
-  kept=$(dirname "$kit")/rattle-kept
-  mkdir -m 700 "$kept" 2>/dev/null
-  free=$(df -Pm "$kept" 2>/dev/null | awk 'NR == 2 { print $4 }')
-  [ -O "$kept" ] && [ -w "$kept" ] && [ "${free:-0}" -gt 6000 ]
+# Copies what crate $1 is made of, and finds how much that is.
+copy_sources() {
+  local copy=$work/crates/$1 part
+  mkdir -p "$copy" || return
+  for part in src specs proofs; do
+    [ ! -d "$top/crates/$1/$part" ] || cp -R -- "$top/crates/$1/$part" "$copy/" || return
+  done
+  bytes[$1]=$(find "$copy" -type f -exec cat {} + | wc -c)
 }
 
-# Reads which crates are built for the program of crate $1: all that it stands on, or where nothing is kept it alone, whose run proves them.
+# The sum of all that crate $1 is made of: the kit, what it names, its sources, and the sums of those below it.
+sum_of_sources() {
+  local dep
+  {
+    echo "$version ${named[$1]}"
+    (cd "$work/crates/$1" && find . -type f -print0 | sort -z | xargs -0 sha256sum)
+    for dep in ${below[$1]:-}; do
+      echo "${sum[$dep]}"
+    done
+  } | sha256sum | cut -c 1-40
+}
+
+# Reads which crates are built for the program of crate $1, and takes the libraries that an earlier build made of the same sources.
 read_crates() {
-  local name deps place
+  local name deps dep place chain
+  mkdir -p "$work/libraries" "$libraries" || return
   while read -r name deps; do
     names+=("$name")
-    below[$name]=$deps
+    named[$name]=$deps
     above[$name]=0
     state[$name]=waiting
-  done < <(if keeps_proofs; then crate_lines "$1"; else echo "$1"; fi)
+    for dep in $deps; do
+      [ -z "${state[$dep]:-}" ] || below[$name]+=" $dep"
+    done
+    copy_sources "$name" || return
+    sum[$name]=$(sum_of_sources "$name")
+    if [ -e "$libraries/$name-${sum[$name]}.tar" ] && tar -C "$work/libraries" -xf "$libraries/$name-${sum[$name]}.tar"; then
+      state[$name]=built
+    fi
+  done < <(crate_lines "$1")
   for ((place = ${#names[@]} - 1; place >= 0; place--)); do
-    for name in ${below[${names[place]}]}; do
-      [ "${above[$name]}" -gt "${above[${names[place]}]}" ] || above[$name]=$((${above[${names[place]}]} + 1))
+    name=${names[place]}
+    chain=$((${above[$name]} + ${bytes[$name]}))
+    for dep in ${below[$name]:-}; do
+      [ "${above[$dep]}" -ge "$chain" ] || above[$dep]=$chain
     done
   done
 }
@@ -63,12 +89,12 @@ count_of() {
 is_ready() {
   local name
   [ "${state[$1]}" = waiting ] || return
-  for name in ${below[$1]}; do
+  for name in ${below[$1]:-}; do
     [ "${state[$name]}" = built ] || return
   done
 }
 
-# Finds the crate to start next, $next: of those that wait for no other, the one with the most above it.
+# Finds the crate to start next, $next: of those that wait for no other, the one with the heaviest chain above it.
 find_next() {
   local name
   next=
@@ -80,38 +106,68 @@ find_next() {
   [ -n "$next" ]
 }
 
-# Whether a crate is at work that has more above it than crate $1.
-is_behind() {
-  local name
+# Prints how many crates are at work that have a heavier chain above them than crate $1.
+count_before() {
+  local name many=0
   for name in "${names[@]}"; do
-    if [ "${state[$name]}" = at_work ] && [ "${above[$name]}" -gt "${above[$1]}" ]; then return; fi
+    if [ "${state[$name]}" = at_work ] && [ "${above[$name]}" -gt "${above[$1]}" ]; then
+      many=$((many + 1))
+    fi
   done
-  return 1
+  echo "$many"
 }
 
-# Makes the copy of crate $1 and of those below it.
-make_copy() {
-  local copy=$work/$1 name
-  mkdir -p "$copy/.git" "$copy/crates" && cp -- "$top/HANDLES" "$copy/" || return
-  while read -r name _; do
-    grep -E "^${name}[ :]" "$top/crates.txt" >>"$copy/crates.txt" || return
-    mkdir "$copy/crates/$name" || return
-    find "$top/crates/$name" -mindepth 1 -maxdepth 1 ! -name out ! -name must-fail -exec cp -R -t "$copy/crates/$name" -- {} + || return
-  done < <(crate_lines "$1")
-  if [ -e "$copy/crates/$1/src/tests.rt" ]; then
-    rm -r -- "$copy/crates/$1/src/tests" "$copy/crates/$1/src/tests.rt" || return
-    # the line below that one names the module, and an empty one follows
-    sed -i '/^#\[cfg(test)\]$/{N;N;d}' "$copy/crates/$1/src/main.rt"
+# Proves crate $1 and makes its library or its object file, with $jobs processes; the words behind $1 are for rattle.
+prove_crate() {
+  local dep root=src/lib.rt words=()
+  cd "$work/crates/$1" || return
+  [ ! -e src/main.rt ] || root=src/main.rt
+  for dep in std ${named[$1]}; do
+    if [ -n "${state[$dep]:-}" ]; then
+      words+=(--extern "$dep=$work/libraries/$dep.rlib")
+    else
+      words+=(--extern "$dep=$kit/rlibs/$dep.rlib")
+    fi
+  done
+  words+=(-L "dependency=$kit/rlibs" -L "dependency=$work/libraries" --antt-project "$kit/rattle/logic/antt-project.json")
+  words+=(--logic-built "$kit/logic_built" --links "$1=" --jobs "$jobs")
+  nice -n $((10 * before)) "$kit/bin/rattle" build --crate-name "$1" "$root" "${words[@]}" "${@:2}"
+}
+
+# Keeps the library of crate $1 in place of those that were made of it before, where there is room for it.
+keep_library() {
+  local kept="$1-${sum[$1]}.tar"
+  rm -f -- "$libraries/$1"-*.tar
+  if tar -C "$work/libraries" -cf "$libraries/$kept.part" "$1.rlib"; then
+    mv -- "$libraries/$kept.part" "$libraries/$kept"
+  else
+    rm -f -- "$libraries/$kept.part"
   fi
 }
 
-# Starts to build crate $1; those that have most above them go before it.
+# Proves and builds crate $1.
+build_crate() {
+  if [ -e "$work/crates/$1/src/main.rt" ]; then
+    prove_crate "$1" --toolchain "$kit/toolchain" --backend llvm -o "$work/$1.o" || return
+    "$kit/bin/rattle-link" --target x86_64-unknown-linux-gnu --toolchain "$kit/toolchain" -o "$work/$1" "$work/$1.o" \
+      "$kit/c/libos_c.a" "$kit/c/liblibc_c.a"
+  else
+    prove_crate "$1" --statements -o "$work/libraries/$1.rlib" && keep_library "$1"
+  fi
+}
+
+# Starts to build crate $1, as a group of processes. It gives way to those that have a heavier chain above them, and takes a process less for
+# each of these.
 start_crate() {
-  local nice=()
+  local before jobs
+  before=$(count_before "$1")
+  jobs=$(($(nproc) - before))
+  [ "$jobs" -ge 1 ] || jobs=1
   state[$1]=at_work
-  ! is_behind "$1" || nice=(nice -n 10)
-  { make_copy "$1" && cd "$work/$1" && exec "${nice[@]}" rt ci; } >"$work/$1.log" 2>&1 </dev/null 9>&- &
+  set -m
+  build_crate "$1" >"$work/$1.log" 2>&1 </dev/null 9>&- &
   child[$1]=$!
+  set +m
 }
 
 # Takes notice of the crates whose processes ended, and puts what they said behind the log $1, with the project's paths in place of the copy's.
@@ -123,7 +179,7 @@ end_crates() {
       wait "${child[$name]}"
       status=$?
       state[$name]=built
-      { echo "== $name" && sed "s|$work/$name/|$top/|g" "$work/$name.log"; } >>"$1"
+      { echo "== $name" && sed "s|$work/crates/|$top/crates/|g" "$work/$name.log"; } >>"$1"
       [ "$status" = 0 ] || failed=1
     fi
   done
@@ -134,7 +190,7 @@ end_crates() {
 stop_crates() {
   local name
   for name in "${names[@]}"; do
-    [ "${state[$name]}" != at_work ] || kill "${child[$name]}" 2>/dev/null
+    [ "${state[$name]}" != at_work ] || kill -- "-${child[$name]}" 2>/dev/null
   done
   wait
 }
@@ -152,9 +208,10 @@ most_at_once() {
 # sources that were read: what was edited since is built by the next run.
 build_crates() {
   local most
-  read_crates "$1"
-  most=$(most_at_once)
+  kit=$(dirname "$(rt doc)") && version=$(rt version) || return
   : >"$work/begun"
+  read_crates "$1" || return
+  most=$(most_at_once)
   while [ "$(count_of built)" -lt ${#names[@]} ]; do
     while [ "$(count_of at_work)" -lt "$most" ] && find_next; do
       start_crate "$next"
@@ -163,5 +220,5 @@ build_crates() {
     sleep 0.3
     end_crates "$2" || return
   done
-  mkdir -p "$top/crates/$1/out" && touch -r "$work/begun" "$work/$1/crates/$1/out/$1" && mv -- "$work/$1/crates/$1/out/$1" "$top/crates/$1/out/"
+  mkdir -p "$top/crates/$1/out" && touch -r "$work/begun" "$work/$1" && mv -- "$work/$1" "$top/crates/$1/out/"
 }

@@ -7,6 +7,7 @@ use Rattle.plan_match.specs.declared.event.Calendar.{Calendar}
 use Rattle.plan_match.specs.declared.rule.Rule.{Rule}
 use Rattle.plan_match.specs.declared.rule.Rule.TheVariants.{Cron, Never, Events}
 use Rattle.plan_match.specs.EventMatch.{event_matches}
+use Rattle.plan_next.specs.Search.{cron_admits_day}
 use Rattle.plan_next.specs.Starts.{NoneIn}
 
 -- the longest list of events of which each keeps its next start (own)
@@ -23,6 +24,11 @@ pub record IsFirstOrEnd (test : ℕ → Bool) (a b n : ℕ) : Type 0 where
 -- the minute after that of second n is of the same hour, and one of the rule's
 abbrev pub has_next_minute : CronRule → ℕ → Bool
 has_next_minute rule n = nat_lt (n / 60 % 60 + 1) 60 && has_value rule.minutes (n / 60 % 60 + 1)
+
+-- the rule starts at that minute, counted from 1970-01-01T00:00:00Z
+abbrev pub starts_at_minute : CronRule → ℕ → Bool
+starts_at_minute rule minute =
+    has_value rule.minutes (minute % 60) && (has_value rule.hours (minute / 60 % 24) && cron_admits_day rule (minute / 60 / 24))
 
 -- the event matches the fields of second n
 abbrev pub matches_at : Calendar → ℕ → Bool

@@ -4,13 +4,14 @@
 //! the crate offers ends with the planner's years: `next_from` finds the first start from a second on, and `next_start` the first
 //! later than it.
 
-ghost use Rattle.std.specs.Prelude.{◌≡◌, ◌+◌, ◌≤◌, slice_get};
+ghost use Rattle.std.specs.Prelude.{◌≡◌, ◌+◌, ◌*◌, ◌<◌, ◌≤◌, slice_get};
 ghost use Rattle.plan_sets.specs.Limits.{end_second};
 ghost use Rattle.plan_next.specs.Starts.{is_start, starts, IsFirstIn};
+ghost use Rattle.plan_next.specs.Next.{starts_at_minute};
 
-use crate::search::Pattern;
+use crate::search::{HOURS_A_DAY, MINUTES_AN_HOUR, Pattern, SECONDS_A_MINUTE};
 use plan_match::{CronRule, Events, Rule};
-use plan_sets::{END_SECOND, SECONDS_A_DAY};
+use plan_sets::{END_SECOND, SECONDS_A_DAY, civil_of};
 
 // The days after the first that are searched before all later ones: so many that most events start in them.
 const FAR_DAYS: u64 = 400;
@@ -48,13 +49,34 @@ pub(crate) fn first_start(rule: &Rule, since: u64, end: u64) -> Option<u64>
     }
 }
 
-/// The first start of a cron rule from `since` on, before `end`.
+/// The first start of a cron rule from `since` on, before `end`. The first minute from there on is tried before the search: where the rule
+/// starts at it, what comes later doesn't wait for the search.
 pub(crate) fn first_of_cron(rule: &CronRule, since: u64, end: u64) -> Option<u64>
     requires part { since ≤ end }
     requires years { end ≤ end_second }
     ensures { IsFirstIn (is_start (Rule.Cron rule.now)) since end result }
 {
+    let minute = since.div_ceil(u64::from(SECONDS_A_MINUTE));
+    let first = minute * u64::from(SECONDS_A_MINUTE);
+    if first < end && starts_at_minute(rule, minute) {
+        return Some(first);
+    }
     Pattern::Cron(rule).first_moment(since, end)
+}
+
+// Whether a cron rule starts at a minute, counted from 1970-01-01T00:00:00Z.
+fn starts_at_minute(rule: &CronRule, minute: u64) -> bool
+    requires { minute * SECONDS_A_MINUTE < end_second }
+    ensures { result ≡ starts_at_minute rule.now minute }
+{
+    let hour = minute / u64::from(MINUTES_AN_HOUR);
+    let day = hour / u64::from(HOURS_A_DAY);
+    rule.minutes()
+        .contains((minute % u64::from(MINUTES_AN_HOUR)) as u16)
+        && rule
+            .hours()
+            .contains((hour % u64::from(HOURS_A_DAY)) as u16)
+        && rule.day_matches(&civil_of(day * SECONDS_A_DAY))
 }
 
 /// The first start of a list of events from `since` on, before `end`. Of several events all are searched through a near part

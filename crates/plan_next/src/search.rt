@@ -17,7 +17,7 @@ use crate::month::{MONTHS_A_YEAR, Month};
 use plan_match::{Calendar, CronRule, DayCount};
 use plan_sets::{Civil, LAST_YEAR, SECONDS_A_DAY, ValueSet, civil_of};
 
-const HOURS_A_DAY: u16 = 24;
+pub(crate) const HOURS_A_DAY: u16 = 24;
 
 pub(crate) const MINUTES_AN_HOUR: u16 = 60;
 
