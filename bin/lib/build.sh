@@ -117,7 +117,7 @@ count_before() {
   echo "$many"
 }
 
-# Proves crate $1 and makes its library or its object file, with $jobs processes; the words behind $1 are for rattle.
+# Proves crate $1 and makes its library or its object file; the words behind $1 are for rattle.
 prove_crate() {
   local dep root=src/lib.rt words=()
   cd "$work/crates/$1" || return
@@ -130,8 +130,8 @@ prove_crate() {
     fi
   done
   words+=(-L "dependency=$kit/rlibs" -L "dependency=$work/libraries" --antt-project "$kit/rattle/logic/antt-project.json")
-  words+=(--logic-built "$kit/logic_built" --links "$1=" --jobs "$jobs")
-  nice -n $((10 * before)) "$kit/bin/rattle" build --crate-name "$1" "$root" "${words[@]}" "${@:2}"
+  words+=(--logic-built "$kit/logic_built" --links "$1=" --jobs "$(nproc)")
+  nice -n $((5 * before)) "$kit/bin/rattle" build --crate-name "$1" "$root" "${words[@]}" "${@:2}"
 }
 
 # Keeps the library of crate $1 in place of those that were made of it before, where there is room for it.
@@ -156,13 +156,10 @@ build_crate() {
   fi
 }
 
-# Starts to build crate $1, as a group of processes. It gives way to those that have a heavier chain above them, and takes a process less for
-# each of these.
+# Starts to build crate $1, as a group of processes. It gives way to each crate at work that has a heavier chain above it.
 start_crate() {
-  local before jobs
+  local before
   before=$(count_before "$1")
-  jobs=$(($(nproc) - before))
-  [ "$jobs" -ge 1 ] || jobs=1
   state[$1]=at_work
   set -m
   build_crate "$1" >"$work/$1.log" 2>&1 </dev/null 9>&- &
