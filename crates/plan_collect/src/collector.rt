@@ -14,6 +14,7 @@ ghost use Rattle.plan_collect.specs.Collecting.{begun, is_rule_of, belongs, has_
 use crate::agenda::Agenda;
 use crate::entry::Entry;
 use crate::note::Note;
+use crate::sorting::sort_entries;
 use crate::span::Span;
 use plan_match::Rule;
 use plan_next::Piece;
@@ -229,7 +230,7 @@ impl Collector {
         }
         let span = self.span;
         let mut entries = self.entries;
-        entries.sort_unstable();
+        sort_entries(&mut entries);
         Ok(Agenda::new(span, entries))
     }
 

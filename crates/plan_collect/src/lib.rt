@@ -12,6 +12,7 @@ mod merging;
 mod note;
 mod plan_fault;
 mod sizes;
+mod sorting;
 mod span;
 
 pub use agenda::Agenda;

@@ -45,7 +45,7 @@ not_before events from end start k n event next lt years is kept =
 pub KeepsNexts-start :
     (of : Rule) (from end start : ℕ) (kept : List ℕ) → IsFirstOrEnd (is_start of) from end start → start < end → end ≤ end_second →
     KeepsNexts of from end kept → KeepsNexts of start end kept
-KeepsNexts-start (rule.Cron cron) from end start kept next lt years keeps = tt
+KeepsNexts-start (rule.Cron cron) from end start kept next lt years keeps = keeps
 KeepsNexts-start rule.Never from end start kept next lt years keeps = tt
 KeepsNexts-start (rule.Events events) from end start kept next lt years keeps =
     λ few k event is.

@@ -1,39 +1,41 @@
--- A cron rule starts first at the first minute, where it starts at that, and after a start at the next minute, where its minutes have that
--- of the hour.
--- For `first_of_cron` and `next_of_cron`. Of the seconds of a minute the first alone is admitted (`none_within`).
-use Rattle.std.proofs.Common.{◌≡◌, ℕ, ◌+◌, ◌*◌, ◌/◌, ◌%◌, ◌<◌, true, ◌==◌, Bor, arith}
+-- A cron rule starts first at the first minute, where it starts at that, and after a start at the next of its minutes in the hour.
+-- For `first_of_cron` and `add_minutes_of_cron`. Of the seconds of a minute the first alone is admitted (`none_of_second`).
+use Rattle.std.proofs.Common.{◌≡◌, ℕ, ◌+◌, ◌-◌, ◌*◌, ◌/◌, ◌%◌, ◌<◌, ◌≤◌, true, false, ◌==◌, Bor, Some, List, inl, inr, arith}
 use Rattle.std.specs.Int.{div_ceil}
-use Rattle.std.proofs.lemmas.Bool.{and_parts, and_from, and_right, eqb-true, ltb-true, eq-eqb, ne_eqb}
-use Rattle.plan_sets.specs.Limits.{seconds_a_day}
+use Rattle.std.proofs.lemmas.Bool.{and_parts, and_from, and_left, and_right, eqb-true, eq-eqb, ne_eqb, cases_eq}
+use Rattle.std.specs.Prelude.{slice_index}
+use Rattle.plan_sets.specs.Limits.{end_second, seconds_a_day}
 use Rattle.plan_sets.specs.Values.{has_value}
 use Rattle.plan_match.specs.declared.cron.CronRule.{CronRule}
+use Rattle.plan_match.specs.declared.rule.Rule.TheVariants as rule
 use Rattle.plan_next.specs.declared.search.Pattern.TheVariants.{Cron}
-use Rattle.plan_next.specs.Next.{has_next_minute, starts_at_minute}
+use Rattle.plan_next.specs.Next.{starts_at_minute, AreNextMinutes, IsFirstOrEnd}
 use Rattle.plan_next.specs.Search.{admits_day, admits_hour, admits_in_hour, admits_minute, admits_moment, admits_time}
-use Rattle.plan_next.specs.Starts.{NoneIn, IsLeastIn}
+use Rattle.plan_next.specs.Starts.{is_start, NoneIn, IsLeastIn}
+use Rattle.plan_next.proofs.FirstLemmas.{IsFirstIn-same}
+use Rattle.plan_next.proofs.KeptLemmas.{admits_moment-cron}
+use Rattle.plan_next.proofs.StartsLemmas.{is_start-cron}
 
--- what a second that is admitted shows, and that the next minute is there
-record HasNext (cron : Bor CronRule) (n : ℕ) : Type 0 where
+-- what a second that is admitted shows
+record IsAdmitted (cron : Bor CronRule) (n : ℕ) : Type 0 where
   day : admits_day (Cron cron) (n / seconds_a_day) ≡ true
   hour : has_value cron.now.hours (n % seconds_a_day / 3600) ≡ true
+  minute : has_value cron.now.minutes (n % seconds_a_day % 3600 / 60) ≡ true
   second : n % seconds_a_day % 3600 % 60 ≡ 0
-  room : n / 60 % 60 + 1 < 60
-  minute : has_value cron.now.minutes (n / 60 % 60 + 1) ≡ true
 
-HasNext-admitted :
-    (cron : Bor CronRule) (n : ℕ) → admits_moment (Cron cron) n ≡ true → has_next_minute cron.now n ≡ true → HasNext cron n
-HasNext-admitted cron n admitted next =
+IsAdmitted-moment : (cron : Bor CronRule) (n : ℕ) → admits_moment (Cron cron) n ≡ true → IsAdmitted cron n
+IsAdmitted-moment cron n admitted =
     let (day, time) = and_parts (admits_day (Cron cron) (n / seconds_a_day)) _ admitted in
     let (hour, in_hour) = and_parts (has_value cron.now.hours (n % seconds_a_day / 3600)) _ time in
-    let (_, second) = and_parts (has_value cron.now.minutes (n % seconds_a_day % 3600 / 60)) _ in_hour in
-    let (room, minute) = and_parts _ (has_value cron.now.minutes (n / 60 % 60 + 1)) next in
-    record {
-      day = day;
-      hour = hour;
-      second = eqb-true (n % seconds_a_day % 3600 % 60) 0 second;
-      room = ltb-true (n / 60 % 60 + 1) 60 room;
-      minute = minute;
-    }
+    let (minute, second) = and_parts (has_value cron.now.minutes (n % seconds_a_day % 3600 / 60)) _ in_hour in
+    record { day = day; hour = hour; minute = minute; second = eqb-true (n % seconds_a_day % 3600 % 60) 0 second }
+
+-- the minute of a second that is admitted is one of the rule's
+pub minute-admitted :
+    (cron : Bor CronRule) (n : ℕ) → admits_moment (Cron cron) n ≡ true → has_value cron.now.minutes (n / 60 % 60) ≡ true
+minute-admitted cron n admitted =
+    let same : n % seconds_a_day % 3600 / 60 ≡ n / 60 % 60 = omega arith in
+    rw same at (IsAdmitted-moment cron n admitted).minute
 
 -- the first second of a minute is admitted where its day, its hour and the minute are
 admitted_by :
@@ -47,34 +49,79 @@ admitted_by cron n day hour minute second =
     (and_from (admits_minute (Cron cron) (time % 3600 / 60)) (time % 3600 % 60 == 0) minute
     (eq-eqb (time % 3600 % 60) 0 second)))
 
--- and no other second of the minute before it is
-none_within :
-    (cron : Bor CronRule) (from n : ℕ) → n % 60 ≡ 0 → n < from + 60 → NoneIn (admits_moment (Cron cron)) from n
-none_within cron from n whole near k low high =
+-- no other second of a minute is admitted
+none_of_second :
+    (cron : Bor CronRule) (k : ℕ) → (k % seconds_a_day % 3600 % 60 ≡ 0 → ⊥) → admits_moment (Cron cron) k ≡ false
+none_of_second cron k other =
     let time = k % seconds_a_day in
     and_right (admits_day (Cron cron) (k / seconds_a_day)) (admits_time (Cron cron) time)
     (and_right (admits_hour (Cron cron) (time / 3600)) (admits_in_hour (Cron cron) (time % 3600))
-    (and_right (admits_minute (Cron cron) (time % 3600 / 60)) (time % 3600 % 60 == 0)
-    (ne_eqb (time % 3600 % 60) 0 (λ zero. omega (arith, zero)))))
+    (and_right (admits_minute (Cron cron) (time % 3600 / 60)) (time % 3600 % 60 == 0) (ne_eqb (time % 3600 % 60) 0 other)))
 
--- the second a minute after a start is admitted
-admitted_later : (cron : Bor CronRule) (n : ℕ) → HasNext cron n → admits_moment (Cron cron) (n + 60) ≡ true
-admitted_later cron n has =
-    let second = has.second in
-    let room = has.room in
-    let day : (n + 60) / seconds_a_day ≡ n / seconds_a_day = omega arith in
-    let hour : (n + 60) % seconds_a_day / 3600 ≡ n % seconds_a_day / 3600 = omega arith in
-    let minute : (n + 60) % seconds_a_day % 3600 / 60 ≡ n / 60 % 60 + 1 = omega arith in
-    admitted_by cron (n + 60) (rw day has.day) (rw hour has.hour) (rw minute has.minute) (omega arith)
+-- so none is before the first second of the next minute
+none_within :
+    (cron : Bor CronRule) (from n : ℕ) → n % 60 ≡ 0 → n < from + 60 → NoneIn (admits_moment (Cron cron)) from n
+none_within cron from n whole near k low high = none_of_second cron k (λ zero. omega (arith, zero))
 
--- so it is the next one
+-- the first second of a later minute of the hour is admitted where the minute is
+admitted_later :
+    (cron : Bor CronRule) (n next later : ℕ) → IsAdmitted cron n → n / 60 % 60 < next → next < 60 →
+    later ≡ n + (next - n / 60 % 60) * 60 → has_value cron.now.minutes next ≡ true → admits_moment (Cron cron) later ≡ true
+admitted_later cron n next later admitted more room is has =
+    let second = admitted.second in
+    let day : later / seconds_a_day ≡ n / seconds_a_day = omega arith in
+    let hour : later % seconds_a_day / 3600 ≡ n % seconds_a_day / 3600 = omega arith in
+    let minute : later % seconds_a_day % 3600 / 60 ≡ next = omega arith in
+    admitted_by cron later (rw day admitted.day) (rw hour admitted.hour) (rw minute has) (omega arith)
+
+-- a second of a minute that isn't the rule's is not admitted
+none_of_minute :
+    (cron : Bor CronRule) (k : ℕ) → has_value cron.now.minutes (k % seconds_a_day % 3600 / 60) ≡ false →
+    admits_moment (Cron cron) k ≡ false
+none_of_minute cron k other =
+    let time = k % seconds_a_day in
+    and_right (admits_day (Cron cron) (k / seconds_a_day)) (admits_time (Cron cron) time)
+    (and_right (admits_hour (Cron cron) (time / 3600)) (admits_in_hour (Cron cron) (time % 3600))
+    (and_left (admits_minute (Cron cron) (time % 3600 / 60)) (time % 3600 % 60 == 0) other))
+
+-- so it is the next one, where the minutes between aren't the rule's
 pub IsLeastIn-minute :
-    (cron : Bor CronRule) (n end : ℕ) → n + 60 < end → admits_moment (Cron cron) n ≡ true → has_next_minute cron.now n ≡ true →
-    IsLeastIn (admits_moment (Cron cron)) (n + 1) end (n + 60)
-IsLeastIn-minute cron n end before admitted next =
-    let has = HasNext-admitted cron n admitted next in
+    (cron : Bor CronRule) (n next later end : ℕ) → admits_moment (Cron cron) n ≡ true →
+    IsFirstOrEnd (has_value cron.now.minutes) (n / 60 % 60 + 1) 60 next → next < 60 → later ≡ n + (next - n / 60 % 60) * 60 → later < end →
+    IsLeastIn (admits_moment (Cron cron)) (n + 1) end later
+IsLeastIn-minute cron n next later end admitted first room is before =
+    let has = IsAdmitted-moment cron n admitted in
     let second = has.second in
-    (omega arith, before, admitted_later cron n has, none_within cron (n + 1) (n + 60) (omega arith) (omega arith))
+    let from = first.from in (
+      omega arith,
+      before,
+      admitted_later cron n next later has (omega arith) room is (first.is room),
+      λ k low high. (elim (cases_eq (k % seconds_a_day % 3600 % 60) 0) [
+        | inl zero ↦ (
+            let same : k % seconds_a_day % 3600 / 60 ≡ k / 60 % 60 = omega arith in
+            let no : has_value cron.now.minutes (k / 60 % 60) ≡ false = first.none (k / 60 % 60) (omega arith) (omega arith) in
+            none_of_minute cron k (rw same no))
+        | inr other ↦ none_of_second cron k other
+      ]),
+    )
+
+-- a start's minute keeps the next one
+pub next-kept :
+    (cron : Bor CronRule) (kept : List ℕ) (n minute : ℕ) → AreNextMinutes cron.now.minutes kept → n < end_second →
+    is_start (rule.Cron cron.now) n ≡ true → minute ≡ n / 60 % 60 →
+    IsFirstOrEnd (has_value cron.now.minutes) (minute + 1) 60 (slice_index kept minute)
+next-kept cron kept n minute keeps years start is =
+    keeps minute (omega arith) (rw is (minute-admitted cron n (admits_moment-cron cron n years start)))
+
+-- and the rule starts next then
+pub IsLeastIn-next_minute :
+    (cron : Bor CronRule) (n minute next later end : ℕ) → end ≤ end_second → n < end → is_start (rule.Cron cron.now) n ≡ true →
+    minute ≡ n / 60 % 60 → IsFirstOrEnd (has_value cron.now.minutes) (minute + 1) 60 next → next < 60 →
+    later ≡ n + (next - minute) * 60 → later < end → IsLeastIn (is_start (rule.Cron cron.now)) (n + 1) end later
+IsLeastIn-next_minute cron n minute next later end years within start is first room at_next before =
+    IsFirstIn-same (admits_moment (Cron cron)) (is_start (rule.Cron cron.now)) (n + 1) end (Some later)
+    (λ k h. is_start-cron cron k (omega arith))
+    (IsLeastIn-minute cron n next later end (admits_moment-cron cron n (omega arith) start) (rw is at first) room (rw is at at_next) before)
 
 -- the first second of a minute is admitted where the rule starts at that minute
 admitted_minute :

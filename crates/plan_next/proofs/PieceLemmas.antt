@@ -8,16 +8,8 @@ use Rattle.std.proofs.Math.Seq.{get_or-append_seam}
 use Rattle.std.proofs.Common.{length-append}
 use Rattle.plan_match.specs.declared.rule.Rule.{Rule}
 use Rattle.plan_next.specs.Starts.{NoneIn, IsLeastIn, is_start, starts}
-use Rattle.plan_next.specs.Piece.{piece_end}
+use Rattle.plan_next.specs.Piece.{piece_end, AreFound}
 use Rattle.plan_next.specs.StartsLaws.{passing-append, passing-none, passing-least}
-
--- all starts of a part up to a second were found, at most `most`, the last of them just before that second
-pub record AreFound (rule : Rule) (since upto most : ℕ) (found : List ℕ) (reached : ℕ) : Type 0 where
-  pub from : since ≤ reached
-  pub to : reached ≤ upto
-  pub few : length found ≤ most
-  pub all : found ≡ starts rule since reached
-  pub last : 0 < length found → (since < reached) × (get_or found (length found - 1) 0 + 1 ≡ reached)
 
 no_start_within : (rule : Rule) (second : ℕ) → starts rule second second ≡ []
 no_start_within rule second = passing-none (is_start rule) second second (λ n low high. absurd (omega arith))

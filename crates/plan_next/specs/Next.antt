@@ -1,6 +1,6 @@
 -- The next starts of a rule and of its events.
-use Rattle.std.specs.Prelude.{◌≡◌, ℕ, ◌+◌, ◌/◌, ◌%◌, ◌<◌, ◌≤◌, Bool, true, ◌&&◌, nat_lt, List, length, Some, slice_get, slice_index}
-use Rattle.plan_sets.specs.Values.{has_value}
+use Rattle.std.specs.Prelude.{◌≡◌, ℕ, ◌+◌, ◌/◌, ◌%◌, ◌<◌, ◌≤◌, Bool, true, ◌&&◌, List, length, Some, slice_get, slice_index}
+use Rattle.plan_sets.specs.Values.{Values, has_value}
 use Rattle.plan_sets.specs.Civil.{civil_fields}
 use Rattle.plan_match.specs.declared.cron.CronRule.{CronRule}
 use Rattle.plan_match.specs.declared.event.Calendar.{Calendar}
@@ -21,9 +21,10 @@ pub record IsFirstOrEnd (test : ℕ → Bool) (a b n : ℕ) : Type 0 where
   pub none : NoneIn test a n
   pub is : n < b → test n ≡ true
 
--- the minute after that of second n is of the same hour, and one of the rule's
-abbrev pub has_next_minute : CronRule → ℕ → Bool
-has_next_minute rule n = nat_lt (n / 60 % 60 + 1) 60 && has_value rule.minutes (n / 60 % 60 + 1)
+-- of each of these minutes the next one of its hour is kept, and 60 where it is the last
+abbrev pub AreNextMinutes : (minutes : Values) → List ℕ → Type 0
+AreNextMinutes minutes kept =
+    (m : ℕ) → m < 60 → has_value minutes m ≡ true → IsFirstOrEnd (has_value minutes) (m + 1) 60 (slice_index kept m)
 
 -- the rule starts at that minute, counted from 1970-01-01T00:00:00Z
 abbrev pub starts_at_minute : CronRule → ℕ → Bool
@@ -40,8 +41,8 @@ AreNexts events from end kept =
     (k : ℕ) → (event : Calendar) → slice_get events k ≡ Some event
     → IsFirstOrEnd (matches_at event) from end (slice_index kept k)
 
--- a list of events that isn't too long keeps the next start of each
+-- a cron rule keeps the next one of each of its minutes, and a list of events that isn't too long the next start of each
 abbrev pub KeepsNexts : Rule → (from end : ℕ) → List ℕ → Type 0
-KeepsNexts (Cron rule) from end kept = Unit {0}
+KeepsNexts (Cron rule) from end kept = AreNextMinutes rule.minutes kept
 KeepsNexts Never from end kept = Unit {0}
 KeepsNexts (Events events) from end kept = length events ≤ most_kept → AreNexts events from end kept

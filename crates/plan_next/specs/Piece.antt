@@ -1,5 +1,5 @@
 -- Pieces of a rule's starts.
-use Rattle.std.specs.Prelude.{ℕ, ◌+◌, ◌-◌, nat_le, if◌then◌else◌, length, slice_index, refl}
+use Rattle.std.specs.Prelude.{◌≡◌, ℕ, ◌+◌, ◌-◌, ◌<◌, ◌≤◌, nat_le, if◌then◌else◌, List, length, slice_index, refl}
 use Rattle.std.specs.Coded.{Coded, code_by, coded×, coded_ℕ}
 use Rattle.plan_match.specs.declared.rule.Rule.{Rule}
 use Rattle.plan_match.specs.contracts.rule.Rule.{the_row as rule_row}
@@ -27,3 +27,11 @@ piece_end rule since upto most =
 -- the piece of a rule
 abbrev pub piece_of : Rule → (since upto most : ℕ) → Part
 piece_of rule since upto most = record { rule = rule; since = since; upto = piece_end rule since upto most }
+
+-- all starts of a part up to a second were found, at most `most`, the last of them just before that second
+pub record AreFound (rule : Rule) (since upto most : ℕ) (found : List ℕ) (reached : ℕ) : Type 0 where
+  pub from : since ≤ reached
+  pub to : reached ≤ upto
+  pub few : length found ≤ most
+  pub all : found ≡ starts rule since reached
+  pub last : 0 < length found → (since < reached) × (slice_index found (length found - 1) + 1 ≡ reached)

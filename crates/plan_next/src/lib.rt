@@ -4,6 +4,7 @@
 //! here; `search` has the jumps, and `piece` what planners send.
 #![tactic(auto)]
 
+mod minutes;
 mod month;
 mod next;
 mod nexts;

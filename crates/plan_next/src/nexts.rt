@@ -1,20 +1,22 @@
 //! The starts of a rule one after the other: each follows from the one before it, and no event is searched again while its
-//! next start is known. A number is kept for each event, so the end of the part stands for none.
+//! next start is known. A number is kept for each event, so the end of the part stands for none. For a cron rule a number is kept for each of
+//! its minutes.
 
 ghost use Rattle.std.specs.Prelude.{◌≡◌, ◌+◌, ◌<◌, ◌≤◌, true, length};
 ghost use Rattle.plan_sets.specs.Limits.{end_second};
 ghost use Rattle.plan_next.specs.Starts.{is_start, IsFirstIn};
-ghost use Rattle.plan_next.specs.Next.{has_next_minute, matches_at, most_kept, AreNexts, IsFirstOrEnd, KeepsNexts};
+ghost use Rattle.plan_next.specs.Next.{matches_at, most_kept, AreNexts, IsFirstOrEnd, KeepsNexts};
 
+use crate::minutes::keep_minutes;
 use crate::next::{first_of_cron, first_of_events};
-use crate::search::{MINUTES_AN_HOUR, Pattern, SECONDS_A_MINUTE};
+use crate::search::Pattern;
 use plan_match::{Calendar, CronRule, Events, Rule};
 
-/// The longest list of events of which each keeps its next start.
+/// The longest list of events of which each keeps its next start, which is no less than the minutes of an hour.
 pub(crate) const MOST_KEPT: usize = 64;
 
 /// The first start of a rule from `from` on, or `end` where it has none before that. Where its events aren't too many, `kept`
-/// then holds the same of each.
+/// then holds the same of each; of each minute of a cron rule it holds the next one.
 pub(crate) fn first_or_end(rule: &Rule, from: u64, end: u64, kept: &mut [u64; MOST_KEPT]) -> u64
     requires part { from ≤ end }
     requires years { end ≤ end_second }
@@ -22,7 +24,10 @@ pub(crate) fn first_or_end(rule: &Rule, from: u64, end: u64, kept: &mut [u64; MO
     ensures kept { KeepsNexts rule.now from end kept.new }
 {
     match rule {
-        Rule::Cron(rule) => first_of_cron(rule, from, end).unwrap_or(end),
+        Rule::Cron(rule) => {
+            keep_minutes(rule.minutes(), kept);
+            first_of_cron(rule, from, end).unwrap_or(end)
+        }
         Rule::Never => end,
         Rule::Events(events) if events.len() <= MOST_KEPT => first_of_each(events, from, end, kept),
         Rule::Events(events) => first_of_events(events, from, end).unwrap_or(end),
@@ -49,27 +54,14 @@ pub(crate) fn next_or_end(rule: &Rule, start: u64, end: u64, kept: &mut [u64; MO
     }
 }
 
-// The first start of a cron rule after `start`, before `end`. The minute after is tried first: where it is one, nothing that comes
-// later waits for the search.
+// The first start of a cron rule after `start`, before `end`.
 fn next_of_cron(rule: &CronRule, start: u64, end: u64) -> Option<u64>
     requires part { start < end }
     requires years { end ≤ end_second }
     requires start { is_start (Rule.Cron rule.now) start ≡ true }
     ensures { IsFirstIn (is_start (Rule.Cron rule.now)) (start + 1) end result }
 {
-    let later = start + u64::from(SECONDS_A_MINUTE);
-    if later < end && has_next_minute(rule, start) {
-        return Some(later);
-    }
     Pattern::Cron(rule).next_moment(start, end)
-}
-
-// Whether the minute after that of `start` is of the same hour, and one of the rule's.
-fn has_next_minute(rule: &CronRule, start: u64) -> bool
-    ensures { result ≡ has_next_minute rule.now start }
-{
-    let minute = (start / u64::from(SECONDS_A_MINUTE) % u64::from(MINUTES_AN_HOUR)) as u16 + 1;
-    minute < MINUTES_AN_HOUR && rule.minutes().contains(minute)
 }
 
 // Finds the first start of each event from `from` on, or `end` where it has none, and answers the earliest.

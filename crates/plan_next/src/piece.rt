@@ -6,6 +6,7 @@ ghost use Rattle.plan_sets.specs.Limits.{end_second};
 ghost use Rattle.plan_next.specs.Starts.{starts};
 ghost use Rattle.plan_next.specs.Piece.{piece_end, piece_of};
 
+use crate::minutes::add_minutes;
 use crate::nexts::{MOST_KEPT, first_or_end, next_or_end};
 use plan_match::Rule;
 use std::alloc::{AllocError, AllocFailed, Global};
@@ -144,8 +145,9 @@ fn first_starts(
             return Ok((found, reached));
         }
         found.push(next)?;
-        reached = next + 1;
-        next = next_or_end(rule, next, upto, &mut kept);
+        let last = add_minutes(rule, &kept, next, upto, most, &mut found)?;
+        reached = last + 1;
+        next = next_or_end(rule, last, upto, &mut kept);
     }
     Ok((found, upto))
 }

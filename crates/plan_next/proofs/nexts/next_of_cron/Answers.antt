@@ -1,11 +1,10 @@
-use Rattle.std.proofs.Common.{◌≡◌, ◌+◌, ◌<◌, Some, sym, ◌∙◌, arith}
+use Rattle.std.proofs.Common.{◌+◌, arith}
 use Rattle.plan_match.specs.declared.rule.Rule.TheVariants as rule
 use Rattle.plan_next.specs.declared.search.Pattern.TheVariants.{Cron}
 use Rattle.plan_next.specs.Starts.{is_start}
 use Rattle.plan_next.specs.Search.{admits_moment}
 use Rattle.plan_next.proofs.FirstLemmas.{IsFirstIn-same}
 use Rattle.plan_next.proofs.KeptLemmas.{admits_moment-cron}
-use Rattle.plan_next.proofs.MinuteLemmas.{IsLeastIn-minute}
 use Rattle.plan_next.proofs.StartsLemmas.{is_start-cron}
 use Rattle.plan_next.proofs.nexts.next_of_cron.Goals as goal
 
@@ -16,13 +15,3 @@ pub returns : goal.returns
 returns c =
     IsFirstIn-same (admits_moment (Cron c.args.rule)) (is_start (rule.Cron c.args.rule.now))
     (c.args.start + 1) c.args.end c.next_moment.result (λ n h. is_start-cron c.args.rule n (omega arith)) c.next_moment.ensures
-
-pub returns-then-has_next_minute : goal.returns-then-has_next_minute
-returns-then-has_next_minute c =
-    let minute : c.from.result ≡ 60 = omega (arith, c.from.ensures) in
-    let admitted = admits_moment-cron c.args.rule c.args.start (omega arith) c.requires.start in
-    let next = sym c.has_next_minute.ensures ∙ c.if-has_next_minute.true in
-    let before : c.args.start + 60 < c.args.end = omega (arith, c.if-later-end.true, minute) in
-    rw minute (IsFirstIn-same (admits_moment (Cron c.args.rule)) (is_start (rule.Cron c.args.rule.now))
-    (c.args.start + 1) c.args.end (Some (c.args.start + 60)) (λ n h. is_start-cron c.args.rule n (omega arith))
-    (IsLeastIn-minute c.args.rule c.args.start c.args.end before admitted next))

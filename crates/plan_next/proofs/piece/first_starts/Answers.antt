@@ -1,4 +1,4 @@
--- Answers the clauses `end`, `all` and `first` of `first_starts`, and what `next_or_end` requires of the kept starts.
+-- Answers the clauses `end`, `all` and `first` of `first_starts`, and what `add_minutes` requires of what is kept.
 -- The loop's invariant: all starts before `reached` were found, and the next one is known. It ends at a full piece with
 -- a start left over (`full_piece`), or where no start is left (`whole_part`).
 use Rattle.std.proofs.Common.{◌≡◌, ◌<◌, length, arith}
@@ -17,8 +17,8 @@ loop-next-init c = record {
   kept = c.first_or_end-next.ensures.kept;
 }
 
-pub next_or_end-next-requires-clause-kept : goal.next_or_end-next-requires-clause-kept
-next_or_end-next-requires-clause-kept c =
+pub add_minutes-requires-clause-kept : goal.add_minutes-requires-clause-kept
+add_minutes-requires-clause-kept c =
     let so_far = c.loop-next.invariant in
     KeepsNexts-start c.args.rule.now c.loop-next.reached c.args.upto c.loop-next.next c.loop-next.kept so_far.next
     c.loop-next-test.true c.requires.years so_far.kept
@@ -30,8 +30,9 @@ loop-next-preserved c =
     let least = IsLeastIn-next (is_start c.args.rule.now) c.loop-next.reached c.args.upto c.loop-next.next so_far.next
     c.loop-next-test.true in
     record {
-      found = found_more c.args.rule.now c.args.since c.args.upto c.args.most c.loop-next.next c.loop-next.reached
-          c.loop-next.found.items c.push.new.self.items so_far.found least room c.in_ok-push.ensures.items;
+      found = c.in_ok-last.ensures.found c.args.since
+          (found_more c.args.rule.now c.args.since c.args.upto c.args.most c.loop-next.next c.loop-next.reached
+          c.loop-next.found.items c.push.new.self.items so_far.found least room c.in_ok-push.ensures.items);
       next = c.next_or_end-next.ensures.next;
       kept = c.next_or_end-next.ensures.kept;
     }

@@ -1,7 +1,7 @@
 use Rattle.std.proofs.Common.{◌-◌}
 use Rattle.plan_next.specs.Next.{IsFirstOrEnd, KeepsNexts}
 use Rattle.plan_next.specs.Starts.{is_start}
-use Rattle.plan_next.proofs.PieceLemmas.{AreFound}
+use Rattle.plan_next.specs.Piece.{AreFound}
 use Rattle.plan_next.proofs.piece.first_starts.Given as goal
 
 -- what was found so far are all starts up to here, and the next one is known

@@ -1,0 +1,6 @@
+use Rattle.std.proofs.Common.{IsPermutation}
+use Rattle.plan_collect.proofs.sorting.Parts.send.Given as goal
+
+-- the same entries, in another order
+abbrev pub invariant-loop-from : goal.invariant-loop-from
+invariant-loop-from l = IsPermutation l.initial.entries l.entries

@@ -1,0 +1,98 @@
+//! The starts of a cron rule within an hour: each of its minutes keeps which comes next.
+
+ghost use Rattle.std.specs.Prelude.{◌≡◌, ◌+◌, ◌<◌, ◌≤◌, ℕ, true, IfOk};
+ghost use Rattle.plan_sets.specs.Limits.{end_second};
+ghost use Rattle.plan_sets.specs.Values.{has_value};
+ghost use Rattle.plan_next.specs.Starts.{is_start};
+ghost use Rattle.plan_next.specs.Next.{AreNextMinutes, IsFirstOrEnd, KeepsNexts};
+ghost use Rattle.plan_next.specs.Piece.{AreFound};
+
+use crate::nexts::MOST_KEPT;
+use crate::search::{MINUTES_AN_HOUR, SECONDS_A_MINUTE};
+use plan_match::{CronRule, Rule};
+use plan_sets::ValueSet;
+use std::alloc::AllocError;
+
+/// Keeps for each of these minutes of an hour which of them comes next, or 60 where none does.
+pub(crate) fn keep_minutes(minutes: &ValueSet, kept: &mut [u64; MOST_KEPT])
+    ensures { AreNextMinutes minutes.now kept.new }
+{
+    let mut minute = minute_or_end(minutes, 0);
+    while minute < MINUTES_AN_HOUR {
+        let next = minute_or_end(minutes, minute + 1);
+        kept[usize::from(minute)] = u64::from(next);
+        minute = next;
+    }
+}
+
+// The first of these minutes from one of an hour on, or 60 where there is none.
+fn minute_or_end(minutes: &ValueSet, from: u16) -> u16
+    requires { from ≤ MINUTES_AN_HOUR }
+    ensures { IsFirstOrEnd (has_value minutes.now) from MINUTES_AN_HOUR result }
+{
+    match minutes.first_from(from) {
+        Some(minute) if minute < MINUTES_AN_HOUR => minute,
+        _ => MINUTES_AN_HOUR,
+    }
+}
+
+/// Adds the starts of a rule that follow a start, the last of those that are found, by its minutes: in the same hour, before `upto`, and
+/// while fewer than `most` are found. It answers the last one then.
+pub(crate) fn add_minutes(
+    rule: &Rule,
+    kept: &[u64; MOST_KEPT],
+    start: u64,
+    upto: u64,
+    most: usize,
+    found: &mut Vec<u64>,
+) -> Result<u64, AllocError>
+    requires part { start < upto }
+    requires years { upto ≤ end_second }
+    requires start { is_start rule.now start ≡ true }
+    requires kept { KeepsNexts rule.now start upto kept.now }
+    ensures from { IfOk result (λ last. start ≤ last) }
+    ensures part { IfOk result (λ last. last < upto) }
+    ensures last { IfOk result (λ last. is_start rule.now last ≡ true) }
+    ensures kept { IfOk result (λ last. KeepsNexts rule.now last upto kept.now) }
+    ensures found { (since : ℕ) → AreFound rule.now since upto most found.old.items (start + 1)
+        → IfOk result (λ last. AreFound rule.now since upto most found.new.items (last + 1)) }
+{
+    match rule {
+        Rule::Cron(rule) => add_minutes_of_cron(rule, kept, start, upto, most, found),
+        _ => Ok(start),
+    }
+}
+
+// The same for a cron rule.
+fn add_minutes_of_cron(
+    rule: &CronRule,
+    kept: &[u64; MOST_KEPT],
+    start: u64,
+    upto: u64,
+    most: usize,
+    found: &mut Vec<u64>,
+) -> Result<u64, AllocError>
+    requires part { start < upto }
+    requires years { upto ≤ end_second }
+    requires start { is_start (Rule.Cron rule.now) start ≡ true }
+    requires kept { AreNextMinutes rule.now.minutes kept.now }
+    ensures from { IfOk result (λ last. start ≤ last) }
+    ensures part { IfOk result (λ last. last < upto) }
+    ensures last { IfOk result (λ last. is_start (Rule.Cron rule.now) last ≡ true) }
+    ensures found { (since : ℕ) → AreFound (Rule.Cron rule.now) since upto most found.old.items (start + 1)
+        → IfOk result (λ last. AreFound (Rule.Cron rule.now) since upto most found.new.items (last + 1)) }
+{
+    let mut last = start;
+    let mut minute = start / u64::from(SECONDS_A_MINUTE) % u64::from(MINUTES_AN_HOUR);
+    for _ in found.len()..most {
+        let next = kept[minute as usize];
+        let later = last + (next - minute) * u64::from(SECONDS_A_MINUTE);
+        if next >= u64::from(MINUTES_AN_HOUR) || later >= upto {
+            return Ok(last);
+        }
+        found.push(later)?;
+        last = later;
+        minute = next;
+    }
+    Ok(last)
+}
