@@ -1,4 +1,7 @@
 //! How entries come into order.
+//!
+//! No contract says where the parts of time lie that entries are sent to: each place is looked at before it is used, and sums wrap. Neither
+//! ever matters. That the entries stay the same is all that is asked of the spread, since the last sort is one of all.
 
 ghost use Rattle.std.specs.Prelude.{◌≡◌, ◌<◌, IsPermutation, vec_len};
 ghost use Rattle.std.specs.List.Sorted.{IsSorted};
@@ -7,24 +10,24 @@ ghost use Rattle.std.specs.Ordering.{nat_cmp, ordering_then};
 use crate::entry::Entry;
 
 // So many entries and more are spread over parts of time before they are sorted.
-const MANY: usize = 32_768;
+const FEWEST_SPREAD: usize = 32_768;
 
-// How many parts there are at most: as many as there are numbers of `PART_BITS` bits.
+// How many parts there are at most: as many as there are numbers of so many bits.
 const MOST_PARTS: usize = 2_048;
 
 const PART_BITS: u32 = 11;
 
-// One of so many entries is looked at to find over which time they lie.
-const SAMPLE: usize = 64;
+// One of so many entries is looked at to find over which time they lie: a prime, so that it isn't always the same start of each job.
+const SAMPLE_STEP: usize = 61;
 
-// How often entries are brought to their parts at most. A round brings at least half of those that aren't there to theirs, so a million
-// are there after 20.
+// How often each part is looked at while entries are sent to theirs. A round closes at least half of the places that are open as it begins: each
+// that it looks at closes one, and each that it passes over was closed in the same round. So none of a million is open after 20.
 const MOST_ROUNDS: u32 = 24;
 
 /// Sorts entries by second and then by job. Takes no memory.
 ///
 /// Starts arrive job by job. Where there are many of them, they are spread over parts of time, and each part is sorted by itself. The sort of
-/// all behind that finds them in order; so no proof rests on how they were spread.
+/// all after that finds them in order.
 pub(crate) fn sort_entries(entries: &mut Vec<Entry>)
     ensures permutation { IsPermutation entries.old.items entries.new.items }
     ensures len { vec_len entries.new ≡ vec_len entries.old }
@@ -34,34 +37,39 @@ pub(crate) fn sort_entries(entries: &mut Vec<Entry>)
     entries.sort_unstable();
 }
 
-// Sorts the entries of each part of time by themselves, where there are many that aren't in order, as those of a single job are.
+// Sorts each part of time by itself. Few entries, and those that are in order already, as a single job's, are left as they are; so are those of
+// which one part has more than half, for which the sort of all is as good.
 fn sort_parts(entries: &mut [Entry])
     ensures { IsPermutation entries.old entries.new }
 {
-    if entries.len() < MANY || entries.is_sorted() {
+    if entries.len() < FEWEST_SPREAD || entries.is_sorted() {
         return;
     }
     let parts = Parts::of(entries);
     let ends = parts.ends(entries);
+    if longest(&ends) > entries.len() / 2 {
+        return;
+    }
     parts.spread(entries, &ends);
     sort_each(entries, &ends);
 }
 
-// Parts of time that are equally long, from the first entry's second on.
+// Parts of time that are equally long.
 #[derive(Clone, Copy)]
 struct Parts {
+    // The second with which the first part begins.
     first: u64,
-    // A part has two to the power of this many seconds.
+    // A part is two to the power of this many seconds long.
     shift: u32,
 }
 
 impl Parts {
-    // The shortest parts over the time of these entries, of which one in 64 is looked at. Those before that time count to the first part, and
-    // those after it to the last.
+    // The shortest of such parts over the time of these entries, as far as the sample of them shows it. What comes before that time counts to the
+    // first part, and what comes after it to the last.
     fn of(entries: &[Entry]) -> Parts {
         let mut first = u64::MAX;
         let mut last = 0;
-        for entry in entries.iter().step_by(SAMPLE) {
+        for entry in entries.iter().step_by(SAMPLE_STEP) {
             first = first.min(entry.second());
             last = last.max(entry.second());
         }
@@ -98,12 +106,15 @@ impl Parts {
     fn spread(self, entries: &mut [Entry], ends: &[u32; MOST_PARTS])
         ensures { IsPermutation entries.old entries.new }
     {
-        let mut free = [0_u32; MOST_PARTS];
-        free[1..].copy_from_slice(&ends[..MOST_PARTS - 1]);
+        // Of each part the first place that is open: those before it are closed, as each has an entry of the part.
+        let mut open = [0_u32; MOST_PARTS];
+        open[1..].copy_from_slice(&ends[..MOST_PARTS - 1]);
         for _ in 0..MOST_ROUNDS {
             let mut is_spread = true;
             for part in 0..MOST_PARTS {
-                is_spread &= self.send(entries, free[part], ends[part], &mut free);
+                let (begin, end) = (open[part], ends[part]);
+                is_spread &= begin == end;
+                self.bring(entries, begin, end, &mut open);
             }
             if is_spread {
                 return;
@@ -111,31 +122,42 @@ impl Parts {
         }
     }
 
-    // Sends each entry at these places to its part. It tells whether there is none.
-    fn send(self, entries: &mut [Entry], begin: u32, end: u32, free: &mut [u32; MOST_PARTS]) -> bool
+    // Brings each entry at these places to its part.
+    fn bring(self, entries: &mut [Entry], begin: u32, end: u32, open: &mut [u32; MOST_PARTS])
         ensures { IsPermutation entries.old entries.new }
     {
         for from in begin..end {
-            self.send_one(entries, from as usize, free);
+            self.bring_one(entries, from as usize, open);
         }
-        begin == end
     }
 
-    // Swaps the entry at a place with that at the first free place of its own part.
+    // Swaps the entry at a place with that at the first open place of its own part, which is closed by that. What comes back is looked at in a later
+    // round, so that hardly a swap waits for the one before.
     #[inline(always)]
-    fn send_one(self, entries: &mut [Entry], from: usize, free: &mut [u32; MOST_PARTS])
+    fn bring_one(self, entries: &mut [Entry], from: usize, open: &mut [u32; MOST_PARTS])
         ensures { IsPermutation entries.old entries.new }
     {
         let Some(entry) = entries.get(from) else {
             return;
         };
         let part = self.part_of(*entry);
-        let to = free[part] as usize;
-        free[part] = free[part].wrapping_add(1);
+        let to = open[part] as usize;
+        open[part] = open[part].wrapping_add(1);
         if to < entries.len() {
             entries.swap(from, to);
         }
     }
+}
+
+// How many entries the part has that has the most.
+fn longest(ends: &[u32; MOST_PARTS]) -> usize {
+    let mut longest = 0;
+    let mut begin = 0;
+    for end in ends {
+        longest = end.wrapping_sub(begin).max(longest);
+        begin = *end;
+    }
+    longest as usize
 }
 
 // Sorts each part by itself.
@@ -149,7 +171,7 @@ fn sort_each(entries: &mut [Entry], ends: &[u32; MOST_PARTS])
     }
 }
 
-// Sorts the entries from one place on, another excluded.
+// Sorts the entries from `begin` up to `end`, which is excluded.
 fn sort_part(entries: &mut [Entry], begin: u32, end: u32)
     ensures { IsPermutation entries.old entries.new }
 {

@@ -1,5 +1,5 @@
 -- A cron rule starts first at the first minute, where it starts at that, and after a start at the next of its minutes in the hour.
--- For `first_of_cron` and `add_minutes_of_cron`. Of the seconds of a minute the first alone is admitted (`none_of_second`).
+-- For `first_of_cron` and `add_cron_starts_of_hour`. Of the seconds of a minute the first alone is admitted (`none_of_second`).
 use Rattle.std.proofs.Common.{◌≡◌, ℕ, ◌+◌, ◌-◌, ◌*◌, ◌/◌, ◌%◌, ◌<◌, ◌≤◌, true, false, ◌==◌, Bor, Some, List, inl, inr, arith}
 use Rattle.std.specs.Int.{div_ceil}
 use Rattle.std.proofs.lemmas.Bool.{and_parts, and_from, and_left, and_right, eqb-true, eq-eqb, ne_eqb, cases_eq}

@@ -1,4 +1,4 @@
-//! The starts of a cron rule within an hour: each of its minutes keeps which comes next.
+//! The starts of a cron rule within an hour: for each of its minutes is kept which comes next.
 
 ghost use Rattle.std.specs.Prelude.{◌≡◌, ◌+◌, ◌<◌, ◌≤◌, ℕ, true, IfOk};
 ghost use Rattle.plan_sets.specs.Limits.{end_second};
@@ -14,7 +14,7 @@ use plan_sets::ValueSet;
 use std::alloc::AllocError;
 
 /// Keeps for each of these minutes of an hour which of them comes next, or 60 where none does.
-pub(crate) fn keep_minutes(minutes: &ValueSet, kept: &mut [u64; MOST_KEPT])
+pub(crate) fn keep_next_minutes(minutes: &ValueSet, kept: &mut [u64; MOST_KEPT])
     ensures { AreNextMinutes minutes.now kept.new }
 {
     let mut minute = minute_or_end(minutes, 0);
@@ -36,9 +36,11 @@ fn minute_or_end(minutes: &ValueSet, from: u16) -> u16
     }
 }
 
-/// Adds the starts of a rule that follow a start, the last of those that are found, by its minutes: in the same hour, before `upto`, and
-/// while fewer than `most` are found. It answers the last one then.
-pub(crate) fn add_minutes(
+/// Adds those starts of a cron rule that follow `start` in its hour, before `upto`, until `most` are found, and answers the last start that is
+/// found then. `start` is the last that is found so far. Other rules add none.
+///
+/// It fails where memory is refused.
+pub(crate) fn add_starts_of_hour(
     rule: &Rule,
     kept: &[u64; MOST_KEPT],
     start: u64,
@@ -58,13 +60,13 @@ pub(crate) fn add_minutes(
         → IfOk result (λ last. AreFound rule.now since upto most found.new.items (last + 1)) }
 {
     match rule {
-        Rule::Cron(rule) => add_minutes_of_cron(rule, kept, start, upto, most, found),
+        Rule::Cron(rule) => add_cron_starts_of_hour(rule, kept, start, upto, most, found),
         _ => Ok(start),
     }
 }
 
-// The same for a cron rule.
-fn add_minutes_of_cron(
+// The same of a cron rule.
+fn add_cron_starts_of_hour(
     rule: &CronRule,
     kept: &[u64; MOST_KEPT],
     start: u64,

@@ -7,7 +7,7 @@ ghost use Rattle.plan_sets.specs.Limits.{end_second};
 ghost use Rattle.plan_next.specs.Starts.{is_start, IsFirstIn};
 ghost use Rattle.plan_next.specs.Next.{matches_at, most_kept, AreNexts, IsFirstOrEnd, KeepsNexts};
 
-use crate::minutes::keep_minutes;
+use crate::minutes::keep_next_minutes;
 use crate::next::{first_of_cron, first_of_events};
 use crate::search::Pattern;
 use plan_match::{Calendar, CronRule, Events, Rule};
@@ -25,7 +25,7 @@ pub(crate) fn first_or_end(rule: &Rule, from: u64, end: u64, kept: &mut [u64; MO
 {
     match rule {
         Rule::Cron(rule) => {
-            keep_minutes(rule.minutes(), kept);
+            keep_next_minutes(rule.minutes(), kept);
             first_of_cron(rule, from, end).unwrap_or(end)
         }
         Rule::Never => end,
@@ -35,7 +35,7 @@ pub(crate) fn first_or_end(rule: &Rule, from: u64, end: u64, kept: &mut [u64; MO
 }
 
 /// The start of a rule after its start `start`, or `end` where it has none before that. `kept` holds what each event has from
-/// `start` on, and then what it has after it.
+/// `start` on, and then what it has after it; what a cron rule keeps stays as it is.
 pub(crate) fn next_or_end(rule: &Rule, start: u64, end: u64, kept: &mut [u64; MOST_KEPT]) -> u64
     requires part { start < end }
     requires years { end ≤ end_second }

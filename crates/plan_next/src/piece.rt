@@ -6,7 +6,7 @@ ghost use Rattle.plan_sets.specs.Limits.{end_second};
 ghost use Rattle.plan_next.specs.Starts.{starts};
 ghost use Rattle.plan_next.specs.Piece.{piece_end, piece_of};
 
-use crate::minutes::add_minutes;
+use crate::minutes::add_starts_of_hour;
 use crate::nexts::{MOST_KEPT, first_or_end, next_or_end};
 use plan_match::Rule;
 use std::alloc::{AllocError, AllocFailed, Global};
@@ -145,7 +145,7 @@ fn first_starts(
             return Ok((found, reached));
         }
         found.push(next)?;
-        let last = add_minutes(rule, &kept, next, upto, most, &mut found)?;
+        let last = add_starts_of_hour(rule, &kept, next, upto, most, &mut found)?;
         reached = last + 1;
         next = next_or_end(rule, last, upto, &mut kept);
     }

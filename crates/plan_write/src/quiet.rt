@@ -17,6 +17,7 @@ use plan_streams::{Stream, WriteFault};
 /// them, in decimal. Between these stands a tab. Takes no memory of its own. The stream is flushed once, at the end.
 ///
 /// `Device` where the stream fails; then only the first bytes of the text were written.
+// Not inlined: its buffer of 64 KiB takes stack only while it runs.
 #[inline(never)]
 pub fn write_quiet<S: Stream>(agenda: &Agenda, least: u64, out: &mut S) -> Result<(), WriteFault>
     ensures { Puts S.takes_all result (S.holds out.old) (S.holds out.new) (quiet_text least agenda.now) }

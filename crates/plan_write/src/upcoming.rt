@@ -77,6 +77,7 @@ fn next_or_end(rule: &Rule, after: u64) -> u64
 /// name, what it runs. Between these stands a tab. Takes no memory of its own. The stream is flushed once, at the end.
 ///
 /// `Device` where the stream fails; then only the first bytes of the text were written.
+// Not inlined: its buffer of 64 KiB takes stack only while it runs.
 #[inline(never)]
 pub fn write_upcoming<S: Stream>(
     upcoming: &Upcoming,

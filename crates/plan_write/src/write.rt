@@ -19,6 +19,7 @@ use plan_streams::{Stream, WriteFault};
 /// the words of a line stands a tab. Takes no memory of its own. The stream is flushed once, at the end.
 ///
 /// `Device` where the stream fails; then only the first bytes of the text were written.
+// Not inlined: its buffer of 64 KiB takes stack only while it runs.
 #[inline(never)]
 pub fn write_agenda<S: Stream>(agenda: &Agenda, jobs: &Jobs, out: &mut S) -> Result<(), WriteFault>
     requires { IsOfJobs (length jobs.now) agenda.now.entries }

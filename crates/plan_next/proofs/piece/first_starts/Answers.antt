@@ -1,4 +1,4 @@
--- Answers the clauses `end`, `all` and `first` of `first_starts`, and what `add_minutes` requires of what is kept.
+-- Answers the clauses `end`, `all` and `first` of `first_starts`, and what `add_starts_of_hour` requires of what is kept.
 -- The loop's invariant: all starts before `reached` were found, and the next one is known. It ends at a full piece with
 -- a start left over (`full_piece`), or where no start is left (`whole_part`).
 use Rattle.std.proofs.Common.{◌≡◌, ◌<◌, length, arith}
@@ -17,8 +17,8 @@ loop-next-init c = record {
   kept = c.first_or_end-next.ensures.kept;
 }
 
-pub add_minutes-requires-clause-kept : goal.add_minutes-requires-clause-kept
-add_minutes-requires-clause-kept c =
+pub add_starts_of_hour-requires-clause-kept : goal.add_starts_of_hour-requires-clause-kept
+add_starts_of_hour-requires-clause-kept c =
     let so_far = c.loop-next.invariant in
     KeepsNexts-start c.args.rule.now c.loop-next.reached c.args.upto c.loop-next.next c.loop-next.kept so_far.next
     c.loop-next-test.true c.requires.years so_far.kept

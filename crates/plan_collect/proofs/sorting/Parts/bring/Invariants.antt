@@ -1,5 +1,5 @@
 use Rattle.std.proofs.Common.{IsPermutation}
-use Rattle.plan_collect.proofs.sorting.Parts.send.Given as goal
+use Rattle.plan_collect.proofs.sorting.Parts.bring.Given as goal
 
 -- the same entries, in another order
 abbrev pub invariant-loop-from : goal.invariant-loop-from

@@ -1,7 +1,7 @@
 use Rattle.std.proofs.Common.{◌≡◌, ℕ, ◌+◌, ◌-◌, ◌<◌, ◌≤◌, true, get_or}
 use Rattle.plan_sets.specs.Values.{has_value}
 use Rattle.plan_next.specs.Next.{IsFirstOrEnd}
-use Rattle.plan_next.proofs.minutes.keep_minutes.Given as goal
+use Rattle.plan_next.proofs.minutes.keep_next_minutes.Given as goal
 
 -- the minutes before this one keep their next ones, and it is one of them or the hour's end
 abbrev pub invariant-loop-minute : goal.invariant-loop-minute
