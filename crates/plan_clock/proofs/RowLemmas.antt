@@ -1,0 +1,86 @@
+-- The row of a second.
+-- For `passed` and `Clock::stretch`.
+use Rattle.std.proofs.Common.{◌≡◌, ℕ, ◌+◌, ◌-◌, ◌<◌, ◌≤◌, zero, suc, Bool, true, false, ◌&&◌, List, length, get_or, nat_le, ◌==◌, refl, ap, arith, inl, inr}
+use Rattle.std.specs.List.{prefix_len}
+use Rattle.std.proofs.lemmas.Bool.{le-leb, lt-leb}
+use Rattle.std.specs.List.Sorted.{IsNonDecreasingBy}
+use Rattle.std.proofs.lemmas.Bool.Decides.{nat_tests, leb_tells}
+use Rattle.std.proofs.lemmas.List.{get_or_default}
+use Rattle.std.proofs.lemmas.List.Sums.{prefix_len_is}
+use Rattle.plan_clock.specs.declared.row.Change.{Change}
+use Rattle.plan_clock.specs.Rows.{row_at, row_after, no_change, is_bounded, AreChanges, HavePassed}
+
+-- a change further on is at no earlier second
+rise_at :
+    (changes : List Change) → AreChanges changes → (i j : ℕ) → i ≤ j → j < length changes →
+    (get_or changes i no_change).second ≤ (get_or changes j no_change).second
+rise_at changes are i zero le lt =
+    let same : i ≡ zero = omega arith in
+    rw same (omega arith)
+rise_at changes are i (suc j) le lt = elim (leb_tells i j) [
+  | inl below ↦
+      let before = rise_at changes are i j below.1 (omega arith) in
+      let next = are.ascends j (omega arith) in
+      let last : (get_or changes (j + 1) no_change).second ≡ (get_or changes (suc j) no_change).second =
+      ap (λ k. (get_or changes k no_change).second) (omega arith) in
+      omega arith
+  | inr above ↦
+      let same : i ≡ suc j = omega arith in
+      rw same (omega arith)
+]
+
+pub rise : (changes : List Change) → AreChanges changes → IsNonDecreasingBy (λ (change : Change). change.second) changes
+rise changes are i j d le lt =
+    let at_i = ap (λ (change : Change). change.second) (get_or_default changes i d no_change (omega arith)) in
+    let at_j = ap (λ (change : Change). change.second) (get_or_default changes j d no_change lt) in
+    let up = rise_at changes are i j le lt in
+    omega arith
+
+-- the row after as many as have passed
+pub row_at-passed : (changes : List Change) (n passed : ℕ) → HavePassed changes n passed → row_at changes n ≡ row_after changes passed
+unfolding row_at
+row_at-passed changes n passed have =
+    ap (row_after changes) (prefix_len_is (λ (change : Change). nat_le change.second n) changes passed no_change have.bound
+    (λ k lt. le-leb (get_or changes k no_change).second n (have.begun k lt))
+    (λ lt. lt-leb (get_or changes passed no_change).second n (have.next lt)))
+
+-- a later second before the next row has passed as many
+pub HavePassed-later :
+    (changes : List Change) (n m passed : ℕ) → HavePassed changes n passed → n ≤ m →
+    (passed < length changes → m < (get_or changes passed no_change).second) → HavePassed changes m passed
+HavePassed-later changes n m passed have le next = record {
+  bound = have.bound;
+  begun = λ k lt. (let before = have.begun k lt in omega arith);
+  next = next;
+}
+
+both_near : (a b : Bool) → a ≡ true → b ≡ true → (a && b) ≡ true
+both_near a b h k = rw (h, k) refl
+
+bounded_after : (changes : List Change) (passed : ℕ) → AreChanges changes → is_bounded (row_after changes passed) ≡ true
+bounded_after changes zero are = refl
+bounded_after changes (suc k) are =
+    let some : (suc k == 0) ≡ false = grind (arith, nat_tests) in
+    rw some (both_near _ _ (are.bounded (suc k - 1 - 1)) (are.bounded (suc k - 1)))
+
+pub bounded_at : (changes : List Change) (n : ℕ) → AreChanges changes → is_bounded (row_at changes n) ≡ true
+unfolding row_at
+bounded_at changes n are = bounded_after changes (prefix_len (λ (change : Change). nat_le change.second n) changes) are
+
+pub begun_after : (changes : List Change) (n passed : ℕ) → HavePassed changes n passed → (row_after changes passed).second ≤ n
+begun_after changes n zero have = omega arith
+begun_after changes n (suc k) have =
+    let some : (suc k == 0) ≡ false = grind (arith, nat_tests) in
+    let lt : suc k - 1 < suc k = omega arith in
+    rw some (have.begun (suc k - 1) lt)
+
+-- the last that has passed, and the next, tell how many have
+pub HavePassed-by :
+    (changes : List Change) (n passed : ℕ) → AreChanges changes → 0 < passed → passed ≤ length changes →
+    (get_or changes (passed - 1) no_change).second ≤ n → (passed < length changes → n < (get_or changes passed no_change).second) →
+    HavePassed changes n passed
+HavePassed-by changes n passed are some bound last next = record {
+  bound = bound;
+  begun = λ k lt. (let up = rise_at changes are k (passed - 1) (omega arith) (omega arith) in omega arith);
+  next = next;
+}

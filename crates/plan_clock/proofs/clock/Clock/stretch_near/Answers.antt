@@ -1,0 +1,37 @@
+use Rattle.std.proofs.Common.{◌≡◌, ◌<◌, ◌≤◌, length, get_or, min, List, sym, ap, subst, ◌∙◌, arith}
+use Rattle.plan_clock.specs.declared.row.Change.{Change}
+use Rattle.plan_clock.specs.declared.row.Row.{Row}
+use Rattle.plan_clock.specs.Rows.{no_change, row_after, HavePassed}
+use Rattle.plan_clock.proofs.RowLemmas.{row_at-passed, HavePassed-later, bounded_at, begun_after}
+use Rattle.plan_clock.proofs.clock.Clock.stretch_near.Goals as goal
+use Rattle.plan_clock.proofs.clock.Clock.stretch_near.Goals.{After-end_after}
+
+passed : (c : After-end_after) → HavePassed c.args.self.now c.args.second c.passed_near-passed.result
+passed c = subst (λ (changes : List Change). HavePassed changes c.args.second c.passed_near-passed.result) c.changes-changes.ensures.value
+    c.passed_near-passed.ensures
+
+row : (c : After-end_after) → c.row_after.result ≡ row_after c.args.self.now c.passed_near-passed.result
+row c = c.row_after.ensures ∙ ap (λ (changes : List Change). row_after changes c.passed_near-passed.result) c.changes-changes.ensures.value
+
+pub returns-clause-row : goal.returns-clause-row
+returns-clause-row c = row c ∙ sym (row_at-passed c.args.self.now c.args.second c.passed_near-passed.result (passed c))
+
+pub returns-clause-begun : goal.returns-clause-begun
+returns-clause-begun c =
+    let begun = begun_after c.args.self.now c.args.second c.passed_near-passed.result (passed c) in
+    subst (λ (row : Row). row.second ≤ c.args.second) (sym (row c)) begun
+
+pub returns-clause-same : goal.returns-clause-same
+returns-clause-same c = λ n from to.
+    let have = passed c in
+    let next = subst (λ (changes : List Change).
+    c.passed_near-passed.result < length changes →
+    c.end_after.result ≡ min (get_or changes c.passed_near-passed.result no_change).second c.args.end)
+    c.changes-changes.ensures.value c.end_after.ensures.next in
+    let later = HavePassed-later c.args.self.now c.args.second n c.passed_near-passed.result have from
+    (λ more. (let is = next more in omega arith)) in
+    row_at-passed c.args.self.now n c.passed_near-passed.result later
+    ∙ sym (row_at-passed c.args.self.now c.args.second c.passed_near-passed.result have)
+
+pub returns-clause-bounded : goal.returns-clause-bounded
+returns-clause-bounded c = λ n. bounded_at c.args.self.now n c.changes-changes.ensures.good

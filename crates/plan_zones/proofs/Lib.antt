@@ -1,0 +1,4 @@
+pub mod RuleLemmas
+pub mod YearLemmas
+pub mod ChangeLemmas
+pub mod RefusalLemmas
