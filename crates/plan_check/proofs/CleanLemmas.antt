@@ -2,6 +2,8 @@
 -- `Agrees` says so of one file, or of its lines, with the names that go on from there; the rest follows the lists.
 use Rattle.std.proofs.Common.{◌≡◌, ℕ, Bool, true, false, not, ◌&&◌, eqb, nat_lt, cond, List, [], ◌∷◌, ◌++◌, length, map, Option, Some, None, is_some, option_map, Ok, Err, refl, ap, sym, ◌∙◌, subst}
 use Rattle.std.specs.List.{cons_option, flat_map}
+use Rattle.plan_clock.specs.declared.row.Change.{Change}
+use Rattle.plan_match.specs.Zone.{rule_in}
 use Rattle.plan_match.specs.declared.event.Calendar.{Calendar}
 use Rattle.plan_match.specs.declared.rule.Rule.{Rule}
 use Rattle.plan_match.specs.declared.rule.Rule.TheVariants.{Events}
@@ -32,13 +34,13 @@ use Rattle.plan_check.specs.Notes.{rule_notes, never_starts, is_reboot, is_eithe
 use Rattle.plan_check.specs.Timers as timers
 
 -- the names that are known while it was not told that there are too many
-abbrev known_by : List (List ℕ) → KnownNames
-known_by added = record { added = added; told = false }
+abbrev known_by : List Change → List (List ℕ) → KnownNames
+known_by clock added = record { added = added; told = false; clock = clock }
 
 -- where jobs are made nothing is refused, and the names are theirs; else something is
-abbrev Agrees : Option (List (List ℕ)) → List Finding → KnownNames → Type 0
-Agrees None found after = is_clean found ≡ false
-Agrees (Some next) found after = (is_clean found ≡ true) × (after ≡ known_by next)
+abbrev Agrees : List Change → Option (List (List ℕ)) → List Finding → KnownNames → Type 0
+Agrees clock None found after = is_clean found ≡ false
+Agrees clock (Some next) found after = (is_clean found ≡ true) × (after ≡ known_by clock next)
 
 -- ---- notes count for nothing
 
@@ -63,14 +65,17 @@ two_clean true false line first second more = refl
 two_clean false true line first second more = refl
 two_clean false false line first second more = refl
 
-notes_clean : (line : ℕ) (rule : Rule) (more : List Finding) → is_clean (rule_notes line rule ++ more) ≡ is_clean more
-notes_clean line rule more = two_clean (not (is_reboot rule) && never_starts rule) (is_either_day rule) line NeverStarts EitherDay more
+notes_clean : (clock : List Change) (line : ℕ) (rule : Rule) (more : List Finding) →
+    is_clean (rule_notes clock line rule ++ more) ≡ is_clean more
+notes_clean clock line rule more =
+    two_clean (not (is_reboot rule) && never_starts (rule_in clock rule)) (is_either_day rule) line NeverStarts EitherDay more
 
 agrees_by :
-    (next : Option (List (List ℕ))) (found same : List Finding) (after : KnownNames) → is_clean found ≡ is_clean same →
-    Agrees next same after → Agrees next found after
-agrees_by None found same after is h = is ∙ h
-agrees_by (Some next) found same after is h = (is ∙ h.0, h.1)
+    (clock : List Change) (next : Option (List (List ℕ))) (found same : List Finding) (after : KnownNames) →
+    is_clean found ≡ is_clean same →
+    Agrees clock next same after → Agrees clock next found after
+agrees_by clock None found same after is h = is ∙ h
+agrees_by clock (Some next) found same after is h = (is ∙ h.0, h.1)
 
 -- ---- one job
 
@@ -79,80 +84,87 @@ abbrev named_findings : ℕ → (a b : Bool) → List Finding
 named_findings line a b =
     cons_option (option_map (λ what. finding_at line what) (cond a (Some SameName) (cond b None (cond false None (Some Full))))) []
 
-abbrev named_after : (a b : Bool) → List (List ℕ) → List ℕ → KnownNames
-named_after a b added name =
-    cond a (known_by added) (cond b (known_by (added ++ name ∷ [])) (record { added = added; told = true }))
+abbrev named_after : List Change → (a b : Bool) → List (List ℕ) → List ℕ → KnownNames
+named_after clock a b added name =
+    cond a (known_by clock added) (cond b (known_by clock (added ++ name ∷ [])) (record { added = added; told = true; clock = clock }))
 
 job_right :
-    (a b : Bool) (added : List (List ℕ)) (line : ℕ) (job : JobParts) (jobs : List JobParts) (F : KnownNames → List Finding)
+    (clock : List Change) (a b : Bool) (added : List (List ℕ)) (line : ℕ) (job : JobParts) (jobs : List JobParts) (F : KnownNames →
+    List Finding)
     (G : KnownNames → KnownNames) →
-    ((next : List (List ℕ)) → Agrees (names_with next jobs) (F (known_by next)) (G (known_by next))) →
-    Agrees (cond a None (cond b (names_with (added ++ job.name ∷ []) jobs) None))
-    ((named_findings line a b ++ rule_notes line job.rule) ++ F (named_after a b added job.name)) (G (named_after a b added job.name))
-job_right true b added line job jobs F G later = refl
-job_right false true added line job jobs F G later =
-    agrees_by (names_with (added ++ job.name ∷ []) jobs) (rule_notes line job.rule ++ F (known_by (added ++ job.name ∷ [])))
-    (F (known_by (added ++ job.name ∷ []))) (G (known_by (added ++ job.name ∷ [])))
-    (notes_clean line job.rule (F (known_by (added ++ job.name ∷ [])))) (later (added ++ job.name ∷ []))
-job_right false false added line job jobs F G later = refl
+    ((next : List (List ℕ)) → Agrees clock (names_with next jobs) (F (known_by clock next)) (G (known_by clock next))) →
+    Agrees clock (cond a None (cond b (names_with (added ++ job.name ∷ []) jobs) None))
+    ((named_findings line a b ++ rule_notes clock line job.rule) ++ F (named_after clock a b added job.name)) (G (named_after clock a b
+    added job.name))
+job_right clock true b added line job jobs F G later = refl
+job_right clock false true added line job jobs F G later =
+    agrees_by clock (names_with (added ++ job.name ∷ []) jobs) (rule_notes clock line job.rule ++ F (known_by clock (added ++ job.name
+    ∷ [])))
+    (F (known_by clock (added ++ job.name ∷ []))) (G (known_by clock (added ++ job.name ∷ [])))
+    (notes_clean clock line job.rule (F (known_by clock (added ++ job.name ∷ [])))) (later (added ++ job.name ∷ []))
+job_right clock false false added line job jobs F G later = refl
 
 job_before_fault :
-    (a b : Bool) (added : List (List ℕ)) (line : ℕ) (job : JobParts) (F : KnownNames → List Finding) →
-    ((next : List (List ℕ)) → is_clean (F (known_by next)) ≡ false) →
-    is_clean ((named_findings line a b ++ rule_notes line job.rule) ++ F (named_after a b added job.name)) ≡ false
-job_before_fault true b added line job F later = refl
-job_before_fault false true added line job F later =
-    notes_clean line job.rule (F (known_by (added ++ job.name ∷ []))) ∙ later (added ++ job.name ∷ [])
-job_before_fault false false added line job F later = refl
+    (clock : List Change) (a b : Bool) (added : List (List ℕ)) (line : ℕ) (job : JobParts) (F : KnownNames → List Finding) →
+    ((next : List (List ℕ)) → is_clean (F (known_by clock next)) ≡ false) →
+    is_clean ((named_findings line a b ++ rule_notes clock line job.rule) ++ F (named_after clock a b added job.name)) ≡ false
+job_before_fault clock true b added line job F later = refl
+job_before_fault clock false true added line job F later =
+    notes_clean clock line job.rule (F (known_by clock (added ++ job.name ∷ []))) ∙ later (added ++ job.name ∷ [])
+job_before_fault clock false false added line job F later = refl
 
 job_agrees :
-    (faults : List LineFault) (added : List (List ℕ)) (line : ℕ) (job : JobParts) (jobs : List JobParts) (F : KnownNames → List Finding)
+    (clock : List Change) (faults : List LineFault) (added : List (List ℕ)) (line : ℕ) (job : JobParts) (jobs : List JobParts) (F :
+    KnownNames → List Finding)
     (G : KnownNames → KnownNames) →
-    ((next : List (List ℕ)) → Agrees (names_by next (unless_refused faults jobs)) (F (known_by next)) (G (known_by next))) →
-    Agrees (names_by added (unless_refused faults (job ∷ jobs)))
-    ((named_findings line (is_added job.name added) (nat_lt (length added) most_jobs) ++ rule_notes line job.rule)
-    ++ F (named_after (is_added job.name added) (nat_lt (length added) most_jobs) added job.name))
-    (G (named_after (is_added job.name added) (nat_lt (length added) most_jobs) added job.name))
-job_agrees [] added line job jobs F G later =
-    job_right (is_added job.name added) (nat_lt (length added) most_jobs) added line job jobs F G later
-job_agrees (fault ∷ more) added line job jobs F G later =
-    job_before_fault (is_added job.name added) (nat_lt (length added) most_jobs) added line job F later
+    ((next : List (List ℕ)) → Agrees clock (names_by next (unless_refused faults jobs)) (F (known_by clock next)) (G (known_by clock
+    next))) →
+    Agrees clock (names_by added (unless_refused faults (job ∷ jobs)))
+    ((named_findings line (is_added job.name added) (nat_lt (length added) most_jobs) ++ rule_notes clock line job.rule)
+    ++ F (named_after clock (is_added job.name added) (nat_lt (length added) most_jobs) added job.name))
+    (G (named_after clock (is_added job.name added) (nat_lt (length added) most_jobs) added job.name))
+job_agrees clock [] added line job jobs F G later =
+    job_right clock (is_added job.name added) (nat_lt (length added) most_jobs) added line job jobs F G later
+job_agrees clock (fault ∷ more) added line job jobs F G later =
+    job_before_fault clock (is_added job.name added) (nat_lt (length added) most_jobs) added line job F later
 
 -- ---- a crontab
 
 line_agrees :
-    (added : List (List ℕ)) (line : ℕ) (read : LineReading JobParts) (more : List (Entry JobParts)) →
-    ((next : List (List ℕ)) → Agrees (names_by next (meant_by more)) (entries_findings true (known_by next) more)
-    (after_entries true (known_by next) more)) →
-    Agrees (names_by added (meant_by (record { line = line; read = read } ∷ more)))
-    (line_findings true (known_by added) line read ++ entries_findings true (after_line true (known_by added) read) more)
-    (after_entries true (after_line true (known_by added) read) more)
-line_agrees added line (Ok job) more later =
-    job_agrees (refusals more) added line job (given more) (λ known. entries_findings true known more)
+    (clock : List Change) (added : List (List ℕ)) (line : ℕ) (read : LineReading JobParts) (more : List (Entry JobParts)) →
+    ((next : List (List ℕ)) → Agrees clock (names_by next (meant_by more)) (entries_findings true (known_by clock next) more)
+    (after_entries true (known_by clock next) more)) →
+    Agrees clock (names_by added (meant_by (record { line = line; read = read } ∷ more)))
+    (line_findings true (known_by clock added) line read ++ entries_findings true (after_line true (known_by clock added) read) more)
+    (after_entries true (after_line true (known_by clock added) read) more)
+line_agrees clock added line (Ok job) more later =
+    job_agrees clock (refusals more) added line job (given more) (λ known. entries_findings true known more)
     (λ known. after_entries true known more) later
-line_agrees added line (Err cause) more later = refl
+line_agrees clock added line (Err cause) more later = refl
 
 entries_agree :
-    (added : List (List ℕ)) (entries : List (Entry JobParts)) →
-    Agrees (names_by added (meant_by entries)) (entries_findings true (known_by added) entries)
-    (after_entries true (known_by added) entries)
-entries_agree added [] = (refl, refl)
-entries_agree added (entry ∷ more) = line_agrees added entry.line entry.read more (λ next. entries_agree next more)
+    (clock : List Change) (added : List (List ℕ)) (entries : List (Entry JobParts)) →
+    Agrees clock (names_by added (meant_by entries)) (entries_findings true (known_by clock added) entries)
+    (after_entries true (known_by clock added) entries)
+entries_agree clock added [] = (refl, refl)
+entries_agree clock added (entry ∷ more) = line_agrees clock added entry.line entry.read more (λ next. entries_agree clock next more)
 
 text_agrees :
-    (added : List (List ℕ)) (text : TextReading (List (Entry JobParts))) →
-    Agrees (names_by added (text >>= λ entries. meant_by entries)) (text_findings true (known_by added) text)
-    (after_text true (known_by added) text)
-text_agrees added (Ok entries) = entries_agree added entries
-text_agrees added (Err fault) = refl
+    (clock : List Change) (added : List (List ℕ)) (text : TextReading (List (Entry JobParts))) →
+    Agrees clock (names_by added (text >>= λ entries. meant_by entries)) (text_findings true (known_by clock added) text)
+    (after_text true (known_by clock added) text)
+text_agrees clock added (Ok entries) = entries_agree clock added entries
+text_agrees clock added (Err fault) = refl
 
 tab_agrees :
-    (is_named : Bool) (added : List (List ℕ)) (reading : TextReading (List JobParts)) (text : TextReading (List (Entry JobParts))) →
-    Agrees (names_by added reading) (text_findings true (known_by added) text) (after_text true (known_by added) text) →
-    Agrees (names_by added (cond is_named reading (on_line 0 (Err BadTabName))))
-    (refused_if (not is_named) 0 BadTabName ++ text_findings is_named (known_by added) text) (after_text is_named (known_by added) text)
-tab_agrees true added reading text agrees = agrees
-tab_agrees false added reading text agrees = refl
+    (clock : List Change) (is_named : Bool) (added : List (List ℕ)) (reading : TextReading (List JobParts)) (text : TextReading (List
+    (Entry JobParts))) →
+    Agrees clock (names_by added reading) (text_findings true (known_by clock added) text) (after_text true (known_by clock added) text) →
+    Agrees clock (names_by added (cond is_named reading (on_line 0 (Err BadTabName))))
+    (refused_if (not is_named) 0 BadTabName ++ text_findings is_named (known_by clock added) text) (after_text is_named (known_by clock
+    added) text)
+tab_agrees clock true added reading text agrees = agrees
+tab_agrees clock false added reading text agrees = refl
 
 -- ---- a timer
 
@@ -161,23 +173,26 @@ is_none_of [] = true
 is_none_of (fault ∷ more) = false
 
 event_clean :
-    (line : ℕ) (read : LineReading Calendar) (found : List Finding) (more : List LineFault) → is_clean found ≡ is_none_of more →
-    is_clean (timers.read_findings line read ++ found) ≡ is_none_of (cons_option (refusal_on line read) more)
-event_clean line (Ok event) found more is = noted_clean (never_starts (Events (event ∷ []))) line NeverStarts found ∙ is
-event_clean line (Err cause) found more is = refl
+    (clock : List Change) (line : ℕ) (read : LineReading Calendar) (found : List Finding) (more : List LineFault) →
+    is_clean found ≡ is_none_of more →
+    is_clean (timers.read_findings clock line read ++ found) ≡ is_none_of (cons_option (refusal_on line read) more)
+event_clean clock line (Ok event) found more is =
+    noted_clean (never_starts (rule_in clock (Events (event ∷ [])))) line NeverStarts found ∙ is
+event_clean clock line (Err cause) found more is = refl
 
-events_clean : (events : List (Entry Calendar)) → is_clean (flat_map timers.event_findings events) ≡ is_none_of (refusals events)
-events_clean [] = refl
-events_clean (event ∷ more) =
-    event_clean event.line event.read (flat_map timers.event_findings more) (refusals more) (events_clean more)
+events_clean : (clock : List Change) (events : List (Entry Calendar)) →
+    is_clean (flat_map (timers.event_findings clock) events) ≡ is_none_of (refusals events)
+events_clean clock [] = refl
+events_clean clock (event ∷ more) =
+    event_clean clock event.line event.read (flat_map (timers.event_findings clock) more) (refusals more) (events_clean clock more)
 
 timer_right :
-    (a b is_so : Bool) (added : List (List ℕ)) (name : List ℕ) (found : List Finding) → is_clean found ≡ true →
-    Agrees (cond a None (cond b (Some (added ++ name ∷ [])) None))
-    (named_findings 0 a b ++ (noted_if is_so 0 NoEvents ++ found)) (named_after a b added name)
-timer_right true b is_so added name found clean = refl
-timer_right false true is_so added name found clean = (noted_clean is_so 0 NoEvents found ∙ clean, refl)
-timer_right false false is_so added name found clean = refl
+    (clock : List Change) (a b is_so : Bool) (added : List (List ℕ)) (name : List ℕ) (found : List Finding) → is_clean found ≡ true →
+    Agrees clock (cond a None (cond b (Some (added ++ name ∷ [])) None))
+    (named_findings 0 a b ++ (noted_if is_so 0 NoEvents ++ found)) (named_after clock a b added name)
+timer_right clock true b is_so added name found clean = refl
+timer_right clock false true is_so added name found clean = (noted_clean is_so 0 NoEvents found ∙ clean, refl)
+timer_right clock false false is_so added name found clean = refl
 
 timer_wrong :
     (has a b is_so : Bool) (found : List Finding) → is_clean found ≡ false →
@@ -188,33 +203,35 @@ timer_wrong true false true is_so found faulty = noted_clean is_so 0 NoEvents fo
 timer_wrong true false false is_so found faulty = refl
 
 timer_agrees :
-    (faults : List LineFault) (has is_so : Bool) (added : List (List ℕ)) (name : List ℕ) (unit : Option (List ℕ)) (events : List Calendar)
+    (clock : List Change) (faults : List LineFault) (has is_so : Bool) (added : List (List ℕ)) (name : List ℕ) (unit : Option (List ℕ))
+    (events : List Calendar)
     (found : List Finding) →
     is_clean found ≡ is_none_of faults →
-    Agrees (names_by added ((unless_refused faults events >>= λ held. job_with has name unit held) >>= λ job. Ok (job ∷ [])))
+    Agrees clock (names_by added ((unless_refused faults events >>= λ held. job_with has name unit held) >>= λ job. Ok (job ∷ [])))
     (refused_if (not has) 0 NoTimerSection
     ++ (named_findings 0 (is_added name added) (nat_lt (length added) most_jobs) ++ (noted_if is_so 0 NoEvents ++ found)))
-    (named_after (is_added name added) (nat_lt (length added) most_jobs) added name)
-timer_agrees [] true is_so added name unit events found clean =
-    timer_right (is_added name added) (nat_lt (length added) most_jobs) is_so added name found clean
-timer_agrees [] false is_so added name unit events found clean = refl
-timer_agrees (fault ∷ more) has is_so added name unit events found clean =
+    (named_after clock (is_added name added) (nat_lt (length added) most_jobs) added name)
+timer_agrees clock [] true is_so added name unit events found clean =
+    timer_right clock (is_added name added) (nat_lt (length added) most_jobs) is_so added name found clean
+timer_agrees clock [] false is_so added name unit events found clean = refl
+timer_agrees clock (fault ∷ more) has is_so added name unit events found clean =
     timer_wrong has (is_added name added) (nat_lt (length added) most_jobs) is_so found clean
 
 timer_text_agrees :
-    (is_named : Bool) (added : List (List ℕ)) (name : List ℕ) (text : TextReading (List ℕ)) (f : List ℕ → List (ℕ × List ℕ)) →
-    Agrees
+    (clock : List Change) (is_named : Bool) (added : List (List ℕ)) (name : List ℕ) (text : TextReading (List ℕ)) (f : List ℕ →
+    List (ℕ × List ℕ)) →
+    Agrees clock
     (names_by added (cond is_named (text >>= λ t. lines_by_entries name (f t)) (on_line 0 (Err BadTimerName)) >>= λ job. Ok (job ∷ [])))
     (refused_if (not is_named) 0 BadTimerName
-    ++ timers.text_findings is_named (known_by added) name (text >>= λ t. Ok (parts_of_lines (f t))))
-    (after_where is_named (known_by added) name)
-timer_text_agrees false added name text f = refl
-timer_text_agrees true added name (Err fault) f = refl
-timer_text_agrees true added name (Ok text) f =
+    ++ timers.text_findings is_named (known_by clock added) name (text >>= λ t. Ok (parts_of_lines (f t))))
+    (after_where is_named (known_by clock added) name)
+timer_text_agrees clock false added name text f = refl
+timer_text_agrees clock true added name (Err fault) f = refl
+timer_text_agrees clock true added name (Ok text) f =
     let effects = effects_from false (f text) in
-    timer_agrees (refusals (entries_from no_events effects)) (has_timer (f text))
+    timer_agrees clock (refusals (entries_from no_events effects)) (has_timer (f text))
     (has_timer (f text) && eqb (count_from no_events effects).held 0) added name (first_unit effects) (events_after [] effects)
-    (flat_map timers.event_findings (entries_from no_events effects)) (events_clean (entries_from no_events effects))
+    (flat_map (timers.event_findings clock) (entries_from no_events effects)) (events_clean clock (entries_from no_events effects))
 
 -- ---- files
 
@@ -226,47 +243,53 @@ abbrev pub TimerLaw : Type 0
 TimerLaw = (name bytes : List ℕ) → timer_reading name bytes ≡ timer_by_entries name bytes
 
 crontab_agrees :
-    CrontabLaw → (added : List (List ℕ)) (label : List ℕ) (kind : Kind) (bytes : List ℕ) →
-    Agrees (names_by added (crontab_reading label kind bytes)) (text_findings true (known_by added) (crontab_entries label kind bytes))
-    (after_text true (known_by added) (crontab_entries label kind bytes))
-crontab_agrees law added label kind bytes =
-    let P : TextReading (List JobParts) → Type 0 = λ reading. Agrees (names_by added reading)
-    (text_findings true (known_by added) (crontab_entries label kind bytes))
-    (after_text true (known_by added) (crontab_entries label kind bytes)) in
-    subst P (sym (law label kind bytes)) (text_agrees added (crontab_entries label kind bytes))
+    (clock : List Change) → CrontabLaw → (added : List (List ℕ)) (label : List ℕ) (kind : Kind) (bytes : List ℕ) →
+    Agrees clock (names_by added (crontab_reading label kind bytes)) (text_findings true (known_by clock added) (crontab_entries label
+    kind bytes))
+    (after_text true (known_by clock added) (crontab_entries label kind bytes))
+crontab_agrees clock law added label kind bytes =
+    let P : TextReading (List JobParts) → Type 0 = λ reading. Agrees clock (names_by added reading)
+    (text_findings true (known_by clock added) (crontab_entries label kind bytes))
+    (after_text true (known_by clock added) (crontab_entries label kind bytes)) in
+    subst P (sym (law label kind bytes)) (text_agrees clock added (crontab_entries label kind bytes))
 
 file_agrees :
-    CrontabLaw → TimerLaw → (added : List (List ℕ)) (file : File) →
-    Agrees (names_by added (file_reading file)) (file_findings (known_by added) file) (after_file (known_by added) file)
-file_agrees crontab timer added (Crontab label kind bytes) = crontab_agrees crontab added label kind bytes
-file_agrees crontab timer added (Tab folder name bytes) =
-    tab_agrees (is_tab_name folder name) added (crontab_reading name (kind_in folder) bytes) (crontab_entries name (kind_in folder) bytes)
-    (crontab_agrees crontab added name (kind_in folder) bytes)
-file_agrees crontab timer added (Timer name bytes) =
-    let P : TextReading JobParts → Type 0 = λ reading. Agrees (names_by added (reading >>= λ job. Ok (job ∷ [])))
-    (file_findings (known_by added) (Timer name bytes)) (after_file (known_by added) (Timer name bytes)) in
+    (clock : List Change) → CrontabLaw → TimerLaw → (added : List (List ℕ)) (file : File) →
+    Agrees clock (names_by added (file_reading file)) (file_findings (known_by clock added) file) (after_file (known_by clock added) file)
+file_agrees clock crontab timer added (Crontab label kind bytes) = crontab_agrees clock crontab added label kind bytes
+file_agrees clock crontab timer added (Tab folder name bytes) =
+    tab_agrees clock (is_tab_name folder name) added (crontab_reading name (kind_in folder) bytes) (crontab_entries name (kind_in
+    folder) bytes)
+    (crontab_agrees clock crontab added name (kind_in folder) bytes)
+file_agrees clock crontab timer added (Timer name bytes) =
+    let P : TextReading JobParts → Type 0 = λ reading. Agrees clock (names_by added (reading >>= λ job. Ok (job ∷ [])))
+    (file_findings (known_by clock added) (Timer name bytes)) (after_file (known_by clock added) (Timer name bytes)) in
     subst P (sym (timer name bytes))
-    (timer_text_agrees (is_timer_name name) added name (text_reading bytes) (λ t. map (λ line. (line.0, trimmed line.1)) (whole_lines t)))
+    (timer_text_agrees clock (is_timer_name name) added name (text_reading bytes) (λ t. map (λ line. (line.0, trimmed line.1))
+    (whole_lines t)))
 
 files_after :
-    (next : Option (List (List ℕ))) (found : List Finding) (after : KnownNames) (more : List File) → Agrees next found after →
-    ((added : List (List ℕ)) → is_clean (files_findings (known_by added) more) ≡ is_some (files_names added more)) →
+    (clock : List Change) (next : Option (List (List ℕ))) (found : List Finding) (after : KnownNames) (more : List File) →
+    Agrees clock next found after →
+    ((added : List (List ℕ)) → is_clean (files_findings (known_by clock added) more) ≡ is_some (files_names added more)) →
     is_clean (found ++ files_findings after more) ≡ is_some (names_then next (λ added. files_names added more))
-files_after None found after more agrees later =
+files_after clock None found after more agrees later =
     clean_append found (files_findings after more) ∙ ap (λ (b : Bool). b && is_clean (files_findings after more)) agrees
-files_after (Some next) found after more agrees later =
+files_after clock (Some next) found after more agrees later =
     clean_append found (files_findings after more)
     ∙ ap (λ (b : Bool). b && is_clean (files_findings after more)) agrees.0
     ∙ ap (λ (known : KnownNames). is_clean (files_findings known more)) agrees.1
     ∙ later next
 
 files_agree :
-    CrontabLaw → TimerLaw → (added : List (List ℕ)) (files : List File) →
-    is_clean (files_findings (known_by added) files) ≡ is_some (files_names added files)
-files_agree crontab timer added [] = refl
-files_agree crontab timer added (file ∷ more) =
-    files_after (names_by added (file_reading file)) (file_findings (known_by added) file) (after_file (known_by added) file) more
-    (file_agrees crontab timer added file) (λ next. files_agree crontab timer next more)
+    (clock : List Change) → CrontabLaw → TimerLaw → (added : List (List ℕ)) (files : List File) →
+    is_clean (files_findings (known_by clock added) files) ≡ is_some (files_names added files)
+files_agree clock crontab timer added [] = refl
+files_agree clock crontab timer added (file ∷ more) =
+    files_after clock (names_by added (file_reading file)) (file_findings (known_by clock added) file) (after_file (known_by clock
+    added) file) more
+    (file_agrees clock crontab timer added file) (λ next. files_agree clock crontab timer next more)
 
-pub clean_law : CrontabLaw → TimerLaw → (files : List File) → is_clean (files_findings no_names files) ≡ is_some (files_names [] files)
-clean_law crontab timer files = files_agree crontab timer [] files
+pub clean_law : (clock : List Change) → CrontabLaw → TimerLaw → (files : List File) →
+    is_clean (files_findings (no_names clock) files) ≡ is_some (files_names [] files)
+clean_law clock crontab timer files = files_agree clock crontab timer [] files

@@ -5,6 +5,8 @@ use Rattle.std.proofs.lemmas.List.Elements.{filter_map-append}
 use Rattle.std.specs.List.{filter_map, cons_option}
 use Rattle.std.specs.Result.{result_err}
 use Rattle.std.specs.Str.{is_utf8}
+use Rattle.plan_clock.specs.declared.row.Change.{Change}
+use Rattle.plan_match.specs.Zone.{rule_in}
 use Rattle.plan_match.specs.declared.rule.Rule.{Rule}
 use Rattle.plan_rules.specs.declared.crontabs.Kind.{Kind}
 use Rattle.plan_rules.specs.declared.entry.Entry.{Entry}
@@ -34,9 +36,9 @@ no_fault_noted true false line first second = refl
 no_fault_noted false true line first second = refl
 no_fault_noted false false line first second = refl
 
-no_fault_in_notes : (line : ℕ) (rule : Rule) → filter_map fault_of (rule_notes line rule) ≡ []
-no_fault_in_notes line rule =
-    no_fault_noted (not (is_reboot rule) && never_starts rule) (is_either_day rule) line NeverStarts EitherDay
+no_fault_in_notes : (clock : List Change) (line : ℕ) (rule : Rule) → filter_map fault_of (rule_notes clock line rule) ≡ []
+no_fault_in_notes clock line rule =
+    no_fault_noted (not (is_reboot rule) && never_starts (rule_in clock rule)) (is_either_day rule) line NeverStarts EitherDay
 
 -- of a name
 no_fault_named :
@@ -59,8 +61,8 @@ faults_of_line :
     filter_map fault_of (line_findings is_named known line read) ≡ cons_option (refusal_on line read) []
 faults_of_line is_named known line (Ok job) =
     filter_map-append fault_of (cons_option (option_map (λ what. finding_at line what) (fault_where is_named known job.name)) [])
-    (rule_notes line job.rule)
-    ∙ (λ i. no_fault_of_job is_named known line job.name i ++ no_fault_in_notes line job.rule i)
+    (rule_notes known.clock line job.rule)
+    ∙ (λ i. no_fault_of_job is_named known line job.name i ++ no_fault_in_notes known.clock line job.rule i)
 faults_of_line is_named known line (Err cause) = refl
 
 cons_front : {A : Type 0} (o : Option A) (xs : List A) → cons_option o [] ++ xs ≡ cons_option o xs

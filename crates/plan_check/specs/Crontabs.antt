@@ -19,7 +19,7 @@ use Rattle.plan_check.specs.Notes.{rule_notes}
 -- what is found of a line, where the file's name is good or not: its one fault, or what is wrong with its job, and then its notes
 abbrev pub line_findings : Bool → KnownNames → ℕ → LineReading JobParts → List Finding
 line_findings is_named known line (Ok job) =
-    cons_option (option_map (λ what. finding_at line what) (fault_where is_named known job.name)) [] ++ rule_notes line job.rule
+    cons_option (option_map (λ what. finding_at line what) (fault_where is_named known job.name)) [] ++ rule_notes known.clock line job.rule
 line_findings is_named known line (Err cause) = refused_at line cause ∷ []
 
 -- the names after a line: a line that is accepted makes a job, whatever else is refused

@@ -2,18 +2,20 @@
 use Rattle.std.specs.Prelude.{ℕ, Bool, false, true, nat_lt, if◌then◌else◌, List, [], ◌∷◌, ◌++◌, length, Option, Some, None}
 use Rattle.std.specs.List.{list_any}
 use Rattle.std.specs.Str.{bytes_eq}
+use Rattle.plan_clock.specs.declared.row.Change.{Change}
 use Rattle.plan_rules.specs.Limits.{most_jobs}
 use Rattle.plan_check.specs.declared.finding.What.{What}
 use Rattle.plan_check.specs.declared.finding.What.TheVariants.{SameName, Full}
 
--- the names of the jobs that were added, and whether it was told that there are too many
+-- the names of the jobs that were added, whether it was reported that there are too many, and the clock by which jobs start
 pub record KnownNames : Type 0 where
   pub added : List (List ℕ)
   pub told : Bool
+  pub clock : List Change
 
 -- before the first file
-abbrev pub no_names : KnownNames
-no_names = record { added = []; told = false }
+abbrev pub no_names : List Change → KnownNames
+no_names clock = record { added = []; told = false; clock = clock }
 
 -- whether a job has a name
 abbrev pub is_added : List ℕ → List (List ℕ) → Bool

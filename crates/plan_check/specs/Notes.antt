@@ -1,6 +1,8 @@
 -- What is noted of rules that are right.
 use Rattle.std.specs.Prelude.{ℕ, Bool, true, false, not, ◌&&◌, List, ◌++◌, is_none, slice_get}
 use Rattle.plan_sets.specs.Limits.{end_second}
+use Rattle.plan_clock.specs.declared.row.Change.{Change}
+use Rattle.plan_match.specs.Zone.{rule_in}
 use Rattle.plan_match.specs.declared.rule.Rule.{Rule}
 use Rattle.plan_match.specs.declared.rule.Rule.TheVariants.{Cron, Never, Events}
 use Rattle.plan_next.specs.Starts.{starts}
@@ -24,7 +26,8 @@ is_either_day (Cron rule) = rule.month_days_restricted && rule.week_days_restric
 is_either_day Never = false
 is_either_day (Events events) = false
 
--- the notes on the rule of a line, in this order (own)
-abbrev pub rule_notes : ℕ → Rule → List Finding
-rule_notes line rule =
-    noted_if (not (is_reboot rule) && never_starts rule) line NeverStarts ++ noted_if (is_either_day rule) line EitherDay
+-- the notes on the rule of a line, in this order (agenda); it starts by the clock of a zone
+abbrev pub rule_notes : List Change → ℕ → Rule → List Finding
+rule_notes clock line rule =
+    noted_if (not (is_reboot rule) && never_starts (rule_in clock rule)) line NeverStarts
+    ++ noted_if (is_either_day rule) line EitherDay

@@ -1,6 +1,8 @@
 -- What is found of a timer file (systemd.timer(5)). What is found, and in which order, is own.
 use Rattle.std.specs.Prelude.{ℕ, Bool, not, ◌&&◌, ◌==◌, List, [], ◌∷◌, ◌++◌, option_map, Ok, Err}
 use Rattle.std.specs.List.{cons_option, flat_map}
+use Rattle.plan_clock.specs.declared.row.Change.{Change}
+use Rattle.plan_match.specs.Zone.{rule_in}
 use Rattle.plan_match.specs.declared.event.Calendar.{Calendar}
 use Rattle.plan_match.specs.declared.rule.Rule.TheVariants.{Events}
 use Rattle.plan_rules.specs.declared.entry.Entry.{Entry}
@@ -16,13 +18,13 @@ use Rattle.plan_check.specs.Notes.{never_starts}
 
 -- ---- one event
 
--- what is found of an event: its fault, or that it has no start by itself
-abbrev pub read_findings : ℕ → LineReading Calendar → List Finding
-read_findings line (Ok event) = noted_if (never_starts (Events (event ∷ []))) line NeverStarts
-read_findings line (Err cause) = refused_at line cause ∷ []
+-- what is found of an event: its fault, or that it has no start by itself, by the clock of a zone
+abbrev pub read_findings : List Change → ℕ → LineReading Calendar → List Finding
+read_findings clock line (Ok event) = noted_if (never_starts (rule_in clock (Events (event ∷ [])))) line NeverStarts
+read_findings clock line (Err cause) = refused_at line cause ∷ []
 
-abbrev pub event_findings : Entry Calendar → List Finding
-event_findings entry = read_findings entry.line entry.read
+abbrev pub event_findings : List Change → Entry Calendar → List Finding
+event_findings clock entry = read_findings clock entry.line entry.read
 
 -- ---- a timer file
 
@@ -36,7 +38,7 @@ abbrev pub text_findings : Bool → KnownNames → List ℕ → TextReading Time
 text_findings is_named known name (Ok parts) =
     refused_if (not parts.has_section) 0 NoTimerSection
     ++ (job_findings is_named known name
-    ++ (noted_if (parts.has_section && (parts.held == 0)) 0 NoEvents ++ flat_map event_findings parts.events))
+    ++ (noted_if (parts.has_section && (parts.held == 0)) 0 NoEvents ++ flat_map (event_findings known.clock) parts.events))
 text_findings is_named known name (Err fault) = refused_at fault.line fault.cause ∷ job_findings is_named known name
 
 -- what is found of a timer file: its name is looked at first, and the rest whatever it is

@@ -159,8 +159,9 @@ fn add_entry(
 {
     match &entry.read {
         Ok(job) => {
+            let clock = names.clock()?;
             add_job(alloc, names, found, is_named, entry.line, job.name())?;
-            add_notes(found, entry.line, job.rule())
+            add_notes(alloc, found, &clock, entry.line, job.rule())
         }
         Err(cause) => refuse(found, entry.line, *cause),
     }

@@ -1,6 +1,7 @@
 //! How what is found of files and the jobs that are made of them go together.
 
 ghost use Rattle.std.specs.Prelude.{◌≡◌, List, [], is_some};
+ghost use Rattle.plan_clock.specs.declared.row.Change.{Change};
 ghost use Rattle.plan_check.specs.Finding.{is_clean};
 ghost use Rattle.plan_check.specs.Names.{no_names};
 ghost use Rattle.plan_check.specs.Files.{File, files_findings, files_names};
@@ -12,7 +13,7 @@ use plan_rules::{crontab_is_its_entries, timer_is_its_entries};
 ///
 /// The function does nothing: its contract is the law.
 pub fn clean_where_jobs_are()
-    ensures { (files : List File) → is_clean (files_findings no_names files) ≡ is_some (files_names [] files) }
+    ensures { (clock : List Change) (files : List File) → is_clean (files_findings (no_names clock) files) ≡ is_some (files_names [] files) }
 {
     crontab_is_its_entries();
     timer_is_its_entries();

@@ -5,16 +5,19 @@ ghost use Rattle.plan_check.specs.Names.{is_added, name_fault, names_after, no_n
 
 use crate::finding::What;
 use indexmap::IndexSet;
+use plan_clock::Clock;
 use plan_rules::MOST_JOBS;
 use std::alloc::{AllocError, Global};
 use std::marker::Model;
 
-/// The names of the jobs of the files that were looked at, at most 1,000, and whether it was told that there are more.
+/// What is known from file to file: the names of the jobs so far, at most 1,000, whether it was reported that there are more, and the clock
+/// of the zone in which the jobs start.
 #[derive(Debug, Drop)]
 pub struct Names {
     kept: IndexSet<String>,
-    // Whether it was told that there are too many.
+    // Whether it was reported that there are too many.
     is_told: bool,
+    clock: Clock,
 }
 
 impl Model for Names {
@@ -23,18 +26,26 @@ impl Model for Names {
 
     ghost Value = { KnownNames };
 
-    ghost view = { λ names. record { added = map string_bytes names.kept.keys; told = names.is_told } };
+    ghost view = { λ names. record { added = map string_bytes names.kept.keys; told = names.is_told; clock = names.clock } };
 }
 
 impl Names {
-    /// No names, as before the first file. This takes no memory.
-    pub fn new(alloc: Global) -> Names
-        ensures { result ≡ no_names }
+    /// Returns what is known before the first file: no names, and the clock of the jobs' zone. Takes no memory.
+    pub fn new(alloc: Global, clock: Clock) -> Names
+        ensures { result ≡ no_names clock }
     {
         Names {
             kept: IndexSet::new(alloc),
             is_told: false,
+            clock,
         }
+    }
+
+    // The clock of the zone in which the jobs start, as a handle of its own.
+    pub(crate) fn clock(&self) -> Result<Clock, AllocError>
+        ensures { IfOk result (λ clock. clock ≡ self.now.clock) }
+    {
+        self.clock.try_clone()
     }
 
     // Adds the name of a job, and answers what is wrong with it.

@@ -1,32 +1,42 @@
 //! What is noted of rules that are right.
 
-ghost use Rattle.std.specs.Prelude.{◌≡◌, ◌++◌, OnOk};
+ghost use Rattle.std.specs.Prelude.{◌≡◌, ◌++◌, IfOk, OnOk};
+ghost use Rattle.plan_match.specs.Zone.{rule_in};
 ghost use Rattle.plan_check.specs.Notes.{is_either_day, is_reboot, never_starts, rule_notes};
 
 use crate::finding::{Finding, Note};
 use crate::report::note_if;
+use plan_clock::Clock;
 use plan_next::next_from;
 use plan_rules::Rule;
-use std::alloc::AllocError;
+use std::alloc::{AllocError, Global};
 
 // Adds the notes on the rule of a line.
-pub(crate) fn add_notes(found: &mut Vec<Finding>, line: u32, rule: &Rule) -> Result<(), AllocError>
-    ensures { OnOk result (found.new.items ≡ found.old.items ++ rule_notes line rule.now) }
+pub(crate) fn add_notes(
+    alloc: Global,
+    found: &mut Vec<Finding>,
+    clock: &Clock,
+    line: u32,
+    rule: &Rule,
+) -> Result<(), AllocError>
+    ensures { OnOk result (found.new.items ≡ found.old.items ++ rule_notes clock.now line rule.now) }
 {
+    let never_starts = never_starts(alloc, clock, rule)?;
     note_if(
         found,
-        !is_reboot(rule) && never_starts(rule),
+        !is_reboot(rule) && never_starts,
         line,
         Note::NeverStarts,
     )?;
     note_if(found, is_either_day(rule), line, Note::EitherDay)
 }
 
-// Whether a rule has no start in all years.
-pub(crate) fn never_starts(rule: &Rule) -> bool
-    ensures { result ≡ never_starts rule.now }
+// Whether a rule has no start in all years, by the clock of a zone.
+pub(crate) fn never_starts(alloc: Global, clock: &Clock, rule: &Rule) -> Result<bool, AllocError>
+    ensures { IfOk result (λ never. never ≡ never_starts (rule_in clock.now rule.now)) }
 {
-    next_from(rule, 0).is_none()
+    let rule = rule.in_zone(alloc, clock)?;
+    Ok(next_from(&rule, 0).is_none())
 }
 
 // Whether it is the rule of `@reboot`.

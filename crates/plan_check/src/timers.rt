@@ -11,6 +11,7 @@ use crate::finding::{Finding, Note};
 use crate::names::Names;
 use crate::notes::never_starts;
 use crate::report::{add_job, note_if, refuse, refuse_if};
+use plan_clock::Clock;
 use plan_rules::{
     Calendar, Entry, Events, LineCause, LineFault, Rule, TimerEntries, is_timer_name, timer_entries,
 };
@@ -85,23 +86,25 @@ fn add_entries(
         has_section,
         held,
     } = entries;
+    let clock = names.clock()?;
     refuse_if(found, !has_section, LineCause::NoTimerSection)?;
     add_job(alloc, names, found, is_named, 0, name)?;
     note_if(found, has_section && held == 0, 0, Note::NoEvents)?;
-    add_events(alloc, found, events)
+    add_events(alloc, found, &clock, events)
 }
 
 // Adds what is found of events, in order.
 fn add_events(
     alloc: Global,
     found: &mut Vec<Finding>,
+    clock: &Clock,
     events: Vec<Entry<Calendar>>,
 ) -> Result<(), AllocError>
-    ensures { OnOk result (found.new.items ≡ found.old.items ++ flat_map event_findings events.items) }
+    ensures { OnOk result (found.new.items ≡ found.old.items ++ flat_map (event_findings clock.now) events.items) }
 {
     for event in events {
         let Entry { line, read } = event;
-        add_event(alloc, found, line, read)?;
+        add_event(alloc, found, clock, line, read)?;
     }
     Ok(())
 }
@@ -110,15 +113,17 @@ fn add_events(
 fn add_event(
     alloc: Global,
     found: &mut Vec<Finding>,
+    clock: &Clock,
     line: u32,
     read: Result<Calendar, LineCause>,
 ) -> Result<(), AllocError>
-    ensures { OnOk result (found.new.items ≡ found.old.items ++ read_findings line read) }
+    ensures { OnOk result (found.new.items ≡ found.old.items ++ read_findings clock.now line read) }
 {
     match read {
         Ok(event) => {
             let rule = Rule::Events(Events::one(alloc, event)?);
-            note_if(found, never_starts(&rule), line, Note::NeverStarts)
+            let never_starts = never_starts(alloc, clock, &rule)?;
+            note_if(found, never_starts, line, Note::NeverStarts)
         }
         Err(cause) => refuse(found, line, cause),
     }

@@ -11,10 +11,8 @@ use Rattle.std.specs.Ordering.{MatchOrdering, nat_cmp, ordering_then}
 use Rattle.std.specs.declared.cmp.Ordering.{Ordering}
 use Rattle.std.specs.declared.cmp.Ordering.TheVariants.{Less, Equal, Greater}
 use Rattle.plan_sets.specs.Limits.{end_second}
-use Rattle.plan_sets.specs.Civil.{civil_fields}
 use Rattle.plan_match.specs.declared.rule.Rule.{Rule}
-use Rattle.plan_match.specs.Match.{rule_matches}
-use Rattle.plan_next.specs.Starts.{is_start, passing, starts}
+use Rattle.plan_next.specs.Starts.{is_start, passing, rule_starts, starts}
 use Rattle.plan_collect.specs.Entry.{job_numbers}
 
 -- what is so of a number's parts is so of the number
@@ -50,7 +48,7 @@ one_in_years false passes n rest is all = all
 all_in_years : (rule : Rule) (seconds : List ℕ) → AreInYears (filter (is_start rule) seconds)
 all_in_years rule [] = refl
 all_in_years rule (n ∷ seconds) =
-    one_in_years (nat_lt n end_second) (rule_matches rule (civil_fields n)) n (filter (is_start rule) seconds) refl
+    one_in_years (nat_lt n end_second) (rule_starts rule n) n (filter (is_start rule) seconds) refl
     (all_in_years rule seconds)
 
 -- the starts of a rule

@@ -6,10 +6,8 @@ use Rattle.std.proofs.lemmas.Bool.{lt-ltb, and_parts, and_from}
 use Rattle.std.proofs.lemmas.List.Folds.{list_all-append}
 use Rattle.std.proofs.lemmas.List.{length-map}
 use Rattle.plan_sets.specs.Limits.{end_second}
-use Rattle.plan_sets.specs.Civil.{civil_fields}
 use Rattle.plan_match.specs.declared.rule.Rule.{Rule}
-use Rattle.plan_match.specs.Match.{rule_matches}
-use Rattle.plan_next.specs.Starts.{is_start}
+use Rattle.plan_next.specs.Starts.{is_start, rule_starts}
 use Rattle.plan_rules.specs.Job.{JobParts}
 use Rattle.plan_collect.specs.Span.{Bounds}
 use Rattle.plan_collect.specs.Agenda.{row_from, agenda, rules_of, IsInYears, IsOfJobs}
@@ -34,7 +32,7 @@ row_in_years : (job : ℕ) (rules : List Rule) (second : ℕ) → IsInYears (row
 row_in_years job [] second = refl
 row_in_years job (rule ∷ rules) second =
     step (λ entry. nat_lt entry.0 end_second) (is_start rule second) (second, job) (row_from (job + 1) rules second)
-    (λ is. (and_parts (nat_lt second end_second) (rule_matches rule (civil_fields second)) is).0) (row_in_years (job + 1) rules second)
+    (λ is. (and_parts (nat_lt second end_second) (rule_starts rule second) is).0) (row_in_years (job + 1) rules second)
 
 -- its seconds are of the planner's years
 pub agenda-in_years : (rules : List Rule) (span : Bounds) → IsInYears (agenda rules span)

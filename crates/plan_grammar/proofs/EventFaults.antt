@@ -176,4 +176,4 @@ no_zone (first ∷ second ∷ others) = spelled (first ∷ second ∷ others)
 -- the fault of an event's words is the text's
 pub all_words : (texts : List (List ℕ)) → IsTextFault (words_reading texts)
 unfolding words_reading
-all_words texts = steps (zone_dropped texts) _ (zone texts) no_zone
+all_words texts = steps (zone_dropped texts) _ (zone texts) (λ left. steps (zoneless left) _ (no_zone left) (λ event. tt))

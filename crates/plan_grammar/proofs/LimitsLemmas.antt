@@ -16,6 +16,7 @@ use Rattle.plan_texts.specs.Steps.{◌>>=◌}
 use Rattle.plan_grammar.specs.Readings.{Reading, Gives}
 use Rattle.plan_grammar.specs.Elements.{set_in_part, values_by}
 use Rattle.plan_texts.specs.Text.{words}
+use Rattle.plan_match.specs.declared.event.Calendar.{Calendar}
 use Rattle.plan_match.specs.declared.event.DayCount.{DayCount}
 use Rattle.plan_match.specs.declared.event.DayCount.TheVariants.{FromStart, FromEnd}
 use Rattle.plan_match.specs.WithinLimits.{LieWithin, EventIsWithinLimits, RuleIsWithinLimits}
@@ -24,7 +25,7 @@ use Rattle.plan_grammar.specs.declared.field.Field.TheVariants.{Minute, Hour, Mo
 use Rattle.plan_grammar.specs.declared.component.Component.TheVariants as component
 use Rattle.plan_grammar.specs.Cron.{lowest, highest, items_reading, field_reading, has_week_day, week_days_of, five_fields, at_word, found_reading, at_reading, rule_reading, cron_reading}
 use Rattle.plan_grammar.specs.Shape.{ShapeText, shape_reading}
-use Rattle.plan_grammar.specs.Event.{component_items, component_set, component_reading, first_place_fault, is_listed_place, places_reading, weekday_items, weekdays_reading, weekdays_if_given, day_component, event_of, spelled_out, zone_dropped, expression_of, is_unknown_word, lone_word, zoneless, words_reading, has_specifier, event_reading}
+use Rattle.plan_grammar.specs.Event.{component_items, component_set, component_reading, first_place_fault, is_listed_place, places_reading, weekday_items, weekdays_reading, weekdays_if_given, day_component, event_of, spelled_out, has_zone, zone_dropped, expression_of, is_unknown_word, lone_word, zoneless, with_own_zone, words_reading, has_specifier, event_reading}
 
 -- ---- readings
 
@@ -238,9 +239,21 @@ no_zone [] = spelled []
 no_zone (word ∷ []) = lone word (expression_of word)
 no_zone (first ∷ second ∷ others) = spelled (first ∷ second ∷ others)
 
+named : (names_zone : Bool) (event : Calendar) → EventIsWithinLimits event → EventIsWithinLimits (with_own_zone names_zone event)
+named names_zone event own = record {
+  years = own.years;
+  months = own.months;
+  days = own.days;
+  hours = own.hours;
+  minutes = own.minutes;
+  seconds = own.seconds;
+  weekdays = own.weekdays;
+}
+
 all_words : (texts : List (List ℕ)) → IfOk (words_reading texts) EventIsWithinLimits
 unfolding words_reading
-all_words texts = then EventIsWithinLimits (zone_dropped texts) _ no_zone
+all_words texts = then EventIsWithinLimits (zone_dropped texts) _
+    (λ left. steps EventIsWithinLimits EventIsWithinLimits (zoneless left) _ (no_zone left) (named (has_zone texts)))
 
 -- the sets of a calendar event that a text means lie within the limits of their components
 pub event : (text : List ℕ) → IfOk (event_reading text) EventIsWithinLimits

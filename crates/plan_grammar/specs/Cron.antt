@@ -127,6 +127,8 @@ five_fields (minute ∷ hour ∷ month_day ∷ month ∷ week_day ∷ []) = do
         week_days = week_days_of week_days;
         month_days_restricted = is_restricted month_day;
         week_days_restricted = is_restricted week_day;
+        is_wildcard = not (is_restricted minute && is_restricted hour);
+        clock = [];
       }))
 five_fields other = refused 0 WrongParts
 

@@ -1,5 +1,5 @@
 -- The meaning of the text of a calendar event (systemd.time(7), calendar events): an event, or the first fault with its part.
-use Rattle.std.specs.Prelude.{ℕ, ◌+◌, ◌-◌, ◌%◌, Bool, not, ◌&&◌, ◌||◌, ◌==◌, nat_le, nat_lt, if◌then◌else◌, List, [], ◌∷◌, length, take, drop, min, max, find, position, slice_index_or, codes, Option, Some, None, Result, Ok, is_some, ok_or}
+use Rattle.std.specs.Prelude.{ℕ, ◌+◌, ◌-◌, ◌%◌, Bool, false, not, ◌&&◌, ◌||◌, ◌==◌, nat_le, nat_lt, if◌then◌else◌, List, [], ◌∷◌, length, take, drop, min, max, find, position, slice_index_or, codes, Option, Some, None, Result, Ok, is_some, ok_or}
 use Rattle.std.specs.Char.{is_ascii_alphabetic}
 use Rattle.std.specs.List.{list_any, list_all}
 use Rattle.std.specs.Option.{option_map}
@@ -231,6 +231,8 @@ event_of shape = do
         minutes = minutes;
         seconds = seconds;
         weekdays = weekdays;
+        names_zone = false;
+        clock = [];
       })
 
 -- an event that is spelled out
@@ -290,11 +292,16 @@ zoneless [] = spelled_out []
 zoneless (word ∷ []) = lone_word word (expression_of word)
 zoneless (first ∷ second ∷ others) = spelled_out (first ∷ second ∷ others)
 
--- the event of some words
+-- the event with a zone of its own, or without
+abbrev pub with_own_zone : Bool → Calendar → Calendar
+with_own_zone names_zone event = record event { names_zone = names_zone }
+
+-- the event of some words; it has a zone of its own where they end with one
 unfoldable pub words_reading : List (List ℕ) → Reading Calendar
 words_reading texts = do
   left ← zone_dropped texts
-  zoneless left
+  event ← zoneless left
+  Ok (with_own_zone (has_zone texts) event)
 
 -- a specifier begins with `%` (systemd.unit(5), specifiers)
 abbrev pub has_specifier : List ℕ → Bool

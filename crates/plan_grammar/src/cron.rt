@@ -8,6 +8,7 @@ ghost use Rattle.plan_grammar.specs.Cron.{has_week_day, week_days_of, five_field
 
 use crate::fault::{RuleCause, RuleFault};
 use crate::field::{Field, is_restricted};
+use plan_clock::Clock;
 use plan_match::{CronRule, Rule};
 use plan_sets::ValueSet;
 use plan_texts::{begins_with, words};
@@ -124,6 +125,8 @@ pub fn five_fields(alloc: Global, fields: &[&[u8]]) -> Result<Rule, RuleFault>
         week_days: week_days(&Field::WeekDay.values(alloc, week_day)?),
         month_days_restricted: is_restricted(month_day),
         week_days_restricted: is_restricted(week_day),
+        is_wildcard: !(is_restricted(minute) && is_restricted(hour)),
+        clock: Clock::utc(),
     }))
 }
 

@@ -9,12 +9,13 @@ ghost use Rattle.plan_grammar.specs.Readings.{Gives, GivesBy};
 ghost use Rattle.plan_grammar.specs.Shape.{shape_text};
 ghost use Rattle.plan_texts.specs.Text.{words};
 ghost use Rattle.plan_match.specs.WithinLimits.{EventIsWithinLimits, RuleIsWithinLimits};
-ghost use Rattle.plan_grammar.specs.Event.{weekdays_if_given, day_component, event_of, spelled_out, zone_dropped, expression_of, is_unknown_word, zoneless, words_reading, has_specifier, event_reading, event_rule_reading};
+ghost use Rattle.plan_grammar.specs.Event.{weekdays_if_given, day_component, event_of, spelled_out, zone_dropped, has_zone, with_own_zone, expression_of, is_unknown_word, zoneless, words_reading, has_specifier, event_reading, event_rule_reading};
 
 use crate::component::Component;
 use crate::fault::{RuleCause, RuleFault};
 use crate::shape::{Shape, shape_of};
 use crate::weekdays::{weekday_of, weekdays};
+use plan_clock::Clock;
 use plan_match::{Calendar, DayCount, Events, Rule};
 use plan_sets::ValueSet;
 use plan_texts::{begins_with_letter, words};
@@ -70,8 +71,29 @@ pub fn calendar_rule(alloc: Global, text: &str) -> Result<Rule, RuleFault>
 fn event_of_words(alloc: Global, words: &[&[u8]]) -> Result<Calendar, RuleFault>
     ensures { Gives result (words_reading (map (λ word. word.now) words.now)) }
 {
-    let words = without_zone(words)?;
-    zoneless(alloc, words)
+    let left = without_zone(words)?;
+    let event = zoneless(alloc, left)?;
+    Ok(with_own_zone(event, has_zone(words)))
+}
+
+// The event with a zone of its own, or without.
+fn with_own_zone(event: Calendar, names_zone: bool) -> Calendar
+    ensures { result ≡ with_own_zone names_zone event }
+{
+    Calendar {
+        names_zone,
+        ..event
+    }
+}
+
+// Whether the last of the words is a zone: it isn't the first, and begins with a letter.
+fn has_zone(words: &[&[u8]]) -> bool
+    ensures { result ≡ has_zone (map (λ word. word.now) words.now) }
+{
+    match words {
+        [_, .., zone] => begins_with_letter(zone),
+        _ => false,
+    }
 }
 
 // The words before the zone, which is the last word where it isn't the first and begins with a letter.
@@ -194,6 +216,8 @@ fn event_of(alloc: Global, shape: Shape<'_>) -> Result<Calendar, RuleFault>
         minutes: Component::Minute.values(alloc, shape.time.minute)?,
         seconds: Component::Second.values(alloc, shape.time.second)?,
         weekdays,
+        names_zone: false,
+        clock: Clock::utc(),
     })
 }
 

@@ -1,7 +1,9 @@
 -- How a calendar event is stored as numbers, sets and truth values, by which a proof tells two of them apart.
-use Rattle.std.specs.Prelude.{◌≡◌, Bool, true, false, Option, refl}
-use Rattle.std.specs.Coded.{Coded, code_by, coded×, coded_bool, coded_option}
+use Rattle.std.specs.Prelude.{◌≡◌, Bool, true, false, List, Option, refl}
+use Rattle.std.specs.Coded.{Coded, code_by, coded×, coded_bool, coded_list, coded_option}
 use Rattle.plan_sets.specs.Values.{Values, values_code}
+use Rattle.plan_clock.specs.declared.row.Change.{Change}
+use Rattle.plan_clock.specs.Rows.{change_code}
 use Rattle.plan_match.specs.declared.event.DayCount.{DayCount}
 use Rattle.plan_match.specs.declared.event.DayCount.TheVariants.{FromStart, FromEnd}
 use Rattle.plan_match.specs.declared.event.Calendar.{Calendar}
@@ -24,18 +26,18 @@ count_code = code_by Bool coded_bool is_from_end count_if count_if-is_from_end
 
 -- the parts of an event, in pairs
 abbrev pub Parts : Type 0
-Parts = (Values × Values) × (((Values × DayCount) × (Values × Values)) × (Values × Option Values))
+Parts = (Values × Values) × (((Values × DayCount) × (Values × Values)) × ((Values × Option Values) × (Bool × List Change)))
 
 abbrev pub parts_code : Coded Parts
 parts_code =
     coded× (coded× values_code values_code)
     (coded× (coded× (coded× values_code count_code) (coded× values_code values_code))
-    (coded× values_code (coded_option values_code)))
+    (coded× (coded× values_code (coded_option values_code)) (coded× coded_bool (coded_list change_code))))
 
 abbrev pub calendar_code : Coded Calendar
 calendar_code =
     code_by Parts parts_code
-    (λ e. ((e.years, e.months), (((e.days, e.day_count), (e.hours, e.minutes)), (e.seconds, e.weekdays))))
+    (λ e. ((e.years, e.months), (((e.days, e.day_count), (e.hours, e.minutes)), ((e.seconds, e.weekdays), (e.names_zone, e.clock)))))
     (λ p. record {
       years = p.0.0;
       months = p.0.1;
@@ -43,7 +45,9 @@ calendar_code =
       day_count = p.1.0.0.1;
       hours = p.1.0.1.0;
       minutes = p.1.0.1.1;
-      seconds = p.1.1.0;
-      weekdays = p.1.1.1;
+      seconds = p.1.1.0.0;
+      weekdays = p.1.1.0.1;
+      names_zone = p.1.1.1.0;
+      clock = p.1.1.1.1;
     })
     (λ _. refl)

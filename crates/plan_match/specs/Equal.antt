@@ -8,6 +8,7 @@ use Rattle.std.proofs.Common.{ap}
 use Rattle.std.proofs.lemmas.Bool.Decides.{Decides-and, Decides-like}
 use Rattle.plan_sets.specs.Values.{Values, listing}
 use Rattle.plan_sets.specs.ValuesLaws.{Decides-listing}
+use Rattle.plan_clock.specs.Equal.{same_changes, same_changes-Decides}
 use Rattle.plan_match.specs.declared.cron.CronRule.{CronRule}
 use Rattle.plan_match.specs.declared.event.DayCount.{DayCount}
 use Rattle.plan_match.specs.declared.event.DayCount.TheVariants.{FromStart, FromEnd}
@@ -27,7 +28,9 @@ same_cron a b =
     && (same_set a.month_days b.month_days
     && (same_set a.months b.months
     && (same_set a.week_days b.week_days
-    && (beq a.month_days_restricted b.month_days_restricted && beq a.week_days_restricted b.week_days_restricted)))))
+    && (beq a.month_days_restricted b.month_days_restricted
+    && (beq a.week_days_restricted b.week_days_restricted
+    && (beq a.is_wildcard b.is_wildcard && same_changes a.clock b.clock)))))))
 
 -- the days are counted the same way
 abbrev pub same_count : DayCount → DayCount → Bool
@@ -45,7 +48,9 @@ same_calendar a b =
     && (same_count a.day_count b.day_count
     && (same_set a.hours b.hours
     && (same_set a.minutes b.minutes
-    && (same_set a.seconds b.seconds && option_eq same_set a.weekdays b.weekdays))))))
+    && (same_set a.seconds b.seconds
+    && (option_eq same_set a.weekdays b.weekdays
+    && (beq a.names_zone b.names_zone && same_changes a.clock b.clock))))))))
 
 -- two lists have the same events in the same order
 abbrev pub same_events : List Calendar → List Calendar → Bool
@@ -66,7 +71,9 @@ PartsAre a b =
     × ((a.month_days ≡ b.month_days)
     × ((a.months ≡ b.months)
     × ((a.week_days ≡ b.week_days)
-    × ((a.month_days_restricted ≡ b.month_days_restricted) × (a.week_days_restricted ≡ b.week_days_restricted))))))
+    × ((a.month_days_restricted ≡ b.month_days_restricted)
+    × ((a.week_days_restricted ≡ b.week_days_restricted)
+    × ((a.is_wildcard ≡ b.is_wildcard) × (a.clock ≡ b.clock))))))))
 
 cron_from_parts : (a b : CronRule) → PartsAre a b → a ≡ b
 cron_from_parts a b same = λ i. record {
@@ -76,7 +83,9 @@ cron_from_parts a b same = λ i. record {
   months = same.1.1.1.0 i;
   week_days = same.1.1.1.1.0 i;
   month_days_restricted = same.1.1.1.1.1.0 i;
-  week_days_restricted = same.1.1.1.1.1.1 i;
+  week_days_restricted = same.1.1.1.1.1.1.0 i;
+  is_wildcard = same.1.1.1.1.1.1.1.0 i;
+  clock = same.1.1.1.1.1.1.1.1 i;
 }
 
 parts_from_cron : (a b : CronRule) → a ≡ b → PartsAre a b
@@ -90,7 +99,13 @@ parts_from_cron a b same = (
         ap (λ (r : CronRule). r.months) same,
         (
           ap (λ (r : CronRule). r.week_days) same,
-          (ap (λ (r : CronRule). r.month_days_restricted) same, ap (λ (r : CronRule). r.week_days_restricted) same),
+          (
+            ap (λ (r : CronRule). r.month_days_restricted) same,
+            (
+              ap (λ (r : CronRule). r.week_days_restricted) same,
+              (ap (λ (r : CronRule). r.is_wildcard) same, ap (λ (r : CronRule). r.clock) same),
+            ),
+          ),
         ),
       ),
     ),
@@ -107,7 +122,8 @@ same_cron-Decides a b =
     (Decides-and _ _ (Decides-listing a.months b.months)
     (Decides-and _ _ (Decides-listing a.week_days b.week_days)
     (Decides-and _ _ (booleans_Decides a.month_days_restricted b.month_days_restricted)
-    (booleans_Decides a.week_days_restricted b.week_days_restricted)))))))
+    (Decides-and _ _ (booleans_Decides a.week_days_restricted b.week_days_restricted)
+    (Decides-and _ _ (booleans_Decides a.is_wildcard b.is_wildcard) (same_changes-Decides a.clock b.clock)))))))))
 
 same_count-Decides : (a b : DayCount) → Decides (same_count a b) (a ≡ b)
 same_count-Decides FromStart FromStart = (λ e. refl, λ e. refl)
@@ -129,7 +145,10 @@ CalendarPartsAre a b =
     × ((a.days ≡ b.days)
     × ((a.day_count ≡ b.day_count)
     × ((a.hours ≡ b.hours)
-    × ((a.minutes ≡ b.minutes) × ((a.seconds ≡ b.seconds) × (a.weekdays ≡ b.weekdays)))))))
+    × ((a.minutes ≡ b.minutes)
+    × ((a.seconds ≡ b.seconds)
+    × ((a.weekdays ≡ b.weekdays)
+    × ((a.names_zone ≡ b.names_zone) × (a.clock ≡ b.clock)))))))))
 
 calendar_from_parts : (a b : Calendar) → CalendarPartsAre a b → a ≡ b
 calendar_from_parts a b same = λ i. record {
@@ -140,7 +159,9 @@ calendar_from_parts a b same = λ i. record {
   hours = same.1.1.1.1.0 i;
   minutes = same.1.1.1.1.1.0 i;
   seconds = same.1.1.1.1.1.1.0 i;
-  weekdays = same.1.1.1.1.1.1.1 i;
+  weekdays = same.1.1.1.1.1.1.1.0 i;
+  names_zone = same.1.1.1.1.1.1.1.1.0 i;
+  clock = same.1.1.1.1.1.1.1.1.1 i;
 }
 
 parts_from_calendar : (a b : Calendar) → a ≡ b → CalendarPartsAre a b
@@ -156,7 +177,13 @@ parts_from_calendar a b same = (
           ap (λ (e : Calendar). e.hours) same,
           (
             ap (λ (e : Calendar). e.minutes) same,
-            (ap (λ (e : Calendar). e.seconds) same, ap (λ (e : Calendar). e.weekdays) same),
+            (
+              ap (λ (e : Calendar). e.seconds) same,
+              (
+                ap (λ (e : Calendar). e.weekdays) same,
+                (ap (λ (e : Calendar). e.names_zone) same, ap (λ (e : Calendar). e.clock) same),
+              ),
+            ),
           ),
         ),
       ),
@@ -174,7 +201,9 @@ same_calendar-Decides a b =
     (Decides-and _ _ (same_count-Decides a.day_count b.day_count)
     (Decides-and _ _ (Decides-listing a.hours b.hours)
     (Decides-and _ _ (Decides-listing a.minutes b.minutes)
-    (Decides-and _ _ (Decides-listing a.seconds b.seconds) (maybe-Decides a.weekdays b.weekdays))))))))
+    (Decides-and _ _ (Decides-listing a.seconds b.seconds)
+    (Decides-and _ _ (maybe-Decides a.weekdays b.weekdays)
+    (Decides-and _ _ (booleans_Decides a.names_zone b.names_zone) (same_changes-Decides a.clock b.clock))))))))))
 
 -- the test of two lists of them does too
 pub same_events-Decides : (a b : List Calendar) → Decides (same_events a b) (a ≡ b)

@@ -1,8 +1,10 @@
 //! Cron rules as values (crontab(5)).
 
-ghost use Rattle.std.specs.Prelude.{◌≡◌, ◌↔◌};
+ghost use Rattle.std.specs.Prelude.{◌≡◌, ◌↔◌, IfOk};
 
+use plan_clock::{Clock, Row};
 use plan_sets::{Civil, ValueSet};
+use std::alloc::AllocError;
 
 /// A cron rule: the values that its five fields admit, and which of its day fields are restricted (crontab(5)).
 #[derive(Debug, Drop, PartialEq, Eq)]
@@ -21,12 +23,43 @@ pub struct CronRule {
     pub month_days_restricted: bool,
     /// Whether the day of week was written without a `*` in front.
     pub week_days_restricted: bool,
+    /// Whether the minutes or the hours were written with a `*` in front: such a rule runs by what the clock shows alone.
+    pub is_wildcard: bool,
+    /// The clock whose fields have to match; without a change it is that of UTC.
+    pub clock: Clock,
 }
 
+/// How large a change cron(8) takes for one of the clock that is made up for, in seconds: three hours.
+const SMALL_CHANGE: i32 = 10_800;
+
 impl CronRule {
-    ghost use Rattle.std.specs.Prelude.{IsTrue};
+    ghost use Rattle.std.specs.Prelude.{IsTrue, true};
     ghost use Rattle.plan_sets.specs.Values.{has_value};
+    ghost use Rattle.plan_clock.specs.Rows.{is_bounded};
     ghost use Rattle.plan_match.specs.Match.{cron_matches, day_matches, days_admit, HasTimeOfDay};
+    ghost use Rattle.plan_match.specs.Heeds.{cron_heeds};
+    ghost use Rattle.plan_match.specs.Zone.{cron_in};
+
+    /// Returns the same rule in the zone of a clock (cron(8)).
+    ///
+    /// # Errors
+    ///
+    /// Fails only where the clock has too many handles.
+    pub fn in_zone(&self, clock: &Clock) -> Result<CronRule, AllocError>
+        ensures { IfOk result (λ rule. rule ≡ cron_in clock.now self.now) }
+    {
+        Ok(CronRule {
+            minutes: self.minutes.copy(),
+            hours: self.hours.copy(),
+            month_days: self.month_days.copy(),
+            months: self.months.copy(),
+            week_days: self.week_days.copy(),
+            month_days_restricted: self.month_days_restricted,
+            week_days_restricted: self.week_days_restricted,
+            is_wildcard: self.is_wildcard,
+            clock: clock.try_clone()?,
+        })
+    }
 
     /// The minutes of an hour, 0 to 59.
     pub fn minutes(&self) -> &ValueSet
@@ -47,6 +80,15 @@ impl CronRule {
         ensures { result.now ≡ self.now.months }
     {
         &self.months
+    }
+
+    /// Whether the rule is run otherwise about the change with which a row of its clock begins (cron(8)).
+    pub fn heeds(&self, row: Row) -> bool
+        requires { is_bounded row ≡ true }
+        ensures { result ≡ cron_heeds self.now row }
+    {
+        let size = row.size();
+        !self.is_wildcard && (-SMALL_CHANGE <= size && size < 0 || 0 < size && size < SMALL_CHANGE)
     }
 
     /// Whether the rule admits the day that these civil fields show: its year, month, day and weekday alone are looked at.

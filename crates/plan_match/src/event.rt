@@ -3,7 +3,9 @@
 ghost use Rattle.std.specs.Prelude.{◌≡◌, if◌then◌else◌, Some, None};
 ghost use Rattle.plan_match.specs.EventMatch.{is_day, place_from_end};
 
+use plan_clock::Clock;
 use plan_sets::{Civil, FIRST_YEAR, LAST_YEAR, ValueSet, month_length};
+use std::alloc::AllocError;
 
 /// Which way the days of an event are counted.
 #[derive(Clone, Copy, Debug, PartialEq, Eq)]
@@ -33,12 +35,40 @@ pub struct Calendar {
     pub seconds: ValueSet,
     /// The weekdays, 0 to 6 from Monday, where a weekday part was given.
     pub weekdays: Option<ValueSet>,
+    /// Whether the event was written with a time zone of its own.
+    pub names_zone: bool,
+    /// The clock whose fields have to match; without a change it is that of UTC.
+    pub clock: Clock,
 }
 
 impl Calendar {
-    ghost use Rattle.std.specs.Prelude.{◌≡◌, ◌↔◌, IsTrue};
+    ghost use Rattle.std.specs.Prelude.{◌≡◌, ◌↔◌, IsTrue, IfOk};
     ghost use Rattle.plan_sets.specs.Values.{has_value};
     ghost use Rattle.plan_match.specs.EventMatch.{month_day_matches, weekday_matches, event_day_matches, event_matches, HasEventTime};
+    ghost use Rattle.plan_match.specs.Zone.{event_in};
+
+    /// Returns the same event in the zone of a clock, unless it names a zone of its own (systemd.time(7)).
+    ///
+    /// # Errors
+    ///
+    /// Fails only where a clock has too many handles.
+    pub fn in_zone(&self, clock: &Clock) -> Result<Calendar, AllocError>
+        ensures { IfOk result (λ event. event ≡ event_in clock.now self.now) }
+    {
+        let clock = if self.names_zone { &self.clock } else { clock };
+        Ok(Calendar {
+            years: self.years.copy(),
+            months: self.months.copy(),
+            days: self.days.copy(),
+            day_count: self.day_count,
+            hours: self.hours.copy(),
+            minutes: self.minutes.copy(),
+            seconds: self.seconds.copy(),
+            weekdays: self.weekdays.as_ref().map(ValueSet::copy),
+            names_zone: self.names_zone,
+            clock: clock.try_clone()?,
+        })
+    }
 
     /// The years, `FIRST_YEAR` to `LAST_YEAR`.
     pub fn years(&self) -> &ValueSet

@@ -1,11 +1,13 @@
 //! Lists of calendar events.
-ghost use Rattle.std.specs.Prelude.{◌≡◌, ◌++◌, ◌∷◌, [], length, slice_get, IfOk, IfErr, is_ok, if◌then◌else◌};
+ghost use Rattle.std.specs.Prelude.{◌≡◌, ◌++◌, ◌∷◌, [], length, map, slice_get, IfOk, IfErr, is_ok, if◌then◌else◌};
 ghost use Rattle.std.specs.Option.{option_copied};
 ghost use Rattle.plan_match.specs.EventMatch.{some_event_matches};
+ghost use Rattle.plan_match.specs.Zone.{event_in};
 
 use crate::event::Calendar;
+use plan_clock::Clock;
 use plan_sets::Civil;
-use std::alloc::{AllocFailed, Global};
+use std::alloc::{AllocError, AllocFailed, Global};
 use std::marker::Model;
 
 /// A list of calendar events, seen as that list: a job with it starts where any of them matches.
@@ -83,6 +85,21 @@ impl Events {
         ensures { self.new ≡ [] }
     {
         self.calendars.clear();
+    }
+
+    /// Returns the same list with each event in the zone of a clock, unless it names a zone of its own (systemd.time(7)).
+    ///
+    /// # Errors
+    ///
+    /// Fails where memory is refused.
+    pub fn in_zone(&self, alloc: Global, clock: &Clock) -> Result<Events, AllocError>
+        ensures { IfOk result (λ events. events ≡ map (event_in clock.now) self.now) }
+    {
+        let mut calendars = Vec::with_capacity(alloc, self.len())?;
+        for event in &self.calendars {
+            calendars.push(event.in_zone(clock)?)?;
+        }
+        Ok(Events { calendars })
     }
 
     /// How many events there are.

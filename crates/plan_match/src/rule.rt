@@ -1,11 +1,14 @@
 //! The rule by which a job starts.
 
-ghost use Rattle.std.specs.Prelude.{◌≡◌, Bool};
+ghost use Rattle.std.specs.Prelude.{◌≡◌, Bool, IfOk};
 ghost use Rattle.plan_match.specs.Match.{rule_matches, cron_matches};
+ghost use Rattle.plan_match.specs.Zone.{rule_in};
 
 use crate::cron::CronRule;
 use crate::events::Events;
+use plan_clock::Clock;
 use plan_sets::Civil;
+use std::alloc::{AllocError, Global};
 
 /// When a job starts.
 #[derive(Debug, Drop)]
@@ -47,6 +50,21 @@ impl Eq for Rule {
 }
 
 impl Rule {
+    /// Returns the same rule in the zone of a clock; an event that names a zone of its own keeps that (systemd.time(7)).
+    ///
+    /// # Errors
+    ///
+    /// Fails where memory is refused.
+    pub fn in_zone(&self, alloc: Global, clock: &Clock) -> Result<Rule, AllocError>
+        ensures { IfOk result (λ rule. rule ≡ rule_in clock.now self.now) }
+    {
+        match self {
+            Rule::Cron(rule) => Ok(Rule::Cron(rule.in_zone(clock)?)),
+            Rule::Events(events) => Ok(Rule::Events(events.in_zone(alloc, clock)?)),
+            Rule::Never => Ok(Rule::Never),
+        }
+    }
+
     /// Whether a job with this rule starts at the second that has these civil fields. `Never` starts at none.
     pub fn matches(&self, civil: &Civil) -> bool
         ensures { result ≡ rule_matches self.now civil.now }

@@ -3,21 +3,19 @@
 -- two tests is the lesser of both; where the second is searched up to the first answer only, there are four cases.
 use Rattle.std.proofs.Common.{◌≡◌, ℕ, ◌+◌, zero, suc, length, ◌≤◌, Bool, true, false, ◌||◌, List, [], ◌∷◌, ◌++◌, Option, None, Some, inl, inr, Bor, take, refl, ap, sym, ◌∙◌, arith}
 use Rattle.std.specs.Prelude.{min, slice_get, unwrap_or}
+use Rattle.std.specs.List.{list_any}
 use Rattle.std.specs.Option.{option_or}
 use Rattle.std.proofs.lemmas.Bool.{cases_lt}
 use Rattle.std.proofs.lemmas.List.{take_more}
 use Rattle.std.proofs.lemmas.List.Folds.{list_any-append}
 use Rattle.std.proofs.lemmas.Option.{slice_get_within, get_or_from_slice_get}
-use Rattle.plan_sets.specs.Civil.{civil_fields}
 use Rattle.plan_match.specs.declared.event.Calendar.{Calendar}
-use Rattle.plan_match.specs.EventMatch.{event_matches, some_event_matches}
 use Rattle.plan_next.specs.declared.search.Pattern.TheVariants.{Event}
-use Rattle.plan_next.specs.Next.{matches_at, IsFirstOrEnd}
-use Rattle.plan_next.specs.Search.{admits_moment}
-use Rattle.plan_next.specs.Starts.{IsFirstIn}
+use Rattle.plan_next.specs.Next.{IsFirstOrEnd}
+use Rattle.plan_next.specs.Search.{starts_by}
+use Rattle.plan_next.specs.Starts.{event_starts, IsFirstIn}
 use Rattle.plan_next.proofs.FirstLemmas.{IsFirstIn-same}
 use Rattle.plan_next.proofs.NextsLemmas.{IsFirstOrEnd-same}
-use Rattle.plan_next.proofs.StartsLemmas.{event_matches-moment}
 
 or_false : (a b : Bool) → a ≡ false → b ≡ false → (a || b) ≡ false
 or_false a b h k = rw (h, k) refl
@@ -58,9 +56,9 @@ IsFirstOrEnd-min p q a b n m first second =
       ];
     }
 
--- some event of the list matches the fields of second n
+-- second n is a start of some event of the list
 abbrev pub matched_by : List Calendar → ℕ → Bool
-matched_by events n = some_event_matches events (civil_fields n)
+matched_by events n = list_any (λ event. event_starts event n) events
 
 one_more :
     (events : List Calendar) (i : ℕ) (event : Calendar) → slice_get events i ≡ Some event →
@@ -75,46 +73,44 @@ or_none false = refl
 
 matched_by-more :
     (events : List Calendar) (i n : ℕ) (event : Calendar) → slice_get events i ≡ Some event →
-    (matched_by (take i events) n || matches_at event n) ≡ matched_by (take (i + 1) events) n
+    (matched_by (take i events) n || event_starts event n) ≡ matched_by (take (i + 1) events) n
 matched_by-more events i n event is =
     sym (ap (λ xs. matched_by xs n) (one_more events i event is)
-    ∙ list_any-append (λ e. event_matches e (civil_fields n)) (take i events) (event ∷ [])
-    ∙ ap (λ b. matched_by (take i events) n || b) (or_none (matches_at event n)))
+    ∙ list_any-append (λ e. event_starts e n) (take i events) (event ∷ [])
+    ∙ ap (λ b. matched_by (take i events) n || b) (or_none (event_starts event n)))
 
 -- one more event, searched up to the first start so far
 pub more_events :
     (events : List Calendar) (i since end : ℕ) (event : Bor Calendar) (first found : Option ℕ) →
     slice_get events i ≡ Some event.now → IsFirstIn (matched_by (take i events)) since end first →
-    IsFirstIn (admits_moment (Event event)) since (unwrap_or first end) found →
+    IsFirstIn (starts_by (Event event)) since (unwrap_or first end) found →
     IsFirstIn (matched_by (take (i + 1) events)) since end (option_or found first)
 more_events events i since end event first found is so_far next =
-    let both = IsFirstIn-narrowed (matched_by (take i events)) (admits_moment (Event event)) since end first found so_far next in
-    IsFirstIn-same (λ n. matched_by (take i events) n || admits_moment (Event event) n) (matched_by (take (i + 1) events)) since end
-    (option_or found first)
-    (λ n h. ap (λ b. matched_by (take i events) n || b) (event_matches-moment event n) ∙ matched_by-more events i n event.now is)
-    both
+    let both = IsFirstIn-narrowed (matched_by (take i events)) (event_starts event.now) since end first found so_far next in
+    IsFirstIn-same (λ n. matched_by (take i events) n || event_starts event.now n) (matched_by (take (i + 1) events)) since end
+    (option_or found first) (λ n h. matched_by-more events i n event.now is) both
 
 -- one more event, whose next start is known
 pub more_nexts :
     (events : List Calendar) (i from end earliest next : ℕ) (event : Calendar) → slice_get events i ≡ Some event →
-    IsFirstOrEnd (matched_by (take i events)) from end earliest → IsFirstOrEnd (matches_at event) from end next →
+    IsFirstOrEnd (matched_by (take i events)) from end earliest → IsFirstOrEnd (event_starts event) from end next →
     IsFirstOrEnd (matched_by (take (i + 1) events)) from end (min earliest next)
 more_nexts events i from end earliest next event is so_far more =
-    IsFirstOrEnd-same (λ n. matched_by (take i events) n || matches_at event n) (matched_by (take (i + 1) events)) from end
+    IsFirstOrEnd-same (λ n. matched_by (take i events) n || event_starts event n) (matched_by (take (i + 1) events)) from end
     (min earliest next)
     (λ n h. matched_by-more events i n event is)
-    (IsFirstOrEnd-min (matched_by (take i events)) (matches_at event) from end earliest next so_far more)
+    (IsFirstOrEnd-min (matched_by (take i events)) (event_starts event) from end earliest next so_far more)
 
 -- an event of the list that matches is a start
 pub is_start-event :
-    (events : List Calendar) (k n : ℕ) (event : Calendar) → slice_get events k ≡ Some event → matches_at event n ≡ true →
+    (events : List Calendar) (k n : ℕ) (event : Calendar) → slice_get events k ≡ Some event → event_starts event n ≡ true →
     matched_by events n ≡ true
 is_start-event [] k n event is h = absurd (cc)
 is_start-event (first ∷ events) zero n event is h =
     let same : first ≡ event = cc in
-    or_left (matches_at first n) (matched_by events n) (ap (λ e. matches_at e n) same ∙ h)
+    or_left (event_starts first n) (matched_by events n) (ap (λ e. event_starts e n) same ∙ h)
 is_start-event (first ∷ events) (suc k) n event is h =
-    or_right (matches_at first n) (matched_by events n) (is_start-event events k n event is h)
+    or_right (event_starts first n) (matched_by events n) (is_start-event events k n event is h)
 
 pub none_past : (events : List Calendar) (i : ℕ) → slice_get events i ≡ None → length events ≤ i
 none_past [] i is = omega arith

@@ -1,7 +1,7 @@
 -- The next starts that the events of a list keep.
 -- For the loops of `first_of_each` and `next_of_each`, and for `first_starts`, `next_of_event` and `next_of_cron`. Hard
 -- is `KeepsNexts-start`: an event that started before the list's next start would itself be a start (`not_before`).
-use Rattle.std.proofs.Common.{◌≡◌, ◌≢◌, ℕ, ◌+◌, ◌<◌, ◌≤◌, true, List, length, get_or, set, get_or-set_other, get_or-set_same, Some, inl, inr, Bor, sym, ap, ◌∙◌, subst, arith}
+use Rattle.std.proofs.Common.{◌≡◌, ◌≢◌, ℕ, ◌+◌, ◌<◌, ◌≤◌, true, List, [], length, get_or, set, get_or-set_other, get_or-set_same, Some, inl, inr, Bor, sym, ap, ◌∙◌, subst, arith}
 use Rattle.std.specs.Prelude.{nat_lt, slice_get, slice_index}
 use Rattle.std.proofs.lemmas.Bool.{cases_lt, lt-ltb, true≢false}
 use Rattle.plan_sets.specs.Limits.{end_second}
@@ -9,28 +9,25 @@ use Rattle.plan_match.specs.declared.cron.CronRule.{CronRule}
 use Rattle.plan_match.specs.declared.event.Calendar.{Calendar}
 use Rattle.plan_match.specs.declared.rule.Rule.{Rule}
 use Rattle.plan_match.specs.declared.rule.Rule.TheVariants as rule
-use Rattle.plan_next.specs.declared.search.Pattern.TheVariants.{Cron, Event}
-use Rattle.plan_next.specs.Next.{matches_at, IsFirstOrEnd, KeepsNexts}
+use Rattle.plan_next.specs.declared.search.Pattern.TheVariants.{Cron}
+use Rattle.plan_next.specs.Next.{IsFirstOrEnd, KeepsNexts}
 use Rattle.plan_next.specs.Search.{admits_moment}
-use Rattle.plan_next.specs.Starts.{is_start}
+use Rattle.plan_next.specs.Starts.{event_starts, is_start}
 use Rattle.plan_next.proofs.EventsLemmas.{is_start-event}
 use Rattle.plan_next.proofs.NextsLemmas.{IsFirstOrEnd-later}
-use Rattle.plan_next.proofs.StartsLemmas.{event_matches-moment, is_start-cron}
+use Rattle.plan_next.proofs.StartsLemmas.{is_start-cron}
 
--- a start is admitted
-pub admits_moment-event : (event : Bor Calendar) (start : ℕ) → matches_at event.now start ≡ true → admits_moment (Event event) start ≡ true
-admits_moment-event event start h = event_matches-moment event start ∙ h
-
+-- a start of a cron rule without a clock is admitted
 pub admits_moment-cron :
-    (cron : Bor CronRule) (start : ℕ) → start < end_second → is_start (rule.Cron cron.now) start ≡ true →
+    (cron : Bor CronRule) (start : ℕ) → cron.now.clock ≡ [] → start < end_second → is_start (rule.Cron cron.now) start ≡ true →
     admits_moment (Cron cron) start ≡ true
-admits_moment-cron cron start before h = is_start-cron cron start before ∙ h
+admits_moment-cron cron start none before h = is_start-cron cron start none before ∙ h
 
 -- no event's next start comes before the list's
 not_before :
     (events : List Calendar) (from end start k n : ℕ) (event : Calendar) →
     IsFirstOrEnd (is_start (rule.Events events)) from end start → start < end → end ≤ end_second →
-    slice_get events k ≡ Some event → IsFirstOrEnd (matches_at event) from end n → start ≤ n
+    slice_get events k ≡ Some event → IsFirstOrEnd (event_starts event) from end n → start ≤ n
 not_before events from end start k n event next lt years is kept =
     elim (cases_lt n start) [
       | inl before ↦
@@ -50,24 +47,24 @@ KeepsNexts-start rule.Never from end start kept next lt years keeps = tt
 KeepsNexts-start (rule.Events events) from end start kept next lt years keeps =
     λ few k event is.
     let here = keeps few k event is in
-    IsFirstOrEnd-later (matches_at event) from end (slice_index kept k) start here next.from
+    IsFirstOrEnd-later (event_starts event) from end (slice_index kept k) start here next.from
     (not_before events from end start k (slice_index kept k) event next lt years is here)
 
 -- the events before the place i keep their next starts
 abbrev pub AreKept : List Calendar → (from end i : ℕ) → List ℕ → Type 0
 AreKept events from end i kept =
     (k : ℕ) → (event : Calendar) → k < i → slice_get events k ≡ Some event
-    → IsFirstOrEnd (matches_at event) from end (get_or kept k 0)
+    → IsFirstOrEnd (event_starts event) from end (get_or kept k 0)
 
 -- and those from i on
 abbrev pub AreLeft : List Calendar → (from end i : ℕ) → List ℕ → Type 0
 AreLeft events from end i kept =
     (k : ℕ) → (event : Calendar) → i ≤ k → slice_get events k ≡ Some event
-    → IsFirstOrEnd (matches_at event) from end (get_or kept k 0)
+    → IsFirstOrEnd (event_starts event) from end (get_or kept k 0)
 
 pub AreKept-more :
     (events : List Calendar) (from end i next : ℕ) (kept : List ℕ) (event : Calendar) → i < length kept →
-    slice_get events i ≡ Some event → IsFirstOrEnd (matches_at event) from end next → AreKept events from end i kept →
+    slice_get events i ≡ Some event → IsFirstOrEnd (event_starts event) from end next → AreKept events from end i kept →
     AreKept events from end (i + 1) (set kept i next)
 AreKept-more events from end i next kept event within is here so_far k other lt other_is =
     elim (cases_lt k i) [
@@ -75,7 +72,7 @@ AreKept-more events from end i next kept event within is here so_far k other lt 
       | inr after ↦
           let same : k ≡ i = omega arith in
           let the_event : event ≡ other = let there = ap (slice_get events) same in cc in
-          subst (λ e. IsFirstOrEnd (matches_at e) from end (get_or (set kept i next) k 0)) the_event (rw same (rw get_or-set_same here))
+          subst (λ e. IsFirstOrEnd (event_starts e) from end (get_or (set kept i next) k 0)) the_event (rw same (rw get_or-set_same here))
     ]
 
 pub AreLeft-more :

@@ -6,5 +6,9 @@ pub mod MinuteLemmas
 pub mod MonthLemmas
 pub mod NextsLemmas
 pub mod PieceLemmas
+pub mod PlainLemmas
+pub mod RowLemmas
 pub mod SearchLemmas
 pub mod StartsLemmas
+pub mod StretchLemmas
+pub mod ClockLemmas

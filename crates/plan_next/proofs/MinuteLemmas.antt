@@ -1,20 +1,16 @@
 -- A cron rule starts first at the first minute, where it starts at that, and after a start at the next of its minutes in the hour.
 -- For `first_of_cron` and `add_cron_starts_of_hour`. Of the seconds of a minute the first alone is admitted (`none_of_second`).
-use Rattle.std.proofs.Common.{◌≡◌, ℕ, ◌+◌, ◌-◌, ◌*◌, ◌/◌, ◌%◌, ◌<◌, ◌≤◌, true, false, ◌==◌, Bor, Some, List, inl, inr, arith}
+use Rattle.std.proofs.Common.{◌≡◌, ℕ, ◌+◌, ◌-◌, ◌*◌, ◌/◌, ◌%◌, ◌<◌, true, false, ◌==◌, Bor, List, inl, inr, arith}
 use Rattle.std.specs.Int.{div_ceil}
 use Rattle.std.proofs.lemmas.Bool.{and_parts, and_from, and_left, and_right, eqb-true, eq-eqb, ne_eqb, cases_eq}
 use Rattle.std.specs.Prelude.{slice_index}
-use Rattle.plan_sets.specs.Limits.{end_second, seconds_a_day}
+use Rattle.plan_sets.specs.Limits.{seconds_a_day}
 use Rattle.plan_sets.specs.Values.{has_value}
 use Rattle.plan_match.specs.declared.cron.CronRule.{CronRule}
-use Rattle.plan_match.specs.declared.rule.Rule.TheVariants as rule
 use Rattle.plan_next.specs.declared.search.Pattern.TheVariants.{Cron}
 use Rattle.plan_next.specs.Next.{starts_at_minute, AreNextMinutes, IsFirstOrEnd}
 use Rattle.plan_next.specs.Search.{admits_day, admits_hour, admits_in_hour, admits_minute, admits_moment, admits_time}
-use Rattle.plan_next.specs.Starts.{is_start, NoneIn, IsLeastIn}
-use Rattle.plan_next.proofs.FirstLemmas.{IsFirstIn-same}
-use Rattle.plan_next.proofs.KeptLemmas.{admits_moment-cron}
-use Rattle.plan_next.proofs.StartsLemmas.{is_start-cron}
+use Rattle.plan_next.specs.Starts.{NoneIn, IsLeastIn}
 
 -- what a second that is admitted shows
 record IsAdmitted (cron : Bor CronRule) (n : ℕ) : Type 0 where
@@ -107,21 +103,11 @@ IsLeastIn-minute cron n next later end admitted first room is before =
 
 -- a start's minute keeps the next one
 pub next-kept :
-    (cron : Bor CronRule) (kept : List ℕ) (n minute : ℕ) → AreNextMinutes cron.now.minutes kept → n < end_second →
-    is_start (rule.Cron cron.now) n ≡ true → minute ≡ n / 60 % 60 →
+    (cron : Bor CronRule) (kept : List ℕ) (n minute : ℕ) → AreNextMinutes cron.now.minutes kept →
+    admits_moment (Cron cron) n ≡ true → minute ≡ n / 60 % 60 →
     IsFirstOrEnd (has_value cron.now.minutes) (minute + 1) 60 (slice_index kept minute)
-next-kept cron kept n minute keeps years start is =
-    keeps minute (omega arith) (rw is (minute-admitted cron n (admits_moment-cron cron n years start)))
-
--- and the rule starts next then
-pub IsLeastIn-next_minute :
-    (cron : Bor CronRule) (n minute next later end : ℕ) → end ≤ end_second → n < end → is_start (rule.Cron cron.now) n ≡ true →
-    minute ≡ n / 60 % 60 → IsFirstOrEnd (has_value cron.now.minutes) (minute + 1) 60 next → next < 60 →
-    later ≡ n + (next - minute) * 60 → later < end → IsLeastIn (is_start (rule.Cron cron.now)) (n + 1) end later
-IsLeastIn-next_minute cron n minute next later end years within start is first room at_next before =
-    IsFirstIn-same (admits_moment (Cron cron)) (is_start (rule.Cron cron.now)) (n + 1) end (Some later)
-    (λ k h. is_start-cron cron k (omega arith))
-    (IsLeastIn-minute cron n next later end (admits_moment-cron cron n (omega arith) start) (rw is at first) room (rw is at at_next) before)
+next-kept cron kept n minute keeps admitted is =
+    keeps minute (omega arith) (rw is (minute-admitted cron n admitted))
 
 -- the first second of a minute is admitted where the rule starts at that minute
 admitted_minute :

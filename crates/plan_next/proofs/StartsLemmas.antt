@@ -1,7 +1,7 @@
 -- What a pattern of a rule admits are the starts of the rule.
 -- For `first_of_cron`, `next_of_cron`, `first_of_event`, `next_of_event`, KeptLemmas and EventsLemmas. The pattern looks at
 -- the day and at the second of the day, the rule at the civil fields: both see the same (`admits_moment-fields`).
-use Rattle.std.proofs.Common.{◌≡◌, ℕ, ◌*◌, ◌/◌, ◌%◌, ◌<◌, Bool, true, ◌&&◌, nat_lt, Bor, refl, ◌∙◌, arith}
+use Rattle.std.proofs.Common.{◌≡◌, ℕ, ◌*◌, ◌/◌, ◌%◌, ◌<◌, Bool, true, ◌&&◌, nat_lt, Bor, [], refl, sym, ◌∙◌, arith}
 use Rattle.std.proofs.lemmas.Bool.{lt-ltb}
 use Rattle.plan_sets.specs.Civil.{civil_fields}
 use Rattle.plan_sets.specs.declared.civil.Civil.{Civil}
@@ -12,15 +12,14 @@ use Rattle.plan_match.specs.declared.cron.CronRule.{CronRule}
 use Rattle.plan_match.specs.declared.rule.Rule.TheVariants as rule
 use Rattle.plan_next.specs.declared.search.Pattern.{Pattern}
 use Rattle.plan_next.specs.declared.search.Pattern.TheVariants.{Cron, Event}
-use Rattle.plan_match.specs.declared.event.Calendar.{Calendar}
-use Rattle.plan_match.specs.EventMatch.{event_matches}
 use Rattle.plan_sets.specs.Values.{Values as SetOfValues, has_value}
 use Rattle.plan_match.specs.declared.event.DayCount.{DayCount}
 use Rattle.plan_match.specs.declared.event.DayCount.TheVariants.{FromStart, FromEnd}
 use Rattle.plan_match.specs.EventMatch.{month_day_matches, weekday_matches}
 use Rattle.std.proofs.Common.{Option, None, Some}
 use Rattle.plan_next.specs.Starts.{is_start}
-use Rattle.plan_next.specs.Search.{admits_date, admits_day, admits_hour, admits_minute, admits_moment, admits_second}
+use Rattle.plan_next.specs.UtcLaws.{cron_starts-utc, event_starts-utc}
+use Rattle.plan_next.specs.Search.{admits_date, admits_day, admits_hour, admits_minute, admits_moment, admits_second, clock_of, matches_shown, starts_by}
 
 -- the date and each field of the time of day are admitted
 abbrev pub admits_fields : Pattern → Civil → Bool
@@ -63,15 +62,35 @@ admits_moment-fields pattern n =
 turned : (date hour minute second : Bool) → (date && (hour && (minute && second))) ≡ (second && (minute && (hour && date)))
 turned date hour minute second = grind arith
 
--- the seconds that a cron rule's pattern admits are its starts
-pub is_start-cron : (cron : Bor CronRule) (n : ℕ) → n < end_second → admits_moment (Cron cron) n ≡ is_start (rule.Cron cron.now) n
-is_start-cron cron n before =
+-- what a pattern admits are the seconds whose fields match
+pub admits_moment-shown : (pattern : Pattern) (n : ℕ) → n < end_second → admits_moment pattern n ≡ matches_shown pattern n
+admits_moment-shown (Cron cron) n before =
     let known : nat_lt n end_second ≡ true = lt-ltb _ _ before in
     let c = civil_fields n in
     let pattern = Cron cron in
     rw known (admits_moment-fields pattern n ∙ turned (admits_date pattern c) (admits_hour pattern c.hour)
     (admits_minute pattern c.minute) (admits_second pattern c.second))
+admits_moment-shown (Event event) n before =
+    let known : nat_lt n end_second ≡ true = lt-ltb _ _ before in
+    rw known (admits_moment-fields (Event event) n)
 
--- the seconds that an event's pattern admits are those whose fields it matches
-pub event_matches-moment : (event : Bor Calendar) (n : ℕ) → admits_moment (Event event) n ≡ event_matches event.now (civil_fields n)
-event_matches-moment event n = admits_moment-fields (Event event) n
+-- without a clock the starts are the seconds whose fields match
+pub starts_by-utc : (pattern : Pattern) (n : ℕ) → clock_of pattern ≡ [] → starts_by pattern n ≡ matches_shown pattern n
+starts_by-utc (Cron cron) n none = cron_starts-utc cron.now n none
+starts_by-utc (Event event) n none = event_starts-utc event.now n none
+
+-- and are what the pattern admits
+pub starts_by-moment :
+    (pattern : Pattern) (n : ℕ) → clock_of pattern ≡ [] → n < end_second → admits_moment pattern n ≡ starts_by pattern n
+starts_by-moment pattern n none before = admits_moment-shown pattern n before ∙ sym (starts_by-utc pattern n none)
+
+-- the starts of a cron rule's pattern are the rule's
+pub is_start-by : (cron : Bor CronRule) (n : ℕ) → n < end_second → starts_by (Cron cron) n ≡ is_start (rule.Cron cron.now) n
+is_start-by cron n before =
+    let known : nat_lt n end_second ≡ true = lt-ltb _ _ before in
+    rw known refl
+
+-- so where it has no clock the seconds that its pattern admits are
+pub is_start-cron :
+    (cron : Bor CronRule) (n : ℕ) → cron.now.clock ≡ [] → n < end_second → admits_moment (Cron cron) n ≡ is_start (rule.Cron cron.now) n
+is_start-cron cron n none before = starts_by-moment (Cron cron) n none before ∙ is_start-by cron n before

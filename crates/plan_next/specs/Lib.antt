@@ -3,3 +3,4 @@ pub mod Piece
 pub mod Search
 pub mod Starts
 pub mod StartsLaws
+pub mod UtcLaws

@@ -1,14 +1,12 @@
 -- The next starts of a rule and of its events.
 use Rattle.std.specs.Prelude.{◌≡◌, ℕ, ◌+◌, ◌/◌, ◌%◌, ◌<◌, ◌≤◌, Bool, true, ◌&&◌, List, length, Some, slice_get, slice_index}
 use Rattle.plan_sets.specs.Values.{Values, has_value}
-use Rattle.plan_sets.specs.Civil.{civil_fields}
 use Rattle.plan_match.specs.declared.cron.CronRule.{CronRule}
 use Rattle.plan_match.specs.declared.event.Calendar.{Calendar}
 use Rattle.plan_match.specs.declared.rule.Rule.{Rule}
 use Rattle.plan_match.specs.declared.rule.Rule.TheVariants.{Cron, Never, Events}
-use Rattle.plan_match.specs.EventMatch.{event_matches}
 use Rattle.plan_next.specs.Search.{cron_admits_day}
-use Rattle.plan_next.specs.Starts.{NoneIn}
+use Rattle.plan_next.specs.Starts.{NoneIn, event_starts}
 
 -- the longest list of events of which each keeps its next start (own)
 abbrev pub most_kept : ℕ
@@ -31,15 +29,11 @@ abbrev pub starts_at_minute : CronRule → ℕ → Bool
 starts_at_minute rule minute =
     has_value rule.minutes (minute % 60) && (has_value rule.hours (minute / 60 % 24) && cron_admits_day rule (minute / 60 / 24))
 
--- the event matches the fields of second n
-abbrev pub matches_at : Calendar → ℕ → Bool
-matches_at event n = event_matches event (civil_fields n)
-
 -- each number of `kept` is the next start of the event with its place
 abbrev pub AreNexts : List Calendar → (from end : ℕ) → List ℕ → Type 0
 AreNexts events from end kept =
     (k : ℕ) → (event : Calendar) → slice_get events k ≡ Some event
-    → IsFirstOrEnd (matches_at event) from end (slice_index kept k)
+    → IsFirstOrEnd (event_starts event) from end (slice_index kept k)
 
 -- a cron rule keeps the next one of each of its minutes, and a list of events that isn't too long the next start of each
 abbrev pub KeepsNexts : Rule → (from end : ℕ) → List ℕ → Type 0

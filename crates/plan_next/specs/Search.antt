@@ -1,17 +1,23 @@
 -- What a pattern admits (own): each field by itself, and the fields that the search puts together; and the months that it
 -- goes through.
-use Rattle.std.specs.Prelude.{◌≡◌, ℕ, ◌+◌, ◌-◌, ◌*◌, ◌/◌, ◌%◌, ◌<◌, ◌≤◌, Bool, true, false, ◌&&◌, ◌==◌, Option, Some, None}
+use Rattle.std.specs.Prelude.{◌≡◌, ℕ, ◌+◌, ◌-◌, ◌*◌, ◌/◌, ◌%◌, ◌<◌, ◌≤◌, Bool, true, false, ◌&&◌, ◌==◌, List, Option, Some, None}
 use Rattle.plan_sets.specs.Values.{has_value, Values}
 use Rattle.plan_sets.specs.Limits.{first_year, last_year, end_second, seconds_a_day}
 use Rattle.plan_sets.specs.Civil.{civil_fields}
 use Rattle.plan_sets.specs.Months.{days_of_month, IsFirstDay}
 use Rattle.plan_sets.specs.declared.civil.Civil.{Civil}
-use Rattle.plan_match.specs.Match.{day_matches}
+use Rattle.plan_clock.specs.declared.row.Change.{Change}
+use Rattle.plan_clock.specs.declared.row.Row.{Row}
+use Rattle.plan_clock.specs.Rows.{row_at}
+use Rattle.plan_match.specs.Heeds.{cron_heeds, event_heeds}
+use Rattle.plan_match.specs.Match.{cron_matches, day_matches}
+use Rattle.plan_next.specs.Starts.{is_shown, starts_in, NoneIn}
 use Rattle.plan_match.specs.declared.cron.CronRule.{CronRule}
 use Rattle.plan_next.specs.declared.month.Month.{Month}
 use Rattle.plan_next.specs.declared.search.Pattern.{Pattern}
+use Rattle.plan_next.specs.declared.zone.Plain.{Plain}
 use Rattle.plan_next.specs.declared.search.Pattern.TheVariants.{Cron, Event}
-use Rattle.plan_match.specs.EventMatch.{event_day_matches}
+use Rattle.plan_match.specs.EventMatch.{event_day_matches, event_matches}
 
 -- the month after the last year, where January of the year 0 is month 0
 abbrev pub end_month : ℕ
@@ -101,3 +107,36 @@ abbrev pub IsFirstOpen : Pattern → ℕ → Option ℕ → Type 0
 IsFirstOpen pattern from None = (civil : Civil) → from ≤ civil.day → admits_date pattern civil ≡ false
 IsFirstOpen pattern from (Some first) =
     (from ≤ first) × ((civil : Civil) → from ≤ civil.day → civil.day < first → admits_date pattern civil ≡ false)
+
+-- the changes of the clock by which the pattern is meant
+abbrev pub clock_of : Pattern → List Change
+clock_of (Cron rule) = rule.now.clock
+clock_of (Event event) = event.now.clock
+
+-- the pattern heeds the change with which a row of its clock begins
+abbrev pub heeds : Pattern → Row → Bool
+heeds (Cron rule) row = cron_heeds rule.now row
+heeds (Event event) row = event_heeds row
+
+-- a second of the planner's years whose civil fields match
+abbrev pub matches_shown : Pattern → ℕ → Bool
+matches_shown (Cron rule) = is_shown (cron_matches rule.now)
+matches_shown (Event event) = is_shown (event_matches event.now)
+
+-- second n is a start of the pattern by its clock
+abbrev pub starts_by : Pattern → ℕ → Bool
+starts_by pattern n =
+    let row = row_at (clock_of pattern) n in starts_in row (heeds pattern row) (matches_shown pattern) n
+
+-- no start of the pattern is from a second on before the hope, which lies before the end
+pub record IsHope (pattern : Pattern) (from end hope : ℕ) : Type 0 where
+  pub after : from ≤ hope
+  pub within : hope ≤ end
+  pub none : NoneIn (starts_by pattern) from hope
+
+-- from a start up to a second the pattern starts just where what its clock shows matches
+pub record IsPlain (pattern : Pattern) (start end : ℕ) (part : Plain) : Type 0 where
+  pub before : start < part.upto
+  pub within : part.upto ≤ end
+  pub years : part.shown + (part.upto - start) ≤ end_second
+  pub same : (k : ℕ) → start + k < part.upto → starts_by pattern (start + k) ≡ matches_shown pattern (part.shown + k)

@@ -4,12 +4,15 @@
 //! here; `search` has the jumps, and `piece` what planners send.
 #![tactic(auto)]
 
+mod laws;
 mod minutes;
 mod month;
 mod next;
 mod nexts;
 mod piece;
 mod search;
+mod zone;
 
+pub use laws::starts_without_clock;
 pub use next::{next_from, next_start};
 pub use piece::{NoMemory, Piece, next_piece};

@@ -1,14 +1,18 @@
 //! The starts of a cron rule within an hour: for each of its minutes is kept which comes next.
 
-ghost use Rattle.std.specs.Prelude.{◌≡◌, ◌+◌, ◌<◌, ◌≤◌, ℕ, true, IfOk};
+ghost use Rattle.std.specs.Prelude.{◌≡◌, ◌+◌, ◌<◌, ◌≤◌, ℕ, true, None, IfOk};
 ghost use Rattle.plan_sets.specs.Limits.{end_second};
 ghost use Rattle.plan_sets.specs.Values.{has_value};
 ghost use Rattle.plan_next.specs.Starts.{is_start};
+ghost use Rattle.plan_next.specs.UtcLaws.{HasNoClock};
 ghost use Rattle.plan_next.specs.Next.{AreNextMinutes, IsFirstOrEnd, KeepsNexts};
 ghost use Rattle.plan_next.specs.Piece.{AreFound};
+ghost use Rattle.plan_next.specs.Search.{IsPlain};
+ghost use Rattle.plan_next.specs.declared.search.Pattern.TheVariants.{Cron};
 
 use crate::nexts::MOST_KEPT;
-use crate::search::{MINUTES_AN_HOUR, SECONDS_A_MINUTE};
+use crate::search::{MINUTES_AN_HOUR, Pattern, SECONDS_A_MINUTE};
+use crate::zone::Plain;
 use plan_match::{CronRule, Rule};
 use plan_sets::ValueSet;
 use std::alloc::AllocError;
@@ -47,11 +51,13 @@ pub(crate) fn add_starts_of_hour(
     upto: u64,
     most: usize,
     found: &mut Vec<u64>,
+    guess: Option<usize>,
 ) -> Result<u64, AllocError>
     requires part { start < upto }
     requires years { upto ≤ end_second }
     requires start { is_start rule.now start ≡ true }
     requires kept { KeepsNexts rule.now start upto kept.now }
+    requires utc { guess ≡ None → HasNoClock rule.now }
     ensures from { IfOk result (λ last. start ≤ last) }
     ensures part { IfOk result (λ last. last < upto) }
     ensures last { IfOk result (λ last. is_start rule.now last ≡ true) }
@@ -60,7 +66,10 @@ pub(crate) fn add_starts_of_hour(
         → IfOk result (λ last. AreFound rule.now since upto most found.new.items (last + 1)) }
 {
     match rule {
-        Rule::Cron(rule) => add_cron_starts_of_hour(rule, kept, start, upto, most, found),
+        Rule::Cron(rule) => match Pattern::Cron(rule).plain_part(start, upto, guess) {
+            Some(part) => add_cron_starts_of_hour(rule, kept, start, part, upto, most, found),
+            None => Ok(start),
+        },
         _ => Ok(start),
     }
 }
@@ -70,13 +79,14 @@ fn add_cron_starts_of_hour(
     rule: &CronRule,
     kept: &[u64; MOST_KEPT],
     start: u64,
+    part: Plain,
     upto: u64,
     most: usize,
     found: &mut Vec<u64>,
 ) -> Result<u64, AllocError>
-    requires part { start < upto }
     requires years { upto ≤ end_second }
     requires start { is_start (Rule.Cron rule.now) start ≡ true }
+    requires plain { IsPlain (Cron rule) start upto part }
     requires kept { AreNextMinutes rule.now.minutes kept.now }
     ensures from { IfOk result (λ last. start ≤ last) }
     ensures part { IfOk result (λ last. last < upto) }
@@ -85,11 +95,11 @@ fn add_cron_starts_of_hour(
         → IfOk result (λ last. AreFound (Rule.Cron rule.now) since upto most found.new.items (last + 1)) }
 {
     let mut last = start;
-    let mut minute = start / u64::from(SECONDS_A_MINUTE) % u64::from(MINUTES_AN_HOUR);
+    let mut minute = part.shown / u64::from(SECONDS_A_MINUTE) % u64::from(MINUTES_AN_HOUR);
     for _ in found.len()..most {
         let next = kept[minute as usize];
         let later = last + (next - minute) * u64::from(SECONDS_A_MINUTE);
-        if next >= u64::from(MINUTES_AN_HOUR) || later >= upto {
+        if next >= u64::from(MINUTES_AN_HOUR) || later >= part.upto {
             return Ok(last);
         }
         found.push(later)?;

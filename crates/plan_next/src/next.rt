@@ -56,12 +56,14 @@ pub(crate) fn first_of_cron(rule: &CronRule, since: u64, end: u64) -> Option<u64
     requires years { end ≤ end_second }
     ensures { IsFirstIn (is_start (Rule.Cron rule.now)) since end result }
 {
-    let minute = since.div_ceil(u64::from(SECONDS_A_MINUTE));
-    let first = minute * u64::from(SECONDS_A_MINUTE);
-    if first < end && starts_at_minute(rule, minute) {
-        return Some(first);
+    if rule.clock.is_utc() {
+        let minute = since.div_ceil(u64::from(SECONDS_A_MINUTE));
+        let first = minute * u64::from(SECONDS_A_MINUTE);
+        if first < end && starts_at_minute(rule, minute) {
+            return Some(first);
+        }
     }
-    Pattern::Cron(rule).first_moment(since, end)
+    Pattern::Cron(rule).first_start(since, end)
 }
 
 // Whether a cron rule starts at a minute, counted from 1970-01-01T00:00:00Z.
@@ -111,7 +113,7 @@ fn first_within(events: &Events, since: u64, end: u64) -> Option<u64>
     for i in 0..events.len() {
         if let Some(event) = events.get(i) {
             let before = first.unwrap_or(end);
-            first = Pattern::Event(event).first_moment(since, before).or(first);
+            first = Pattern::Event(event).first_start(since, before).or(first);
         }
     }
     first

@@ -2,14 +2,16 @@
 //! next start is known. A number is kept for each event, so the end of the part stands for none. For a cron rule a number is kept for each of
 //! its minutes.
 
-ghost use Rattle.std.specs.Prelude.{◌≡◌, ◌+◌, ◌<◌, ◌≤◌, true, length};
+ghost use Rattle.std.specs.Prelude.{◌≡◌, ◌+◌, ◌<◌, ◌≤◌, true, None, [], length};
 ghost use Rattle.plan_sets.specs.Limits.{end_second};
-ghost use Rattle.plan_next.specs.Starts.{is_start, IsFirstIn};
-ghost use Rattle.plan_next.specs.Next.{matches_at, most_kept, AreNexts, IsFirstOrEnd, KeepsNexts};
+ghost use Rattle.plan_next.specs.Starts.{event_starts, is_start, IsFirstIn};
+ghost use Rattle.plan_next.specs.UtcLaws.{HasNoClock, HaveNoClock};
+ghost use Rattle.plan_next.specs.Next.{most_kept, AreNexts, IsFirstOrEnd, KeepsNexts};
 
 use crate::minutes::keep_next_minutes;
 use crate::next::{first_of_cron, first_of_events};
 use crate::search::Pattern;
+use plan_clock::Clock;
 use plan_match::{Calendar, CronRule, Events, Rule};
 
 /// The longest list of events of which each keeps its next start, which is no less than the minutes of an hour.
@@ -36,32 +38,77 @@ pub(crate) fn first_or_end(rule: &Rule, from: u64, end: u64, kept: &mut [u64; MO
 
 /// The start of a rule after its start `start`, or `end` where it has none before that. `kept` holds what each event has from
 /// `start` on, and then what it has after it; what a cron rule keeps stays as it is.
-pub(crate) fn next_or_end(rule: &Rule, start: u64, end: u64, kept: &mut [u64; MOST_KEPT]) -> u64
+pub(crate) fn next_or_end(
+    rule: &Rule,
+    start: u64,
+    end: u64,
+    kept: &mut [u64; MOST_KEPT],
+    guess: Option<usize>,
+) -> u64
     requires part { start < end }
     requires years { end ≤ end_second }
     requires start { is_start rule.now start ≡ true }
     requires kept { KeepsNexts rule.now start end kept.old }
+    requires utc { guess ≡ None → HasNoClock rule.now }
     ensures next { IsFirstOrEnd (is_start rule.now) (start + 1) end result }
     ensures kept { KeepsNexts rule.now (start + 1) end kept.new }
 {
     match rule {
-        Rule::Cron(rule) => next_of_cron(rule, start, end).unwrap_or(end),
+        Rule::Cron(rule) => next_of_cron(rule, start, end, guess).unwrap_or(end),
         Rule::Never => end,
-        Rule::Events(events) if events.len() <= MOST_KEPT => {
-            next_of_each(events, start, end, kept)
-        }
+        Rule::Events(events) if events.len() <= MOST_KEPT => match guess {
+            None => next_of_each(events, start, end, kept, None),
+            Some(_) => next_of_each_by_clock(events, start, end, kept, guess),
+        },
         Rule::Events(events) => first_of_events(events, start + 1, end).unwrap_or(end),
     }
 }
 
+/// How many changes of the clock of a rule begin at or before a second, by the first event of a list; `None` where no clock of the rule has a
+/// change. Searches take it as a guess, of which no answer depends.
+pub(crate) fn changes_passed(rule: &Rule, second: u64, end: u64) -> Option<usize>
+    ensures { result ≡ None → HasNoClock rule.now }
+{
+    match rule {
+        Rule::Cron(rule) if rule.clock.is_utc() => None,
+        Rule::Cron(rule) => Some(passed(&rule.clock, second, end)),
+        Rule::Events(events) => passed_by_events(events, second, end),
+        Rule::Never => None,
+    }
+}
+
+// The same of a list of events.
+fn passed_by_events(events: &Events, second: u64, end: u64) -> Option<usize>
+    ensures { result ≡ None → HaveNoClock events.now }
+{
+    for i in 0..events.len() {
+        if let Some(event) = events.get(i) {
+            if !event.clock.is_utc() {
+                return Some(passed(&event.clock, second, end));
+            }
+        }
+    }
+    None
+}
+
+// How many changes of a clock begin at or before a second, if that is before the end.
+fn passed(clock: &Clock, second: u64, end: u64) -> usize {
+    let mut passed = 0;
+    if second < end {
+        clock.stretch_near(second, end, &mut passed);
+    }
+    passed
+}
+
 // The first start of a cron rule after `start`, before `end`.
-fn next_of_cron(rule: &CronRule, start: u64, end: u64) -> Option<u64>
+fn next_of_cron(rule: &CronRule, start: u64, end: u64, guess: Option<usize>) -> Option<u64>
     requires part { start < end }
     requires years { end ≤ end_second }
     requires start { is_start (Rule.Cron rule.now) start ≡ true }
+    requires utc { guess ≡ None → rule.now.clock ≡ [] }
     ensures { IsFirstIn (is_start (Rule.Cron rule.now)) (start + 1) end result }
 {
-    Pattern::Cron(rule).next_moment(start, end)
+    Pattern::Cron(rule).next_start(start, end, guess)
 }
 
 // Finds the first start of each event from `from` on, or `end` where it has none, and answers the earliest.
@@ -84,18 +131,26 @@ fn first_of_each(events: &Events, from: u64, end: u64, kept: &mut [u64; MOST_KEP
 }
 
 // Moves those events on that start at `start`, and answers the earliest of their next starts.
-fn next_of_each(events: &Events, start: u64, end: u64, kept: &mut [u64; MOST_KEPT]) -> u64
+#[inline(always)]
+fn next_of_each(
+    events: &Events,
+    start: u64,
+    end: u64,
+    kept: &mut [u64; MOST_KEPT],
+    guess: Option<usize>,
+) -> u64
     requires part { start < end }
     requires years { end ≤ end_second }
     requires room { length events.now ≤ most_kept }
     requires kept { AreNexts events.now start end kept.old }
+    requires utc { guess ≡ None → HaveNoClock events.now }
     ensures next { IsFirstOrEnd (is_start (Rule.Events events.now)) (start + 1) end result }
     ensures kept { AreNexts events.now (start + 1) end kept.new }
 {
     let mut earliest = end;
     for i in 0..events.len() {
         if let Some(event) = events.get(i) {
-            let next = next_of_event(event, start, kept[i], end);
+            let next = next_of_event(event, start, kept[i], end, guess);
             kept[i] = next;
             earliest = earliest.min(next);
         }
@@ -103,24 +158,48 @@ fn next_of_each(events: &Events, start: u64, end: u64, kept: &mut [u64; MOST_KEP
     earliest
 }
 
+// The same of events of which some have a clock, apart from the loop of those that have none.
+#[inline(never)]
+fn next_of_each_by_clock(
+    events: &Events,
+    start: u64,
+    end: u64,
+    kept: &mut [u64; MOST_KEPT],
+    guess: Option<usize>,
+) -> u64
+    requires part { start < end }
+    requires years { end ≤ end_second }
+    requires room { length events.now ≤ most_kept }
+    requires kept { AreNexts events.now start end kept.old }
+    requires utc { guess ≡ None → HaveNoClock events.now }
+    ensures next { IsFirstOrEnd (is_start (Rule.Events events.now)) (start + 1) end result }
+    ensures kept { AreNexts events.now (start + 1) end kept.new }
+{
+    next_of_each(events, start, end, kept, guess)
+}
+
 // The first start of an event from `from` on, or `end` where it has none before that.
 fn first_of_event(event: &Calendar, from: u64, end: u64) -> u64
     requires part { from ≤ end }
     requires years { end ≤ end_second }
-    ensures { IsFirstOrEnd (matches_at event.now) from end result }
+    ensures { IsFirstOrEnd (event_starts event.now) from end result }
 {
-    Pattern::Event(event).first_moment(from, end).unwrap_or(end)
+    Pattern::Event(event).first_start(from, end).unwrap_or(end)
 }
 
 // The first start of an event after `start`, or `end` where it has none before that; `next` is the same from `start` on.
-fn next_of_event(event: &Calendar, start: u64, next: u64, end: u64) -> u64
+#[inline(always)]
+fn next_of_event(event: &Calendar, start: u64, next: u64, end: u64, guess: Option<usize>) -> u64
     requires part { start < end }
     requires years { end ≤ end_second }
-    requires next { IsFirstOrEnd (matches_at event.now) start end next }
-    ensures { IsFirstOrEnd (matches_at event.now) (start + 1) end result }
+    requires next { IsFirstOrEnd (event_starts event.now) start end next }
+    requires utc { guess ≡ None → event.now.clock ≡ [] }
+    ensures { IsFirstOrEnd (event_starts event.now) (start + 1) end result }
 {
     if next > start {
         return next;
     }
-    Pattern::Event(event).next_moment(start, end).unwrap_or(end)
+    Pattern::Event(event)
+        .next_start(start, end, guess)
+        .unwrap_or(end)
 }

@@ -7,7 +7,7 @@ ghost use Rattle.plan_next.specs.Starts.{starts};
 ghost use Rattle.plan_next.specs.Piece.{piece_end, piece_of};
 
 use crate::minutes::add_starts_of_hour;
-use crate::nexts::{MOST_KEPT, first_or_end, next_or_end};
+use crate::nexts::{MOST_KEPT, changes_passed, first_or_end, next_or_end};
 use plan_match::Rule;
 use std::alloc::{AllocError, AllocFailed, Global};
 use std::marker::Model;
@@ -138,6 +138,7 @@ fn first_starts(
 {
     let mut found = Vec::new(alloc);
     let mut kept = [upto; MOST_KEPT];
+    let guess = changes_passed(rule, since, upto);
     let mut reached = since;
     let mut next = first_or_end(rule, since, upto, &mut kept);
     while next < upto {
@@ -145,9 +146,9 @@ fn first_starts(
             return Ok((found, reached));
         }
         found.push(next)?;
-        let last = add_starts_of_hour(rule, &kept, next, upto, most, &mut found)?;
+        let last = add_starts_of_hour(rule, &kept, next, upto, most, &mut found, guess)?;
         reached = last + 1;
-        next = next_or_end(rule, last, upto, &mut kept);
+        next = next_or_end(rule, last, upto, &mut kept, guess);
     }
     Ok((found, upto))
 }

@@ -51,6 +51,7 @@ impl Pattern<'_> {
     }
 
     /// The first admitted second after an admitted one, before `end`.
+    #[inline(always)]
     pub(crate) fn next_moment(self, moment: u64, end: u64) -> Option<u64>
         requires part { moment < end }
         requires years { end ≤ end_second }
@@ -78,6 +79,7 @@ impl Pattern<'_> {
     }
 
     // The first admitted second after an admitted one, before the day `end`: most often one of its hour.
+    #[inline(always)]
     fn next_before_day(self, moment: u64, end: u64) -> Option<u64>
         requires part { moment < end * seconds_a_day }
         requires years { end ≤ end_day }
@@ -274,6 +276,7 @@ impl Pattern<'_> {
     }
 
     // The first admitted second of an hour after an admitted one.
+    #[inline(always)]
     fn next_in_hour(self, second: u16) -> Option<u16>
         requires hour { second < SECONDS_AN_HOUR }
         requires admitted { admits_in_hour self second ≡ true }
@@ -362,6 +365,7 @@ impl Pattern<'_> {
     }
 
     // The first admitted minute from `from` on.
+    #[inline(always)]
     fn first_minute(self, from: u16) -> Option<u16>
         ensures { IsFirstIn (admits_minute self.entry) from MINUTES_AN_HOUR result }
     {

@@ -30,6 +30,8 @@ every_minute : cron_reading (codes "* * * * *") ≡ Ok (Cron (record {
   week_days = week_days_of (held_values (Range 0 7 1 ∷ []) 0 7);
   month_days_restricted = false;
   week_days_restricted = false;
+  is_wildcard = true;
+  clock = [];
 }))
 unfolding words cut_at number_of set_reading rule_reading five_fields field_reading items_reading item_reading side_reading
     value_reading step_reading
@@ -44,6 +46,8 @@ half_past_four : cron_reading (codes "30 4 1,15 * 5") ≡ Ok (Cron (record {
   week_days = week_days_of (held_values (One 5 ∷ []) 0 7);
   month_days_restricted = true;
   week_days_restricted = true;
+  is_wildcard = false;
+  clock = [];
 }))
 unfolding words cut_at number_of set_reading rule_reading five_fields field_reading items_reading item_reading side_reading
     value_reading step_reading
@@ -58,10 +62,36 @@ odd_days : cron_reading (codes "  0 0 */2   * 1 ") ≡ Ok (Cron (record {
   week_days = week_days_of (held_values (One 1 ∷ []) 0 7);
   month_days_restricted = false;
   week_days_restricted = true;
+  is_wildcard = false;
+  clock = [];
 }))
 unfolding words cut_at number_of set_reading rule_reading five_fields field_reading items_reading item_reading side_reading
     value_reading step_reading
 odd_days = refl
+
+-- whether a text's rule is one with a wildcard
+abbrev has_wildcard : Reading Rule → Bool
+has_wildcard (Ok (Cron rule)) = rule.is_wildcard
+has_wildcard other = false
+
+-- it is where the minutes or the hours begin with `*`
+wildcards : map (λ text. has_wildcard (cron_reading text))
+    (codes "*,5 1 * * *"
+    ∷ codes "*/5 1 * * *"
+    ∷ codes "0 */2 * * *"
+    ∷ codes "@hourly"
+    ∷ codes "5,* 1 * * *"
+    ∷ codes "0-59 0-23 * * *"
+    ∷ codes "30 2 */2 * *"
+    ∷ codes "@daily"
+    ∷ codes "@weekly"
+    ∷ codes "@monthly"
+    ∷ codes "@yearly"
+    ∷ [])
+    ≡ true ∷ true ∷ true ∷ true ∷ false ∷ false ∷ false ∷ false ∷ false ∷ false ∷ false ∷ []
+unfolding words cut_at number_of set_reading rule_reading five_fields field_reading items_reading item_reading side_reading
+    value_reading step_reading
+wildcards = refl
 
 -- refused texts, each with its one fault
 refusals : map cron_reading

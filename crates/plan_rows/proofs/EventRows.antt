@@ -29,6 +29,8 @@ every_second : event_reading (codes "*:*:*") ≡ Ok (record {
   minutes = held_values (Range 0 59 1 ∷ []) 0 59;
   seconds = held_values (Range 0 59 1 ∷ []) 0 59;
   weekdays = None;
+  names_zone = false;
+  clock = [];
 })
 unfolding words cut_at number_of set_reading date_reading time_reading dated shape_reading component_number component_value
     component_side component_item component_items places_reading component_reading weekday_of weekday_reading weekday_item
@@ -45,6 +47,8 @@ lists_ranges_and_steps : event_reading (codes "Sat,Mon..Tue 10-1..7/3 8..9:0/30:
   minutes = held_values (Onward 0 30 ∷ []) 0 59;
   seconds = held_values (One 15 ∷ []) 0 59;
   weekdays = Some (held_values (One 5 ∷ Range 0 1 1 ∷ []) 0 6);
+  names_zone = false;
+  clock = [];
 })
 unfolding words cut_at number_of set_reading date_reading time_reading dated shape_reading component_number component_value
     component_side component_item component_items places_reading component_reading weekday_of weekday_reading weekday_item
@@ -61,6 +65,8 @@ third_last_of_february : event_rule_reading (codes "*-02~03") ≡ Ok (Events (re
   minutes = held_values (One 0 ∷ []) 0 59;
   seconds = held_values (One 0 ∷ []) 0 59;
   weekdays = None;
+  names_zone = false;
+  clock = [];
 } ∷ []))
 unfolding words cut_at number_of set_reading date_reading time_reading dated shape_reading component_number component_value
     component_side component_item component_items places_reading component_reading weekday_of weekday_reading weekday_item
@@ -69,12 +75,25 @@ third_last_of_february = refl
 
 -- a word of the table in any case, before the zone
 words_of_the_table : map event_reading (codes "weekly" ∷ codes "qUARTERLY utc" ∷ codes "Wed, 17:48 UTC" ∷ codes "Mon..mon" ∷ [])
-    ≡ map event_reading (codes "Mon *-*-* 00:00:00" ∷ codes "*-01,04,07,10-01" ∷ codes "wednesday *-* 17:48:00" ∷ codes
+    ≡ map event_reading (codes "Mon *-*-* 00:00:00" ∷ codes "*-01,04,07,10-01 UTC" ∷ codes "wednesday *-* 17:48:00 uTC" ∷ codes
     "monday..Monday" ∷ [])
 unfolding words cut_at number_of set_reading date_reading time_reading dated shape_reading component_number component_value
     component_side component_item component_items places_reading component_reading weekday_of weekday_reading weekday_item
     weekday_items weekdays_reading event_of spelled_out zone_dropped expression_of zoneless words_reading
 words_of_the_table = refl
+
+-- where a text has a meaning, whether its event names a zone
+abbrev zone_of : Reading Calendar → Bool
+zone_of (Ok event) = event.names_zone
+zone_of (Err fault) = false
+
+-- it does where the last word of several is the zone
+named_zones : map (λ text. zone_of (event_reading text))
+    (codes "Mon 09:00 UTC" ∷ codes "daily utc" ∷ codes "Mon 09:00" ∷ codes "daily" ∷ []) ≡ true ∷ true ∷ false ∷ false ∷ []
+unfolding words cut_at number_of set_reading date_reading time_reading dated shape_reading component_number component_value
+    component_side component_item component_items places_reading component_reading weekday_of weekday_reading weekday_item
+    weekday_items weekdays_reading event_of spelled_out zone_dropped expression_of zoneless words_reading
+named_zones = refl
 
 -- refused texts, each with its one fault
 refusals : map event_reading

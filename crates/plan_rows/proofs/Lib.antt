@@ -4,3 +4,4 @@ mod CronRows
 mod EventRows
 mod CrontabRows
 mod TimerRows
+mod ZoneRows

@@ -7,3 +7,4 @@ pub mod JobsLemmas
 pub mod TimerLemmas
 pub mod TimerFaults
 pub mod TimerEntryLemmas
+pub mod ZoneLemmas

@@ -17,6 +17,7 @@ pub mod Job
 pub mod Crontab
 pub mod Tabs
 pub mod Jobs
+pub mod Zone
 pub mod Timer
 pub mod TimerEntries
 pub mod TimerSteps

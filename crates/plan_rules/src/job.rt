@@ -1,9 +1,11 @@
 //! A job: what runs, and by which rule it starts.
 
-ghost use Rattle.std.specs.Prelude.{◌≡◌, string_bytes, IfOk};
+ghost use Rattle.std.specs.Prelude.{◌≡◌, string_bytes, IfOk, OnErr, OnOk};
 ghost use Rattle.std.specs.Arc.{arc_value};
 ghost use Rattle.plan_rules.specs.Job.{line_end};
+ghost use Rattle.plan_rules.specs.Zone.{job_in};
 
+use plan_clock::Clock;
 use plan_match::Rule;
 use plan_texts::Text;
 use std::alloc::{AllocError, Global};
@@ -57,6 +59,16 @@ impl Job {
             end,
             rule,
         })
+    }
+
+    // Puts the job in the zone of a clock. Where memory is refused it stays as it was.
+    pub(crate) fn put_in_zone(&mut self, alloc: Global, clock: &Clock) -> Result<(), AllocError>
+        ensures zone { OnOk result (self.new ≡ job_in clock.now self.old) }
+        ensures unchanged { OnErr result (self.new ≡ self.old) }
+    {
+        let rule = self.rule.in_zone(alloc, clock)?;
+        self.rule = Arc::new(alloc, rule)?;
+        Ok(())
     }
 
     /// The job's name, which tells it from other jobs: of line n of a crontab `LABEL:n`, by the crontab's label or its file's name; the

@@ -1,13 +1,16 @@
 //! The jobs of a plan, by their names and in the order of their addition.
 
-ghost use Rattle.std.specs.Prelude.{◌≡◌, ◌↔◌, ◌≤◌, ◌++◌, [], ◌∷◌, length, slice_get, IsTrue, IsNone, IsSome, IfOk, IfErr, OnOk, OnErr};
+ghost use Rattle.std.specs.Prelude.{◌≡◌, ◌↔◌, ◌≤◌, ◌<◌, ◌+◌, ◌++◌, List, [], ◌∷◌, length, slice_get, IsTrue, IsNone, IsSome, IfOk, IfErr, OnOk, OnErr};
 ghost use Rattle.std.specs.Option.{option_copied};
 ghost use Rattle.plan_rules.specs.Limits.{most_jobs};
+ghost use Rattle.plan_rules.specs.Job.{JobParts};
+ghost use Rattle.plan_rules.specs.Zone.{first_in, jobs_in};
 ghost use Rattle.plan_rules.specs.Jobs.{number_of, HaveDistinctNames, job_of};
 
 use crate::job::Job;
 use indexmap::IndexMap;
-use std::alloc::{AllocFailed, Global};
+use plan_clock::Clock;
+use std::alloc::{AllocError, AllocFailed, Global};
 use std::marker::Model;
 use thiserror::Error;
 
@@ -92,6 +95,33 @@ impl Jobs {
         ensures { result ≡ number_of name.now self.now }
     {
         self.by_name.get_index_of(name)
+    }
+
+    /// Returns the same jobs, the rule of each in the zone of a clock.
+    ///
+    /// # Errors
+    ///
+    /// Fails where memory is refused.
+    pub fn in_zone(self, alloc: Global, clock: &Clock) -> Result<Jobs, AllocError>
+        ensures { IfOk result (λ jobs. jobs ≡ jobs_in clock.now self) }
+    {
+        let mut jobs = self;
+        for number in 0..jobs.len() {
+            jobs.put_in_zone(alloc, clock, number)?;
+        }
+        Ok(jobs)
+    }
+
+    // Puts the job with a number in the zone of a clock.
+    fn put_in_zone(&mut self, alloc: Global, clock: &Clock, number: usize) -> Result<(), AllocError>
+        requires { number < length self.old }
+        ensures { OnOk result ((jobs : List JobParts) → self.old ≡ first_in clock.now number jobs
+            → self.new ≡ first_in clock.now (number + 1) jobs) }
+    {
+        let Some(job) = self.by_name.get_index_mut(number) else {
+            return Ok(());
+        };
+        job.put_in_zone(alloc, clock)
     }
 
     /// Adds a job behind the others, and answers its number.

@@ -78,6 +78,17 @@ impl ValueSet {
         }
     }
 
+    /// Returns the same set.
+    pub fn copy(&self) -> ValueSet
+        ensures { result ≡ self.now }
+    {
+        ValueSet {
+            base: self.base,
+            words: self.words,
+            used: self.used,
+        }
+    }
+
     /// Adds a value, which lies within the span of the set.
     pub fn insert(&mut self, v: u16)
         requires from { self.old.base ≤ v }

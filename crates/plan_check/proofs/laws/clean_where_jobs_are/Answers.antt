@@ -2,4 +2,4 @@ use Rattle.plan_check.proofs.CleanLemmas.{clean_law}
 use Rattle.plan_check.proofs.laws.clean_where_jobs_are.Goals as goal
 
 pub returns : goal.returns
-returns c = clean_law c.crontab_is_its_entries.ensures c.timer_is_its_entries.ensures
+returns c = λ clock. clean_law clock c.crontab_is_its_entries.ensures c.timer_is_its_entries.ensures

@@ -7,5 +7,5 @@ use Rattle.plan_check.proofs.timers.add_events.Given as goal
 -- what was found, and what is found of the events that are left, is what all events have
 abbrev pub invariant-loop-event : goal.invariant-loop-event
 invariant-loop-event l =
-    l.found.items ++ flat_map event_findings (into_iter_items l.event-iterator)
-    ≡ l.fn.found.items ++ flat_map event_findings l.fn.events.items
+    l.found.items ++ flat_map (event_findings l.clock) (into_iter_items l.event-iterator)
+    ≡ l.fn.found.items ++ flat_map (event_findings l.fn.clock) l.fn.events.items

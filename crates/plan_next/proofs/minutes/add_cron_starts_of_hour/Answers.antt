@@ -1,27 +1,25 @@
--- A step of the loop: the start's minute keeps the next one (`next-kept`), at which the rule starts next.
+-- A step of the loop: the start's minute keeps the next one (`next_minute`), at which the rule starts next.
 use Rattle.std.proofs.Common.{◌≡◌, ◌+◌, ◌-◌, ◌*◌, ◌<◌, arith, ap}
 use Rattle.std.proofs.lemmas.List.{length_push}
 use Rattle.std.specs.Prelude.{slice_index}
 use Rattle.plan_match.specs.declared.rule.Rule.TheVariants as rule
-use Rattle.plan_next.proofs.MinuteLemmas.{next-kept, IsLeastIn-next_minute}
 use Rattle.plan_next.proofs.PieceLemmas.{found_more}
+use Rattle.plan_next.proofs.PlainLemmas.{next_minute, IsLeastIn-next_minute}
 use Rattle.plan_next.proofs.minutes.add_cron_starts_of_hour.Goals as goal
 
 pub overflow_sub-later : goal.overflow_sub-later
 overflow_sub-later c =
     let so_far = c.loop.invariant in
-    let before = so_far.before in
-    let next = next-kept c.args.rule c.args.kept.now c.loop.last c.loop.minute c.requires.kept (omega (arith, c.requires.years))
-    so_far.is so_far.minute in
+    let next = next_minute c.args.rule c.args.kept.now c.args.start c.args.upto c.args.part c.loop.last c.loop.minute c.requires.years
+    c.requires.plain c.requires.kept so_far.from so_far.before so_far.is so_far.minute in
     let from = next.from in
     omega arith
 
 pub overflow_mul-later : goal.overflow_mul-later
 overflow_mul-later c =
     let so_far = c.loop.invariant in
-    let before = so_far.before in
-    let next = next-kept c.args.rule c.args.kept.now c.loop.last c.loop.minute c.requires.kept (omega (arith, c.requires.years))
-    so_far.is so_far.minute in
+    let next = next_minute c.args.rule c.args.kept.now c.args.start c.args.upto c.args.part c.loop.last c.loop.minute c.requires.years
+    c.requires.plain c.requires.kept so_far.from so_far.before so_far.is so_far.minute in
     let to = next.to in
     let unit : c.from-in-loop.result ≡ 60 = omega (arith, c.from-in-loop.ensures) in
     rw unit (omega arith)
@@ -29,23 +27,26 @@ overflow_mul-later c =
 pub overflow_add-later : goal.overflow_add-later
 overflow_add-later c =
     let so_far = c.loop.invariant in
-    let before = so_far.before in
-    let next = next-kept c.args.rule c.args.kept.now c.loop.last c.loop.minute c.requires.kept (omega (arith, c.requires.years))
-    so_far.is so_far.minute in
+    let next = next_minute c.args.rule c.args.kept.now c.args.start c.args.upto c.args.part c.loop.last c.loop.minute c.requires.years
+    c.requires.plain c.requires.kept so_far.from so_far.before so_far.is so_far.minute in
     let to = next.to in
     let unit : c.from-in-loop.result ≡ 60 = omega (arith, c.from-in-loop.ensures) in
     let years = c.requires.years in
+    let before = so_far.before in
+    let within = c.requires.plain.within in
     rw unit (omega arith)
 
 pub loop-preserved : goal.loop-preserved
 loop-preserved c =
     let so_far = c.loop.invariant in
     let before = so_far.before in
+    let within = c.requires.plain.within in
+    let started = so_far.from in
     let minute = so_far.minute in
     let many = so_far.many in
     let next = slice_index c.args.kept.now c.loop.minute in
-    let first = next-kept c.args.rule c.args.kept.now c.loop.last c.loop.minute c.requires.kept (omega (arith, c.requires.years))
-    so_far.is so_far.minute in
+    let first = next_minute c.args.rule c.args.kept.now c.args.start c.args.upto c.args.part c.loop.last c.loop.minute c.requires.years
+    c.requires.plain c.requires.kept so_far.from so_far.before so_far.is so_far.minute in
     let from = first.from in
     let to = first.to in
     let unit : c.from-in-loop.result ≡ 60 = omega (arith, c.from-in-loop.ensures) in
@@ -53,11 +54,12 @@ loop-preserved c =
     let room : next < 60 = omega (arith, c.if-next-from.false) in
     let later = c.loop.last + (next - c.loop.minute) * c.from-in-loop.result in
     let is : later ≡ c.loop.last + (next - c.loop.minute) * 60 = ap (λ n. c.loop.last + (next - c.loop.minute) * n) unit in
-    let least = IsLeastIn-next_minute c.args.rule c.loop.last c.loop.minute next later c.args.upto c.requires.years so_far.before
-    so_far.is so_far.minute first room is c.if-later-upto.false in
+    let lower = c.if-later-part.false in
+    let least = IsLeastIn-next_minute c.args.rule c.args.start c.args.upto c.args.part c.loop.last c.loop.minute next later
+    c.requires.years c.requires.plain so_far.from so_far.before so_far.is so_far.minute first room is lower in
     record {
-      from = omega (arith, so_far.from);
-      before = c.if-later-upto.false;
+      from = omega arith;
+      before = lower;
       is = least.2;
       minute = omega arith;
       many = rw c.in_ok-push.ensures.items (omega (arith, length_push c.loop.found.items later));

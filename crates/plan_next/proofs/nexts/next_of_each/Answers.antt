@@ -4,6 +4,7 @@
 use Rattle.std.proofs.Common.{◌+◌, ◌∙◌, ◌<◌, length, refl, sym, ap, arith}
 use Rattle.std.specs.Option.{option_copied}
 use Rattle.std.proofs.lemmas.Option.{slice_get_within}
+use Rattle.plan_next.proofs.ClockLemmas.{none_at}
 use Rattle.plan_next.proofs.EventsLemmas.{more_nexts, none_past}
 use Rattle.plan_next.proofs.KeptLemmas.{AreKept-more, AreLeft-more}
 use Rattle.plan_next.proofs.nexts.next_of_each.Goals as goal
@@ -28,6 +29,10 @@ loop-i-preserved c =
           }
       | in_default w ↦ absurd (omega (arith, none_past c.args.events.now c.loop-i.i (sym c.get.ensures ∙ ap option_copied w.in_default.is)))
     ]
+
+pub next_of_event-next-requires-clause-utc : goal.next_of_event-next-requires-clause-utc
+next_of_event-next-requires-clause-utc c = λ none.
+    none_at c.args.events.now c.loop-i.i c.in-Some.event.now (c.requires.utc none) (sym c.get.ensures ∙ ap option_copied c.in-Some.is)
 
 pub loop-i-init : goal.loop-i-init
 loop-i-init c = record {

@@ -6,3 +6,8 @@ pub next_of_each-requires-clause-kept : goal.next_of_each-requires-clause-kept
 next_of_each-requires-clause-kept c =
     let few : length c.in-Events.events ≤ most_kept = omega arith in
     (rw c.in-Events.is at c.requires.kept) few
+
+pub next_of_each_by_clock-requires-clause-kept : goal.next_of_each_by_clock-requires-clause-kept
+next_of_each_by_clock-requires-clause-kept c =
+    let few : length c.in-Events.events ≤ most_kept = omega arith in
+    (rw c.in-Events.is at c.requires.kept) few

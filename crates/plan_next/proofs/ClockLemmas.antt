@@ -1,0 +1,32 @@
+-- Events of which none has a clock: for `passed_by_events`, which looks at each, and for `next_of_each`, which rests on it.
+use Rattle.std.proofs.Common.{◌≡◌, ℕ, ◌+◌, ◌<◌, zero, suc, List, [], ◌∷◌, length, Some, inl, inr, refl, sym, ap, ◌∙◌, arith}
+use Rattle.std.proofs.lemmas.Bool.{cases_lt}
+use Rattle.std.specs.List.{slice_get}
+use Rattle.plan_match.specs.declared.event.Calendar.{Calendar}
+use Rattle.plan_next.specs.UtcLaws.{HaveNoClock}
+
+-- none of so many first events has one
+abbrev pub NoneBelow : List Calendar → ℕ → Type 0
+NoneBelow events i = (k : ℕ) (event : Calendar) → k < i → slice_get events k ≡ Some event → event.clock ≡ []
+
+pub none_more :
+    (events : List Calendar) (i : ℕ) (found : Calendar) → slice_get events i ≡ Some found → found.clock ≡ [] → NoneBelow events i →
+    NoneBelow events (i + 1)
+none_more events i found here none below = λ k event lt is.
+    elim (cases_lt k i) [
+      | inl before ↦ below k event before is
+      | inr after ↦
+          let same : k ≡ i = omega arith in
+          let both : Some found ≡ Some event = sym here ∙ ap (slice_get events) (sym same) ∙ is in cc
+    ]
+
+pub all_none : (events : List Calendar) → NoneBelow events (length events) → HaveNoClock events
+all_none [] below = tt
+all_none (event ∷ events) below =
+    (below 0 event (omega arith) refl, all_none events (λ k other lt is. below (suc k) other (omega arith) is))
+
+-- an event of a list of which none has one
+pub none_at : (events : List Calendar) (i : ℕ) (event : Calendar) → HaveNoClock events → slice_get events i ≡ Some event → event.clock ≡ []
+none_at [] i event none is = cc
+none_at (first ∷ events) zero event (none, rest) is = cc
+none_at (first ∷ events) (suc i) event (none, rest) is = none_at events i event rest is

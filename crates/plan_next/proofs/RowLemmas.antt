@@ -1,0 +1,319 @@
+-- Starts in a row of a clock, by what the clock shows.
+-- For `first_in_stretch` and `first_hope`. Hard is `found_in_row`: the first second that counts and matches, moved back, is the first
+-- start;
+-- one that a gap left out is made up for at the row's second.
+use Rattle.std.proofs.Common.{◌≡◌, ℕ, ◌+◌, ◌-◌, ◌<◌, ◌≤◌, zero, suc, ℤ, pos, negsuc, neg_ℤ, ◌+ℤ◌, ◌<ℤ◌, ◌≤ℤ◌, int_lt, int_le, Bool, true, false, not, ◌&&◌, ◌||◌, ◌==◌, if◌then◌else◌, max, Option, None, Some, inl, inr, refl, sym, ap, ◌∙◌, arith}
+use Rattle.std.specs.List.{list_any, range_with_len}
+use Rattle.std.specs.Option.{option_map}
+use Rattle.std.proofs.lemmas.Bool.{and_parts, cases_lt, eqb-true, eq-eqb}
+use Rattle.std.proofs.lemmas.Bool.Decides.{nat_tests}
+use Rattle.std.proofs.lemmas.Int.{by_lt_z, ints}
+use Rattle.plan_clock.specs.declared.row.Row.{Row}
+use Rattle.plan_clock.specs.Rows.{due, is_bounded, is_near, is_repeated, most_offset, natural, shown, unshown}
+use Rattle.plan_next.specs.Starts.{first_counted, passes, some_between, starts_in, NoneIn, IsFirstIn}
+
+choose : (b x y v : Bool) → (b ≡ true → x ≡ v) → (b ≡ false → y ≡ v) → (if b then x else y) ≡ v
+choose true x y v h k = h refl
+choose false x y v h k = k refl
+
+unless_no : (a x : Bool) → (a ≡ false → x ≡ false) → (not a && x) ≡ false
+unless_no true x h = refl
+unless_no false x h = h refl
+
+unless_yes : (a x : Bool) → a ≡ false → x ≡ true → (not a && x) ≡ true
+unless_yes a x fresh holds = rw (fresh, holds) refl
+
+passes-no : (test : ℕ → Bool) (z : ℤ) → ((m : ℕ) → z ≡ pos m → test m ≡ false) → passes test z ≡ false
+passes-no test (pos m) none = none m refl
+passes-no test (negsuc m) none = refl
+
+passes-holds : (test : ℕ → Bool) (z : ℤ) (m : ℕ) → z ≡ pos m → test m ≡ true → passes test z ≡ true
+passes-holds test z m is holds = ap (passes test) is ∙ holds
+
+range_no : (test : ℕ → Bool) (a n : ℕ) → NoneIn test a (a + n) → list_any test (range_with_len a n) ≡ false
+range_no test a zero none = refl
+range_no test a (suc n) none =
+    let here : test a ≡ false = none a (omega arith) (omega arith) in
+    rw here (range_no test (a + 1) n (λ k low high. none k (omega arith) (omega arith)))
+
+or_left : (a b : Bool) → a ≡ true → (a || b) ≡ true
+or_left a b h = rw h refl
+
+or_right : (a b : Bool) → b ≡ true → (a || b) ≡ true
+or_right true b h = refl
+or_right false b h = h
+
+range_yes : (test : ℕ → Bool) (a n m : ℕ) → a ≤ m → m < a + n → test m ≡ true → list_any test (range_with_len a n) ≡ true
+range_yes test a zero m low high is = absurd (omega arith)
+range_yes test a (suc n) m low high is =
+    elim (cases_lt a m) [
+      | inl before ↦ or_right (test a) _ (range_yes test (a + 1) n m (omega arith) (omega arith) is)
+      | inr after ↦ (let same : m ≡ a = omega arith in or_left (test a) _ (ap test (sym same) ∙ is))
+    ]
+
+-- what `natural` is, in words that `omega` reads
+pub natural-above : (z : ℤ) → z ≤ℤ pos (natural z)
+natural-above (pos n) = omega (arith, ints)
+natural-above (negsuc n) = omega (arith, ints)
+
+pub natural-is : (z : ℤ) → pos 0 ≤ℤ z → pos (natural z) ≡ z
+natural-is (pos n) le = refl
+natural-is (negsuc n) le = absurd (omega (arith, ints))
+
+pub natural-some : (z : ℤ) → 0 < natural z → pos (natural z) ≡ z
+natural-some (pos n) le = refl
+natural-some (negsuc n) le = absurd (omega arith)
+
+natural-le : (z : ℤ) (m : ℕ) → z ≤ℤ pos m → natural z ≤ m
+natural-le (pos n) m le = omega (arith, ints)
+natural-le (negsuc n) m le = omega arith
+
+some_between-no :
+    (test : ℕ → Bool) (a b : ℤ) → ((m : ℕ) → a ≤ℤ pos m → pos m ≤ℤ b → test m ≡ false) → some_between test a b ≡ false
+unfolding some_between
+some_between-no test a b none =
+    let above = natural-above a in
+    let some = natural-some (b +ℤ pos 1) in
+    range_no test (natural a) (natural (b +ℤ pos 1) - natural a)
+    (λ m low high. none m (omega (arith, ints)) (omega (arith, ints)))
+
+some_between-holds :
+    (test : ℕ → Bool) (a b : ℤ) (m : ℕ) → a ≤ℤ pos m → pos m ≤ℤ b → test m ≡ true → some_between test a b ≡ true
+unfolding some_between
+some_between-holds test a b m low high is =
+    let le = natural-le a m low in
+    let whole = natural-is (b +ℤ pos 1) (omega (arith, ints)) in
+    range_yes test (natural a) (natural (b +ℤ pos 1) - natural a) m le (omega (arith, ints)) is
+
+lt_is : (a b : ℤ) → int_lt a b ≡ true → a <ℤ b
+lt_is a b h = grind (arith, ints)
+
+lt_not : (a b : ℤ) → int_lt a b ≡ false → b ≤ℤ a
+lt_not a b h = grind (arith, ints)
+
+not_lt : (a b : ℤ) → b ≤ℤ a → int_lt a b ≡ false
+not_lt a b h = grind (arith, ints)
+
+cond_le : (b : Bool) (x y m : ℕ) → x ≤ m → y ≤ m → (if b then x else y) ≤ m
+cond_le true x y m h k = h
+cond_le false x y m h k = k
+
+-- the least second that counts, at the row's second and after it
+counted_here : (row : Row) (from : ℕ) → from ≡ row.second → first_counted row true from ≡ natural (due row)
+counted_here row from is = rw (eq-eqb from row.second is) refl
+
+counted_later :
+    (row : Row) (from : ℕ) → (from == row.second) ≡ false → first_counted row true from ≡ max (natural (due row)) (natural (shown row from))
+counted_later row from isnt = rw isnt refl
+
+counted_le : (row : Row) (from m : ℕ) → due row ≤ℤ pos m → shown row from ≤ℤ pos m → first_counted row true from ≤ m
+counted_le row from m low high =
+    let due_le = natural-le (due row) m low in
+    let shown_le = natural-le (shown row from) m high in
+    cond_le (from == row.second) _ _ m due_le (omega arith)
+
+by_bool : {P : Type 0} (b : Bool) → (b ≡ true → P) → (b ≡ false → P) → P
+by_bool true h k = h refl
+by_bool false h k = k refl
+
+due_counted : (row : Row) (from m : ℕ) → first_counted row true from ≤ m → due row ≤ℤ pos m
+due_counted row from m le =
+    let above = natural-above (due row) in
+    by_bool (from == row.second)
+    (λ here. (let is = counted_here row from (eqb-true from row.second here) in omega (arith, ints)))
+    (λ away. (let is = counted_later row from away in omega (arith, ints)))
+
+-- where no second that counts and is shown by then matches, n is no start
+pub reach-none :
+    (row : Row) (heeds : Bool) (test : ℕ → Bool) (from n low : ℕ) → row.second ≤ from → from ≤ n → low ≡ first_counted row heeds from →
+    ((m : ℕ) → low ≤ m → pos m ≤ℤ shown row n → test m ≡ false) → starts_in row heeds test n ≡ false
+unfolding starts_in
+reach-none row false test from n low begun after is none =
+    passes-no test (shown row n)
+    (λ m here.
+    let le = natural-le (shown row from) m (omega (arith, ints)) in
+    none m (omega arith) (omega (arith, ints)))
+reach-none row true test from n low begun after is none =
+    unless_no (is_repeated row n) _
+    (λ fresh.
+    let late = lt_not (shown row n) (due row) fresh in
+    choose (n == row.second) _ _ false
+    (λ here.
+    let same = eqb-true n row.second here in
+    let begin : from ≡ row.second = omega arith in
+    let low_is = counted_here row from begin in
+    some_between-no test (due row) (shown row n)
+    (λ m over under. let le = natural-le (due row) m over in none m (omega arith) under))
+    (λ away. passes-no test (shown row n)
+    (λ m here. let le = counted_le row from m (omega (arith, ints)) (omega (arith, ints)) in none m (omega arith) (omega (arith, ints)))))
+
+-- a second that shows one that matches is a start
+shown_starts :
+    (row : Row) (heeds : Bool) (test : ℕ → Bool) (n m : ℕ) → shown row n ≡ pos m → (heeds ≡ true → due row ≤ℤ pos m) → test m ≡ true →
+    starts_in row heeds test n ≡ true
+unfolding starts_in
+shown_starts row false test n m is fresh holds = passes-holds test (shown row n) m is holds
+shown_starts row true test n m is fresh holds =
+    let late = fresh refl in
+    unless_yes (is_repeated row n) _ (not_lt (shown row n) (due row) (omega (arith, ints)))
+    (choose (n == row.second) _ _ true
+    (λ here. some_between-holds test (due row) (shown row n) m late (omega (arith, ints)) holds)
+    (λ away. passes-holds test (shown row n) m is holds))
+
+-- and so is the row's second, where one that the gap left out matches
+made_up_starts :
+    (row : Row) (test : ℕ → Bool) (n m : ℕ) → n ≡ row.second → due row ≤ℤ pos m → pos m ≤ℤ shown row n → test m ≡ true →
+    starts_in row true test n ≡ true
+unfolding starts_in
+made_up_starts row test n m is low high holds =
+    unless_yes (is_repeated row n) _ (not_lt (shown row n) (due row) (omega (arith, ints)))
+    (choose (n == row.second) _ _ true
+    (λ here. some_between-holds test (due row) (shown row n) m low high holds)
+    (λ away. (let here = eq-eqb n row.second is in cc)))
+
+-- a match that is shown before `from` was left out by the gap with which the row begins there
+record IsMadeUp (row : Row) (heeds : Bool) (from m : ℕ) : Type 0 where
+  heeded : heeds ≡ true
+  begun : from ≡ row.second
+  counts : due row ≤ℤ pos m
+
+is_made_up :
+    (row : Row) (heeds : Bool) (from m low : ℕ) → low ≡ first_counted row heeds from → low ≤ m → pos m <ℤ shown row from →
+    IsMadeUp row heeds from m
+is_made_up row false from m low is le before =
+    let above = natural-above (shown row from) in
+    absurd (omega (arith, ints))
+is_made_up row true from m low is le before =
+    let above = natural-above (shown row from) in
+    record {
+      heeded = refl;
+      begun = by_bool (from == row.second) (λ here. eqb-true from row.second here)
+          (λ away. (let is_max = counted_later row from away in absurd (omega (arith, ints))));
+      counts = due_counted row from m (omega arith);
+    }
+
+counts : (row : Row) (heeds : Bool) (from m low : ℕ) → low ≡ first_counted row heeds from → low ≤ m → heeds ≡ true → due row ≤ℤ pos m
+counts row false from m low is le holds = absurd (cc)
+counts row true from m low is le holds = due_counted row from m (omega arith)
+
+-- the first match that counts, as the second that shows it, is the first start
+pub found_in_row :
+    (row : Row) (heeds : Bool) (test : ℕ → Bool) (from upto low high : ℕ) (answer : Option ℕ) → row.second ≤ from → from < upto →
+    low ≡ first_counted row heeds from → high ≤ natural (shown row upto) →
+    ((m : ℕ) → high ≤ m → pos m <ℤ shown row upto → test m ≡ false) → IsFirstIn test low high answer →
+    IsFirstIn (starts_in row heeds test) from upto (option_map (λ m. max (natural (unshown row m)) from) answer)
+found_in_row row heeds test from upto low high None begun part is within beyond none =
+    λ n after before.
+    reach-none row heeds test from n low begun after is
+    (λ m counted seen. elim (cases_lt m high) [
+      | inl lower ↦ none m counted lower
+      | inr higher ↦ beyond m higher (omega (arith, ints))
+    ])
+found_in_row row heeds test from upto low high (Some m) begun part is within beyond (counted, lower, holds, none) =
+    let n = natural (unshown row m) in
+    let whole = natural-some (shown row upto) in
+    let shown_before : pos m <ℤ shown row upto = omega (arith, ints) in
+    by_lt_z (pos m) (shown row from)
+    (λ before.
+    let made = is_made_up row heeds from m low is counted before in
+    let le = natural-le (unshown row m) from (omega (arith, ints)) in
+    let here : max n from ≡ from = omega arith in
+    let yields : starts_in row heeds test from ≡ true = rw made.heeded
+    (made_up_starts row test from m made.begun made.counts (omega (arith, ints)) holds) in
+    rw here (omega arith, part, yields, λ k low high. absurd (omega arith)))
+    (λ after.
+    let back = natural-is (unshown row m) (omega (arith, ints)) in
+    let shows : shown row n ≡ pos m = omega (arith, ints) in
+    let here : max n from ≡ n = omega (arith, ints) in
+    let yields : starts_in row heeds test n ≡ true = shown_starts row heeds test n m shows (counts row heeds from m low is counted) holds in
+    rw here (
+      omega (arith, ints),
+      omega (arith, ints),
+      yields,
+      λ k after_from before_it. reach-none row heeds test from k low begun after_from is (λ j over under. none j over (omega (
+        arith,
+        ints,
+      ))),
+    ))
+
+-- both offsets are at most 26 hours from UTC
+record IsNear (row : Row) : Type 0 where
+  before_from : neg_ℤ (pos most_offset) ≤ℤ row.before
+  before_to : row.before ≤ℤ pos most_offset
+  offset_from : neg_ℤ (pos most_offset) ≤ℤ row.offset
+  offset_to : row.offset ≤ℤ pos most_offset
+
+le_is : (a b : ℤ) → int_le a b ≡ true → a ≤ℤ b
+le_is a b h = grind (arith, ints)
+
+near : (row : Row) → is_bounded row ≡ true → IsNear row
+near row bounded =
+    let (before, offset) = and_parts (is_near row.before) (is_near row.offset) bounded in
+    let (before_from, before_to) = and_parts (int_le (neg_ℤ (pos most_offset)) row.before) _ before in
+    let (offset_from, offset_to) = and_parts (int_le (neg_ℤ (pos most_offset)) row.offset) _ offset in
+    record {
+      before_from = le_is _ _ before_from;
+      before_to = le_is _ _ before_to;
+      offset_from = le_is _ _ offset_from;
+      offset_to = le_is _ _ offset_to;
+    }
+
+-- where nothing that is at most 26 hours away matches, n is no start
+pub far-none :
+    (row : Row) (heeds : Bool) (test : ℕ → Bool) (n : ℕ) → is_bounded row ≡ true →
+    ((m : ℕ) → n ≤ m + most_offset → m ≤ n + most_offset → test m ≡ false) → starts_in row heeds test n ≡ false
+unfolding starts_in
+far-none row false test n bounded none =
+    let is = near row bounded in
+    let from = is.offset_from in
+    let to = is.offset_to in
+    passes-no test (shown row n) (λ m here. none m (omega (arith, ints)) (omega (arith, ints)))
+far-none row true test n bounded none =
+    let is = near row bounded in
+    let from = is.offset_from in
+    let to = is.offset_to in
+    let due_from = is.before_from in
+    unless_no (is_repeated row n) _
+    (λ fresh. choose (n == row.second) _ _ false
+    (λ here.
+    let same = eqb-true n row.second here in
+    some_between-no test (due row) (shown row n) (λ m low high. none m (omega (arith, ints)) (omega (arith, ints))))
+    (λ away. passes-no test (shown row n) (λ m here. none m (omega (arith, ints)) (omega (arith, ints)))))
+
+-- a start in a row isn't repeated where the row is heeded
+fresh_start : (row : Row) (heeds : Bool) (test : ℕ → Bool) (n : ℕ) → starts_in row heeds test n ≡ true → heeds ≡ true →
+    due row ≤ℤ shown row n
+unfolding starts_in
+fresh_start row false test n starts heeded = absurd (cc)
+fresh_start row true test n starts heeded =
+    let (fresh, rest) = and_parts (not (is_repeated row n)) _ starts in
+    by_bool (is_repeated row n) (λ again. (let isnt : not (is_repeated row n) ≡ false = rw again refl in absurd (cc)))
+    (λ fresh_too. lt_not (shown row n) (due row) fresh_too)
+
+-- after the row's second, what isn't repeated starts just where what is shown matches
+plain_in_row :
+    (row : Row) (heeds : Bool) (test : ℕ → Bool) (n : ℕ) → row.second < n → (heeds ≡ true → due row ≤ℤ shown row n) →
+    starts_in row heeds test n ≡ passes test (shown row n)
+unfolding starts_in
+plain_in_row row false test n after fresh = refl
+plain_in_row row true test n after fresh =
+    let repeated : is_repeated row n ≡ false = not_lt (shown row n) (due row) (fresh refl) in
+    let away : (n == row.second) ≡ false = grind (arith, nat_tests) in
+    rw (repeated, away) refl
+
+-- what a start after the row's second shows
+passes-is : (test : ℕ → Bool) (z : ℤ) → passes test z ≡ true → pos (natural z) ≡ z
+passes-is test (pos m) starts = refl
+passes-is test (negsuc m) starts = absurd (cc)
+
+-- from such a start on the row's starts are the matches, as far as the row goes
+pub plain_from :
+    (row : Row) (heeds : Bool) (test : ℕ → Bool) (start k : ℕ) → row.second < start → starts_in row heeds test start ≡ true →
+    starts_in row heeds test (start + k) ≡ test (natural (shown row start) + k)
+plain_from row heeds test start k after starts =
+    let fresh = fresh_start row heeds test start starts in
+    let first = plain_in_row row heeds test start after fresh in
+    let shows = passes-is test (shown row start) (sym first ∙ starts) in
+    let later : shown row (start + k) ≡ pos (natural (shown row start) + k) = omega (arith, ints) in
+    let fresh_later : (heeds ≡ true → due row ≤ℤ shown row (start + k)) = λ heeded. (let le = fresh heeded in omega (arith, ints)) in
+    plain_in_row row heeds test (start + k) (omega arith) fresh_later ∙ ap (passes test) later
