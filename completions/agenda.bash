@@ -1,5 +1,16 @@
 # Completion of agenda for bash. It asks for the package bash-completion.
 
+# Prints UTC and the names of the time zone database.
+_agenda_zones() {
+    local database=/usr/share/zoneinfo
+    echo UTC
+    if [[ -r $database/tzdata.zi ]]; then
+        awk '$1 == "Z" { print $2 } $1 == "L" { print $3 }' "$database/tzdata.zi"
+    elif [[ -r $database/zone.tab ]]; then
+        awk '!/^#/ { print $3 }' "$database/zone.tab"
+    fi
+}
+
 _agenda() {
     local cur prev words cword split
     _init_completion -s || return
@@ -28,6 +39,14 @@ _agenda() {
             _filedir
             return
             ;;
+        *:--zone)
+            if [[ $cur == [/.]* ]]; then
+                _filedir
+            else
+                mapfile -t COMPREPLY < <(compgen -W "$(_agenda_zones)" -- "$cur")
+            fi
+            return
+            ;;
         *:--planners)
             mapfile -t COMPREPLY < <(compgen -W '1 2 3 4 5 6 7 8' -- "$cur")
             return
@@ -39,7 +58,7 @@ _agenda() {
     esac
     $split && return
 
-    local sources='--crontab= --system-crontab= --cron-d= --spool= --help'
+    local sources='--zone= --crontab= --system-crontab= --cron-d= --spool= --help'
     case $command:$cur in
         :-*)
             mapfile -t COMPREPLY < <(compgen -W '--help --version' -- "$cur")
@@ -48,7 +67,7 @@ _agenda() {
             mapfile -t COMPREPLY < <(compgen -W 'next plan upcoming quiet check steps' -- "$cur")
             ;;
         next:*)
-            mapfile -t COMPREPLY < <(compgen -W '--after= --count= --cron= --calendar= --help' -- "$cur")
+            mapfile -t COMPREPLY < <(compgen -W '--after= --zone= --count= --cron= --calendar= --help' -- "$cur")
             [[ ${COMPREPLY-} == *= ]] && compopt -o nospace
             ;;
         plan:-*)

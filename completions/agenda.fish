@@ -2,6 +2,17 @@
 
 complete -c agenda -f
 
+# Prints UTC and the names of the time zone database.
+function __fish_agenda_zones
+    set -l database /usr/share/zoneinfo
+    echo UTC
+    if test -r $database/tzdata.zi
+        awk '$1 == "Z" { print $2 } $1 == "L" { print $3 }' $database/tzdata.zi
+    else if test -r $database/zone.tab
+        awk '!/^#/ { print $3 }' $database/zone.tab
+    end
+end
+
 set -l none 'not __fish_seen_subcommand_from next plan upcoming quiet check steps'
 complete -c agenda -n $none -a next -d 'Print the next starts of one rule'
 complete -c agenda -n $none -a plan -d 'Print when the jobs of crontabs and timers start'
@@ -14,6 +25,9 @@ complete -c agenda -n $none -s V -l version -d 'Print the version'
 
 set -l after '__fish_seen_subcommand_from next upcoming'
 complete -c agenda -n $after -l after -x -d 'The starts are later than this moment'
+
+set -l zone '__fish_seen_subcommand_from next plan upcoming quiet check'
+complete -c agenda -n $zone -l zone -r -F -d 'The time zone of the rules [UTC]' -a '(__fish_agenda_zones)'
 
 set -l next '__fish_seen_subcommand_from next'
 complete -c agenda -n $next -l count -x -d 'How many starts, from 1 to 1000 [1]'

@@ -44,8 +44,9 @@ Options:
   -h, --help     Print help
   -V, --version  Print version
 
-All moments are in UTC and of the years 1970 to 2999. The formats, the limits and
-what each fault line means are described in agenda(1).
+All times are in UTC and of the years 1970 to 2999. Rules are read in UTC too, or in
+the time zone that --zone names. The formats, the limits and what each error line
+means are described in agenda(1).
 
 Examples:
   agenda next --cron @daily --after 2024-01-01T00:00:00Z
@@ -61,11 +62,13 @@ words_make_help_of_next() {
   cat >"$work/words/next.text" <<'END'
 Prints the next starts of one rule
 
-Usage: agenda next --after <T> [--count <N>] (--cron <TEXT> | --calendar <TEXT>)
+Usage: agenda next --after <T> [--zone <ZONE>] [--count <N>] (--cron <TEXT> | --calendar <TEXT>)
 
 Options:
       --after <T>        The starts are later than this moment, in UTC, as
                          2024-01-01T00:00:00Z; the years are 1970 to 2999
+      --zone <ZONE>      The time zone of the rules, such as Europe/Berlin,
+                         or the path of a TZif file; UTC if it isn't given
       --count <N>        How many starts, from 1 to 1000 [default: 1]
       --cron <TEXT>      A cron rule: minute, hour, day of month, month and day
                          of week, or @hourly, @daily, @weekly, @monthly, @yearly
@@ -96,6 +99,8 @@ Options:
                             2024-01-01T00:00:00Z; the years are 1970 to 2999
       --upto <T>            The moment before which the span ends, written as that
                             of --since and no earlier
+      --zone <ZONE>         The time zone of the rules, such as Europe/Berlin,
+                            or the path of a TZif file; UTC if it isn't given
       --crontab <F>         The path of a user crontab
       --system-crontab <F>  The path of a system crontab, whose lines name a user
       --cron-d <F>          The path of a package's crontab, as /etc/cron.d/php;
@@ -134,6 +139,8 @@ Arguments:
 Options:
       --after <T>           The starts are later than this moment, in UTC, as
                             2024-01-01T00:00:00Z; the years are 1970 to 2999
+      --zone <ZONE>         The time zone of the rules, such as Europe/Berlin,
+                            or the path of a TZif file; UTC if it isn't given
       --crontab <F>         The path of a user crontab
       --system-crontab <F>  The path of a system crontab, whose lines name a user
       --cron-d <F>          The path of a package's crontab, as /etc/cron.d/php;
@@ -166,6 +173,8 @@ Options:
                             2024-01-01T00:00:00Z; the years are 1970 to 2999
       --upto <T>            The moment before which the span ends, written as that
                             of --since and no earlier
+      --zone <ZONE>         The time zone of the rules, such as Europe/Berlin,
+                            or the path of a TZif file; UTC if it isn't given
       --crontab <F>         The path of a user crontab
       --system-crontab <F>  The path of a system crontab, whose lines name a user
       --cron-d <F>          The path of a package's crontab, as /etc/cron.d/php;
@@ -203,6 +212,8 @@ Arguments:
   [TIMER]...  The path of a systemd timer's file, as backup.timer
 
 Options:
+      --zone <ZONE>         The time zone of the rules, such as Europe/Berlin,
+                            or the path of a TZif file; UTC if it isn't given
       --crontab <F>         The path of a user crontab
       --system-crontab <F>  The path of a system crontab, whose lines name a user
       --cron-d <F>          The path of a package's crontab, as /etc/cron.d/php;
@@ -323,7 +334,7 @@ words_tell_usage_of_commands() {
 error: the following required arguments were not provided:
   --after <T>
 
-Usage: agenda next --after <T> [--count <N>] (--cron <TEXT> | --calendar <TEXT>)
+Usage: agenda next --after <T> [--zone <ZONE>] [--count <N>] (--cron <TEXT> | --calendar <TEXT>)
 
 For more information, try '--help'.
 END

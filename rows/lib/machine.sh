@@ -25,7 +25,7 @@ declare -A machine_short=(
   [C]=etc/cron.d [S]=var/spool/cron/crontabs [D]=etc/systemd/system/x.target.wants
 )
 
-# The stub keeps the words that it is given, one a line, and of each file its option, the end of its path and its text. A path of the
+# The stub keeps the words that it is given, one a line, and of each file but that of a zone its option, the end of its path and its text. A path of the
 # temporary folder is written as TMP and its end. Where it is to find something, that is in each file, and in each of its lines.
 machine_write_stub() {
   cat >"$machine_folder/bin/agenda" <<'STUB'
@@ -38,7 +38,7 @@ for word in "$@"; do
     "${TMPDIR:-/tmp}"/*) echo "TMP/${word##*/}" ;;
     *) printf '%s\n' "$word" ;;
   esac >>"$MACHINE_LOG.words"
-  if [ -f "$word" ]; then
+  if [ -f "$word" ] && [ "$before" != --zone ]; then
     option=${before#--}
     [ "$option" != "$before" ] || option=timer
     { echo "== $option ${word##*/}" && cat -- "$word" && echo '<end>'; } >>"$MACHINE_LOG.texts"

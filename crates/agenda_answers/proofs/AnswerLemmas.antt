@@ -9,7 +9,7 @@ use Rattle.agenda_words.specs.declared.Ask.{Ask}
 use Rattle.agenda_words.specs.declared.UsageFault.{UsageFault}
 use Rattle.agenda_words.specs.declared.UsageFault.TheVariants as usage
 use Rattle.agenda_faults.specs.declared.faults.RunFault.TheVariants as run
-use Rattle.agenda_faults.specs.declared.faults.Failure.TheVariants.{Usage, After, Since, Upto, Span, Run, File}
+use Rattle.agenda_faults.specs.declared.faults.Failure.TheVariants.{Usage, After, Since, Upto, Span, Zone, Run, File}
 use Rattle.agenda_faults.specs.declared.faults.Failure.{Failure}
 use Rattle.agenda_sources.specs.declared.SourcePath.{SourcePath}
 use Rattle.agenda_faults.specs.declared.faults.RunFault.{RunFault}
@@ -38,6 +38,7 @@ stops_as takes_all P Q R (After fault) old new leads stops = stops
 stops_as takes_all P Q R (Since fault) old new leads stops = stops
 stops_as takes_all P Q R (Upto fault) old new leads stops = stops
 stops_as takes_all P Q R (Span fault) old new leads stops = stops
+stops_as takes_all P Q R (Zone fault) old new leads stops = stops
 stops_as takes_all P Q R (File path) old new leads stops = stops
 
 -- each text that a command wrote is one of these too

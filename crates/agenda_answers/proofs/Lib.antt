@@ -1,5 +1,6 @@
 pub mod AnswerLemmas
 pub mod CheckLemmas
+pub mod EarlyLemmas
 pub mod FileLemmas
 pub mod ScriptLemmas
 pub mod SourcesLemmas

@@ -1,6 +1,7 @@
 -- What the program answers, by what was asked of it: its status, and what both streams then hold. All of it is own.
 use Rattle.std.specs.Prelude.{◌≡◌, ⊤, ℕ, ◌<◌, ◌≤◌, ◌⊎◌, Bool, List, [], codes, Option, Result, Ok, Err}
 use Rattle.std.specs.Io.KnownBytes.{Keeps}
+use Rattle.plan_clock.specs.declared.row.Change.{Change}
 use Rattle.plan_sets.specs.Limits.{end_second}
 use Rattle.plan_sets.specs.Moment.{HasFault, moment_text_of}
 use Rattle.agenda_words.specs.declared.Ask.{Ask}
@@ -9,6 +10,7 @@ use Rattle.agenda_sources.specs.declared.Asked.{Asked}
 use Rattle.agenda_words.specs.declared.UsageFault.{UsageFault}
 use Rattle.agenda_words.specs.declared.UsageFault.TheVariants as usage
 use Rattle.agenda_words.specs.Words.{Gives, asked_by}
+use Rattle.agenda_faults.specs.declared.faults.RunFault.{RunFault}
 use Rattle.agenda_faults.specs.declared.faults.RunFault.TheVariants as run
 use Rattle.agenda_faults.specs.declared.faults.Failure.{Failure}
 use Rattle.agenda_faults.specs.declared.faults.Failure.TheVariants.{Usage, After, Since, Upto, Span, Run, File}
@@ -23,14 +25,15 @@ use Rattle.agenda_faults.specs.Faults.{refused_status, status_of}
 use Rattle.agenda_answers.specs.Files.{Held, IsHeld, IsUnsure}
 use Rattle.agenda_commands.specs.declared.Verdict.{Verdict}
 use Rattle.agenda_commands.specs.declared.Verdict.TheVariants.{Clean, Refused}
-use Rattle.agenda_commands.specs.Check.{IsTextOfCheck}
+use Rattle.agenda_commands.specs.Check.{IsTextOfCheck, RefusesCheck}
 use Rattle.agenda_commands.specs.Command.{Writes}
 use Rattle.agenda_commands.specs.Next.{IsTextOfNext, RefusesNext}
 use Rattle.agenda_commands.specs.Plan.{IsTextOfPlan, RefusesPlan}
 use Rattle.agenda_commands.specs.Quiet.{IsTextOfQuiet, RefusesQuiet}
 use Rattle.agenda_commands.specs.Script.{IsTextOfRun, RefusesRun}
 use Rattle.agenda_commands.specs.Upcoming.{IsTextOfUpcoming, RefusesUpcoming}
-use Rattle.agenda_answers.specs.Sources.{AreSourcesOf, IsGiven}
+use Rattle.agenda_answers.specs.Sources.{AreSourcesOf, IsUnreadInput}
+use Rattle.agenda_answers.specs.Zone.{HasClock, HasNoClock}
 use Rattle.plan_streams.specs.Stream.{BreaksOff, PutsOrBreaksOff}
 
 -- memory aside, the text of usage where a word of the command line isn't UTF-8
@@ -44,14 +47,27 @@ abbrev pub IsMoment : List ℕ → ℕ → Type 0
 IsMoment text moment = (moment ≤ end_second) × (text ≡ moment_text_of moment)
 
 -- what `next` prints
-abbrev pub GivesNext : List ℕ → ℕ → Asked → List ℕ → Type 0
-GivesNext after count rule text = (moment : ℕ) × IsMoment after moment × IsTextOfNext rule moment count text
+abbrev pub GivesNext : Held → List ℕ → Option (List ℕ) → ℕ → Asked → List ℕ → Type 0
+GivesNext held after zone count rule text =
+    (moment : ℕ) × (clock : List Change) × IsMoment after moment × HasClock held zone clock × IsTextOfNext clock rule moment count text
 
--- when each failure of `next` comes: the moment is looked at first
-abbrev pub FailsNext : List ℕ → ℕ → Asked → Failure → Type 0
-FailsNext after count rule (After fault) = HasFault after fault
-FailsNext after count rule (Run fault) = (moment : ℕ) × IsMoment after moment × RefusesNext rule count fault
-FailsNext after count rule failure = ⊥
+-- a command was not done, for a fault of which this is so
+abbrev pub FailsRun : (RunFault → Type 0) → Failure → Type 0
+FailsRun IsTheirs (Run fault) = IsTheirs fault
+FailsRun IsTheirs other = ⊥
+
+-- the text is that of no moment
+abbrev pub GivesNoMoment : List ℕ → Failure → Type 0
+GivesNoMoment after (After fault) = HasFault after fault
+GivesNoMoment after other = ⊥
+
+-- when each failure of `next` comes: the moment is read first, then the zone, then the count and the rule
+abbrev pub FailsNext : Held → List ℕ → Option (List ℕ) → ℕ → Asked → Failure → Type 0
+FailsNext held after zone count rule failure =
+    GivesNoMoment after failure
+    ⊎ (((moment : ℕ) × IsMoment after moment × HasNoClock held zone failure)
+    ⊎ ((moment : ℕ) × (clock : List Change) × IsMoment after moment × HasClock held zone clock
+    × FailsRun (RefusesNext clock rule count) failure))
 
 -- the span between two moments that were given
 abbrev pub IsSpan : (since upto : List ℕ) → Bounds → Type 0
@@ -68,52 +84,47 @@ GivesNoSpan since upto other = ⊥
 -- what `plan` prints
 abbrev pub GivesPlan : Held → Wanted → List ℕ → Type 0
 GivesPlan held wanted text =
-    (span : Bounds) × (sources : List Source) × IsSpan wanted.since wanted.upto span × AreSourcesOf held wanted.sources sources
-    × IsTextOfPlan sources span wanted.sizes text
+    (span : Bounds) × (clock : List Change) × (sources : List Source) × IsSpan wanted.since wanted.upto span
+    × HasClock held wanted.zone clock × AreSourcesOf held wanted.sources sources × IsTextOfPlan clock sources span wanted.sizes text
 
--- when each failure of `plan` comes: the span is looked at first, then the files are read, of which one is the failure only where it may
--- fail, then the plan is made; memory may be refused anywhere behind the span
+-- when each failure of `plan` comes: the span is read first, then the zone, then the files, then the plan is made
 abbrev pub FailsPlan : Held → Wanted → Failure → Type 0
-FailsPlan held wanted (File path) =
-    (span : Bounds) × IsSpan wanted.since wanted.upto span × IsGiven wanted.sources path × IsUnsure (held path)
-FailsPlan held wanted (Run fault) =
-    (span : Bounds) × IsSpan wanted.since wanted.upto span
-    × ((fault ≡ run.NoMemory)
-    ⊎ ((sources : List Source) × AreSourcesOf held wanted.sources sources × RefusesPlan sources span wanted.sizes fault))
-FailsPlan held wanted failure = GivesNoSpan wanted.since wanted.upto failure
+FailsPlan held wanted failure =
+    GivesNoSpan wanted.since wanted.upto failure
+    ⊎ (((span : Bounds) × IsSpan wanted.since wanted.upto span × IsUnreadInput held wanted.zone wanted.sources failure)
+    ⊎ ((span : Bounds) × (clock : List Change) × (sources : List Source) × IsSpan wanted.since wanted.upto span
+    × HasClock held wanted.zone clock × AreSourcesOf held wanted.sources sources
+    × FailsRun (RefusesPlan clock sources span wanted.sizes) failure))
 
 -- what `quiet` prints
 abbrev pub GivesQuiet : Held → Wanted → (least : ℕ) → List ℕ → Type 0
 GivesQuiet held wanted least text =
-    (span : Bounds) × (sources : List Source) × IsSpan wanted.since wanted.upto span × AreSourcesOf held wanted.sources sources
-    × IsTextOfQuiet sources span wanted.sizes least text
+    (span : Bounds) × (clock : List Change) × (sources : List Source) × IsSpan wanted.since wanted.upto span
+    × HasClock held wanted.zone clock × AreSourcesOf held wanted.sources sources
+    × IsTextOfQuiet clock sources span wanted.sizes least text
 
--- when each failure of `quiet` comes: as of `plan`
+-- when each failure of `quiet` comes: as for `plan`
 abbrev pub FailsQuiet : Held → Wanted → (least : ℕ) → Failure → Type 0
-FailsQuiet held wanted least (File path) =
-    (span : Bounds) × IsSpan wanted.since wanted.upto span × IsGiven wanted.sources path × IsUnsure (held path)
-FailsQuiet held wanted least (Run fault) =
-    (span : Bounds) × IsSpan wanted.since wanted.upto span
-    × ((fault ≡ run.NoMemory)
-    ⊎ ((sources : List Source) × AreSourcesOf held wanted.sources sources × RefusesQuiet sources span wanted.sizes least fault))
-FailsQuiet held wanted least failure = GivesNoSpan wanted.since wanted.upto failure
+FailsQuiet held wanted least failure =
+    GivesNoSpan wanted.since wanted.upto failure
+    ⊎ (((span : Bounds) × IsSpan wanted.since wanted.upto span × IsUnreadInput held wanted.zone wanted.sources failure)
+    ⊎ ((span : Bounds) × (clock : List Change) × (sources : List Source) × IsSpan wanted.since wanted.upto span
+    × HasClock held wanted.zone clock × AreSourcesOf held wanted.sources sources
+    × FailsRun (RefusesQuiet clock sources span wanted.sizes least) failure))
 
 -- what `upcoming` prints
-abbrev pub GivesUpcoming : Held → (after : List ℕ) → List SourcePath → List ℕ → Type 0
-GivesUpcoming held after paths text =
-    (moment : ℕ) × (sources : List Source) × IsMoment after moment × AreSourcesOf held paths sources × IsTextOfUpcoming sources moment text
+abbrev pub GivesUpcoming : Held → (after : List ℕ) → Option (List ℕ) → List SourcePath → List ℕ → Type 0
+GivesUpcoming held after zone paths text =
+    (moment : ℕ) × (clock : List Change) × (sources : List Source) × IsMoment after moment × HasClock held zone clock
+    × AreSourcesOf held paths sources × IsTextOfUpcoming clock sources moment text
 
--- when each failure of `upcoming` comes: the moment is looked at first, then the files are read, of which one is the failure only where
--- it may fail, then their texts; memory may be refused anywhere behind the moment
-abbrev pub FailsUpcoming : Held → (after : List ℕ) → List SourcePath → Failure → Type 0
-FailsUpcoming held after paths (After fault) = HasFault after fault
-FailsUpcoming held after paths (File path) =
-    (moment : ℕ) × IsMoment after moment × IsGiven paths path × IsUnsure (held path)
-FailsUpcoming held after paths (Run fault) =
-    (moment : ℕ) × IsMoment after moment
-    × ((fault ≡ run.NoMemory)
-    ⊎ ((sources : List Source) × AreSourcesOf held paths sources × RefusesUpcoming sources fault))
-FailsUpcoming held after paths failure = ⊥
+-- when each failure of `upcoming` comes: the moment is read first, then the zone, then the files, then their texts
+abbrev pub FailsUpcoming : Held → (after : List ℕ) → Option (List ℕ) → List SourcePath → Failure → Type 0
+FailsUpcoming held after zone paths failure =
+    GivesNoMoment after failure
+    ⊎ (((moment : ℕ) × IsMoment after moment × IsUnreadInput held zone paths failure)
+    ⊎ ((moment : ℕ) × (clock : List Change) × (sources : List Source) × IsMoment after moment × HasClock held zone clock
+    × AreSourcesOf held paths sources × FailsRun (RefusesUpcoming clock sources) failure))
 
 -- the status of a check
 abbrev pub status_on : Verdict → ℕ
@@ -121,16 +132,14 @@ status_on Clean = 0
 status_on Refused = refused_status
 
 -- what `check` prints, and the status with which it ends
-abbrev pub GivesCheck : Held → List SourcePath → (status : ℕ) → List ℕ → Type 0
-GivesCheck held paths status text =
-    (sources : List Source) × (verdict : Verdict) × AreSourcesOf held paths sources × IsTextOfCheck paths sources verdict text
-    × (status ≡ status_on verdict)
+abbrev pub GivesCheck : Held → Option (List ℕ) → List SourcePath → (status : ℕ) → List ℕ → Type 0
+GivesCheck held zone paths status text =
+    (clock : List Change) × (sources : List Source) × (verdict : Verdict) × HasClock held zone clock × AreSourcesOf held paths sources
+    × IsTextOfCheck clock paths sources verdict text × (status ≡ status_on verdict)
 
--- when each failure of `check` comes: the files are read, of which one is the failure only where it may fail; memory is refused anywhere
-abbrev pub FailsCheck : Held → List SourcePath → Failure → Type 0
-FailsCheck held paths (File path) = IsGiven paths path × IsUnsure (held path)
-FailsCheck held paths (Run run.NoMemory) = ⊤
-FailsCheck held paths failure = ⊥
+-- when each failure of `check` comes: the zone is read first, then the files; what is found of them never fails but for memory
+abbrev pub FailsCheck : Held → Option (List ℕ) → List SourcePath → Failure → Type 0
+FailsCheck held zone paths failure = IsUnreadInput held zone paths failure ⊎ FailsRun RefusesCheck failure
 
 -- what `steps` prints
 abbrev pub GivesSteps : Held → List ℕ → List ℕ → Type 0
@@ -143,33 +152,34 @@ FailsSteps held file (Run fault) = (script : List ℕ) × IsHeld (held file).byt
 FailsSteps held file failure = ⊥
 
 -- what is wanted of a plan, by what was given
-abbrev pub wanted_of : (since upto : List ℕ) → List SourcePath → Sizes → Wanted
-wanted_of since upto sources sizes = record { since = since; upto = upto; sources = sources; sizes = sizes }
+abbrev pub wanted_of : (since upto : List ℕ) → Option (List ℕ) → List SourcePath → Sizes → Wanted
+wanted_of since upto zone sources sizes = record { since = since; upto = upto; zone = zone; sources = sources; sizes = sizes }
 
 -- `plan`, by what is wanted of it
 abbrev pub asked_plan : Wanted → Ask
-asked_plan wanted = Plan wanted.since wanted.upto wanted.sources wanted.sizes
+asked_plan wanted = Plan wanted.since wanted.upto wanted.zone wanted.sources wanted.sizes
 
 -- `quiet`, by what is wanted of the plan
 abbrev pub asked_quiet : Wanted → (least : ℕ) → Ask
-asked_quiet wanted least = Quiet wanted.since wanted.upto wanted.sources wanted.sizes least
+asked_quiet wanted least = Quiet wanted.since wanted.upto wanted.zone wanted.sources wanted.sizes least
 
--- `check`, by the paths of the sources
-abbrev pub asked_check : List SourcePath → Ask
-asked_check paths = Check paths
+-- `check`, by the zone and the paths of the sources
+abbrev pub asked_check : Option (List ℕ) → List SourcePath → Ask
+asked_check zone paths = Check zone paths
 
--- `upcoming`, by the moment and the paths of the sources
-abbrev pub asked_upcoming : (after : List ℕ) → List SourcePath → Ask
-asked_upcoming after paths = Upcoming after paths
+-- `upcoming`, by the moment, the zone and the paths of the sources
+abbrev pub asked_upcoming : (after : List ℕ) → Option (List ℕ) → List SourcePath → Ask
+asked_upcoming after zone paths = Upcoming after zone paths
 
 -- what is printed for what was asked, and the status with which it ends: the text of a command, or that of help
 abbrev pub Prints : Held → Result Ask UsageFault → (status : ℕ) → List ℕ → Type 0
-Prints held (Ok (Next after count rule)) status text = (status ≡ 0) × GivesNext after count rule text
-Prints held (Ok (Plan since upto sources sizes)) status text = (status ≡ 0) × GivesPlan held (wanted_of since upto sources sizes) text
-Prints held (Ok (Upcoming after sources)) status text = (status ≡ 0) × GivesUpcoming held after sources text
-Prints held (Ok (Quiet since upto sources sizes least)) status text =
-    (status ≡ 0) × GivesQuiet held (wanted_of since upto sources sizes) least text
-Prints held (Ok (Check sources)) status text = GivesCheck held sources status text
+Prints held (Ok (Next after zone count rule)) status text = (status ≡ 0) × GivesNext held after zone count rule text
+Prints held (Ok (Plan since upto zone sources sizes)) status text =
+    (status ≡ 0) × GivesPlan held (wanted_of since upto zone sources sizes) text
+Prints held (Ok (Upcoming after zone sources)) status text = (status ≡ 0) × GivesUpcoming held after zone sources text
+Prints held (Ok (Quiet since upto zone sources sizes least)) status text =
+    (status ≡ 0) × GivesQuiet held (wanted_of since upto zone sources sizes) least text
+Prints held (Ok (Check zone sources)) status text = GivesCheck held zone sources status text
 Prints held (Ok (Steps file)) status text = (status ≡ 0) × GivesSteps held file text
 Prints held (Err (usage.Help help)) status text = (status ≡ 0) × (text ≡ help)
 Prints held (Err refusal) status text = ⊥
@@ -180,11 +190,12 @@ MayPrint held asked text = (status : ℕ) × Prints held asked status text
 
 -- when what was asked is refused: words that are no use of the program are a failure of their own, and help is never refused
 abbrev pub Refuses : Held → Result Ask UsageFault → Failure → Type 0
-Refuses held (Ok (Next after count rule)) failure = FailsNext after count rule failure
-Refuses held (Ok (Plan since upto sources sizes)) failure = FailsPlan held (wanted_of since upto sources sizes) failure
-Refuses held (Ok (Upcoming after sources)) failure = FailsUpcoming held after sources failure
-Refuses held (Ok (Quiet since upto sources sizes least)) failure = FailsQuiet held (wanted_of since upto sources sizes) least failure
-Refuses held (Ok (Check sources)) failure = FailsCheck held sources failure
+Refuses held (Ok (Next after zone count rule)) failure = FailsNext held after zone count rule failure
+Refuses held (Ok (Plan since upto zone sources sizes)) failure = FailsPlan held (wanted_of since upto zone sources sizes) failure
+Refuses held (Ok (Upcoming after zone sources)) failure = FailsUpcoming held after zone sources failure
+Refuses held (Ok (Quiet since upto zone sources sizes least)) failure =
+    FailsQuiet held (wanted_of since upto zone sources sizes) least failure
+Refuses held (Ok (Check zone sources)) failure = FailsCheck held zone sources failure
 Refuses held (Ok (Steps file)) failure = FailsSteps held file failure
 Refuses held (Err (usage.Help text)) failure = ⊥
 Refuses held (Err (usage.Usage text)) failure = failure ≡ Usage text
@@ -198,10 +209,10 @@ Stops takes_all IsText IsRefused failure old new = IsRefused failure × Keeps ol
 
 -- the paths of the sources that were given
 abbrev pub sources_of : Result Ask UsageFault → List SourcePath
-sources_of (Ok (Plan since upto sources sizes)) = sources
-sources_of (Ok (Upcoming after sources)) = sources
-sources_of (Ok (Quiet since upto sources sizes least)) = sources
-sources_of (Ok (Check sources)) = sources
+sources_of (Ok (Plan _ _ _ sources _)) = sources
+sources_of (Ok (Upcoming _ _ sources)) = sources
+sources_of (Ok (Quiet _ _ _ sources _ _)) = sources
+sources_of (Ok (Check _ sources)) = sources
 sources_of other = []
 
 -- a stream: whether it takes all, and what it held before and after

@@ -1,3 +1,4 @@
 pub mod Answer
 pub mod Files
 pub mod Sources
+pub mod Zone

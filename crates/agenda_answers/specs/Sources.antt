@@ -1,5 +1,6 @@
 -- The sources of a plan, by the paths that were given. All of it is own.
-use Rattle.std.specs.Prelude.{◌≡◌, ⊤, ℕ, List, [], ◌∷◌, Some, slice_get}
+use Rattle.std.specs.Prelude.{◌≡◌, ◌⊎◌, ⊤, ℕ, Option, List, [], ◌∷◌, Some, slice_get}
+use Rattle.plan_clock.specs.declared.row.Change.{Change}
 use Rattle.agenda_sources.specs.declared.Source.{Source}
 use Rattle.agenda_sources.specs.declared.SourcePath.{SourcePath}
 use Rattle.agenda_sources.specs.Name.{file_name}
@@ -7,6 +8,7 @@ use Rattle.agenda_faults.specs.declared.faults.RunFault.TheVariants as run
 use Rattle.agenda_faults.specs.declared.faults.Failure.{Failure}
 use Rattle.agenda_faults.specs.declared.faults.Failure.TheVariants.{File, Run}
 use Rattle.agenda_answers.specs.Files.{Held, IsFrontOf, IsUnsure}
+use Rattle.agenda_answers.specs.Zone.{HasClock, HasNoClock}
 
 -- a source that was read, with its kind and its name
 abbrev pub IsSourceOf : Held → SourcePath → Source → Type 0
@@ -33,3 +35,8 @@ IsFailureOf IsTheirs other = ⊥
 -- why sources are not read: the file of one of their paths, which may fail, or memory was refused
 abbrev pub IsUnreadIn : Held → (List ℕ → Type 0) → Failure → Type 0
 IsUnreadIn held IsTheirs failure = IsFailureOf (λ path. IsTheirs path × IsUnsure (held path)) failure
+
+-- why a zone and sources are not read: the zone is read first, then the sources in the order of their paths
+abbrev pub IsUnreadInput : Held → Option (List ℕ) → List SourcePath → Failure → Type 0
+IsUnreadInput held zone paths failure =
+    HasNoClock held zone failure ⊎ ((clock : List Change) × HasClock held zone clock × IsUnreadIn held (IsGiven paths) failure)

@@ -7,12 +7,13 @@ ghost use Rattle.agenda_faults.specs.Faults.{status_of as failure_status};
 ghost use Rattle.agenda_answers.specs.Answer.{Answers, AnswersWords, asked_plan, asked_quiet, asked_upcoming};
 ghost use Rattle.agenda_answers.specs.Answer.{FailsCheck, FailsNext, FailsPlan, FailsQuiet, FailsSteps, FailsUpcoming};
 ghost use Rattle.agenda_answers.specs.Answer.{GivesCheck, GivesNext, GivesNoSpan, GivesPlan, GivesQuiet, GivesSteps, GivesUpcoming};
-ghost use Rattle.agenda_answers.specs.Answer.{IsSpan, SaysNotUtf8, Stops, asked_check, status_on};
+ghost use Rattle.agenda_answers.specs.Answer.{GivesNoMoment, IsMoment, IsSpan, SaysNotUtf8, Stops, asked_check, status_on};
 ghost use Rattle.agenda_commands.specs.Command.{Writes};
 ghost use Rattle.plan_streams.specs.Stream.{PutsOrBreaksOff};
 
 use crate::files::{Files, read_file};
-use crate::sources::read_sources;
+use crate::sources::read_input;
+use crate::zone::read_clock;
 use agenda_commands::{
     Verdict, run_check, run_next, run_plan, run_quiet, run_script, run_upcoming,
 };
@@ -28,11 +29,12 @@ use std::io::ErrorKind;
 use std::sync::Wait;
 use std::thread::Threads;
 
-// What is wanted of a plan: the texts of two moments, the paths of its sources, and its sizes.
+// What is wanted of a plan: the texts of two moments and of the zone, the paths of its sources, and its sizes.
 #[derive(Drop)]
 struct Wanted {
     since: Text,
     upto: Text,
+    zone: Option<Text>,
     sources: SourcePaths,
     sizes: Sizes,
 }
@@ -80,13 +82,22 @@ pub fn answer<R: Threads + Wait + Sync, F: Files, O: Stream, E: Stream>(
         (record { takes_all = E.takes_all; old = E.holds err.old; new = E.holds err.new }) }
 {
     match asked {
-        Ok(Ask::Next { after, count, rule }) => {
-            status_of(next(alloc, &after, count, &rule, out), &[], err)
+        Ok(
+            Ask::Next {
+                after,
+                zone,
+                count,
+                rule,
+            },
+        ) => {
+            let done = next(alloc, &after, &zone, count, &rule, files, out);
+            status_of(done, &[], err)
         }
         Ok(
             Ask::Plan {
                 since,
                 upto,
+                zone,
                 sources,
                 sizes,
             },
@@ -94,18 +105,24 @@ pub fn answer<R: Threads + Wait + Sync, F: Files, O: Stream, E: Stream>(
             let wanted = Wanted {
                 since,
                 upto,
+                zone,
                 sources,
                 sizes,
             };
             answer_plan(rt, alloc, &wanted, files, out, err)
         }
-        Ok(Ask::Upcoming { after, sources }) => {
-            answer_upcoming(alloc, &after, &sources, files, out, err)
-        }
+        Ok(
+            Ask::Upcoming {
+                after,
+                zone,
+                sources,
+            },
+        ) => answer_upcoming(alloc, &after, &zone, &sources, files, out, err),
         Ok(
             Ask::Quiet {
                 since,
                 upto,
+                zone,
                 sources,
                 sizes,
                 least,
@@ -114,12 +131,15 @@ pub fn answer<R: Threads + Wait + Sync, F: Files, O: Stream, E: Stream>(
             let wanted = Wanted {
                 since,
                 upto,
+                zone,
                 sources,
                 sizes,
             };
             answer_quiet(rt, alloc, &wanted, least, files, out, err)
         }
-        Ok(Ask::Check { sources }) => answer_check(alloc, &sources, files, out, err),
+        Ok(Ask::Check { zone, sources }) => {
+            answer_check(alloc, &zone, &sources, files, out, err)
+        }
         Ok(Ask::Steps { file }) => status_of(steps(alloc, file, files, out), &[], err),
         Err(UsageFault::Help(text)) => status_of(help(&text, out), &[], err),
         Err(UsageFault::Usage(text)) => status_of(Err(Failure::Usage(text)), &[], err),
@@ -162,16 +182,17 @@ fn answer_plan<R: Threads + Wait + Sync, F: Files, O: Stream, E: Stream>(
 fn answer_upcoming<F: Files, O: Stream, E: Stream>(
     alloc: Global,
     after: &Text,
+    zone: &Option<Text>,
     sources: &SourcePaths,
     files: &mut F,
     out: &mut O,
     err: &mut E,
 ) -> u8
-    ensures { Answers (F.held files.old) (Ok (asked_upcoming after.now sources.now)) result
+    ensures { Answers (F.held files.old) (Ok (asked_upcoming after.now zone.now sources.now)) result
         (record { takes_all = O.takes_all; old = O.holds out.old; new = O.holds out.new })
         (record { takes_all = E.takes_all; old = E.holds err.old; new = E.holds err.new }) }
 {
-    let done = upcoming(alloc, after, sources, files, out);
+    let done = upcoming(alloc, after, zone, sources, files, out);
     status_of(done, sources.as_slice(), err)
 }
 
@@ -196,16 +217,17 @@ fn answer_quiet<R: Threads + Wait + Sync, F: Files, O: Stream, E: Stream>(
 // The answer to `check`.
 fn answer_check<F: Files, O: Stream, E: Stream>(
     alloc: Global,
+    zone: &Option<Text>,
     sources: &SourcePaths,
     files: &mut F,
     out: &mut O,
     err: &mut E,
 ) -> u8
-    ensures { Answers (F.held files.old) (Ok (asked_check sources.now)) result
+    ensures { Answers (F.held files.old) (Ok (asked_check zone.now sources.now)) result
         (record { takes_all = O.takes_all; old = O.holds out.old; new = O.holds out.new })
         (record { takes_all = E.takes_all; old = E.holds err.old; new = E.holds err.new }) }
 {
-    match check(alloc, sources.as_slice(), files, out) {
+    match check(alloc, zone, sources.as_slice(), files, out) {
         Ok(Verdict::Clean) => DONE,
         Ok(Verdict::Refused) => REFUSED,
         Err(failure) => fault_line(&failure, sources.as_slice(), err),
@@ -225,22 +247,22 @@ fn status_of<S: Stream>(done: Result<(), Failure>, sources: &[SourcePath], err: 
 }
 
 // The command `next`.
-fn next<S: Stream>(
+fn next<F: Files, S: Stream>(
     alloc: Global,
     after: &Text,
+    zone: &Option<Text>,
     count: u32,
     rule: &Asked,
+    files: &mut F,
     out: &mut S,
 ) -> Result<(), Failure>
-    ensures done { OnOk result (Writes (GivesNext after.now count rule.now) (S.holds out.old) (S.holds out.new)) }
-    ensures failed { IfErr result (λ failure. Stops S.takes_all (GivesNext after.now count rule.now) (FailsNext after.now count rule.now)
-        failure (S.holds out.old) (S.holds out.new)) }
+    ensures done { OnOk result (Writes (GivesNext (F.held files.old) after.now zone.now count rule.now) (S.holds out.old) (S.holds out.new)) }
+    ensures failed { IfErr result (λ failure. Stops S.takes_all (GivesNext (F.held files.old) after.now zone.now count rule.now)
+        (FailsNext (F.held files.old) after.now zone.now count rule.now) failure (S.holds out.old) (S.holds out.new)) }
 {
-    let moment = match read_moment(after.as_str()) {
-        Ok(moment) => moment,
-        Err(fault) => return Err(Failure::After(fault)),
-    };
-    match run_next(alloc, rule, moment, u64::from(count), out) {
+    let moment = moment_after(after)?;
+    let clock = read_clock(alloc, files, zone)?;
+    match run_next(alloc, rule, &clock, moment, u64::from(count), out) {
         Ok(()) => Ok(()),
         Err(fault) => Err(Failure::Run(fault)),
     }
@@ -259,8 +281,16 @@ fn plan<R: Threads + Wait + Sync, F: Files, S: Stream>(
         (FailsPlan (F.held files.old) wanted.now) failure (S.holds out.old) (S.holds out.new)) }
 {
     let span = span_between(&wanted.since, &wanted.upto)?;
-    let sources = read_sources(alloc, files, wanted.sources.as_slice())?;
-    match run_plan(rt, alloc, &sources, span, wanted.sizes, out) {
+    let input = read_input(alloc, files, &wanted.zone, wanted.sources.as_slice())?;
+    match run_plan(
+        rt,
+        alloc,
+        &input.sources,
+        &input.clock,
+        span,
+        wanted.sizes,
+        out,
+    ) {
         Ok(()) => Ok(()),
         Err(fault) => Err(Failure::Run(fault)),
     }
@@ -270,20 +300,18 @@ fn plan<R: Threads + Wait + Sync, F: Files, S: Stream>(
 fn upcoming<F: Files, S: Stream>(
     alloc: Global,
     after: &Text,
+    zone: &Option<Text>,
     paths: &SourcePaths,
     files: &mut F,
     out: &mut S,
 ) -> Result<(), Failure>
-    ensures done { OnOk result (Writes (GivesUpcoming (F.held files.old) after.now paths.now) (S.holds out.old) (S.holds out.new)) }
-    ensures failed { IfErr result (λ failure. Stops S.takes_all (GivesUpcoming (F.held files.old) after.now paths.now)
-        (FailsUpcoming (F.held files.old) after.now paths.now) failure (S.holds out.old) (S.holds out.new)) }
+    ensures done { OnOk result (Writes (GivesUpcoming (F.held files.old) after.now zone.now paths.now) (S.holds out.old) (S.holds out.new)) }
+    ensures failed { IfErr result (λ failure. Stops S.takes_all (GivesUpcoming (F.held files.old) after.now zone.now paths.now)
+        (FailsUpcoming (F.held files.old) after.now zone.now paths.now) failure (S.holds out.old) (S.holds out.new)) }
 {
-    let moment = match read_moment(after.as_str()) {
-        Ok(moment) => moment,
-        Err(fault) => return Err(Failure::After(fault)),
-    };
-    let sources = read_sources(alloc, files, paths.as_slice())?;
-    match run_upcoming(alloc, &sources, moment, out) {
+    let moment = moment_after(after)?;
+    let input = read_input(alloc, files, zone, paths.as_slice())?;
+    match run_upcoming(alloc, &input.sources, &input.clock, moment, out) {
         Ok(()) => Ok(()),
         Err(fault) => Err(Failure::Run(fault)),
     }
@@ -303,8 +331,17 @@ fn quiet<R: Threads + Wait + Sync, F: Files, S: Stream>(
         (FailsQuiet (F.held files.old) wanted.now least) failure (S.holds out.old) (S.holds out.new)) }
 {
     let span = span_between(&wanted.since, &wanted.upto)?;
-    let sources = read_sources(alloc, files, wanted.sources.as_slice())?;
-    match run_quiet(rt, alloc, &sources, span, wanted.sizes, least, out) {
+    let input = read_input(alloc, files, &wanted.zone, wanted.sources.as_slice())?;
+    match run_quiet(
+        rt,
+        alloc,
+        &input.sources,
+        &input.clock,
+        span,
+        wanted.sizes,
+        least,
+        out,
+    ) {
         Ok(()) => Ok(()),
         Err(fault) => Err(Failure::Run(fault)),
     }
@@ -313,19 +350,31 @@ fn quiet<R: Threads + Wait + Sync, F: Files, S: Stream>(
 // The command `check`.
 fn check<F: Files, S: Stream>(
     alloc: Global,
+    zone: &Option<Text>,
     paths: &[SourcePath],
     files: &mut F,
     out: &mut S,
 ) -> Result<Verdict, Failure>
-    ensures done { IfOk result (λ verdict. Writes (GivesCheck (F.held files.old) paths.now (status_on verdict))
+    ensures done { IfOk result (λ verdict. Writes (GivesCheck (F.held files.old) zone.now paths.now (status_on verdict))
         (S.holds out.old) (S.holds out.new)) }
-    ensures failed { IfErr result (λ failure. Stops S.takes_all (λ text. (status : ℕ) × GivesCheck (F.held files.old) paths.now status text)
-        (FailsCheck (F.held files.old) paths.now) failure (S.holds out.old) (S.holds out.new)) }
+    ensures failed { IfErr result (λ failure. Stops S.takes_all (λ text. (status : ℕ) × GivesCheck (F.held files.old) zone.now paths.now status text)
+        (FailsCheck (F.held files.old) zone.now paths.now) failure (S.holds out.old) (S.holds out.new)) }
 {
-    let sources = read_sources(alloc, files, paths)?;
-    match run_check(alloc, paths, &sources, out) {
+    let input = read_input(alloc, files, zone, paths)?;
+    match run_check(alloc, paths, &input.sources, &input.clock, out) {
         Ok(verdict) => Ok(verdict),
         Err(fault) => Err(Failure::Run(fault)),
+    }
+}
+
+// The moment after which starts are wanted.
+fn moment_after(after: &Text) -> Result<u64, Failure>
+    ensures moment { IfOk result (IsMoment after.now) }
+    ensures none { IfErr result (GivesNoMoment after.now) }
+{
+    match read_moment(after.as_str()) {
+        Ok(moment) => Ok(moment),
+        Err(fault) => Err(Failure::After(fault)),
     }
 }
 

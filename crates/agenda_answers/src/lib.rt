@@ -7,7 +7,8 @@
 mod answers;
 mod files;
 mod sources;
+mod zone;
 
 pub use answers::{answer, answer_words, unread_words};
 pub use files::{Files, OpenFile, read_file};
-pub use sources::read_sources;
+pub use sources::{Input, read_input};

@@ -2,19 +2,51 @@
 
 ghost use Rattle.std.specs.Prelude.{◌≡◌, IfErr, IfOk};
 ghost use Rattle.agenda_answers.specs.Files.{IsFrontOf};
-ghost use Rattle.agenda_answers.specs.Sources.{AreSourcesOf, IsFailureOf, IsGiven, IsSourceOf, IsUnreadIn};
+ghost use Rattle.agenda_answers.specs.Sources.{AreSourcesOf, IsFailureOf, IsGiven, IsSourceOf, IsUnreadIn, IsUnreadInput};
+ghost use Rattle.agenda_answers.specs.Zone.{HasClock};
 
 use crate::files::{Files, read_file};
+use crate::zone::read_clock;
 use agenda_faults::{Failure, RunFault};
 use agenda_sources::{Bytes, Source, SourcePath, Sources, file_name};
+use plan_clock::Clock;
 use plan_rules::Text;
 use std::alloc::Global;
 use std::io::ErrorKind;
 
-/// Reads the sources of these paths, in order, each path once.
+/// What jobs are made of: their sources, and the clock of the zone in which their rules are read.
+#[derive(Drop)]
+pub struct Input {
+    /// The clock of the zone.
+    pub clock: Clock,
+    /// The sources, in the order of their paths.
+    pub sources: Sources,
+}
+
+/// Reads the clock of the zone that a text gives, then the sources of these paths, in order, each path once.
 ///
-/// `File` with the first path that can't be opened or read, or `Run(NoMemory)`.
-pub fn read_sources<F: Files>(
+/// # Errors
+///
+/// Those of `read_clock`, then `File` with the first path that can't be opened or read, or `Run(NoMemory)`.
+pub fn read_input<F: Files>(
+    alloc: Global,
+    files: &mut F,
+    zone: &Option<Text>,
+    paths: &[SourcePath],
+) -> Result<Input, Failure>
+    ensures clock { IfOk result (λ input. HasClock (F.held files.old) zone.now input.clock) }
+    ensures sources { IfOk result (λ input. AreSourcesOf (F.held files.old) paths.now input.sources) }
+    ensures unread { IfErr result (IsUnreadInput (F.held files.old) zone.now paths.now) }
+{
+    let clock = read_clock(alloc, files, zone)?;
+    let sources = read_sources(alloc, files, paths)?;
+    Ok(Input { clock, sources })
+}
+
+// Reads the sources of these paths, in order, each path once.
+//
+// `File` with the first path that can't be opened or read, or `Run(NoMemory)`.
+fn read_sources<F: Files>(
     alloc: Global,
     files: &mut F,
     paths: &[SourcePath],

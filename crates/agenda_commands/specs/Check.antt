@@ -5,6 +5,7 @@ use Rattle.plan_grammar.specs.Causes.{rule_cause}
 use Rattle.plan_rules.specs.Causes.{line_cause}
 use Rattle.plan_rules.specs.declared.LineCause.{LineCause}
 use Rattle.plan_rules.specs.declared.LineCause.TheVariants.{Rule}
+use Rattle.plan_clock.specs.declared.row.Change.{Change}
 use Rattle.plan_check.specs.Finding.{note_name}
 use Rattle.plan_check.specs.declared.Finding.{Finding}
 use Rattle.plan_check.specs.declared.What.{What}
@@ -64,9 +65,9 @@ verdict_of true = verdict.Clean
 verdict_of false = verdict.Refused
 
 -- what is printed for sources: all findings; something is refused exactly where the sources make no list of jobs
-abbrev pub IsTextOfCheck : List SourcePath → List Source → Verdict → List ℕ → Type 0
-IsTextOfCheck paths sources verdict text =
-    (text ≡ check_text paths (sources_findings sources)) × (verdict ≡ verdict_of (is_ok (sources_reading sources)))
+abbrev pub IsTextOfCheck : List Change → List SourcePath → List Source → Verdict → List ℕ → Type 0
+IsTextOfCheck clock paths sources verdict text =
+    (text ≡ check_text paths (sources_findings clock sources)) × (verdict ≡ verdict_of (is_ok (sources_reading sources)))
 
 -- when that is refused: for want of memory alone
 abbrev pub RefusesCheck : RunFault → Type 0

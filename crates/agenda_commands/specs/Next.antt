@@ -3,10 +3,13 @@ use Rattle.std.specs.Prelude.{◌≡◌, ℕ, ◌+◌, ◌≤◌, nat_lt, if◌t
 use Rattle.std.specs.List.{flat_map}
 use Rattle.plan_sets.specs.Limits.{end_second}
 use Rattle.plan_sets.specs.Moment.{moment_text_of}
+use Rattle.plan_clock.specs.declared.row.Change.{Change}
+use Rattle.plan_match.specs.Zone.{rule_in}
 use Rattle.plan_rules.specs.declared.Rule.{Rule}
 use Rattle.plan_rules.specs.Cron.{cron_reading}
 use Rattle.plan_rules.specs.Event.{event_rule_reading}
 use Rattle.plan_rules.specs.Readings.{Reading}
+use Rattle.plan_texts.specs.Steps.{◌>>=◌}
 use Rattle.plan_next.specs.Starts.{starts}
 use Rattle.agenda_sources.specs.declared.Asked.{Asked}
 use Rattle.agenda_sources.specs.declared.Asked.TheVariants.{Cron, Event}
@@ -26,10 +29,16 @@ starts_text count moments =
 abbrev pub next_text : Rule → (after count : ℕ) → List ℕ
 next_text rule after count = starts_text count (take count (starts rule (after + 1) end_second))
 
--- the rule that a text asks about
-abbrev pub asked_reading : Asked → Reading Rule
-asked_reading (Cron text) = cron_reading text
-asked_reading (Event text) = event_rule_reading text
+-- the rule that a text asks about, in UTC unless it names a zone
+abbrev pub asked_rule : Asked → Reading Rule
+asked_rule (Cron text) = cron_reading text
+asked_rule (Event text) = event_rule_reading text
+
+-- the same by the clock of a zone
+abbrev pub asked_reading : List Change → Asked → Reading Rule
+asked_reading clock asked = do
+  rule ← asked_rule asked
+  Ok (rule_in clock rule)
 
 -- how many starts may be asked for at most (own)
 abbrev pub most_starts : ℕ
@@ -40,13 +49,13 @@ abbrev pub IsCount : ℕ → Type 0
 IsCount count = (1 ≤ count) × (count ≤ most_starts)
 
 -- the text of next starts of the rule that was asked about
-abbrev pub IsTextOfNext : Asked → (after count : ℕ) → List ℕ → Type 0
-IsTextOfNext asked after count text =
-    IsCount count × ((rule : Rule) × (asked_reading asked ≡ Ok rule) × (text ≡ next_text rule after count))
+abbrev pub IsTextOfNext : List Change → Asked → (after count : ℕ) → List ℕ → Type 0
+IsTextOfNext clock asked after count text =
+    IsCount count × ((rule : Rule) × (asked_reading clock asked ≡ Ok rule) × (text ≡ next_text rule after count))
 
 -- when `next` is refused: the count is looked at first, then the rule (own)
-abbrev pub RefusesNext : Asked → ℕ → RunFault → Type 0
-RefusesNext asked count BadCount = IsCount count → ⊥
-RefusesNext asked count (BadRule fault) = IsCount count × (asked_reading asked ≡ Err fault)
-RefusesNext asked count NoMemory = IsCount count
-RefusesNext asked count other = ⊥
+abbrev pub RefusesNext : List Change → Asked → ℕ → RunFault → Type 0
+RefusesNext clock asked count BadCount = IsCount count → ⊥
+RefusesNext clock asked count (BadRule fault) = IsCount count × (asked_reading clock asked ≡ Err fault)
+RefusesNext clock asked count NoMemory = IsCount count
+RefusesNext clock asked count other = ⊥

@@ -1,5 +1,6 @@
 -- What a plan writes. All of it is own.
 use Rattle.std.specs.Prelude.{◌≡◌, ⊤, ℕ, ◌<◌, ◌≤◌, true, false, List, length, Ok, Err}
+use Rattle.plan_clock.specs.declared.row.Change.{Change}
 use Rattle.plan_rules.specs.Job.{JobParts}
 use Rattle.plan_mailbox.specs.Mailbox.{is_size}
 use Rattle.plan_collect.specs.Agenda.{agenda, planned, rules_of}
@@ -10,7 +11,7 @@ use Rattle.plan_collect.specs.declared.CollectFault.TheVariants as collect
 use Rattle.plan_collect.specs.declared.PlanFault.{PlanFault}
 use Rattle.plan_collect.specs.declared.PlanFault.TheVariants as plan
 use Rattle.plan_collect.specs.declared.Sizes.{Sizes}
-use Rattle.agenda_sources.specs.Sources.{sources_reading}
+use Rattle.agenda_sources.specs.Sources.{jobs_reading}
 use Rattle.agenda_sources.specs.declared.Source.{Source}
 use Rattle.agenda_sources.specs.declared.SourceFault.{SourceFault}
 use Rattle.agenda_faults.specs.declared.faults.RunFault.{RunFault}
@@ -26,10 +27,10 @@ MakePlan jobs span sizes =
 abbrev pub IsTextFor : List JobParts → Bounds → Sizes → List ℕ → Type 0
 IsTextFor jobs span sizes text = MakePlan jobs span sizes × (text ≡ agenda_text (planned (rules_of jobs) span) jobs)
 
--- what is printed for sources: the agenda of their jobs
-abbrev pub IsTextOfPlan : List Source → Bounds → Sizes → List ℕ → Type 0
-IsTextOfPlan sources span sizes text =
-    (jobs : List JobParts) × (sources_reading sources ≡ Ok jobs) × IsTextFor jobs span sizes text
+-- what is printed for sources: the agenda of their jobs, by the clock of a zone
+abbrev pub IsTextOfPlan : List Change → List Source → Bounds → Sizes → List ℕ → Type 0
+IsTextOfPlan clock sources span sizes text =
+    (jobs : List JobParts) × (jobs_reading clock sources ≡ Ok jobs) × IsTextFor jobs span sizes text
 
 -- when the agenda of jobs is refused: first for the sizes, then for the limit, then for its entries
 abbrev pub RefusesJobs : PlanFault → List JobParts → Bounds → Sizes → Type 0
@@ -40,9 +41,9 @@ RefusesJobs (plan.Collect collect.TooMany) jobs span sizes =
 RefusesJobs other jobs span sizes = ⊥
 
 -- when a plan is refused: the sources are read first, whose fault is that of the plan, then their jobs are planned
-abbrev pub RefusesPlan : List Source → Bounds → Sizes → RunFault → Type 0
-RefusesPlan sources span sizes NoMemory = ⊤
-RefusesPlan sources span sizes (Plan fault) =
-    (jobs : List JobParts) × (sources_reading sources ≡ Ok jobs) × RefusesJobs fault jobs span sizes
-RefusesPlan sources span sizes fault =
-    (found : SourceFault) × (sources_reading sources ≡ Err found) × (fault ≡ fault_of_sources found)
+abbrev pub RefusesPlan : List Change → List Source → Bounds → Sizes → RunFault → Type 0
+RefusesPlan clock sources span sizes NoMemory = ⊤
+RefusesPlan clock sources span sizes (Plan fault) =
+    (jobs : List JobParts) × (jobs_reading clock sources ≡ Ok jobs) × RefusesJobs fault jobs span sizes
+RefusesPlan clock sources span sizes fault =
+    (found : SourceFault) × (jobs_reading clock sources ≡ Err found) × (fault ≡ fault_of_sources found)

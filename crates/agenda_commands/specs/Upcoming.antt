@@ -1,8 +1,9 @@
 -- What is written of the next starts of jobs. All of it is own.
 use Rattle.std.specs.Prelude.{◌≡◌, ⊤, ℕ, List, Ok, Err}
+use Rattle.plan_clock.specs.declared.row.Change.{Change}
 use Rattle.plan_rules.specs.Job.{JobParts}
 use Rattle.plan_write.specs.Upcoming.{AreUpcoming, upcoming_text}
-use Rattle.agenda_sources.specs.Sources.{sources_reading}
+use Rattle.agenda_sources.specs.Sources.{jobs_reading}
 use Rattle.agenda_sources.specs.declared.Source.{Source}
 use Rattle.agenda_sources.specs.declared.SourceFault.{SourceFault}
 use Rattle.agenda_faults.specs.declared.faults.RunFault.{RunFault}
@@ -10,13 +11,13 @@ use Rattle.agenda_faults.specs.declared.faults.RunFault.TheVariants.{NoMemory}
 use Rattle.agenda_faults.specs.Faults.{fault_of_sources}
 
 -- what is printed for sources: when each of their jobs starts next
-abbrev pub IsTextOfUpcoming : List Source → (after : ℕ) → List ℕ → Type 0
-IsTextOfUpcoming sources after text =
-    (jobs : List JobParts) × (sources_reading sources ≡ Ok jobs)
+abbrev pub IsTextOfUpcoming : List Change → List Source → (after : ℕ) → List ℕ → Type 0
+IsTextOfUpcoming clock sources after text =
+    (jobs : List JobParts) × (jobs_reading clock sources ≡ Ok jobs)
     × ((nexts : List (ℕ × ℕ)) × AreUpcoming jobs after nexts × (text ≡ upcoming_text nexts jobs))
 
 -- when that is refused: only where the sources are, whose fault it is
-abbrev pub RefusesUpcoming : List Source → RunFault → Type 0
-RefusesUpcoming sources NoMemory = ⊤
-RefusesUpcoming sources fault =
-    (found : SourceFault) × (sources_reading sources ≡ Err found) × (fault ≡ fault_of_sources found)
+abbrev pub RefusesUpcoming : List Change → List Source → RunFault → Type 0
+RefusesUpcoming clock sources NoMemory = ⊤
+RefusesUpcoming clock sources fault =
+    (found : SourceFault) × (jobs_reading clock sources ≡ Err found) × (fault ≡ fault_of_sources found)

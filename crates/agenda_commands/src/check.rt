@@ -11,6 +11,7 @@ use agenda_faults::RunFault;
 use agenda_sources::{Found, SourcePath, Sources, findings_of_sources};
 use itoa::Buffer as Digits;
 use plan_check::{Finding, What};
+use plan_clock::Clock;
 use plan_rules::LineCause;
 use plan_streams::Stream;
 use std::alloc::{AllocError, Global};
@@ -33,13 +34,14 @@ pub fn run_check<S: Stream>(
     alloc: Global,
     paths: &[SourcePath],
     sources: &Sources,
+    clock: &Clock,
     out: &mut S,
 ) -> Result<Verdict, RunFault>
-    ensures written { IfOk result (λ verdict. Writes (IsTextOfCheck paths.now sources.now verdict) (S.holds out.old) (S.holds out.new)) }
-    ensures refused { IfErr result (λ fault. Fails S.takes_all (λ text. text ≡ check_text paths.now (sources_findings sources.now))
+    ensures written { IfOk result (λ verdict. Writes (IsTextOfCheck clock.now paths.now sources.now verdict) (S.holds out.old) (S.holds out.new)) }
+    ensures refused { IfErr result (λ fault. Fails S.takes_all (λ text. text ≡ check_text paths.now (sources_findings clock.now sources.now))
         RefusesCheck fault (S.holds out.old) (S.holds out.new)) }
 {
-    let found = findings_of_sources(alloc, sources)?;
+    let found = findings_of_sources(alloc, sources, clock)?;
     let text = check_text(alloc, paths, found.as_slice())?;
     out.put(text.as_slice())?;
     Ok(verdict_on(found.as_slice()))

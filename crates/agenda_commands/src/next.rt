@@ -2,11 +2,12 @@
 
 ghost use Rattle.std.specs.Prelude.{◌≡◌, IfOk, IfErr, OnOk};
 ghost use Rattle.agenda_commands.specs.Command.{Fails, Writes};
-ghost use Rattle.agenda_commands.specs.Next.{next_text, IsTextOfNext, RefusesNext, IsCount, asked_reading};
+ghost use Rattle.agenda_commands.specs.Next.{next_text, IsTextOfNext, RefusesNext, IsCount, asked_reading, asked_rule};
 ghost use Rattle.plan_rules.specs.Readings.{Gives};
 
 use agenda_faults::RunFault;
 use agenda_sources::Asked;
+use plan_clock::Clock;
 use plan_next::next_start;
 use plan_rules::{Rule, RuleFault, calendar_rule, cron_rule};
 use plan_sets::moment_text;
@@ -24,12 +25,13 @@ pub const MOST_STARTS: u64 = 1_000;
 pub fn run_next<S: Stream>(
     alloc: Global,
     asked: &Asked,
+    clock: &Clock,
     after: u64,
     count: u64,
     out: &mut S,
 ) -> Result<(), RunFault>
-    ensures written { OnOk result (Writes (IsTextOfNext asked.now after count) (S.holds out.old) (S.holds out.new)) }
-    ensures refused { IfErr result (λ fault. Fails S.takes_all (IsTextOfNext asked.now after count) (RefusesNext asked.now count) fault
+    ensures written { OnOk result (Writes (IsTextOfNext clock.now asked.now after count) (S.holds out.old) (S.holds out.new)) }
+    ensures refused { IfErr result (λ fault. Fails S.takes_all (IsTextOfNext clock.now asked.now after count) (RefusesNext clock.now asked.now count) fault
         (S.holds out.old) (S.holds out.new)) }
 
     // A bad count is found before anything else, and before memory is asked for.
@@ -38,15 +40,23 @@ pub fn run_next<S: Stream>(
     if count == 0 || count > MOST_STARTS {
         return Err(RunFault::BadCount);
     }
-    let rule = asked_rule(alloc, asked)?;
+    let rule = zoned_rule(alloc, asked, clock)?;
     let text = starts_text(alloc, &rule, after, count)?;
     out.put(text.as_slice())?;
     Ok(())
 }
 
-// The rule that was asked about.
+// The rule that was asked about, by the clock of a zone.
+fn zoned_rule(alloc: Global, asked: &Asked, clock: &Clock) -> Result<Rule, RuleFault>
+    ensures { Gives result (asked_reading clock.now asked.now) }
+{
+    let rule = asked_rule(alloc, asked)?;
+    Ok(rule.in_zone(alloc, clock)?)
+}
+
+// The rule that was asked about, in UTC unless it names a zone.
 fn asked_rule(alloc: Global, asked: &Asked) -> Result<Rule, RuleFault>
-    ensures { Gives result (asked_reading asked.now) }
+    ensures { Gives result (asked_rule asked.now) }
 {
     match asked {
         Asked::Cron(text) => cron_rule(alloc, text.as_str()),

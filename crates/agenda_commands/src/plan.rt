@@ -8,6 +8,7 @@ ghost use Rattle.agenda_commands.specs.Plan.{IsTextOfPlan, RefusesPlan};
 
 use agenda_faults::RunFault;
 use agenda_sources::{Sources, jobs_of_sources};
+use plan_clock::Clock;
 use plan_collect::{Sizes, Span};
 use plan_streams::Stream;
 use plan_threads::{NoGate, plan};
@@ -28,18 +29,19 @@ pub fn run_plan<R: Threads + Wait + Sync, S: Stream>(
     rt: &R,
     alloc: Global,
     sources: &Sources,
+    clock: &Clock,
     span: Span,
     sizes: Sizes,
     out: &mut S,
 ) -> Result<(), RunFault>
-    ensures written { OnOk result (Writes (IsTextOfPlan sources.now span sizes) (S.holds out.old) (S.holds out.new)) }
-    ensures refused { IfErr result (λ fault. Fails S.takes_all (IsTextOfPlan sources.now span sizes) (RefusesPlan sources.now span sizes) fault
-        (S.holds out.old) (S.holds out.new)) }
+    ensures written { OnOk result (Writes (IsTextOfPlan clock.now sources.now span sizes) (S.holds out.old) (S.holds out.new)) }
+    ensures refused { IfErr result (λ fault. Fails S.takes_all (IsTextOfPlan clock.now sources.now span sizes)
+        (RefusesPlan clock.now sources.now span sizes) fault (S.holds out.old) (S.holds out.new)) }
 
     // These are found before any memory is asked for.
     ensures at_once { IfSome (fault_at_once sources.now) (λ fault. result ≡ Err (fault_of_sources fault)) }
 {
-    let jobs = jobs_of_sources(alloc, sources)?;
+    let jobs = jobs_of_sources(alloc, sources, clock)?;
     let agenda = plan(rt, alloc, &jobs, span, sizes, &NoGate)?;
     write_agenda(&agenda, &jobs, out)?;
     Ok(())

@@ -8,6 +8,7 @@ ghost use Rattle.agenda_commands.specs.Quiet.{IsTextOfQuiet, RefusesQuiet};
 
 use agenda_faults::RunFault;
 use agenda_sources::{Sources, jobs_of_sources};
+use plan_clock::Clock;
 use plan_collect::{Sizes, Span};
 use plan_streams::Stream;
 use plan_threads::{NoGate, plan};
@@ -25,14 +26,15 @@ pub fn run_quiet<R: Threads + Wait + Sync, S: Stream>(
     rt: &R,
     alloc: Global,
     sources: &Sources,
+    clock: &Clock,
     span: Span,
     sizes: Sizes,
     least: u32,
     out: &mut S,
 ) -> Result<(), RunFault>
-    ensures written { OnOk result (Writes (IsTextOfQuiet sources.now span sizes least) (S.holds out.old) (S.holds out.new)) }
-    ensures refused { IfErr result (λ fault. Fails S.takes_all (IsTextOfQuiet sources.now span sizes least)
-        (RefusesQuiet sources.now span sizes least) fault (S.holds out.old) (S.holds out.new)) }
+    ensures written { OnOk result (Writes (IsTextOfQuiet clock.now sources.now span sizes least) (S.holds out.old) (S.holds out.new)) }
+    ensures refused { IfErr result (λ fault. Fails S.takes_all (IsTextOfQuiet clock.now sources.now span sizes least)
+        (RefusesQuiet clock.now sources.now span sizes least) fault (S.holds out.old) (S.holds out.new)) }
 
     // These are found before any memory is asked for.
     ensures bad_least { least ≡ 0 → result ≡ Err RunFault.BadLeast }
@@ -41,7 +43,7 @@ pub fn run_quiet<R: Threads + Wait + Sync, S: Stream>(
     if least == 0 {
         return Err(RunFault::BadLeast);
     }
-    let jobs = jobs_of_sources(alloc, sources)?;
+    let jobs = jobs_of_sources(alloc, sources, clock)?;
     let agenda = plan(rt, alloc, &jobs, span, sizes, &NoGate)?;
     write_quiet(&agenda, u64::from(least), out)?;
     Ok(())

@@ -8,6 +8,7 @@ ghost use Rattle.agenda_commands.specs.Upcoming.{IsTextOfUpcoming, RefusesUpcomi
 
 use agenda_faults::RunFault;
 use agenda_sources::{Sources, jobs_of_sources};
+use plan_clock::Clock;
 use plan_streams::Stream;
 use plan_write::{Upcoming, write_upcoming};
 use std::alloc::Global;
@@ -21,17 +22,18 @@ use std::alloc::Global;
 pub fn run_upcoming<S: Stream>(
     alloc: Global,
     sources: &Sources,
+    clock: &Clock,
     after: u64,
     out: &mut S,
 ) -> Result<(), RunFault>
-    ensures written { OnOk result (Writes (IsTextOfUpcoming sources.now after) (S.holds out.old) (S.holds out.new)) }
-    ensures refused { IfErr result (λ fault. Fails S.takes_all (IsTextOfUpcoming sources.now after) (RefusesUpcoming sources.now) fault
+    ensures written { OnOk result (Writes (IsTextOfUpcoming clock.now sources.now after) (S.holds out.old) (S.holds out.new)) }
+    ensures refused { IfErr result (λ fault. Fails S.takes_all (IsTextOfUpcoming clock.now sources.now after) (RefusesUpcoming clock.now sources.now) fault
         (S.holds out.old) (S.holds out.new)) }
 
     // These are found before any memory is asked for.
     ensures at_once { IfSome (fault_at_once sources.now) (λ fault. result ≡ Err (fault_of_sources fault)) }
 {
-    let jobs = jobs_of_sources(alloc, sources)?;
+    let jobs = jobs_of_sources(alloc, sources, clock)?;
     let upcoming = Upcoming::new(alloc, &jobs, after)?;
     write_upcoming(&upcoming, &jobs, out)?;
     Ok(())

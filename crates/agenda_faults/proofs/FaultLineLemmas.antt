@@ -1,5 +1,5 @@
 -- The lines of faults whose cause is known not to be a want of memory: for `put_rule_fault`, `put_script_fault`,
--- `put_source_rule_fault`, `put_source_fault` and `put_collect_fault`, in their last branch. By the cases of the cause:
+-- `put_source_rule_fault`, `put_source_fault`, `put_collect_fault` and `put_zone_fault`, in their last branch. By the cases of the cause:
 -- `NoMemory` is ruled out, and `Rule` for the line of a source. For each other one the definition computes.
 use Rattle.std.proofs.Common.{◌≡◌, ◌≢◌, ℕ, List, ◌++◌, codes, decimal, refl, sym}
 use Rattle.plan_rules.specs.declared.RuleCause.{RuleCause}
@@ -15,7 +15,10 @@ use Rattle.agenda_script.specs.Causes.{script_cause}
 use Rattle.plan_collect.specs.Causes.{collect_cause}
 use Rattle.plan_grammar.specs.Causes.{rule_cause}
 use Rattle.plan_rules.specs.Causes.{line_cause}
-use Rattle.agenda_faults.specs.FaultLines.{collect_line, rule_line, script_line, source_line, source_rule_line, text_of_line, text_of_part}
+use Rattle.agenda_faults.specs.FaultLines.{collect_line, rule_line, script_line, source_line, source_rule_line, text_of_line, text_of_part, zone_line}
+use Rattle.plan_zones.specs.declared.zone_fault.ZoneFault.{ZoneFault}
+use Rattle.plan_zones.specs.declared.zone_fault.ZoneFault.TheVariants as zone
+use Rattle.plan_zones.specs.Zones.{zone_fault_name}
 
 pub rule_line-refused :
     (part : ℕ) (refused : RuleCause) → refused ≢ cause.NoMemory →
@@ -80,3 +83,14 @@ pub collect_line-text :
     (refused : CollectFault) (name : List ℕ) → refused ≢ collect.NoMemory → name ≡ collect_cause refused →
     codes "agenda: plan: " ++ (name ++ codes "\n") ≡ collect_line refused
 collect_line-text refused name not name_is = rw name_is (sym (collect_line-refused refused not))
+
+-- the line of a zone that can't be used
+zone_line-refused :
+    (refused : ZoneFault) → refused ≢ zone.NoMemory → zone_line refused ≡ codes "agenda: zone: " ++ (zone_fault_name refused ++ codes "\n")
+zone_line-refused zone.NoMemory not = absurd (not refl)
+zone_line-refused other not = refl
+
+pub zone_line-text :
+    (refused : ZoneFault) (name : List ℕ) → refused ≢ zone.NoMemory → name ≡ zone_fault_name refused →
+    codes "agenda: zone: " ++ (name ++ codes "\n") ≡ zone_line refused
+zone_line-text refused name not name_is = rw name_is (sym (zone_line-refused refused not))

@@ -7,7 +7,7 @@ use Rattle.agenda_script.specs.declared.fault.ScriptCause.TheVariants as script
 use Rattle.agenda_faults.specs.declared.faults.RunFault.{RunFault}
 use Rattle.agenda_faults.specs.declared.faults.RunFault.TheVariants.{NoMemory, BadCount, Rule, InSource, SameName, Full, Plan, Script, Device, BadLeast}
 use Rattle.agenda_faults.specs.declared.faults.Failure.{Failure}
-use Rattle.agenda_faults.specs.declared.faults.Failure.TheVariants.{Usage, After, Since, Upto, Span, Run, File}
+use Rattle.agenda_faults.specs.declared.faults.Failure.TheVariants.{Usage, After, Since, Upto, Span, Zone, Run, File}
 use Rattle.plan_rules.specs.declared.LineCause.{LineCause}
 use Rattle.plan_rules.specs.declared.LineCause.TheVariants as on_line
 use Rattle.plan_collect.specs.declared.CollectFault.{CollectFault}
@@ -19,6 +19,9 @@ use Rattle.plan_collect.specs.Causes.{span_cause, collect_cause}
 use Rattle.plan_grammar.specs.Causes.{rule_cause}
 use Rattle.plan_rules.specs.Causes.{line_cause}
 use Rattle.plan_sets.specs.Causes.{moment_cause}
+use Rattle.plan_zones.specs.declared.zone_fault.ZoneFault.{ZoneFault}
+use Rattle.plan_zones.specs.declared.zone_fault.ZoneFault.TheVariants as zone
+use Rattle.plan_zones.specs.Zones.{zone_fault_name}
 use Rattle.agenda_sources.specs.Name.{file_name}
 use Rattle.agenda_sources.specs.Kind.{label_of}
 use Rattle.agenda_sources.specs.declared.SourcePath.{SourcePath}
@@ -100,6 +103,11 @@ run_line sources (Script fault) = script_line fault.line fault.cause
 run_line sources Device = codes "agenda: Device\n"
 run_line sources BadLeast = codes "agenda: quiet: BadLeast\n"
 
+-- a zone that can't be used; running out of memory has no name of its own here
+abbrev pub zone_line : ZoneFault → List ℕ
+zone_line zone.NoMemory = memory_line
+zone_line refused = codes "agenda: zone: " ++ (zone_fault_name refused ++ codes "\n")
+
 -- what standard error gets: the text of usage as it is, or one line
 abbrev pub fault_text : List SourcePath → Failure → List ℕ
 fault_text sources (Usage text) = text
@@ -107,5 +115,6 @@ fault_text sources (After fault) = codes "agenda: after: " ++ (moment_cause faul
 fault_text sources (Since fault) = codes "agenda: since: " ++ (moment_cause fault ++ codes "\n")
 fault_text sources (Upto fault) = codes "agenda: upto: " ++ (moment_cause fault ++ codes "\n")
 fault_text sources (Span fault) = codes "agenda: span: " ++ (span_cause fault ++ codes "\n")
+fault_text sources (Zone fault) = zone_line fault
 fault_text sources (Run fault) = run_line sources fault
 fault_text sources (File path) = codes "agenda: " ++ (path ++ codes ": Device\n")

@@ -6,7 +6,7 @@ use Rattle.plan_rules.specs.declared.RuleCause.TheVariants as cause
 use Rattle.agenda_faults.specs.declared.faults.RunFault.{RunFault}
 use Rattle.agenda_faults.specs.declared.faults.RunFault.TheVariants.{NoMemory, BadCount, Rule, InSource, SameName, Full, Plan, Script, Device, BadLeast}
 use Rattle.agenda_faults.specs.declared.faults.Failure.{Failure}
-use Rattle.agenda_faults.specs.declared.faults.Failure.TheVariants.{Usage, After, Since, Upto, Span, Run, File}
+use Rattle.agenda_faults.specs.declared.faults.Failure.TheVariants.{Usage, After, Since, Upto, Span, Zone, Run, File}
 use Rattle.plan_rules.specs.declared.LineCause.{LineCause}
 use Rattle.plan_rules.specs.declared.LineCause.TheVariants as line
 use Rattle.plan_collect.specs.declared.CollectFault.{CollectFault}
@@ -15,6 +15,8 @@ use Rattle.plan_collect.specs.declared.PlanFault.{PlanFault}
 use Rattle.plan_collect.specs.declared.PlanFault.TheVariants as plan
 use Rattle.agenda_sources.specs.declared.SourceFault.{SourceFault}
 use Rattle.agenda_sources.specs.declared.SourceFault.TheVariants as source
+use Rattle.plan_zones.specs.declared.zone_fault.ZoneFault.{ZoneFault}
+use Rattle.plan_zones.specs.declared.zone_fault.ZoneFault.TheVariants as zone
 use Rattle.agenda_script.specs.declared.fault.ScriptCause.{ScriptCause}
 use Rattle.agenda_script.specs.declared.fault.ScriptCause.TheVariants as script
 use Rattle.agenda_script.specs.declared.fault.ScriptFault.{ScriptFault}
@@ -48,6 +50,11 @@ fault_of_sources source.Full = Full
 abbrev pub fault_of_plan : PlanFault → RunFault
 fault_of_plan plan.NoMemory = NoMemory
 fault_of_plan fault = Plan fault
+
+-- the failure of a zone that can't be used: running out of memory is always the same error (agenda)
+abbrev pub failure_of_zone : ZoneFault → Failure
+failure_of_zone zone.NoMemory = Run NoMemory
+failure_of_zone fault = Zone fault
 
 -- input, a size, a count or a limit was refused (own)
 abbrev pub refused_status : ℕ
@@ -89,6 +96,11 @@ plan_status (plan.NotSettled unsettled) = failed_status
 plan_status (plan.Collect fault) = collect_status fault
 plan_status other = refused_status
 
+-- running out of memory for a zone is running out of memory (agenda)
+abbrev pub zone_status : ZoneFault → ℕ
+zone_status zone.NoMemory = failed_status
+zone_status other = refused_status
+
 -- the status of a run that failed (own)
 abbrev pub run_status : RunFault → ℕ
 run_status NoMemory = failed_status
@@ -109,5 +121,6 @@ status_of (After fault) = refused_status
 status_of (Since fault) = refused_status
 status_of (Upto fault) = refused_status
 status_of (Span fault) = refused_status
+status_of (Zone fault) = zone_status fault
 status_of (Run fault) = run_status fault
 status_of (File path) = failed_status

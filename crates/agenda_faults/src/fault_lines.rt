@@ -4,7 +4,7 @@ ghost use Rattle.std.specs.Prelude.{◌≡◌, ◌≤◌, ◌++◌, IfSome, code
 ghost use Rattle.std.specs.List.{flat_map};
 ghost use Rattle.agenda_faults.specs.Faults.{status_of};
 ghost use Rattle.agenda_faults.specs.FaultLines.{collect_line, fault_text, name_of, plan_line, rule_line, run_line};
-ghost use Rattle.agenda_faults.specs.FaultLines.{script_line, source_line, source_name, source_rule_line, text_of_line, text_of_part};
+ghost use Rattle.agenda_faults.specs.FaultLines.{script_line, source_line, source_name, source_rule_line, text_of_line, text_of_part, zone_line};
 ghost use Rattle.plan_streams.specs.Stream.{Puts, PutsOrBreaksOff};
 
 use crate::faults::{Failure, RunFault};
@@ -14,6 +14,7 @@ use itoa::Buffer;
 use plan_collect::{CollectFault, PlanFault};
 use plan_rules::{LineCause, LineFault, RuleCause, RuleFault};
 use plan_streams::{Stream, WriteFault};
+use plan_zones::ZoneFault;
 
 // How many bytes of a line go out by one write: all but those with a very long path.
 const LINE_ROOM: usize = 1_024;
@@ -63,6 +64,7 @@ fn put_failure<S: Stream>(
         Failure::Span(cause) => {
             put_joined(&[b"agenda: span: ", cause.name().as_bytes(), b"\n"], stream)
         }
+        Failure::Zone(fault) => put_zone_fault(*fault, stream),
         Failure::Run(fault) => put_run_fault(fault, sources, stream),
         Failure::File(path) => {
             put_joined(
@@ -137,6 +139,16 @@ fn put_plan_fault<S: Stream>(fault: PlanFault, stream: &mut S) -> Result<(), Wri
         PlanFault::Collect(fault) => put_collect_fault(fault, stream),
         PlanFault::NotSettled(_) => stream.put(b"agenda: NotSettled\n"),
         PlanFault::BadLimit => stream.put(b"agenda: plan: BadLimit\n"),
+    }
+}
+
+// Writes the line of a zone that can't be used.
+fn put_zone_fault<S: Stream>(fault: ZoneFault, stream: &mut S) -> Result<(), WriteFault>
+    ensures { Puts S.takes_all result (S.holds stream.old) (S.holds stream.new) (zone_line fault) }
+{
+    match fault {
+        ZoneFault::NoMemory => stream.put(MEMORY_LINE),
+        fault => put_joined(&[b"agenda: zone: ", fault.name().as_bytes(), b"\n"], stream),
     }
 }
 

@@ -1,7 +1,7 @@
 //! Why the program fails, and the status with which it then ends.
 
 ghost use Rattle.std.specs.Prelude.{◌≡◌};
-ghost use Rattle.agenda_faults.specs.Faults.{line_status, plan_status, rule_status, script_status};
+ghost use Rattle.agenda_faults.specs.Faults.{line_status, plan_status, rule_status, script_status, zone_status};
 
 use agenda_script::{ScriptCause, ScriptFault};
 use agenda_sources::SourceFault;
@@ -9,6 +9,7 @@ use plan_collect::{CollectFault, PlanFault, SpanFault};
 use plan_rules::{LineCause, LineFault, RuleCause, RuleFault, Text};
 use plan_sets::MomentFault;
 use plan_streams::WriteFault;
+use plan_zones::ZoneFault;
 use std::alloc::{AllocError, AllocFailed};
 use thiserror::Error;
 
@@ -154,6 +155,8 @@ pub enum Failure {
     Upto(MomentFault),
     /// The moments of `--since` and `--upto` bound no span.
     Span(SpanFault),
+    /// The zone of `--zone` can't be used.
+    Zone(ZoneFault),
     /// The command was not done.
     Run(RunFault),
     /// The file with this path can't be opened or read.
@@ -184,6 +187,21 @@ impl<T: Drop> From<AllocFailed<T>> for Failure {
     }
 }
 
+// Running out of memory for a zone is always the same failure.
+impl From<ZoneFault> for Failure {
+    ghost use Rattle.std.specs.Prelude.{◌≡◌};
+    ghost use Rattle.agenda_faults.specs.Faults.{failure_of_zone};
+
+    ghost from_gives = { λ fault failure. failure ≡ failure_of_zone fault };
+
+    fn from(fault: ZoneFault) -> Failure {
+        match fault {
+            ZoneFault::NoMemory => Failure::Run(RunFault::NoMemory),
+            fault => Failure::Zone(fault),
+        }
+    }
+}
+
 // The status where input, a size, a count or a limit was refused.
 const REFUSED: u8 = 1;
 
@@ -204,6 +222,7 @@ impl Failure {
         match self {
             Failure::Usage(_) => USAGE,
             Failure::After(_) | Failure::Since(_) | Failure::Upto(_) | Failure::Span(_) => REFUSED,
+            Failure::Zone(fault) => zone_status(*fault),
             Failure::Run(fault) => fault.status(),
             Failure::File(_) => FAILED,
         }
@@ -259,6 +278,16 @@ fn plan_status(fault: PlanFault) -> u8
         PlanFault::NoMemory
         | PlanFault::NotSettled(_)
         | PlanFault::Collect(CollectFault::NoMemory) => FAILED,
+        _ => REFUSED,
+    }
+}
+
+// The status of a zone that can't be used.
+fn zone_status(fault: ZoneFault) -> u8
+    ensures { result ≡ zone_status fault }
+{
+    match fault {
+        ZoneFault::NoMemory => FAILED,
         _ => REFUSED,
     }
 }

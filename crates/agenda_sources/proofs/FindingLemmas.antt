@@ -15,6 +15,7 @@ use Rattle.plan_rules.specs.LineFaults.{TextReading}
 use Rattle.plan_check.specs.declared.finding.Finding.{Finding}
 use Rattle.plan_check.specs.Files.{File, after_file, file_findings, file_reading, files_findings, files_names, names_by, names_then, names_with}
 use Rattle.plan_check.specs.Finding.{is_clean}
+use Rattle.plan_clock.specs.declared.row.Change.{Change}
 use Rattle.plan_check.specs.Names.{KnownNames, is_added, no_names}
 use Rattle.agenda_sources.specs.declared.findings.Found.{Found}
 use Rattle.agenda_sources.specs.declared.kind.SourceKind.{SourceKind}
@@ -144,15 +145,17 @@ same_from place (source ∷ more) jobs =
 -- ---- the law
 
 pub clean_sources :
-    ((files : List File) → is_clean (files_findings no_names files) ≡ is_some (files_names [] files)) → (sources : List Source) →
-    is_all_clean (sources_findings sources) ≡ is_ok (sources_reading sources)
-clean_sources law sources = ap is_clean (found_files 0 no_names sources) ∙ law (files_of sources) ∙ same_from 0 sources []
+    ((clock : List Change) (files : List File) → is_clean (files_findings (no_names clock) files) ≡ is_some (files_names [] files)) →
+    (clock : List Change) (sources : List Source) → is_all_clean (sources_findings clock sources) ≡ is_ok (sources_reading sources)
+clean_sources law clock sources =
+    ap is_clean (found_files 0 (no_names clock) sources) ∙ law clock (files_of sources) ∙ same_from 0 sources []
 
 -- the same of findings that were made
 pub clean_made :
-    ((files : List File) → is_clean (files_findings no_names files) ≡ is_some (files_names [] files)) → (sources : List Source) →
-    (found : List Found) → found ≡ sources_findings sources → is_all_clean found ≡ is_ok (sources_reading sources)
-clean_made law sources found is = ap is_all_clean is ∙ clean_sources law sources
+    ((clock : List Change) (files : List File) → is_clean (files_findings (no_names clock) files) ≡ is_some (files_names [] files)) →
+    (clock : List Change) (sources : List Source) (found : List Found) → found ≡ sources_findings clock sources →
+    is_all_clean found ≡ is_ok (sources_reading sources)
+clean_made law clock sources found is = ap is_all_clean is ∙ clean_sources law clock sources
 
 -- ---- the loop
 

@@ -6,3 +6,4 @@ mod NameLemmas
 mod SlashLemmas
 mod SourceFaults
 mod FindingLemmas
+pub mod ZonedLemmas

@@ -1,5 +1,6 @@
 -- What is found of sources, one after another. All of it is own.
 use Rattle.std.specs.Prelude.{ℕ, ◌+◌, Bool, List, [], ◌∷◌, ◌++◌, map}
+use Rattle.plan_clock.specs.declared.row.Change.{Change}
 use Rattle.plan_check.specs.declared.finding.Finding.{Finding}
 use Rattle.plan_check.specs.Files.{File, file_findings, after_file}
 use Rattle.plan_check.specs.Finding.{is_clean}
@@ -23,9 +24,9 @@ found_from place known (source ∷ more) =
     map (found_at place) (file_findings known (source_file source))
     ++ found_from (place + 1) (after_file known (source_file source)) more
 
--- of all of them
-abbrev pub sources_findings : List Source → List Found
-sources_findings sources = found_from 0 no_names sources
+-- of all of them, whose jobs start by the clock of a zone
+abbrev pub sources_findings : List Change → List Source → List Found
+sources_findings clock sources = found_from 0 (no_names clock) sources
 
 -- whether nothing is refused
 abbrev pub is_all_clean : List Found → Bool

@@ -1,9 +1,11 @@
 -- The jobs that the sources of a plan make, or the first fault of the sources. All of it is own.
 use Rattle.std.specs.Prelude.{ℕ, ◌+◌, nat_lt, if◌then◌else◌, List, [], ◌∷◌, ◌++◌, length, is_some, Ok, Err}
+use Rattle.plan_clock.specs.declared.row.Change.{Change}
 use Rattle.plan_texts.specs.Steps.{◌>>=◌}
 use Rattle.plan_rules.specs.Limits.{most_jobs}
 use Rattle.plan_rules.specs.Job.{JobParts}
 use Rattle.plan_rules.specs.Jobs.{number_of}
+use Rattle.plan_rules.specs.Zone.{jobs_in}
 use Rattle.agenda_sources.specs.declared.sources.Source.{Source}
 use Rattle.agenda_sources.specs.declared.fault.SourceFault.TheVariants.{SameName, Full}
 use Rattle.agenda_sources.specs.Faults.{SourceReading, in_source}
@@ -44,3 +46,14 @@ sources_from place jobs (source ∷ more) = do
 -- all of them
 abbrev pub sources_reading : List Source → SourceReading (List JobParts)
 sources_reading sources = sources_from 0 [] sources
+
+-- jobs in the zone of a clock; in UTC they are as they were read
+abbrev pub zoned : List Change → List JobParts → List JobParts
+zoned [] jobs = jobs
+zoned (first ∷ more) jobs = jobs_in (first ∷ more) jobs
+
+-- the same jobs in the zone of a clock
+abbrev pub jobs_reading : List Change → List Source → SourceReading (List JobParts)
+jobs_reading clock sources = do
+  jobs ← sources_reading sources
+  Ok (zoned clock jobs)

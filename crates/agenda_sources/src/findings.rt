@@ -7,6 +7,7 @@ ghost use Rattle.agenda_sources.specs.Sources.{sources_reading};
 
 use crate::sources::{Source, Sources};
 use plan_check::{Finding, Names, clean_where_jobs_are};
+use plan_clock::Clock;
 use std::alloc::{AllocError, Global};
 
 /// What is found of one of several sources.
@@ -19,14 +20,18 @@ pub struct Found {
 }
 
 /// All findings of sources, in the order of the sources: of each what is found of the whole file and then by lines, as
-/// `crontab_findings`, `tab_findings` and `timer_findings` of plan_check find it. It fails where memory is refused.
-pub fn findings_of_sources(alloc: Global, sources: &Sources) -> Result<Vec<Found>, AllocError>
-    ensures found { IfOk result (λ found. found.items ≡ sources_findings sources.now) }
+/// `crontab_findings`, `tab_findings` and `timer_findings` of plan_check find it, by the clock of a zone. It fails where memory is refused.
+pub fn findings_of_sources(
+    alloc: Global,
+    sources: &Sources,
+    clock: &Clock,
+) -> Result<Vec<Found>, AllocError>
+    ensures found { IfOk result (λ found. found.items ≡ sources_findings clock.now sources.now) }
     // Nothing is refused exactly where the sources make a list of jobs, as `jobs_of_sources` makes it.
     ensures clean { IfOk result (λ found. is_all_clean found.items ≡ is_ok (sources_reading sources.now)) }
 {
     clean_where_jobs_are();
-    let mut names = Names::new(alloc);
+    let mut names = Names::new(alloc, clock.try_clone()?);
     let mut found = Vec::new(alloc);
     let sources = sources.as_slice();
     for (place, source) in sources.iter().enumerate() {

@@ -5,20 +5,44 @@ ghost use Rattle.plan_texts.specs.Steps.{GivesUnless};
 ghost use Rattle.plan_rules.specs.Limits.{most_jobs};
 ghost use Rattle.agenda_sources.specs.AtOnce.{fault_at_once, source_at_once};
 ghost use Rattle.agenda_sources.specs.Faults.{IsOwnFault};
-ghost use Rattle.agenda_sources.specs.Sources.{with_job, with_jobs, with_source, sources_reading};
+ghost use Rattle.agenda_sources.specs.Sources.{jobs_reading, with_job, with_jobs, with_source, sources_reading};
 
 use crate::fault::SourceFault;
 use crate::sources::{Source, Sources};
+use plan_clock::Clock;
 use plan_rules::{AddFault, Job, Jobs};
 use std::alloc::Global;
 
-/// The jobs that sources make, in the order of the sources: those of a crontab's lines, and one of each timer.
+/// Returns the jobs that sources make, in the order of the sources: those of a crontab's lines, and one of each timer. Their rules go by
+/// the clock of a zone.
 ///
 /// Each source's jobs are added before the next source is read, and the first fault is the answer: `InSource` for the first fault of a
 /// source, as `crontab`, `tab` and `timer` find it; `SameName` where another job has a job's name; `Full` where there are more than
 /// 1,000 jobs; `NoMemory`, also in place of one that stands in a source's fault, but never in place of a fault of the first source that
 /// is found before its lines are read: `BadTabName`, `BadTimerName`, `TooLarge` and `NotUtf8`.
-pub fn jobs_of_sources(alloc: Global, sources: &Sources) -> Result<Jobs, SourceFault>
+pub fn jobs_of_sources(alloc: Global, sources: &Sources, clock: &Clock) -> Result<Jobs, SourceFault>
+    ensures meaning { GivesUnless SourceFault.NoMemory (λ jobs. jobs) result (jobs_reading clock.now sources.now) }
+    ensures own_fault { IfErr result IsOwnFault }
+
+    // These are found before any memory is asked for.
+    ensures at_once { IfSome (fault_at_once sources.now) (λ fault. result ≡ Err fault) }
+    ensures no_source { sources.now ≡ [] → result ≡ Ok [] }
+{
+    let jobs = read_jobs(alloc, sources)?;
+    if clock.is_utc() {
+        return Ok(jobs);
+    }
+    if jobs.is_empty() {
+        return Ok(jobs);
+    }
+    match jobs.in_zone(alloc, clock) {
+        Ok(jobs) => Ok(jobs),
+        Err(_) => Err(SourceFault::NoMemory),
+    }
+}
+
+// The same jobs, whatever the zone.
+fn read_jobs(alloc: Global, sources: &Sources) -> Result<Jobs, SourceFault>
     ensures meaning { GivesUnless SourceFault.NoMemory (λ jobs. jobs) result (sources_reading sources.now) }
     ensures own_fault { IfErr result IsOwnFault }
 

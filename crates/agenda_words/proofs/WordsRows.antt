@@ -1,7 +1,7 @@
 -- Worked rows of the command line, by the definition of what its words ask for.
 -- They answer no function, but try `asked_by`, which is unfolded with clap's definitions and computed. One row holds of
 -- any two plain words (`any_moment_and_rule`): it rests on how clap reads them.
-use Rattle.std.proofs.Common.{◌≡◌, List, ℕ, [], ◌∷◌, false, None, Ok, Err, codes, refl}
+use Rattle.std.proofs.Common.{◌≡◌, List, ℕ, [], ◌∷◌, false, None, Some, Ok, Err, codes, refl}
 use Rattle.std.specs.Str.{bytes_eq}
 use Rattle.clap.specs.Lexer.{long_of, short_of}
 use Rattle.clap.proofs.OnLiterals.{clap_on_literals}
@@ -22,22 +22,35 @@ abbrev next_with : List (List ℕ) → List (List ℕ)
 next_with words = codes "agenda" ∷ codes "next" ∷ codes "--after" ∷ moment ∷ words
 
 -- both values and the number
-four_starts : asked_by (next_with (codes "--count" ∷ codes "4" ∷ codes "--cron" ∷ rule ∷ [])) ≡ Ok (Next moment 4 (Cron rule))
+four_starts : asked_by (next_with (codes "--count" ∷ codes "4" ∷ codes "--cron" ∷ rule ∷ [])) ≡ Ok (Next moment None 4 (Cron rule))
 unfolding asked_by clap_on_literals agenda_on_literals
 four_starts = refl
 
+-- a zone
+a_zone_is_given :
+    asked_by (next_with (codes "--zone" ∷ codes "Europe/Oslo" ∷ codes "--cron" ∷ rule ∷ []))
+    ≡ Ok (Next moment (Some (codes "Europe/Oslo")) 1 (Cron rule))
+unfolding asked_by clap_on_literals agenda_on_literals
+a_zone_is_given = refl
+
+-- two zones
+two_zones_are_given :
+    asked_by (next_with (codes "--zone" ∷ codes "UTC" ∷ codes "--zone" ∷ codes "UTC" ∷ codes "--cron" ∷ rule ∷ [])) ≡ Err is_usage
+unfolding asked_by clap_on_literals agenda_on_literals
+two_zones_are_given = refl
+
 -- without `--count` one start is wanted
-one_start_by_default : asked_by (next_with (codes "--cron" ∷ rule ∷ [])) ≡ Ok (Next moment 1 (Cron rule))
+one_start_by_default : asked_by (next_with (codes "--cron" ∷ rule ∷ [])) ≡ Ok (Next moment None 1 (Cron rule))
 unfolding asked_by clap_on_literals agenda_on_literals
 one_start_by_default = refl
 
 -- none may be wanted
-no_start : asked_by (next_with (codes "--count" ∷ codes "0" ∷ codes "--cron" ∷ rule ∷ [])) ≡ Ok (Next moment 0 (Cron rule))
+no_start : asked_by (next_with (codes "--count" ∷ codes "0" ∷ codes "--cron" ∷ rule ∷ [])) ≡ Ok (Next moment None 0 (Cron rule))
 unfolding asked_by clap_on_literals agenda_on_literals
 no_start = refl
 
 -- the most that 32 bits hold
-most_starts : asked_by (next_with (codes "--count=4294967295" ∷ codes "--cron" ∷ rule ∷ [])) ≡ Ok (Next moment 4294967295 (Cron rule))
+most_starts : asked_by (next_with (codes "--count=4294967295" ∷ codes "--cron" ∷ rule ∷ [])) ≡ Ok (Next moment None 4294967295 (Cron rule))
 unfolding asked_by clap_on_literals agenda_on_literals
 most_starts = refl
 
@@ -79,12 +92,13 @@ record IsPlainWord (word : List ℕ) : Type 0 where
 
 -- any two plain words are taken
 any_moment_and_rule : (name after cron : List ℕ) → IsPlainWord after → IsPlainWord cron
-    → asked_by (name ∷ codes "next" ∷ codes "--after" ∷ after ∷ codes "--cron" ∷ cron ∷ []) ≡ Ok (Next after 1 (Cron cron))
+    → asked_by (name ∷ codes "next" ∷ codes "--after" ∷ after ∷ codes "--cron" ∷ cron ∷ []) ≡ Ok (Next after None 1 (Cron cron))
 unfolding asked_by clap_on_literals agenda_on_literals
-any_moment_and_rule name after cron a c = rw (a.trailing, a.long, a.short, c.trailing, c.long, c.short) refl
+any_moment_and_rule name after cron a c =
+    rw (a.trailing, a.long, a.short, c.trailing, c.long, c.short) (refl {a = Ok (Next after None 1 (Cron cron))})
 
 -- a calendar event
-an_event_is_given : asked_by (next_with (codes "--calendar" ∷ codes "daily" ∷ [])) ≡ Ok (Next moment 1 (Event (codes "daily")))
+an_event_is_given : asked_by (next_with (codes "--calendar" ∷ codes "daily" ∷ [])) ≡ Ok (Next moment None 1 (Event (codes "daily")))
 unfolding asked_by clap_on_literals agenda_on_literals
 an_event_is_given = refl
 
@@ -120,20 +134,20 @@ abbrev sized : (planners room limit : ℕ) → Sizes
 sized planners room limit = record { planners = planners; room = room; limit = limit }
 
 -- a span alone: no crontab, no timer, and each number by its default
-a_span_is_given : asked_by (plan_with []) ≡ Ok (Plan moment (codes "u") [] (sized 2 16 10000))
+a_span_is_given : asked_by (plan_with []) ≡ Ok (Plan moment (codes "u") None [] (sized 2 16 10000))
 unfolding asked_by clap_on_literals agenda_on_literals
 a_span_is_given = refl
 
 -- every option
 all_is_given : asked_by (plan_with (codes "--crontab" ∷ codes "c" ∷ codes "--system-crontab" ∷ codes "s" ∷ codes "--planners" ∷ codes "3"
     ∷ codes "--room" ∷ codes "4" ∷ codes "--limit" ∷ codes "5" ∷ []))
-    ≡ Ok (Plan moment (codes "u") (path_of Crontab (codes "c") ∷ path_of System (codes "s") ∷ []) (sized 3 4 5))
+    ≡ Ok (Plan moment (codes "u") None (path_of Crontab (codes "c") ∷ path_of System (codes "s") ∷ []) (sized 3 4 5))
 unfolding asked_by clap_on_literals agenda_on_literals
 all_is_given = refl
 
 -- timers, also between options, in the order of the words
 timers_are_given : asked_by (plan_with (codes "b.timer" ∷ codes "--room=1" ∷ codes "a.timer" ∷ codes "--" ∷ codes "-c" ∷ []))
-    ≡ Ok (Plan moment (codes "u") (path_of Timer (codes "b.timer") ∷ path_of Timer (codes "a.timer") ∷ path_of Timer (codes "-c") ∷ [])
+    ≡ Ok (Plan moment (codes "u") None (path_of Timer (codes "b.timer") ∷ path_of Timer (codes "a.timer") ∷ path_of Timer (codes "-c") ∷ [])
     (sized 2 1 10000))
 unfolding asked_by clap_on_literals agenda_on_literals
 timers_are_given = refl
@@ -150,7 +164,7 @@ no_end_is_given = refl
 
 -- a timer before the options of crontabs: the sources are in the order of their kinds
 sources_in_order : asked_by (plan_with (codes "t.timer" ∷ codes "--system-crontab" ∷ codes "s" ∷ codes "--crontab" ∷ codes "c" ∷ []))
-    ≡ Ok (Plan moment (codes "u") (path_of Crontab (codes "c") ∷ path_of System (codes "s") ∷ path_of Timer (codes "t.timer") ∷ [])
+    ≡ Ok (Plan moment (codes "u") None (path_of Crontab (codes "c") ∷ path_of System (codes "s") ∷ path_of Timer (codes "t.timer") ∷ [])
     (sized 2 16 10000))
 unfolding asked_by clap_on_literals agenda_on_literals
 sources_in_order = refl
@@ -158,7 +172,7 @@ sources_in_order = refl
 -- crontabs that have names, in any number; of one kind they stand in the order of the words
 named_crontabs :
     asked_by (plan_with (codes "--spool=u" ∷ codes "--cron-d" ∷ codes "b" ∷ codes "--cron-d=a" ∷ codes "--spool" ∷ codes "-" ∷ []))
-    ≡ Ok (Plan moment (codes "u") (path_of CronD (codes "b") ∷ path_of CronD (codes "a") ∷ path_of Spool (codes "u")
+    ≡ Ok (Plan moment (codes "u") None (path_of CronD (codes "b") ∷ path_of CronD (codes "a") ∷ path_of Spool (codes "u")
     ∷ path_of Spool (codes "-") ∷ []) (sized 2 16 10000))
 unfolding asked_by clap_on_literals agenda_on_literals
 named_crontabs = refl
@@ -190,13 +204,13 @@ no_version_of_next = refl
 -- `upcoming` of a crontab and a timer
 upcoming_of_two :
     asked_by (codes "agenda" ∷ codes "upcoming" ∷ codes "a.timer" ∷ codes "--crontab" ∷ codes "c" ∷ codes "--after" ∷ moment ∷ [])
-    ≡ Ok (Upcoming moment (path_of Crontab (codes "c") ∷ path_of Timer (codes "a.timer") ∷ []))
+    ≡ Ok (Upcoming moment None (path_of Crontab (codes "c") ∷ path_of Timer (codes "a.timer") ∷ []))
 unfolding asked_by clap_on_literals agenda_on_literals
 upcoming_of_two = refl
 
 -- `quiet` without what may be missing: gaps of half an hour, and a limit of 1,000,000
 quiet_by_default : asked_by (codes "agenda" ∷ codes "quiet" ∷ codes "--since" ∷ moment ∷ codes "--upto" ∷ codes "z" ∷ [])
-    ≡ Ok (Quiet moment (codes "z") [] (record { planners = 2; room = 16; limit = 1000000 }) 1800)
+    ≡ Ok (Quiet moment (codes "z") None [] (record { planners = 2; room = 16; limit = 1000000 }) 1800)
 unfolding asked_by clap_on_literals agenda_on_literals
 quiet_by_default = refl
 

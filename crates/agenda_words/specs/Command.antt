@@ -20,6 +20,10 @@ option_named name = record (argument_named name) { long = Some name }
 abbrev pub moment_option : List ℕ → Rule
 moment_option name = record (option_named name) { required = true }
 
+-- `--zone ZONE`, which may be missing (agenda)
+abbrev pub zone_option : Rule
+zone_option = option_named (codes "zone")
+
 -- own: a whole number of 32 bits; where it is missing, the default
 abbrev pub number_option : List ℕ → List ℕ → Rule
 number_option name default = record (option_named name) {
@@ -56,10 +60,10 @@ subcommand_with name rules = with_rules (new_app name) rules
 unfoldable pub with_sources : App → App
 with_sources app = with_each app (map source_rule kinds)
 
--- own: `next --after T [--count N] (--cron TEXT or --calendar TEXT)`; that exactly one of the last two is there is tested
+-- own: `next --after T [--zone ZONE] [--count N] (--cron TEXT or --calendar TEXT)`; that exactly one of the last two is there is tested
 -- after the parse
 unfoldable pub next : App
-next = subcommand_with (codes "next") (moment_option (codes "after") ∷ number_option (codes "count") (codes "1")
+next = subcommand_with (codes "next") (moment_option (codes "after") ∷ zone_option ∷ number_option (codes "count") (codes "1")
     ∷ option_named (codes "cron") ∷ option_named (codes "calendar") ∷ [])
 
 -- own: a command with the sizes of a plan: `[--planners N] [--room N] [--limit N]`; where the limit is missing, it is the default
@@ -67,27 +71,27 @@ unfoldable pub with_sizes : App → (default : List ℕ) → App
 with_sizes app default = with_rules app (number_option (codes "planners") (codes "2") ∷ number_option (codes "room") (codes "16")
     ∷ number_option (codes "limit") default ∷ [])
 
--- own: the span of a plan: `--since T --upto T`
+-- own: the span of a plan: `--since T --upto T [--zone ZONE]`
 abbrev pub span_rules : List Rule
-span_rules = moment_option (codes "since") ∷ moment_option (codes "upto") ∷ []
+span_rules = moment_option (codes "since") ∷ moment_option (codes "upto") ∷ zone_option ∷ []
 
--- own: `plan --since T --upto T`, what gives the sources, and the sizes
+-- own: `plan --since T --upto T [--zone ZONE]`, what gives the sources, and the sizes
 unfoldable pub plan : App
 plan = with_sizes (with_sources (subcommand_with (codes "plan") span_rules)) (codes "10000")
 
--- own: `upcoming --after T`, and what gives the sources
+-- own: `upcoming --after T [--zone ZONE]`, and what gives the sources
 unfoldable pub upcoming : App
-upcoming = with_sources (subcommand_with (codes "upcoming") (moment_option (codes "after") ∷ []))
+upcoming = with_sources (subcommand_with (codes "upcoming") (moment_option (codes "after") ∷ zone_option ∷ []))
 
--- own: `quiet --since T --upto T`, what gives the sources, `[--least N]`, and the sizes
+-- own: `quiet --since T --upto T [--zone ZONE]`, what gives the sources, `[--least N]`, and the sizes
 unfoldable pub quiet : App
 quiet = with_sizes
     (with_rules (with_sources (subcommand_with (codes "quiet") span_rules)) (number_option (codes "least") (codes "1800") ∷ []))
     (codes "1000000")
 
--- own: `check`, and what gives the sources
+-- own: `check [--zone ZONE]`, and what gives the sources
 unfoldable pub check : App
-check = with_sources (subcommand_with (codes "check") [])
+check = with_sources (subcommand_with (codes "check") (zone_option ∷ []))
 
 -- own: `steps FILE`
 unfoldable pub steps : App

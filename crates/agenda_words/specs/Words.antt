@@ -52,13 +52,17 @@ one_rule None (Some calendar) = Ok (Event calendar)
 one_rule (Some cron) (Some calendar) = Err is_usage
 one_rule None None = Err is_usage
 
+-- the text of the zone, which may be missing (agenda)
+abbrev pub zone_in : List Row → Option (List ℕ)
+zone_in rows = first_of (codes "zone") rows
+
 -- own: the values that `next` was given
 abbrev pub asked_by_next : List Row → Result Ask Refusal
 asked_by_next rows = do
   after ← wanted (first_of (codes "after") rows)
   count ← wanted (number_in (one_of (codes "count") rows))
   rule ← one_rule (first_of (codes "cron") rows) (first_of (codes "calendar") rows)
-  Ok (Next after count rule)
+  Ok (Next after (zone_in rows) count rule)
 
 -- own: the sizes of a plan, in the order in which they are looked at
 abbrev pub sizes_in : List Row → Result Sizes Refusal
@@ -92,26 +96,26 @@ asked_by_plan rows = do
   since ← wanted (first_of (codes "since") rows)
   upto ← wanted (first_of (codes "upto") rows)
   sizes ← sizes_in rows
-  Ok (Plan since upto (sources_in rows) sizes)
+  Ok (Plan since upto (zone_in rows) (sources_in rows) sizes)
 
 -- own: the values that `upcoming` was given; there may be no source
 abbrev pub asked_by_upcoming : List Row → Result Ask Refusal
 asked_by_upcoming rows = do
   after ← wanted (first_of (codes "after") rows)
-  Ok (Upcoming after (sources_in rows))
+  Ok (Upcoming after (zone_in rows) (sources_in rows))
 
 -- own: the values that `quiet` was given; there may be no source
-abbrev pub asked_by_quiet : List Row → Result Ask Refusal
+unfoldable pub asked_by_quiet : List Row → Result Ask Refusal
 asked_by_quiet rows = do
   since ← wanted (first_of (codes "since") rows)
   upto ← wanted (first_of (codes "upto") rows)
   least ← wanted (number_in (one_of (codes "least") rows))
   sizes ← sizes_in rows
-  Ok (Quiet since upto (sources_in rows) sizes least)
+  Ok (Quiet since upto (zone_in rows) (sources_in rows) sizes least)
 
 -- own: the values that `check` was given; there may be no source
 abbrev pub asked_by_check : List Row → Result Ask Refusal
-asked_by_check rows = Ok (Check (sources_in rows))
+asked_by_check rows = Ok (Check (zone_in rows) (sources_in rows))
 
 -- own: the file that `steps` was given
 abbrev pub asked_by_steps : List Row → Result Ask Refusal

@@ -13,6 +13,8 @@ pub enum Ask {
     Next {
         /// The text of a moment: the starts are later.
         after: Text,
+        /// The text of the time zone of the rules; UTC where it is missing.
+        zone: Option<Text>,
         /// How many starts.
         count: u32,
         /// The rule.
@@ -24,6 +26,8 @@ pub enum Ask {
         since: Text,
         /// The text of a moment: the agenda ends before it.
         upto: Text,
+        /// The text of the time zone of the rules; UTC where it is missing.
+        zone: Option<Text>,
         /// The paths of its sources, in the order of their kinds, and those of one kind in the order of the words.
         sources: SourcePaths,
         /// How many planners, with how much room each, and how many starts at most.
@@ -33,6 +37,8 @@ pub enum Ask {
     Upcoming {
         /// The text of a moment: the starts are later.
         after: Text,
+        /// The text of the time zone of the rules; UTC where it is missing.
+        zone: Option<Text>,
         /// The paths of the sources, in the order of a plan's.
         sources: SourcePaths,
     },
@@ -42,6 +48,8 @@ pub enum Ask {
         since: Text,
         /// The text of a moment: the span ends before it.
         upto: Text,
+        /// The text of the time zone of the rules; UTC where it is missing.
+        zone: Option<Text>,
         /// The paths of the sources, in the order of a plan's.
         sources: SourcePaths,
         /// The sizes of the plan of which the gaps are.
@@ -51,6 +59,8 @@ pub enum Ask {
     },
     /// What is wrong with crontabs and timers.
     Check {
+        /// The text of the time zone of the rules; UTC where it is missing.
+        zone: Option<Text>,
         /// The paths of the sources, in the order of a plan's.
         sources: SourcePaths,
     },

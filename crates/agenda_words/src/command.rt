@@ -4,7 +4,7 @@ ghost use Rattle.clap.specs.Words.{app_of, items_of, rule_of, with_rule, with_su
 ghost use Rattle.clap.specs.declared.builder.command.Command.TheViews.{out-Command};
 ghost use Rattle.agenda_words.specs.Command.{agenda, argument_named, check, file_argument, moment_option, next};
 ghost use Rattle.agenda_words.specs.Command.{number_option, option_named, plan, quiet, steps, upcoming};
-ghost use Rattle.agenda_words.specs.Command.{source_rule, with_sizes, with_sources};
+ghost use Rattle.agenda_words.specs.Command.{source_rule, with_sizes, with_sources, zone_option};
 
 mod help;
 
@@ -46,6 +46,7 @@ fn next_command<'a>(alloc: Global) -> Result<Command<'a>, AllocError>
         .override_usage(help::NEXT_USAGE)
         .after_help(help::AFTER_NEXT);
     let command = with_argument(command, moment_option(alloc, "after", help::AFTER))?;
+    let command = with_argument(command, zone_option(alloc))?;
     let command = with_argument(command, number_option(alloc, "count", "1", help::COUNT))?;
     let command = with_argument(command, text_option(alloc, "cron", "TEXT", help::CRON))?;
     let command = with_argument(
@@ -65,6 +66,7 @@ fn plan_command<'a>(alloc: Global) -> Result<Command<'a>, AllocError>
         .after_help(help::AFTER_PLAN);
     let command = with_argument(command, moment_option(alloc, "since", help::SINCE))?;
     let command = with_argument(command, moment_option(alloc, "upto", help::UPTO))?;
+    let command = with_argument(command, zone_option(alloc))?;
     let command = with_sources(alloc, command)?;
     let command = with_sizes(alloc, command, "10000")?;
     Ok(command)
@@ -79,6 +81,7 @@ fn upcoming_command<'a>(alloc: Global) -> Result<Command<'a>, AllocError>
         .about(help::UPCOMING)
         .after_help(help::AFTER_UPCOMING);
     let command = with_argument(command, moment_option(alloc, "after", help::AFTER))?;
+    let command = with_argument(command, zone_option(alloc))?;
     let command = with_sources(alloc, command)?;
     Ok(command)
 }
@@ -93,6 +96,7 @@ fn quiet_command<'a>(alloc: Global) -> Result<Command<'a>, AllocError>
         .after_help(help::AFTER_QUIET);
     let command = with_argument(command, moment_option(alloc, "since", help::SINCE))?;
     let command = with_argument(command, moment_option(alloc, "upto", help::UPTO))?;
+    let command = with_argument(command, zone_option(alloc))?;
     let command = with_sources(alloc, command)?;
     let command = with_argument(command, number_option(alloc, "least", "1800", help::LEAST))?;
     let command = with_sizes(alloc, command, "1000000")?;
@@ -107,6 +111,7 @@ fn check_command<'a>(alloc: Global) -> Result<Command<'a>, AllocError>
     let command = Command::new(alloc, "check")
         .about(help::CHECK)
         .after_help(help::AFTER_CHECK);
+    let command = with_argument(command, zone_option(alloc))?;
     let command = with_sources(alloc, command)?;
     Ok(command)
 }
@@ -209,6 +214,14 @@ fn moment_option<'a>(alloc: Global, name: &'a str, help: &'a str) -> Arg<'a>
     ensures local { result.global ≡ false }
 {
     text_option(alloc, name, "T", help).required(true)
+}
+
+// `--zone ZONE`, which may be missing.
+fn zone_option<'a>(alloc: Global) -> Arg<'a>
+    ensures rule { rule_of result ≡ zone_option }
+    ensures local { result.global ≡ false }
+{
+    text_option(alloc, "zone", "ZONE", help::ZONE)
 }
 
 // `--name N`, a whole number of 32 bits; where it is missing, the default.

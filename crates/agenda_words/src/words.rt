@@ -62,6 +62,7 @@ fn asked_by_next(alloc: Global, given: &ArgMatches<'_>) -> Result<Ask, UsageFaul
     ensures { Gives result (asked_by_next (rows_of (found_of given.now))) }
 {
     let after = text_of(alloc, given, "after")?;
+    let zone = text_if_given(alloc, given, "zone")?;
     let count = number_of(alloc, given, "count")?;
     let cron = text_if_given(alloc, given, "cron")?;
     let calendar = text_if_given(alloc, given, "calendar")?;
@@ -70,7 +71,12 @@ fn asked_by_next(alloc: Global, given: &ArgMatches<'_>) -> Result<Ask, UsageFaul
         (None, Some(calendar)) => Asked::Event(calendar),
         _ => return Err(UsageFault::Usage(text(alloc, ONE_RULE)?)),
     };
-    Ok(Ask::Next { after, count, rule })
+    Ok(Ask::Next {
+        after,
+        zone,
+        count,
+        rule,
+    })
 }
 
 fn asked_by_plan(alloc: Global, given: &ArgMatches<'_>) -> Result<Ask, UsageFault>
@@ -78,11 +84,13 @@ fn asked_by_plan(alloc: Global, given: &ArgMatches<'_>) -> Result<Ask, UsageFaul
 {
     let since = text_of(alloc, given, "since")?;
     let upto = text_of(alloc, given, "upto")?;
+    let zone = text_if_given(alloc, given, "zone")?;
     let sizes = sizes_of(alloc, given)?;
     let sources = sources_of(alloc, given)?;
     Ok(Ask::Plan {
         since,
         upto,
+        zone,
         sources,
         sizes,
     })
@@ -92,21 +100,29 @@ fn asked_by_upcoming(alloc: Global, given: &ArgMatches<'_>) -> Result<Ask, Usage
     ensures { Gives result (asked_by_upcoming (rows_of (found_of given.now))) }
 {
     let after = text_of(alloc, given, "after")?;
+    let zone = text_if_given(alloc, given, "zone")?;
     let sources = sources_of(alloc, given)?;
-    Ok(Ask::Upcoming { after, sources })
+    Ok(Ask::Upcoming {
+        after,
+        zone,
+        sources,
+    })
 }
 
+#[tactic(auto, unfolding(crate::specs::Words::asked_by_quiet))]
 fn asked_by_quiet(alloc: Global, given: &ArgMatches<'_>) -> Result<Ask, UsageFault>
     ensures { Gives result (asked_by_quiet (rows_of (found_of given.now))) }
 {
     let since = text_of(alloc, given, "since")?;
     let upto = text_of(alloc, given, "upto")?;
+    let zone = text_if_given(alloc, given, "zone")?;
     let least = number_of(alloc, given, "least")?;
     let sizes = sizes_of(alloc, given)?;
     let sources = sources_of(alloc, given)?;
     Ok(Ask::Quiet {
         since,
         upto,
+        zone,
         sources,
         sizes,
         least,
@@ -130,8 +146,9 @@ fn sizes_of(alloc: Global, given: &ArgMatches<'_>) -> Result<Sizes, UsageFault>
 fn asked_by_check(alloc: Global, given: &ArgMatches<'_>) -> Result<Ask, UsageFault>
     ensures { Gives result (asked_by_check (rows_of (found_of given.now))) }
 {
+    let zone = text_if_given(alloc, given, "zone")?;
     let sources = sources_of(alloc, given)?;
-    Ok(Ask::Check { sources })
+    Ok(Ask::Check { zone, sources })
 }
 
 fn asked_by_steps(alloc: Global, given: &ArgMatches<'_>) -> Result<Ask, UsageFault>

@@ -77,6 +77,29 @@ fn a_file_that_is_missing_or_fails_in_the_middle(rt: HostRuntime) -> Result<(), 
     Ok(())
 }
 
+// Of UTC no file is opened, of another zone one, and where it is no zone's none after it.
+#[test]
+fn the_file_of_a_zone_is_opened_once(rt: HostRuntime) -> Result<(), Fail> {
+    let held: [(&str, &[u8]); 1] = [("./a", b"no TZif")];
+    let next = "agenda|next|--after|2999-12-31T23:59:59Z|--cron|* * * * *|--zone";
+    let plan =
+        "agenda|plan|--since|2024-01-01T00:00:00Z|--upto|2024-01-02T00:00:00Z|--crontab|c|--zone";
+    for (words, zone, status, out, err, opened) in [
+        (next, "UTC", 0, "none\n", "", 0),
+        (next, "./a", 1, "", "agenda: zone: BadZone\n", 1),
+        (next, "a b", 1, "", "agenda: zone: BadZoneName\n", 0),
+        (next, "No/File", 1, "", "agenda: zone: NoSuchZone\n", 1),
+        (plan, "./a", 1, "", "agenda: zone: BadZone\n", 1),
+        (plan, "./b", 3, "", "agenda: ./b: Device\n", 1),
+        (plan, "UTC", 3, "", "agenda: c: Device\n", 1),
+    ] {
+        let words = format!(in rt.alloc(); "{words}|{zone}")?;
+        let files = FewFiles::new(&held, 4_096, false);
+        leaves(&rt, words.as_str(), files, status, (out, err), opened)?;
+    }
+    Ok(())
+}
+
 // What comes behind the first byte too many is a fault, which is never met.
 #[test]
 fn a_script_that_is_too_large(rt: HostRuntime) -> Result<(), Fail> {

@@ -1,6 +1,7 @@
 use crate::tests::writers::{End, Limited, took};
 use agenda_commands::run_next;
 use agenda_sources::Asked;
+use plan_clock::Clock;
 use plan_rules::Text;
 use std::test::Fail;
 
@@ -9,7 +10,7 @@ use std::test::Fail;
 fn no_start_follows_the_last_moment_of_all(rt: HostRuntime) -> Result<(), Fail> {
     let asked = Asked::Cron(Text::new(String::from_str(rt.alloc(), "* * * * *")?));
     let mut out = Limited::new(128, 128, End::TakesNothing);
-    run_next(rt.alloc(), &asked, u64::MAX, 1, &mut out)?;
+    run_next(rt.alloc(), &asked, &Clock::utc(), u64::MAX, 1, &mut out)?;
     took(&rt, &out, "none\n");
     Ok(())
 }

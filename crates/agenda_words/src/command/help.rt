@@ -3,8 +3,9 @@
 pub(super) const AGENDA: &str = "When jobs start, by the rules of cron and of systemd timers";
 
 pub(super) const AFTER_AGENDA: &str = "\
-All moments are in UTC and of the years 1970 to 2999. The formats, the limits and
-what each fault line means are described in agenda(1).
+All times are in UTC and of the years 1970 to 2999. Rules are read in UTC too, or in
+the time zone that --zone names. The formats, the limits and what each error line
+means are described in agenda(1).
 
 Examples:
   agenda next --cron @daily --after 2024-01-01T00:00:00Z
@@ -17,11 +18,15 @@ Examples:
 pub(super) const NEXT: &str = "Prints the next starts of one rule";
 
 pub(super) const NEXT_USAGE: &str =
-    "agenda next --after <T> [--count <N>] (--cron <TEXT> | --calendar <TEXT>)";
+    "agenda next --after <T> [--zone <ZONE>] [--count <N>] (--cron <TEXT> | --calendar <TEXT>)";
 
 pub(super) const AFTER: &str = "\
 The starts are later than this moment, in UTC, as
 2024-01-01T00:00:00Z; the years are 1970 to 2999";
+
+pub(super) const ZONE: &str = "\
+The time zone of the rules, such as Europe/Berlin,
+or the path of a TZif file; UTC if it isn't given";
 
 pub(super) const COUNT: &str = "How many starts, from 1 to 1000";
 

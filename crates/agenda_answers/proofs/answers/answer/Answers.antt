@@ -13,19 +13,19 @@ returns-in-Ok-Next g c =
     let out : Stream = record {
       takes_all = g.O.Stream.takes_all;
       old = g.O.Stream.holds c.args.out.now;
-      new = g.O.Stream.holds c.next.new.out;
+      new = g.O.Stream.holds c.next-done.new.out;
     } in
     let err : Stream = record {
       takes_all = g.E.Stream.takes_all;
       old = g.E.Stream.holds c.args.err.now;
       new = g.E.Stream.holds c.status_of.new.err;
     } in
-    let ask = Next c.in-Ok-Next.after c.in-Ok-Next.count c.in-Ok-Next.rule in
+    let ask = Next c.in-Ok-Next.after c.in-Ok-Next.zone c.in-Ok-Next.count c.in-Ok-Next.rule in
     let asked : c.args.asked ≡ Ok ask = c.in-Ok-Next.is ∙ ap Ok c.in-Ok-Next.field-0-is in
     subst (λ a. Answers held a c.status_of.result out err) (sym asked)
     (command_answers held (Ok ask) [] c.status_of.result out err
-    (GivesNext c.in-Ok-Next.after c.in-Ok-Next.count c.in-Ok-Next.rule) c.next.result (λ text is. (refl, is))
-    c.next.ensures.done c.next.ensures.failed refl
+    (GivesNext held c.in-Ok-Next.after c.in-Ok-Next.zone c.in-Ok-Next.count c.in-Ok-Next.rule) c.next-done.result (λ text is. (refl, is))
+    c.next-done.ensures.done c.next-done.ensures.failed refl
     c.status_of.ensures.done c.status_of.ensures.failed)
 
 pub returns-in-Ok-Plan : goal.returns-in-Ok-Plan
@@ -41,7 +41,7 @@ returns-in-Ok-Plan g c =
       old = g.E.Stream.holds c.args.err.now;
       new = g.E.Stream.holds c.answer_plan.new.err;
     } in
-    let ask = Plan c.in-Ok-Plan.since c.in-Ok-Plan.upto c.in-Ok-Plan.sources c.in-Ok-Plan.sizes in
+    let ask = Plan c.in-Ok-Plan.since c.in-Ok-Plan.upto c.in-Ok-Plan.zone c.in-Ok-Plan.sources c.in-Ok-Plan.sizes in
     let asked : c.args.asked ≡ Ok ask = c.in-Ok-Plan.is ∙ ap Ok c.in-Ok-Plan.field-0-is in
     subst (λ a. Answers held a c.answer_plan.result out err) (sym asked) c.answer_plan.ensures
 
@@ -58,7 +58,7 @@ returns-in-Ok-Upcoming g c =
       old = g.E.Stream.holds c.args.err.now;
       new = g.E.Stream.holds c.answer_upcoming.new.err;
     } in
-    let ask = Upcoming c.in-Ok-Upcoming.after c.in-Ok-Upcoming.sources in
+    let ask = Upcoming c.in-Ok-Upcoming.after c.in-Ok-Upcoming.zone c.in-Ok-Upcoming.sources in
     let asked : c.args.asked ≡ Ok ask = c.in-Ok-Upcoming.is ∙ ap Ok c.in-Ok-Upcoming.field-0-is in
     subst (λ a. Answers held a c.answer_upcoming.result out err) (sym asked) c.answer_upcoming.ensures
 
@@ -75,7 +75,8 @@ returns-in-Ok-Quiet g c =
       old = g.E.Stream.holds c.args.err.now;
       new = g.E.Stream.holds c.answer_quiet.new.err;
     } in
-    let ask = Quiet c.in-Ok-Quiet.since c.in-Ok-Quiet.upto c.in-Ok-Quiet.sources c.in-Ok-Quiet.sizes c.in-Ok-Quiet.least in
+    let ask = Quiet c.in-Ok-Quiet.since c.in-Ok-Quiet.upto c.in-Ok-Quiet.zone c.in-Ok-Quiet.sources c.in-Ok-Quiet.sizes
+    c.in-Ok-Quiet.least in
     let asked : c.args.asked ≡ Ok ask = c.in-Ok-Quiet.is ∙ ap Ok c.in-Ok-Quiet.field-0-is in
     subst (λ a. Answers held a c.answer_quiet.result out err) (sym asked) c.answer_quiet.ensures
 
@@ -92,7 +93,7 @@ returns-in-Ok-Check g c =
       old = g.E.Stream.holds c.args.err.now;
       new = g.E.Stream.holds c.answer_check.new.err;
     } in
-    let ask = Check c.in-Ok-Check.sources in
+    let ask = Check c.in-Ok-Check.zone c.in-Ok-Check.sources in
     let asked : c.args.asked ≡ Ok ask = c.in-Ok-Check.is ∙ ap Ok c.in-Ok-Check.field-0-is in
     subst (λ a. Answers held a c.answer_check.result out err) (sym asked) c.answer_check.ensures
 

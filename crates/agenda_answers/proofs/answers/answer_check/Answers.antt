@@ -14,6 +14,7 @@ returns-in-Err g c =
       old = g.E.Stream.holds c.args.err.now;
       new = g.E.Stream.holds c.fault_line.new.stream;
     } in
-    check_fails (g.F.Files.held c.args.files.now) c.as_slice.result.now c.as_slice-in-Err.result.now c.args.sources.now c.in-Err.failure
+    check_fails (g.F.Files.held c.args.files.now) c.args.zone.now c.as_slice.result.now c.as_slice-in-Err.result.now c.args.sources.now
+    c.in-Err.failure
     c.fault_line.result out err c.as_slice.ensures c.as_slice-in-Err.ensures c.in-Err.ensures.failed
     c.fault_line.ensures.status c.fault_line.ensures.line

@@ -16,6 +16,7 @@ returns g c =
       old = g.E.Stream.holds c.args.err.now;
       new = g.E.Stream.holds c.status_of.new.err;
     } in
-    command_answers held (Ok (asked_upcoming c.args.after.now c.args.sources.now)) c.as_slice.result.now c.status_of.result out err
-    (GivesUpcoming held c.args.after.now c.args.sources.now) c.upcoming-done.result (λ text is. (refl, is))
+    command_answers held (Ok (asked_upcoming c.args.after.now c.args.zone.now c.args.sources.now)) c.as_slice.result.now
+    c.status_of.result out err
+    (GivesUpcoming held c.args.after.now c.args.zone.now c.args.sources.now) c.upcoming-done.result (λ text is. (refl, is))
     c.upcoming-done.ensures.done c.upcoming-done.ensures.failed c.as_slice.ensures c.status_of.ensures.done c.status_of.ensures.failed

@@ -16,8 +16,8 @@ returns-in_err-put-clause-refused g c =
     let part : BreaksOff g.S.Stream.takes_all old new text = subst (BreaksOff g.S.Stream.takes_all old new) c.as_slice.ensures.value
     c.in_err-put.ensures in
     refused_as c.from_residual-in_err-put.result Device
-    (λ fault. Fails g.S.Stream.takes_all (IsTextOfNext c.args.asked.now c.args.after c.args.count)
-    (RefusesNext c.args.asked.now c.args.count) fault old new)
+    (λ fault. Fails g.S.Stream.takes_all (IsTextOfNext c.args.clock.now c.args.asked.now c.args.after c.args.count)
+    (RefusesNext c.args.clock.now c.args.asked.now c.args.count) fault old new)
     c.from_residual-in_err-put.ensures.1
     (text, (many, (c.in_ok-rule.rule, c.in_ok-rule.ensures, c.in_ok-text.ensures)), part)
 

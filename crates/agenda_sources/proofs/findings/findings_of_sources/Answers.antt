@@ -8,5 +8,5 @@ pub returns-clause-clean : goal.returns-clause-clean
 returns-clause-clean c =
     let all = all_found c.loop-place.place c.loop-place.names c.as_slice-sources.result.now c.loop-place.found.items _
     c.loop-place-test.false c.loop-place.invariant in
-    clean_made c.clean_where_jobs_are.ensures c.as_slice-sources.result.now c.loop-place.found.items all
+    clean_made c.clean_where_jobs_are.ensures c.args.clock.now c.as_slice-sources.result.now c.loop-place.found.items all
     ∙ ap (λ sources. is_ok (sources_reading sources)) c.as_slice-sources.ensures

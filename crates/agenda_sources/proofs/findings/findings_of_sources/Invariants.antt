@@ -4,4 +4,4 @@ use Rattle.agenda_sources.proofs.findings.findings_of_sources.Given as goal
 
 -- what was found, and what is found from there on, is what is found of all
 abbrev pub invariant-loop-place : goal.invariant-loop-place
-invariant-loop-place l = l.found.items ++ found_from l.place l.names (drop l.place l.sources) ≡ sources_findings l.sources
+invariant-loop-place l = l.found.items ++ found_from l.place l.names (drop l.place l.sources) ≡ sources_findings l.clock l.sources

@@ -2,7 +2,7 @@ use Rattle.std.proofs.Common.{◌≡◌, ◌≤◌, ◌<◌, None, drop, length}
 use Rattle.plan_rules.specs.Limits.{most_jobs}
 use Rattle.agenda_sources.specs.AtOnce.{fault_at_once}
 use Rattle.agenda_sources.specs.Sources.{sources_from, sources_reading}
-use Rattle.agenda_sources.proofs.reading.jobs_of_sources.Given as goal
+use Rattle.agenda_sources.proofs.reading.read_jobs.Given as goal
 
 -- what is left, with the jobs so far, means what all sources mean, and the first had no fault that is found at once
 abbrev pub invariant-loop-place : goal.invariant-loop-place

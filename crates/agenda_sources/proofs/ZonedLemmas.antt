@@ -1,0 +1,17 @@
+-- Jobs in a zone: for `jobs_of_sources`, which leaves them as they are in UTC, and where there are none.
+use Rattle.std.proofs.Common.{◌≡◌, ◌≢◌, List, [], ◌∷◌, refl, ap, ◌∙◌, sym}
+use Rattle.plan_clock.specs.declared.row.Change.{Change}
+use Rattle.plan_rules.specs.Job.{JobParts}
+use Rattle.plan_rules.specs.Zone.{jobs_in}
+use Rattle.agenda_sources.specs.Sources.{zoned}
+
+pub zoned-utc : (clock : List Change) (jobs : List JobParts) → clock ≡ [] → zoned clock jobs ≡ jobs
+zoned-utc clock jobs none = ap (λ (c : List Change). zoned c jobs) none
+
+pub zoned-none : (clock : List Change) (jobs : List JobParts) → jobs ≡ [] → zoned clock jobs ≡ jobs
+zoned-none [] jobs none = refl
+zoned-none (first ∷ more) jobs none = ap (jobs_in (first ∷ more)) none ∙ sym none
+
+pub zoned-clock : (clock : List Change) (jobs : List JobParts) → clock ≢ [] → zoned clock jobs ≡ jobs_in clock jobs
+zoned-clock [] jobs some = absurd (some refl)
+zoned-clock (first ∷ more) jobs some = refl
