@@ -1,5 +1,18 @@
 # Completion of agenda-machine for bash. It asks for the package bash-completion.
 
+# Completes a time zone: a name of the tz database, or the path of a file.
+_agenda_machine_zone() {
+    local names database=/usr/share/zoneinfo
+    if [[ $cur == [/.]* ]]; then
+        _filedir
+        return
+    fi
+    # the names of zones begin with a capital letter, and those of other files don't
+    names=$(find -L "$database" \( -name posix -o -name right \) -prune -o \
+        -type f -path "$database/[A-Z]*" -printf '%P ' 2>/dev/null)
+    mapfile -t COMPREPLY < <(compgen -W "UTC $names" -- "$cur")
+}
+
 _agenda_machine() {
     local cur prev words cword split
     _init_completion -s || return
@@ -31,6 +44,10 @@ _agenda_machine() {
             _filedir
             return
             ;;
+        ?*:--zone)
+            _agenda_machine_zone
+            return
+            ;;
         plan:--planners | quiet:--planners)
             mapfile -t COMPREPLY < <(compgen -W '1 2 3 4 5 6 7 8' -- "$cur")
             return
@@ -42,7 +59,7 @@ _agenda_machine() {
     esac
     $split && return
 
-    local sources='--crontab= --system-crontab= --cron-d= --spool= --help'
+    local sources='--zone= --crontab= --system-crontab= --cron-d= --spool= --help'
     case $command:$cur in
         :-*)
             mapfile -t COMPREPLY < <(compgen -W '--root --all --help' -- "$cur")

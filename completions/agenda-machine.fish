@@ -22,7 +22,17 @@ complete -c agenda-machine -n $span -l limit -x -d 'The most starts, from 1 to 1
 complete -c agenda-machine -n '__fish_seen_subcommand_from quiet' -l least -x -d 'How many seconds a gap has at least [1800]'
 complete -c agenda-machine -n '__fish_seen_subcommand_from upcoming' -l after -x -d 'The starts are later than this moment'
 
+# Names of the tz database: those of zones begin with a capital letter, and those of other files don't.
+function __agenda_machine_zones
+    set -l database /usr/share/zoneinfo
+    echo UTC
+    command find -L $database \( -name posix -o -name right \) -prune -o \
+        -type f -path "$database/[A-Z]*" -printf '%P\n' 2>/dev/null
+end
+
 set -l reads '__fish_seen_subcommand_from plan upcoming quiet check'
+complete -c agenda-machine -n $reads -l zone -r -F -d 'The time zone of the rules, if not that of the machine' \
+    -a '(__agenda_machine_zones)'
 complete -c agenda-machine -n $reads -l crontab -r -F -d 'A user\'s crontab'
 complete -c agenda-machine -n $reads -l system-crontab -r -F -d 'The system\'s crontab, where none was found'
 complete -c agenda-machine -n $reads -l cron-d -r -F -d 'A crontab of a package'

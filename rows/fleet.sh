@@ -103,7 +103,7 @@ fleet_machines() {
   fleet_make none x/
   fleet_make bad 'etc/crontab=@daily\x20root\x20x\n C/c=0\x2024\x20*\x20*\x20*\x20root\x20x\n'
   fleet_make many 'etc/crontab=*\x20*\x20*\x20*\x20*\x20root\x20x\n'
-  fleet_make left 'C/a.b C/a=0\x204\x20*\x20*\x20*\x20root\x20e\n etc/localtime>/usr/share/zoneinfo/Asia/Tokyo'
+  fleet_make left 'C/a.b C/a=0\x204\x20*\x20*\x20*\x20root\x20e\n etc/localtime>nowhere'
   fleet_make sub/one 'etc/crontab=0\x205\x20*\x20*\x20*\x20root\x20f\n'
   fleet_make well 'etc/crontab=printf\x20"2024-01-01T07:00:00Z\\tx\\ty\\tz\\n"\n'
   fleet_make $'a\tb' x/
@@ -142,7 +142,7 @@ LINES
 05:00|one|system:1|root f
 LINES
   fleet_day "what is left out, and a zone" 0 one left <<'LINES'
-! left: agenda-machine: rules are read as UTC; the zone of this machine is Asia/Tokyo
+! left: agenda-machine: the zone is unknown; rules are read as UTC
 ! left: agenda-machine: left out left/etc/cron.d/a.b: bad name
 01:00|one|system:1|root b
 01:00|one|system:2|root a

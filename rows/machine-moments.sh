@@ -1,6 +1,5 @@
 # shellcheck shell=bash disable=SC2154
-# Rows of the moments that agenda-machine adds and reads, of the zone that it tells, and of what it hands on of agenda's answer. The program
-# agenda is a stub.
+# Rows of the moments that agenda-machine adds and reads, in UTC, and of what it hands on of agenda's answer. The program agenda is a stub.
 
 # shellcheck source=/dev/null
 . "$top/rows/lib/machine.sh"
@@ -118,20 +117,6 @@ machine_today() {
   machine_compare "a day in another zone" /dev/null /dev/null 0 words "$work/words.wanted"
 }
 
-# Rows of the escaped text of etc/localtime, a link, and of the zone that is told; `-` where none is.
-machine_zones() {
-  local text zone command
-  while IFS='|' read -r text zone; do
-    machine_make "$text"
-    : >"$work/err.wanted"
-    [ "$zone" = - ] || echo "agenda-machine: rules are read as UTC; the zone of this machine is $zone" >"$work/err.wanted"
-    for command in plan upcoming quiet check sources; do
-      machine_run --root root "$command"
-      machine_compare "zone by $command of '$text'" /dev/null "$work/err.wanted" 0
-    done
-  done
-}
-
 # What agenda writes and its status are handed on, for each command.
 machine_answers() {
   local command code
@@ -155,29 +140,4 @@ machine_answers() {
 }
 
 machine_today
-machine_zones <<'ROWS'
-x/|-
-etc/localtime>../usr/share/zoneinfo/Europe/Berlin|Europe/Berlin
-etc/localtime>/usr/share/zoneinfo/America/Argentina/Salta|America/Argentina/Salta
-etc/localtime>/usr/share/zoneinfo/UTC|-
-etc/localtime>../usr/share/zoneinfo/Etc/UTC|-
-etc/localtime>/usr/share/zoneinfo/UCT|-
-etc/localtime>/usr/share/zoneinfo/Etc/UCT|-
-etc/localtime>/usr/share/zoneinfo/Zulu|-
-etc/localtime>/usr/share/zoneinfo/Etc/Zulu|-
-etc/localtime>/usr/share/zoneinfo/Universal|-
-etc/localtime>/usr/share/zoneinfo/Etc/Universal|-
-etc/localtime>/usr/share/zoneinfo/GMT|GMT
-etc/localtime>/usr/share/zoneinfo/Etc/GMT|Etc/GMT
-etc/localtime>/usr/share/zoneinfo/utc|utc
-etc/localtime>/usr/share/zoneinfo/posix/UTC|posix/UTC
-etc/localtime>/usr/share/zoneinfo/UTC/x|UTC/x
-etc/localtime>/zoneinfo/zoneinfo/UTC|zoneinfo/UTC
-etc/localtime>zoneinfo/A/zoneinfo/B|A/zoneinfo/B
-etc/localtime>/opt/Berlin|unknown
-etc/localtime>UTC|unknown
-etc/localtime=TZif2|unknown
-etc/localtime/|unknown
-etc>/opt/e opt/e/localtime>/usr/share/zoneinfo/Asia/Tokyo|Asia/Tokyo
-ROWS
 machine_answers

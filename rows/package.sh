@@ -469,6 +469,7 @@ package_lists "what the archive holds" "$package_archive/" <<'ROWS'
 644 share/agenda/machine/sources.sh
 644 share/agenda/machine/texts.sh
 644 share/agenda/machine/units.sh
+644 share/agenda/machine/zone.sh
 755 share/bash-completion/
 755 share/bash-completion/completions/
 644 share/bash-completion/completions/agenda
@@ -496,6 +497,7 @@ bin/lib/machine/links.sh share/agenda/machine/links.sh
 bin/lib/machine/sources.sh share/agenda/machine/sources.sh
 bin/lib/machine/texts.sh share/agenda/machine/texts.sh
 bin/lib/machine/units.sh share/agenda/machine/units.sh
+bin/lib/machine/zone.sh share/agenda/machine/zone.sh
 bin/lib/package/copyright share/doc/agenda/copyright
 completions/_agenda share/zsh/site-functions/_agenda
 completions/_agenda-machine share/zsh/site-functions/_agenda-machine
@@ -522,6 +524,7 @@ if ! passed_over "the package" dpkg-deb readelf; then
 644 usr/share/agenda/machine/sources.sh
 644 usr/share/agenda/machine/texts.sh
 644 usr/share/agenda/machine/units.sh
+644 usr/share/agenda/machine/zone.sh
 755 usr/share/bash-completion/
 755 usr/share/bash-completion/completions/
 644 usr/share/bash-completion/completions/agenda
@@ -550,6 +553,7 @@ bin/lib/machine/links.sh usr/share/agenda/machine/links.sh
 bin/lib/machine/sources.sh usr/share/agenda/machine/sources.sh
 bin/lib/machine/texts.sh usr/share/agenda/machine/texts.sh
 bin/lib/machine/units.sh usr/share/agenda/machine/units.sh
+bin/lib/machine/zone.sh usr/share/agenda/machine/zone.sh
 bin/lib/package/copyright usr/share/doc/agenda/copyright
 completions/_agenda usr/share/zsh/vendor-completions/_agenda
 completions/_agenda-machine usr/share/zsh/vendor-completions/_agenda-machine

@@ -3,9 +3,10 @@
 #
 # Usage: fleet.sh [--limit COUNT] SINCE UPTO FOLDER ..
 #
-# The moments are as agenda-machine takes them, and COUNT is the most starts that a machine may have. A line has the moment, the machine,
-# the job and what it runs, with tabs between; no header stands before them. A machine is named as its folder. Of one moment the lines of an
-# earlier FOLDER come first, and those of one machine stay in its order.
+# The moments are as agenda-machine takes them, and COUNT is the most starts that a machine may have. Texts of moments are read in UTC, and
+# rules in the time zone of their machine. A line has the moment, the machine, the job and what it runs, with tabs between; no header stands
+# before them. A machine is named as its folder. Of one moment the lines of an earlier FOLDER come first, and those of one machine stay in
+# its order.
 #
 # What is said of a machine goes to standard error, each line with its name in front. One that fails has one line that says why, and none in
 # the agenda. The status is 1 where a machine has failed, 2 where the words are no use of the script, and 3 where the answers can't be kept
@@ -41,7 +42,7 @@ write_said() {
   local line fault=
   while IFS= read -r line; do
     case $line in
-      'agenda-machine: left out '* | 'agenda-machine: rules are read as '*) printf '%s: %s\n' "$name" "$line" ;;
+      'agenda-machine: left out '* | 'agenda-machine: the zone is '*) printf '%s: %s\n' "$name" "$line" ;;
       *) fault+=${fault:+ }$line ;;
     esac
   done
