@@ -1,0 +1,193 @@
+# shellcheck shell=bash disable=SC2154
+# Compares starts around changes of clocks: of events with those of systemd-analyze, of crontabs with those of cron's own daemon, which
+# runs on a clock that is simulated. bin/witness sources this file.
+
+zones=(
+  # zones with plain summer time, then those whose changes have odd sizes, odd hours or odd flags
+  Europe/Oslo Europe/London America/New_York Australia/Sydney
+  Africa/Cairo Africa/Casablanca Africa/Juba Africa/Windhoek America/Argentina/San_Luis America/Asuncion America/Caracas
+  America/Goose_Bay America/Havana America/Metlakatla America/Nuuk America/Santiago America/Sao_Paulo America/Scoresbysund
+  America/St_Johns America/Whitehorse Antarctica/Casey Antarctica/Macquarie Antarctica/Troll Antarctica/Vostok Asia/Almaty Asia/Beirut
+  Asia/Colombo Asia/Dhaka Asia/Gaza Asia/Kathmandu Asia/Pyongyang Asia/Singapore Asia/Srednekolymsk Asia/Tehran Atlantic/Azores
+  Australia/Lord_Howe Europe/Dublin Europe/Istanbul Europe/Lisbon Europe/Moscow Pacific/Apia Pacific/Chatham Pacific/Fiji
+  Pacific/Kiritimati Pacific/Kwajalein Pacific/Norfolk
+)
+# systemd-analyze prints no times in UTC for this one, since it has no summer time and was last on UTC
+zones_of_cron=(Africa/Sao_Tome)
+# how many events are asked for at each of four times around a change, and how many rules
+zone_events=6
+zone_rules=24
+
+# Runs the function $1 on shares of the lines of the file $2 at the same time, and prints what all print, in order. What systemd says of a
+# text can depend on those before it, so the number of the shares doesn't depend on the machine.
+in_shares() {
+  local shares=4 share
+  local -a children=()
+  for ((share = 1; share <= shares; share++)); do
+    split -n "l/$share/$shares" "$2" | "$1" >"$2.share.$share" &
+    children+=($!)
+  done
+  wait "${children[@]}"
+  for ((share = 1; share <= shares; share++)); do cat "$2.share.$share"; done
+}
+
+# Asks agenda for $asked starts of each event of standard input, whose lines have a zone, a time and an event: an answer a line.
+agenda_in_zones() {
+  local zone after text
+  ulimit -t 60
+  while IFS=$'\t' read -r zone after text; do
+    "$program" next --zone "$zone" --after "$after" --count "$asked" "--calendar=$text" </dev/null 2>&1
+    echo "= $?"
+  done | awk '
+    !/^= [0-9]+$/ { answer = answer (answer == "" ? "" : " ") $0; next }
+    { print ($2 == 0 ? answer : "status " $2 ": " answer); answer = "" }'
+}
+
+# Asks systemd for $asked starts of each event of standard input, whose lines have a zone, a time and an event: an answer a line.
+systemd_in_zones() {
+  local zone after text last_zone='' last_after=''
+  local -a texts=()
+  while IFS=$'\t' read -r zone after text; do
+    if [ "$zone $after" != "$last_zone $last_after" ]; then
+      ask_systemd_in "$last_zone" "$last_after" "${texts[@]}"
+      last_zone=$zone last_after=$after texts=()
+    fi
+    texts+=("$text")
+  done
+  ask_systemd_in "$last_zone" "$last_after" "${texts[@]}"
+}
+
+# Asks systemd in the zone $1 for $asked starts after $2 of each event from $3 on: an answer a line.
+ask_systemd_in() {
+  local zone=$1 after="${2:0:10} ${2:11:8} UTC"
+  shift 2
+  [ $# = 0 ] || TZ=$zone systemd-analyze calendar --iterations="$asked" --base-time="$after" -- "$@" 2>&1 </dev/null |
+    awk -f "$parts/zone-answers.awk" -v count=$#
+}
+
+# Compares agenda with cron's daemon on the rules of standard input, a line each as zone-texts.awk writes them. Those of one zone and span
+# are one crontab. A line for each rule has the verdict of zone-crontab.awk.
+crontabs_in_zones() {
+  local zone since upto gap rule table at=0
+  local -a last=()
+  table=$(mktemp -d "$work/zones/crontab.XXXXXX") || return
+  while IFS=$'\t' read -r zone since upto gap rule; do
+    if [ "$zone $since $upto $gap" != "${last[*]-}" ]; then
+      [ $at = 0 ] || compare_crontab_in "$table" "${last[@]}"
+      last=("$zone" "$since" "$upto" "$gap") at=0
+      : >"$table/crontab"
+    fi
+    at=$((at + 1))
+    printf '%s %s\n' "$rule" "$at" >>"$table/crontab"
+  done
+  [ $at = 0 ] || compare_crontab_in "$table" "${last[@]}"
+}
+
+# Compares agenda with cron's daemon on the file `crontab` of the directory $1, in the zone $2, from $3 on up to $4, where the clock is put
+# forward at $5.
+compare_crontab_in() {
+  local status
+  TZ=$2 "$work/cron-clock" "$3" "$4" "$1/crontab" >"$1/daemon" 2>/dev/null </dev/null
+  status=$?
+  "$program" plan --zone "$2" --since "$3" --upto "$4" --limit 1000000 --crontab "$1/crontab" >"$1/plan" 2>&1 </dev/null
+  awk -f "$parts/zone-crontab.awk" -v zone="$2" -v since="$3" -v gap="$5" -v statuses="$status $?" \
+    file=1 "$1/crontab" file=2 "$1/daemon" file=3 "$1/plan"
+}
+
+# Writes the changes of the zones from $2 on to the file `changes` of the directory $1, which it makes.
+list_changes() {
+  local directory=$1
+  shift
+  mkdir -p "$directory"
+  zdump -V -c 1970,2080 "$@" 2>/dev/null | awk -f "$parts/zone-clock.awk" -f "$parts/zone-changes.awk" >"$directory/changes"
+  [ -s "$directory/changes" ]
+}
+
+# Writes texts of the form $2, $3 for each time or change, around the changes of the directory $1.
+make_zone_texts() {
+  awk -f "$parts/zone-clock.awk" -f "$parts/zone-texts.awk" -v form="$2" -v texts="$3" -v seed="$seed" "$1/changes"
+}
+
+# Runs the stage $1 of zone-judge.awk.
+judge_zones() {
+  awk -f "$parts/zone-clock.awk" -f "$parts/zone-judge.awk" -v zones="$work/zones" -v stage="$1" </dev/null
+}
+
+# Counts the verdicts of standard input, which are about the $3 $1, and prints a table below the line $2. After a verdict that is unknown,
+# and a tab, follows what is wrong.
+count_verdicts() {
+  local verdicts=$work/zones/all line known unknown
+  cat >"$verdicts"
+  [ "$(wc -l <"$verdicts")" = "$3" ] || tell "$(wc -l <"$verdicts") verdicts"
+  count "the number of the $1"
+  known=$(grep -cv '^unknown' "$verdicts")
+  unknown=$(grep -c '^unknown' "$verdicts")
+  echo "$2"
+  cut -f 1 "$verdicts" | sort | uniq -c | sort -k 1,1nr | awk '
+    { count = $1; sub(/^ *[0-9]+ /, "") }
+    { printf "%8d  %s\n", count, $0 == "same" ? "the same starts" : $0 == "unknown" ? "UNKNOWN DIFFERENCE" : "other starts: " $0 }'
+  passed=$((passed + known))
+  while IFS= read -r line; do
+    tell "$line"
+    count "one of the $1"
+  done < <(grep -m "$most_shown" '^unknown' "$verdicts" | cut -f 2-)
+  [ "$unknown" -le "$most_shown" ] || echo "FAILED: $((unknown - most_shown)) more of the $1"
+  [ "$unknown" -le "$most_shown" ] || failed=$((failed + unknown - most_shown))
+}
+
+# Prints the events that docs/DIFFERENCES.md has as examples around changes of the clock, a line each as zone-texts.awk writes them.
+list_examples() {
+  awk '
+    /^## / { inside = $0 == "## Changes of the clock" }
+    inside && match($0, /[|] [A-Za-z_\/]+, `[^`]+`, after [0-9TZ:-]+ [|]/) {
+      split(substr($0, RSTART + 2, RLENGTH - 4), words, /, `|`, after /)
+      print words[1] "\t" words[3] "\t" words[2]
+    }' "$top/docs/DIFFERENCES.md"
+}
+
+# Says how many texts of the kind $2 the file $1 has, around how many changes and in how many zones; $3 are for each change.
+say_texts() {
+  awk -F '\t' -v kind="$2" -v each="$3" '
+    { zones[$1] }
+    END {
+      for (zone in zones) count++
+      printf "%s in zones: %d, around %d changes in %d zones", kind, NR, NR / each, count
+    }' "$1"
+}
+
+# Compares events in zones.
+compare_zone_events() {
+  local directory=$work/zones
+  if ! list_changes "$directory" "${zones[@]}"; then
+    echo "events in zones: skipped, since zdump or the time zone database is not here"
+    return
+  fi
+  make_zone_texts "$directory" calendar $zone_events >"$directory/events"
+  list_examples >>"$directory/events"
+  asked=$starts
+  in_shares agenda_in_zones "$directory/events" >"$directory/agenda"
+  in_shares systemd_in_zones "$directory/events" >"$directory/systemd"
+  judge_zones 1
+  asked=1
+  in_shares systemd_in_zones "$directory/steps" >"$directory/steps.systemd"
+  judge_zones 2
+  in_shares systemd_in_zones "$directory/questions" >"$directory/questions.systemd"
+  judge_zones 3 | paste - "$directory/events" |
+    awk -F '\t' -v OFS='\t' '$1 == "" || $1 == "unknown" { print "unknown", "\047" $NF "\047 in " $(NF - 2) ": " $2; next } { print $1 }' >"$directory/verdicts"
+  count_verdicts events "$(say_texts "$directory/events" events $((4 * zone_events))), agenda beside \
+$(systemd-analyze --version | head -n 1)" "$(wc -l <"$directory/events")" <"$directory/verdicts"
+}
+
+# Compares crontabs in zones, with the cron that $1 names.
+compare_zone_crontabs() {
+  local directory=$work/zones
+  if ! list_changes "$directory" "${zones[@]}" "${zones_of_cron[@]}"; then
+    echo "rules of cron in zones: skipped, since zdump or the time zone database is not here"
+    return
+  fi
+  make_zone_texts "$directory" cron $zone_rules >"$directory/rules"
+  in_shares crontabs_in_zones "$directory/rules" >"$directory/starts"
+  cut -f 2- "$directory/starts" | awk -F '\t' -v OFS='\t' '$1 == "unknown" { print $1, $3 ": " $2; next } { print $1 }' >"$directory/verdicts"
+  count_verdicts rules "$(say_texts "$directory/rules" "rules of cron" $zone_rules), agenda beside $1; \
+$(awk '{ starts += $1 } END { printf "%d", starts }' "$directory/starts") starts" "$(wc -l <"$directory/rules")" <"$directory/verdicts"
+}
