@@ -1,0 +1,71 @@
+# shellcheck shell=bash disable=SC2154
+# The rules of the documents. .ci/run, bin/check and rows/documents.sh source this file after bin/lib/counts.sh. The functions check the
+# documents of the project in the working directory.
+
+document_parts=$top/bin/lib/documents
+
+# Runs awk on bytes, so that each awk gives the same answers.
+document_awk() {
+  LC_ALL=C awk "$@"
+}
+
+# Lists the files and directories of the project.
+document_files() {
+  find . \( -name .git -o -name out \) -prune -o -printf '%P\n'
+}
+
+# Lists the pages of Markdown whose paths begin with $1, or all of them.
+markdown_pages() {
+  find . \( -name .git -o -name out \) -prune -o -path "./${1:-}*.md" -printf '%P\n' | LC_ALL=C sort
+}
+
+# Reports lines of prose of more than 100 columns in Markdown.
+report_long_prose() {
+  local pages
+  mapfile -t pages < <(markdown_pages)
+  document_awk -v longest=100 -f "$document_parts/markdown.awk" -f "$document_parts/prose.awk" "${pages[@]}"
+}
+
+# Reports table cells of more than 250 characters in Markdown.
+report_long_cells() {
+  local pages
+  mapfile -t pages < <(markdown_pages)
+  document_awk -v longest=250 -f "$document_parts/markdown.awk" -f "$document_parts/cells.awk" "${pages[@]}"
+}
+
+# Reports links to files and headings that don't exist, in Markdown and manual pages.
+report_dead_links() {
+  local pages
+  mapfile -t pages < <(markdown_pages)
+  document_files |
+    document_awk -f "$document_parts/markdown.awk" -f "$document_parts/links.awk" reads=paths - reads=pages "${pages[@]}" man/*.1
+}
+
+# Prints the prose that users read: README.md, the pages of examples/, the manual pages and the help texts.
+print_prose() {
+  local pages scripts
+  mapfile -t pages < <(markdown_pages examples/)
+  mapfile -t scripts < <(grep -d skip -l '^say_\(usage\|help\)()' bin/*)
+  document_awk -f "$document_parts/markdown.awk" -f "$document_parts/texts-markdown.awk" README.md "${pages[@]}"
+  document_awk -f "$document_parts/texts-mdoc.awk" man/*.1
+  document_awk -f "$document_parts/texts-help.awk" crates/agenda_words/src/command/help.rt "${scripts[@]}"
+}
+
+# Reports words of the list in that prose, apart from the exceptions of the file $1.
+report_words() {
+  print_prose |
+    document_awk -f "$document_parts/words.awk" reads=words "$document_parts/words" reads=exceptions "$1" reads=texts - |
+    LC_ALL=C sort -t : -k 1,1 -k 2,2n
+}
+
+# Checks the documents, a count for each rule.
+check_documents() {
+  report_long_prose >"$work/told" 2>&1
+  count "the lines of the documents"
+  report_long_cells >"$work/told" 2>&1
+  count "the tables of the documents"
+  report_words bin/lib/documents/exceptions >"$work/told" 2>&1
+  count "the words of the documents"
+  report_dead_links >"$work/told" 2>&1
+  count "the links of the documents"
+}
