@@ -45,10 +45,10 @@ BEGIN {
 /^\.Bd .*-(literal|unfilled)/ { inside = 1 }
 /^\.Ed/ { inside = 0 }
 inside { next }
-/^\.Bl/ { list[++depth] = $2 }
+/^\.Bl/ { is_diag[++depth] = / -diag/ }
 /^\.El/ { depth-- }
 /^\.(Pp|Sh|Ss|It|Bl|El|Bd|Ed|D1|Dl|Nd)/ { print "" }
-/^\.(Pp|Bl|El|Bd|Ed|Dd|Dt|Os)/ || (/^\.It/ && list[depth] == "-diag") { next }
+/^\.(Pp|Bl|El|Bd|Ed|Dd|Dt|Os)/ || (/^\.It/ && is_diag[depth]) { next }
 
 /^\./ {
   count = split_words(substr($0, 2), words)

@@ -33,15 +33,17 @@ function report(start, end, instead,   i) {
 }
 
 # Checks the paragraph, which ends like a sentence. What an entry of the list matches, the ones after it don't match again.
-function check_paragraph(   whole, text, i, start, end) {
+function check_paragraph(   whole, text, i, from, start, end) {
   whole = tolower(without_spans(paragraph))
   text = whole ". "
   for (i = 1; i <= words; i++) {
-    while (match(text, pattern[i])) {
-      start = RSTART + (pattern[i] ~ /^\[\^a-z/)
-      end = RSTART + RLENGTH - 1
+    from = 1
+    while (match(substr(text, from), pattern[i])) {
+      start = from + RSTART - 1 + has_left[i]
+      end = from + RSTART + RLENGTH - 2
       if (!is_excepted(whole, start, end)) report(start, end, better[i])
       text = substr(text, 1, start - 1) filler(end - start) substr(text, end)
+      from = end > from ? end : from + 1
     }
   }
 }
@@ -61,7 +63,9 @@ reads == "words" {
     print FILENAME ":" FNR ": entry '" $0 "': write it as PATTERN -> BETTER WORD"
     next
   }
-  pattern[++words] = (parts[1] ~ /^[a-z0-9([]/ ? "[^a-z0-9_-]" : "") "(" parts[1] ")[^a-z0-9_-]"
+  # a pattern matches whole words, with another character on both sides; one that begins with a comma needs none before it
+  has_left[++words] = parts[1] !~ /^,/
+  pattern[words] = (has_left[words] ? "[^a-z0-9_-]" : "") "(" parts[1] ")[^a-z0-9_-]"
   better[words] = parts[2]
   next
 }
