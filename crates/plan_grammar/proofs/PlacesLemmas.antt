@@ -1,7 +1,6 @@
 -- The places that a list of items stands for, checked one by one.
 -- For the loops of `first_fault` (`first_place_fault-push`, `-found`) and of `listed_places` (the rest). Errors are by
--- induction over the items: the first error stays the first. Places are a case split on whether a value is the place of
--- the turn.
+-- induction over the items: the first error stays the first. Places are a case split on whether a value is the place of the turn.
 use Rattle.std.proofs.Common.{◌≡◌, ℕ, ◌+◌, Bool, true, false, ◌&&◌, ◌||◌, nat_eq, List, [], ◌∷◌, ◌++◌, take, drop, Option, Some, None, refl, ap, sym, ◌∙◌, arith, inl, inr, take-append-drop, ◌⊎◌}
 use Rattle.std.proofs.lemmas.Bool.{cases_eq}
 use Rattle.std.proofs.lemmas.Bool.Decides.{nat_tests}

@@ -97,8 +97,7 @@ unfoldable pub field_reading : Field → List ℕ → Reading SetOfValues
 field_reading field text =
     values_by (part_of field) (λ items. set_reading items (lowest field) (highest field)) (items_reading field text)
 
--- whether a day of the week, from 0 for Sunday, is among the written days, in which 7 is Sunday too (crontab(5),
--- fields)
+-- whether a day of the week, from 0 for Sunday, is among the written days, in which 7 is Sunday too (crontab(5), fields)
 abbrev pub has_week_day : SetOfValues → ℕ → Bool
 has_week_day written day = has_value written day || ((day == 0) && has_value written 7)
 
@@ -133,8 +132,7 @@ five_fields (minute ∷ hour ∷ month_day ∷ month ∷ week_day ∷ []) = do
       }))
 five_fields other = refused 0 WrongParts
 
--- the words that begin with `@`, each with the five fields that it abbreviates (crontab(5), extensions); `@reboot` has
--- no fields
+-- the words that begin with `@`, each with the five fields that it abbreviates (crontab(5), extensions); `@reboot` has no fields
 abbrev pub at_words : List (List ℕ × Option (List ℕ))
 at_words =
     (codes "@yearly", Some (codes "0 0 1 1 *"))
@@ -147,8 +145,7 @@ at_words =
     ∷ (codes "@reboot", None)
     ∷ []
 
--- what a word that begins with `@` abbreviates; None if it isn't in the table; it must be in lower case, as the table
--- is (agenda)
+-- what a word that begins with `@` abbreviates; None if it isn't in the table; it must be in lower case, as the table is (agenda)
 abbrev pub at_word : List ℕ → Option (Option (List ℕ))
 at_word word = option_map (λ known. known.1) (find (λ known. bytes_eq known.0 word) at_words)
 

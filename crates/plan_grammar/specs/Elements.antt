@@ -1,6 +1,5 @@
 -- The elements of a list, which have the same form in crontab(5) and in systemd.time(7): a value or a range of values,
--- and a step. The definitions have parameters for how a value is read, which mark a range has, and what an element
--- means.
+-- and a step. The definitions have parameters for how a value is read, which mark a range has, and what an element means.
 use Rattle.std.specs.Prelude.{ℕ, ◌==◌, if◌then◌else◌, List, length, codes, Option, Some, None, Result, Ok, Err, ok_or}
 use Rattle.std.specs.Str.{bytes_eq}
 use Rattle.plan_sets.specs.declared.item.Item.{Item}
@@ -13,8 +12,7 @@ use Rattle.plan_texts.specs.Text.{cut_at, number_of}
 use Rattle.plan_texts.specs.Steps.{◌>>=◌}
 use Rattle.plan_grammar.specs.Readings.{Reading, refused}
 
--- a number in a part of the text: an empty text is WrongParts, and any other text that isn't a number is BadNumber
--- (agenda)
+-- a number in a part of the text: an empty text is WrongParts, and any other text that isn't a number is BadNumber (agenda)
 abbrev pub number_reading : ℕ → List ℕ → Reading ℕ
 number_reading part text =
     if length text == 0 then refused part WrongParts

@@ -1,5 +1,4 @@
--- The meaning of the text of a calendar event (systemd.time(7), calendar events): an event, or the first error with its
--- part.
+-- The meaning of the text of a calendar event (systemd.time(7), calendar events): an event, or the first error with its part.
 use Rattle.std.specs.Prelude.{ℕ, ◌+◌, ◌-◌, ◌%◌, Bool, false, not, ◌&&◌, ◌||◌, ◌==◌, nat_le, nat_lt, if◌then◌else◌, List, [], ◌∷◌, length, take, drop, min, max, find, position, slice_index_or, codes, Option, Some, None, Result, Ok, is_some, ok_or}
 use Rattle.std.specs.Char.{is_ascii_alphabetic}
 use Rattle.std.specs.List.{list_any, list_all}
@@ -196,8 +195,7 @@ without_comma text = if bytes_eq (drop (length text - 1) text) (codes ",") then 
 unfoldable pub weekday_items : List ℕ → Reading (List Item)
 weekday_items text = each weekday_item (pieces (byte ",") (without_comma text))
 
--- the weekdays of the weekday part, from 0 for Monday to 6 for Sunday; a range must not run past the end of the week
--- (agenda)
+-- the weekdays of the weekday part, from 0 for Monday to 6 for Sunday; a range must not run past the end of the week (agenda)
 unfoldable pub weekdays_reading : List ℕ → Reading SetOfValues
 weekdays_reading text = values_by 1 (λ items. set_reading items 0 6) (weekday_items text)
 

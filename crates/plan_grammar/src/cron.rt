@@ -159,8 +159,7 @@ fn week_days(written: &ValueSet) -> ValueSet
     days
 }
 
-// Returns whether a day of the week, from 0 for Sunday to 6, is among the written days, in which 7 is Sunday
-// too.
+// Returns whether a day of the week, from 0 for Sunday to 6, is among the written days, in which 7 is Sunday too.
 fn has_week_day(written: &ValueSet, day: u16) -> bool
     ensures { result ≡ has_week_day written.now day }
 {

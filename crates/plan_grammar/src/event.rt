@@ -109,8 +109,7 @@ fn has_zone(words: &[&[u8]]) -> bool
     }
 }
 
-// Returns the words before the zone. The last word is a zone if it isn't the first word and begins with a
-// letter.
+// Returns the words before the zone. The last word is a zone if it isn't the first word and begins with a letter.
 #[tactic(auto, unfolding(crate::specs::Event::zone_dropped))]
 fn without_zone<'w, 't>(words: &'w [&'t [u8]]) -> Result<&'w [&'t [u8]], RuleFault>
     ensures { GivesBy (λ left. map (λ word. word.now) left.now) result

@@ -1,8 +1,7 @@
 //! Parses the texts of cron rules and of calendar events, and reports why a text is not a rule.
 //!
 //! This crate uses plan_texts to cut a text, and makes rules of plan_match. For cron rules read `cron`, then
-//! `field`. For calendar events read `event`, then `shape`, `component` and `places`. `fault` has the errors of
-//! both.
+//! `field`. For calendar events read `event`, then `shape`, `component` and `places`. `fault` has the errors of both.
 #![tactic(auto)]
 
 mod component;

@@ -74,8 +74,7 @@ fn is_listed(items: &[Item], place: u16) -> bool
     items.iter().any(|item| belongs(*item, place))
 }
 
-// Returns whether a place belongs to an item. Steps go from the greater place down, towards the last day of the
-// month.
+// Returns whether a place belongs to an item. Steps go from the greater place down, towards the last day of the month.
 fn belongs(item: Item, place: u16) -> bool
     ensures { result ≡ place_belongs item place }
 {

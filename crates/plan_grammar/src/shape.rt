@@ -1,5 +1,4 @@
-//! The shape of a calendar event: which of its words, and which pieces of them, are its components
-//! (systemd.time(7)).
+//! The shape of a calendar event: which of its words, and which pieces of them, are its components (systemd.time(7)).
 
 ghost use Rattle.std.specs.Prelude.{◌≡◌, map};
 ghost use Rattle.std.specs.Option.{option_map};

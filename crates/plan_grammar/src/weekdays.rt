@@ -23,8 +23,7 @@ fn weekday_fault(cause: RuleCause) -> RuleFault
     }
 }
 
-// Returns whether a name is a weekday's full name or its first three letters. Upper and lower case are the
-// same.
+// Returns whether a name is a weekday's full name or its first three letters. Upper and lower case are the same.
 fn names_weekday(name: &[u8], full: &[u8]) -> bool
     ensures { result ≡ names_weekday name.now full.now }
 {

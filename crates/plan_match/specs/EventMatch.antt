@@ -14,8 +14,7 @@ use Rattle.plan_match.specs.declared.event.Calendar.{Calendar}
 abbrev pub place_from_end : Civil → ℕ
 place_from_end civil = length_of_month civil.year civil.month - civil.day + 1
 
--- whether the calendar has the day of the civil fields, in the years of the planner (agenda); it always has the day of
--- a second
+-- whether the calendar has the day of the civil fields, in the years of the planner (agenda); it always has the day of a second
 abbrev pub is_day : Civil → Bool
 is_day civil =
     is_within first_year last_year civil.year

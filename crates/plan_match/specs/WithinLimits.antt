@@ -21,8 +21,7 @@ pub record CronIsWithinLimits (rule : CronRule) : Type 0 where
   pub months : LieWithin 1 12 rule.months
   pub week_days : LieWithin 0 6 rule.week_days
 
--- the limits of the components of a calendar event (systemd.time(7); the years: (agenda)); weekdays are from 0 for
--- Monday
+-- the limits of the components of a calendar event (systemd.time(7); the years: (agenda)); weekdays are from 0 for Monday
 pub record EventIsWithinLimits (event : Calendar) : Type 0 where
   pub years : LieWithin first_year last_year event.years
   pub months : LieWithin 1 12 event.months

@@ -95,8 +95,7 @@ impl CronRule {
     /// Returns whether the rule matches the day of these civil fields. Only the date and the weekday are read.
     pub fn day_matches(&self, civil: &Civil) -> bool
         ensures value { result ≡ day_matches self.now civil.now }
-        // The rule matches if and only if the day matches, hour and minute are among its values, and the second
-        // is 0.
+        // The rule matches if and only if the day matches, hour and minute are among its values, and the second is 0.
         ensures rule { IsTrue (cron_matches self.now civil.now)
             ↔ (IsTrue result × HasTimeOfDay self.now civil.now) }
         ensures month { IsTrue result → IsTrue (has_value self.now.months civil.now.month) }
@@ -104,8 +103,7 @@ impl CronRule {
         self.months.contains(u16::from(civil.month)) && self.days_admit(civil)
     }
 
-    // Returns whether the day fields match the day. If both are restricted, one match is enough; else both must
-    // match.
+    // Returns whether the day fields match the day. If both are restricted, one match is enough; else both must match.
     fn days_admit(&self, civil: &Civil) -> bool
         ensures { result ≡ days_admit self.now civil.now }
     {

@@ -120,8 +120,7 @@ impl Calendar {
             && self.weekday_matches(civil)
     }
 
-    /// Returns whether the event matches the second that has these civil fields: its day, hour, minute and
-    /// second.
+    /// Returns whether the event matches the second that has these civil fields: its day, hour, minute and second.
     pub fn matches(&self, civil: &Civil) -> bool
         ensures value { result ≡ event_matches self.now civil.now }
     {

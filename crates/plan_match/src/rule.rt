@@ -50,8 +50,7 @@ impl Eq for Rule {
 }
 
 impl Rule {
-    /// Returns the same rule in the zone of a clock. An event that names its own zone keeps that
-    /// (systemd.time(7)).
+    /// Returns the same rule in the zone of a clock. An event that names its own zone keeps that (systemd.time(7)).
     ///
     /// # Errors
     ///
@@ -66,8 +65,7 @@ impl Rule {
         }
     }
 
-    /// Returns whether a job with this rule starts at the second that has these civil fields. `Never` has no
-    /// starts.
+    /// Returns whether a job with this rule starts at the second that has these civil fields. `Never` has no starts.
     pub fn matches(&self, civil: &Civil) -> bool
         ensures { result ≡ rule_matches self.now civil.now }
     {

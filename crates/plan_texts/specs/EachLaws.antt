@@ -59,8 +59,7 @@ each-fault f all k ys x e inside is so_far here =
     (λ y. take k all ++ y ∷ drop (k + 1) all) (sym is) in
     ap (each f) whole ∙ fault_first f (take k all) (drop (k + 1) all) ys x e so_far here
 
--- a loop over an iterator: if the elements so far were read, and the next one has an error, then the whole list has
--- that error
+-- a loop over an iterator: if the elements so far were read, and the next one has an error, then the whole list has that error
 pub each-turn :
     {S A B C E : Type 0} {steps : S → Option A → S → Type 0} {v : A → B} {s : S} {all : List B} (f : B → Result C E)
     (road : YieldsList steps v s all) (xs : List A) (t : S) (y : Yields steps s xs t) (r : Option A) (u : S) (x : A) →

@@ -19,8 +19,7 @@ without_empty_end [] = []
 without_empty_end (last ∷ []) = if length last == 0 then [] else last ∷ []
 without_empty_end (line ∷ next ∷ more) = line ∷ without_empty_end (next ∷ more)
 
--- the lines of a text: each ends at a newline or at the end of the text, and a carriage return is an ordinary character
--- (agenda)
+-- the lines of a text: each ends at a newline or at the end of the text, and a carriage return is an ordinary character (agenda)
 unfoldable pub lines : List ℕ → List (List ℕ)
 lines text = without_empty_end (pieces (byte "\n") text)
 

@@ -18,8 +18,7 @@ line_text line = after_blanks (strip_carriage_return line)
 abbrev pub is_comment : List ℕ → Bool
 is_comment text = begins_with (λ b. (b == byte "#") || (b == byte ";")) text
 
--- a line continues on the next one if it ends in an odd number of backslashes (systemd.syntax(7); the count is
--- (agenda))
+-- a line continues on the next one if it ends in an odd number of backslashes (systemd.syntax(7); the count is (agenda))
 abbrev pub is_joined : List ℕ → Bool
 is_joined text = suffix_len (λ b. b == byte "\\") text % 2 == 1
 
@@ -29,8 +28,7 @@ with_space text = take (length text - 1) text ++ byte " " ∷ []
 
 -- ---- all lines
 
--- the lines that aren't comments, each with its number; comments are skipped even between merged lines
--- (systemd.syntax(7))
+-- the lines that aren't comments, each with its number; comments are skipped even between merged lines (systemd.syntax(7))
 abbrev pub numbered_texts : List (List ℕ) → List (ℕ × List ℕ)
 numbered_texts lines = filter (λ line. not (is_comment line.1)) (enumerate_from 1 (map line_text lines))
 

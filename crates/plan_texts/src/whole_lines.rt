@@ -97,8 +97,7 @@ fn is_comment(text: &str) -> bool
     matches!(text.as_bytes(), [b'#' | b';', ..])
 }
 
-// Returns what comes before the last backslash of a line that the next line continues, or `None` for any other
-// line.
+// Returns what comes before the last backslash of a line that the next line continues, or `None` for any other line.
 fn before_backslash(text: &str) -> Option<&str>
     ensures { option_map (λ front. front.now) result
         ≡ (if is_joined text.now then Some (take (length text.now - 1) text.now) else None) }
