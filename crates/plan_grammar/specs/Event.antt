@@ -101,7 +101,7 @@ spread_item component (Value value) (Some step) = Onward value step
 spread_item component (Between first last) None = Range first last 1
 spread_item component (Between first last) (Some step) = Range first last step
 
--- as above, but in days from the end of the month a step after `*` is rejected (agenda)
+-- the item of an element, as in `spread_item`; in days from the month's end a step after `*` is rejected (agenda)
 abbrev pub component_item_of : Component → Side → Option ℕ → Reading Item
 component_item_of Place Star (Some step) = refused 4 WrongParts
 component_item_of component side step = Ok (spread_item component side step)
@@ -173,7 +173,7 @@ unfoldable pub weekday_reading : List ℕ → Reading ℕ
 weekday_reading name =
     if length name == 0 then refused 1 WrongParts else ok_or (weekday_of name) (record { part = 1; cause = BadName })
 
--- one weekday, or the weekdays from one to another
+-- one weekday, or the weekdays from one to another (systemd.time(7))
 abbrev pub weekday_span : List ℕ → Option (List ℕ × List ℕ) → Reading Item
 weekday_span text None = do
   day ← weekday_reading text

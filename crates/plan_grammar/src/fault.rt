@@ -22,7 +22,7 @@ pub enum RuleCause {
     Fraction,
     /// 7: the time zone isn't UTC.
     Zone,
-    /// 8: the text begins with `@`, or is one word of letters, but isn't a word that abbreviates a rule.
+    /// 8: a word that abbreviates a whole rule, such as `@daily`, is unknown.
     UnknownWord,
     /// 9: the text contains a specifier, which begins with `%`.
     Specifier,

@@ -1,6 +1,6 @@
 //! Parses the texts of cron rules and of calendar events, and reports why a text is not a rule.
 //!
-//! This crate uses plan_texts to cut a text, and makes rules of plan_match. For cron rules read `cron`, then
+//! This crate uses plan_texts to cut a text, and makes the rules of plan_match. For cron rules read `cron`, then
 //! `field`. For calendar events read `event`, then `shape`, `component` and `places`. `fault` has the errors of both.
 #![tactic(auto)]
 

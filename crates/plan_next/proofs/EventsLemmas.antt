@@ -27,7 +27,7 @@ or_right : (a b : Bool) → b ≡ true → (a || b) ≡ true
 or_right true b h = refl
 or_right false b h = h
 
--- the second test is searched up to the first answer: its answer is the first of both tests, or if it has none, the first answer is
+-- if the second test is searched only up to the first answer, its answer is the first of both; if it has none, the first answer is
 IsFirstIn-narrowed :
     (p q : ℕ → Bool) (a b : ℕ) (first second : Option ℕ) → IsFirstIn p a b first → IsFirstIn q a (unwrap_or first b) second →
     IsFirstIn (λ n. p n || q n) a b (option_or second first)

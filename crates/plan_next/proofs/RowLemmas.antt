@@ -279,7 +279,7 @@ far-none row true test n bounded none =
     some_between-no test (due row) (shown row n) (λ m low high. none m (omega (arith, ints)) (omega (arith, ints))))
     (λ away. passes-no test (shown row n) (λ m here. none m (omega (arith, ints)) (omega (arith, ints)))))
 
--- if the row is heeded, a start in it isn't repeated
+-- if the row's change is heeded, a start in it isn't repeated
 fresh_start : (row : Row) (heeds : Bool) (test : ℕ → Bool) (n : ℕ) → starts_in row heeds test n ≡ true → heeds ≡ true →
     due row ≤ℤ shown row n
 unfolding starts_in

@@ -62,7 +62,7 @@ impl Piece {
         &self.rule
     }
 
-    /// Returns the start of the part: its first second.
+    /// Returns the first second of the part.
     pub fn since(&self) -> u64
         ensures { result ≡ self.now.since }
     {

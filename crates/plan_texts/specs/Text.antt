@@ -43,7 +43,7 @@ stands_at mark text place = starts_with nat_eq (drop place text) mark
 abbrev pub StandsNowhereBefore : List ℕ → List ℕ → ℕ → Type 0
 StandsNowhereBefore mark text end = (place : ℕ) → place < end → stands_at mark text place ≡ false
 
--- the number that decimal digits write, if they continue the digits of another number
+-- the number that decimal digits write if they follow those of the number `before`
 abbrev pub digits_after : ℕ → List ℕ → ℕ
 digits_after before digits = fold (λ n digit. n * 10 + (digit - byte "0")) before digits
 

@@ -59,7 +59,7 @@ pub fn pieces(alloc: Global, text: &[u8], mark: u8) -> Result<Vec<&[u8]>, AllocE
 
 /// Returns what comes before and after the first `mark` in a text, or `None` if the text doesn't contain it.
 ///
-/// The mark isn't empty.
+/// The mark must not be empty.
 pub fn cut<'a>(text: &'a [u8], mark: &[u8]) -> Option<(&'a [u8], &'a [u8])>
     requires { 0 < length mark.now }
     ensures value { option_map (λ parts. (parts.0.now, parts.1.now)) result ≡ cut_at mark.now text.now }
