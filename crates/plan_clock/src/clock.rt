@@ -71,8 +71,8 @@ impl Clock {
 
     /// Makes the clock with these changes.
     ///
-    /// The first change is at second 0. Each later one is after the one before it and has another offset. No
-    /// offset is more than 26 hours from UTC (RFC 9636).
+    /// The first change must be at second 0. Each later one must be after the one before it and have another
+    /// offset. No offset may be more than 26 hours from UTC (RFC 9636).
     ///
     /// # Errors
     ///

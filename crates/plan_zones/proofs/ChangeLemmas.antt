@@ -119,7 +119,7 @@ push_near changes change each last k = elim (leb_tells (k + 1) (length (changes 
   | inr past ↦ ap (λ c. is_near c.offset) (get_or_past (changes ++ change ∷ []) k no_change (omega arith))
 ]
 
--- the offset before the new change, and after it
+-- the offset before the new change, and from it on
 offset_before :
     (changes : List Change) (change : Change) (n : ℕ) → n < change.second → 0 < passed_at changes n →
     offset_of (changes ++ change ∷ []) n ≡ offset_of changes n

@@ -30,7 +30,7 @@ change_at changes place = get_or changes place no_change
 abbrev pub ends_with_offset : List Change → ℤ → Bool
 ends_with_offset changes offset = not (length changes == 0) && int_eq (change_at changes (length changes - 1)).offset offset
 
--- the changes with one more, unless it has the same offset as the last
+-- the changes with one more, unless that one has the same offset as the last
 abbrev pub added : List Change → Change → List Change
 added changes change = if ends_with_offset changes change.offset then changes else changes ++ change ∷ []
 
