@@ -18,7 +18,7 @@ pub enum LineCause {
     BadSetting,
     /// 5: a cron rule or a calendar event is invalid. Its error is given, with a cause that is never `NoMemory`.
     Rule(RuleFault),
-    /// 6: a job has no command or, in the system's crontab, no user and command.
+    /// 6: a job has no command or, in the system's crontab, no user.
     NoCommand,
     /// 7: the file's name is not a valid name of a timer. The line is 0.
     BadTimerName,
