@@ -208,7 +208,7 @@ const REFUSED: u8 = 1;
 // The status if the arguments are invalid.
 const USAGE: u8 = 2;
 
-// The status if an allocation, a device or a file failed.
+// The status if an allocation, a device or a file failed, or if it isn't known what a planner sent.
 const FAILED: u8 = 3;
 
 impl Failure {

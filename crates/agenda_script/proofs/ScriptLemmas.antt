@@ -1,6 +1,6 @@
 -- How the steps of a script are read, from the first line to the last.
--- For the loop of `read_steps`, whose invariant is `AreRead`, and for `read_script`, whose bytes are UTF-8 or
--- not. The lines are numbered from 2 on. A turn of the loop is a law of `each` on the line at its place.
+-- For the loop of `read_steps`, whose invariant is `AreRead`, and for the two cases of `read_script`: bytes that are
+-- UTF-8, and others. The lines are numbered from 2 on. A turn of the loop is a law of `each` on the line at its place.
 use Rattle.std.proofs.Common.{◌≡◌, ℕ, ◌+◌, ◌<◌, ◌≤◌, List, [], ◌∷◌, ◌++◌, length, take, get_or, Ok, Err, refl, ap, ap₂, sym, ◌∙◌, arith, map, Bor, Bool, true, false, true≢false}
 use Rattle.std.proofs.lemmas.List.{take_more, take_all, get_or-map, length-map}
 use Rattle.std.proofs.lemmas.List.FromFn.{length-enumerate_from, get_or-enumerate_from}

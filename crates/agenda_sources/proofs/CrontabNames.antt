@@ -88,7 +88,7 @@ same_line label m n small other is =
 other_label : (m n : ℕ) → job_name (codes "system") m ≢ job_name (codes "cron") n
 other_label m n is = let first : 115 ≡ 99 = ap (λ name. get_or name 0 0) is in omega (arith, first)
 
--- the job of a line after this one, whose number fits in 64 bits
+-- the job of a later line, whose number fits in 64 bits
 pub record IsLineBehind (label : List ℕ) (low : ℕ) (job : JobParts) : Type 0 where
   pub number : ℕ
   pub behind : low < number

@@ -60,7 +60,7 @@ all place jobs [] = tt
 all place jobs (source ∷ more) =
     steps IsOwnFault (with_source place jobs source) _ (of_one place jobs source) (λ next. all (place + 1) next more)
 
--- ---- so each error that a call returns
+-- ---- so for each error that a call returns
 
 at_fault : {A : Type 0} (r : SourceReading A) (fault : SourceFault) → r ≡ Err fault → IfErr r IsOwnFault → IsOwnFault fault
 at_fault (Ok x) fault is own = absurd cc

@@ -65,7 +65,7 @@ reading_of CronD name bytes = tab_reading folder.CronD name bytes
 reading_of Spool name bytes = tab_reading folder.Spool name bytes
 reading_of Timer name bytes = alone (timer_reading name bytes)
 
--- a source as a file of plan_check, which gives all its findings
+-- the same source as a file of plan_check, for its findings
 abbrev pub file_of : SourceKind → (name bytes : List ℕ) → File
 file_of Crontab name bytes = file.Crontab (codes "cron") whose.User bytes
 file_of System name bytes = file.Crontab (codes "system") whose.System bytes

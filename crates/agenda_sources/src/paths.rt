@@ -45,7 +45,7 @@ impl SourcePaths {
     ///
     /// # Errors
     ///
-    /// If an allocation fails, the error returns the path, and the list is unchanged.
+    /// `AllocFailed`, with the path, if an allocation fails. The list is unchanged then.
     pub fn push(&mut self, path: SourcePath) -> Result<(), AllocFailed<SourcePath>>
         ensures list { self.new ≡ (if is_ok result then self.old ++ path ∷ [] else self.old) }
         ensures returned { IfErr result (λ refused. refused.value ≡ path) }

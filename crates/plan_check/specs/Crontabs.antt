@@ -16,8 +16,8 @@ use Rattle.plan_check.specs.Notes.{rule_notes}
 
 -- ---- one line
 
--- the findings of a line, if the file's name is good or bad: its one error, or what is wrong with its job's
--- name and then the notes
+-- the findings of a line: its one error, or what is wrong with its job's name, and then the notes. `is_named` says
+-- whether the file's name is good
 abbrev pub line_findings : Bool → KnownNames → ℕ → LineReading JobParts → List Finding
 line_findings is_named known line (Ok job) =
     cons_option (option_map (λ what. finding_at line what) (fault_where is_named known job.name)) [] ++ rule_notes known.clock line job.rule
@@ -61,8 +61,8 @@ crontab_findings known label kind bytes = text_findings true known (crontab_entr
 abbrev pub after_crontab : KnownNames → (label : List ℕ) → Kind → List ℕ → KnownNames
 after_crontab known label kind bytes = after_text true known (crontab_entries label kind bytes)
 
--- the findings of a crontab whose jobs have its file's name: the name is checked first, and the rest whether it
--- is good or bad
+-- the findings of a crontab whose jobs have its file's name: the name is checked first, and then the rest, even if
+-- the name is bad
 abbrev pub tab_findings : KnownNames → TabFolder → (name bytes : List ℕ) → List Finding
 tab_findings known folder name bytes =
     refused_if (not (is_tab_name folder name)) 0 BadTabName

@@ -21,8 +21,8 @@ no_names clock = record { added = []; told = false; clock = clock }
 abbrev pub is_added : List ℕ → List (List ℕ) → Bool
 is_added name names = list_any (bytes_eq name) names
 
--- what is wrong with a job of this name: first, whether another job has it, also if there are 1,000 jobs; then,
--- once, whether there are 1,000
+-- what is wrong with a job of this name: SameName if another job has it, even if there are 1,000 jobs; else Full if
+-- there are 1,000, which is reported only once
 abbrev pub name_fault : KnownNames → List ℕ → Option What
 name_fault known name =
     if is_added name known.added then Some SameName
@@ -36,12 +36,12 @@ names_after known name =
     else (if nat_lt (length known.added) most_jobs then record known { added = known.added ++ name ∷ [] }
     else record known { told = true })
 
--- the same for a file whose name is good or bad: a file whose name is bad makes no job
+-- the same if the file's name is good; a file whose name is bad makes no job
 abbrev pub fault_where : Bool → KnownNames → List ℕ → Option What
 fault_where true known name = name_fault known name
 fault_where false known name = None
 
--- the names after that
+-- the names after the job was checked, if the file's name is good
 abbrev pub after_where : Bool → KnownNames → List ℕ → KnownNames
 after_where true known name = names_after known name
 after_where false known name = known

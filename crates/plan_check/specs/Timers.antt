@@ -18,7 +18,7 @@ use Rattle.plan_check.specs.Notes.{never_starts}
 
 -- ---- one event
 
--- the finding of an event: its error, or that it never starts by itself, by the clock of a zone
+-- the finding of an event: its error, or that a job with only this event never starts, by the clock of a zone
 abbrev pub read_findings : List Change → ℕ → LineReading Calendar → List Finding
 read_findings clock line (Ok event) = noted_if (never_starts (rule_in clock (Events (event ∷ [])))) line NeverStarts
 read_findings clock line (Err cause) = refused_at line cause ∷ []
@@ -43,7 +43,7 @@ text_findings is_named known name (Ok parts) =
     ++ (noted_if (parts.has_section && (parts.held == 0)) 0 NoEvents ++ flat_map (event_findings known.clock) parts.events))
 text_findings is_named known name (Err fault) = refused_at fault.line fault.cause ∷ job_findings is_named known name
 
--- the findings of a timer file: its name is checked first, and the rest whether it is good or bad
+-- the findings of a timer file: its name is checked first, and then the rest, even if the name is bad
 abbrev pub timer_findings : KnownNames → (name bytes : List ℕ) → List Finding
 timer_findings known name bytes =
     refused_if (not (is_timer_name name)) 0 BadTimerName ++ text_findings (is_timer_name name) known name (timer_entries bytes)

@@ -53,7 +53,8 @@ pub fn crontab_findings(
     Ok(found)
 }
 
-/// Returns all findings of a crontab whose jobs have the name of its file (cron(8) of Debian).
+/// Returns all findings of a crontab whose jobs have the name of its file (cron(8) of Debian). Adds the names of its
+/// jobs to `names`, which has the names of the jobs before them.
 ///
 /// The first finding is `BadTabName`, of the whole file, if the name is empty or has a character other than
 /// letters, digits, `_` and `-`. In the spool directory `.` is allowed too, but not first. Then come the

@@ -8,7 +8,7 @@ use plan_rules::LineCause;
 /// A note: something valid that may not be what was meant.
 #[derive(Clone, Copy, Debug, PartialEq, Eq)]
 pub enum Note {
-    /// A rule of a crontab, or an event of a timer, has no start in all years.
+    /// A rule of a crontab, or an event of a timer, has no start from 1970 to 2999.
     NeverStarts,
     /// Both day fields of a rule are restricted, so either is enough (crontab(5)).
     EitherDay,

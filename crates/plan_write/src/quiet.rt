@@ -15,8 +15,8 @@ use plan_streams::{Stream, WriteFault};
 /// Writes the gaps of an agenda that last at least `least` seconds: one line for each, in order.
 ///
 /// A line has the time after which nothing starts, the time at which something starts again, and the seconds
-/// between them, in decimal, with tabs between the three. The first gap starts with the span, and the last one
-/// ends with it. This requests no memory. The stream is flushed once, at the end.
+/// between them, in decimal, with tabs between the three. A gap may also start with the span, or end with it.
+/// This requests no memory. The stream is flushed once, at the end.
 ///
 /// # Errors
 ///
