@@ -161,11 +161,10 @@ fn with_sizes<'a>(
     ensures app { IfOk result (λ new. app_of new ≡ with_sizes (app_of command.entry) limit.entry.now) }
     ensures local { IfOk result (λ new. (out-Command new).has_globals ≡ false) }
 {
-    let command = with_argument(
-        command,
-        number_option(alloc, "planners", "2", help::PLANNERS),
-    )?;
-    let command = with_argument(command, number_option(alloc, "room", "16", help::ROOM))?;
+    let planners = number_option(alloc, "planners", "2", help::PLANNERS);
+    let command = with_argument(command, planners.help_heading(help::TUNING))?;
+    let room = number_option(alloc, "room", "16", help::ROOM);
+    let command = with_argument(command, room.help_heading(help::TUNING))?;
     let command = with_argument(command, number_option(alloc, "limit", limit, help::LIMIT))?;
     Ok(command)
 }
