@@ -46,7 +46,7 @@ row_of_jobs job jobs (rule ∷ rules) second few =
     step (λ entry. nat_lt entry.1 jobs) (is_start rule second) (second, job) (row_from (job + 1) rules second)
     (λ is. lt-ltb job jobs (omega arith)) (row_of_jobs (job + 1) jobs rules second (omega arith))
 
--- the entries of an agenda are of jobs that have one of its rules
+-- each entry of an agenda has the number of one of the jobs with these rules
 pub agenda-of_rules : (rules : List Rule) (span : Bounds) → IsOfJobs (length rules) (agenda rules span)
 unfolding agenda
 agenda-of_rules rules span =

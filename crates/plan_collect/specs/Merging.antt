@@ -9,8 +9,7 @@ use Rattle.plan_collect.specs.Limits.{is_size}
 use Rattle.plan_collect.specs.Collecting.{Collected, begun, refusal, after, is_complete}
 use Rattle.plan_collect.specs.Tiling.{IsMerging}
 
--- the answer to messages that arrive one after another, each with its planner's number: the first that is rejected ends
--- it
+-- the answer to messages that arrive one after another, each with its planner's number: the first that is rejected ends it
 abbrev pub answer_to : Collected → List (ℕ × Note) → Result Collected CollectFault
 answer_to c [] = Ok c
 answer_to c (sent ∷ history) = elim (refusal c sent.0 sent.1) [

@@ -16,8 +16,8 @@ pieces_within (suc seconds) rule since upto =
     let piece = piece_of rule since upto most_starts in
     elim (nat_lt piece.upto upto) [ true ↦ piece ∷ pieces_within seconds rule piece.upto upto | false ↦ piece ∷ [] ]
 
--- the pieces of a rule in a part of time; each but the last has a start, so there are at most as many as seconds in the
--- part, or one
+-- the pieces of a rule in a part of time; each but the last has a start, so there are no more of them than the part has
+-- seconds, but at least one
 abbrev pub pieces : Rule → (since upto : ℕ) → List Part
 pieces rule since upto = pieces_within (upto - since) rule since upto
 
@@ -37,8 +37,7 @@ abbrev pub starts_in : Note → ℕ
 starts_in (note.Part job piece) = length (starts piece.rule piece.since piece.upto)
 starts_in note.Last = 0
 
--- the messages up to the first with which there are more than `limit` starts, after `count` that came before; all if
--- there is none
+-- the messages up to the first with which there are more than `limit` starts, after `count` that came before; all if there is none
 unfoldable pub cut_after : (limit count : ℕ) → List Note → List Note
 cut_after limit count [] = []
 cut_after limit count (first ∷ notes) =
@@ -53,8 +52,7 @@ sent_by planner planners limit rules span = cut_after limit 0 (tiling planner pl
 abbrev pub notes_of : (planner : ℕ) → List (ℕ × Note) → List Note
 notes_of planner history = map (λ sent. sent.1) (filter (λ sent. sent.0 == planner) history)
 
--- a merging of what the planners send: each message is from one of the planners, and those of each are what it sends, in
--- order
+-- a merging of what the planners send: each message is from one of the planners, and those of each are what it sends, in order
 pub record IsMerging (planners limit : ℕ) (rules : List Rule) (span : Bounds) (history : List (ℕ × Note)) : Type 0 where
   pub known : (place planner : ℕ) (note : Note) → slice_get history place ≡ Some (planner, note) → planner < planners
   pub each : (planner : ℕ) → planner < planners → notes_of planner history ≡ sent_by planner planners limit rules span

@@ -89,8 +89,7 @@ is_settled_at b s = slice_index_or b.settled s false
 abbrev pub new_outlets : {M : Type 0} → List Ring → List (Sending M)
 new_outlets rings = map (λ p. record { sender = p.0; ring = p.1; sent = [] }) (enumerate_from 0 rings)
 
--- a new inlet of these rings: the first sender has the turn, nothing was taken, nothing is known to wait, and no receipt
--- is settled
+-- a new inlet of these rings: the first sender has the turn, nothing was taken, nothing is known to wait, and no receipt is settled
 abbrev pub new_inlet : {M : Type 0} → List Ring → Receiving M
 new_inlet rings = record {
   turn = 0;

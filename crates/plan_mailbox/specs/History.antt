@@ -64,8 +64,7 @@ waiting_of h s = drop (length (taken_of h s)) (sent_of h s)
 abbrev pub was_shut : {M : Type 0} → List (Event M) → ℕ → Bool
 was_shut h s = list_any (shuts s) h
 
--- the sender after the one from which a message was taken, and after the last sender the first; the first if none was
--- taken
+-- the sender after the one from which a message was taken, and after the last sender the first; the first if none was taken
 abbrev pub turn_after : ℕ → Option ℕ → ℕ
 turn_after senders None = 0
 turn_after senders (Some s) = (s + 1) % senders

@@ -11,8 +11,7 @@ use Rattle.plan_mailbox.specs.Mailbox.{most_senders}
 abbrev pub senders_in : {M : Type 0} {lane : declared.Ghosts (QueueLane M) M} → Locked M lane → ℕ
 senders_in locked = locked.senders
 
--- the replies to a send of message m, for a sender of the mailbox: m is sent, or it comes back because the sender is
--- closed
+-- the replies to a send of message m, for a sender of the mailbox: m is sent, or it comes back because the sender is closed
 abbrev pub IsSendReply : {M : Type 0} → M → Reply M → Type 0
 IsSendReply m Sent = ⊤
 IsSendReply m (Closed back) = back ≡ m

@@ -87,8 +87,7 @@ next_of b = slice_get (line_of (waiting_at b) (in_turn (senders_of b) b.turn)) 0
 abbrev pub take_reply : {M : Type 0} → Mailbox M → Reply M
 take_reply b = taking (next_of b) (list_all (λ is_shut. is_shut) b.shut)
 
--- the mailbox after a take with this reply: the oldest message of that sender is gone, and the sender after it has the
--- turn
+-- the mailbox after a take with this reply: the oldest message of that sender is gone, and the sender after it has the turn
 abbrev pub taking_from : {M : Type 0} → Mailbox M → Reply M → Mailbox M
 taking_from b (Took s m) = record b { waiting = slice_set b.waiting s (drop 1 (waiting_at b s)); turn = (s + 1) % senders_of b }
 taking_from b reply = b

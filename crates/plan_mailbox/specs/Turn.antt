@@ -2,8 +2,7 @@
 use Rattle.std.specs.Prelude.{ℕ, ◌-◌, List, ◌++◌, map, flat_map}
 use Rattle.std.specs.List.{range_with_len}
 
--- the senders in the order of a take: from the turn on, ascending, and then from the first to the one before the turn
--- (agenda)
+-- the senders in the order of a take: from the turn on, ascending, and then from the first to the one before the turn (agenda)
 abbrev pub in_turn : ℕ → ℕ → List ℕ
 in_turn senders turn = range_with_len turn (senders - turn) ++ range_with_len 0 turn
 

@@ -78,8 +78,7 @@ abbrev pub Steps : Collected → Option CollectFault → (planner : ℕ) → Not
 Steps c None planner note new refused = Meets c planner note new refused
 Steps c (Some fault) planner note new refused = (new ≡ c) × (refused ≡ Some fault)
 
--- everything that was sent has arrived: the collector is complete, or there are more starts than its limit, or an
--- allocation failed
+-- everything that was sent has arrived: the collector is complete, or there are more starts than its limit, or an allocation failed
 abbrev pub IsWhole : Collected → Option CollectFault → Type 0
 IsWhole c None = is_complete c ≡ true
 IsWhole c (Some collect.NoMemory) = Unit {0}

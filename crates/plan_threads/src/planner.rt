@@ -27,9 +27,9 @@ use std::sync::{Arc, Wait};
 /// span. Then it sends its last message. After a piece with which more than `limit` starts were sent, it
 /// sends nothing more.
 ///
-/// The receipt accounts for what was sent. The flag is true if an allocation failed, which ends the sending
-/// early. The planner arrives at the gate before it sends. While the outlet is full, it tries again, so it
-/// may wait for the receiver.
+/// The receipt accounts for what was sent. The returned flag is true if an allocation failed, which ends the
+/// sending early. The planner arrives at the gate before it sends. While the outlet is full, it tries again,
+/// so it may wait for the receiver.
 pub fn run_planner<R: Wait, G: Gate>(
     rt: &R,
     alloc: Global,
