@@ -24,9 +24,8 @@ const MEMORY_LINE: &[u8] = b"agenda: NoMemory\n";
 
 /// Writes the line of a failure, or the text of usage, and returns the exit status.
 ///
-/// The status is 1 if input, a size, a count or a limit is rejected, 2 for usage, and 3 if an allocation, a
-/// device or a file failed. `sources` are the paths of a plan's sources; an error in a source has its place in
-/// this list. An error of this stream is ignored. This requests no memory.
+/// The status is that of `Failure::status`. `sources` are the paths of a plan's sources; an error in a source
+/// has its place in this list. An error of this stream is ignored. This requests no memory.
 pub fn fault_line<S: Stream>(failure: &Failure, sources: &[SourcePath], stream: &mut S) -> u8
     ensures status { result ≡ status_of failure.now }
     ensures line { PutsOrBreaksOff S.takes_all (S.holds stream.old) (S.holds stream.new)

@@ -208,14 +208,14 @@ const REFUSED: u8 = 1;
 // The status if the arguments are invalid.
 const USAGE: u8 = 2;
 
-// The status if an allocation, a device or a file failed, or if it isn't known what a planner sent.
+// The status if an allocation, a device or a file failed, or if the planners' accounts don't agree.
 const FAILED: u8 = 3;
 
 impl Failure {
     ghost use Rattle.agenda_faults.specs.Faults.{status_of};
 
-    /// Returns the exit status: 1 if input, a size, a count or a limit is rejected, 2 for usage, 3 if an
-    /// allocation, a device or a file failed.
+    /// Returns the exit status: 1 if input, a size, a count or a limit is rejected, 2 for usage, and 3 if an
+    /// allocation, a device or a file failed or the planners' accounts don't agree.
     pub fn status(&self) -> u8
         ensures { result ≡ status_of self.now }
     {

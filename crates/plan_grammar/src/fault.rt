@@ -8,23 +8,23 @@ use thiserror::Error;
 #[derive(Clone, Copy, Debug, PartialEq, Eq, Error)]
 #[error("{}", self.name())]
 pub enum RuleCause {
-    /// 1: an allocation failed; its part is 0.
+    /// An allocation failed; its part is 0.
     NoMemory,
-    /// 2: a part is missing, empty, or not allowed at its place.
+    /// A part is missing, empty, or not allowed at its place.
     WrongParts,
-    /// 3: a value or a step isn't a number of 1 to 4 digits.
+    /// A value or a step isn't a number of 1 to 4 digits.
     BadNumber,
-    /// 4: a name is unknown at its place. In a field of a crontab, a value that begins with a letter is a name.
+    /// A name is unknown at its place. In a field of a crontab, a value that begins with a letter is a name.
     BadName,
-    /// 5: the values of a part don't make a valid set.
+    /// The values of a part don't make a valid set.
     Values(SetFault),
-    /// 6: a second, or its step, has a fraction.
+    /// A second, or its step, has a fraction.
     Fraction,
-    /// 7: the time zone isn't UTC.
+    /// The time zone isn't UTC.
     Zone,
-    /// 8: a word that abbreviates a whole rule, such as `@daily`, is unknown.
+    /// A word that abbreviates a whole rule, such as `@daily`, is unknown.
     UnknownWord,
-    /// 9: the text contains a specifier, which begins with `%`.
+    /// The text contains a specifier, which begins with `%`.
     Specifier,
 }
 

@@ -36,8 +36,9 @@ impl<M> Inlet<M> {
         Inlet { ends, turn: 0 }
     }
 
-    /// Takes the oldest message of the first sender, from the turn on and round, of which the ring has one, with the
-    /// sender's number. The turn then passes to the next sender. Returns at once, whatever the senders do.
+    /// Takes the oldest message of the first sender, from the turn on and then from sender 0, that has one in its ring.
+    /// Returns the sender's number and the message. The turn then passes to the next sender. Returns at once,
+    /// whatever the senders do.
     pub fn try_take(&mut self) -> Option<(usize, M)>
         ensures took { IfSome result (λ took. IsTake (inlet_of self.old) took.0 took.1 (inlet_of self.new)) }
         ensures unchanged { IfNone result (inlet_of self.new ≡ inlet_of self.old) }

@@ -20,13 +20,13 @@ pub const MOST_JOBS: usize = 1_000;
 /// Why a job was not added. Each variant gives the job back.
 #[derive(Debug, Drop, Error)]
 pub enum AddFault {
-    /// 1: an allocation failed.
+    /// An allocation failed.
     #[error("NoMemory")]
     NoMemory(Job),
-    /// 2: there already is a job with this name.
+    /// There already is a job with this name.
     #[error("SameName")]
     SameName(Job),
-    /// 3: there already are 1,000 jobs.
+    /// There already are 1,000 jobs.
     #[error("Full")]
     Full(Job),
 }

@@ -8,25 +8,25 @@ use thiserror::Error;
 #[derive(Clone, Copy, Debug, PartialEq, Eq, Error)]
 #[error("{}", self.name())]
 pub enum LineCause {
-    /// 1: an allocation failed. The line is 0.
+    /// An allocation failed. The line is 0.
     NoMemory,
-    /// 2: the bytes are not valid UTF-8. The line is 0.
+    /// The bytes are not valid UTF-8. The line is 0.
     NotUtf8,
-    /// 3: the text has more than 1,048,576 bytes. The line is 0.
+    /// The text has more than 1,048,576 bytes. The line is 0.
     TooLarge,
-    /// 4: a setting has no `=`.
+    /// A setting has no `=`.
     BadSetting,
-    /// 5: a cron rule or a calendar event is invalid. Its error is given, with a cause that is never `NoMemory`.
+    /// A cron rule or a calendar event is invalid. Its error is given, with a cause that is never `NoMemory`.
     Rule(RuleFault),
-    /// 6: a job has no command or, in the system's crontab, no user.
+    /// A job has no command or, in the system's crontab, no user.
     NoCommand,
-    /// 7: the file's name is not a valid name of a timer. The line is 0.
+    /// The file's name is not a valid name of a timer. The line is 0.
     BadTimerName,
-    /// 8: a timer file has no `[Timer]` section. The line is 0.
+    /// A timer file has no `[Timer]` section. The line is 0.
     NoTimerSection,
-    /// 9: the list of a timer's events would have more than 64 events.
+    /// The list of a timer's events would have more than 64 events.
     TooManyLines,
-    /// 10: the file's name is not a valid name of a crontab in its directory. The line is 0.
+    /// The file's name is not a valid name of a crontab in its directory. The line is 0.
     BadTabName,
 }
 
