@@ -29,12 +29,12 @@ starts_text count moments =
 abbrev pub next_text : Rule → (after count : ℕ) → List ℕ
 next_text rule after count = starts_text count (take count (starts rule (after + 1) end_second))
 
--- the rule of a text that was requested, in UTC unless it names a zone
+-- the requested rule, from its text; in UTC unless it names a zone (agenda)
 abbrev pub asked_rule : Asked → Reading Rule
 asked_rule (Cron text) = cron_reading text
 asked_rule (Event text) = event_rule_reading text
 
--- the same, by the clock of a zone
+-- the same, by the clock of a zone (agenda)
 abbrev pub asked_reading : List Change → Asked → Reading Rule
 asked_reading clock asked = do
   rule ← asked_rule asked
@@ -48,7 +48,7 @@ most_starts = 1000
 abbrev pub IsCount : ℕ → Type 0
 IsCount count = (1 ≤ count) × (count ≤ most_starts)
 
--- what `next` prints for the requested rule
+-- what `next` prints for the requested rule (agenda)
 abbrev pub IsTextOfNext : List Change → Asked → (after count : ℕ) → List ℕ → Type 0
 IsTextOfNext clock asked after count text =
     IsCount count × ((rule : Rule) × (asked_reading clock asked ≡ Ok rule) × (text ≡ next_text rule after count))
