@@ -1,4 +1,4 @@
-# Completion of agenda-machine for bash. It asks for the package bash-completion.
+# Completion of agenda-machine for bash. It needs the package bash-completion.
 
 # Completes a time zone: a name of the tz database, or the path of a file.
 _agenda_machine_zone() {
@@ -22,7 +22,7 @@ _agenda_machine() {
     for ((at = 1; at < cword; at++)); do
         case ${words[at]} in
             --root)
-                # the folder is no command
+                # the directory is not a command
                 ((++at))
                 ;;
             plan | upcoming | quiet | check | sources)
@@ -53,7 +53,7 @@ _agenda_machine() {
             return
             ;;
         *:--since | *:--upto | *:--after | *:--room | *:--limit | *:--least)
-            # a moment or a number, which has no list
+            # a time or a number: nothing to complete
             return
             ;;
     esac

@@ -1,4 +1,4 @@
-# Completion of agenda for bash. It asks for the package bash-completion.
+# Completion of agenda for bash. It needs the package bash-completion.
 
 # Prints UTC and the names of the time zone database.
 _agenda_zones() {
@@ -52,7 +52,7 @@ _agenda() {
             return
             ;;
         *:--after | *:--count | *:--since | *:--upto | *:--least | *:--room | *:--limit)
-            # a moment or a number, which has no list
+            # a time or a number: nothing to complete
             return
             ;;
     esac

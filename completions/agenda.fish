@@ -15,16 +15,16 @@ end
 
 set -l none 'not __fish_seen_subcommand_from next plan upcoming quiet check steps'
 complete -c agenda -n $none -a next -d 'Print the next starts of one rule'
-complete -c agenda -n $none -a plan -d 'Print when the jobs of crontabs and timers start'
+complete -c agenda -n $none -a plan -d 'Print every start in a span of time'
 complete -c agenda -n $none -a upcoming -d 'Print when each job of crontabs and timers starts next'
-complete -c agenda -n $none -a quiet -d 'Print when no job of crontabs and timers starts'
-complete -c agenda -n $none -a check -d 'Print what is wrong with crontabs and timers'
-complete -c agenda -n $none -a steps -d 'Print what a mailbox replies to the steps of a script'
+complete -c agenda -n $none -a quiet -d 'Print the gaps in which no job starts'
+complete -c agenda -n $none -a check -d 'Print errors and likely mistakes in crontabs and timers'
+complete -c agenda -n $none -a steps -d 'Run a script of steps on a mailbox'
 complete -c agenda -s h -l help -d 'Print help'
 complete -c agenda -n $none -s V -l version -d 'Print the version'
 
 set -l after '__fish_seen_subcommand_from next upcoming'
-complete -c agenda -n $after -l after -x -d 'The starts are later than this moment'
+complete -c agenda -n $after -l after -x -d 'Only starts later than this time'
 
 set -l zone '__fish_seen_subcommand_from next plan upcoming quiet check'
 complete -c agenda -n $zone -l zone -r -F -d 'The time zone of the rules [UTC]' -a '(__fish_agenda_zones)'
@@ -37,17 +37,17 @@ complete -c agenda -n $next -l calendar -x -d 'A calendar event' \
     -a 'minutely hourly daily weekly monthly quarterly semiannually yearly annually'
 
 set -l span '__fish_seen_subcommand_from plan quiet'
-complete -c agenda -n $span -l since -x -d 'The first moment of the span'
-complete -c agenda -n $span -l upto -x -d 'The moment at which the span ends'
-complete -c agenda -n $span -l planners -x -d 'How many planners [2]' -a '1 2 3 4 5 6 7 8'
-complete -c agenda -n $span -l room -x -d 'How many notes of a planner may wait, from 1 to 1024 [16]'
+complete -c agenda -n $span -l since -x -d 'The start of the span'
+complete -c agenda -n $span -l upto -x -d 'The end of the span, not included'
+complete -c agenda -n $span -l planners -x -d 'How many threads search [2]' -a '1 2 3 4 5 6 7 8'
+complete -c agenda -n $span -l room -x -d 'How many messages of each thread may wait, from 1 to 1024 [16]'
 
 set -l plan '__fish_seen_subcommand_from plan'
-complete -c agenda -n $plan -l limit -x -d 'The most starts, from 1 to 1000000 [10000]'
+complete -c agenda -n $plan -l limit -x -d 'The maximum number of starts, from 1 to 1000000 [10000]'
 
 set -l quiet '__fish_seen_subcommand_from quiet'
-complete -c agenda -n $quiet -l limit -x -d 'The most starts, from 1 to 1000000 [1000000]'
-complete -c agenda -n $quiet -l least -x -d 'How many seconds a gap has at least [1800]'
+complete -c agenda -n $quiet -l limit -x -d 'The maximum number of starts, from 1 to 1000000 [1000000]'
+complete -c agenda -n $quiet -l least -x -d 'The minimum length of a gap in seconds [1800]'
 
 set -l sources '__fish_seen_subcommand_from plan upcoming quiet check'
 complete -c agenda -n $sources -l crontab -r -F -d 'A user\'s crontab'

@@ -1,17 +1,17 @@
 # shellcheck shell=bash disable=SC2154
-# Rows of bin/check-examples: what `agenda plan` writes whatever the number of planners and their room: agendas of one piece and of many,
-# up to the largest, and which limits and sizes it refuses.
+# Rows of bin/check-examples: what `agenda plan` writes, for any number of planners and any capacity. The
+# agendas have one piece or many, up to the largest. Invalid limits and sizes are rejected.
 
 agendas_folder="$work/agendas"
 
-# Plans in the folder of the files from the start of 2024 up to the moment $1, with these further words.
+# Plans from the start of 2024 to the time $1, in the directory of the files, with these further arguments.
 agendas_plan() {
   local upto=$1
   shift
   run_in "$agendas_folder" agenda plan --since 2024-01-01T00:00:00Z --upto "$upto" "$@"
 }
 
-# Makes the files that the rows below name.
+# Makes the files for the rows below.
 agendas_files() {
   mkdir -p "$agendas_folder"
   printf '# nightly\nMAILTO=x\n@reboot a\n@daily b\n' >"$agendas_folder/nightly"
@@ -21,13 +21,13 @@ agendas_files() {
   printf '* * * * * x' >"$agendas_folder/minutes"
   yes '* * * * * x' | head -n 1000 >"$agendas_folder/thousand"
   printf '[Timer]\nOnCalendar=*:*:*\n' >"$agendas_folder/s.timer"
-  # a reset empties the list, and two events at one second are one start
+  # a reset empties the list, and two events at the same second are one start
   printf '[Timer]\nOnCalendar=hourly\nOnCalendar=\nOnCalendar=daily\nOnCalendar=*-*-* 00:00:00\n' \
     >"$agendas_folder/backup.timer"
 }
 
-# Compares the plan up to the moment $1 with the lines of the file `agenda.wanted`, behind the header, for each number of planners of $2 and
-# each room of $3, with these further words.
+# Compares the plan up to the time $1 with the lines of the file `agenda.wanted`, after the header, for each
+# number of planners in $2 and each capacity in $3, with these further arguments.
 agendas_same() {
   local upto=$1 planners=$2 places=$3 many place
   shift 3
@@ -39,7 +39,7 @@ agendas_same() {
   done
 }
 
-# Rows of standard input: the moments from which and up to which is planned, further words, and all that is written, the header too.
+# Rows from standard input: the start and the end of the span, further arguments, and the whole output with the header.
 agendas_whole() {
   local since upto words text
   while IFS='|' read -r since upto words text; do
@@ -50,7 +50,8 @@ agendas_whole() {
   done
 }
 
-# Rows of standard input: a number of starts, and the moment up to which the timer of each second has as many: the header names the number.
+# Rows from standard input: a number of starts, and the time up to which the timer of each second has that
+# number. The header has the number.
 agendas_counted() {
   local starts upto
   while IFS='|' read -r starts upto; do
@@ -63,8 +64,8 @@ agendas_counted() {
   done
 }
 
-# Rows of standard input: the moment up to which is planned, further words, and the agenda's lines behind the header, with an @ for the
-# first day of 2024. Any number of planners makes the same.
+# Rows from standard input: the end of the span, further arguments, and the agenda's lines after the header,
+# with an @ for the first day of 2024. Every number of planners makes the same agenda.
 agendas_written() {
   local upto words agenda
   while IFS='|' read -r upto words agenda; do
@@ -74,7 +75,7 @@ agendas_written() {
   done
 }
 
-# Rows of standard input: the moment up to which is planned, further words, and the fault of the plan.
+# Rows from standard input: the end of the span, further arguments, and the error of the plan.
 agendas_refused() {
   local upto words cause
   while IFS='|' read -r upto words cause; do
@@ -84,7 +85,7 @@ agendas_refused() {
   done
 }
 
-# A start in each minute of an hour, within a limit of as many and within the largest.
+# A start in each minute of an hour, with a limit of that number and with the largest limit.
 agendas_of_an_hour() {
   local minute
   for minute in {00..59}; do
@@ -94,7 +95,7 @@ agendas_of_an_hour() {
   agendas_same 2024-01-01T01:00:00Z "1 2 8" 1 --limit 1000000 --crontab minutes
 }
 
-# A day of every second: 84 pieces of 1,024 starts, and one of 384.
+# A day with a start in every second: 84 pieces of 1,024 starts, and one of 384.
 agendas_of_every_second() {
   local hour minute second
   for hour in {00..23}; do
@@ -107,8 +108,9 @@ agendas_of_every_second() {
   agendas_same 2024-01-02T00:00:00Z "1 2 8" "1 1024" --limit 86400 s.timer
 }
 
-# The largest agenda: 1,000 jobs that start in each of 1,000 minutes. Each minute has 24,000 bytes beside the names, and 9 names of 6
-# bytes, 90 of 7, 900 of 8 and one of 9. With a header of 59 bytes that is 31,893,059 in all.
+# The largest agenda: 1,000 jobs that start in each of 1,000 minutes. Without the names, each minute has
+# 24,000 bytes. It has 9 names of 6 bytes, 90 of 7, 900 of 8 and one of 9. With a header of 59 bytes that is
+# 31,893,059 in total.
 agendas_of_a_thousand_jobs() {
   awk 'BEGIN {
     for (minute = 0; minute < 1000; minute++) {
@@ -122,7 +124,7 @@ agendas_of_a_thousand_jobs() {
   compare_texts "the bytes of the largest agenda" $'31893059 agenda.headed\n' '' 0
 }
 
-# A command that is longer than what waits to be written, between two short ones.
+# A command that is longer than the output buffer, between two short ones.
 agendas_of_a_long_line() {
   local long moment="2024-01-01T00:00:00Z"
   long=$(printf 'x%.0s' {1..9000})
@@ -133,8 +135,8 @@ agendas_of_a_long_line() {
 
 agendas_files
 
-# In turn: a crontab and a timer; an empty span of them, which has no more than a header; no start in a span; neither a job nor a start at
-# the ends of the years.
+# The rows: a crontab and a timer; an empty span, which has only a header; a span without a start; neither a
+# job nor a start at the ends of the years.
 agendas_whole <<'END'
 2024-01-01T00:00:00Z|2024-01-02T00:00:00Z|--crontab nightly rot.timer|agenda 2\t2024-01-01T00:00:00Z\t2024-01-02T00:00:00Z\t2\n2024-01-01T00:00:00Z\tcron:4\tb\n2024-01-01T00:00:00Z\trot.timer\trot.service\n
 2024-01-01T00:00:00Z|2024-01-01T00:00:00Z|--crontab nightly rot.timer|agenda 2\t2024-01-01T00:00:00Z\t2024-01-01T00:00:00Z\t0\n
@@ -143,7 +145,7 @@ agendas_whole <<'END'
 3000-01-01T00:00:00Z|3000-01-01T00:00:00Z|--crontab minutes|agenda 2\t3000-01-01T00:00:00Z\t3000-01-01T00:00:00Z\t0\n
 END
 
-# The least and the most of each number of digits, up to the largest agenda.
+# The minimum and the maximum of each number of digits, up to the largest agenda.
 agendas_counted <<'END'
 0|2024-01-01T00:00:00Z
 1|2024-01-01T00:00:01Z
@@ -161,7 +163,7 @@ agendas_counted <<'END'
 1000000|2024-01-12T13:46:40Z
 END
 
-# In turn: a crontab and a timer; an empty span of them; a system crontab; a timer with a reset; no jobs.
+# The rows: a crontab and a timer; an empty span; a system crontab; a timer with a reset; no jobs.
 agendas_written <<'END'
 2024-01-02T00:00:00Z|--limit 10 --crontab nightly rot.timer|@00:00:00Z\tcron:4\tb\n@00:00:00Z\trot.timer\trot.service\n
 @00:00:00Z|--limit 10000 --crontab nightly rot.timer|
@@ -175,8 +177,8 @@ agendas_of_every_second
 agendas_of_a_thousand_jobs
 agendas_of_a_long_line
 
-# Sizes come before limits, and both before what is planned. One start more than the limit is refused; the last row has a minute more than
-# the largest agenda.
+# Sizes are checked before limits, and both before the plan. One start more than the limit is rejected. The
+# last row has a minute more than the largest agenda.
 agendas_refused <<'END'
 2024-01-02T00:00:00Z|--limit 0 --planners 0 --room 1 --crontab nightly rot.timer|BadSize
 2024-01-02T00:00:00Z|--limit 0 --planners 9 --room 1 --crontab nightly rot.timer|BadSize

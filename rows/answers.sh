@@ -1,6 +1,6 @@
 # shellcheck shell=bash disable=SC2154
-# Rows of bin/check-examples: what the program does with what it is asked for: which fault comes first, what of a plan's sources is
-# read, and on which stream the answer goes out.
+# Rows of bin/check-examples: what the program does with a request: which error comes first, which of a plan's
+# sources are read, and to which stream the answer goes.
 
 answers_folder="$work/answers"
 answers_begin="2024-01-01T00:00:00Z"
@@ -15,7 +15,7 @@ printf '[Timer]\nOnCalendar=Mon 12:00:00.5\n' >"$answers_folder/t/bad.timer"
 : >"$answers_folder/t/a@b.timer"
 yes '* * * * * x' | head -n 1001 >"$answers_folder/many"
 
-# Rows of standard input: the words of `next`, with bars between them, and what is printed.
+# Rows from standard input: the arguments of `next`, with bars between them, and the output.
 answers_of_next() {
   local words starts
   while IFS='>' read -r words starts; do
@@ -25,7 +25,7 @@ answers_of_next() {
   done
 }
 
-# Rows of standard input: words, with bars between them, and the fault.
+# Rows from standard input: arguments, with bars between them, and the error.
 answers_refused() {
   local words fault
   while IFS='>' read -r words fault; do
@@ -35,8 +35,8 @@ answers_refused() {
   done
 }
 
-# Rows of standard input: the moment before which a plan from the begin of 2024 ends, its other words, and its lines behind the header
-# with a `;` behind each and a `,` for each tab; each line begins with the time of that day.
+# Rows from standard input: the time at which a plan from the start of 2024 ends, its other arguments, and its
+# lines after the header, with a `;` after each and a `,` for each tab. Each line begins with the time of day.
 answers_of_plan() {
   local upto words lines
   while IFS='>' read -r upto words lines; do
@@ -47,7 +47,7 @@ answers_of_plan() {
   done
 }
 
-# Rows of standard input: the other words of a plan of the first day of 2024, and its fault.
+# Rows from standard input: the other arguments of a plan of the first day of 2024, and its error.
 answers_refused_plan() {
   local words fault
   while IFS='>' read -r words fault; do
@@ -57,8 +57,8 @@ answers_refused_plan() {
   done
 }
 
-# One word is a cron rule that is no calendar event, one a calendar event that is no cron rule; weeks begin on a Sunday here, and there on a
-# Monday. After the last moment nothing starts.
+# One text is a cron rule but not a calendar event, one a calendar event but not a cron rule. Weeks begin on a
+# Sunday in one and on a Monday in the other. Nothing starts after the end of the years.
 answers_of_next <<'END'
 --calendar|*-02~03|--count|2|--after|2024-01-01T00:00:00Z>2024-02-27T00:00:00Z 2025-02-26T00:00:00Z
 --after|2024-01-01T00:00:00Z|--calendar|weekly>2024-01-08T00:00:00Z
@@ -66,8 +66,8 @@ answers_of_next <<'END'
 --after|3000-01-01T00:00:00Z|--cron|@daily>none
 END
 
-# The moment comes before the count and the rule, and the count before the rule; of a span the first moment comes before the second, that
-# before their order, and all of it before any file.
+# The timestamp is checked before the count and the rule, and the count before the rule. In a span, the start
+# is checked before the end, the end before their order, and all of that before any file.
 answers_refused <<'END'
 next|--after|2024|--cron|* * * * *>after: BadForm
 next|--after|2024-02-30T00:00:00Z|--count|0|--cron|x>after: NoSuchDate
@@ -83,7 +83,7 @@ plan|--since|2999-12-31T23:59:59Z|--upto|3000-01-01T00:00:01Z>upto: OutOfYears
 plan|--since|2024-01-01T00:00:00Z|--upto|2023-12-31T23:59:59Z|--crontab|there is no file>span: Backwards
 END
 
-# In turn: a span without a second; a reset empties a timer's list; a user's crontab and the system's.
+# The rows: an empty span; a reset that empties a timer's list; a system crontab; a user's crontab and the system's.
 answers_of_plan <<'END'
 2024-01-01T00:00:00Z>--crontab nightly>
 2024-01-02T00:00:00Z>t/backup.timer>00:00:00Z,backup.timer,backup.service;
@@ -91,14 +91,15 @@ answers_of_plan <<'END'
 2024-01-01T01:00:00Z>--crontab nightly --system-crontab hourly>00:00:00Z,cron:4,b;00:17:00Z,system:1,root cd / && run-parts x;
 END
 
-# Sixty starts of an hour: a limit of 60 is enough.
+# Sixty starts in an hour: a limit of 60 is enough.
 seq -f "2024-01-01T00:%02.0f:00Z${tab}cron:1${tab}x" 0 59 >"$work/agenda.wanted"
 run_in "$answers_folder" agenda plan --since "$answers_begin" --upto 2024-01-01T01:00:00Z --limit 60 --crontab minutes
 compare_agenda "a limit of as many starts as there are" "$work/agenda.wanted"
 run_in "$answers_folder" agenda plan --since "$answers_begin" --upto 2024-01-01T01:00:00Z --limit 59 --crontab minutes
 is_refused "a limit of one start less" "plan: TooMany" 1
 
-# The sources come before the numbers, and of those the sizes before the limit; the user's crontab comes first, then the system's.
+# The sources are checked before the numbers, and the sizes before the limit. The user's crontab comes first,
+# then the system's.
 answers_refused_plan <<'END'
 --planners 0 --crontab minutes>plan: BadSize
 --planners 9 --crontab minutes>plan: BadSize

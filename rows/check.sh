@@ -1,6 +1,6 @@
 # shellcheck shell=bash disable=SC2154
-# Rows of bin/check-examples: what `agenda check` says of crontabs and timers, in which order and with which status, and what it refuses. It
-# is held beside what `agenda plan` refuses of the same sources too.
+# Rows of bin/check-examples: what `agenda check` reports about crontabs and timers, in which order and with
+# which status. Its errors are compared with those of `agenda plan` for the same sources, too.
 
 # shellcheck source=/dev/null
 . "$top/rows/lib/questions.sh"
@@ -17,20 +17,21 @@ check_run() {
   run_in "$check_folder" agenda check "$@"
 }
 
-# Compares the last run, which $1 names, with the lines of the file findings.wanted. The status is 1 where one of them is no note.
+# Compares the last run, with the name $1, with the lines of the file findings.wanted. The status is 1 if one
+# of them isn't a note.
 check_compare() {
   local wanted=0
   ! grep -qv ': note: ' "$work/findings.wanted" || wanted=1
   compare "$1" "$work/findings.wanted" /dev/null "$wanted"
 }
 
-# Compares the last run, which $1 names, with the findings $2, with `;` between.
+# Compares the last run, with the name $1, with the findings $2, with `;` between them.
 check_findings() {
   printf '%s' "${2:+$2;}" | tr ';' '\n' >"$work/findings.wanted"
   check_compare "$1"
 }
 
-# Rows of standard input: words, and all findings, with `;` between.
+# Rows from standard input: arguments, and all findings, with `;` between them.
 check_rows() {
   local written findings words
   while IFS='|' read -r written findings; do
@@ -40,8 +41,8 @@ check_rows() {
   done
 }
 
-# Rows of standard input: words that end in the path of a file, its escaped text, and what is said of it, with `;` between, each from the
-# `:` behind the path on.
+# Rows from standard input: arguments that end with the path of a file, its escaped text, and the findings,
+# with `;` between them. Each finding begins with the `:` after the path.
 check_texts() {
   local written text findings words path
   while IFS='|' read -r written text findings; do
@@ -54,8 +55,8 @@ check_texts() {
   done
 }
 
-# Rows of standard input: rules of a crontab, or events where $1 is calendar, and behind a bar the notes on each, with a blank between. All
-# of them stand in one file, so each is told of its own line alone.
+# Rows from standard input: rules of a crontab, or events if $1 is calendar, and after a bar the notes on
+# each, with blanks between them. All of them are in one file, so each note must be on its own line.
 check_notes() {
   local rule notes note line=0 path=jobs words=(--crontab jobs)
   : >"$work/findings.wanted"
@@ -81,18 +82,19 @@ check_notes() {
   check_compare "the notes on $line lines of $path"
 }
 
-# The file $1 is the escaped text $3, filled with newlines up to $2 bytes.
+# Makes the file $1 with the escaped text $3, filled with newlines up to $2 bytes.
 check_filled() {
   { printf '%b' "$3" && head -c "$2" /dev/zero | tr '\0' '\n'; } | head -c "$2" >"$check_folder/$1"
 }
 
-# Prints the line $2 so many times: $1.
+# Prints the line $2 $1 times.
 check_times() {
   yes "$2" | head -n "$1"
 }
 
-# Rows of standard input: parts of a timer of the section [Timer], each a number, a blank and an event that stands there so often, with `;`
-# between, and what is said of the timer, as check_texts takes it. Nothing is an empty value.
+# Rows from standard input: parts of the section [Timer] of a timer, with `;` between them, and the findings,
+# as in check_texts. Each part is a number, a blank and an event that occurs that many times. Without an event
+# it is an empty value.
 check_lists() {
   local written findings part
   local -a parts
@@ -108,8 +110,8 @@ check_lists() {
   done
 }
 
-# Rows of standard input: words of sources. `check` refuses something exactly where `plan` refuses the sources. A span without a second has
-# no start, so no limit is reached.
+# Rows from standard input: sources. `check` finds an error exactly if `plan` rejects the sources. An empty
+# span has no start, so no limit is reached.
 check_as_plan() {
   local written words planned
   while IFS= read -r written; do
@@ -126,7 +128,7 @@ check_as_plan() {
   done
 }
 
-# Each source of standard input, and two of them one after the other.
+# Checks each source from standard input, and each pair of them, in this way.
 check_pairs_as_plan() {
   local source other
   local -a sources
@@ -141,8 +143,8 @@ check_pairs_as_plan() {
   )
 }
 
-# Rows of standard input: an option and an escaped text. The first thing that `check` refuses of this crontab is the line and the cause
-# that `plan` tells.
+# Rows from standard input: an option and an escaped text. The first error that `check` finds in this crontab
+# has the line and the name of the error of `plan`.
 check_first_as_plan() {
   local option text fault line
   while IFS='|' read -r option text; do
@@ -159,7 +161,7 @@ check_first_as_plan() {
   done
 }
 
-# Nothing is written where nothing is to be said: no source, no job, jobs that are right.
+# Nothing is written if there are no findings: no source, no job, or jobs without errors.
 check_file daily '@daily a\n'
 check_file none '# no job\n\n \t\nMAILTO=x\n'
 check_file d.timer '[Timer]\nOnCalendar=daily\n'
@@ -170,7 +172,7 @@ check_rows <<'ROWS'
 --crontab daily d.timer|
 ROWS
 
-# Of a line that is refused: its number, the part of its rule where there is one, and the one fault that plan tells of it.
+# A rejected line: its number, the part of its rule if there is one, and the one error that `plan` reports for it.
 check_texts <<'ROWS'
 --crontab jobs|60 * * * * x\n|:1: part 1: OutOfRange
 --crontab jobs|* 24 * * *\n|:1: part 2: OutOfRange
@@ -206,14 +208,14 @@ a.timer|[Timer]\nOnCalendar=12:00:00.5\n|:2: part 7: Fraction
 a.timer|[Timer]\nOnCalendar=12:00 Mars\n|:2: part 8: Zone
 ROWS
 
-# All faults of all lines, in their order; between them lines that are right, settings and remarks.
+# All errors of all lines, in order. Between them are lines without errors, settings and comments.
 check_texts <<'ROWS'
 --crontab jobs|60 * * * * x\n@daily\nMAILTO\n# c\n* * * * * x\nA=b\n@never x\n* * * * * x|:1: part 1: OutOfRange;:2: NoCommand;:3: BadSetting;:7: part 0: UnknownWord
 --spool jobs|@x\n@x\n@x|:1: part 0: UnknownWord;:2: part 0: UnknownWord;:3: part 0: UnknownWord
 a.timer|[Timer]\nOnCalendar=25:00\nOnCalendar=daily\n[Unit]\nOnCalendar=x\n[Timer]\nOnCalendar=x\n|:2: part 5: OutOfRange;:7: part 0: UnknownWord
 ROWS
 
-# Of a whole file there is no line.
+# A finding about a whole file has no line number.
 check_texts <<'ROWS'
 --crontab jobs|@daily \xe4\n|: NotUtf8
 --system-crontab jobs|\xff|: NotUtf8
@@ -229,13 +231,13 @@ a.timer|[timer]\nOnCalendar=x\n|: NoTimerSection
 a.timer|[Timer]\nOnCalendar=daily \xe4\n|: NotUtf8
 ROWS
 
-# --crontab and --system-crontab ask for no name.
+# --crontab and --system-crontab require no name.
 check_texts <<'ROWS'
 --crontab a.b+c|@daily x\n|
 --system-crontab .a~|@daily u x\n|
 ROWS
 
-# After a bad name the rest is looked at all the same, as if it were good.
+# After a bad name the rest is checked in the same way as after a good one.
 check_texts <<'ROWS'
 --cron-d a.b|60 * * * * u x\n0 0 31 2 * u x\n0 0 1 * 1 u x\n@daily u\n|: BadTabName;:1: part 1: OutOfRange;:2: note: NeverStarts;:3: note: EitherDay;:4: NoCommand
 --cron-d a.b|\xff|: BadTabName;: NotUtf8
@@ -248,7 +250,7 @@ jobs|\xff|: BadTimerName;: NotUtf8
 a@b.timer|[Timer]\nOnCalendar=%i\n|: BadTimerName;:2: part 0: Specifier
 ROWS
 
-# Of a text that is no UTF-8 there are no lines, and so no section and no notes either.
+# A text that isn't UTF-8 has no lines, and so no section and no notes either.
 check_texts <<'ROWS'
 --crontab jobs|60 * * * * x\n0 0 31 2 * x\n\xff\n|: NotUtf8
 --crontab jobs|# \xc3\n60 * * * * x\n|: NotUtf8
@@ -257,7 +259,7 @@ a.timer|[Timer]\n\xff\n|: NotUtf8
 a.timer|[Timer]\nOnCalendar=25:00\nOnCalendar=*-2-30\n#\xff\n|: NotUtf8
 ROWS
 
-# Nor are there of a text that is too large. Whether it is UTF-8 isn't asked then. One byte less, and all is read.
+# Nor has a text that is too large. It isn't checked for UTF-8 then. With one byte less, everything is read.
 check_filled most 1048576 '60 * * * * x\n0 0 31 2 * u x\n'
 check_filled more 1048577 '60 * * * * x\n0 0 31 2 * u x\n'
 check_filled more~ 1048577 '60 * * * * x\n\xff\n'
@@ -279,8 +281,8 @@ more|more: BadTimerName;more: TooLarge
 --cron-d /dev/zero /dev/zero|/dev/zero: TooLarge;/dev/zero: BadTimerName;/dev/zero: TooLarge
 ROWS
 
-# A refused assignment is told at the first line of its joined line, also where a later one takes all events away. Where there is no
-# section [Timer] nothing is read.
+# The error of an assignment is reported for the first line of its merged line, even if a later line empties
+# the list. Without a section [Timer] nothing is read.
 check_texts <<'ROWS'
 a.timer|[Timer]\nOnCalendar=Mon \\\n# note\n25:00\nOnCalendar=x\n|:2: part 5: OutOfRange;:5: part 0: UnknownWord
 a.timer|[Timer]\nUnit=a \\\nOnCalendar=x\nOnCalendar=\\\n\\\n25:00|:4: part 5: OutOfRange
@@ -292,8 +294,9 @@ a.timer|OnCalendar=x\n[Unit]\nOnCalendar=x\n[Timer]\nOnCalendar=daily\n[Install]
 a.timer|[Timer]\noncalendar=x\nOnCalendar x\nOnBootSec=x\nUnit=\nOnCalendar=daily\n|
 ROWS
 
-# TooManyLines stands at the first event that finds 64 in the list, and the next that do have no finding. None of them is read. A refused
-# event counts as if it were right, and an empty value takes all away.
+# TooManyLines is reported for the first event that comes when 64 are in the list. The next such events have
+# no finding. None of them is read. A rejected event counts like others, and an empty value removes all of
+# them.
 check_lists <<'ROWS'
 64 daily|
 65 daily|:66: TooManyLines
@@ -318,13 +321,13 @@ ROWS
 { seq -f 'a.timer:%g: part 0: Specifier' 2 65 && echo 'a.timer:66: TooManyLines'; } >"$work/findings.wanted"
 check_run a.timer
 check_compare "check a timer of 66 refused events"
-# a joined line
+# a merged line
 { echo '[Timer]' && check_times 64 'OnCalendar=daily' && printf '%b' 'OnCalendar=\\\n#\nMon \\\n25:00\n'; } >"$check_folder/a.timer"
 check_run a.timer
 check_findings "check a joined line that finds 64 events" 'a.timer:66: TooManyLines'
 
-# Two jobs of one name: the second is told at its line, or as a timer, and is not added. A line that is refused makes no job, nor does a
-# file whose name is bad; a timer is a job whatever else is refused of it.
+# Two jobs with the same name: the second is reported with its line, or as a timer, and isn't added. A
+# rejected line makes no job, nor does a file with a bad name. A timer is a job whatever other errors it has.
 check_file system '@daily root b\n'
 check_file one/x '\n@daily u a\n'
 check_file two/x '\n@daily u b\n60 * * * * u c\n'
@@ -380,8 +383,8 @@ daily daily|daily: BadTimerName;daily: NoTimerSection;daily: BadTimerName;daily:
 a@b.timer a@b.timer|a@b.timer: BadTimerName;a@b.timer: BadTimerName
 ROWS
 
-# A thousand jobs are the most. The next is Full, once in all; those after it aren't added either and have no finding. A name that is there
-# is told all the same; what wasn't added isn't there.
+# A thousand jobs are the maximum. The next one is Full, only once. Those after it aren't added either and
+# have no finding. A name that exists is still reported. Names of jobs that weren't added don't exist.
 check_times 999 '* * * * * x' >"$check_folder/most999"
 check_times 1000 '* * * * * x' >"$check_folder/thousand"
 { check_times 1000 '* * * * * x' && printf '%b' '0 0 31 2 * x\n* * * * * x\n0 0 1 * 1 x\n60 * * * * x\n'; } >"$check_folder/many"
@@ -411,9 +414,9 @@ check_rows <<'ROWS'
 --crontab many --spool two/cron|many:1001: Full;many:1001: note: NeverStarts;many:1003: note: EitherDay;many:1004: part 1: OutOfRange
 ROWS
 
-# No start in all years: days that no month has, and dates that have another weekday. 2100 has no leap day, and a month has no more days
-# from its end than from its begin. 2024-01-02 is a Tuesday, 1970-01-01 a Thursday and 2999-12-31 a Tuesday; all of these days are starts.
-# `@reboot` never starts either, and is meant so.
+# No start in all years: days that no month has, and dates with another weekday. 2100 has no leap day, and a
+# month has no more days from its end than from its start. 2024-01-02 is a Tuesday, 1970-01-01 a Thursday and
+# 2999-12-31 a Tuesday; all of these days are starts. `@reboot` never starts either, and is meant so.
 check_notes cron <<'ROWS'
 0 0 31 2 *|NeverStarts
 0 0 30 2 *|NeverStarts
@@ -456,8 +459,8 @@ Fri *-*-13|
 daily|
 ROWS
 
-# Either day suffices where both day fields are restricted, as one is whose first character isn't `*`. In a month each weekday comes, so
-# such a line starts also where no month has its day.
+# Either day suffices if both day fields are restricted. A field is restricted if its first character isn't
+# `*`. Each month has every weekday, so such a line starts even if no month has its day.
 check_notes cron <<'ROWS'
 0 0 1 * 1|EitherDay
 30 4 1,15 * 5|EitherDay
@@ -476,7 +479,8 @@ check_notes cron <<'ROWS'
 @weekly|
 ROWS
 
-# No events: the section is there, and the list is empty at the end. What counts is the list, in which a refused event stands too.
+# No events: the section exists, and the list is empty at the end. Only the list counts, and a rejected event
+# is in it too.
 check_texts <<'ROWS'
 a.timer|[Timer]\n|: note: NoEvents
 a.timer|[Timer]|: note: NoEvents
@@ -493,8 +497,8 @@ a.timer|[Timer]\nOnCalendar=*-2-30\nOnCalendar=\n|: note: NoEvents;:2: note: Nev
 a.timer|[Unit]\n[Timer\n|: NoTimerSection
 ROWS
 
-# A note stands where the text is right, also where the name or the job is refused. On a line that is refused there is none. Of one line
-# comes first what is refused.
+# A text without an error has its notes even if the name or the job is rejected. A rejected line has none. For
+# the same line, errors come first.
 check_file one/n '0 0 31 2 * u a\n0 0 1 * 1 u b\n'
 check_file two/n '0 0 31 2 * c\n0 0 1 * 1 d\n'
 check_file never '0 0 31 2 * x\n@reboot x\n'
@@ -516,7 +520,7 @@ check_texts <<'ROWS'
 a.timer|[Timer]\nOnCalendar=Mon \\\n2024-1-2\nOnCalendar=25:00\n|:2: note: NeverStarts;:4: part 5: OutOfRange
 ROWS
 
-# The sources stand in the order of the options in the synopsis, and those of one option in the order given.
+# The sources are in the order of the options in the synopsis, and those of one option in the given order.
 check_file cron.d/p '@daily root\n'
 check_file cron.d/q '@x root a\n'
 check_file spool/u '60 * * * * x\n'
@@ -546,7 +550,7 @@ check_findings "check a path with blanks" 'one/a b: c:1: NoCommand;one/a b: c: B
 run_in "$check_folder" bash -c "printf '@daily a\n@daily' | agenda check --crontab /dev/stdin"
 check_findings "check a pipe as crontab" '/dev/stdin:2: NoCommand'
 
-# A file that can't be read comes before every fault of a text, and nothing else is written then.
+# A file that can't be read comes before every error in a text, and nothing else is written then.
 questions_folder=$check_folder questions_refused check <<'ROWS'
 --crontab nothing|nothing: Device
 --system-crontab nothing|nothing: Device
@@ -571,7 +575,7 @@ ROWS
 check_run --crontab ''
 is_refused "check --crontab ''" ": Device" 3
 
-# Something is refused exactly where plan refuses the sources.
+# `check` finds an error exactly if `plan` rejects the sources.
 check_as_plan <<ROWS
 
 --crontab most999 d.timer
@@ -605,7 +609,8 @@ one/never.timer
 n.timer
 ROWS
 
-# The first refused line of a crontab is the one that plan tells, with its cause; so is the whole file.
+# The first rejected line of a crontab is the one that `plan` reports, with the same error. The same holds for
+# whole files.
 for option in --crontab --system-crontab --cron-d --spool; do
   check_first_as_plan <<ROWS
 $option|0 0 31 2 * u x\n60 * * * * u x\n@daily\n

@@ -1,11 +1,12 @@
 # shellcheck shell=bash disable=SC2154
-# Cron rules (crontab(5)): which days and minutes they match, which texts are refused, and which of several faults is the first.
+# Cron rules (crontab(5)): which days and minutes they match, which texts are rejected, and which of several
+# errors comes first.
 
 # shellcheck source=/dev/null
 . "$top/rows/lib/lists.sh"
 
-# Rows of rules of one meaning, of a time of day, and of the first days of 2024 (or of a later year that is named) at which they
-# start: all of January's, and the first one behind them.
+# Rows of rules with the same meaning, a time of day, and the first days of 2024 (or of another year that is
+# given) on which they start: all of January's, and the first one after them.
 cron_days() {
   local texts time days day starts
   while IFS='|' read -r texts time days; do
@@ -18,8 +19,8 @@ cron_days() {
   done
 }
 
-# 2024-01-01 is a Monday. In turn: either day field suffices; a star stands first, so both must match; 7 is Sunday; a step past
-# the end of its range; a list; another month.
+# 2024-01-01 is a Monday. The rows: either day field suffices; a star comes first, so both must match; 7 is
+# Sunday; a step past the end of its range; a list; another month.
 cron_days <<'ROWS'
 30 4 1,15 * 5|04:30|01-01 01-05 01-12 01-15 01-19 01-26 02-01
 0 0 */2 * 1;\t0  0 */2\t* 1 |00:00|01-01 01-15 01-29 02-05
@@ -32,7 +33,7 @@ cron_days <<'ROWS'
 0 0 1 2 *|00:00|02-01 2025-02-01
 ROWS
 
-# Names, in any case.
+# Names, in upper and lower case.
 cron_days <<'ROWS'
 0 0 5 jan *;0 0 5 JAN *;0 0 5 1 *|00:00|01-05 2025-01-05
 0 0 5 feb *;0 0 5 fEB *;0 0 5 2 *|00:00|02-05 2025-02-05
@@ -66,7 +67,7 @@ lists_next --cron <<'ROWS'
 0 9-17/4 * jan,Mar MON-fri|2024-01-31T09:00:00Z|2024-01-31T13:00:00Z 17:00:00Z 03-01T09:00:00Z 13:00:00Z 17:00:00Z 04T09:00:00Z
 ROWS
 
-# Rules that are equal, and those that differ from them in one field or in whether a day field is restricted.
+# Rules that are equal, and rules that differ from them in one field or in whether a day field is restricted.
 lists_next --cron <<'ROWS'
 0 0 * * 7;0 0 * * 0;\t00 0-0 */1 1-12/1 0,7|2023-12-31T23:59:59Z|2024-01-07T00:00:00Z 14T00:00:00Z 21T00:00:00Z 28T00:00:00Z
 1 0 * * 0|2023-12-31T23:59:59Z|2024-01-07T00:01:00Z 14T00:01:00Z
@@ -87,7 +88,8 @@ lists_next --cron <<'ROWS'
 @reboot|2024-01-01T00:00:00Z|none
 ROWS
 
-# In the rows at `0 0 * *` letters that aren't ASCII: the long s, a u with an accent, the sign of Kelvin; and last an a with an accent.
+# The rows with `0 0 * *` have letters that aren't ASCII: the long s, a u with an accent, and the Kelvin sign;
+# and the last one an a with an accent.
 lists_refused --cron <<'ROWS'
 1 OutOfRange|60 * * * *
 1 WrongParts|5/15 * * * *
@@ -127,8 +129,9 @@ lists_refused --cron <<'ROWS'
 1 BadNumber|\xc3\xa0 * * * *
 ROWS
 
-# In an element the first value is looked at first, then the second, then the step, then whether a step may stand there;
-# the forms of all elements come before the values, and the fields are read from left to right.
+# In an element, the first value is checked first, then the second, then the step, then whether a step is
+# allowed there. The forms of all elements are checked before the values, and the fields are read from left to
+# right.
 lists_refused --cron <<'ROWS'
 1 BadName|a-+/+ * * * *
 1 BadNumber|+-b/ * * * *
@@ -151,7 +154,7 @@ cron_ones() {
   yes ',1' | head -n $(($1 - 1)) | tr -d '\n'
 }
 
-# Long fields: one of 100,001 bytes as a word, and one of 800,001 bytes in a file.
+# Long fields: one of 100,001 bytes as an argument, and one of 800,001 bytes in a file.
 cron_long_fields() {
   lists_one --cron "$(cron_ones 50001) * * * *" 2024-01-01T00:00:00Z '2024-01-01T00:01:00Z 01:01:00Z'
   { cron_ones 400001 && printf ' * * * * a\n'; } >"$work/long.crontab"
@@ -161,7 +164,7 @@ cron_long_fields() {
     "2024-01-01T00:01:00Z${tab}cron:1${tab}a"$'\n'"2024-01-01T01:01:00Z${tab}cron:1${tab}a"$'\n'
 }
 
-# A rule of 200 elements in its first field, which name each minute: it starts as `* * * * *`.
+# A rule with 200 elements in its first field, which have every minute: it starts like `* * * * *`.
 cron_200_elements() {
   local minutes='' starts='' element minute
   for element in {0..198}; do

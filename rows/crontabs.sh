@@ -1,11 +1,12 @@
 # shellcheck shell=bash disable=SC2154
-# Rows of what `agenda plan` reads of crontabs: names of jobs, what they run, their rules, lines that are refused, sizes, and how many jobs
-# there may be. bin/check-examples runs this file. Texts are written with the escapes of printf's %b.
+# Rows about what `agenda plan` reads in crontabs: names of jobs, their commands, their rules, lines that are
+# rejected, sizes, and the maximum number of jobs. bin/check-examples runs this file. Texts have the escapes
+# of printf's %b.
 
 crontabs_folder="$work/crontabs"
 
-# Runs `agenda plan` from the moment $2 to the moment $3 on the file `crontab`, which is a crontab of kind $1, user or system. The crontab
-# of the other kind has $4 jobs @reboot, which print nothing.
+# Runs `agenda plan` from the time $2 to the time $3 on the file `crontab`, which is a crontab of kind $1,
+# user or system. The crontab of the other kind has $4 jobs with @reboot, which print nothing.
 crontabs_run() {
   local files=(--crontab crontab --system-crontab others)
   [ "$1" = user ] || files=(--system-crontab crontab --crontab others)
@@ -13,13 +14,14 @@ crontabs_run() {
   run_in "$crontabs_folder" agenda plan --since "$2" --upto "$3" "${files[@]}"
 }
 
-# Prints a line for each start: every $2 seconds from second $1 of 1970 on up to second $3, the job $4 that runs $5.
+# Prints a line for each start: every $2 seconds from second $1 of 1970 to second $3, the job $4 that runs $5.
 crontabs_starts() {
   seq -f '@%.0f' "$1" "$2" "$3" | date -u -f - "+%Y-%m-%dT%H:%M:%SZ$tab$4$tab$5"
 }
 
-# Each row: the crontab's kind, a minute in which all its jobs start, its text, and the jobs in order: the name, a blank and what is run.
-# The other crontab has so many jobs that one more in this text would be refused as Full.
+# Each row: the crontab's kind, a minute in which all its jobs start, its text, and the jobs in order: the
+# name, a blank and the command. The other crontab has so many jobs that one more in this text would be
+# rejected as Full.
 crontabs_jobs() {
   local kind minute text jobs list job
   while IFS='|' read -r kind minute text jobs; do
@@ -33,7 +35,7 @@ crontabs_jobs() {
   done
 }
 
-# Each row: the crontab's kind, its fault, and its text.
+# Each row: the crontab's kind, its error, and its text.
 crontabs_refused() {
   local kind source fault text
   while IFS='|' read -r kind fault text; do
@@ -45,8 +47,7 @@ crontabs_refused() {
   done
 }
 
-# Which starts the rules give: the text $2 of a crontab of kind $1 has the starts of the file `jobs.wanted` in the span from $3 to $4, and
-# so many jobs: $5.
+# The text $2 of a crontab of kind $1 has the starts of the file `jobs.wanted` in the span from $3 to $4, and $5 jobs.
 crontabs_rule() {
   printf '%b' "$2" >"$crontabs_folder/crontab"
   crontabs_run "$1" "$3" "$4" $((1000 - $5))
@@ -73,19 +74,19 @@ crontabs_rules() {
   crontabs_rule system '17 * * * * root cd / && run-parts x' "$since" 2024-01-02T00:00:00Z 1
 }
 
-# The file `crontab` is a user's crontab that is refused so: $2. The row is named $1.
+# The file `crontab` is a user's crontab that is rejected with the error $2. The row has the name $1.
 crontabs_user_refused() {
   crontabs_run user 2024-01-01T00:00:00Z 2024-01-02T00:00:00Z 0
   is_refused "$1" "$2" 1
 }
 
-# The file `crontab` is a user's crontab without a job. The row is named $1.
+# The file `crontab` is a user's crontab without a job. The row has the name $1.
 crontabs_user_empty() {
   crontabs_run user 2024-01-01T00:00:00Z 2024-01-02T00:00:00Z 1000
   compare_lines "$1" ''
 }
 
-# 1,048,576 bytes are the most, whatever they are.
+# 1,048,576 bytes are the maximum, whatever they are.
 crontabs_sizes() {
   local file="$crontabs_folder/crontab" large="crontab: line 0: TooLarge"
   yes '' | head -n 1048576 >"$file"
@@ -108,7 +109,7 @@ crontabs_sizes() {
   crontabs_user_refused "two jobs of a crontab of 1,048,577 bytes" "$large"
 }
 
-# 400,001 elements of one field, which are the minute 1 of each hour of 2024.
+# 400,001 elements of one field, all of which are the minute 1: each hour of 2024 has a start.
 crontabs_largest_field() {
   { yes 1, | head -n 400000 | tr -d '\n' && printf '1 * * * * x'; } >"$crontabs_folder/crontab"
   crontabs_starts 1704067260 3600 1735686060 cron:1 x >"$work/jobs.wanted"
@@ -116,7 +117,7 @@ crontabs_largest_field() {
   compare_agenda "a field of 400,001 elements" "$work/jobs.wanted"
 }
 
-# 1,000 jobs, more of them, and jobs behind as many lines as there may be.
+# 1,000 jobs, more jobs, and jobs after the maximum number of lines.
 crontabs_numbers() {
   local file="$crontabs_folder/crontab" since=2024-01-01T00:00:00Z
   yes '30 4 1,15 * 5 x' | head -n 1000 >"$file"

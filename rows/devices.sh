@@ -1,6 +1,7 @@
 # shellcheck shell=bash disable=SC2154
-# Rows of bin/check-examples: paths that are no plain files, and streams that fail: what has no end is read up to one byte more than a file
-# may have, a pipe may end anywhere, and a status doesn't hang on standard error. The walks of bin/check-examples have more of them.
+# Rows of bin/check-examples: paths that aren't regular files, and streams that fail. A file without an end is
+# read up to one byte more than the maximum, a pipe may end anywhere, and the status doesn't depend on
+# standard error. The walks of bin/check-examples have more such rows.
 
 devices_folder="$work/devices"
 mkdir "$devices_folder"
@@ -14,12 +15,12 @@ mkfifo "$devices_folder/pipe" "$devices_folder/pipe.timer"
 devices_day="--since 2024-01-01T00:00:00Z --upto 2024-01-02T00:00:00Z"
 devices_limits='ulimit -c 0; ulimit -t 2; ulimit -s 512; ulimit -d 16384'
 
-# Runs the shell's command $1 in at most 2 s of a processor and 16 MB of memory.
+# Runs the shell command $1 with at most 2 s of processor time and 16 MB of memory.
 devices_run() {
   run_in "$devices_folder" bash -c "$devices_limits; $1"
 }
 
-# Rows of standard input: the shell's command, the status, and the fault line.
+# Rows from standard input: the shell command, the status, and the line of the error.
 devices_refused() {
   local command fault wanted
   while IFS='|' read -r command wanted fault; do
@@ -28,13 +29,14 @@ devices_refused() {
   done
 }
 
-# Rows of standard input: the shell's command that writes to a pipe, the words of the program that reads it, and the escaped answer: that
-# begins with the status, and of an agenda it has the lines behind the header.
+# Rows from standard input: the shell command that writes to a pipe, the arguments of the program that reads
+# it, and the escaped answer. The answer begins with the status, and an agenda has only the lines after the
+# header.
 devices_pipes() {
   local writer words answer
   while IFS='|' read -r writer words answer; do
     export WRITER="{ $writer; } >${words##* }"
-    # the writer waits for the program to open the pipe, and no longer than 10 s
+    # the writer waits until the program opens the pipe, for at most 10 s
     devices_run "timeout 10 bash -c \"\$WRITER\" & agenda ${words/plan/plan $devices_day}; ended=\$?; wait; exit \$ended"
     printf '%b' "${answer:2}" >"$work/answer.wanted"
     case ${answer:0:1}${words%% *} in
@@ -46,7 +48,8 @@ devices_pipes() {
   unset WRITER
 }
 
-# Rows of standard input: words, the standard error they get, and the status: nothing is told then, and the status is the same.
+# Rows from standard input: arguments and the status. Nothing is printed to these kinds of standard error, and
+# the status is the same.
 devices_untold() {
   local words redirection wanted
   while IFS='|' read -r words wanted; do
@@ -57,7 +60,8 @@ devices_untold() {
   done
 }
 
-# Standard output fails, whatever else is closed: `Device` where standard error tells it. A fault is told as ever.
+# Standard output fails, whatever else is closed: `Device`, if standard error can be written. Other errors are
+# reported as always.
 devices_streams() {
   local start="2024-01-01T00:00:00Z"
   devices_run 'exec agenda check --crontab /dev/zero zero.timer <&- 2>&-'
@@ -75,8 +79,8 @@ devices_streams() {
   is_refused "no script, standard output closed" "nothing: Device" 3
   devices_run "exec agenda plan $devices_day --limit 1 --crontab minutes >/dev/full"
   is_refused "too many starts, standard output full" "plan: TooMany" 1
-  # 1,000,000 lines of 30 bytes behind the header are more than a pipe holds, and more than waits to be written: a header that names more
-  # lines than follow it tells that the text was cut short
+  # 1,000,000 lines of 30 bytes after the header are more than a pipe holds and more than the output buffer.
+  # If the header's number is greater than the number of lines, the text was cut short.
   # shellcheck disable=SC2016
   run_in "$devices_folder" bash -c 'ulimit -t 2
     agenda plan --since 1970-01-01T00:00:00Z --upto 1971-11-26T10:40:00Z --limit 1000000 --crontab minutes | head -n 2
@@ -110,7 +114,7 @@ steps script >/dev/full|3|Device
 ROWS
 fi
 
-# A pipe that ends at once, amid a line, after a pause and never.
+# A pipe that ends at once, within a line, after a pause, or never.
 devices_pipes <<'ROWS'
 :|plan --crontab pipe|0
 :|plan --system-crontab pipe|0
@@ -127,7 +131,7 @@ exec cat /dev/zero|plan pipe.timer|1 agenda: pipe.timer: line 0: TooLarge\n
 exec cat /dev/zero|steps pipe|1 agenda: script: line 0: TooLarge\n
 ROWS
 
-# Usage, an input that is refused, and a file that can't be read.
+# Usage, an input that is rejected, and a file that can't be read.
 if [ -c /dev/full ]; then
   devices_untold <<'ROWS'
 next --bad|2

@@ -1,11 +1,12 @@
 # shellcheck shell=bash disable=SC2154
-# Calendar events (systemd.time(7)): when they start, which texts mean the same event, which are refused, and which of several
-# faults is the first.
+# Calendar events (systemd.time(7)): when they start, which texts mean the same event, which are rejected, and
+# which of several errors comes first.
 
 # shellcheck source=/dev/null
 . "$top/rows/lib/lists.sh"
 
-# 2024-01-01 is a Monday, 2024-10-01 a Tuesday. Steps after `~` go from the greater place: in `1..4/2` and in `4..1/2` from 4 to 2.
+# 2024-01-01 is a Monday, 2024-10-01 a Tuesday. Steps after `~` go from the greater number: in `1..4/2` and in
+# `4..1/2` from 4 to 2.
 lists_next --calendar <<'ROWS'
 *-02~03|2024-02-25T23:59:59Z|2024-02-27T00:00:00Z 2025-02-26T00:00:00Z
 *-02~29|2023-01-01T00:00:00Z|2024-02-01T00:00:00Z 2028-02-01T00:00:00Z
@@ -87,7 +88,7 @@ lists_next --calendar <<'ROWS'
 *-*-* 0:0:1|2024-12-30T00:00:00Z|2024-12-30T00:00:01Z 31T00:00:01Z
 ROWS
 
-# `\xc5\xbf` is the long s, `\xe2\x84\xaa` the sign of Kelvin.
+# `\xc5\xbf` is the long s, `\xe2\x84\xaa` the Kelvin sign.
 lists_refused --calendar <<'ROWS'
 7 Fraction|Mon 12:00:00.5
 8 Zone|daily Europe/Oslo
@@ -156,7 +157,7 @@ lists_refused --calendar <<'ROWS'
 3 WrongParts|1,-1
 ROWS
 
-# The text is looked at from the specifier to the seconds, and a component's forms before its values.
+# The text is checked from the specifier to the seconds, and the forms of a component before its values.
 lists_refused --calendar <<'ROWS'
 0 Specifier|fortnightly Oslo %
 8 Zone|Foo 1 2 3 Oslo
@@ -182,7 +183,7 @@ lists_refused --calendar <<'ROWS'
 4 BadNumber|*-*~*/+
 ROWS
 
-# Lists of 1,000,000 bytes behind their first element, which is $1; $2 stands behind them, and $3 is the start in January.
+# Lists of 1,000,000 bytes after their first element, which is $1. $2 follows them, and $3 is the start in January.
 events_long_list() {
   {
     printf '[Timer]\nOnCalendar=%s' "$1"
@@ -194,7 +195,7 @@ events_long_list() {
   compare_lines "a list of 1,000,000 bytes: $1,1,..$2" "$3${tab}long.timer${tab}long.service"$'\n'
 }
 
-# An event of 200 elements in its seconds, which name each: it starts as `*:*:*`.
+# An event with 200 elements in its seconds, which have every second: it starts like `*:*:*`.
 events_200_elements() {
   local seconds='' starts='' element second
   for element in {0..198}; do

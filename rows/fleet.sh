@@ -1,5 +1,5 @@
 # shellcheck shell=bash disable=SC2154,SC2034
-# Rows of examples/fleet/fleet.sh, which plans many machines: by xargs, and by GNU parallel where that is here.
+# Rows of examples/fleet/fleet.sh, which plans many machines: by xargs, and by GNU parallel if it is installed.
 
 # shellcheck source=/dev/null
 . "$top/rows/lib/machine.sh"
@@ -7,11 +7,12 @@
 fleet_folder=$machine_folder/fleet
 fleet_programs=$machine_folder/fleet-programs
 fleet_script=$machine_folder/fleet.sh
-# Beside which agenda the agenda-machine is that it finds: that of the other rows, or the stub.
+# The directory of agenda-machine, next to the program of the other rows, or next to the stub.
 fleet_bin=$machine_folder/whole
 
-# Makes a folder of what the script needs and no more, so that it finds no GNU parallel; and the stub that stands for agenda. That answers
-# with an agenda without lines; where it is given a system's crontab, it runs that as a script.
+# Makes a directory with only the programs that the script needs, so that it finds no GNU parallel, and the
+# stub for agenda. The stub answers with an agenda without lines. If it gets a system's crontab, it runs that
+# as a script.
 fleet_begin() {
   local name
   cp -- "$top/examples/fleet/fleet.sh" "$fleet_script"
@@ -34,7 +35,7 @@ STUB
   chmod 755 "$machine_folder/fleet-stub/agenda"
 }
 
-# Puts into the folder $2 a program $1 that notes that it plans machines, and does what that of this machine does.
+# Puts a program $1 into the directory $2 that records that it plans machines, and then runs this machine's program.
 fleet_note() {
   cat >"$2/$1" <<STUB
 #!/usr/bin/env bash
@@ -44,13 +45,13 @@ STUB
   chmod 755 "$2/$1"
 }
 
-# Makes the machine $1 of the description $2.
+# Makes the machine $1 from the description $2.
 fleet_make() {
   local machine_root="fleet/$1"
   machine_make "$2"
 }
 
-# Runs the script with the words $@, by the program that fleet_by names.
+# Runs the script with the arguments $@, by the program in fleet_by.
 fleet_run() {
   local path=$fleet_bin:$fleet_programs
   [ "$fleet_by" = xargs ] || path=$fleet_bin:$machine_folder/fleet-parallel:$PATH
@@ -59,8 +60,8 @@ fleet_run() {
   machine_left=$(ls -A "$machine_temporary")
 }
 
-# Compares the last run, which $1 names, with the files out.wanted and err.wanted and the status $2. It has to have planned by the
-# program $3, or by none where that is empty.
+# Compares the last run, with the name $1, with the files out.wanted and err.wanted and the status $2. It must
+# have planned by the program $3, or by none if that is empty.
 fleet_compare() {
   {
     diff -a -u --label "standard output wanted" --label "standard output" -- "$work/out.wanted" "$work/out"
@@ -72,8 +73,8 @@ fleet_compare() {
   count "fleet by $fleet_by: $1"
 }
 
-# Writes the files out.wanted and err.wanted of standard input. A line `! TEXT` is of standard error; one `TIME|MACHINE|JOB|WHAT` is a start
-# of the day.
+# Writes the files out.wanted and err.wanted from standard input. A line `! TEXT` is for standard error. A
+# line `TIME|MACHINE|JOB|WHAT` is a start of the day.
 fleet_want() {
   local line
   : >"$work/out.wanted"
@@ -86,7 +87,8 @@ fleet_want() {
   done
 }
 
-# The words from $3 on, behind the moments of a day, come to what standard input has, and end with the status $2; $1 names them.
+# The arguments from $3 on, after the span of a day, give the output on standard input and end with the status
+# $2. $1 is their name.
 fleet_day() {
   local name=$1 code=$2
   shift 2
@@ -95,7 +97,7 @@ fleet_day() {
   fleet_compare "$name" "$code" "$fleet_by"
 }
 
-# The machines of the rows. `one` and `two 2` start at one moment, and each has two starts at it; `none` has no jobs.
+# The machines of the rows. `one` and `two 2` start at the same time, and each has two starts then; `none` has no jobs.
 fleet_machines() {
   fleet_make one 'etc/crontab=0\x201\x20*\x20*\x20*\x20root\x20b\n0\x201\x20*\x20*\x20*\x20root\x20a\n0\x203\x20*\x20*\x20*\x20root\x20c\n'
   fleet_make 'two 2' 'C/p=0\x201,2\x20*\x20*\x20*\x20root\x20d\n
@@ -151,7 +153,7 @@ LINES
 LINES
 }
 
-# Machines that fail: the others are there.
+# Machines that fail: the others are in the answer.
 fleet_faults() {
   local fleet_words=(--limit 1439)
   fleet_day "machines that fail in four ways" 1 gone one file bad many sub/one <<'LINES'
@@ -188,7 +190,7 @@ LINES
   fleet_compare "as many starts as the limit" 0 "$fleet_by"
 }
 
-# A folder that may not be read is a fault, where agenda-machine finds nothing in it.
+# A directory that can't be read is an error if agenda-machine finds nothing in it.
 fleet_locked() {
   local machine_by=() fleet_bin=$machine_folder/fleet-stub
   if ! machine_as_nobody; then
@@ -204,7 +206,7 @@ LINES
   chmod 755 "$fleet_folder/locked"
 }
 
-# Names of machines with characters that mean something to shells, awk, sort or GNU parallel.
+# Names of machines with special characters of shells, awk, sort or GNU parallel.
 fleet_names() {
   # shellcheck disable=SC2016
   local name names=(-d '{}' '{1}' '%d' '$HOME' '`id`' "a'b" 'a"b' 'a\tb' 'a\\b' '&' '*' 'a;b' '~' '\0' 1e3 ' a ' ä '#')
@@ -218,7 +220,8 @@ fleet_names() {
   fleet_compare "names of machines" 0 "$fleet_by"
 }
 
-# More machines than sort holds open, so that it merges several times: 40, of which two fail, given against the order of their names.
+# More machines than sort keeps open, so that it merges several times: 40 machines, two of which fail, in the
+# reverse order of their names.
 fleet_forty() {
   local number folders=() hour
   fleet_want </dev/null
@@ -240,8 +243,8 @@ fleet_forty() {
   fleet_compare "40 machines" 1 "$fleet_by"
 }
 
-# Words that no machine is asked with: what is wrong with them is said once. Each row: the words, the status, and the line of standard error
-# that there has to be.
+# Arguments with which no machine is planned: the error is reported once. Each row: the arguments, the status,
+# and the line of standard error.
 fleet_refused() {
   local row code line words
   : >"$work/out.wanted"
@@ -255,7 +258,7 @@ fleet_refused() {
   done
 }
 
-# The moments are agenda-machine's, and all machines get the same.
+# The times are those of agenda-machine, and all machines get the same ones.
 fleet_moments() {
   fleet_want <<'LINES'
 05:00|one|system:1|root f
@@ -267,7 +270,8 @@ LINES
   fleet_compare "an empty span" 0 "$fleet_by"
 }
 
-# What may come of agenda: lines of a fault that aren't one, lines before a fault, an end by a signal, a script that is killed.
+# What agenda may do: two lines of an error, half a line, messages before a success, the end by a signal, a
+# script that is killed.
 fleet_stubs() {
   local fleet_bin=$machine_folder/fleet-stub
   fleet_make 'two-lines' 'etc/crontab=echo\x20a\x20>&2\necho\x20b\x20>&2\nexit\x203\n'
@@ -291,7 +295,7 @@ LINES
   fleet_compare "a machine that is killed" 1 "$fleet_by"
 }
 
-# The script is ended by a signal, $1, while agenda runs: nothing of it is left, neither files nor processes.
+# The script ends by a signal, $1, while agenda runs: neither files nor processes are left.
 fleet_signalled() {
   local fleet_bin=$machine_folder/fleet-stub process
   fleet_make sleeper "etc/crontab=echo\\x20\$\$\\x20>$machine_folder/fleet.sleeper\\nexec\\x20sleep\\x2020\\n"
@@ -309,7 +313,7 @@ fleet_signalled() {
   [ ! -s "$work/out" ] || tell "something on standard output"
   [ -z "$machine_left" ] || tell "left in the temporary folder: $machine_left"
   process=$(cat "$machine_folder/fleet.sleeper")
-  # it was sent the signal, and sleeps for 20 s else
+  # it was sent the signal; otherwise it sleeps for 20 s
   for _ in {1..100}; do
     kill -0 "$process" 2>/dev/null || break
     sleep 0.05

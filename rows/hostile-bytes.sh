@@ -1,7 +1,8 @@
 # shellcheck shell=bash disable=SC2154
-# Rows of bin/check-examples: bytes that don't belong there. A byte 0 is put in at each place of a crontab, a timer and a script, and
-# carriage returns stand where a newline might be meant. Each text has the answer that docs/FORMATS.md gives it: a byte 0 and a
-# carriage return are characters as others are, but for the carriage return at the end of a timer's line.
+# Rows of bin/check-examples: unexpected bytes. A NUL byte is inserted at each place of a crontab, a timer and
+# a script, and carriage returns are where a newline might be meant. Each text has the answer that follows
+# from docs/FORMATS.md: a NUL byte and a carriage return are characters like others, except for the carriage
+# return at the end of a timer's line.
 
 # shellcheck source=/dev/null
 . "$top/rows/lib/parts.sh"
@@ -11,8 +12,8 @@ mkdir "$hostile_folder"
 hostile_week=(--since 2024-01-01T00:00:00Z --upto 2024-01-08T00:00:00Z)
 hostile_hour=(--since 2024-01-01T00:00:00Z --upto 2024-01-01T01:00:00Z)
 
-# Rows of standard input: of each line of a script what stands before its message, and the message, if it has one. A byte 0 before or
-# behind the message is a part of it; anywhere else it makes the line one of another form.
+# Rows from standard input: for each line of a script, the text before its message, and the message if it has
+# one. A NUL byte before or after the message is a part of it. Anywhere else it makes the line invalid.
 hostile_script() {
   local begin message line=0 replies=''
   replies='sent\nsent\nfull c\nsent\ntook 0 a\ntook 1 d\nshut\nclosed e\ntook 0 b\nnothing\nshut\nended\n'
@@ -27,7 +28,8 @@ hostile_script() {
   printf '%s\n' "|agenda: script: line $((line + 1)): BadLine\n"
 }
 
-# Rows of standard input: a file's name, its escaped text, the words of the program, and the escaped answer, as parts_compare takes it.
+# Rows from standard input: a file's name, its escaped text, the program's arguments, and the escaped answer,
+# as in parts_compare.
 hostile_texts() {
   local name text words answer
   while IFS='|' read -r name text words answer; do
@@ -38,8 +40,8 @@ hostile_texts() {
   done
 }
 
-# Before a line a byte 0 is the begin of a field, within an at-word it makes another word, and it is kept in comments, settings and
-# commands. At the end it is a line of one field.
+# Before a line, a NUL byte is the start of a field. In an at-word it makes another word, and it is kept in
+# comments, settings and commands. At the end it is a line with one field.
 parts_rows zero "$hostile_folder/crontab" plan "${day[@]}" --crontab crontab <<'ROWS'
 #|agenda: crontab: line 1: part 0: WrongParts\n
  nightly\n|2024-01-01T00:00:00Z\tcron:4\tb\n
@@ -55,7 +57,7 @@ b|2024-01-01T00:00:00Z\tcron:4\t\0b\n
 |agenda: crontab: line 5: part 0: WrongParts\n
 ROWS
 
-# In a field it is no number, and in the user's name it is a character.
+# In a field it makes an invalid number, and in the user's name it is a character.
 parts_rows zero "$hostile_folder/system" plan "${hostile_hour[@]}" --system-crontab system <<'ROWS'
 17 |agenda: system crontab: line 1: part 1: BadNumber\n
 * |agenda: system crontab: line 1: part 2: BadNumber\n
@@ -68,9 +70,10 @@ x|2024-01-01T00:17:00Z\tsystem:1\tu \0x\n
 |2024-01-01T00:17:00Z\tsystem:1\tu x\0\n
 ROWS
 
-# In the section `[Timer]` or its key the setting is another one. In the event it is a weekday's name, a date, or an hour or a minute
-# that is none. Behind the backslash the line isn't joined any more; before the `#` the line is no comment any more, but a part of the
-# event, whose last word is then no zone. Blanks behind it are not at a line's begin.
+# In the section `[Timer]` or in a key it makes another name. In the event it makes an invalid name of a
+# weekday, date, hour or minute. After the backslash, the line isn't continued any more. Before the `#`, the
+# line isn't a comment any more but a part of the event, whose last word then isn't a zone. Blanks after a NUL
+# byte aren't at the start of a line.
 parts_rows zero "$hostile_folder/n.timer" plan "${hostile_week[@]}" n.timer <<'ROWS'
 [Unit]\nDescription=x\n|2024-01-01T12:00:00Z\tn.timer\ty.service\n
 [Timer]\n|agenda: n.timer: line 0: NoTimerSection\n
@@ -115,8 +118,8 @@ take\n|
 ROWS
 )
 
-# A carriage return alone ends no line: what stands on both sides of it is one line. It belongs to a command, and is dropped at the
-# end of a timer's line alone, once.
+# A carriage return by itself ends no line: the text before and after it is one line. It belongs to a command,
+# and only at the end of a timer's line one is dropped.
 hostile_texts <<'ROWS'
 c|\r|plan --crontab c|agenda: crontab: line 1: part 0: WrongParts\n
 c|\r\n\r\n|plan --crontab c|agenda: crontab: line 1: part 0: WrongParts\n

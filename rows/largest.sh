@@ -1,14 +1,15 @@
 # shellcheck shell=bash disable=SC2154
-# Rows of bin/check-examples: the largest texts and agendas. Each run has 2 s of a processor, and of memory 128 bytes for each byte that it
-# reads, 16 for each start that its limit lets it hold, and 8 MB for the program, its threads and their stacks of 512 KB. A run that needs
-# more memory would answer NoMemory, and one that takes longer is ended.
+# Rows of bin/check-examples: the largest texts and agendas. Each run has 2 s of processor time. Its memory is
+# 128 bytes for each byte that it reads, 16 for each start within its limit, and 8 MB for the program, its
+# threads and their stacks of 512 KB. A run that needs more memory would answer NoMemory, and one that takes
+# longer is killed.
 
 largest_folder="$work/largest"
 mkdir "$largest_folder"
 largest_since="2024-01-01T00:00:00Z"
 largest_day=(--since "$largest_since" --upto 2024-01-02T00:00:00Z)
 
-# Runs the program with the words from $3 on, in the memory for what it reads of the file $1 and for $2 starts.
+# Runs the program with the arguments from $3 on, in the memory for the file $1 and for $2 starts.
 largest_run() {
   local bytes starts=$2
   bytes=$(stat -L -c %s "$largest_folder/$1")
@@ -19,8 +20,8 @@ largest_run() {
     $((8192 + (128 * bytes + 16 * starts) / 1024)) "$@"
 }
 
-# The file $2, which $1 names, is a crontab or a timer of which the program says on the day $3: a fault line, or what stands behind the
-# moment in the line of its one start, or nothing where it has none.
+# Checks the file $2, a crontab or a timer, on one day. $1 is the name of the row. $3 is the line of the
+# error, or what follows the time in the line of the only start, or nothing if there is no start.
 largest_text() {
   local words=("$2")
   [ "${2%.timer}" != "$2" ] || words=(--crontab "$2")
@@ -31,7 +32,7 @@ largest_text() {
   esac
 }
 
-# Makes the file $1 of standard input up to its byte $2.
+# Makes the file $1 from standard input, up to byte $2.
 largest_file() {
   head -c "$2" >"$largest_folder/$1"
 }
@@ -46,7 +47,7 @@ largest_newlines() {
   is_refused "a script of 1,048,576 newlines" "script: line 1: BadLine" 1
 }
 
-# One line has all 1,048,576 bytes, or as many as are left.
+# One line has all 1,048,576 bytes, or as many as remain.
 largest_lines() {
   local long
   long=$(yes x | tr -d '\n' | head -c 1048569)
@@ -68,7 +69,8 @@ largest_lines() {
   is_refused "a script of one line of 1,048,576 letters" "script: line 1: BadLine" 1
 }
 
-# Settings and the empty ones that reset them, as many as a timer holds (8 bytes of the section and 29 for each pair), and then 200,000.
+# Settings, each with an empty one that resets it: as many as a timer holds (8 bytes for the section and 29
+# for each pair), and then 200,000.
 largest_resets() {
   local pair=$'OnCalendar=daily\nOnCalendar='
   { echo "[Timer]" && yes "$pair" | head -n 72314; } | largest_file reset.timer 1048576
@@ -82,7 +84,7 @@ largest_resets() {
   largest_text "200,000 events that are reset each, of 5,800,008 bytes" reset.timer "agenda: reset.timer: line 0: TooLarge"
 }
 
-# Lines that go on: the text behind them all, and the number of the first.
+# Lines that are continued: the text after all of them, and the number of the first.
 largest_continued() {
   { printf '[Timer]\nOnCalendar=\\\n' && yes $'\\' | head -n 400000 && echo daily; } | largest_file on.timer 1048576
   largest_text "400,000 lines that go on, and a word" on.timer "on.timer${tab}on.service"
@@ -90,7 +92,8 @@ largest_continued() {
   largest_text "400,000 lines that go on, and a faulty hour" on.timer "agenda: on.timer: line 2: part 5: OutOfRange"
 }
 
-# 1,000 jobs that fill 1,048,576 bytes: each line has 8 bytes beside what is run, and the first 576 have one more than the others.
+# 1,000 jobs that fill 1,048,576 bytes: each line has 8 bytes besides its command, and the first 576 have one
+# more than the others.
 largest_jobs() {
   local planners
   awk 'BEGIN {
@@ -109,7 +112,8 @@ largest_jobs() {
   largest_text "116,508 jobs" jobs "agenda: jobs: Full"
 }
 
-# What `check` says of texts of 1,048,576 bytes: a fault of each line, a job of each line, or an event of each line of a timer.
+# What `check` reports about texts of 1,048,576 bytes: an error in each line, a job in each line, or an event
+# in each line of a timer.
 largest_checks() {
   yes '@' | largest_file faults 1048576
   seq -f 'faults:%.0f: part 0: UnknownWord' 524288 >"$work/findings.wanted"
@@ -129,7 +133,8 @@ largest_checks() {
   compare "check of 80,658 events" "$work/findings.wanted" /dev/null 1
 }
 
-# Rows of standard input: the moment up to which is planned, the limit, further words, and the fault of the plan by 1 planner and by 8.
+# Rows from standard input: the end of the span, the limit, further arguments, and the error of the plan by 1
+# planner and by 8.
 largest_refused() {
   local upto limit words cause planners
   while IFS='|' read -r upto limit words cause; do
@@ -142,7 +147,8 @@ largest_refused() {
   done
 }
 
-# 1,000 jobs each minute, and a timer each second. Each limit is one start too low, or the largest, which a minute more is past.
+# 1,000 jobs each minute, and a timer each second. Each limit is too low by one start, or it is the largest,
+# which a span that is a minute longer exceeds.
 largest_agendas() {
   local planners
   yes '* * * * * x' | head -n 1000 >"$largest_folder/minutes"
@@ -172,7 +178,7 @@ ROWS
   is_refused "a start each second, and the limit that is not given" "plan: TooMany" 1
 }
 
-# The gaps of the same starts, of a minute each and of a second each. The limit that is not given is the largest.
+# The gaps between the same starts, of a minute and of a second each. The default limit is the largest.
 largest_gaps() {
   local planners
   awk 'function moment(minute) { return sprintf("2024-01-01T%02d:%02d:00Z", int(minute / 60), minute % 60) }
@@ -190,7 +196,7 @@ largest_gaps() {
   done
 }
 
-# That the memory is bounded: 8 MB are too little for the largest agenda.
+# The memory is really limited: 8 MB are too little for the largest agenda.
 largest_bound() {
   largest_run minutes 0 plan --since "$largest_since" --upto 2024-01-01T16:40:00Z --limit 1000000 --crontab minutes
   is_refused "1,000,000 starts without memory for them" NoMemory 3

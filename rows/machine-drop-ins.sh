@@ -1,12 +1,13 @@
 # shellcheck shell=bash disable=SC2154
-# Rows of what agenda-machine finds of drop-ins: which folders are a timer's, which file counts for a name, and in which order they stand.
-# The program agenda is a stub.
+# Rows about the drop-ins that agenda-machine finds: which directories are a timer's, which file applies to a
+# name, and their order. The program agenda is a stub.
 
 # shellcheck source=/dev/null
 . "$top/rows/lib/machine.sh"
 
-# Each row: a timer, its folders in their order, and folders that aren't its own. Each folder has a file of its own that all later ones have
-# too, so that it is its own that counts; the names of the files go backwards. The timer's file is of its own name, or of its template's.
+# Each row: a timer, its directories in order, and directories that aren't its own. Each directory has a file
+# that all later ones have too, so that only its own file applies. The names of the files go backwards. The
+# timer's file has its own name, or its template's.
 machine_folders() {
   local timer own others file given root folder name number names
   local -a folders
@@ -56,7 +57,7 @@ a-@i.timer|a-@i.timer a-@.timer|a-.timer a@i.timer a@.timer
 ROWS
 )
 
-# The five folders come before the names of X; timer.d comes last.
+# The five unit directories decide before the names of directories; timer.d comes last.
 machine_sources <<'ROWS'
 *a.timer U/a.timer E/a.timer.d/x.conf R/a.timer.d/x.conf L/a.timer.d/x.conf B/a.timer.d/x.conf U/a.timer.d/x.conf|U/a.timer +E/a.timer.d/x.conf|
 *a.timer U/a.timer R/a.timer.d/x.conf L/a.timer.d/x.conf B/a.timer.d/x.conf U/a.timer.d/x.conf|U/a.timer +R/a.timer.d/x.conf|
@@ -105,7 +106,7 @@ machine_sources <<'ROWS'
 *a.timer *b.timer U/a.timer U/b.timer U/timer.d/x.conf!|U/a.timer U/b.timer|U/timer.d/x.conf not readable
 ROWS
 
-# Folders of drop-ins that are links.
+# Directories of drop-ins that are links.
 machine_sources <<'ROWS'
 *a.timer U/a.timer E/a.timer.d>/opt/d opt/d/x.conf|U/a.timer|E/a.timer.d linked folder
 *a.timer U/a.timer E/a.timer.d>b.timer.d E/b.timer.d/x.conf U/a.timer.d/x.conf|U/a.timer +U/a.timer.d/x.conf|E/a.timer.d linked folder

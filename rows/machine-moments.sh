@@ -1,16 +1,17 @@
 # shellcheck shell=bash disable=SC2154
-# Rows of the moments that agenda-machine adds and reads, in UTC, and of what it hands on of agenda's answer. The program agenda is a stub.
+# Rows about the timestamps that agenda-machine adds and reads, in UTC, and about how it passes on agenda's
+# answer. The program agenda is a stub.
 
 # shellcheck source=/dev/null
 . "$top/rows/lib/machine.sh"
 
-# Prints the moment of the second $1.
+# Prints the timestamp of the second $1.
 machine_moment() {
   date -u -d "@$1" +%Y-%m-%dT%H:%M:%SZ
 }
 
-# Writes to words.wanted the words $1, with bars between. NOW is a moment from the second $2 on up to now, which stands at its place in the
-# words of the last run, and NEXT is a day after it.
+# Writes the arguments $1, with bars between them, to words.wanted. NOW is a timestamp from the second $2 up
+# to now, at the same place in the arguments of the last run. NEXT is a day after it.
 machine_wanted_words() {
   local at moment=0
   local -a wanted given
@@ -26,7 +27,7 @@ machine_wanted_words() {
   printf '%s\n' "${wanted[@]//NEXT/$(machine_moment $((moment + 86400)))}" >"$work/words.wanted"
 }
 
-# Rows of words and of those that agenda gets, with bars between. DAY is the begin of 2024.
+# Rows of arguments and of those that agenda gets, with bars between them. DAY is the start of 2024.
 machine_moments() {
   local row wanted words begun
   machine_make x/
@@ -66,7 +67,7 @@ plan|--sinces|DAY|--upton=DAY>plan|--since|NOW|--upto|NEXT|--sinces|DAY|--upton=
 plan|since|--sinc|-since|x>plan|--since|NOW|--upto|NEXT|since|--sinc|-since|x
 ROWS
 
-# Other texts are date's, in UTC, and those of --upto that begin with + count from since.
+# date reads all other texts, in UTC, and those of --upto that begin with + are counted from --since.
 machine_moments <<'ROWS'
 plan|--since|2024-02-29 12:00>plan|--upto|2024-03-01T12:00:00Z|--since|2024-02-29T12:00:00Z
 plan|--since=2024-02-29>plan|--upto|2024-03-01T00:00:00Z|--since=2024-02-29T00:00:00Z
@@ -97,7 +98,7 @@ quiet|x|--upto=DAY|--since>quiet|x|--upto=DAY|--since
 check|--since|now|--upto=+1 day|--after|x>check|--since|now|--upto=+1 day|--after|x
 ROWS
 
-# An empty text is date's too: today.
+# date reads an empty text too: it is today.
 machine_today() {
   local day
   machine_make x/
@@ -108,7 +109,7 @@ machine_today() {
   machine_run --root root upcoming --after ''
   printf '%s\n' upcoming --after "$day" >"$work/words.wanted"
   machine_compare "an empty word" /dev/null /dev/null 0 words "$work/words.wanted"
-  # the caller's zone changes nothing, with a winter's end between
+  # the caller's zone changes nothing, with the end of winter time in the span
   TZ=EST5EDT,M3.2.0,M11.1.0 machine_run --root root plan --since '2024-03-09 12:00' --upto @1720000000
   printf '%s\n' plan --since 2024-03-09T12:00:00Z --upto 2024-07-03T09:46:40Z >"$work/words.wanted"
   machine_compare "texts in another zone" /dev/null /dev/null 0 words "$work/words.wanted"
@@ -117,7 +118,7 @@ machine_today() {
   machine_compare "a day in another zone" /dev/null /dev/null 0 words "$work/words.wanted"
 }
 
-# What agenda writes and its status are handed on, for each command.
+# The output and the status of agenda are passed on, for each command.
 machine_answers() {
   local command code
   machine_make 'etc/crontab C/a.b'
@@ -129,7 +130,7 @@ machine_answers() {
       machine_compare "the answer of $command with status $code" "$work/out.wanted" "$work/err.wanted" "$code"
     done
   done
-  # what is left out is said first
+  # what is skipped is reported first
   run_in "$machine_folder" env MACHINE_COMPLAINS='agenda: jobs: Full\n' "$machine_bin/agenda-machine" --root root plan
   printf '%s\n' 'agenda-machine: left out root/etc/cron.d/a.b: bad name' 'agenda: jobs: Full' >"$work/err.wanted"
   machine_compare "what is said before agenda runs" /dev/null "$work/err.wanted" 0

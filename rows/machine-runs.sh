@@ -1,11 +1,11 @@
 # shellcheck shell=bash disable=SC2154,SC2034
-# Rows of how agenda-machine runs: files that it may not read, signals, what it leaves behind, the programs that it needs, and whole plans
-# by the program itself.
+# Rows about how agenda-machine runs: files that it isn't allowed to read, signals, what it leaves, the
+# programs that it needs, and whole plans by the program itself.
 
 # shellcheck source=/dev/null
 . "$top/rows/lib/machine.sh"
 
-# Each row: a root, its files or folders without rights, its sources, and what is left out.
+# Each row: a root, its files or directories without permissions, its sources, and what is skipped.
 machine_locked() {
   local root locked path sources left
   while IFS='|' read -r root locked sources left; do
@@ -27,7 +27,8 @@ machine_locked() {
   done
 }
 
-# The script ends by a signal, $1, with the words of timeout in $2, while agenda runs: the temporary folder is gone.
+# The script ends by a signal, $1, with the option of timeout in $2, while agenda runs: the temporary
+# directory is removed.
 machine_signalled() {
   local machine_by=(timeout ${2:+"$2"} -s "$1" 0.4)
   MACHINE_SLEEPS=1.5 machine_run --root root plan
@@ -44,7 +45,7 @@ machine_signals() {
     machine_signalled "$signal" ''
   done
   machine_signalled TERM --foreground
-  # its reader goes away
+  # its reader ends
   rm -f "$work/err"
   # shellcheck disable=SC2016
   TMPDIR=$machine_temporary run_in "$machine_folder" bash -c '"$1" --root root sources | head -c 1; "$1" --root root check | :' \
@@ -53,7 +54,7 @@ machine_signals() {
   count "agenda-machine: its reader goes away"
 }
 
-# It runs with the programs of bash, coreutils and findutils alone.
+# It needs only the programs of bash, coreutils and findutils.
 machine_alone() {
   local path folder=$machine_folder/programs
   if ! dpkg -L bash coreutils findutils >"$work/programs" 2>/dev/null; then
@@ -76,7 +77,7 @@ machine_alone() {
   done
 }
 
-# Neither the caller's settings nor the name of the folder for temporary files change what it does.
+# Neither the caller's settings nor the name of the temporary directory change what it does.
 machine_settings() {
   local machine_temporary="$machine_folder/a b*"
   mkdir "$machine_temporary"
@@ -92,8 +93,8 @@ machine_settings() {
   machine_by=()
 }
 
-# Each row: a root, the lines of its plan of a day behind the header, with `;` between, and what is left out. The program is that of the
-# other rows.
+# Each row: a root, the lines of its plan of a day after the header, with `;` between them, and what is
+# skipped. The program is that of the other rows.
 machine_plans() {
   local root plan left
   while IFS='|' read -r root plan left; do
@@ -108,7 +109,7 @@ machine_plans() {
   done
 }
 
-# Each row: a root, the words of a command, and its answer, escaped.
+# Each row: a root, the arguments of a command, and its answer, escaped.
 machine_answers() {
   local root written answer words
   while IFS='|' read -r root written answer; do
@@ -120,7 +121,7 @@ machine_answers() {
   done
 }
 
-# Each row: a root, and the fault line of its plan.
+# Each row: a root, and the line of the error of its plan.
 machine_faults() {
   local root fault
   while IFS='|' read -r root fault; do
@@ -131,8 +132,8 @@ machine_faults() {
   done
 }
 
-# Each row: a root, and what `check` finds in it, with `;` between; a path there begins as one of a root's description does. The status is 1
-# where one of the findings is no note.
+# Each row: a root, and the findings of `check` in it, with `;` between them. Their paths begin in the same
+# way as those of a root's description. The status is 1 if one of the findings isn't a note.
 machine_checks() {
   local root findings finding wanted path
   local -a list
@@ -209,7 +210,8 @@ C/a=@daily\x20root\x20a S/a=@daily\n|a.user: line 1: NoCommand
 *a@b.timer U/a@.timer=[Timer]\nOnCalendar=%H\n|a-b.timer: line 2: part 0: Specifier
 *a.timer U/a.timer=[Timer]\nOnCalendar=daily\\\n E/a.timer.d/x.conf=[Timer]\nOnCalendar=%i\n|a.timer: line 6: part 0: Specifier
 ROWS
-# files as they are; one that gets another name; drop-ins, whose lines are their own, and what is said of the whole; instances
+# files as they are; one that gets another name; drop-ins, whose lines have their own numbers, and findings on
+# the whole; instances
 machine_checks <<'ROWS'
 x/|
 etc/crontab=@daily\x20root\x20a\n *a.timer U/a.timer=[Timer]\nOnCalendar=daily\n|

@@ -1,11 +1,13 @@
 # shellcheck shell=bash disable=SC2154
-# Rows of the texts that agenda-machine hands to agenda: links that are followed below the root alone, joined files, specifiers of
-# instances, and the findings of `check`, which are told of the files that the texts came from. The program agenda is a stub.
+# Rows about the texts that agenda-machine passes to agenda: links that are followed only below the root,
+# merged files, specifiers of instances, and the findings of `check`, which are reported for the files that
+# the texts came from. The program agenda is a stub.
 
 # shellcheck source=/dev/null
 . "$top/rows/lib/machine.sh"
 
-# Each row: a root, and what `check` says of it, with `;` between. The stub says something of each file, and of each of its lines.
+# Each row: a root, and the findings of `check` on it, with `;` between them. The stub reports each file, and
+# each of its lines.
 machine_findings() {
   local root findings finding path
   local -a list
@@ -21,7 +23,7 @@ machine_findings() {
   done
 }
 
-# A root whose name is of characters that a shell may read as others: what is found, what agenda gets, and what is said of it.
+# A root whose name has special characters of the shell: what is found, what agenda gets, and what is reported about it.
 machine_odd_root() {
   local machine_root=$1
   machine_make '*a.timer U/a.timer=p\n U/a.timer.d/x.conf=q\n C/b=r C/c.d S/e'
@@ -38,7 +40,7 @@ machine_odd_root() {
   rm -rf -- "${machine_folder:?}/$1"
 }
 
-# Links are followed as if the root were that of the machine.
+# Links are followed as if the root were the machine's.
 echo outside >"$machine_folder/outside"
 mkdir "$machine_folder/out.d"
 echo outside >"$machine_folder/out.d/a"
@@ -73,7 +75,7 @@ etc/systemd/system>/opt/u opt/u/x.target.wants/a.timer>b opt/u/a.timer=A\n|timer
 *a.timer usr/lib/systemd>/opt/s opt/s/system/a.timer.d/x.conf=B\n opt/s/system/a.timer=C\n|timer a.timer|C\n\n[Unit]\nB\n
 ROWS
 
-# What leads out of the root isn't there.
+# A link that leads out of the root leads nowhere.
 machine_sources <<ROWS
 etc/crontab>$machine_folder/outside C/a>$machine_folder/outside S/a>$machine_folder/outside||etc/crontab not readable,C/a not readable,S/a not readable
 etc/crontab>../../outside C/a>../../../outside S/a>../../../../../outside||etc/crontab not readable,C/a not readable,S/a not readable
@@ -83,7 +85,7 @@ etc/cron.d>$machine_folder/out.d||etc/cron.d not readable
 *a.timer U/a.timer E/a.timer.d/x.conf>$machine_folder/outside|U/a.timer|E/a.timer.d/x.conf not readable
 ROWS
 
-# How files are joined: an empty line and a line [Unit] between, and a newline at each file's end.
+# How files are merged: an empty line and a line [Unit] between them, and a newline at the end of each file.
 machine_texts <<'ROWS'
 *a.timer U/a.timer=A|timer a.timer|A
 *a.timer U/a.timer=A\n\n|timer a.timer|A\n\n
@@ -101,7 +103,7 @@ machine_texts <<'ROWS'
 C/a=A%i|cron-d a|A%i
 ROWS
 
-# Specifiers are those of an instance alone: what is between the first @ and the end, and what stands before it.
+# Only instances have specifiers: the text between the first @ and the end, and the text before it.
 # shellcheck disable=SC2016
 machine_texts <<'ROWS'
 *a@b.timer U/a@.timer=A\n|timer a-b.timer|A\n
@@ -125,7 +127,7 @@ machine_texts <<'ROWS'
 *a@b.timer U/a@.timer=A\0%i\0\n|timer a-b.timer|A\0b\0\n
 ROWS
 
-# Findings of joined, renamed and other files, which are told where they were found.
+# Findings on merged, renamed and other files, which are reported for the place where they were found.
 machine_findings <<'ROWS'
 etc/crontab=p\nq\n C/a=r\n S/b=s\n|etc/crontab: NoTimerSection;etc/crontab:1: p;etc/crontab:2: q;C/a: NoTimerSection;C/a:1: r;S/b: NoTimerSection;S/b:1: s
 C/a=r\n S/a=s\nt\n|C/a: NoTimerSection;C/a:1: r;S/a: NoTimerSection;S/a:1: s;S/a:2: t

@@ -1,11 +1,11 @@
 # shellcheck shell=bash disable=SC2154
-# Rows of what agenda-machine finds of timers: the folders of units, wishes, masks, aliases, templates and instances. The program agenda is
-# a stub.
+# Rows about the timers that agenda-machine finds: unit directories, enablement links, masks, aliases,
+# templates and instances. The program agenda is a stub.
 
 # shellcheck source=/dev/null
 . "$top/rows/lib/machine.sh"
 
-# The five folders of units, and others that are none. A name counts where it is a file or a link first.
+# The five unit directories, and other directories. The first file or link with the name applies.
 machine_sources <<'ROWS'
 *a.timer E/a.timer R/a.timer L/a.timer B/a.timer U/a.timer|E/a.timer|
 *a.timer R/a.timer L/a.timer B/a.timer U/a.timer|R/a.timer|
@@ -23,7 +23,7 @@ machine_sources <<'ROWS'
 *a.timer U/a.timer=[Unit]\n|U/a.timer|
 ROWS
 
-# Links of the name below one of the five folders don't count.
+# Links to the same name below one of the five directories are ignored.
 machine_sources <<'ROWS'
 *a.timer E/a.timer>/usr/lib/systemd/system/a.timer U/a.timer|U/a.timer|
 *a.timer E/a.timer>/lib/systemd/system/a.timer U/a.timer|U/a.timer|
@@ -39,7 +39,7 @@ machine_sources <<'ROWS'
 *a.timer U/a.timer>../../../local/lib/systemd/system/a.timer L/a.timer|L/a.timer|
 ROWS
 
-# Links to another name there are aliases, even where they lead nowhere; links to elsewhere are files as others are.
+# Links to another name there are aliases, even if they lead nowhere. Links to other places are files like others.
 machine_sources <<'ROWS'
 *a.timer E/a.timer>/usr/lib/systemd/system/b.timer U/b.timer||E/a.timer alias
 *a.timer E/a.timer>b.timer E/b.timer||E/a.timer alias
@@ -84,7 +84,7 @@ D/a.timer>y B/a.timer= U/a.timer||B/a.timer masked
 *a.timer *b.timer E/a.timer>/dev/null U/b.timer|U/b.timer|E/a.timer masked
 ROWS
 
-# Wishes: the folders in which they stand, and the names that they have. Where the link leads doesn't matter.
+# Enablement links: their directories and their names. Where a link leads doesn't matter.
 machine_sources <<'ROWS'
 E/x.target.wants/a.timer>y U/a.timer|U/a.timer|
 R/x.target.wants/a.timer>y U/a.timer|U/a.timer|
@@ -115,7 +115,8 @@ D/a.timer>../a.timer E/a.timer= U/a.timer||D/a.timer masked
 D/a\x20b.timer= ||D/a\x20b.timer masked
 ROWS
 
-# Of one folder's name and one entry's name the first wish counts, whatever it is; another folder's is another wish.
+# For the same names of directory and entry, only the first enablement link counts, whatever it is. Another
+# directory name makes another enablement link.
 machine_sources <<'ROWS'
 D/a.timer>/dev/null U/x.target.wants/a.timer>y U/a.timer||D/a.timer masked
 D/a.timer= B/x.target.wants/a.timer>y U/a.timer||D/a.timer masked
@@ -134,7 +135,7 @@ B/b.target.wants/a.timer>y U/a.target.wants/a.timer>y R/c.target.wants/a.timer>y
 E/a.target.wants/a.timer>/dev/null E/b.target.wants/a.timer>y||E/a.target.wants/a.timer masked,E/b.target.wants/a.timer no such timer
 ROWS
 
-# Folders of wishes that are links.
+# Directories of enablement links that are links.
 machine_sources <<'ROWS'
 E/x.target.wants>/opt/w opt/w/a.timer>y U/a.timer||E/x.target.wants linked folder
 E/x.target.requires>y.target.requires E/y.target.requires/a.timer>y U/a.timer|U/a.timer|E/x.target.requires linked folder
@@ -143,7 +144,7 @@ U/x.target.wants>nowhere||U/x.target.wants linked folder
 E/x.service.wants>/opt/w E/.x.target.wants>/opt/w E/x.target.upholds>/opt/w opt/w/a.timer>y U/a.timer||
 ROWS
 
-# Names that aren't taken, and what comes before what.
+# Names that are skipped, and the order of the reasons.
 machine_sources <<'ROWS'
 *a\x20b.timer U/a\x20b.timer||D/a\x20b.timer bad name
 *\xc3\xa0.timer *a~.timer *a,.timer *a%.timer *a+b.timer||D/\xc3\xa0.timer bad name,D/a~.timer bad name,D/a\x2c.timer bad name,D/a%.timer bad name,D/a+b.timer bad name
@@ -163,7 +164,7 @@ machine_sources <<'ROWS'
 E/x.target.wants/a\x20b.timer>y U/y.target.wants/a\x20b.timer>y||D/a\x20b.timer bad name
 ROWS
 
-# Instances: the file of their own name, or else their template's.
+# Instances: the file with their own name, or else their template's.
 machine_sources <<'ROWS'
 *a@b.timer U/a@.timer|U/a@.timer=a-b.timer|
 *a@b.timer E/a@.timer U/a@.timer|E/a@.timer=a-b.timer|
@@ -198,7 +199,7 @@ machine_sources <<'ROWS'
 C/a-b.timer S/a-b.timer *a-b.timer U/a-b.timer|S/a-b.timer U/a-b.timer|C/a-b.timer bad name
 ROWS
 
-# With --all each file or link that is no template is a wish too.
+# With --all, each file or link that isn't a template is enabled too.
 machine_sources --all <<'ROWS'
 U/a.timer|U/a.timer|
 E/e.timer R/d.timer L/c.timer B/b.timer U/a.timer|U/a.timer B/b.timer L/c.timer R/d.timer E/e.timer|

@@ -1,40 +1,42 @@
 # shellcheck shell=bash disable=SC2154,SC2034
-# Rows of the zone that agenda-machine hands to agenda, and of the texts that it has date read there. The program agenda is a stub, but for
-# the last rows. Expected times are worked out by hand from the rules of the zones below.
+# Rows about the zone that agenda-machine passes to agenda, and about the texts that date reads in it. The
+# program agenda is a stub, except in the last rows. Expected times are worked out by hand from the rules of
+# the zones below.
 
 # shellcheck source=/dev/null
 . "$top/rows/lib/machine.sh"
 
-# Sets `tzif` to the escaped text of a TZif file: $1 seconds east of UTC, which are called $2, in 1970, and the footer $3 from then on.
+# Sets `tzif` to the escaped text of a TZif file: $1 seconds east of UTC, with the name $2, in 1970, and the
+# footer $3 after that.
 zone_text() {
   local zeros='\x00\x00\x00\x00' head='' offset
   printf -v head '%s' 'TZif2\x00\x00\x00' "$zeros$zeros$zeros" "$zeros$zeros$zeros"
   printf -v offset '\\x%02x\\x%02x\\x%02x\\x%02x' $(($1 >> 24 & 255)) $(($1 >> 16 & 255)) $(($1 >> 8 & 255)) $(($1 & 255))
-  # of the first version one type without a name; of the second one change, one type and its name
+  # in the first version one type without a name; in the second one change, one type and its name
   tzif="$head$zeros"'\x00\x00\x00\x01\x00\x00\x00\x01'"$zeros"'\x00\x00\x00'
   tzif+="$head"'\x00\x00\x00\x01\x00\x00\x00\x01\x00\x00\x00'"\\x0$((${#2} + 1))$zeros$zeros"'\x00'
   tzif+="$offset"'\x00\x00'"$2"'\x00\n'"$3"'\n'
 }
 
-# As in Berlin: clocks are put forward on 2024-03-31 and back on 2024-10-27, each at 01:00 UTC.
+# Like Berlin: clocks are put forward on 2024-03-31 and back on 2024-10-27, both at 01:00 UTC.
 zone_text 3600 CET CET-1CEST,M3.5.0,M10.5.0/3
 zone_cet=$tzif
-# five hours east, so that it is no zone of a file that this machine has under the name of a row
+# five hours east, which is different from all zones of this machine whose names are in the rows
 zone_text 18000 +05 '<+05>-5'
 zone_east=$tzif
 zone_day=(--since 2024-01-01T00:00:00Z --upto 2024-01-02T00:00:00Z)
 
-# The commands of the rows of zones.
+# The commands in the rows about zones.
 zone_commands=(plan quiet upcoming check sources)
 
-# Makes the root of the description $1, in which CET and EAST stand for the texts of files.
+# Makes the root from the description $1, in which CET and EAST are the texts of files.
 zone_make() {
   local root=${1//CET/$zone_cet}
   machine_make "${root//EAST/$zone_east}"
 }
 
-# The row $1: the script with --root $2 hands on the zone $3; `-` is none, and `?` that it is unknown. sources looks for none. Further lines
-# of standard error are in the file err.further.
+# The row $1: the script with --root $2 passes on the zone $3. `-` is no zone, and `?` means that it is
+# unknown. sources needs no zone. Further lines of standard error are in the file err.further.
 zone_is() {
   local command zone=() words given=words
   : >"$work/err.zone"
@@ -60,7 +62,7 @@ zone_is() {
   done
 }
 
-# Rows of a root, as zone_make takes it, of its zone, as zone_is does, and of what is left out.
+# Rows of a root, as in zone_make, its zone, as in zone_is, and what is skipped.
 zone_roots() {
   local root zone left
   while IFS='|' read -r root zone left; do
@@ -71,7 +73,7 @@ zone_roots() {
   done
 }
 
-# Rows of how the root is given, and of the path of its zone. The folder is `root`, but where it is made as a copy of that.
+# Rows of how the root is given, and of the path of its zone. The directory is `root`, or a copy of it.
 zone_folders() {
   local given zone
   : >"$work/err.further"
@@ -81,7 +83,7 @@ zone_folders() {
   done
   while IFS='|' read -r given zone; do
     zone_is "--root $given" "${given/PWD/$machine_folder}" "${zone/PWD/$machine_folder}/usr/share/zoneinfo/Europe/Oslo"
-    # date reads the file of that path
+    # date reads the file with that path
     machine_run --root "${given/PWD/$machine_folder}" plan --since '2024-01-01 05:00' --upto '2024-01-02 05:00'
     printf '%s\n' plan --zone "${zone/PWD/$machine_folder}/usr/share/zoneinfo/Europe/Oslo" "${zone_day[@]}" >"$work/words.wanted"
     machine_compare "texts by --root $given" /dev/null /dev/null 0 words "$work/words.wanted"
@@ -91,7 +93,7 @@ zone_folders() {
   done
 }
 
-# Rows of a root, of a path in it without rights, of its zone, and of what is left out.
+# Rows of a root, a path in it without permissions, its zone, and what is skipped.
 zone_locked() {
   local root locked zone left
   while IFS='|' read -r root locked zone left; do
@@ -104,8 +106,8 @@ zone_locked() {
   done
 }
 
-# Rows of words and of those that agenda gets, with bars between. The root is $1, which has no sources. Further arguments stand before the
-# script, such as `env TZ=UTC`.
+# Rows of arguments and of those that agenda gets, with bars between them. The root is $1, which has no
+# sources. Further arguments come before the script, such as `env TZ=UTC`.
 zone_words() {
   local row wanted words machine_by=("${@:2}")
   zone_make "$1"
@@ -118,7 +120,7 @@ zone_words() {
   done
 }
 
-# Rows of words that are usage in a zone, and of what is said of them.
+# Rows of arguments that are usage errors in a zone, and the reported error.
 zone_usage() {
   local row said words
   zone_make "$1"
@@ -133,7 +135,7 @@ zone_usage() {
   done
 }
 
-# Texts that are counted from now are read in the zone too, but what is added where none is given are two moments of a day.
+# Texts relative to now are read in the zone too. Without texts, the two timestamps of a day are added.
 zone_now() {
   local begun since upto local_day rule=CET-1CEST,M3.5.0,M10.5.0/3
   zone_make etc/localtime=CET
@@ -157,7 +159,8 @@ zone_now() {
   machine_compare "today in a zone" /dev/null /dev/null 0 words "$work/words.wanted"
 }
 
-# Each row: a root, the words of a command, and what the program itself answers and complains of, escaped, with its status.
+# Each row: a root, the arguments of a command, and the output of the program itself and its errors, escaped,
+# with its status.
 zone_answers() {
   local root written answer complaint code words machine_bin=$machine_folder/whole
   while IFS='|' read -r root written answer complaint code; do
@@ -170,7 +173,7 @@ zone_answers() {
   done
 }
 
-# No etc/localtime; files; what is no file; links whose text names no zone.
+# No etc/localtime; files; what isn't a file; links whose target names no zone.
 zone_roots <<'ROWS'
 x/|-
 etc|-
@@ -222,7 +225,7 @@ etc/localtime>/usr/share/zoneinfo/No/Where usr/share>/opt/s opt/s/zoneinfo/No/Wh
 etc>/opt/e opt/e/localtime>/usr/share/zoneinfo/No/Where usr/share/zoneinfo/No/Where=EAST|./root/usr/share/zoneinfo/No/Where
 ROWS
 
-# Links that name a zone of which neither the root nor this machine has a file, or nothing that is a name.
+# Links that name a zone of which neither the root nor this machine has a file, or something that isn't a name.
 zone_roots <<'ROWS'
 etc/localtime>/usr/share/zoneinfo/No/Where|?
 etc/localtime>/usr/share/zoneinfo/No/Where usr/share/zoneinfo/No/Where/|?
@@ -292,7 +295,7 @@ else
 fi
 machine_by=()
 
-# Texts are read in the zone, and moments are handed on as they are: in winter, in summer, and around the changes of clocks.
+# Texts are read in the zone, and timestamps are passed on unchanged: in winter, in summer, and around clock changes.
 zone_words etc/localtime=CET <<'ROWS'
 plan|--since|2024-01-01T12:00:00Z|--upto|2024-07-01T12:00:00Z>plan|--zone|./root/etc/localtime|--since|2024-01-01T12:00:00Z|--upto|2024-07-01T12:00:00Z
 plan|--since|2024-01-01 12:00|--upto|2024-07-01 12:00>plan|--zone|./root/etc/localtime|--since|2024-01-01T11:00:00Z|--upto|2024-07-01T10:00:00Z
@@ -308,7 +311,7 @@ plan|--since|2024-10-26 22:00>plan|--zone|./root/etc/localtime|--upto|2024-10-27
 plan|--since|TZ="UTC0" 2024-07-01 12:00|--upto|2024-07-01 18:00>plan|--zone|./root/etc/localtime|--since|2024-07-01T12:00:00Z|--upto|2024-07-01T16:00:00Z
 ROWS
 
-# What is counted from since goes by the calendar of the zone, and hours are hours.
+# Texts counted from --since follow the calendar of the zone, and hours are real hours.
 zone_words etc/localtime=CET <<'ROWS'
 plan|--since|2024-03-30 22:00|--upto|+8 hours>plan|--zone|./root/etc/localtime|--since|2024-03-30T21:00:00Z|--upto|2024-03-31T05:00:00Z
 plan|--since|2024-03-30 22:00|--upto|+24 hours>plan|--zone|./root/etc/localtime|--since|2024-03-30T21:00:00Z|--upto|2024-03-31T21:00:00Z
@@ -323,7 +326,7 @@ plan|--since|2024-10-27T01:30:00Z|--upto|+1 hour>plan|--zone|./root/etc/localtim
 plan|--since|2024-10-27T00:30:00Z|--upto|+10 seconds>plan|--zone|./root/etc/localtime|--since|2024-10-27T00:30:00Z|--upto|2024-10-27T00:30:10Z
 plan|--since|2024-03-31T01:00:00Z|--upto|+0 hours>plan|--zone|./root/etc/localtime|--since|2024-03-31T01:00:00Z|--upto|2024-03-31T01:00:00Z
 ROWS
-# local times that clocks skip, and what is no text of date
+# local times that clocks skip, and texts that date can't read
 zone_usage etc/localtime=CET <<'ROWS'
 plan|--since|2024-03-31 02:30>--since: no moment: '2024-03-31 02:30'
 plan|--since|2024-03-30 22:00|--upto=2024-03-31 02:00>--upto: no moment: '2024-03-31 02:00'
@@ -334,7 +337,8 @@ plan|--since|--zone|UTC>--since: no moment: '--zone'
 ROWS
 zone_now
 
-# The caller's zone counts, wherever it is given, and nothing is looked for. Of one that agenda rejects the texts are read in UTC.
+# The caller's --zone is used, wherever it is given, and no other is searched. If agenda rejects it, the texts
+# are read in UTC.
 printf '%b' "$zone_east" >"$machine_folder/east"
 zone_words 'etc/localtime>/opt/x' <<'ROWS'
 plan|--zone|UTC|--since|2024-07-01 12:00|--upto|+1 day>plan|--zone|UTC|--since|2024-07-01T12:00:00Z|--upto|2024-07-02T12:00:00Z

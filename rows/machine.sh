@@ -1,10 +1,12 @@
 # shellcheck shell=bash disable=SC2154
-# Rows of what agenda-machine finds of cron, of its words, its help and its usage. The program agenda is a stub.
+# Rows about the sources of cron that agenda-machine finds, its arguments, its help and its usage errors. The
+# program agenda is a stub.
 
 # shellcheck source=/dev/null
 . "$top/rows/lib/machine.sh"
 
-# Rows of words, with bars between, that are usage: nothing is written to standard output, and agenda isn't run. The root is there.
+# Rows of arguments, with bars between them, that are usage errors: nothing is written to standard output, and
+# agenda isn't run. The root exists.
 machine_usage() {
   local row words
   machine_make etc/crontab
@@ -16,7 +18,7 @@ machine_usage() {
   done
 }
 
-# Rows of words that ask for help: some lines that name the script and its commands.
+# Rows of arguments that request help: some lines that name the script and its commands.
 machine_helps() {
   local row word words
   while IFS= read -r row; do
@@ -30,7 +32,7 @@ machine_helps() {
   done
 }
 
-# Rows of words, with bars between, and of the folder of which they say that it is none.
+# Rows of arguments, with bars between them, and of the root that isn't a directory.
 machine_no_folders() {
   local row name words
   machine_make file
@@ -42,7 +44,7 @@ machine_no_folders() {
   done
 }
 
-# Rows of a root as it is given, and of what stands before the paths then. The folder below is `root`.
+# Rows of a root as it is given, and of the prefix of the paths then. The directory below is `root`.
 machine_roots() {
   local given front
   machine_make 'etc/crontab C/a.b *a.timer U/a.timer E/a.timer.d/x.conf'
@@ -56,7 +58,7 @@ machine_roots() {
   done
 }
 
-# Without a root it is that of the machine, as by --root /: no path has two slashes.
+# The default root is that of the machine, like --root /: no path has two slashes.
 machine_whole() {
   machine_run --root / sources
   cp "$work/out" "$work/out.wanted"
@@ -72,7 +74,7 @@ machine_whole() {
   machine_compare "all sources of this machine" "$work/out.wanted" "$work/err.wanted" 0 none
 }
 
-# What is told of a name with a newline is a line too: it is written as a shell reads it.
+# A name with a newline is reported on one line too: it is quoted for a shell.
 machine_newlines() {
   machine_make '*a.timer U/a.timer U/a.timer.d/x\ny.conf C/a\nb *c\nd.timer'
   printf '%s\n' $'timer\ta.timer\troot/usr/lib/systemd/system/a.timer' \
@@ -83,7 +85,8 @@ machine_newlines() {
   machine_compare "names with a newline" "$work/out.wanted" "$work/err.wanted" 0 none
 }
 
-# Rows of words, with bars between, and of those that agenda gets, in which FILES stands for the sources of the root.
+# Rows of arguments, with bars between them, and of those that agenda gets. FILES is replaced by the sources
+# of the root.
 machine_words() {
   local row wanted files words
   machine_make 'etc/crontab C/a C/b S/b S/c *a.timer *b.timer *c@d.timer U/a.timer U/b.timer U/c@.timer E/b.timer.d/x.conf'
@@ -98,7 +101,7 @@ machine_words() {
   done
 }
 
-# The rows of all roots: what is there, the order of sources and of names.
+# The rows of all roots: what exists, and the order of sources and of names.
 machine_sources <<'ROWS'
 x/||
 etc||
@@ -118,7 +121,7 @@ C/.a C/.b.c S/.a S/.b~ C/.c/ S/.c>nowhere||
 etc/cron.daily/a etc/anacrontab var/spool/cron/a var/spool/cron/crontabs.x/a||
 ROWS
 
-# What can't be a source, and which of its faults is told.
+# What can't be a source, and which of the reasons is reported.
 machine_sources <<'ROWS'
 C/a.b C/c|C/c|C/a.b bad name
 C/a~ C/a\x20b C/\x20 C/a# C/\xc3\xa0 C/a@ C/* C/a:||C/a~ bad name,C/a\x20b bad name,C/\x20 bad name,C/a# bad name,C/\xc3\xa0 bad name,C/a@ bad name,C/* bad name,C/a: bad name
@@ -139,7 +142,7 @@ etc/cron.d>cron.d||etc/cron.d not readable
 etc/systemd/system U/x.target.wants/a.timer>x U/a.timer|U/a.timer|etc/systemd/system not readable
 ROWS
 
-# Names of the spool folder that cron.d has.
+# Names in the spool directory that cron.d has too.
 machine_sources <<'ROWS'
 C/a S/a|C/a S/a=a.user|
 C/a C/b S/a S/b S/c|C/a C/b S/a=a.user S/b=b.user S/c|

@@ -1,10 +1,10 @@
 # shellcheck shell=bash disable=SC2154
-# Moments: which texts are read, which are refused, and how they are printed; and the days of months and weeks.
+# Timestamps: which texts are read, which are rejected, and how they are printed; and the days of months and weeks.
 
 # shellcheck source=/dev/null
 . "$top/rows/lib/lists.sh"
 
-# Rows of a cause, and of a text that is refused by it where a moment is wanted.
+# Rows of a code, and of a text that is rejected with it as a timestamp.
 moments_refused() {
   local cause text
   while IFS='|' read -r cause text; do
@@ -14,7 +14,7 @@ moments_refused() {
   done
 }
 
-# In the rows of bytes: a digit of another script, which has two bytes, and an e with an accent.
+# The rows with bytes have a digit of another script, which has two bytes, and an e with an accent.
 moments_refused <<'ROWS'
 BadForm|
 BadForm|2024-1-1T00:00:00Z
@@ -53,7 +53,7 @@ OutOfYears|3000-01-01T00:00:01Z
 OutOfYears|9999-12-31T23:59:59Z
 ROWS
 
-# Each second is a start: known moments, and the seconds before and after them.
+# Each second is a start: known times, and the seconds before and after them.
 lists_next --calendar <<'ROWS'
 *:*:*|1970-01-01T00:00:00Z|1970-01-01T00:00:01Z
 *:*:*|2000-02-28T23:59:59Z|2000-02-29T00:00:00Z 01Z
@@ -85,7 +85,7 @@ Mon|2100-02-27T00:00:00Z|2100-03-01T00:00:00Z 08T00:00:00Z
 Tue|2999-12-27T00:00:00Z|2999-12-31T00:00:00Z none
 ROWS
 
-# The last days of months; those of February in years of all kinds.
+# The last days of months, and those of February in all kinds of years.
 lists_next --calendar <<'ROWS'
 *-*~1|2022-12-31T00:00:00Z|2023-01-31T00:00:00Z 02-28T00:00:00Z 03-31T00:00:00Z 04-30T00:00:00Z 05-31T00:00:00Z 06-30T00:00:00Z
 *-*~1|2023-06-30T00:00:00Z|2023-07-31T00:00:00Z 08-31T00:00:00Z 09-30T00:00:00Z 10-31T00:00:00Z 11-30T00:00:00Z 12-31T00:00:00Z

@@ -1,12 +1,13 @@
 # shellcheck shell=bash disable=SC2154
-# Rows of bin/check-examples: what `agenda next` lists, by both kinds of rules, and which moments, counts and rules it refuses.
+# Rows of bin/check-examples: what `agenda next` lists for both kinds of rules, and which timestamps, counts
+# and rules it rejects.
 
-# Runs `agenda next` for the rule $3 of the option --$2, after the moment $1 and with the count $4.
+# Runs `agenda next` for the rule $3 of the option --$2, after the time $1 and with the count $4.
 next_run() {
   run_in "$work" agenda next --after "$1" --count "$4" "--$2" "$3"
 }
 
-# Rows of standard input: the option, a rule, a moment and the lines that follow it, as many as are asked for.
+# Rows from standard input: the option, a rule, a timestamp, and the lines that follow it, as many as are requested.
 next_listed() {
   local option rule after starts lines
   while IFS='|' read -r option rule after starts; do
@@ -16,7 +17,7 @@ next_listed() {
   done
 }
 
-# Rows of standard input: the option, a rule, a moment, a count and the fault.
+# Rows from standard input: the option, a rule, a timestamp, a count and the error.
 next_refused() {
   local option rule after count fault
   while IFS='|' read -r option rule after count fault; do
@@ -37,8 +38,8 @@ next_thousand_starts() {
   compare "next: a thousand starts" "$work/starts" /dev/null 0
 }
 
-# In turn: either day field suffices; a star stands first, so both day fields must match; a step from a star; weekday 7 is Sunday; a
-# step past the end of a range; the last minute of the years.
+# The rows: either day field suffices; a star comes first, so both day fields must match; a step from a star;
+# weekday 7 is Sunday; a step past the end of a range; the last minute of the years.
 next_listed <<'END'
 cron|30 4 1,15 * 5|2024-01-01T00:00:00Z|2024-01-01T04:30:00Z 2024-01-05T04:30:00Z 2024-01-12T04:30:00Z 2024-01-15T04:30:00Z
 cron|0 0 */2 * 1|2024-01-01T00:00:00Z|2024-01-15T00:00:00Z
@@ -48,7 +49,7 @@ cron|0 0 1-31/40 * *|2024-01-01T00:00:00Z|2024-02-01T00:00:00Z
 cron|* * * * *|2999-12-31T23:58:59Z|2999-12-31T23:59:00Z none
 END
 
-# By the calendar: 2100 has no leap day, and neither has 2200, but 2400 has one; no 31st of February.
+# The calendar: 2100 has no leap day, and neither has 2200, but 2400 has one; there is no 31st of February.
 next_listed <<'END'
 cron|0 0 29 2 *|2096-02-29T00:00:00Z|2104-02-29T00:00:00Z
 cron|0 0 31 2 *|2024-01-01T00:00:00Z|none
@@ -79,21 +80,21 @@ calendar|99-2-3 4:5|1970-01-01T00:00:00Z|1999-02-03T04:05:00Z
 calendar|quarterly|2024-02-01T00:00:00Z|2024-04-01T00:00:00Z
 END
 
-# The count comes before the rule.
+# The count is checked before the rule.
 next_refused <<'END'
 cron|* * * * *|2024-01-01T00:00:00Z|0|count: BadCount
 cron|60 * * * *|2024-01-01T00:00:00Z|1001|count: BadCount
 cron|60 * * * *|2024-01-01T00:00:00Z|1000|rule: part 1: OutOfRange
 END
 
-# Each thing that can be wrong with a moment.
+# Each possible error of a timestamp.
 next_refused <<'END'
 cron|* * * * *|2024-01-01|1|after: BadForm
 cron|* * * * *|2023-02-29T00:00:00Z|1|after: NoSuchDate
 cron|* * * * *|1969-12-31T23:59:59Z|1|after: OutOfYears
 END
 
-# Each thing that can be wrong with a rule, and each part of it. A step after one value is refused in a cron rule.
+# Each possible error of a rule, in each of its parts. A step after a single value is rejected in a cron rule.
 next_refused <<'END'
 cron|5/15 * * * *|2024-01-01T00:00:00Z|1|rule: part 1: WrongParts
 cron|@dayly|2024-01-01T00:00:00Z|1|rule: part 0: UnknownWord

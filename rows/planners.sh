@@ -1,9 +1,9 @@
 # shellcheck shell=bash
 # shellcheck disable=SC2154  # work is set by bin/check-examples
-# Agendas in which all jobs start at once, 1,000 of a crontab each minute and 8 timers each second: they are the same, whole, by 1, 2,
-# 4 and 8 planners. bin/check-examples sources this file.
+# Agendas in which all jobs start at once, 1,000 of a crontab each minute and 8 timers each second. They are
+# complete and the same for 1, 2, 4 and 8 planners. bin/check-examples sources this file.
 
-# The sources, and the agendas that they make, in two minutes and in three seconds of 2024.
+# The sources, and their agendas, in two minutes and in three seconds of 2024.
 planners_files() {
   local place name
   yes '* * * * * x' | head -n 1000 >"$work/planners.crontab"

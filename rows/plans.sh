@@ -1,14 +1,15 @@
 # shellcheck shell=bash disable=SC2154
-# Rows of bin/check-examples: what `agenda plan` makes of its sources and its numbers: how many planners, how much room and which limit,
-# the order of jobs, which fault comes first, and how many jobs there may be.
+# Rows of bin/check-examples: what `agenda plan` makes from its sources and numbers: the number of planners,
+# their capacity and the limit, the order of jobs, which error comes first, and the maximum number of jobs.
 
 plans_folder="$work/plans"
 plans_since="2024-01-01T00:00:00Z"
 plans_sources=()
 mkdir -p "$plans_folder"
 
-# Makes the sources of the next runs: a user's crontab and the system's of the escaped texts $1 and $2, none where that is a -, and the
-# timer files $3: names with blanks between them, with `=` and a setting of the section behind each that isn't empty.
+# Makes the sources of the next runs: a user's crontab and the system's from the escaped texts $1 and $2, none
+# if the text is a -, and the timer files $3. These are names with blanks between them. A file that isn't
+# empty has `=` and a setting of its section after the name.
 plans_make() {
   local timer name
   plans_sources=()
@@ -30,15 +31,15 @@ plans_make() {
   done
 }
 
-# Plans the sources up to the moment $1, with these further options.
+# Plans the sources up to the time $1, with these further options.
 plans_run() {
   local upto=$1
   shift
   run_in "$plans_folder" agenda plan --since "$plans_since" --upto "$upto" "$@" "${plans_sources[@]}"
 }
 
-# Rows of standard input: a user's crontab, the system's, timer files, and the jobs that start at once: names, and what they run, with a
-# bar between them and a semicolon between jobs.
+# Rows from standard input: a user's crontab, the system's, timer files, and the jobs that start at once:
+# names and commands, with a bar between them and a semicolon between jobs.
 plans_jobs() {
   local crontab system timers jobs
   while IFS='|' read -r crontab system timers jobs; do
@@ -49,7 +50,7 @@ plans_jobs() {
   done
 }
 
-# Rows of standard input: a user's crontab, the system's, timer files, and their fault.
+# Rows from standard input: a user's crontab, the system's, timer files, and their error.
 plans_refused() {
   local crontab system timers fault
   while IFS='|' read -r crontab system timers fault; do
@@ -59,7 +60,7 @@ plans_refused() {
   done
 }
 
-# Rows of standard input: a limit, a number of planners, their room, and the fault of the plan.
+# Rows from standard input: a limit, a number of planners, their capacity, and the error of the plan.
 plans_bad_numbers() {
   local limit planners places cause
   while IFS='|' read -r limit planners places cause; do
@@ -68,7 +69,7 @@ plans_bad_numbers() {
   done
 }
 
-# Jobs of which two start on the day.
+# Jobs, two of which start on the day.
 plans_of_a_night() {
   local planners
   plans_make '# nightly\nMAILTO=x\n@reboot a\n@daily b\n' - rot.timer=OnCalendar=daily
@@ -94,7 +95,8 @@ plans_without_jobs() {
   compare_lines "a plan without jobs" ''
 }
 
-# More than 1,000 jobs are refused before the next source is read; up to there a later source's fault is found.
+# More than 1,000 jobs are rejected before the next source is read. Up to that number, an error of a later
+# source is found.
 plans_of_a_thousand_jobs() {
   local lines
   lines=$(yes '* * * * * x' | head -n 1000)
@@ -119,8 +121,8 @@ plans_of_a_thousand_jobs() {
   is_refused "a thousand and one jobs, and a faulty source" "jobs: Full" 1
 }
 
-# In turn: no sources; a crontab and a timer; the system's jobs behind the user's; timers in the order of their paths, of which one may
-# have no starts.
+# The rows: no sources; a crontab and a timer; the system's jobs after the user's; timers in the order of
+# their paths, one of which may have no starts.
 plans_jobs <<'END'
 -|-||
 # a\n@daily x y\n|-|b.timer=OnCalendar=hourly|cron:2|x y;b.timer|b.service
@@ -129,7 +131,8 @@ plans_jobs <<'END'
 -|-|z.timer=OnCalendar=hourly a.timer=Unit=c.target|z.timer|z.service
 END
 
-# The user's crontab comes first, then the system's, which names users, then the timers; a timer's name comes before what is in a later one.
+# The user's crontab comes first, then the system's, which names users, then the timers. A timer's name is
+# checked before the text of a later one.
 plans_refused <<'END'
 @daily x\n@daily|@daily root x\n\nx|b=OnCalendar=hourly|crontab: line 2: NoCommand
 @daily x|@daily root x\n\nx|b=OnCalendar=hourly|system crontab: line 3: BadSetting

@@ -1,6 +1,6 @@
 # shellcheck shell=bash disable=SC2154
-# Rows of bin/check-examples: texts that end too early. A crontab, a timer and a script are cut off after each of their bytes, and each
-# rest has the answer that docs/FORMATS.md gives it.
+# Rows of bin/check-examples: texts that end too early. A crontab, a timer and a script are cut off after each
+# of their bytes, and each prefix has the answer that follows from docs/FORMATS.md.
 
 # shellcheck source=/dev/null
 . "$top/rows/lib/parts.sh"
@@ -9,8 +9,8 @@ prefixes_folder="$work/prefixes"
 mkdir "$prefixes_folder"
 prefixes_week=(--since 2024-01-01T00:00:00Z --upto 2024-01-08T00:00:00Z)
 
-# Rows of standard input: of each line of a script what is too short for it, its end, and the reply. A script ends anywhere: what is
-# whole by then is replied to, and a line that isn't is refused.
+# Rows from standard input: for each line of a script, a text that is too short for it, its end, and the
+# reply. A script may end anywhere: complete lines are answered, and an incomplete line is rejected.
 prefixes_of_script() {
   local begin end reply line=0 replies=''
   printf '%s\n' "|agenda: script: line 1: BadLine\n"
@@ -21,8 +21,8 @@ prefixes_of_script() {
   done
 }
 
-# A comment, a setting, a job that never starts and one at midnight. A setting needs its `=`, an at-word all its letters, and a job its
-# command; each is there without the newline.
+# A comment, a setting, a job that never starts, and one at midnight. A setting needs its `=`, an at-word all
+# its letters, and a job its command. None of them needs the newline.
 parts_rows cut "$prefixes_folder/crontab" plan "${day[@]}" --crontab crontab <<'ROWS'
 |
 # nightly\n|
@@ -45,8 +45,9 @@ x|2024-01-01T00:17:00Z\tsystem:1\troot x\n
 \n|2024-01-01T00:17:00Z\tsystem:1\troot x\n
 ROWS
 
-# The event is read anew at each byte of its two lines and of the comment between them: `Mo` is no word, `Mon` is one; `Mon 1` has a
-# word that is neither date nor time; `12:` has an empty minute. `Unit` is no setting without `=`, and empty it does not count.
+# The event has a new meaning at each byte of its two lines and of the comment between them: `Mo` isn't a
+# word, `Mon` is one; `Mon 1` has a word that is neither a date nor a time; `12:` has an empty minute. `Unit`
+# isn't a setting without `=`, and it is ignored if it is empty.
 parts_rows cut "$prefixes_folder/n.timer" plan "${prefixes_week[@]}" n.timer <<'ROWS'
 |agenda: n.timer: line 0: NoTimerSection\n
 [Unit]\nDescription=x\n[Timer|agenda: n.timer: line 0: NoTimerSection\n

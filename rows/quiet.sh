@@ -1,14 +1,16 @@
 # shellcheck shell=bash disable=SC2154
-# Rows of bin/check-examples: when nothing starts, as `agenda quiet` tells it, how long that has to be, and what is refused, in which order.
-# Its gaps are held beside those that awk finds in the agenda of the same sources and span too.
+# Rows of bin/check-examples: the gaps that `agenda quiet` lists, their minimum length, and what is rejected,
+# in which order. Its gaps are compared with those that awk finds in the agenda of the same sources and span,
+# too.
 
 # shellcheck source=/dev/null
 . "$top/rows/lib/questions.sh"
 
 quiet_day=(--since 2024-01-01T00:00:00Z --upto 2024-01-02T00:00:00Z)
 
-# Rows of standard input: the span's moments, words, and all that is written: of each gap its moments and its seconds, with a space between
-# these and a semicolon between gaps. An @ stands for the first day of 2024, and a + for the begin of the second.
+# Rows from standard input: the span, arguments, and the whole output: the start, the end and the seconds of
+# each gap, with spaces between them and a semicolon between gaps. An @ is the first day of 2024, and a + the
+# start of the second.
 quiet_rows() {
   local since upto written gaps words
   while IFS='|' read -r since upto written gaps; do
@@ -22,7 +24,7 @@ quiet_rows() {
   done
 }
 
-# The gaps of at least $1 seconds in the agenda of standard input, of which the header has the ends of the span.
+# Prints the gaps of at least $1 seconds in the agenda on standard input, whose header has the ends of the span.
 quiet_gaps() {
   awk -F '\t' -v least="$1" '
     function seconds(moment, year, month, days) {
@@ -44,8 +46,8 @@ quiet_gaps() {
     END { tell(upto) }'
 }
 
-# Rows of standard input: the span's moments, numbers of seconds with blanks between, and words of sources. The gaps of at least so many
-# seconds are those of the agenda.
+# Rows from standard input: the span, numbers of seconds with blanks between them, and sources. The gaps of at
+# least each of these lengths are those of the agenda.
 quiet_as_plan() {
   local since upto leasts written least words
   while IFS='|' read -r since upto leasts written; do
@@ -63,8 +65,8 @@ quiet_as_plan() {
   done
 }
 
-# Any number of planners with any room finds the same gaps. 60 jobs start at the first 50 minutes of each hour, at some of these two. Behind
-# the last of them are 11 minutes to the next hour, or to the end.
+# Any number of planners with any capacity finds the same gaps. 60 jobs start at the first 50 minutes of each
+# hour, sometimes two at once. After the last of them, 11 minutes remain to the next hour, or to the end.
 quiet_by_planners() {
   local planners places
   awk 'BEGIN { for (job = 0; job < 60; job++) print job % 50 " * * * * x" }' >"$questions_folder/fifty"
@@ -90,8 +92,8 @@ questions_file leap '0 0 29 2 * l\n'
 questions_file minutes.one '* * * * * m\n'
 questions_file two.timer '[Timer]\nOnCalendar=Fri 12:00\nOnCalendar=*-*-3 06:00:15\n'
 
-# Neighbours among since, the starts and upto, from 1,800 seconds on where no other number is given. No gap comes before a start at since,
-# and the last ends at upto, whether or not something starts then.
+# Neighbours among --since, the starts and --upto, at least 1,800 seconds apart by default. No gap comes
+# before a start at --since, and the last one ends at --upto, whether or not something starts then.
 quiet_rows <<'ROWS'
 @00:00:00Z|@03:00:00Z|--crontab hourly|@00:00:00Z @01:00:00Z 3600;@01:00:00Z @02:00:00Z 3600;@02:00:00Z @03:00:00Z 3600
 @00:30:00Z|@02:30:00Z|--crontab hourly|@00:30:00Z @01:00:00Z 1800;@01:00:00Z @02:00:00Z 3600;@02:00:00Z @02:30:00Z 1800
@@ -106,7 +108,7 @@ quiet_rows <<'ROWS'
 2023-12-31T23:00:00Z|+|--crontab daily|2023-12-31T23:00:00Z @00:00:00Z 3600;@00:00:00Z + 86400
 ROWS
 
-# The starts of all sources count together, and two at one second are one mark. What has no start changes nothing.
+# The starts of all sources count together, and two in the same second are one. A job without a start changes nothing.
 quiet_rows <<'ROWS'
 @00:00:00Z|+|--crontab night noon.timer|@00:00:00Z @02:00:00Z 7200;@02:00:00Z @02:30:00Z 1800;@02:30:00Z @12:00:00Z 34200;@12:00:00Z + 43200
 @00:00:00Z|+|--crontab night noon.timer empty.timer --spool reboot|@00:00:00Z @02:00:00Z 7200;@02:00:00Z @02:30:00Z 1800;@02:30:00Z @12:00:00Z 34200;@12:00:00Z + 43200
@@ -121,8 +123,8 @@ quiet_rows <<'ROWS'
 2096-02-28T23:59:59Z|2104-03-01T00:00:00Z|--crontab leap|2096-02-29T00:00:00Z 2104-02-29T00:00:00Z 252374400;2104-02-29T00:00:00Z 2104-03-01T00:00:00Z 86400
 ROWS
 
-# A span in which nothing starts is one gap, if it is as long. There is none in an empty span, whether or not something starts then, and
-# where each second has a start the gaps are of one second.
+# A span in which nothing starts is one gap, if it is long enough. An empty span has none, whether or not
+# something starts then. If each second has a start, the gaps have one second.
 quiet_rows <<'ROWS'
 @00:00:01Z|@23:59:59Z|--crontab daily|@00:00:01Z @23:59:59Z 86398
 @00:00:00Z|+||@00:00:00Z + 86400
@@ -142,7 +144,7 @@ quiet_rows <<'ROWS'
 2999-12-31T23:00:00Z|3000-01-01T00:00:00Z|--crontab daily|2999-12-31T23:00:00Z 3000-01-01T00:00:00Z 3600
 ROWS
 
-# Numbers of seconds up to the greatest, which is one less than the 32nd power of 2, and gaps that are longer.
+# Numbers of seconds up to the maximum, which is 2^32 - 1, and gaps that are longer.
 quiet_rows <<'ROWS'
 @00:00:00Z|@01:00:00Z|--least 1800 --crontab halves|@00:00:00Z @00:30:00Z 1800;@00:30:00Z @01:00:00Z 1800
 @00:00:00Z|@01:00:00Z|--least=0001800 --crontab halves|@00:00:00Z @00:30:00Z 1800;@00:30:00Z @01:00:00Z 1800
@@ -155,8 +157,8 @@ quiet_rows <<'ROWS'
 1970-01-01T00:00:00Z|3000-01-01T00:00:00Z|--least 4294967295 empty.timer|1970-01-01T00:00:00Z 3000-01-01T00:00:00Z 32503680000
 ROWS
 
-# The limit counts starts, also those at one second; it is 1,000,000 where none is given. Of 1,000,000 starts in as many seconds no gap has
-# two, and a second later there is a start more.
+# The limit counts all starts, also those in the same second. Its default is 1,000,000. With 1,000,000 starts
+# in as many seconds, no gap has two seconds. A span that is a second longer has one more start.
 quiet_rows <<'ROWS'
 @00:00:00Z|@02:30:00Z|--limit 2 --crontab night|@00:00:00Z @02:00:00Z 7200;@02:00:00Z @02:30:00Z 1800
 @00:00:00Z|+|--limit 1 --crontab daily|@00:00:00Z + 86400
@@ -175,7 +177,7 @@ questions_refused quiet --since 2024-01-01T00:00:00Z <<'ROWS'
 --upto 2024-01-01T00:00:01Z --limit 999 --crontab thousand|plan: TooMany
 ROWS
 
-# The moments come first, then their order, then the files.
+# The timestamps are checked first, then their order, then the files.
 questions_refused quiet <<'ROWS'
 --since 2024 --upto x|since: BadForm
 --since 2024-02-30T00:00:00Z --upto x|since: NoSuchDate
@@ -192,7 +194,7 @@ ROWS
 questions_refuse_sources quiet "${quiet_day[@]}"
 questions_refuse_sources quiet --since 2024-01-01T00:00:00Z --upto 2024-01-01T00:00:00Z
 
-# A gap of no seconds is refused when the files are read, and before their texts and all other numbers are looked at.
+# A gap of 0 seconds is rejected after the files are read, and before their texts and all other numbers are checked.
 questions_refused quiet "${quiet_day[@]}" --least <<'ROWS'
 0|quiet: BadLeast
 00|quiet: BadLeast
@@ -212,7 +214,7 @@ questions_refused quiet "${quiet_day[@]}" --least <<'ROWS'
 0 --crontab thousand --limit 1|quiet: BadLeast
 ROWS
 
-# The sources come before the sizes, the sizes before the limit, and the limit before what is planned.
+# The sources are checked before the sizes, the sizes before the limit, and the limit before the plan.
 questions_refused quiet "${quiet_day[@]}" <<'ROWS'
 --planners 0|plan: BadSize
 --planners 9|plan: BadSize

@@ -1,14 +1,14 @@
 # shellcheck shell=bash disable=SC2154
-# Rows of bin/check-examples: what `agenda steps FILE` replies to scripts, and which it refuses: forms of lines, sizes of mailboxes,
-# numbers of steps and of bytes, bytes that are no text, and files that aren't there.
+# Rows of bin/check-examples: what `agenda steps FILE` replies to scripts, and which it rejects: forms of
+# lines, sizes of mailboxes, numbers of steps and of bytes, bytes that aren't text, and missing files.
 
-# Runs the script of the escaped text $1.
+# Runs the script with the escaped text $1.
 scripts_run() {
   printf '%b' "$1" >"$work/script"
   run_in "$work" agenda steps script
 }
 
-# Prints line $2 as many times as $1 says.
+# Prints the line $2 $1 times.
 scripts_many() {
   yes "$2" | head -n "$1"
 }
@@ -18,7 +18,7 @@ scripts_letters() {
   head -c "$1" /dev/zero | tr '\0' x
 }
 
-# Rows of standard input: a script, and behind a bar the line and the cause of its fault.
+# Rows from standard input: a script, and after a bar the line and the code of its error.
 scripts_refused() {
   local script fault
   while IFS='|' read -r script fault; do
@@ -27,7 +27,7 @@ scripts_refused() {
   done
 }
 
-# Rows of standard input: a script, and behind a bar what is replied to it.
+# Rows from standard input: a script, and after a bar the replies.
 scripts_replied() {
   local script replies
   while IFS='|' read -r script replies; do
@@ -37,7 +37,7 @@ scripts_replied() {
   done
 }
 
-# That a script of $1 takes, and of the escaped lines $2 behind them, has the fault $3.
+# A script of $1 takes, and the escaped lines $2 after them, has the error $3.
 scripts_behind_takes() {
   { echo "mailbox 1 1" && scripts_many "$1" take && printf '%b' "$2"; } >"$work/script"
   run_in "$work" agenda steps script
@@ -58,7 +58,7 @@ scripts_of_ten_thousand_steps() {
   compare "a script of 10,000 messages to the largest mailbox" "$work/replies" /dev/null 0
 }
 
-# Of a script of 1,048,576 bytes whose message is sent, bin/check-examples has a row.
+# bin/check-examples has a row for a script of 1,048,576 bytes whose message is sent.
 scripts_of_the_most_bytes() {
   local begin=$'mailbox 1 1\nclose 0\nsend 0 ' message
   message=$((1048576 - ${#begin}))
@@ -71,7 +71,8 @@ scripts_of_the_most_bytes() {
   is_refused "a script of 1,048,577 bytes that are no text" "script: line 0: TooLarge" 1
 }
 
-# A path that can't be opened is named whole; with more than 1,007 bytes its line is longer than the program's buffer.
+# A path that can't be opened is printed in full. With more than 1,007 bytes its line is longer than the
+# program's buffer.
 scripts_that_are_not_there() {
   local path len
   mkdir -p "$work/no-scripts"
@@ -86,7 +87,7 @@ scripts_that_are_not_there() {
   done
 }
 
-# The first line: none, another one, or one of another form.
+# The first line: missing, another one, or an invalid one.
 scripts_refused <<'END'
 |1: BadLine
 \n|1: BadLine
@@ -119,7 +120,7 @@ mailbox 9999 9999\n|1: BadSize
 mailbox 9 1\nsend 0\n|1: BadSize
 END
 
-# Steps of another form.
+# Invalid steps.
 scripts_refused <<'END'
 mailbox 1 1\nsend 0\n|2: BadLine
 mailbox 1 1\nsend 0 \n|2: BadLine
@@ -148,7 +149,7 @@ mailbox 1 1\nTake|2: BadLine
 mailbox 1 1\ntake\nclose\ngive|3: BadLine
 END
 
-# Bytes that are no text come before all that is wrong with lines.
+# Bytes that aren't text come before all errors in lines.
 scripts_refused <<'END'
 \xff|0: NotUtf8
 \xc3|0: NotUtf8
@@ -157,8 +158,8 @@ mailbox 9 1\nsend 0 \xc3\n|0: NotUtf8
 mailbox 1 1\nsend 0 \xed\xa0\x80\n|0: NotUtf8
 END
 
-# In turn: no step; each form of a line; a message is all that follows one space, and may be words of the script; each reply, on
-# mailboxes of just these sizes.
+# The rows: no step; each form of a line; a message is everything after one space, and may have words of the
+# script; each reply, on mailboxes of exactly these sizes.
 scripts_replied <<'END'
 mailbox 1 1|
 mailbox 1 1\n|
@@ -179,7 +180,7 @@ mailbox 8 1024\nsend 7 a\nsend 8 b\n|sent\nno sender b\n
 mailbox 0001 0002\nsend 0 a\nsend 0 b\nsend 0 c\nsend 1 d|sent\nsent\nfull c\nno sender d\n
 END
 
-# Twelve steps on two senders, and a script with each reply.
+# Twelve steps with two senders, and a script with each reply.
 scripts_replied <<END
 $(
   printf '%s\\n' "mailbox 2 2" "send 0 a" "send 0 b" "send 0 c" "send 1 d" take take "close 0" "send 0 e" take take "close 1" take

@@ -1,5 +1,5 @@
 # shellcheck shell=bash disable=SC2154
-# The search for starts: the next start of a rule after a moment, no start any more, and all starts of timers in a span.
+# The search for starts: the next start of a rule after a time, no further start, and all starts of timers in a span.
 
 # shellcheck source=/dev/null
 . "$top/rows/lib/lists.sh"
@@ -42,8 +42,8 @@ Fri *-*-13 12:00|1970-01-01T00:00:00Z|1970-02-13T12:00:00Z 03-13T12:00:00Z 11-13
 *-2-30|1970-01-01T00:00:00Z|none
 ROWS
 
-# The earlier of two events, whichever is first in the list; an event that never starts beside one that does, beside one of the
-# last second and alone; and a list of no events.
+# The earlier of two events, whichever comes first in the list; an event that never starts, together with one
+# that does, with one in the last second, and by itself; and an empty list of events.
 lists_plan <<'ROWS'
 7:00;6:00|1970-01-01T00:00:00Z|1970-01-02T07:00:00Z|1970-01-01T06:00:00Z 07:00:00Z 02T06:00:00Z
 6:00;7:00|1970-01-01T00:00:00Z|1970-01-02T07:00:00Z|1970-01-01T06:00:00Z 07:00:00Z 02T06:00:00Z

@@ -1,6 +1,6 @@
 # shellcheck shell=bash disable=SC2154
-# Rows of bin/check-examples: crontabs that have names, those of packages (--cron-d) and of users (--spool): their names, their order
-# among the sources, the names of their jobs and of their faults.
+# Rows of bin/check-examples: crontabs with names, those of packages (--cron-d) and of users (--spool): their
+# names, their order among the sources, and the names in their jobs and errors.
 
 tabs_folder="$work/tabs"
 tabs_begin="2024-01-01T00:00:00Z"
@@ -11,13 +11,13 @@ tabs_file() {
   printf '%b' "$2" >"$tabs_folder/$1"
 }
 
-# Plans the first second of 2024 with these words.
+# Plans the first second of 2024 with these arguments.
 tabs_run() {
   run_in "$tabs_folder" agenda plan --since "$tabs_begin" --upto "2024-01-01T00:00:01Z" "$@"
 }
 
-# Rows of standard input: words, and behind a bar the jobs that start at once: a name, a space and what it runs, with a semicolon
-# between jobs.
+# Rows from standard input: arguments, and after a bar the jobs that start at once: a name, a space and the
+# command, with a semicolon between jobs.
 tabs_jobs() {
   local written jobs words
   while IFS='|' read -r written jobs; do
@@ -28,7 +28,7 @@ tabs_jobs() {
   done
 }
 
-# Rows of standard input: words, and behind a bar the fault, with the status 3 where it is of a device.
+# Rows from standard input: arguments, and after a bar the error. The status is 3 if a device failed.
 tabs_refused() {
   local written fault words status
   while IFS='|' read -r written fault; do
@@ -40,7 +40,7 @@ tabs_refused() {
   done
 }
 
-# Rows of standard input: an option, and the names that it takes, or refuses as $1 says.
+# Rows from standard input: an option, and names. They are accepted if $1 is `taken`, and otherwise rejected.
 tabs_names() {
   local option names name
   while read -r option names; do
@@ -65,8 +65,8 @@ tabs_file spool/anna '@daily mail -s x\n'
 tabs_file spool/bob.smith '\n@hourly c\n@reboot d\n'
 tabs_file a.timer '[Timer]\nOnCalendar=daily\n'
 
-# Of a package's line the user, one space and the command are run, of a user's the command. The sources stand in the order of the
-# options in the synopsis, and those of one option in the order given.
+# The text of a package's job is the user, one space and the command, and that of a user's job the command.
+# The sources are in the order of the options in the synopsis, and those of one option in the given order.
 tabs_jobs <<'ROWS'
 --cron-d cron.d/php|php:5 www-data clean  all
 --spool spool/anna|anna:1 mail -s x
@@ -77,7 +77,8 @@ a.timer --spool spool/anna --cron-d cron.d/php --system-crontab system --crontab
 --spool spool/bob.smith --cron-d cron.d/php --spool spool/anna a.timer --cron-d cron.d/e2scrub_all|php:5 www-data clean  all;e2scrub_all:1 root scrub;bob.smith:2 c;anna:1 mail -s x;a.timer a.service
 ROWS
 
-# A name of a package's file has letters, digits, `_` and `-`; that of a user's may have `.` behind its first character too.
+# The name of a package's file has letters, digits, `_` and `-`. That of a user's file may have `.` too, but
+# not as its first character.
 tabs_names taken <<'ROWS'
 --cron-d a Z 0 _ - a_b-9 --- crontab cron system
 --spool a Z 0 _ - a.b a. a..b root.timer b-.-_ cron
@@ -96,7 +97,8 @@ for option in --cron-d --spool; do
   is_refused "plan $option one/" "one/: Device" 3
 done
 
-# Each fault has the file's name, and the name is looked at before the bytes. All files are read first, then one text after the other.
+# Each error has the file's name, and the name is checked before the bytes. All files are read first, then one
+# text after the other.
 tabs_file cron.d/bad '@daily root\n'
 tabs_file spool/bad '\n99 * * * * x\n'
 tabs_file spool/latin '@daily \xe4\n'
@@ -122,7 +124,8 @@ a --spool spool/bad|a: Device
 --crontab cron.d/bad --cron-d cron.d/bad|bad: line 1: NoCommand
 ROWS
 
-# Two jobs of one name are refused at the second, whatever sources have them; a path given twice only where it has a job.
+# The second of two jobs with the same name is rejected, whatever their sources are. A path that is given
+# twice is rejected only if it has a job.
 tabs_file one/x '\n@daily u a\n'
 tabs_file two/x '\n@daily u b\n'
 tabs_file two/y 'A=b\n@daily u b\n'
@@ -148,7 +151,7 @@ tabs_jobs <<'ROWS'
 --cron-d one/none --cron-d one/none --spool one/none|
 ROWS
 
-# A thousand jobs of all sources are the most, and the sources behind them aren't read.
+# All sources together have at most a thousand jobs, and the sources after them aren't read.
 yes '@daily u x' | head -n 999 >"$tabs_folder/one/many"
 tabs_run --cron-d one/many --spool spool/anna --limit 1000
 { seq -f "$tabs_begin${tab}many:%g${tab}u x" 999 && echo "$tabs_begin${tab}anna:1${tab}mail -s x"; } >"$work/agenda.wanted"

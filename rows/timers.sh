@@ -1,11 +1,12 @@
 # shellcheck shell=bash disable=SC2154
-# Rows of what `agenda plan` reads of timer files: the events that are left of a file, the unit that is started, names and lines that are
-# refused, sizes, and how many timers there may be. bin/check-examples runs this file. Files are written with the escapes of printf's %b.
+# Rows about what `agenda plan` reads in timer files: the events that remain, the unit that is started, names
+# and lines that are rejected, sizes, and the maximum number of timers. bin/check-examples runs this file.
+# Files have the escapes of printf's %b.
 
 timers_folder="$work/timers"
 timers_year=(--since 2024-01-01T00:00:00Z --upto 2025-01-01T00:00:00Z)
 
-# Prints the moments from the second $1 of 1970 on, every $2 seconds, as long as it is 2024.
+# Prints the timestamps from the second $1 of 1970 on, every $2 seconds, up to the end of 2024.
 timers_moments() {
   seq -f '@%.0f' "$1" "$2" 1735689599 | date -u -f - +%Y-%m-%dT%H:%M:%SZ
 }
@@ -23,8 +24,8 @@ timers_starts() {
   esac
 }
 
-# Prints the lines that `agenda plan` is to print behind the header, for a year of the timer $1, which starts the unit $2 at the events
-# that follow.
+# Prints the expected lines of `agenda plan` after the header, for a year of the timer $1, which starts the
+# unit $2 at the events that follow.
 timers_plan() {
   local name=$1 unit=$2 event
   shift 2
@@ -33,8 +34,9 @@ timers_plan() {
   done | sort -u | name=$name unit=$unit awk '{ print $0 "\t" ENVIRON["name"] "\t" ENVIRON["unit"] }'
 }
 
-# The timer $1 of the file $4 has the events $2, with + between them, and starts the unit $3. Their starts show the events, but not how
-# often each is there: so more are added at the file's end, up to 64, which also shows the unit, and then one more, which is refused.
+# The timer $1 with the text $4 has the events $2, with + between them, and starts the unit $3. The starts
+# show the events, but not how many times each occurs. So more are added at the file's end, up to 64, which
+# also shows the unit, and then one more, which is rejected.
 timers_job() {
   local name=$1 events unit file="$timers_folder/$1" last='*-12-31 23:59:59' left
   IFS=+ read -r -a events <<<"$2"
@@ -62,7 +64,7 @@ timers_jobs() {
   done
 }
 
-# Each row: the timer's name, the fault, and the file.
+# Each row: the timer's name, the error, and the file.
 timers_refused() {
   local name fault file
   while IFS='|' read -r name fault file; do
@@ -72,7 +74,7 @@ timers_refused() {
   done
 }
 
-# A name of 255 bytes, which is the longest that a file may have.
+# A name of 255 bytes, which is the maximum for a file.
 timers_longest_name() {
   local name
   name=$(printf 'n%.0s' {1..249}).timer
@@ -81,7 +83,7 @@ timers_longest_name() {
   timers_job "$name" '' "${name%.timer}.service" '[Timer]'
 }
 
-# 64 events are as many as there may be: one more is refused before it is read, even where a later line empties the list.
+# 64 events are the maximum: one more is rejected before it is read, even if a later line empties the list.
 timers_most_events() {
   local full events
   full="[Timer]\\n$(printf 'OnCalendar=daily\\n%.0s' {1..64})"
@@ -95,7 +97,7 @@ t.timer|66: TooManyLines|${full}OnCalendar=weekly\\nOnCalendar=
 ROWS
 }
 
-# Files that are one text again and again, as often as 1,048,576 bytes hold it, and then two bytes more. A bad name comes first.
+# Files that repeat one text as often as 1,048,576 bytes hold it, and then two bytes more. A bad name comes first.
 timers_sizes() {
   local part text
   for part in ' ' x $'\\' '#' $'\\\n' $'a\\\n' $'\n' '=;'; do
@@ -115,7 +117,7 @@ timers_sizes() {
   done
 }
 
-# 1,000 timers are as many as there may be. A name that is there comes before that.
+# 1,000 timers are the maximum. A name that is already used is reported before that.
 timers_numbers() {
   local number folder="$work/timers.1000"
   mkdir "$folder" "$folder/again"
@@ -134,8 +136,8 @@ timers_numbers() {
 }
 
 mkdir "$timers_folder"
-# resets; other settings; several sections, other sections and settings in front of any; another case; settings without `=`; lines that
-# are nearly a section; blanks; carriage returns
+# resets; other settings; several sections, other sections and settings before any section; other case;
+# settings without `=`; lines that are almost a section; blanks; carriage returns
 timers_jobs <<'ROWS'
 backup.timer|daily+*-*-* 00:00:00|backup.service|[Timer]\nOnCalendar=hourly\nOnCalendar=\nOnCalendar=daily\nOnCalendar=*-*-* 00:00:00\n
 x.timer||x.service|[Timer]
@@ -151,7 +153,8 @@ x.timer|daily|b| \t[Timer] \t\n\t OnCalendar \t= \t daily \t\n Unit\t=\tb\x20
 x.timer||a\r|[Timer]\r\nUnit=a\r\r\n
 two.timer|Fri 12:00+*-*-3 06:00|two.service|[Timer]\nOnCalendar=Fri 12:00\nOnCalendar=*-*-3 06:00\n
 ROWS
-# joined lines: comments inside, the input's end, empty lines, even numbers of backslashes, backslashes before blanks and carriage returns
+# merged lines: comments in them, the input's end, empty lines, even numbers of backslashes, backslashes
+# before blanks and carriage returns
 timers_jobs <<'ROWS'
 n.timer|Mon 12:00|y.service|[Unit]\nDescription=x\n[Timer]\nOnCalendar=Mon \\\n# note\n  12:00\nUnit=y.service\n
 n.timer|Mon 12:00|z|[Timer]\nOnCalendar=Mon\\\n\t;note\\\n12:00\n#Unit=y\\\nUnit=z

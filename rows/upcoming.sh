@@ -1,6 +1,6 @@
 # shellcheck shell=bash disable=SC2154
-# Rows of bin/check-examples: what `agenda upcoming` tells of each job, in which order, and what it refuses. It is held beside what
-# `agenda plan` and `agenda next` say of the same jobs too.
+# Rows of bin/check-examples: what `agenda upcoming` prints for each job, in which order, and what it rejects.
+# It is compared with what `agenda plan` and `agenda next` print for the same jobs, too.
 
 # shellcheck source=/dev/null
 . "$top/rows/lib/questions.sh"
@@ -8,15 +8,16 @@
 # The end of all years.
 upcoming_end=3000-01-01T00:00:00Z
 
-# Asks for the starts after the moment $1 with these further words.
+# Requests the starts after the time $1 with these further arguments.
 upcoming_run() {
   local after=$1
   shift
   run_in "$questions_folder" agenda upcoming --after "$after" "$@"
 }
 
-# Rows of standard input: a moment, words, and all that is written of the jobs: of each the moment or `none`, the name and what it runs,
-# with a space between these and a semicolon between jobs. An @ stands for the first day of 2024, and a + for the begin of the second.
+# Rows from standard input: a time, arguments, and the whole output about the jobs: for each the time or
+# `none`, the name and the command, with spaces between them and a semicolon between jobs. An @ is the first
+# day of 2024, and a + the start of the second.
 upcoming_rows() {
   local after written jobs words
   while IFS='|' read -r after written jobs; do
@@ -29,8 +30,9 @@ upcoming_rows() {
   done
 }
 
-# Rows of standard input: a moment, a later one, the names of jobs that never start, and words. What starts after the first is in the agenda
-# of the span between them, where the first line of each job is its next start. The jobs that never start are told behind these as `none`.
+# Rows from standard input: a time, a later one, the names of jobs that never start, and arguments. What
+# starts after the first time is in the agenda of the span between them. The first line of each job there is
+# its next start. The jobs that never start are last, with `none`.
 upcoming_as_plan() {
   local after upto names written words
   while IFS='|' read -r after upto names written; do
@@ -46,13 +48,13 @@ upcoming_as_plan() {
   done
 }
 
-# The moment one second after $1.
+# Prints the timestamp one second after $1.
 upcoming_second_after() {
   date -u -d "@$(($(date -u -d "$1" +%s) + 1))" +%Y-%m-%dT%H:%M:%SZ
 }
 
-# Rows of standard input: rules of the option --$1 of `next`, each of which is a job here. Their next starts after each of these moments
-# are those that `next` tells of one rule after the other.
+# Rows from standard input: rules of the option --$1 of `next`, each of which is a job here. Their next starts
+# after each of these times are those that `next` prints for one rule after the other.
 upcoming_as_next() {
   local option=$1 number=0 rule after
   local -a rules words=()
@@ -82,8 +84,8 @@ upcoming_as_next() {
   done
 }
 
-# A thousand jobs, which is the most: the minutes of an hour in turn, so that the jobs of one minute stand together, in the order of their
-# lines. The moment is that of minute 30, whose jobs come last.
+# A thousand jobs, which is the maximum. They start in the minutes of an hour in turn, so that the jobs of one
+# minute are together, in the order of their lines. The time is that of minute 30, whose jobs come last.
 upcoming_of_a_thousand_jobs() {
   awk 'BEGIN { for (line = 1; line <= 1000; line++) print line % 60 " * * * * x" }' >"$questions_folder/minutes"
   awk 'BEGIN {
@@ -109,8 +111,8 @@ questions_file cron.d/mixed '@daily root d2\n@reboot root r2\n'
 questions_file spool/other '@reboot r3\n@hourly h3\n'
 { yes '@daily a' | head -n 12; } >"$questions_folder/dozen"
 
-# A start at the moment itself isn't later. 2024-01-01 is a Monday. Of six rules each has its own next start, and the line of `@reboot` has
-# none, as the 31st of February; 2100 has no leap day.
+# A start at the time itself isn't later. 2024-01-01 is a Monday. Each of six rules has its own next start.
+# The line of `@reboot` has none, and neither has that of the 31st of February; 2100 has no leap day.
 upcoming_rows <<'ROWS'
 2023-12-31T23:59:59Z|--crontab daily|@00:00:00Z cron:1 a
 @00:00:00Z|--crontab daily|+ cron:1 a
@@ -126,8 +128,8 @@ upcoming_rows <<'ROWS'
 2024-02-28T23:59:59Z|s.timer|2024-02-29T00:00:00Z s.timer s.service
 ROWS
 
-# Jobs that start at one moment stand in their order, which is that of plan, and not in that of their names. Those without a further start
-# stand behind all others, in their order.
+# Jobs that start at the same time are in their own order, which is the same as in a plan, and not in the
+# order of their names. Those without a further start come last, in their own order.
 upcoming_rows <<'ROWS'
 @00:00:00Z|d.timer --spool spool/anna --cron-d cron.d/php --system-crontab system --crontab daily|+ cron:1 a;+ system:1 root b;+ php:3 www-data clean  all;+ anna:1 mail -s x;+ d.timer d.service
 @00:00:00Z|reset.timer d.timer --spool spool/anna --cron-d two/x --cron-d cron.d/php|+ x:2 u b;+ php:3 www-data clean  all;+ anna:1 mail -s x;+ reset.timer own.target;+ d.timer d.service
@@ -140,7 +142,7 @@ upcoming_rows <<'ROWS'
 @00:00:00Z|emptied.timer never.timer empty.timer|none emptied.timer emptied.service;none never.timer never.service;none empty.timer empty.service
 ROWS
 
-# The last starts of all years, and the end of all years, after which every job is told as `none`; a year ends that isn't the last.
+# The last starts of all years, and the end of all years, after which every job has `none`; and the end of another year.
 upcoming_rows <<'ROWS'
 2200-01-01T00:00:00Z|--crontab daily either.timer|2200-01-02T00:00:00Z cron:1 a;none either.timer either.service
 2999-12-31T23:58:59Z|--crontab minutes.one s.timer|2999-12-31T23:59:00Z cron:1 m;2999-12-31T23:59:00Z s.timer s.service
@@ -159,7 +161,7 @@ upcoming_rows <<'ROWS'
 3000-01-01T00:00:00Z|--crontab none --cron-d none --spool none|
 ROWS
 
-# What runs goes to the end of the line, with its tabs and blanks as they are written.
+# The command is everything up to the end of the line, with its tabs and blanks.
 questions_file blanks '@daily\t a\tb  c % d \n@reboot \te\t\n'
 upcoming_run 2024-01-01T00:00:00Z --crontab blanks
 compare_texts "upcoming: what runs holds tabs" \
@@ -171,7 +173,7 @@ compare_texts "upcoming: a pipe as crontab" "2024-01-02T00:00:00Z${tab}cron:1${t
 
 upcoming_of_a_thousand_jobs
 
-# The moment comes before all files, and so before what is wrong with their texts.
+# The time is checked before all files, and so before errors in their texts.
 questions_refused upcoming <<'ROWS'
 --after 2024-01-01|after: BadForm
 --after 2024-02-30T00:00:00Z|after: NoSuchDate

@@ -1,6 +1,7 @@
 # shellcheck shell=bash disable=SC2154
-# Rows of bin/check-examples: a week as text, by examples/week-text/week.awk, and as a picture, by examples/week-picture/week.gnuplot. The
-# cells of both pictures are read and held beside the counts of the rows: the numbers in week.svg, and the colours in week.svg and week.png.
+# Rows of bin/check-examples: a week as text, by examples/week-text/week.awk, and as a picture, by
+# examples/week-picture/week.gnuplot. The cells of both pictures are read and compared with the counts of the
+# rows: the numbers in week.svg, and the colours in week.svg and week.png.
 
 weeks_folder="$work/weeks"
 mkdir "$weeks_folder"
@@ -8,7 +9,7 @@ cp -- "$top/examples/week-text/week.awk" "$top"/examples/week-picture/{crontab,e
 weeks_since="2024-06-03T00:00:00Z"
 weeks_upto="2024-06-10T00:00:00Z"
 
-# Rows of a span, and of the days that the text has for it, with the count of each, where the job starts at 00:00 and at 12:00.
+# Rows of a span, and of its days in the text with their counts. The job starts at 00:00 and at 12:00.
 weeks_days() {
   local since upto days
   printf '0 0,12 * * * a\n' >"$weeks_folder/noons"
@@ -20,8 +21,8 @@ weeks_days() {
   done
 }
 
-# 2024 and 2000 have a leap day, 2100 has none. The days of the week are those of a calendar. A day counts from its begin in the span, and
-# up to the end of it.
+# 2024 and 2000 have a leap day, 2100 has none. The weekdays are those of a calendar. A day counts from its
+# start in the span to its end in the span.
 weeks_days <<'ROWS'
 2024-02-28T00:00:00Z|2024-03-02T00:00:00Z|Wed 2024-02-28 2;Thu 2024-02-29 2;Fri 2024-03-01 2;all days 6
 2023-02-28T00:00:00Z|2023-03-02T00:00:00Z|Tue 2023-02-28 2;Wed 2023-03-01 2;all days 4
@@ -37,7 +38,8 @@ weeks_days <<'ROWS'
 2024-06-03T00:00:00Z|2024-06-03T00:00:00Z|all days 0
 ROWS
 
-# A digit up to 9, and then #; where nothing starts a dot. Without an agenda there is nothing, and a status.
+# A digit up to 9, and then #, and a dot if nothing starts. Without an agenda nothing is printed, and the
+# status isn't 0.
 weeks_marks() {
   printf '0-8 0 * * * a\n0-9 1 * * * a\n0 23 * * * a\n' >"$weeks_folder/marks"
   run_in "$weeks_folder" bash -c "agenda plan ${day[*]} --crontab marks | awk -f week.awk | tail -n 1"
@@ -46,10 +48,11 @@ weeks_marks() {
   compare_texts "no agenda as text" '' '' 1
 }
 
-# Writes the cells of week.svg, a line for each day: the number in the cell and its colour, as three numbers with commas between.
+# Writes the cells of week.svg, one line for each day: the number in the cell and its colour, as three numbers
+# with commas between them.
 weeks_svg() {
   awk '
-    # the cell around the point: between 88 and 788 from the left there are 24 hours, and between 44 and 304 from above 7 days
+    # the cell at the point: 24 hours are between 88 and 788 from the left, and 7 days between 44 and 304 from the top
     function cell(x, y) {
       return x < 88 || x >= 788 || y < 44 || y >= 304 ? "" : int((y - 44) / 260 * 7) " " int((x - 88) / 700 * 24)
     }
@@ -72,7 +75,7 @@ weeks_svg() {
     }' "$weeks_folder/week.svg"
 }
 
-# Writes the bytes of the pixels of week.png, which its chunks of the kind IDAT hold: what zlib deflated is read by gzip.
+# Writes the bytes of the pixels of week.png, which are in its IDAT chunks: gzip reads what zlib deflated.
 weeks_inflated() {
   local at=8 size kind
   {
@@ -85,12 +88,12 @@ weeks_inflated() {
   } | gzip -dc 2>/dev/null
 }
 
-# Writes the colours of the cells of week.png, a line for each day: those of the pixels 6 below the middle of a cell's upper edge. A row of
-# pixels is a byte that says how it is filtered, and three for each pixel.
+# Writes the colours of the cells of week.png, one line for each day: those of the pixels 6 below the middle
+# of a cell's upper edge. A row of pixels is a byte that tells its filter, and three bytes for each pixel.
 weeks_png() {
   weeks_inflated | od -A n -v -t u1 -w2401 | awk '
     function far(a, b) { return a < b ? b - a : a - b }
-    # what the filter foretells of a byte: a is the one to the left of it, b the one above and c the one above to the left
+    # what the filter predicts for a byte: a is the one to the left, b the one above and c the one above to the left
     function foretold(a, b, c,   left, above, corner) {
       if (filter < 3) return filter == 1 ? a : filter == 2 ? b : 0
       if (filter == 3) return int((a + b) / 2)
@@ -116,7 +119,8 @@ weeks_png() {
     }'
 }
 
-# Writes the cells of the picture of the counts of standard input, a line for each day, as weeks_svg does.
+# Writes the cells of the picture for the counts on standard input, one line for each day, in the same form as
+# weeks_svg.
 weeks_cells() {
   awk '
     function colour(n) {
@@ -135,7 +139,8 @@ weeks_draw() {
   weeks_png >"$weeks_folder/png"
 }
 
-# The pictures of the week in which the words from $2 on start something have the counts of standard input: a line for each day.
+# The pictures of the week in which the arguments from $2 on start something have the counts on standard
+# input, one line for each day.
 weeks_drawn() {
   local name=$1
   shift
@@ -150,13 +155,13 @@ weeks_drawn() {
   count "the colours in week.png of $name"
 }
 
-# Tells where the cells of the file $2 differ from those of $1, unless that is in the cell $3 alone, which are counted from 1 on.
+# Prints where the cells of the file $2 differ from those of $1, except for the cell $3, which is counted from 1.
 weeks_differ() {
   diff <(tr ' ' '\n' <"$weeks_folder/$1") <(tr ' ' '\n' <"$weeks_folder/$2") | grep '^[0-9]' >"$work/differs"
   [ "$(cat "$work/differs")" = "$3c$3" ] || tell "$2 differs otherwise: $(tr '\n' ' ' <"$work/differs")"
 }
 
-# A picture that lacks the last start of the agenda that was drawn last is told from it, by the cell $1 alone.
+# A picture without the last start differs from that of the agenda that was drawn last in the cell $1, and only there.
 weeks_wrong() {
   sed -i '$d' "$weeks_folder/week.agenda"
   weeks_draw "a week that lacks a start"
@@ -165,7 +170,7 @@ weeks_wrong() {
   count "the cells of a picture that lacks a start"
 }
 
-# Of a plan that is refused there is no picture, and a status.
+# A plan that is rejected gives no picture, and the status isn't 0.
 weeks_no_picture() {
   rm -f "$weeks_folder"/week.{agenda,png,svg}
   : >"$weeks_folder/week.agenda"
@@ -190,7 +195,7 @@ weeks_pictures() {
 COUNTS
   # on the Sunday at 22:17
   weeks_wrong $((6 * 24 + 23))
-  # both sides of each edge between two classes, on the Wednesday
+  # both sides of each boundary between two classes, on the Wednesday
   printf '%s %s * * wed a\n' 0-2 1 0-3 2 0-10 3 0-11 4 0-28 20 0-29 21 0-58 22 '*' 23 >"$weeks_folder/edges"
   weeks_drawn "the edges of classes" --crontab edges <<'COUNTS'
 0 0 0 0 0 0 0 0 0 0 0 0 0 0 0 0 0 0 0 0 0 0 0 0

@@ -28,25 +28,26 @@ words_make_files() {
 
 words_make_help_of_agenda() {
   cat >"$work/words/agenda.text" <<'END'
-When jobs start, by the rules of cron and of systemd timers
+Shows when cron jobs and systemd timers will run
 
 Usage: agenda <COMMAND>
 
 Commands:
   next      Prints the next starts of one rule
-  plan      Prints which jobs of crontabs and timers start when
+  plan      Prints every start of crontabs and timers in a span of time
   upcoming  Prints when each job of crontabs and timers starts next
-  quiet     Prints when no job of crontabs and timers starts
-  check     Prints what is wrong with crontabs and timers
-  steps     Prints what a mailbox replies to the steps of a script
+  quiet     Prints the gaps in which no job of crontabs and timers starts
+  check     Prints errors and likely mistakes in crontabs and timers
+  steps     Runs a script of steps on a mailbox, for testing
 
 Options:
   -h, --help     Print help
   -V, --version  Print version
 
-All times are in UTC and of the years 1970 to 2999. Rules are read in UTC too, or in
-the time zone that --zone names. The formats, the limits and what each error line
-means are described in agenda(1).
+Times are given and printed in UTC, for the years 1970 to 2999. Rules are read in UTC, or
+in the time zone that you give with --zone. agenda-machine(1) finds the crontabs, the
+timers and the time zone of a machine. agenda(1) describes the formats, the limits and
+every error.
 
 Examples:
   agenda next --cron @daily --after 2024-01-01T00:00:00Z
@@ -65,19 +66,18 @@ Prints the next starts of one rule
 Usage: agenda next --after <T> [--zone <ZONE>] [--count <N>] (--cron <TEXT> | --calendar <TEXT>)
 
 Options:
-      --after <T>        The starts are later than this moment, in UTC, as
+      --after <T>        Only starts later than this time, in UTC, such as
                          2024-01-01T00:00:00Z; the years are 1970 to 2999
       --zone <ZONE>      The time zone of the rules, such as Europe/Berlin,
                          or the path of a TZif file; UTC if it isn't given
       --count <N>        How many starts, from 1 to 1000 [default: 1]
       --cron <TEXT>      A cron rule: minute, hour, day of month, month and day
                          of week, or @hourly, @daily, @weekly, @monthly, @yearly
-      --calendar <TEXT>  A calendar event, as 'Mon..Fri *-*-* 04:30' or daily
+      --calendar <TEXT>  A calendar event, such as 'Mon..Fri *-*-* 04:30' or daily
   -h, --help             Print help
 
-Exactly one of --cron and --calendar is given. Prints a moment a line; where the rule
-has fewer starts before the year 3000, the last line is none. Both grammars are
-described in agenda(1).
+Give exactly one of --cron and --calendar. Prints one time per line. If the rule has fewer
+starts before the year 3000, the last line is 'none'. agenda(1) describes both grammars.
 
 Example:
   agenda next --cron '30 4 1,15 * 5' --after 2024-01-01T00:00:00Z --count 4
@@ -87,39 +87,40 @@ END
 # That 2 planners with room for 16 messages each are the defaults, no other row can show: neither changes a line.
 words_make_help_of_plan() {
   cat >"$work/words/plan.text" <<'END'
-Prints which jobs of crontabs and timers start when
+Prints every start of crontabs and timers in a span of time
 
 Usage: agenda plan [OPTIONS] --since <T> --upto <T> [TIMER]...
 
 Arguments:
-  [TIMER]...  The path of a systemd timer's file, as backup.timer
+  [TIMER]...  A systemd timer file, such as backup.timer
 
 Options:
-      --since <T>           The first moment of the span, in UTC, as
+      --since <T>           The start of the span, in UTC, such as
                             2024-01-01T00:00:00Z; the years are 1970 to 2999
-      --upto <T>            The moment before which the span ends, written as that
-                            of --since and no earlier
+      --upto <T>            The end of the span, written in the same way; a start
+                            at this time isn't included
       --zone <ZONE>         The time zone of the rules, such as Europe/Berlin,
                             or the path of a TZif file; UTC if it isn't given
-      --crontab <F>         The path of a user crontab
-      --system-crontab <F>  The path of a system crontab, whose lines name a user
-      --cron-d <F>          The path of a package's crontab, as /etc/cron.d/php;
-                            any number of times
-      --spool <F>           The path of a user's crontab in the spool folder;
-                            any number of times
-      --planners <N>        How many planners search, from 1 to 8 [default: 2]
-      --room <N>            How many messages of each planner may wait,
-                            from 1 to 1024 [default: 16]
-      --limit <N>           How many starts there may be in all,
-                            from 1 to 1000000 [default: 10000]
+      --crontab <F>         A user's crontab, as 'crontab -l' prints it
+      --system-crontab <F>  A crontab whose lines name a user, such as
+                            /etc/crontab
+      --cron-d <F>          A package's crontab, such as /etc/cron.d/php;
+                            may be given more than once
+      --spool <F>           A user's crontab in the spool directory;
+                            may be given more than once
+      --limit <N>           The maximum number of starts, from 1 to 1000000;
+                            more are an error [default: 10000]
   -h, --help                Print help
 
-Prints a header line with the span and the number of starts, and a line for each start:
-the moment, the job's name and what it runs, with a tab between. The lines are in order
-of moments; at one moment in order of jobs: the user crontab's, the system crontab's,
-then those of --cron-d, of --spool and the timers, each as given. Where there are more
-starts than the limit, nothing is printed. The number of planners and their room change
-no line. The formats of the files are described in agenda(1).
+Tuning (the output stays the same):
+      --planners <N>  How many threads search, from 1 to 8 [default: 2]
+      --room <N>      How many messages of each thread may wait,
+                      from 1 to 1024 [default: 16]
+
+Prints a header line with the span and the number of starts, then a line for each start:
+the time, the job's name and what it runs, separated by tabs. Lines are sorted by time.
+Jobs that start at the same time are in this order: the user's crontab, the system
+crontab, --cron-d, --spool, timers. agenda(1) describes the formats of the files.
 
 Example:
   agenda plan --since 2024-01-01T00:00:00Z --upto 2024-01-02T00:00:00Z \
@@ -134,25 +135,26 @@ Prints when each job of crontabs and timers starts next
 Usage: agenda upcoming [OPTIONS] --after <T> [TIMER]...
 
 Arguments:
-  [TIMER]...  The path of a systemd timer's file, as backup.timer
+  [TIMER]...  A systemd timer file, such as backup.timer
 
 Options:
-      --after <T>           The starts are later than this moment, in UTC, as
+      --after <T>           Only starts later than this time, in UTC, such as
                             2024-01-01T00:00:00Z; the years are 1970 to 2999
       --zone <ZONE>         The time zone of the rules, such as Europe/Berlin,
                             or the path of a TZif file; UTC if it isn't given
-      --crontab <F>         The path of a user crontab
-      --system-crontab <F>  The path of a system crontab, whose lines name a user
-      --cron-d <F>          The path of a package's crontab, as /etc/cron.d/php;
-                            any number of times
-      --spool <F>           The path of a user's crontab in the spool folder;
-                            any number of times
+      --crontab <F>         A user's crontab, as 'crontab -l' prints it
+      --system-crontab <F>  A crontab whose lines name a user, such as
+                            /etc/crontab
+      --cron-d <F>          A package's crontab, such as /etc/cron.d/php;
+                            may be given more than once
+      --spool <F>           A user's crontab in the spool directory;
+                            may be given more than once
   -h, --help                Print help
 
-Prints a line for each job: the moment of its next start, the job's name and what it
-runs, with a tab between. The lines are in order of moments; at one moment in order of
-jobs, as those of plan. Jobs that have no further start before the year 3000 come last,
-with none in place of the moment. The formats of the files are described in agenda(1).
+Prints a line for each job: the time of its next start, the job's name and what it runs,
+separated by tabs. Lines are sorted by time, then by job, as in plan. Jobs that don't
+start again before the year 3000 come last, with 'none' instead of a time. agenda(1)
+describes the formats of the files.
 
 Example:
   agenda upcoming --after 2024-01-01T00:00:00Z --crontab jobs backup.timer
@@ -161,40 +163,41 @@ END
 
 words_make_help_of_quiet() {
   cat >"$work/words/quiet.text" <<'END'
-Prints when no job of crontabs and timers starts
+Prints the gaps in which no job of crontabs and timers starts
 
 Usage: agenda quiet [OPTIONS] --since <T> --upto <T> [TIMER]...
 
 Arguments:
-  [TIMER]...  The path of a systemd timer's file, as backup.timer
+  [TIMER]...  A systemd timer file, such as backup.timer
 
 Options:
-      --since <T>           The first moment of the span, in UTC, as
+      --since <T>           The start of the span, in UTC, such as
                             2024-01-01T00:00:00Z; the years are 1970 to 2999
-      --upto <T>            The moment before which the span ends, written as that
-                            of --since and no earlier
+      --upto <T>            The end of the span, written in the same way; a start
+                            at this time isn't included
       --zone <ZONE>         The time zone of the rules, such as Europe/Berlin,
                             or the path of a TZif file; UTC if it isn't given
-      --crontab <F>         The path of a user crontab
-      --system-crontab <F>  The path of a system crontab, whose lines name a user
-      --cron-d <F>          The path of a package's crontab, as /etc/cron.d/php;
-                            any number of times
-      --spool <F>           The path of a user's crontab in the spool folder;
-                            any number of times
-      --least <N>           How many seconds a gap has at least,
+      --crontab <F>         A user's crontab, as 'crontab -l' prints it
+      --system-crontab <F>  A crontab whose lines name a user, such as
+                            /etc/crontab
+      --cron-d <F>          A package's crontab, such as /etc/cron.d/php;
+                            may be given more than once
+      --spool <F>           A user's crontab in the spool directory;
+                            may be given more than once
+      --least <N>           The minimum length of a gap in seconds,
                             from 1 to 4294967295 [default: 1800]
-      --planners <N>        How many planners search, from 1 to 8 [default: 2]
-      --room <N>            How many messages of each planner may wait,
-                            from 1 to 1024 [default: 16]
-      --limit <N>           How many starts there may be in all,
-                            from 1 to 1000000 [default: 1000000]
+      --limit <N>           The maximum number of starts, from 1 to 1000000;
+                            more are an error [default: 1000000]
   -h, --help                Print help
 
-Prints a line for each gap of the span in which nothing starts: the moment at which it
-begins, that at which it ends and the seconds between them, with a tab between. A gap
-begins at a start or with the span, and ends at the next start or with the span. Where
-there are more starts than the limit, nothing is printed. The number of planners and
-their room change no line. The formats of the files are described in agenda(1).
+Tuning (the output stays the same):
+      --planners <N>  How many threads search, from 1 to 8 [default: 2]
+      --room <N>      How many messages of each thread may wait,
+                      from 1 to 1024 [default: 16]
+
+Prints a line for each gap of the span in which nothing starts: its start, its end and its
+length in seconds, separated by tabs. A gap lasts from a job's start, or from --since, to
+the next job's start, or to --upto. agenda(1) describes the formats of the files.
 
 Example:
   agenda quiet --since 2024-01-01T00:00:00Z --upto 2024-01-08T00:00:00Z \
@@ -204,28 +207,29 @@ END
 
 words_make_help_of_check() {
   cat >"$work/words/check.text" <<'END'
-Prints what is wrong with crontabs and timers
+Prints errors and likely mistakes in crontabs and timers
 
 Usage: agenda check [OPTIONS] [TIMER]...
 
 Arguments:
-  [TIMER]...  The path of a systemd timer's file, as backup.timer
+  [TIMER]...  A systemd timer file, such as backup.timer
 
 Options:
       --zone <ZONE>         The time zone of the rules, such as Europe/Berlin,
                             or the path of a TZif file; UTC if it isn't given
-      --crontab <F>         The path of a user crontab
-      --system-crontab <F>  The path of a system crontab, whose lines name a user
-      --cron-d <F>          The path of a package's crontab, as /etc/cron.d/php;
-                            any number of times
-      --spool <F>           The path of a user's crontab in the spool folder;
-                            any number of times
+      --crontab <F>         A user's crontab, as 'crontab -l' prints it
+      --system-crontab <F>  A crontab whose lines name a user, such as
+                            /etc/crontab
+      --cron-d <F>          A package's crontab, such as /etc/cron.d/php;
+                            may be given more than once
+      --spool <F>           A user's crontab in the spool directory;
+                            may be given more than once
   -h, --help                Print help
 
-Prints all faults of all files, one a line, as PATH:LINE: CAUSE, and notes on what is
-right and may not be meant, as PATH:LINE: note: NOTE. What is said of a whole file has
-no line. Ends with status 1 where anything is refused, else with 0. The causes and the
-notes are described in agenda(1).
+Prints all errors of all files, one per line, as PATH:LINE: CAUSE, and notes on lines that
+are correct but may not mean what you intended, as PATH:LINE: note: NOTE. A finding about
+a whole file has no line number. The exit status is 1 if there is an error, otherwise 0.
+agenda(1) describes the causes and the notes.
 
 Example:
   agenda check --crontab jobs backup.timer
@@ -234,19 +238,20 @@ END
 
 words_make_help_of_steps() {
   cat >"$work/words/steps.text" <<'END'
-Prints what a mailbox replies to the steps of a script
+Runs a script of steps on a mailbox, for testing
 
 Usage: agenda steps <FILE>
 
 Arguments:
-  <FILE>  The script: a line that makes the mailbox, and a line for each step
+  <FILE>  The script: a line that makes the mailbox, then a line for each step
 
 Options:
   -h, --help  Print help
 
-The first line is mailbox SENDERS ROOM, with 1 to 8 senders and room for 1 to 1024
-messages of each. Each further line is a step, of at most 10000: send S TEXT, take or
-close S, with senders S from 0. The replies are described in agenda(1).
+Prints the mailbox's reply to each step, one per line. The first line of the script is
+'mailbox SENDERS CAPACITY': 1 to 8 senders, each with 1 to 1024 messages that may wait.
+Each further line is a step, 10000 at most: 'send S TEXT', 'take' or 'close S', where S
+counts the senders from 0. agenda-steps(1) describes the replies.
 
 Example:
   agenda steps script

@@ -1,7 +1,8 @@
 # shellcheck shell=bash disable=SC2154
-# Rows of bin/check-examples: how many writes a run makes. A fault line goes out by one, whatever told it, and so do all findings of a check;
-# an agenda goes in pieces of up to 65,536 bytes, each as full as it can be. The kernel counts the calls of a shell and of what it waited for in /proc/self/io; where it counts
-# none these rows are passed over.
+# Rows of bin/check-examples: how many writes a run makes. The line of an error takes one write, whatever
+# reports it, and so do all findings of a check. An agenda is written in pieces of up to 65,536 bytes, each as
+# full as possible. The kernel counts the calls of a shell and of the processes that it waited for in
+# /proc/self/io. If it doesn't, these rows are skipped.
 
 writes_folder="$work/writes"
 mkdir "$writes_folder"
@@ -15,7 +16,7 @@ printf '* * * * * x\n' >"$writes_folder/minutes"
 yes '* * * * * x' | head -n 1001 >"$writes_folder/many"
 writes_day=(--since 2024-01-01T00:00:00Z --upto 2024-01-02T00:00:00Z)
 
-# Runs the words, and keeps in the file `writes` how many writes they made.
+# Runs the command, and keeps the number of its writes in the file `writes`.
 writes_run() {
   # shellcheck disable=SC2016
   run_in "$writes_folder" bash -c '
@@ -34,7 +35,7 @@ writes_run() {
     exit $ended' writes "$@"
 }
 
-# The last run, which $1 names, made at least $2 writes and at most $3.
+# The last run, with the name $1, made at least $2 writes and at most $3.
 writes_between() {
   local writes
   writes=$(cat "$writes_folder/writes")
@@ -42,7 +43,7 @@ writes_between() {
   count "$1"
 }
 
-# Rows of standard input: words, the status, and the fault, of which the line goes out by one write.
+# Rows from standard input: arguments, the status, and the error, whose line takes one write.
 writes_faults() {
   local words wanted fault
   while IFS='>' read -r words wanted fault; do
@@ -54,9 +55,10 @@ writes_faults() {
   done
 }
 
-# The agenda that is the user's $1 in a plan up to the moment $2, of $3 starts. The header has 52 bytes beside the digits of their number
-# (9 of `agenda 2` and a tab, 21 of each moment and a tab, and the newline), and each line has 30. Both are in parts of at most 21, and the
-# next part has no room in a piece that goes out before the end. So each piece but the last has 65,516 to 65,536 bytes.
+# The agenda of the user's crontab $1 up to the time $2 has $3 starts. The header has 52 bytes besides the
+# digits of their number (9 for `agenda 2` and a tab, 21 for each timestamp and a tab, and the newline), and
+# each line has 30. Both are written in parts of at most 21 bytes. A piece is written before the end if the
+# next part doesn't fit. So each piece except the last has 65,516 to 65,536 bytes.
 writes_agenda() {
   local bytes wanted=$((52 + ${#3} + 30 * $3))
   writes_run agenda plan --since 2024-01-01T00:00:00Z --upto "$2" --limit 1000000 --crontab "$1"
@@ -92,10 +94,10 @@ faulty.timer:2: part 5: OutOfRange\nnone.timer: NoTimerSection\n' '' 1
   writes_between "findings of four sources by one write" 1 1
   writes_run agenda check d.timer
   writes_between "no finding without a write" 0 0
-  # 1,024 bytes are the longest line that goes out by one write
+  # 1,024 bytes are the longest line that takes one write
   writes_run agenda steps "$(yes p | tr -d '\n' | head -c 1007)"
   writes_between "a fault line of 1,024 bytes by one write" 1 1
-  # in turn 53, 83, 1,854, 43,256 and 3,931,258 bytes
+  # these have 53, 83, 1,854, 43,256 and 3,931,258 bytes
   writes_agenda minutes 2024-01-01T00:00:00Z 0
   writes_agenda minutes 2024-01-01T00:01:00Z 1
   writes_agenda minutes 2024-01-01T01:00:00Z 60

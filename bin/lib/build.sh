@@ -1,18 +1,24 @@
 # shellcheck shell=bash disable=SC2154
-# How a program of the project is proved and built: each crate that it stands on by `rattle`, the compiler of the kit, over the libraries that
-# were made of those below it, several crates side by side and each on several processors. A crate's library stays beside the program, named by
-# a sum of all that it was made of: so an interrupted build goes on where it was, and one after an edit makes anew what the edit concerns.
-# bin/agenda and bin/bench source this file, behind bin/lib/project.sh and bin/lib/memory.sh. The sources that are read are copied to the
-# folder $work, where the libraries are too.
+# Proves and builds a program of the project.
+#
+# rattle, the compiler of the kit, builds each crate with the libraries of the crates below it. Several crates
+# are built in parallel, and each of them on several processors. The library of a crate is kept next to the
+# program, under a name with a checksum of everything that it was made from. So an interrupted build continues
+# where it stopped, and a build after an edit makes only what the edit concerns.
+#
+# bin/agenda and bin/bench source this file, after bin/lib/project.sh and bin/lib/memory.sh. The sources are
+# copied to the directory $work, which has the libraries too.
 
-# Of each crate: all crates that it names, those of the project among them, the sum of all that it is made of, the bytes of its sources and
-# of the heaviest chain of crates above it, where its build stands (waiting, at_work, built), and the process that builds it. The names are in
-# order: each behind those below it, and last the program.
+# For each crate: all crates that it names; those of them that are the project's; the checksum of everything
+# that it is made from; the size of its sources, and that of the heaviest chain of crates above it, both in
+# bytes; the state of its build (waiting, at_work, built); and the process that builds it. The names are in
+# order: each after those below it, and the program last.
 declare -A named=() below=() sum=() bytes=() above=() state=() child=()
 names=()
 libraries=${program%/*}/libraries
 
-# Prints a line for each crate that crate $1 stands on, and one for itself: its name and those that it names, each behind their lines.
+# Prints a line for crate $1 and for each crate below it: its name and the names that it depends on, after the
+# lines of those.
 crate_lines() {
   awk -v wanted="$1" '
     { sub(/#.*/, "") }
@@ -27,7 +33,7 @@ crate_lines() {
     END { visit(wanted) }' "$top/crates.txt"
 }
 
-# Copies what crate $1 is made of, and finds how much that is.
+# Copies what crate $1 is made from, and finds its size.
 copy_sources() {
   local copy=$work/crates/$1 part
   mkdir -p "$copy" || return
@@ -37,7 +43,8 @@ copy_sources() {
   bytes[$1]=$(find "$copy" -type f -exec cat {} + | wc -c)
 }
 
-# The sum of all that crate $1 is made of: the kit, what it names, its sources, and the sums of those below it.
+# Prints the checksum of everything that crate $1 is made from: the kit's version, the names of the crates that
+# it depends on, its sources, and the checksums of the project's crates below it.
 sum_of_sources() {
   local dep
   {
@@ -49,7 +56,8 @@ sum_of_sources() {
   } | sha256sum | cut -c 1-40
 }
 
-# Reads which crates are built for the program of crate $1, and takes the libraries that an earlier build made of the same sources.
+# Reads which crates the program of crate $1 needs, and reuses the libraries that an earlier build
+# made from the same sources.
 read_crates() {
   local name deps dep place chain
   mkdir -p "$work/libraries" "$libraries" || return
@@ -76,7 +84,7 @@ read_crates() {
   done
 }
 
-# How many crates are in the state $1.
+# Prints how many crates are in the state $1.
 count_of() {
   local name many=0
   for name in "${names[@]}"; do
@@ -85,7 +93,7 @@ count_of() {
   echo "$many"
 }
 
-# Whether crate $1 waits for no other.
+# Tests whether crate $1 waits for no other crate.
 is_ready() {
   local name
   [ "${state[$1]}" = waiting ] || return
@@ -94,7 +102,7 @@ is_ready() {
   done
 }
 
-# Finds the crate to start next, $next: of those that wait for no other, the one with the heaviest chain above it.
+# Sets `next` to the crate to start next: of those that wait for no other, the one with the heaviest chain above it.
 find_next() {
   local name
   next=
@@ -106,7 +114,7 @@ find_next() {
   [ -n "$next" ]
 }
 
-# Prints how many crates are at work that have a heavier chain above them than crate $1.
+# Prints how many crates that are being built have a heavier chain above them than crate $1.
 count_before() {
   local name many=0
   for name in "${names[@]}"; do
@@ -117,7 +125,7 @@ count_before() {
   echo "$many"
 }
 
-# Proves crate $1 and makes its library or its object file; the words behind $1 are for rattle.
+# Proves crate $1 and makes its library or its object file. The arguments after $1 are for rattle.
 prove_crate() {
   local dep root=src/lib.rt words=()
   cd "$work/crates/$1" || return
@@ -134,7 +142,7 @@ prove_crate() {
   nice -n $((5 * before)) "$kit/bin/rattle" build --crate-name "$1" "$root" "${words[@]}" "${@:2}"
 }
 
-# Keeps the library of crate $1 in place of those that were made of it before, where there is room for it.
+# Keeps the library of crate $1, instead of earlier ones, if there is space for it.
 keep_library() {
   local kept="$1-${sum[$1]}.tar"
   rm -f -- "$libraries/$1"-*.tar
@@ -156,7 +164,8 @@ build_crate() {
   fi
 }
 
-# Starts to build crate $1, as a group of processes. It gives way to each crate at work that has a heavier chain above it.
+# Starts to build crate $1, as a process group. Crates that are being built and have a heavier chain above
+# them have a higher priority.
 start_crate() {
   local before
   before=$(count_before "$1")
@@ -167,8 +176,8 @@ start_crate() {
   set +m
 }
 
-# Takes notice of the crates whose processes ended, and puts what they said behind the log $1, with the project's paths in place of the copy's.
-# It fails where one of them did.
+# Collects the crates whose processes ended, and appends their output to the log $1, with the project's paths
+# instead of those of the copy. Fails if one of them failed.
 end_crates() {
   local name status failed=0
   for name in "${names[@]}"; do
@@ -183,7 +192,7 @@ end_crates() {
   return $failed
 }
 
-# Ends the processes that are at work.
+# Ends the processes of the crates that are being built.
 stop_crates() {
   local name
   for name in "${names[@]}"; do
@@ -192,7 +201,7 @@ stop_crates() {
   wait
 }
 
-# How many crates are built at once: one for each processor, and for each 5 GB of memory.
+# Prints how many crates are built at once: at most one for each processor, and one for each 5 GB of memory.
 most_at_once() {
   local most=$(($(free_memory) / 5000000)) processors
   processors=$(nproc)
@@ -201,8 +210,8 @@ most_at_once() {
   echo "$most"
 }
 
-# Proves and builds the program of crate $1, with the log $2, and calls the function $3 again and again meanwhile. The program is as old as the
-# sources that were read: what was edited since is built by the next run.
+# Proves and builds the program of crate $1, with the log $2, and calls the function $3 regularly meanwhile.
+# The program gets the time at which the sources were read, so that the next run builds what was edited since.
 build_crates() {
   local most
   kit=$(dirname "$(rt doc)") && version=$(rt version) || return

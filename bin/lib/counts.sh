@@ -1,15 +1,16 @@
 # shellcheck shell=bash disable=SC2154
-# How the scripts of bin/ and .ci/run count what passed and what failed. They source this file, and make $work before they count.
+# Counts what passed and what failed, for the scripts of bin/ and .ci/run. They source this file, and make
+# $work before they count.
 
 passed=0
 failed=0
 
-# Tells something against what is counted next: $1.
+# Records the complaint $1 about what is counted next.
 tell() {
   printf '%s\n' "$1" >>"$work/told"
 }
 
-# Counts what $1 names as passed where nothing is told of it in the file `told`, and else shows that.
+# Counts $1 as passed if the file `told` has no complaints, and otherwise shows them.
 count() {
   if [ -s "$work/told" ]; then
     failed=$((failed + 1))
@@ -21,8 +22,8 @@ count() {
   fi
 }
 
-# Adds the counts of the line $1 to the sums. The part $2 ended with status $3: where that is none of success, a failure
-# is counted, even where the line tells of none.
+# Adds the counts of the line $1 to the sums. The part $2 ended with status $3. If that isn't 0, at least one
+# failure is counted, even if the line has none.
 add_counts() {
   local its_failed=0
   if [[ $1 =~ ^([0-9]+)\ passed,\ ([0-9]+)\ failed$ ]]; then
@@ -36,7 +37,7 @@ add_counts() {
   failed=$((failed + its_failed))
 }
 
-# Runs the words from $2 on, as the part $1, shows what they write and adds the counts of its last line.
+# Runs the command from $2 on, as the part $1, shows its output and adds the counts of its last line.
 run_part() {
   local part=$1 status
   shift
@@ -45,7 +46,7 @@ run_part() {
   add_counts "$(tail -n 1 "$work/log")" "$part" "$status"
 }
 
-# Prints the last line, which counts all. The status is that of success where nothing failed.
+# Prints the last line, which counts everything. The status is 0 if nothing failed.
 tell_counts() {
   echo "$passed passed, $failed failed"
   [ "$failed" = 0 ]

@@ -1,5 +1,5 @@
 # shellcheck shell=bash
-# How many kilobytes of memory there are to use, under the limit of the group too.
+# Prints how many kilobytes of memory are available, also within the limit of the control group.
 free_memory() {
   local free limit held
   free=$(awk '/^MemAvailable:/ { print $2 }' /proc/meminfo)

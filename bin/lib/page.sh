@@ -1,7 +1,7 @@
 # shellcheck shell=bash disable=SC2154
-# The lint of the manual pages. .ci/run and bin/check source this file, and run it at the top of the project.
+# Lints the manual pages. .ci/run and bin/check source this file, and run it at the top of the project.
 
-# The lint must have nothing to say of the pages. What it says of this machine's other pages is left out.
+# Lints each page. mandoc must have no messages, except those about the other pages of this machine, which are ignored.
 lint_page() {
   local page
   for page in man/*.1; do

@@ -1,10 +1,10 @@
 # shellcheck shell=bash disable=SC2154
-# Rows of rules with the starts that they have, and of rules that are refused. The tables of rows/ that need it source it.
+# Rows of rules with their starts, and of rules that are rejected. The tables of rows/ that need it source it.
 #
-# Starts stand with a space between. One that is written shorter has the front of the one before it: `2024-01-01T04:30:00Z
-# 05T04:30:00Z` is at 04:30 of the 1st and of the 5th. Texts are written with the escapes of printf.
+# There are spaces between starts. A shorter start has the beginning of the one before it:
+# `2024-01-01T04:30:00Z 05T04:30:00Z` is at 04:30 on the 1st and on the 5th. Texts have the escapes of printf.
 
-# Writes the starts of $1, a line each.
+# Writes the starts of $1, one per line.
 lists_starts() {
   local start before=''
   for start in $1; do
@@ -16,7 +16,7 @@ lists_starts() {
   done
 }
 
-# The starts of the rule $2, by the option $1, that are later than $3 are those of $4, of which the last may be `none`.
+# The starts of the rule $2, by the option $1, that are later than $3 are those of $4. The last of these may be `none`.
 lists_one() {
   local name="agenda next $1='$2' --after $3"
   lists_starts "$4" >"$work/starts.wanted"
@@ -34,7 +34,8 @@ lists_same() {
   compare "'$3' has the starts of '$2'" "$work/starts.wanted" /dev/null 0
 }
 
-# Rows of rules of one meaning, with `;` between them, of a moment, and of the starts later than it. The option $1 hands them in.
+# Rows of rules with the same meaning, with `;` between them, a time, and the starts later than it. The option
+# $1 gives the rules.
 lists_next() {
   local row after starts text
   local -a texts
@@ -47,7 +48,7 @@ lists_next() {
   done
 }
 
-# Rows of a part and a cause, and of a text that is refused by them. The option $1 hands it in.
+# Rows of a part and a code, and of a text that is rejected with them. The option $1 gives the text.
 lists_refused() {
   local fault text
   while IFS='|' read -r fault text; do
@@ -57,13 +58,13 @@ lists_refused() {
   done
 }
 
-# Writes the timer `rows.timer` of the events of $1, with `;` between them.
+# Writes the timer `rows.timer` with the events of $1, with `;` between them.
 lists_timer() {
   printf '[Timer]\n'
   [ -z "$1" ] || printf 'OnCalendar=%s\n' "${1//;/$'\nOnCalendar='}"
 }
 
-# Rows of a timer's events, of a span, and of all starts of the timer in it.
+# Rows of a timer's events, a span, and all starts of the timer in it.
 lists_plan() {
   local events since upto starts
   while IFS='|' read -r events since upto starts; do

@@ -1,23 +1,25 @@
 # shellcheck shell=bash disable=SC2154
-# Rows of agenda-machine: small roots that are made of a line, and a copy of the script beside a stub that stands for the program `agenda`.
-# The tables of rows/ that need it source it.
+# Rows of agenda-machine: small roots that are made from one line, and a copy of the script next to a stub for
+# the program `agenda`. The tables of rows/ that need it source it.
 #
-# A root's description has these, with a blank between; escapes are those of printf's %b, so that a blank in a name is \x20:
+# A root's description has these entries, with blanks between them. Escapes are those of printf's %b, so that
+# a blank in a name is \x20:
 #
-#   PATH         a file whose text is a comment that names it
+#   PATH         a file whose text is a comment with its path
 #   PATH=TEXT    a file of this text
 #   PATH>TEXT    a link
-#   PATH/        a folder
+#   PATH/        a directory
 #   PATH!        a named pipe
-#   *NAME        the wish for a timer: a link in D to /lib/systemd/system/NAME
+#   *NAME        the enablement link for a timer: a link in D to /lib/systemd/system/NAME
 #
-# The first letter of a PATH may stand for a folder: E, R, L, B and U for the five of units in their order, C for etc/cron.d, S for the
-# spool folder, and D for the folder of the wishes of x.target in E.
+# The first letter of a PATH may be short for a directory: E, R, L, B and U for the five unit directories in
+# their order, C for etc/cron.d, S for the spool directory, and D for the directory of the enablement links of
+# x.target in E.
 
 machine_folder=$work/machine
 machine_bin=$machine_folder/bin
 machine_temporary=$machine_folder/temporary
-# What stands before the script's own name, such as a program that takes rights away.
+# What comes before the script's own name, such as a program that drops permissions.
 machine_by=()
 machine_root=root
 declare -A machine_short=(
@@ -25,8 +27,9 @@ declare -A machine_short=(
   [C]=etc/cron.d [S]=var/spool/cron/crontabs [D]=etc/systemd/system/x.target.wants
 )
 
-# The stub keeps the words that it is given, one a line, and of each file but that of a zone its option, the end of its path and its text. A path of the
-# temporary folder is written as TMP and its end. Where it is to find something, that is in each file, and in each of its lines.
+# The stub records its arguments, one per line, and for each file except that of a zone its option, the end of
+# its path and its text. A path in the temporary directory is written as TMP and its end. If it has to report
+# findings, there is one for each file, and one for each of its lines.
 machine_write_stub() {
   cat >"$machine_folder/bin/agenda" <<'STUB'
 #!/usr/bin/env bash
@@ -61,7 +64,8 @@ STUB
   chmod 755 "$machine_folder/bin/agenda"
 }
 
-# Makes the folders of the rows, with a copy of the script and its parts beside the stub, in `bin`, and another beside the program, in `whole`.
+# Makes the directories of the rows: `bin` with a copy of the script and its parts next to the stub, and
+# `whole` with another copy next to the program.
 machine_begin() {
   local folder
   mkdir -p "$machine_temporary"
@@ -84,7 +88,8 @@ machine_path() {
   [[ $path != *\\* ]] || printf -v path '%b' "$path"
 }
 
-# Ends the rows where a name of `path` below the root is a link: nothing is ever written through one, since it may lead out of the root.
+# Ends the rows if a name of `path` below the root is a link: nothing is ever written through a link, because
+# it may lead out of the root.
 machine_refuse_links() {
   local rest=$path/ at=$machine_folder/$machine_root
   while [ -n "$rest" ]; do
@@ -94,7 +99,7 @@ machine_refuse_links() {
   done
 }
 
-# Makes the entry $1 of a description below the root. Its folders are made where they aren't there.
+# Makes the entry $1 of a description below the root, with its directories if they are missing.
 machine_entry() {
   local name=${1%%[=>]*} rest path folder
   rest=${1#"$name"}
@@ -125,7 +130,7 @@ machine_entry() {
   esac
 }
 
-# Makes the root of the description $1, anew.
+# Makes a new root from the description $1.
 machine_make() {
   local entry
   local -a entries
@@ -138,8 +143,8 @@ machine_make() {
   done
 }
 
-# Runs the script with the words $@, from the folder in which the root stands. Its temporary folder has to be gone then. What it wrote to
-# standard error is put in order.
+# Runs the script with the arguments $@, from the directory with the root. Its temporary directory must be
+# removed then. Its standard error is sorted.
 machine_run() {
   rm -f "$MACHINE_LOG.words" "$MACHINE_LOG.texts"
   TMPDIR=$machine_temporary run_in "$machine_folder" "${machine_by[@]}" "$machine_bin/agenda-machine" "$@"
@@ -147,8 +152,9 @@ machine_run() {
   machine_left=$(ls -A "$machine_temporary")
 }
 
-# Counts the last run, which $1 names, as compare does, by the wanted files $2 and $3 and the status $4. Where $5 is words, texts or names,
-# these are what the program has to be given, and the file $6 has them; where it is none, the program mustn't be run.
+# Counts the last run, with the name $1, in the same way as compare, by the wanted files $2 and $3 and the
+# status $4. If $5 is words, texts or names, the program must get what is in the file $6. If it is none, the
+# program must not be run.
 machine_compare() {
   {
     diff -a -u --label "standard output wanted" --label "standard output" -- "$2" "$work/out"
@@ -164,7 +170,7 @@ machine_compare() {
   count "agenda-machine: $1"
 }
 
-# Writes what standard error has to say where $1 is left out: paths with what is wrong, a comma between.
+# Writes the expected standard error if $1 is skipped: paths and the reasons, with commas between them.
 machine_left_out() {
   local -a parts
   local part path
@@ -176,8 +182,9 @@ machine_left_out() {
   done | sort >"$work/err.wanted"
 }
 
-# Writes the listing of the sources $1: paths, `+` before that of a drop-in, and after `=` the name that the program gets where that is
-# another than the path's end. The file texts.wanted has what the program has to be given of them.
+# Writes the listing of the sources $1: paths, with `+` before that of a drop-in, and with `=` and the
+# program's name for it if that isn't the end of the path. Writes to the file texts.wanted what the program
+# must get of them.
 machine_listing() {
   local -a list
   local source kind name path given=''
@@ -201,7 +208,7 @@ machine_listing() {
   [ ${#list[@]} = 0 ] || echo '<end>' >>"$work/texts.wanted"
 }
 
-# Adds to the texts that the program has to be given that of a source of kind $1, named $2, whose file is $3.
+# Adds to the texts that the program must get the text of a source of kind $1, with the name $2, whose file is $3.
 machine_text() {
   {
     if [ "$1" = drop-in ]; then
@@ -215,8 +222,9 @@ machine_text() {
   cat "$work/text" >>"$work/texts.wanted"
 }
 
-# Rows of standard input: a root, its sources, and what is left out, as machine_listing and machine_left_out take them. The words $@ stand
-# before the command. Of several sources the program gets the same in the same order, and where no file is a link, their texts joined.
+# Rows from standard input: a root, its sources, and what is skipped, as in machine_listing and
+# machine_left_out. The options $@ come before the command. Of several sources, the program gets the same in
+# the same order, and, if no file is a link, their texts merged.
 machine_sources() {
   local root sources left
   while IFS='|' read -r root sources left; do
@@ -239,7 +247,8 @@ machine_sources() {
   done
 }
 
-# Rows of standard input: a root of one source, its option and name, and the escaped text that the program gets of it.
+# Rows from standard input: a root with one source, its option and name, and the escaped text that the program
+# gets from it.
 machine_texts() {
   local root name text
   while IFS='|' read -r root name text; do
@@ -250,7 +259,7 @@ machine_texts() {
   done
 }
 
-# Makes what stands in machine_by take the rights of root away, where the rows run as root. Fails where that can't be done.
+# Sets machine_by to a command that drops root's permissions, if the rows run as root. Fails if that isn't possible.
 machine_as_nobody() {
   [ "$(id -u)" = 0 ] || return 0
   machine_by=(setpriv --reuid=65534 --regid=65534 --clear-groups)

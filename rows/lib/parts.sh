@@ -1,9 +1,10 @@
 # shellcheck shell=bash disable=SC2154
-# Rows of texts that go wrong at each of their places in turn: cut off there, or with a byte 0 put in. The tables of rows/ that need
-# it source it.
+# Rows of texts that are wrong at each of their places in turn: cut off there, or with a NUL byte inserted.
+# The tables of rows/ that need it source it.
 
-# Compares the last run, which $1 names, with the escaped text $2: where it begins as a fault line it is of standard error, status 1,
-# and else it is of standard output, of `plan` the lines behind the header.
+# Compares the last run, with the name $1, with the escaped text $2. If that begins like the line of an error,
+# it is compared with standard error, and the status must be 1. Otherwise it is compared with standard output;
+# for `plan` with the lines after the header.
 parts_compare() {
   local answer
   printf '%b' "$2" >"$work/answer.wanted"
@@ -17,10 +18,11 @@ parts_compare() {
   fi
 }
 
-# Rows of standard input: a part of a text, and behind a bar the escaped answer at each place of it, as parts_compare takes it. The parts
-# after each other are the text, whose file is $2, and which the words from $3 on hand to the program. A part's places are, where $1 says so:
-#   cut    behind each of its bytes: there the text ends. An empty part is the place where it stands
-#   zero   before each of its bytes: there a byte 0 is put in. An empty part is the place where it stands
+# Rows from standard input: a part of a text, and after a bar the escaped answer for each place in it, as in
+# parts_compare. The parts together are the text. Its file is $2, and the arguments from $3 on pass it to the
+# program. If $1 says so, the places of a part are:
+#   cut    after each of its bytes: the text ends there. An empty part is the place between its neighbours
+#   zero   before each of its bytes: a NUL byte is inserted there. An empty part is the place between its neighbours
 parts_rows() {
   local how=$1 file=$2 part answer row place first=0 begin=0 whole=''
   local -a parts=() answers=()
@@ -42,7 +44,7 @@ parts_rows() {
   done
 }
 
-# The place $2 of what parts_rows reads has the answer of its row.
+# Checks that the place $2 of the text of parts_rows has the answer of its row.
 parts_place() {
   local how=$1 place=$2 name
   shift 2

@@ -1,6 +1,6 @@
 # shellcheck shell=bash disable=SC2154
-# What the rows of `agenda upcoming`, of `agenda quiet` and of `agenda check` share: all take the sources of a plan, and refuse of them what
-# a plan refuses. The tables of rows/ that need it source it.
+# Shared by the rows of `agenda upcoming`, `agenda quiet` and `agenda check`: all of them take the sources of
+# a plan, and reject the same sources as a plan. The tables of rows/ that need it source it.
 
 questions_folder="$work/questions"
 
@@ -9,7 +9,7 @@ questions_file() {
   printf '%b' "$2" >"$questions_folder/$1"
 }
 
-# Makes the files that the rows of both commands name.
+# Makes the files for the rows of these commands.
 questions_begin() {
   mkdir -p "$questions_folder"/{cron.d,spool,one,two,folder.timer}
   questions_file daily '@daily a\n'
@@ -21,7 +21,7 @@ questions_begin() {
   questions_file none '# no job\n'
   questions_file empty.timer '[Timer]\n'
   yes '* * * * * x' | head -n 1000 >"$questions_folder/thousand"
-  # what is refused
+  # what is rejected
   questions_file part '\n60 * * * * x\n'
   questions_file setting '@daily a\nx\n'
   questions_file bare '@daily\n'
@@ -40,8 +40,8 @@ questions_begin() {
   yes '* * * * * x' | head -n 1001 >"$questions_folder/many"
 }
 
-# Rows of standard input: words, and behind a bar the fault of the command $@ with these words behind it. The status is 3 where it is of a
-# device.
+# Rows from standard input: arguments, and after a bar the error of the command $@ with these arguments after
+# it. The status is 3 if a device failed.
 questions_refused() {
   local written fault words status
   while IFS='|' read -r written fault; do
@@ -53,8 +53,8 @@ questions_refused() {
   done
 }
 
-# What the command $@ refuses of its sources, whose options are in front of them or behind. First all files are read, in order; then each
-# text is read whole, and its jobs are added, before the next one's.
+# What the command $@ rejects in its sources. Their options come before the others or after them. First all
+# files are read, in order. Then each text is read in full, and its jobs are added, before the next one's.
 questions_refuse_sources() {
   questions_refused "$@" <<'ROWS'
 --crontab nothing|nothing: Device

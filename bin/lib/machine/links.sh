@@ -1,19 +1,21 @@
 # shellcheck shell=bash disable=SC2154,SC2034
-# How agenda-machine follows links as if a folder were the root, and how it says what it leaves out. It sources this file.
+# Follows links as if a directory were the root, and reports what agenda-machine skips. agenda-machine sources
+# this file.
 #
-# A path is one below that folder, without `/` in front, where nothing else is said. `base` is what stands in front of it where this
-# script opens it, and `dir` what stands in front of it where a person reads it: both are empty where the folder is `/`.
+# Paths are relative to that directory and have no leading `/`, unless a comment says otherwise. `base` is the
+# prefix with which the script opens a path, and `dir` the prefix with which it shows a path. Both are empty
+# if the directory is `/`.
 
 declare -A link_texts=() said=() walk_ends=() walk_links=()
 most_links=40
 
-# Sets `shown` to the path $1 as one line: with control characters in it, it is quoted as bash reads it.
+# Sets `shown` to the path $1 on one line: if it has control characters, it is quoted for bash.
 show() {
   shown=$1
   [[ $shown != *[[:cntrl:]]* ]] || shown=${shown@Q}
 }
 
-# Says once that the path $1 is left out, and why: $2.
+# Reports once that the path $1 is skipped, and why: $2.
 left_out() {
   show "$dir/$1"
   local line="agenda-machine: left out $shown: $2"
@@ -22,7 +24,7 @@ left_out() {
   printf '%s\n' "$line" >&2
 }
 
-# Sets `link_text` to the text of the link $1, which has no link in front of its last name.
+# Sets `link_text` to the target of the link $1. Only the last name of $1 is a link.
 read_link() {
   link_text=${link_texts[$1]-}
   [[ -z $link_text ]] || return 0
@@ -32,13 +34,13 @@ read_link() {
   link_texts[$1]=$link_text
 }
 
-# Takes notice of a link on the way, and sets `link_text` to its text. Status 2: it can't be read, or there are too many.
+# Counts a link on the way, and sets `link_text` to its target. Status 2: it can't be read, or there are too many links.
 pass_link() {
   ((++links <= most_links)) && read_link "$1" || return 2
 }
 
-# Sets `real` to the folder at the end of the path $2, from the folder $1, name by name. `links` counts links. Status 1: there is none.
-# Status 2: that can't be told.
+# Sets `real` to the directory at the end of the path $2, from the directory $1, name by name. `links` counts
+# links. Status 1: there is none. Status 2: it can't be determined.
 walk() {
   local rest=$2/ part next
   real=$1
@@ -65,13 +67,14 @@ walk() {
   done
 }
 
-# Tells why a name below the folder `real` isn't found. Status 1: it isn't there. Status 2: the folder may not be searched.
+# Tells why a name in the directory `real` isn't found. Status 1: it doesn't exist. Status 2: the directory
+# can't be searched.
 is_absent() {
   [[ -d $base/$real && ! -x $base/$real ]] && return 2
   return 1
 }
 
-# As walk, and keeps where it led.
+# Does the same as walk, and keeps the result.
 walk_anew() {
   local before=$links status
   links=0
@@ -85,9 +88,9 @@ walk_anew() {
   return "$status"
 }
 
-# Follows the path $2 from the folder $1, which has no link in its path, and sets `real` to what stands at its end. Status 1: nothing
-# is there. Status 2: that can't be told, by a folder that may not be searched or by too many links. A path that names /dev/null
-# ends there, be that there or not.
+# Follows the path $2 from the directory $1, which has no link in its path, and sets `real` to the file at its
+# end. Status 1: nothing is there. Status 2: it can't be determined, because a directory can't be searched or
+# there are too many links. A path that leads to /dev/null ends there, even if that doesn't exist.
 follow() {
   local from=$1 rest=$2 key links=0
   while true; do
@@ -127,15 +130,16 @@ follow() {
   done
 }
 
-# Sets `real` to dev/null where the path $3 from the folder $2 leads there by names alone. Else the status is $1.
+# Sets `real` to dev/null if the path $3 from the directory $2 leads there by its names only. Otherwise the
+# status is $1.
 leads_to_null() {
   lead_by_names "$2" "$3"
   [[ $lead = dev/null ]] || return "$1"
   real=$lead
 }
 
-# Looks for the path $1, and sets `real` to the end of its links. Status 1: nothing has that name. Status 2: it is there, or may be, and
-# what stands at its end can't be told.
+# Finds the path $1, and sets `real` to the end of its links. Status 1: nothing has that name. Status 2: it
+# exists, or may exist, and the end of its links can't be determined.
 look() {
   local name=${1##*/}
   follow '' "${1%/*}" || return
@@ -146,7 +150,7 @@ look() {
   fi
 }
 
-# Whether `real`, where follow led, is a mask: an empty file or /dev/null.
+# Tests whether `real`, where follow led, is a mask: an empty file or /dev/null.
 is_mask() {
   if [[ -f $base/$real ]]; then
     [[ ! -s $base/$real || $real = dev/null ]]
@@ -155,13 +159,13 @@ is_mask() {
   fi
 }
 
-# Whether `real`, where follow led, is a regular file that can be read.
+# Tests whether `real`, where follow led, is a regular file that can be read.
 is_readable() {
   [[ -f $base/$real && -r $base/$real && $real != dev/null ]]
 }
 
-# Sets `state` to what stands at the end of the path $2 from the folder $1: `masked`, `not readable` or `readable`, and `real`. The type
-# $3 of the path is that which find told of it.
+# Sets `state` for the end of the path $2 from the directory $1: `masked`, `not readable` or `readable`. Sets
+# `real` too. $3 is the type that find gave for the path.
 judge() {
   state='not readable'
   if [[ $3 = f ]]; then
@@ -179,7 +183,7 @@ judge() {
   fi
 }
 
-# Sets `lead` to the path where the text $2 of a link in the folder $1 leads by names alone.
+# Sets `lead` to the path to which the target $2 of a link in the directory $1 leads by its names only.
 lead_by_names() {
   local rest=$2/ part
   lead=
@@ -198,7 +202,7 @@ lead_by_names() {
   done
 }
 
-# Sets `real` to the folder of the path $1. Where something of that name is there and can't be listed, it says so.
+# Sets `real` to the directory with the path $1. If something has that name and can't be listed, it is reported.
 find_folder() {
   look "$1"
   case $? in
@@ -209,7 +213,7 @@ find_folder() {
   return 1
 }
 
-# Sets `ordered` to the words, each once, in the order of their bytes.
+# Sets `ordered` to the arguments, each once, in byte order.
 order() {
   ordered=()
   [[ $# != 0 ]] || return 0
@@ -217,7 +221,8 @@ order() {
   mapfile -d '' -t ordered <"$work/list"
 }
 
-# Sets `ordered` to the names of the entries of the folder $1, and `folder` to where it stands. Status 1: it can't be listed.
+# Sets `ordered` to the names of the entries of the directory $1, and `folder` to its real path. Status 1: it
+# can't be listed.
 list_folder() {
   local names
   find_folder "$1" || return

@@ -1,8 +1,10 @@
 # shellcheck shell=bash disable=SC2154,SC2034
-# Which sources agenda-machine finds: crontabs, timers and the drop-ins of timers. It sources this file, after links.sh and units.sh.
+# Finds the sources: crontabs, timers and the drop-ins of timers. agenda-machine sources this file, after
+# links.sh and units.sh.
 
-# A row for each source, and behind that of a timer one for each of its drop-ins: its kind, the name that agenda gets, the path where
-# it was found, what stands at the end of the links, how many bytes it had where no link led to it, and a timer's own name.
+# A row for each source, and after a timer's row one for each of its drop-ins: its kind, the name that agenda
+# gets, the path where it was found, the file at the end of its links, its size in bytes if it isn't a link,
+# and the timer's own name.
 kinds=()
 names=()
 paths=()
@@ -19,10 +21,10 @@ add_row() {
   units+=("$5")
 }
 
-# The names of the sources that were taken, by kind and name.
+# The names of the sources that were added, by kind and name.
 declare -A taken=()
 
-# Takes the system's crontab.
+# Adds the system's crontab.
 find_crontab() {
   look etc/crontab
   case $? in
@@ -30,7 +32,7 @@ find_crontab() {
     0)
       if is_readable; then
         add_row system-crontab crontab etc/crontab '' ''
-        # its jobs are named system:N, as those of a file of this name in cron.d would be, or of a user's
+        # its jobs are named system:N, like those of a file `system` in cron.d, or of a user `system`
         taken["cron/system"]=yes
         return
       fi
@@ -39,8 +41,8 @@ find_crontab() {
   left_out etc/crontab 'not readable'
 }
 
-# Takes the file $3 of the folder $2, which stands at `folder`, as a source of the kind $1 with the name $4, if it can be read and no
-# earlier one has the name.
+# Adds the file $3 of the directory $2, whose real path is `folder`, as a source of the kind $1 with the name
+# $4, if it can be read and no earlier source has the name.
 take_crontab() {
   if ! follow "$folder" "$3" || ! is_readable; then
     left_out "$2/$3" 'not readable'
@@ -53,7 +55,7 @@ take_crontab() {
   fi
 }
 
-# Takes the files of packages.
+# Adds the files of packages.
 find_cron_d() {
   local name
   list_folder etc/cron.d || return 0
@@ -66,7 +68,8 @@ find_cron_d() {
   done
 }
 
-# Takes the crontabs of users. One whose name a file of cron.d has gets another, unless an entry of the folder has that.
+# Adds the crontabs of users. If a file of cron.d has the same name, `.user` is appended to the name, unless
+# an entry with that name exists.
 find_spool() {
   local name given spool=var/spool/cron/crontabs
   list_folder "$spool" || return 0
@@ -83,12 +86,12 @@ find_spool() {
   done
 }
 
-# Whether agenda takes the timer's name $1.
+# Tests whether agenda accepts the timer's name $1.
 is_timer_name() {
   [[ $1 = ?*.timer && $1 != *[!A-Za-z0-9:_.\\-]* && ${#1} -le 255 ]]
 }
 
-# Takes the timer with the name $1, which was wished for, or says why not.
+# Adds the enabled timer with the name $1, or reports why not.
 take_timer() {
   local name=$1 wish=${wishes[$1]} given=${1//@/-} file=$1 number is_alias state
   if [[ $name = @* ]] || ! is_timer_name "$given"; then
@@ -112,22 +115,24 @@ take_timer() {
   fi
 }
 
-# Adds a row of kind $1 for the path $4 below folder number $3 of units, of the timer that agenda gets as $2 and that is named $5.
+# Adds a row of kind $1 for the path $4 in unit directory number $3, of the timer that is $2 for agenda and
+# has the name $5.
 add_unit_row() {
   local size=
   [[ ${types["$3/$4"]} != f ]] || size=${bytes["$3/$4"]}
   add_row "$1" "$2" "${unit_folders[$3]}/$4" "$size" "$5"
 }
 
-# Sets `relatives` to the names by which the timer $1 has drop-ins: its own, of an instance that of its template, and those that are cut
-# after a dash. For each cut of an instance comes that of the name without an instance first, once; then that of the instance itself.
+# Sets `relatives` to the names whose drop-ins apply to the timer $1: its own, that of its template if it is
+# an instance, and those that are cut after a dash. For each cut of an instance, the name without an instance
+# comes first, once, and then that of the instance itself.
 find_relatives() {
   local front=${1%.timer} prefix tail middle cuts=() cut
   prefix=${front%%@*}
   tail=${front:${#prefix}}
   relatives=("$1")
   [[ -z $tail ]] || relatives+=("$prefix@.timer")
-  # a dash counts between the first character and the last
+  # a dash counts only between the first character and the last
   while [[ $prefix = ?*-?* ]]; do
     middle=${prefix:1:-1}
     prefix=${prefix:0:1}${middle%-*}-
@@ -140,7 +145,7 @@ find_relatives() {
   done
 }
 
-# Sets for each of the names in folder $2 of folder number $1 of units who comes first.
+# Adds the drop-ins in directory $2 of unit directory number $1 to `first`, unless an earlier one has the same name.
 gather_drop_ins() {
   local name place
   is_listed "$1" "$2" || return 0
@@ -151,7 +156,8 @@ gather_drop_ins() {
   done
 }
 
-# Takes the drop-ins of the timer with the name $1, which agenda gets as $2. `first` has those that count, in the order of their names.
+# Adds the drop-ins of the timer with the name $1, which is $2 for agenda. `first` has those that apply, in
+# the order of their names.
 take_drop_ins() {
   local relatives folders=() first=() number folder drop_in
   [[ ${#drop_folders[@]} != 0 ]] || return 0
@@ -173,7 +179,7 @@ take_drop_ins() {
   done
 }
 
-# Takes the drop-in with path $2 below folder number $1 of units, of the timer that agenda gets as $3 and that is named $4.
+# Adds the drop-in with path $2 in unit directory number $1, of the timer that is $3 for agenda and has the name $4.
 take_drop_in() {
   local state
   judge "${unit_reals[$1]}" "$2" "${types["$1/$2"]}"
@@ -184,7 +190,7 @@ take_drop_in() {
   fi
 }
 
-# Takes the timers that are wished for, with their drop-ins: first those without an instance, then the instances.
+# Adds the enabled timers with their drop-ins: first those without an instance, then the instances.
 find_timers() {
   local number name names_in_order
   for number in 0 1 2 3 4; do

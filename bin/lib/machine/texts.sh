@@ -1,33 +1,36 @@
 # shellcheck shell=bash disable=SC2154,SC2034
-# How agenda-machine makes the files that agenda reads where one of the machine doesn't do as it is: timers with drop-ins are joined,
-# instances are written out, and files are given other names. It sources this file, after sources.sh.
+# Makes the files for agenda that differ from the machine's files: timers are merged with their drop-ins,
+# specifiers of instances are expanded, and files get other names. agenda-machine sources this file, after
+# sources.sh.
 
 # agenda reads no larger file
 most_bytes=1048576
 
-# What agenda is given: options and paths.
+# The arguments for agenda: options and paths.
 given_words=()
-# Of each path that agenda is given and that isn't the one that a person is told: the place of its first range and how many there are. Of
-# each range, the line at which it begins in what agenda reads, and where its text came from.
+# For each path for agenda that isn't the path that is shown: the index of its first range and the number of
+# ranges. For each range: the line at which it begins in what agenda reads, and the path that its text came
+# from.
 declare -A ranges_of=()
 range_starts=()
 range_paths=()
 
-# Notes that from line $1 on agenda reads the text of the path $2.
+# Records that agenda reads the text of the path $2 from line $1 on.
 add_range() {
   range_starts+=("$1")
   range_paths+=("$2")
 }
 
-# Reads the file $1, which has $2 bytes if that is known. Sets `pieces` to its text, cut at bytes 0, with a newline at its end, and
-# `line_count`. Of what is too large for agenda a front is read that is too large as well. Status 1: it can't be read.
+# Reads the file $1, which has $2 bytes if that is known. Sets `pieces` to its text, split at NUL bytes, with
+# a newline at its end, and `line_count`. Of a file that is too large for agenda, it reads a first part that
+# is too large as well. Status 1: it can't be read.
 read_text() {
   local lines=()
   if [[ -n $2 && $2 -le $most_bytes ]]; then
     { mapfile lines <"$1"; } 2>/dev/null || return
     printf -v pieces '%s' "${lines[@]}"
     line_count=${#lines[@]}
-    # a byte 0 or a writer may have come between
+    # the file may have a NUL byte, or may have been written meanwhile
     if [[ ${#pieces} -eq $2 ]]; then
       pieces=("$pieces")
       [[ ${pieces[0]} = *$'\n' ]] || pieces[0]+=$'\n'
@@ -37,10 +40,10 @@ read_text() {
   read_pieces "$1"
 }
 
-# As read_text, for a file of any bytes and of any size.
+# Does the same as read_text, for a file of any bytes and of any size.
 read_pieces() {
   local last
-  # the letter behind the text keeps a last byte 0
+  # the letter after the text keeps a NUL byte at its end
   { head -c "$((most_bytes + 1))" -- "$1" && printf x; } >"$work/text" 2>/dev/null || return
   mapfile -d '' -t pieces <"$work/text"
   line_count=$(wc -l <"$work/text")
@@ -52,7 +55,7 @@ read_pieces() {
   fi
 }
 
-# Writes out the specifiers in each of `pieces` for the instance with the name $1.
+# Expands the specifiers in each of `pieces` for the instance with the name $1.
 write_out() {
   local front=${1%.timer} at
   local -A values
@@ -66,18 +69,18 @@ write_out() {
   done
 }
 
-# Writes out the specifiers in piece number $1, of which `values` has what stands for each. The text is cut at each `%` once, so that
-# it is read from left to right in a time that grows with its length alone.
+# Expands the specifiers in piece number $1, with their values in `values`. The text is split at each `%` only
+# once, so that it is read from left to right in linear time.
 write_out_piece() {
   local parts at part letter IFS=%
-  # the letter behind the text keeps a last `%`
+  # the letter after the text keeps a `%` at its end
   # shellcheck disable=SC2206
   parts=(${pieces[$1]}x)
   for ((at = 1; at < ${#parts[@]}; at++)); do
     part=${parts[at]}
     letter=${part:0:1}
     if [[ -z $part ]]; then
-      # the second of two: what follows it is no specifier
+      # the second of two `%`: no specifier follows it
       parts[at]=%
       ((++at))
     elif [[ $letter = [nNijpIJP] ]]; then
@@ -90,7 +93,7 @@ write_out_piece() {
   pieces[$1]=${part%x}
 }
 
-# Writes `pieces` with the bytes 0 between them.
+# Writes `pieces` with NUL bytes between them.
 put_pieces() {
   local piece
   printf '%s' "${pieces[0]}" || return
@@ -99,8 +102,8 @@ put_pieces() {
   done
 }
 
-# Writes to standard output the text of the timer in row $1 and of its drop-ins, which end before row $2. Status 1: the timer's own file
-# can't be read.
+# Writes the text of the timer in row $1 and of its drop-ins, which end before row $2, to standard output.
+# Status 1: the timer's own file can't be read.
 join_texts() {
   local row line=1
   for ((row = $1; row < $2; row++)); do
@@ -120,8 +123,8 @@ join_texts() {
   done
 }
 
-# Sets `given` to the path by which agenda reads the timer in row $1, whose drop-ins end before row $2, joined. Status 1: it can't be
-# read.
+# Sets `given` to the path of the merged file for agenda, of the timer in row $1, whose drop-ins end before
+# row $2. Status 1: it can't be read.
 give_joined() {
   local first=${#range_starts[@]}
   given=$work/timer/${names[$1]}
@@ -129,8 +132,9 @@ give_joined() {
   ranges_of[$given]="$first $((${#range_starts[@]} - first))"
 }
 
-# Sets `given` to the path by which agenda reads the source in row $1 as it is. That is the one where it was found, if it leads the
-# machine to the same file and is one line; or the end of its links; or a link to that with the name that agenda gets.
+# Sets `given` to the path by which agenda reads the source in row $1 as it is. That is the path where it was
+# found, if it leads this machine to the same file and is on one line; or the end of its links; or a link to
+# that with the name that agenda gets.
 give_plain() {
   local found=$base/${paths[$1]} real=$base/${reals[$1]} name=${names[$1]}
   given=$found
@@ -167,7 +171,7 @@ give_sources() {
   done
 }
 
-# Sets `finding` to the line $1 of what agenda says, with the file and the line of the text that it is of.
+# Sets `finding` to the line $1 of agenda's output, with the file and the line that its text came from.
 translate() {
   local front='' rest=$1
   finding=$1
@@ -182,8 +186,8 @@ translate() {
   done
 }
 
-# Sets `finding` to the rest $1 of a line, which begins with the number of a line or a blank, behind the path that it is of. $2 is
-# the place of the first range and how many there are.
+# Sets `finding` from $1, the rest of a line after its path, which begins with a line number or a blank. $2 is
+# the index of the first range and the number of ranges.
 name_place() {
   local at=${2% *} end line=
   end=$((at + ${2#* }))

@@ -1,29 +1,30 @@
 # shellcheck shell=bash disable=SC2154,SC2034
-# What agenda-machine reads of the folders of units: timers, the wishes for them, and which drop-ins there are. It sources this file,
-# after links.sh.
+# Reads the unit directories: timers, enablement links and drop-ins. agenda-machine sources this file, after links.sh.
 
-# The folders of units in the order in which systemd of Debian 12 looks into them, and where each stands, which is empty where it isn't.
+# The unit directories, in the order of systemd in Debian 12, and the real path of each, which is empty if it
+# doesn't exist.
 unit_folders=(etc/systemd/system run/systemd/system usr/local/lib/systemd/system lib/systemd/system usr/lib/systemd/system)
 unit_reals=('' '' '' '' '')
 
-# What was listed of them. A key is the number of the folder, a slash and the path below it: the type as find names it, and the size. Of
-# a folder X.d also the names of its drop-ins, each with a slash in front. By name alone: whether there is a folder X.d at all, and the
-# place of a drop-in's name in the order of all these names.
+# What was listed in them. A key is the number of the directory, a slash and the path below it. `types` is the
+# type that find prints, and `bytes` the size. For a directory X.d, `drop_ins` has the names of its drop-ins,
+# each with a slash before it. By name only, `drop_folders` tells whether there is any directory X.d, and
+# `places` has the position of a drop-in's name in the order of all these names.
 declare -A types=() bytes=() drop_ins=() drop_folders=() places=()
-# Each timer's file, as folder's number, slash and name.
+# Each timer's file: the directory's number, a slash and the name.
 timer_files=()
 
-# By a timer's name, the path of its first wish, and the folder's number and name of that. By the path of a wish below its folder of
-# units, whether it was seen.
+# For a timer's name, the path of its first enablement link, and the directory's number and name of that link.
+# For the path of an enablement link below its unit directory, whether it was seen.
 declare -A wishes=() wish_orders=() seen_wishes=()
 
-# Lists folder number $1 of units: its timers and the folders of wishes and of drop-ins with what is in them.
+# Lists unit directory number $1: its timers, and its directories of enablement links and drop-ins with what is in them.
 list_units() {
   local at listed folder
   find_folder "${unit_folders[$1]}" || return 0
   folder=$real
   unit_reals[$1]=$folder
-  # what find says of folders that it can't list is left to is_listed
+  # is_listed reports directories that find can't list
   find "$base/$folder" -ignore_readdir_race -mindepth 1 -maxdepth 2 -name '.*' -prune -o \
     \( -name '*.timer' -o -name '*.conf' -o -name '*.d' -o -name '*.target.wants' -o -name '*.target.requires' \) \
     -printf '%P\0%y\0%s\0%l\0' -o -type d -prune >"$work/list" 2>/dev/null
@@ -36,7 +37,7 @@ list_units() {
   done
 }
 
-# Takes notice of the entry with path $2 and type $3 below folder number $1 of units.
+# Records the entry with path $2 and type $3 in unit directory number $1.
 note_entry() {
   case $2 in
     *.d/*.conf) drop_ins["$1/${2%/*}"]+=/${2##*/} ;;
@@ -48,7 +49,7 @@ note_entry() {
   esac
 }
 
-# Whether the folder $2 below folder number $1 of units was listed; else it says why not.
+# Tests whether the directory $2 in unit directory number $1 was listed; otherwise it reports why not.
 is_listed() {
   case ${types["$1/$2"]} in
     l) left_out "${unit_folders[$1]}/$2" 'linked folder' ;;
@@ -61,11 +62,12 @@ is_listed() {
   return 1
 }
 
-# Takes notice of the wish with path $2 and type $3 below folder number $1 of units. The folders come in order, so the first counts.
+# Records the enablement link with path $2 and type $3 in unit directory number $1. The directories come in
+# order, so the first one decides.
 note_wish() {
   [[ -z ${seen_wishes[$2]-} ]] || return 0
   seen_wishes[$2]=yes
-  # the folder itself is no link
+  # the directory itself is no link
   if follow "${unit_reals[$1]}/${2%/*}" "${2##*/}" && is_mask; then
     left_out "${unit_folders[$1]}/$2" masked
   elif [[ $3 != l ]]; then
@@ -75,7 +77,8 @@ note_wish() {
   fi
 }
 
-# Adds the wish with path $2 below folder number $1 of units, for the timer of its last name. That of the first folder gives the path.
+# Adds the enablement link with path $2 in unit directory number $1, for the timer with its last name. The
+# first directory gives the path.
 add_wish() {
   local name=${2##*/} before
   before=${wish_orders[$name]-}
@@ -85,7 +88,7 @@ add_wish() {
   fi
 }
 
-# Makes each timer's file a wish for its name that has none, but for templates.
+# Makes each timer's file enable its name if nothing else does, except for templates.
 wish_all() {
   local file name
   for file in "${timer_files[@]}"; do
@@ -98,8 +101,8 @@ is_template() {
   [[ $1 = ?*@.timer && ${1%%@*} = "${1%@.timer}" ]]
 }
 
-# Finds the file that counts for the timer's name $1. Sets `number` to the number of its folder, and `is_alias` where it is a link to
-# another name.
+# Finds the file that applies to the timer's name $1. Sets `number` to the number of its directory, and
+# `is_alias` if it is a link to another name.
 find_unit() {
   is_alias=no
   for number in 0 1 2 3 4; do
@@ -117,7 +120,7 @@ find_unit() {
   return 1
 }
 
-# Whether the path $1 is below one of the folders of units.
+# Tests whether the path $1 is below one of the unit directories.
 is_unit_path() {
   local unit_folder
   for unit_folder in "${unit_folders[@]}"; do
@@ -126,14 +129,14 @@ is_unit_path() {
   return 1
 }
 
-# Sets `split` to the names in the text $1, which has a slash in front of each.
+# Sets `split` to the names in the text $1, which has a slash before each name.
 split_names() {
   local IFS=/
   # shellcheck disable=SC2206
   split=(${1#/})
 }
 
-# Sets for the name of each drop-in its place in the order of all.
+# Sets `places` to the position of each drop-in's name in the order of all.
 order_drop_ins() {
   local key name all=()
   for key in "${!drop_ins[@]}"; do

@@ -1,14 +1,14 @@
 # shellcheck shell=bash disable=SC2154,SC2034
-# The time zone that agenda-machine hands to agenda, and in which date reads texts. It sources this file, after links.sh.
+# Finds the time zone that agenda gets, and in which date reads texts. agenda-machine sources this file, after links.sh.
 
-# The tz database of the machine that the script runs on.
+# The time zone database of the machine that runs the script.
 zone_database=/usr/share/zoneinfo
 
-# What agenda gets as --zone, empty for UTC, and what date gets as TZ.
+# What agenda gets as --zone, which is empty for UTC, and what date gets as TZ.
 zone=
 tz=UTC0
 
-# Whether $1 has the form of a name of the tz database.
+# Tests whether $1 has the form of a name of the time zone database.
 is_zone_name() {
   [[ /$1/ != *//* && $1 != *[!A-Za-z0-9_+/-]* ]]
 }
@@ -31,12 +31,13 @@ find_zone() {
   elif [[ -f $base/${etc}localtime ]]; then
     set_zone_path etc/localtime "${etc}localtime"
   else
-    # it is missing, unless the directory doesn't let us see that
+    # it is missing, unless the directory's rights hide it
     [[ ! -e $base/${etc}localtime && (! -d $base/$etc || -x $base/$etc) ]]
   fi
 }
 
-# Sets `zone` to the file of the zone named $1 below the root, else to the name, if this machine has its file. Status 1: neither is there.
+# Sets `zone` to the file of the zone $1 below the root, or else to the name, if this machine has its file.
+# Status 1: neither exists.
 find_zone_file() {
   local path=usr/share/zoneinfo/$1
   if follow '' "$path" && is_readable; then
@@ -46,21 +47,21 @@ find_zone_file() {
   fi
 }
 
-# Sets `zone` to the path of the file $1 below the root, if that leads this machine to the same file, else to that of the end of its links,
-# $2.
+# Sets `zone` to the path of the file $1 below the root, if that leads this machine to the same file, or else
+# to $2, the end of its links.
 set_zone_path() {
   zone=$base/$1
   [[ $zone -ef $base/$2 ]] || zone=$base/$2
-  # agenda would take a path that begins otherwise for a name
+  # agenda would read a path with another beginning as a name
   [[ $zone = [/.]* ]] || zone=./$zone
 }
 
-# Sets `tz` so that date reads the same file as agenda does for --zone $1. What agenda rejects is UTC here.
+# Sets `tz` so that date reads the same file as agenda with --zone $1. A zone that agenda rejects is UTC here.
 set_tz() {
   tz=UTC0
   case $1 in
     UTC) ;;
-    # date would look for a relative path below the tz database
+    # date would look for a relative path in the time zone database
     /*) tz=:$1 ;;
     .*) tz=:$PWD/$1 ;;
     *) ! is_zone_name "$1" || tz=:$zone_database/$1 ;;

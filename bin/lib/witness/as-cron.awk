@@ -1,6 +1,6 @@
-# How Debian's cron reads a rule that agenda refuses, in words that agenda takes: as_read(text, way). Nothing is known that agenda
-# takes and cron refuses, which is the other way. What was changed is noted, each change by
-# the name that it has in docs/DIFFERENCES.md, with the causes by which agenda refuses it.
+# as_read(text, way) returns what Debian's cron makes of a rule that agenda rejects, as a rule that agenda
+# accepts. No rule is known that agenda accepts and cron rejects (way `witness`). Each change is recorded by
+# its name in docs/DIFFERENCES.md, with the codes of agenda's errors for it.
 
 function value(word, at) {
   at = index("janfebmaraprmayjunjulaugsepoctnovdec", tolower(word))
@@ -10,7 +10,7 @@ function value(word, at) {
   return word + 0
 }
 
-# A number of more than 4 digits is what is left of it in 32 bits.
+# Returns what is left in 32 bits of a number of more than 4 digits.
 function short_number(word, n) {
   if (word !~ /^[0-9][0-9][0-9][0-9][0-9]+$/) return word
   note("numbers over 4 digits", "BadNumber")
@@ -18,7 +18,7 @@ function short_number(word, n) {
   return n > 9999 ? 9999 : n
 }
 
-# An element, which is nothing where it is a range backwards.
+# Returns an element, or nothing if it is a range backwards.
 function element_as_read(element, at, step, ends) {
   if (at = index(element, "/")) {
     step = "/" short_number(substr(element, at + 1))
@@ -32,8 +32,9 @@ function element_as_read(element, at, step, ends) {
   return ""
 }
 
-# A field: the elements up to what cron passes over, which is all that stands behind a whole element, where that is no comma. A day field
-# stays restricted where it was: then `all` stands in the place of a `*` that comes first by what was left out.
+# Returns a field: its elements up to what cron ignores, which is everything after a whole element if that
+# isn't a comma. A day field that was restricted stays restricted: `all` replaces a `*` that comes first
+# because the elements before it were removed.
 function field_as_read(field, all, first, kept, element) {
   first = substr(field, 1, 1)
   while (match(field, /^([*]|[0-9A-Za-z]+-[0-9A-Za-z]+)(\/[0-9]+)?|^[0-9A-Za-z]+/)) {
@@ -57,7 +58,7 @@ function as_read(text, way, words, n, at) {
   if (text ~ /^@/) return words[1]
   if (n < 5) return text
   for (at = 1; at <= 5; at++) words[at] = field_as_read(words[at], at == 3 ? "1-31" : at == 5 ? "0-7" : "*")
-  # a day field that no day matches leaves the other one, where that is restricted
+  # if no day matches one day field, only the other one counts, if that is restricted
   if (words[3] == "" && words[5] !~ /^[*]/ && words[5] != "") words[3] = "*"
   else if (words[5] == "" && words[3] !~ /^[*]/ && words[3] != "") words[5] = "*"
   for (at = 1; at <= 5; at++) if (words[at] == "") return "0 0 31 2 *"

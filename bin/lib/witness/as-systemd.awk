@@ -1,9 +1,14 @@
-# How systemd reads an event, in words that both take. Where agenda refuses the text or has other starts (way `agenda`), as_read gives what
-# systemd means by it, as agenda writes that; where systemd refuses it (way `witness`), what agenda means, as systemd writes that. What was
-# changed is noted, each change by the name that it has in docs/DIFFERENCES.md, with the causes by which agenda refuses it. Either way a step
-# without an end is given its last value as the end, which changes nothing but that systemd then passes over no start; `closed` is then its name.
+# as_read(text, way) returns an event in a form that both agenda and systemd accept.
+#
+# If agenda rejects the text or has other starts (way `agenda`), it is systemd's meaning, in a form that
+# agenda accepts. If systemd rejects the text (way `witness`), it is agenda's meaning, in a form that systemd
+# accepts. Each change is recorded by its name in docs/DIFFERENCES.md, with the codes of agenda's errors for
+# it.
+#
+# In both ways, a step without an end gets its last value as the end. That changes only that systemd skips no
+# start. The name of this change is in `closed`.
 
-# A number of more than 4 digits: without zeros in front, or another one that is too large as well.
+# Returns a number of more than 4 digits without leading zeros, or another number that is too large as well.
 function short_number(word) {
   if (word !~ /^[0-9][0-9][0-9][0-9][0-9]+$/) return word
   note("numbers over 4 digits", "BadNumber")
@@ -30,13 +35,13 @@ function short_value(word) {
   return part == "year" ? short_year(word) : word
 }
 
-# A year of one or two digits is of 1970 to 2069.
+# Returns a value. A year of one or two digits is in 1970 to 2069.
 function value(word) {
   if (part != "year" || word !~ /^[0-9][0-9]?$/) return word + 0
   return word + (word + 0 < 70 ? 2000 : 1900)
 }
 
-# What systemd means by a range from a to b by steps of r, which agenda refuses or reads otherwise.
+# Returns systemd's meaning of a range from a to b in steps of r that agenda rejects or reads differently.
 function range_of_systemd(a, b, r, last) {
   if (r == "" || value(a) > value(b) || r !~ /^[0-9]*[1-9][0-9]*$/) return a ".." b (r == "" ? "" : "/" r)
   last = value(b) - (value(b) - value(a)) % r
@@ -46,7 +51,7 @@ function range_of_systemd(a, b, r, last) {
   return a ".." last "/" r
 }
 
-# A value with a step, as a range that ends at the last value of it.
+# Returns a value with a step as a range that ends at its last value.
 function close_step(a, r, last) {
   if (r == "" || a !~ /^[0-9]+$/ || r !~ /^[0-9]+$/ || r + 0 == 0 || part == "year" || part == "month") return a (r == "" ? "" : "/" r)
   if (tilde ? a - r < 1 : a + r > high) return a "/" r
@@ -55,7 +60,7 @@ function close_step(a, r, last) {
   return a ".." high - (high - a) % r "/" r
 }
 
-# What agenda means by a range, which systemd refuses.
+# Returns agenda's meaning of a range that systemd rejects.
 function range_of_agenda(a, b, r, swap) {
   if (part == "year" && value(b) > high && value(a) <= value(b)) {
     note("years from 2200 on", "")
@@ -77,7 +82,7 @@ function range_of_agenda(a, b, r, swap) {
     note("ranges of one second", "")
     return a
   }
-  # the last day of the range is one of its days: for systemd the first is
+  # the last day of the range is one of its days; for systemd it is the first
   if (tilde && r != "") a = a + (b - a) % r
   return a ".." b (r == "" ? "" : "/" r)
 }
@@ -87,7 +92,7 @@ function late_day(word) {
   return word
 }
 
-# What agenda means by one value, with a step or without one, which systemd refuses.
+# Returns agenda's meaning of a value, with or without a step, that systemd rejects.
 function value_of_agenda(a, r) {
   if (a == "*") {
     note("* with a step", "")
@@ -122,14 +127,14 @@ function element_as_read(element, r, at) {
   return close_step(short_value(element), r)
 }
 
-# The last value of an element.
+# Returns the last value of an element.
 function last_value(element, at) {
   at = index(element, "..")
   return substr(element, at ? at + 2 : 1) + 0
 }
 
-# Whether a list of days after ~ has one that systemd refuses there: of the elements in order it takes the first up to 28, the second up to
-# 25, and so on. The least is left in `least`.
+# Tests whether a list of days after ~ has a day that systemd rejects there. In order of size, it accepts the
+# first element up to 28, the second up to 25, and so on. Sets `least` to the minimum.
 function is_late(list, elements, n, at, other, most, late) {
   n = split(list, elements, ",")
   least = elements[1]
@@ -142,7 +147,7 @@ function is_late(list, elements, n, at, other, most, late) {
   return late
 }
 
-# A component: its elements, or `never` where none of them can be.
+# Returns the elements of a component. Sets `never` if none of them can match.
 function component_as_read(text, its_part, its_low, its_high, elements, n, at, kept, one, stars) {
   part = its_part
   low = its_low
@@ -196,7 +201,7 @@ function weekdays_as_read(text) {
   return text
 }
 
-# The date and time of a number of seconds from 1970 on.
+# Returns the date and time of a number of seconds since 1970.
 function moment_of(seconds, days, era, year, month) {
   days = int(seconds / 86400) + 719468
   seconds %= 86400
@@ -210,7 +215,7 @@ function moment_of(seconds, days, era, year, month) {
   return sprintf("%d-%d-%d %d:%d:%d", year + era * 400 + (month < 3), month, days, seconds / 3600, seconds % 3600 / 60, seconds % 60)
 }
 
-# One word, as systemd has more of them than its manual page.
+# Returns a word. systemd knows more of them than its manual page has.
 function word_as_read(word) {
   if (tolower(word) !~ /^(biannually|bi-annually|semi-annually|anually)$/) return ""
   note("words of no manual page", "UnknownWord BadName")

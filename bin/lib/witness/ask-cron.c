@@ -1,11 +1,14 @@
-// Asks Debian's cron when jobs start: its own reading of rules and of crontabs, and its own test of a minute. bin/witness compiles this
-// file in the package's source, beside the other files of it; cron.c is taken in, since its test of a minute is named there alone.
+// Asks Debian's cron when jobs start, by its own parser of rules and crontabs, and its own test of a minute.
 //
-//   rules AFTER END COUNT   reads a rule a line, and prints a line for each: `refused`, or up to COUNT starts
-//                           that are later than AFTER and before END, or `none`
-//   crontab SINCE END FILE  reads FILE as the system's crontab, and prints the starts of the span, with the lines of their jobs; or
-//                           `refused: line N`
-// Moments are written as agenda writes them. After 2038-01-19 cron's own number of the second is too large for its type.
+// bin/witness compiles this file in the package's source, with its other files. It includes cron.c, because
+// the test of a minute has a name only there.
+//
+//   rules AFTER END COUNT   reads one rule per line, and prints a line for each: `refused`, or up to COUNT
+//                           starts that are later than AFTER and before END, or `none`
+//   crontab SINCE END FILE  reads FILE as the system's crontab, and prints the starts of the span with the
+//                           lines of their jobs, or `refused: line N`
+//
+// Times are in agenda's form. After 2038-01-19 cron's number of the second is too large for its type.
 
 #define _GNU_SOURCE
 #include <time.h>
@@ -38,7 +41,8 @@ static const char *text_of(time_min which) {
   return text;
 }
 
-// What cron.c asks of the files that are left out. A job that cron adds to what runs now has a start; its user is its number here.
+// Replaces what cron.c needs from the files that aren't compiled. A job that cron adds to the jobs to run has
+// a start. Its user ID is its number here.
 void job_add(entry *job, user *owner) {
   int at = job->uid;
   if (!wanted)
@@ -50,7 +54,7 @@ void job_add(entry *job, user *owner) {
 
 int job_runqueue(void) { return 0; }
 
-// Every user is known, as on a machine where the package is installed.
+// Every user exists, as on a machine with the package installed.
 struct passwd *getpwnam(const char *name) {
   static struct passwd any = {"any", "", 0, 0, "", "/", "/bin/sh"};
   return &any;
@@ -65,7 +69,7 @@ static void keep(entry *job, int line) {
   number++;
 }
 
-// Links the jobs that still want starts, in their order.
+// Links the jobs that still need starts, in their order.
 static void link_jobs(void) {
   entry **end = &crontab.crontab;
   for (int at = 0; at < number; at++) {
@@ -77,7 +81,7 @@ static void link_jobs(void) {
   filled = 0;
 }
 
-// Has cron look at each minute from the first one whose begin isn't before SINCE, to the last one before END.
+// Lets cron test each minute, from the first one that begins at or after SINCE to the last one that begins before END.
 static void walk(long long since, long long end) {
   link_jobs();
   for (minute = (since + 59) / 60; crontab.crontab && minute * 60LL < end; minute++) {
@@ -106,7 +110,7 @@ static void print_starts(void) {
   }
 }
 
-// Reads a crontab as cron's load_user does, and keeps the line of each job.
+// Reads a crontab in the same way as cron's load_user, and keeps the line of each job.
 static int read_crontab(FILE *file) {
   char setting[MAX_ENVSTR], **settings = env_init();
   int kind;

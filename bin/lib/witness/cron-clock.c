@@ -1,10 +1,12 @@
-// Runs the main loop of Debian's cron on a simulated clock, and prints what it starts: `cron-clock SINCE UPTO FILE`, in the zone of the
-// variable TZ. The daemon runs from the minute before SINCE on, up to UPTO, and has FILE, a user's crontab. A line has the time of a
-// start, a tab and the command. Times are written as agenda writes them, in UTC.
+// Runs the main loop of Debian's cron on a simulated clock, and prints what it starts: `cron-clock SINCE UPTO
+// FILE`, in the zone of the variable TZ.
 //
-// bin/witness compiles this file in the package's source, beside the other files of it. It takes in cron.c, with its own time(), sleep()
-// and do_command() and its own loading of crontabs; what would touch the machine, such as locks and logs, does nothing. All else is
-// cron's, and local time is that of the C library.
+// The daemon runs from the minute before SINCE to UPTO, with FILE, a user's crontab. A line has the time of a
+// start, a tab and the command. Times are in agenda's form, in UTC.
+//
+// bin/witness compiles this file in the package's source, with its other files. It includes cron.c, and
+// replaces time(), sleep(), do_command() and the loading of crontabs. What would change the machine, such as
+// locks and logs, does nothing. Everything else is cron's, and local time is that of the C library.
 
 #define _GNU_SOURCE
 #include <fcntl.h>
@@ -33,7 +35,7 @@ int simulated_access(const char *path, int mode);
 static const char *form = "%Y-%m-%dT%H:%M:%SZ";
 static time_t now, upto;
 static int crontab;
-// Whether a job has ended since the daemon slept last: its signal then ends the next sleep at once.
+// Whether a job has ended since the daemon last slept: its signal then ends the next sleep at once.
 static int job_ended;
 
 time_t simulated_time(time_t *second) {
@@ -41,7 +43,7 @@ time_t simulated_time(time_t *second) {
   return now;
 }
 
-// Sleeps, or ends the simulation if its end comes first.
+// Sleeps, or ends the simulation if the sleep passes its end.
 unsigned simulated_sleep(unsigned seconds) {
   if (job_ended) {
     job_ended = 0;
@@ -52,10 +54,10 @@ unsigned simulated_sleep(unsigned seconds) {
   return 0;
 }
 
-// Says that @reboot jobs have been run already.
+// Says that the @reboot jobs were already run.
 int simulated_access(const char *path, int mode) { return 0; }
 
-// Prints the start of a job. The daemon wakes up one second after a minute begins, so it means the second before.
+// Prints the start of a job. The daemon wakes up one second after a minute begins, so the start is the second before.
 void do_command(entry *job, user *owner) {
   char text[32];
   time_t second = now - 1;
@@ -64,7 +66,7 @@ void do_command(entry *job, user *owner) {
   job_ended = 1;
 }
 
-// Loads the crontab, once.
+// Loads the crontab once.
 void load_database(cron_db *database) {
   static struct passwd any = {"any", "", 0, 0, "", "/", "/bin/sh"};
   if (database->head) return;

@@ -1,19 +1,23 @@
-# Sets agenda's answers beside those of a witness. The folder `folder` has them, an answer a line, in `agenda` and in `witness`, and in
-# `texts` what was asked. Starts count up to `end`. A difference is known where as_read, of as-cron.awk or as-systemd.awk, reads the
-# text anew, by changes that each have a name, and where the answer to what comes of that is the other program's answer to the text.
+# Compares agenda's answers with those of a witness.
 #
-# At first, where `again` names no folder, it writes what is to be asked to `folder`/again/texts, and for each text a line to
-# `folder`/first: the verdict, the names, and what as_read sets. Then, with the answers in `again`, it prints the verdicts, a line each:
+# The directory `folder` has them in `agenda` and in `witness`, one answer per line, and the texts in `texts`.
+# Starts count up to `end`. A difference is known if as_read, of as-cron.awk or as-systemd.awk, changes the
+# text by changes that each have a name, and if the answer to the changed text is the other program's answer
+# to the text.
 #
-#   same                both take it, with the same starts
-#   refused             both refuse it
-#   agenda, NAMES       agenda refuses it for the reasons of these names
-#   witness, NAMES      the witness does
+# On the first call, without a directory `again`, it writes the changed texts to `folder`/again/texts, and a
+# line for each text to `folder`/first: the verdict, the names, and what as_read sets. On the second call,
+# with the answers in `again`, it prints the verdicts, one per line:
+#
+#   same                both accept it, with the same starts
+#   refused             both reject it
+#   agenda, NAMES       agenda rejects it for the reasons of these names
+#   witness, NAMES      the witness rejects it for the reasons of these names
 #   starts, NAMES       they have other starts, for the reasons of these names
-#   unknown             they differ, and it isn't known why
+#   unknown             they differ, and the reason isn't known
 
-# Notes a change by the name $1, with the causes by which agenda refuses it. Where `how` is `likewise`, what comes of it has other starts,
-# and is only to be read alike by both.
+# Records a change by its name, with the codes of agenda's errors for it. If `how` is `likewise`, the changed
+# text has other starts, and both programs must only read it in the same way.
 function note(name, its_causes, how) {
   if (index("; " names "; ", "; " name "; ") == 0) names = names (names == "" ? "" : "; ") name
   causes = causes " " its_causes " "
@@ -24,7 +28,7 @@ function is_refused(answer) { return answer ~ /^(refused|agenda: rule: part [0-8
 
 function is_taken(answer) { return answer ~ /^([0-9TZ:-]+|none)( [0-9TZ:-]+| none)*$/ }
 
-# The starts of an answer before the end.
+# Returns the starts of an answer before the end.
 function starts_of(answer, words, n, at, kept) {
   n = split(answer, words, " ")
   for (at = 1; at <= n; at++) if (words[at] != "none" && words[at] < end) kept = kept " " words[at]
@@ -33,7 +37,7 @@ function starts_of(answer, words, n, at, kept) {
 
 function is_same(one, other) { return is_taken(one) && is_taken(other) && starts_of(one) == starts_of(other) }
 
-# The verdict of a text, without what is to be asked again; that is put into `anew`.
+# Returns the verdict on a text, before the changed text is asked about. Sets `anew` to that text.
 function verdict(text, agenda, witness, cause) {
   if (!(is_taken(agenda) || is_refused(agenda)) || !(is_taken(witness) || is_refused(witness))) return "unknown"
   if (is_same(agenda, witness)) return "same"
@@ -49,12 +53,12 @@ function verdict(text, agenda, witness, cause) {
   return names == "" ? "unknown" : is_refused(agenda) ? "agenda" : "witness"
 }
 
-# The verdict $1 with its names, $2, as the answers to what was asked again bear it out.
+# Returns the verdict `line` with its names, if the answers to the changed text confirm it.
 function borne_out(line, names, likewise, closed, agenda, witness, agenda_anew, witness_anew) {
   if (line == "witness" && !likewise && is_same(agenda, witness_anew)) return line ", " names
   if (line != "witness" && names != "" && !likewise && is_same(agenda_anew, witness)) return line ", " names
   if (likewise && is_same(agenda_anew, witness_anew)) return line ", " names
-  # what is left is what systemd passes over behind a step without an end
+  # what remains is what systemd skips after a step without an end
   if (line == "witness" || closed == "") return "unknown"
   if (names == "") return is_same(agenda, witness_anew) ? line ", " closed : "unknown"
   return is_same(agenda_anew, witness_anew) ? line ", " names "; " closed : "unknown"

@@ -1,6 +1,6 @@
 # shellcheck shell=bash disable=SC2154
-# Has agenda-machine find what some packages of Debian ship for cron and of timers, all below one root, and has agenda plan a day of it.
-# bin/witness sources this file.
+# Lets agenda-machine find the crontabs and timers of some Debian packages, all below one root, and lets
+# agenda plan a day of them. bin/witness sources this file.
 
 # Puts the files of the packages below the root.
 unpack_machine() {
@@ -13,13 +13,14 @@ unpack_machine() {
   done
 }
 
-# Writes the paths below the root of the timers that the packages ship: those that are templates where $1 says so, or else the others.
+# Prints the paths below the root of the packages' timers: only templates if $1 is `templates`, and otherwise
+# the others.
 shipped_timers() {
   find "$machine/lib/systemd/system" "$machine/usr/lib/systemd/system" -maxdepth 1 -name '*.timer' -type f 2>/dev/null | sort |
     if [ "$1" = templates ]; then grep '@[.]timer$'; else grep -v '@[.]timer$'; fi
 }
 
-# Has the targets wish for the timers, as their [Install] says; of a template for the instance `one`.
+# Enables the timers for their targets, as their [Install] section says, and templates for the instance `one`.
 enable_timers() {
   local path name target
   while IFS= read -r path; do
@@ -31,7 +32,8 @@ enable_timers() {
   done < <(shipped_timers others && shipped_timers templates)
 }
 
-# Tells which of the paths of standard input agenda-machine neither lists, in the file $1, nor says to have left out, in the file $2.
+# Complains about paths of standard input that agenda-machine neither lists, in the file $1, nor reports as
+# skipped, in the file $2.
 tell_unnamed() {
   local path
   while IFS= read -r path; do
@@ -39,7 +41,7 @@ tell_unnamed() {
   done
 }
 
-# Compares what agenda-machine finds of the packages with their files.
+# Compares what agenda-machine finds with the files of the packages.
 compare_machine() {
   local machine=$work/machine path wishes templates
   unpack_machine
@@ -58,7 +60,7 @@ compare_machine() {
     shipped_timers others
   } | tell_unnamed "$work/all" "$work/all.left" >"$work/told"
   count "the files of the packages as one machine"
-  # what is wished for
+  # what is enabled
   while IFS= read -r path; do
     find "$machine"/{etc,lib,usr/lib}/systemd/system -path "*.target.wants/$(basename "${path/@./@one.}")" 2>/dev/null | grep -q . && echo "$path"
   done < <(shipped_timers others && shipped_timers templates) >"$work/wishes"
@@ -71,7 +73,7 @@ compare_machine() {
 $(sort -u "$work/all.left" "$work/wished.left" | wc -l) files are left out; a day has $planned starts"
 }
 
-# Has agenda plan the first day of the month of all of them.
+# Lets agenda plan the first day of the month of all of them.
 plan_machine() {
   "$work/machine.bin/agenda-machine" --root "$machine" --all plan --since "$since" --upto '+1 day' --limit 1000000 \
     >"$work/planned" 2>"$work/planned.told" </dev/null || tell "the plan of a day: status $?, $(grep -v 'left out' "$work/planned.told")"

@@ -1,21 +1,22 @@
-# Makes `count` roots of units for bin/lib/witness/roots.sh, by `seed`: an entry a line, of the root's number, a tab, what is made, a tab, its
-# path, a tab, and the text of a link:
+# Makes `count` roots with units for bin/lib/witness/roots.sh, from `seed`. There is one line per entry: the
+# root's number, the kind of the entry, its path, and the target of a link, separated by tabs. The kinds are:
 #
-#   file     a file of a setting that systemd refuses, and tells of
+#   file     a file with a setting that systemd rejects and reports
 #   target   a target's file
 #   empty    an empty file
-#   folder   a folder
+#   folder   a directory
 #   link     a link
 #
-# Links to files lead to them from their own folder, since systemd follows a link that begins with `/` out of the root here.
+# Links to files are relative to their own directory, because systemd follows a link that begins with `/` out
+# of the root here.
 
-# A number from 0 on and below n.
+# Returns a number from 0 up to n, excluded.
 function any(n) {
   state = (state * 16807) % 2147483647
   return int(state / 2147483647 * n)
 }
 
-# Whether it comes in so many of a hundred times.
+# Returns 1 in so many of a hundred cases.
 function comes(times) { return any(100) < times }
 
 function make(kind, path, text) {
@@ -24,12 +25,12 @@ function make(kind, path, text) {
   print number "\t" kind "\t" path "\t" text
 }
 
-# The text of a link in the folder of units or of one below it, $1, to a file of the root's opt.
+# Returns the target of a link from a unit directory or one below it, $1, to a file of the root's opt.
 function elsewhere(folder, name, pieces) {
   return substr("../../../../../../../", 1, 3 * split(folder, pieces, "/")) "opt/" name
 }
 
-# A file of the unit $2 in the folder $1, or what stands in place of one.
+# Makes a file of the unit $2 in the directory $1, or something instead of it.
 function make_unit(folder, name, other) {
   other = any(100)
   if (other < 58) make("file", folder "/" name)
@@ -42,15 +43,16 @@ function make_unit(folder, name, other) {
   else make("folder", folder "/" name)
 }
 
-# Whether the path of the unit $1 below /lib has a file or nothing, and keeps it so. A link by that path may wish for the unit then: what
-# systemd, which follows it out of the root here, sees at its end is no mask either.
+# Tests whether the path of the unit $1 below /lib has a file or nothing, and keeps it so. Then a link to that
+# path may enable the unit: systemd follows it out of the root here, and what it finds there isn't a mask
+# either.
 function is_no_mask(name, path) {
   path = folders[4] "/" name
   if (!((number, path) in made)) made[number, path] = "nothing"
   return made[number, path] == "file" || made[number, path] == "nothing"
 }
 
-# A wish for the unit $1, or what stands in place of one.
+# Makes an enablement link for the unit $1, or something instead of it.
 function make_wish(name, folder, other, text) {
   folder = folders[1 + any(5)] "/" targets[1 + any(2)] ".target." (comes(75) ? "wants" : "requires")
   if ((number, folder) in made) return
@@ -63,7 +65,7 @@ function make_wish(name, folder, other, text) {
   else make("file", folder "/" name)
 }
 
-# A drop-in in the folder $1, or what stands in place of one.
+# Makes a drop-in in the directory $1, or something instead of it.
 function make_drop_in(folder, path, other) {
   path = folder "/" drop_ins[1 + any(n_drop_ins)]
   other = any(100)
@@ -76,7 +78,7 @@ function make_drop_in(folder, path, other) {
   else make("folder", path)
 }
 
-# The units of a root: a timer or an instance, in some of the folders, and the wishes for it.
+# Makes the units of a root: a timer or an instance, in some of the directories, and its enablement links.
 function make_timer(name, at) {
   for (at = any(3); at >= 0; at--) {
     if (name !~ /@/) make_unit(folders[1 + any(5)], name)
@@ -86,7 +88,8 @@ function make_timer(name, at) {
   for (at = any(4); at >= 0; at--) make_wish(name)
 }
 
-# The targets that wish, the files to which links lead, and a link of another name to a timer, which is wished for itself too.
+# Makes the targets, the files to which links lead, and a link with another name to a timer, which is enabled
+# itself too.
 function make_common(name) {
   folders[4] = folders[5]
   make("target", "usr/lib/systemd/system/x.target")
@@ -109,7 +112,7 @@ function make_common(name) {
   if (comes(10)) make_wish("t@i\\x2dj.timer")
 }
 
-# A folder of drop-ins or of wishes that is a link.
+# Makes a link to a directory of drop-ins or of enablement links.
 function make_linked(folder) {
   folder = folders[1 + any(5)]
   if (comes(70)) make("link", folder "/" owners[1 + any(n_owners)] ".d", elsewhere(folder, "folder"))
@@ -128,7 +131,7 @@ BEGIN {
   n_drop_ins = split("a.conf b.conf B.conf 10.conf 9.conf _.conf -.conf .x.conf x.confx", drop_ins, " ")
   for (number = 1; number <= count; number++) {
     make_common()
-    # some roots have one folder below /lib and /usr/lib
+    # in some roots, /lib and /usr/lib are the same directory
     merged = comes(12)
     if (merged) make("link", "lib", "usr/lib")
     folders[4] = merged ? folders[5] : "lib/systemd/system"
@@ -136,7 +139,7 @@ BEGIN {
     for (at = 3 + any(6); at > 0; at--) {
       chosen = timers[1 + any(n_timers)]
       make_timer(chosen ".timer")
-      # drop-ins of names that are like its own
+      # drop-ins with names that are similar to the timer's
       stem = substr(chosen, 1, 1)
       for (more = any(7); more > 0; more--) {
         owner = owners[1 + any(n_owners)]

@@ -1,12 +1,13 @@
 # shellcheck shell=bash disable=SC2154
 # Compares what agenda-machine finds below made roots with what systemd loads below them. bin/witness sources this file.
 #
-# systemd needs not run for it: `systemd-analyze verify` loads what a target wishes for. Each file of a made root has an event that is
-# refused, so that the log names each file that is read, in order, and the text with its specifiers written out.
+# systemd needn't run for it: `systemd-analyze verify` loads what a target enables. Each file of a made root
+# has an event that is rejected, so that the log names each file that is read, in order, and the text with its
+# specifiers expanded.
 
 roots=100
 
-# Makes those roots of standard input, which roots.awk writes, whose number has the rest $1 by the number $2.
+# Makes the roots of standard input, which roots.awk writes, whose number has the remainder $1 when divided by $2.
 make_roots() {
   local number kind path text
   while IFS=$'\t' read -r number kind path text; do
@@ -25,10 +26,10 @@ make_roots() {
   done
 }
 
-# What systemd loads below the root $1, in the file $1.loaded: of each timer its name and the files that are read; in $1.written the texts of
-# instances; and in $1.masked the names that are masked. Drop-ins of a timer that isn't there are read too, so that the files of one are
-# those whose text has its name, before the line that says that it is read. The file of a timer that has a link of another name may have
-# that name.
+# Lists what systemd loads below the root $1: in the file $1.loaded, the name of each timer and the files that
+# are read; in $1.written, the texts of instances; and in $1.masked, the names that are masked. Drop-ins of a
+# timer that doesn't exist are read too. So the files of a timer are those whose text has its name, before the
+# line that says that the timer is read. The file of a timer with a link of another name may have that name.
 ask_systemd_of() {
   systemd-analyze --root="$1" verify {x,y,z}.target 2>&1 </dev/null | awk -v root="$1/" -v written="$1.written" '
     at = index($0, ": Failed to parse calendar specification, ignoring: ") {
@@ -51,19 +52,20 @@ ask_systemd_of() {
     awk '$2 ~ /^(masked|masked-runtime|bad)$/ { print $1 }' >"$1.masked"
 }
 
-# What agenda-machine finds below the root $1, as ask_systemd_of tells it; what it leaves out is in $1.left.
+# Lists what agenda-machine finds below the root $1, in the same form as ask_systemd_of. What it skips is in $1.left.
 ask_machine_of() {
   "$work/roots.bin/agenda-machine" --root "$1" sources 2>"$1.left" </dev/null | awk -F '\t' -v root="$1/" '
     { path = substr($3, length(root) + 1) }
     $1 == "timer" { if (line != "") print line; line = $2 " " path }
     $1 == "drop-in" { line = line " " path }
     END { if (line != "") print line }' | sort >"$1.found"
-  # the program that is beside the script here prints the texts that no specifier is left in
+  # the program next to the script prints the texts without unexpanded specifiers
   "$work/roots.bin/agenda-machine" --root "$1" check 2>/dev/null </dev/null | sort >"$1.texts"
 }
 
-# Takes from what systemd loads below the root $1 what agenda-machine leaves out by a rule of its own, and says so: templates, of which
-# systemd makes an instance by the target's name, escapes, and names that are given to another.
+# Removes from what systemd loads below the root $1 what agenda-machine skips and reports by its own rules:
+# templates, of which systemd makes an instance with the target's name; escapes; and names that are already
+# used.
 drop_known() {
   awk -v left="$1.left" '
     BEGIN {
@@ -83,8 +85,8 @@ drop_known() {
     { gsub(/@/, "-", $1); print }' "$1.loaded" | sort
 }
 
-# Tells how the two differ of the root $1. Where /lib is a link to /usr/lib, a path may be told by either. Where systemctl says that a name
-# is bad, a folder of it stands before the mask.
+# Prints how the two differ for the root $1. If /lib is a link to /usr/lib, a path may be shown in either
+# form. If systemctl says that a name is bad, a directory with the name comes before the mask.
 compare_root() {
   local path
   [ ! -L "$1/lib" ] || sed -i 's, lib/, usr/lib/,g' "$1.loaded" "$1.found"
@@ -96,7 +98,7 @@ compare_root() {
   sort -u "$1.texts" | comm -13 <(sort -u "$1.written") - | sed 's/^/other text: /'
 }
 
-# Makes and compares the roots whose number has the rest $1 by the number $2.
+# Makes and compares the roots whose number has the remainder $1 when divided by $2.
 compare_share() {
   local number root
   make_roots "$1" "$2" <"$work/roots.list"
@@ -109,7 +111,7 @@ compare_share() {
   done
 }
 
-# A copy of agenda-machine beside a program that prints the events of the timers that it is given, where no specifier is left in them.
+# Copies agenda-machine, next to a program that prints the events of its timers that have no unexpanded specifiers.
 make_machine() {
   mkdir -p "$work/roots.bin/lib" || return
   cp -R -- "$top/bin/lib/machine" "$work/roots.bin/lib/" && cp -- "$top/bin/agenda-machine" "$work/roots.bin/" || return

@@ -1,5 +1,5 @@
-# Makes texts that are shorter than that of each line: without a run of characters that begins and ends at a mark, or with a `*` for it,
-# and without one character. The longest runs come first.
+# Prints shorter forms of each line: without a run of characters between two marks, or with a `*` instead of
+# it, and without one character. The forms without the longest runs come first.
 function is_edge(at) { return at == 0 || at == length($0) || substr($0, at, 1) ~ mark || substr($0, at + 1, 1) ~ mark }
 
 BEGIN { mark = "[^0-9A-Za-z]" }

@@ -1,5 +1,6 @@
-# Makes an answer a line of what `systemd-analyze calendar` prints of several events: an empty line stands between two of them, and an
-# event that is refused has no other. What has no next start and no `never` is given up.
+# Prints one answer per line from the output of `systemd-analyze calendar` for several events. An empty line
+# separates two events. An event that is rejected has no other line. An event with neither a next start nor
+# `never` was given up.
 function finish() {
   print !seen ? "refused" : count ? "" : never ? "none" : "given up"
   seen = never = count = 0

@@ -1,7 +1,7 @@
-# Makes `count` texts of the form `form`, which is cron or calendar, a line each: such as docs/FORMATS.md has them, and every other of them
-# bent. Years lie about `year`. The same `seed` makes the same texts.
+# Makes `count` texts of the form `form`, cron or calendar, one per line. They have the form of
+# docs/FORMATS.md, and every second one is bent. Years are near `year`. The same `seed` makes the same texts.
 
-# A number from 0 on and below n.
+# Returns a number from 0 up to n, excluded.
 function roll(n) {
   state = (state * 16807) % 2147483647
   return int(state / 2147483647 * n)
@@ -9,13 +9,13 @@ function roll(n) {
 
 function one_in(n) { return roll(n) == 0 }
 
-# One of the words of a list.
+# Returns one of the words of a list.
 function pick(list, words, n) {
   n = split(list, words, " ")
   return words[1 + roll(n)]
 }
 
-# A number from lo to hi, the ends more often than others, sometimes with a zero in front.
+# Returns a number from lo to hi. The ends are more frequent, and some numbers have a leading zero.
 function number(lo, hi, value) {
   value = lo + roll(hi - lo + 1)
   if (one_in(6)) value = lo
@@ -30,7 +30,7 @@ function cased(name) {
 
 function step(lo, hi) { return one_in(5) ? 1 + roll(99) : 1 + roll(int((hi - lo) / 2) + 1) }
 
-# Two values of a range, of which the first isn't the greater, but for one in `backwards`.
+# Sets the two ends of a range. The first is at most the second, except in one of `backwards` cases.
 function range(lo, hi, mark, backwards, a, b, swap) {
   a = number(lo, hi)
   b = number(lo, hi)
@@ -120,7 +120,7 @@ function event_text(text, kind) {
   return text (one_in(8) ? " " pick("UTC utc Utc") : "")
 }
 
-# Puts something else in the place of a run of characters that match `class`, one of those in the text.
+# Replaces one of the runs of characters that match `class` in the text.
 function replace_run(text, class, put, runs, at, begins, ends) {
   for (at = 1; at <= length(text); at++) {
     if (substr(text, at, 1) !~ class) continue

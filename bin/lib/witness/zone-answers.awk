@@ -1,5 +1,6 @@
-# Makes an answer a line of what `systemd-analyze calendar` prints in a zone of `count` events, its errors included: the starts in UTC;
-# `none`; `loop` where systemd gives up an infinite loop; or `nothing`. In UTC itself a start has no line for UTC.
+# Prints one answer per line from the output of `systemd-analyze calendar` in a zone for `count` events,
+# including its errors: the starts in UTC; `none`; `loop` if systemd gives up an infinite loop; or `nothing`.
+# In the zone UTC a start has no extra line for UTC.
 function finish() {
   for (at = 1; at <= starts; at++) line = line (at > 1 ? " " : "") start[at]
   answers[++number] = starts ? line : never ? "none" : "nothing"
@@ -13,7 +14,7 @@ function finish() {
 /^ *[(]in UTC[)]: / { start[starts] = $(NF - 2) "T" $(NF - 1) "Z" }
 END {
   finish()
-  # each event that has no lines must be one of an infinite loop
+  # each event without lines must be one with an infinite loop
   for (at = 1; at <= count; at++) missing += answers[at] == "nothing" || !(at in answers)
   for (at = 1; at <= count; at++) print at in answers ? answers[at] == "nothing" && missing == loops ? "loop" : answers[at] : "nothing"
 }

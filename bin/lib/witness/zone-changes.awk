@@ -1,5 +1,5 @@
-# Makes a line of each change of a clock that zdump -V prints: the zone, its first second, the offsets before and after it, and the flags
-# of daylight saving time before and after it, with tabs between.
+# Prints a line for each clock change in the output of zdump -V: the zone, the first second of the change, the
+# offsets before and after it, and the flags of daylight saving time before and after it, separated by tabs.
 / isdst=[01] gmtoff=-?[0-9]+$/ {
   second = second_of($6, (index("JanFebMarAprMayJunJulAugSepOctNovDec", $3) + 2) / 3, $4, $5)
   flag = substr($(NF - 1), 7)

@@ -1,6 +1,6 @@
-# What the awk programs for zones share: seconds since 1970 and their fields.
+# Functions for the awk programs about zones: seconds since 1970 and their fields.
 
-# Returns the second of a date and a time of the day, which is written HH:MM:SS.
+# Returns the second of a date and a time of day in the form HH:MM:SS.
 function second_of(year, month, day, time, parts) {
   # years that begin in March
   if (month < 3) year--
@@ -9,7 +9,7 @@ function second_of(year, month, day, time, parts) {
   return day * 86400 + parts[1] * 3600 + parts[2] * 60 + parts[3]
 }
 
-# Returns the second of a time that is written as agenda does.
+# Returns the second of a time in agenda's form.
 function read_time(text) { return second_of(substr(text, 1, 4) + 0, substr(text, 6, 2) + 0, substr(text, 9, 2) + 0, substr(text, 12, 8)) }
 
 # Sets year, month, day, weekday (0 is Monday), hour and minute to those of a second.
@@ -29,7 +29,7 @@ function set_fields(second, days, era) {
   year += era * 400 + (month < 3)
 }
 
-# Returns a second as agenda writes it.
+# Returns a second in agenda's form.
 function write_time(second) {
   set_fields(second)
   return sprintf("%04d-%02d-%02dT%02d:%02d:%02dZ", year, month, day, hour, minute, second % 60)

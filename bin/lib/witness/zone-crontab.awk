@@ -1,10 +1,11 @@
-# Compares the starts of a crontab by cron's daemon and by agenda. With file=1 it reads the crontab, in which the command of each rule is
-# its number; with file=2 what cron-clock prints; with file=3 what `agenda plan` prints. The clock is put forward at the time `gap`. A line
-# for each rule has the number of its starts and a verdict:
+# Compares the starts of a crontab by cron's daemon and by agenda. With file=1 it reads the crontab, in which
+# the command of each rule is its number; with file=2 the output of cron-clock; with file=3 that of `agenda
+# plan`. The clock is put forward at the time `gap`. The line for each rule has the number of its starts and a
+# verdict:
 #
 #   same                     both start it at the same times
-#   several skipped minutes  so they do, but cron starts it several times when the clock is put forward
-#   unknown                  the starts differ; what differs first follows
+#   several skipped minutes  the same, but cron starts it several times when the clock is put forward
+#   unknown                  the starts differ; the first difference follows
 BEGIN { FS = "\t" }
 
 file == 1 {

@@ -1,6 +1,6 @@
-# Compares agenda's answers about events in zones with those of systemd, in three stages. The directory `zones` has the files `changes`,
-# as zone-changes.awk writes them, `events`, whose lines have a zone, a time and an event, and the answers, a line each, in `agenda` and in
-# `systemd`.
+# Compares agenda's answers about events in zones with those of systemd, in three stages. The directory
+# `zones` has the files `changes`, in the form of zone-changes.awk, `events`, whose lines have a zone, a time
+# and an event, and the answers, one per line, in `agenda` and in `systemd`.
 #
 #   stage=1  The first difference of each chain goes to `differences`. If systemd gives up an infinite loop, it doesn't say at which
 #            start: then each start is to be asked for alone, after the start before it; that is written to `steps`.
@@ -39,7 +39,7 @@ function offset_at(zone, second, at) {
   return at ? after[zone, at] : before[zone, 1]
 }
 
-# Returns the first second that isn't repeated in the part of time that begins with a change.
+# Returns the first second after a change whose local time isn't a repetition.
 function first_new(zone, at) {
   if (!at) return 0
   return change_at[zone, at] + (after[zone, at] < before[zone, at] ? before[zone, at] - after[zone, at] : 0)
@@ -62,12 +62,13 @@ function next_line(file, line) {
   return line
 }
 
-# Writes a difference to be judged: of a chain, after a time, with what agenda and systemd say.
+# Writes a difference to be judged: the chain, the time after which was asked, and the answers of agenda and systemd.
 function write_difference(chain, zone, from, text, agenda, systemd) {
   print chain "\t" zone "\t" from "\t" text "\t" agenda "\t" systemd >(zones "/differences")
 }
 
-# Writes how a chain differs: its first difference or, if systemd has no answer to the whole, each of its steps, which are to be asked for.
+# Writes how a chain differs: its first difference or, if systemd has no answer to the whole, each of its
+# steps, which are asked about separately.
 function write_differences(chain, line, agenda, systemd, parts, ours, theirs, n, at, from) {
   split(line, parts, "\t")
   n = split(agenda, ours, " ")
@@ -114,7 +115,8 @@ function next_difference(line, parts) {
   return 1
 }
 
-# Writes the questions about the difference: up to agenda's start or, if agenda has none, up to systemd's and what it repeats.
+# Writes the questions about the difference: up to agenda's start or, if agenda has none, up to systemd's
+# start and what it repeats.
 function write_questions(end, at, second, upto) {
   second = read_time(from) + 1
   end = agenda != "none" ? read_time(agenda) : systemd ~ /^[0-9]/ ? read_time(systemd) : second
@@ -138,7 +140,7 @@ function write_all_questions() {
   while (next_difference()) if (agenda != systemd) write_questions()
 }
 
-# Reads what systemd says in UTC: `follows` of a difference is 1 if agenda's start follows from it.
+# Reads systemd's answers in UTC. `follows` of a difference is 1 if agenda's start follows from them.
 function read_questions(line, parts, answer) {
   while ((getline line <(zones "/questions.of")) > 0) {
     answer = next_line("questions.systemd")
@@ -149,7 +151,7 @@ function read_questions(line, parts, answer) {
   }
 }
 
-# Whether the number is one of the hours of an event's time.
+# Tests whether the number is one of the hours of an event's time.
 function has_hour(hours, number, elements, n, at, ends, slash, step) {
   n = split(hours, elements, ",")
   for (at = 1; at <= n; at++) {
@@ -163,22 +165,23 @@ function has_hour(hours, number, elements, n, at, ends, slash, step) {
   return 0
 }
 
-# Returns what an event has for hours.
+# Returns the hours of an event.
 function hours_of(text, words, n, at) {
   n = split(text, words, " ")
   for (at = 1; at <= n; at++) if (words[at] ~ /:/) return substr(words[at], 1, index(words[at], ":") - 1)
   return text ~ /^(minutely|hourly)$/ ? "*" : 0
 }
 
-# Whether an hour of the clock that a gap leaves out, in whole or in part, is one of the hours.
+# Tests whether an hour of the clock that a gap skips, fully or in part, is one of the hours.
 function gap_has_hour(at, hours, second) {
   for (second = change_at[zone, at] + before[zone, at]; second < change_at[zone, at] + after[zone, at]; second += 3600 - second % 3600)
     if (has_hour(hours, int(second % 86400 / 3600))) return 1
   return 0
 }
 
-# Whether the hours are a step without an end that systemd runs on past midnight, to an hour in or after the gap: `2/4` has 26, which is
-# 02:00 of the next day. The difference must be asked for on a day before that of the gap.
+# Tests whether the hours are a step without an end that systemd continues past midnight, to an hour in or
+# after the gap: `2/4` has 26, which is 02:00 of the next day. The difference must be asked about on a day
+# before the gap's.
 function runs_past(at, hours, parts, begin) {
   if (hours !~ /^[0-9]+[/][0-9]+$/) return 0
   split(hours, parts, "/")
@@ -188,17 +191,17 @@ function runs_past(at, hours, parts, begin) {
   return int((read_time(from) + offset_at(zone, read_time(from))) / 86400) < int(begin / 86400)
 }
 
-# Whether the clock shows at the second what it shows twice because of the change.
+# Tests whether the clock shows at the second a time that it shows twice because of the change.
 function is_in_fold(at, second, shown) {
   shown = second + offset_at(zone, second)
   return shown >= change_at[zone, at] + after[zone, at] && shown < change_at[zone, at] + before[zone, at]
 }
 
-# Returns the kind of the difference, if it is one of a gap, or nothing.
+# Returns the kind of the difference if it is caused by a gap, or nothing.
 function kind_of_gap(at, hours, moves_far, kind) {
   if (change_at[zone, at] <= read_time(from)) return ""
   hours = hours_of(text)
-  # the C library then moves a time in the gap by more than to the next hour
+  # then the C library moves a time in the gap further than to the next hour
   moves_far = drops_flag[zone, at] || after[zone, at] - before[zone, at] > 3600
   if (systemd == "loop" && runs_past(at, hours)) kind = "steps of hours and a gap"
   else if (hours ~ /[,.\/]/ && gap_has_hour(at, hours) && moves_far) kind = "lists of hours and a gap"
@@ -207,7 +210,7 @@ function kind_of_gap(at, hours, moves_far, kind) {
   return kind
 }
 
-# Returns the kind of the difference, if it is one of a fold, or nothing.
+# Returns the kind of the difference if it is caused by a fold, or nothing.
 function kind_of_fold(at, start, asked, kind) {
   if (systemd !~ /^[0-9]/) return ""
   start = read_time(systemd)
@@ -219,7 +222,8 @@ function kind_of_fold(at, start, asked, kind) {
   return kind
 }
 
-# Returns the kind of the difference, or `unknown`. The change behind it is the last one before the time asked, or one up to the later start.
+# Returns the kind of the difference, or `unknown`. Its cause is the last change before the time asked about,
+# or one up to the later start.
 function kind_of(end, at, kind) {
   end = systemd !~ /^[0-9]/ || agenda != "none" && agenda > systemd ? agenda : systemd
   end = read_time(end == "none" ? from : end)
@@ -231,7 +235,7 @@ function kind_of(end, at, kind) {
   return "unknown"
 }
 
-# Prints a verdict for each chain, with the difference; the first of a chain decides.
+# Prints a verdict for each chain, with the difference. The first difference of a chain decides.
 function print_verdicts(line, at, kinds, says) {
   read_questions()
   while (next_difference()) {

@@ -1,9 +1,12 @@
-# Makes events of systemd or rules of cron around changes of clocks. Standard input has the changes of some zones, as zone-changes.awk
-# writes them. Of those of one zone that have the same size, the same flags and the same time of the day one is chosen, before 2038: cron's
-# clock ends there. The same `seed` makes the same texts.
+# Makes events of systemd or rules of cron around clock changes.
 #
-# With form=calendar a line has a zone, the time after which to ask, and an event. With form=cron it has a zone, the start and the end of
-# a span of time, the time at which the clock is put forward in it, or `never`, and a rule. There are tabs between, and times are in UTC.
+# Standard input has the changes of some zones, in the form of zone-changes.awk. Of the changes of a zone with
+# the same size, the same flags and the same time of day, one is chosen, before 2038, because cron's clock
+# ends there. The same `seed` makes the same texts.
+#
+# With form=calendar, a line has a zone, the time after which to ask, and an event. With form=cron, it has a
+# zone, the start and the end of a span, the time at which the clock is put forward in it, or `never`, and a
+# rule. The parts are separated by tabs, and times are in UTC.
 
 # Returns a number from 0 up to n, excluded.
 function roll(n) {
@@ -13,13 +16,13 @@ function roll(n) {
 
 function one_in(n) { return roll(n) == 0 }
 
-# Returns one part of a list, whose parts have blanks or `mark` between.
+# Returns one part of a list, whose parts are separated by blanks or by `mark`.
 function pick(list, mark, words, n) {
   n = split(list, words, mark == "" ? " " : mark)
   return words[1 + roll(n)]
 }
 
-# Sets the fields to those of a local time within the change or close to it.
+# Sets the fields to those of a local time in the change or close to it.
 function choose_local(low, high, local, kind) {
   low = second + (before < after ? before : after)
   high = second + (before < after ? after : before)
@@ -60,7 +63,7 @@ function event_minutes(fine) {
 
 function event_seconds() { return one_in(12) ? ":" pick("30 0/20 59 0,30") : "" }
 
-# Returns an event: those that are fine have several starts an hour.
+# Returns an event. Fine events have several starts an hour.
 function event_text(fine, text) {
   choose_local()
   if (one_in(12)) return fine ? pick("minutely hourly") : pick("hourly daily weekly monthly")

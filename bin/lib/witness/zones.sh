@@ -1,6 +1,6 @@
 # shellcheck shell=bash disable=SC2154
-# Compares starts around changes of clocks: of events with those of systemd-analyze, of crontabs with those of cron's own daemon, which
-# runs on a clock that is simulated. bin/witness sources this file.
+# Compares starts around clock changes: of events with those of systemd-analyze, and of crontabs with those of
+# cron's own daemon, which runs on a simulated clock. bin/witness sources this file.
 
 zones=(
   # zones with plain summer time, then those whose changes have odd sizes, odd hours or odd flags
@@ -12,14 +12,15 @@ zones=(
   Australia/Lord_Howe Europe/Dublin Europe/Istanbul Europe/Lisbon Europe/Moscow Pacific/Apia Pacific/Chatham Pacific/Fiji
   Pacific/Kiritimati Pacific/Kwajalein Pacific/Norfolk
 )
-# systemd-analyze prints no times in UTC for this one, since it has no summer time and was last on UTC
+# systemd-analyze prints no times in UTC for this zone, because it has no summer time and was last on UTC
 zones_of_cron=(Africa/Sao_Tome)
-# how many events are asked for at each of four times around a change, and how many rules
+# the number of events for each of four times around a change, and the number of rules
 zone_events=6
 zone_rules=24
 
-# Runs the function $1 on shares of the lines of the file $2 at the same time, and prints what all print, in order. What systemd says of a
-# text can depend on those before it, so the number of the shares doesn't depend on the machine.
+# Runs the function $1 on shares of the lines of the file $2 in parallel, and prints all output in order.
+# systemd's answer to a text can depend on the texts before it, so the number of shares doesn't depend on the
+# machine.
 in_shares() {
   local shares=4 share
   local -a children=()
@@ -31,7 +32,8 @@ in_shares() {
   for ((share = 1; share <= shares; share++)); do cat "$2.share.$share"; done
 }
 
-# Asks agenda for $asked starts of each event of standard input, whose lines have a zone, a time and an event: an answer a line.
+# Asks agenda for $asked starts of each event of standard input. The lines have a zone, a time and an event.
+# Prints one answer per line.
 agenda_in_zones() {
   local zone after text
   ulimit -t 60
@@ -43,7 +45,8 @@ agenda_in_zones() {
     { print ($2 == 0 ? answer : "status " $2 ": " answer); answer = "" }'
 }
 
-# Asks systemd for $asked starts of each event of standard input, whose lines have a zone, a time and an event: an answer a line.
+# Asks systemd for $asked starts of each event of standard input. The lines have a zone, a time and an event.
+# Prints one answer per line.
 systemd_in_zones() {
   local zone after text last_zone='' last_after=''
   local -a texts=()
@@ -57,7 +60,7 @@ systemd_in_zones() {
   ask_systemd_in "$last_zone" "$last_after" "${texts[@]}"
 }
 
-# Asks systemd in the zone $1 for $asked starts after $2 of each event from $3 on: an answer a line.
+# Asks systemd in the zone $1 for $asked starts after $2 of each event from $3 on. Prints one answer per line.
 ask_systemd_in() {
   local zone=$1 after="${2:0:10} ${2:11:8} UTC"
   shift 2
@@ -65,8 +68,9 @@ ask_systemd_in() {
     awk -f "$parts/zone-answers.awk" -v count=$#
 }
 
-# Compares agenda with cron's daemon on the rules of standard input, a line each as zone-texts.awk writes them. Those of one zone and span
-# are one crontab. A line for each rule has the verdict of zone-crontab.awk.
+# Compares agenda with cron's daemon on the rules of standard input, one per line in the form of
+# zone-texts.awk. The rules of one zone and span are one crontab. The line for each rule has the verdict of
+# zone-crontab.awk.
 crontabs_in_zones() {
   local zone since upto gap rule table at=0
   local -a last=()
@@ -83,8 +87,8 @@ crontabs_in_zones() {
   [ $at = 0 ] || compare_crontab_in "$table" "${last[@]}"
 }
 
-# Compares agenda with cron's daemon on the file `crontab` of the directory $1, in the zone $2, from $3 on up to $4, where the clock is put
-# forward at $5.
+# Compares agenda with cron's daemon on the file `crontab` of the directory $1, in the zone $2, from $3 to $4.
+# The clock is put forward at $5.
 compare_crontab_in() {
   local status
   TZ=$2 "$work/cron-clock" "$3" "$4" "$1/crontab" >"$1/daemon" 2>/dev/null </dev/null
@@ -113,8 +117,8 @@ judge_zones() {
   awk -f "$parts/zone-clock.awk" -f "$parts/zone-judge.awk" -v zones="$work/zones" -v stage="$1" </dev/null
 }
 
-# Counts the verdicts of standard input, which are about the $3 $1, and prints a table below the line $2. After a verdict that is unknown,
-# and a tab, follows what is wrong.
+# Counts the verdicts of standard input, which are about the $3 $1, and prints a table below the line $2. An
+# unknown verdict is followed by a tab and what is wrong.
 count_verdicts() {
   local verdicts=$work/zones/all line known unknown
   cat >"$verdicts"
@@ -135,7 +139,8 @@ count_verdicts() {
   [ "$unknown" -le "$most_shown" ] || failed=$((failed + unknown - most_shown))
 }
 
-# Prints the events that docs/DIFFERENCES.md has as examples around changes of the clock, a line each as zone-texts.awk writes them.
+# Prints the events that docs/DIFFERENCES.md has as examples around clock changes, one per line in the form of
+# zone-texts.awk.
 list_examples() {
   awk '
     /^## / { inside = $0 == "## Changes of the clock" }
@@ -145,7 +150,8 @@ list_examples() {
     }' "$top/docs/DIFFERENCES.md"
 }
 
-# Says how many texts of the kind $2 the file $1 has, around how many changes and in how many zones; $3 are for each change.
+# Prints how many texts of the kind $2 are in the file $1, around how many changes and in how many zones.
+# There are $3 texts for each change.
 say_texts() {
   awk -F '\t' -v kind="$2" -v each="$3" '
     { zones[$1] }
@@ -178,7 +184,7 @@ compare_zone_events() {
 $(systemd-analyze --version | head -n 1)" "$(wc -l <"$directory/events")" <"$directory/verdicts"
 }
 
-# Compares crontabs in zones, with the cron that $1 names.
+# Compares crontabs in zones, with the cron version $1.
 compare_zone_crontabs() {
   local directory=$work/zones
   if ! list_changes "$directory" "${zones[@]}" "${zones_of_cron[@]}"; then

@@ -1,4 +1,4 @@
-//! The program `agenda`: when jobs start, and what a mailbox replies, from the words of the command line.
+//! The program `agenda`: shows when jobs start, and what a mailbox replies, as its arguments request.
 #![tactic(auto)]
 
 use agenda_answers::{Files, OpenFile, answer, answer_words, unread_words};
@@ -14,7 +14,7 @@ mod tests;
 #[derive(Drop)]
 struct HostFiles<'a>(&'a HostRuntime);
 
-// A file of the machine.
+// An open file of the machine.
 #[derive(Drop)]
 struct HostFile(File);
 
@@ -59,7 +59,7 @@ fn main(rt: HostRuntime) -> ExitCode {
     ExitCode::from(status)
 }
 
-// The words of the command line.
+// Returns the arguments of the command line, with the program's name first.
 fn given_words(rt: &HostRuntime) -> io::Result<Vec<String>> {
     let words = env::args(rt)?.collect(rt.alloc())?;
     Ok(words)

@@ -1,6 +1,7 @@
 -- What the program answers, from what its parts answer: for `answer_plan`, and for each arm of `answer`.
--- `Answers` has two sides: what was asked was done with status 0, or a failure has its status and its line. Which it is
--- comes from the case of `done`. Refused words are a failure by themselves, and standard output stays.
+-- `Answers` has two cases: the request succeeded with status 0, or a failure has its status and its line. The
+-- case of `done` decides which it is. Rejected arguments are a failure by themselves, and standard output
+-- doesn't change.
 use Rattle.std.proofs.Common.{◌≡◌, ℕ, Bool, List, [], Option, Result, Ok, Err, OnOk, IfErr, inl, inr, refl, subst, sym}
 use Rattle.std.specs.Io.KnownBytes.{Keeps}
 use Rattle.plan_streams.specs.Stream.{PutsOrBreaksOff}
@@ -19,7 +20,7 @@ use Rattle.agenda_faults.specs.Faults.{status_of}
 use Rattle.agenda_commands.specs.Command.{Fails, Writes}
 use Rattle.agenda_answers.specs.Answer.{Answers, MayPrint, Prints, Refuses, Stops, Stream, sources_of}
 
--- what a command wrote before its failure, by texts that lead to others
+-- what a command wrote before its failure, if each of its texts is one of the other texts too
 stops_as :
     (takes_all : Bool) (P Q : List ℕ → Type 0) (R : Failure → Type 0) (failure : Failure) (old new : Option (List ℕ)) →
     ((text : List ℕ) → P text → Q text) → Stops takes_all P R failure old new → Stops takes_all Q R failure old new
@@ -41,12 +42,12 @@ stops_as takes_all P Q R (Span fault) old new leads stops = stops
 stops_as takes_all P Q R (Zone fault) old new leads stops = stops
 stops_as takes_all P Q R (File path) old new leads stops = stops
 
--- each text that a command wrote is one of these too
+-- each text that a command wrote is one of the other texts too
 pub writes_as :
     (P Q : List ℕ → Type 0) (old new : Option (List ℕ)) → ((text : List ℕ) → P text → Q text) → Writes P old new → Writes Q old new
 writes_as P Q old new leads (text, is, appends) = (text, leads text is, appends)
 
--- what was asked was done with status 0, or was not, and then its line was written
+-- the request succeeded with status 0, or it failed and its line was written
 pub command_answers :
     (held : Held) (asked : Result Ask UsageFault) (paths : List SourcePath) (status : ℕ) (out err : Stream)
     (Gives : List ℕ → Type 0) (done : Result (Unit {0}) Failure)
@@ -73,19 +74,19 @@ command_answers held asked paths status out err Gives (Err failure) leads does f
       text,
     )
 
--- words that are no use of the program
+-- invalid arguments
 pub usage_answers : (held : Held) (text : List ℕ) (status : ℕ) (takes_all : Bool) (kept : Option (List ℕ)) (err : Stream)
     → (status ≡ status_of (Usage text)) × PutsOrBreaksOff err.takes_all err.old err.new (fault_text [] (Usage text))
     → Answers held (Err (usage.Usage text)) status (record { takes_all = takes_all; old = kept; new = kept }) err
 usage_answers held text status takes_all kept err (is, line) = inr (Usage text, (refl, Keeps-refl kept), is, line)
 
--- no memory for the words
+-- no memory for the arguments
 pub memory_answers : (held : Held) (status : ℕ) (takes_all : Bool) (kept : Option (List ℕ)) (err : Stream)
     → (status ≡ status_of (Run run.NoMemory)) × PutsOrBreaksOff err.takes_all err.old err.new (fault_text [] (Run run.NoMemory))
     → Answers held (Err usage.NoMemory) status (record { takes_all = takes_all; old = kept; new = kept }) err
 memory_answers held status takes_all kept err (is, line) = inr (Run run.NoMemory, (refl, Keeps-refl kept), is, line)
 
--- what a command wrote before its fault, by texts and refusals that these lead to
+-- what a command wrote before its error, if its texts and errors are among the others
 pub fails_as :
     (takes_all : Bool) (P Q : List ℕ → Type 0) (R : RunFault → Type 0) (S : Failure → Type 0) (fault : RunFault)
     (old new : Option (List ℕ)) → ((text : List ℕ) → P text → Q text) → ((refused : RunFault) → R refused → S (Run refused)) →

@@ -1,5 +1,5 @@
--- What a check prints and when it fails, for `check` and `answer_check`. Whatever stopped it, its text has a status: that of the
--- verdict that the sources have.
+-- What a check prints and when it fails, for `check` and `answer_check`. Even if it was stopped, its text has
+-- a status: that of the verdict on the sources.
 use Rattle.std.proofs.Common.{◌≡◌, ℕ, List, Option, Ok, is_ok, inr, refl, subst}
 use Rattle.agenda_commands.specs.Check.{RefusesCheck, check_text, verdict_of}
 use Rattle.agenda_faults.specs.declared.faults.Failure.{Failure}
@@ -27,7 +27,7 @@ gives_check held named paths clock sources text has are is =
     let verdict = verdict_of (is_ok (sources_reading sources)) in
     (status_on verdict, (clock, sources, verdict, has, are, (is, refl), refl))
 
--- it is refused for want of memory alone
+-- it fails only if an allocation fails
 pub fails_check :
     (held : Held) (zone : Option (List ℕ)) (paths : List SourcePath) (fault : RunFault) → RefusesCheck fault →
     FailsCheck held zone paths (Run fault)

@@ -1,4 +1,4 @@
--- Failures before anything is written: of moments, of a span, of a zone and of files. Only that of standard output comes later.
+-- Failures before anything is written: of timestamps, a span, a zone and files. Only standard output can fail later.
 use Rattle.std.proofs.Common.{◌≡◌, Bool, List, ℕ, Option, None, Some, Result, Ok, Err, IfErr, inl, inr}
 use Rattle.std.specs.Result.{IsErrAnd}
 use Rattle.std.proofs.KnownBytes.{Keeps-refl}
@@ -14,7 +14,7 @@ use Rattle.agenda_answers.specs.Sources.{IsUnreadInput}
 use Rattle.agenda_answers.specs.Zone.{HasNoClock, RejectsFrom}
 use Rattle.agenda_answers.proofs.SourcesLemmas.{err_as}
 
--- every failure but that of the stream
+-- every failure except that of the stream
 abbrev pub IsEarly : Failure → Type 0
 IsEarly (Run run.Device) = ⊥
 IsEarly other = Unit {0}
@@ -26,7 +26,7 @@ pub stops_early :
 stops_early takes_all P R (Run run.Device) kept early is = absurd early
 stops_early takes_all P R other kept early is = (is, Keeps-refl kept)
 
--- the same of what was handed on
+-- the same for a failure that was passed on
 pub stopped_early :
     {A : Type 0} (result : Result A Failure) (failure : Failure) (takes_all : Bool) (P : List ℕ → Type 0) (R : Failure → Type 0)
     (kept : Option (List ℕ)) → IsErrAnd result (λ found. found ≡ failure) → IsEarly failure → R failure →

@@ -1,4 +1,4 @@
--- What is read of a file that is cut at a limit.
+-- What is read from a file that is cut at a limit.
 use Rattle.std.proofs.Common.{◌≡◌, ℕ, List, [], ◌++◌, take, Option, None, Some, IfSome, option_map, ap, subst, ◌∙◌}
 use Rattle.agenda_answers.specs.Files.{most_read, IsFrontOf}
 

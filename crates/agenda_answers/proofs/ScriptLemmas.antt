@@ -1,6 +1,7 @@
--- A script of which only the first bytes were read, one past the limit: it means what the whole file means.
--- For `done` and `failed` of `steps`. Up to the limit all was read. Past it both are too large, with `script_reading`
--- unfolded. The other lemmas lead what `run_script` says of the bytes that were read to a script that the file may be.
+-- A script of which only the first bytes were read, up to one more than the limit, means what the whole file means.
+-- For `done` and `failed` of `steps`. Up to the limit, all bytes were read. Past it both are too large, with
+-- `script_reading` unfolded. The other lemmas apply what `run_script` promises for the bytes that were read
+-- to a script that may be the whole file.
 use Rattle.std.proofs.Common.{◌≡◌, ℕ, ◌≤◌, ◌<◌, true, List, [], length, take, nat_lt, Option, None, Some, refl, sym, ap, subst, ◌∙◌, arith, take_all, length-take-le, ⊎_elim}
 use Rattle.std.proofs.lemmas.Bool.{lt-ltb, cases_lt}
 use Rattle.plan_texts.specs.declared.lines.TheConstants.{MOST_BYTES}
@@ -13,7 +14,7 @@ use Rattle.agenda_answers.specs.Answer.{FailsSteps, GivesSteps}
 use Rattle.agenda_answers.specs.Files.{Held, most_read, IsFrontOf, IsHeld}
 use Rattle.agenda_commands.specs.Script.{IsTextOfRun, RefusesRun}
 
--- more bytes than a script may have are too many, whatever they are
+-- a script with more bytes than the limit is too large, whatever its bytes are
 too_large : (bytes : List ℕ) → most_read ≤ length bytes → script_reading bytes ≡ fault_on 0 TooLarge
 unfolding script_reading
 too_large bytes more = let many : nat_lt MOST_BYTES (length bytes) ≡ true = lt-ltb _ _ (omega arith) in rw many refl
@@ -25,7 +26,7 @@ script_reading-take bytes =
     sym (too_large bytes more))
     (cases_lt (length bytes) most_read)
 
--- the whole file, where it is known, means what was read
+-- the whole file, if it is known, means what was read
 pub whole_script :
     (held : Option (List ℕ)) (bytes : List ℕ) → IsFrontOf held bytes →
     (script : List ℕ) × IsHeld held script × (script_reading script ≡ script_reading bytes)
@@ -37,7 +38,7 @@ pub some_script : (held : Option (List ℕ)) → (script : List ℕ) × IsHeld h
 some_script None = ([], tt)
 some_script (Some whole) = (whole, refl)
 
--- what a run prints depends on the script's meaning alone
+-- what a run prints depends only on the script's meaning
 text_whole :
     (bytes script text : List ℕ) → script_reading script ≡ script_reading bytes → IsTextOfRun bytes text → IsTextOfRun script text
 text_whole bytes script text same (meaning, replies, reads, many, turn, lawful, is) =
@@ -50,7 +51,7 @@ refusal_whole bytes script (run.Script fault) same reads = same ∙ reads
 refusal_whole bytes script run.NoMemory same refused = tt
 refusal_whole bytes script other same none = absurd none
 
--- the text of a run of the first bytes of a file, which were read, is one of its own
+-- the text of a run of a file's first bytes is a text of the file's run
 pub gives_steps :
     (held : Held) (file path bytes read text : List ℕ) → path ≡ file → IsFrontOf (held path).bytes bytes → read ≡ bytes →
     IsTextOfRun read text → GivesSteps held file text

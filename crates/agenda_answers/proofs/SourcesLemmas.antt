@@ -1,6 +1,7 @@
--- Sources that are read one after another: for the loop of `read_sources` and its `unread`.
--- `sources_more` puts a source behind the others, by induction over paths and sources with `AreSourcesOf` unfolded.
--- `unread_in` goes through all failures: `File` says something of a path, `NoMemory` nothing, and no other comes.
+-- Sources that are read one after another: for the loop of `read_sources` and its clause `unread`.
+-- `sources_more` appends a source to the others, by induction over paths and sources with `AreSourcesOf`
+-- unfolded. `unread_in` goes through all failures: `File` claims something about a path, `NoMemory` claims
+-- nothing, and there is no other.
 use Rattle.std.proofs.Common.{◌≡◌, ℕ, ◌+◌, ◌<◌, List, [], ◌∷◌, ◌++◌, length, take, get_or, Some, ap, sym, subst, ◌∙◌, Result, Ok, Err, IfErr}
 use Rattle.std.specs.Result.{IsErrAnd}
 use Rattle.std.proofs.lemmas.Option.{slice_get-get_or}
@@ -13,7 +14,7 @@ use Rattle.agenda_faults.specs.declared.faults.Failure.TheVariants.{File, Run}
 use Rattle.agenda_answers.specs.Files.{Held, IsUnsure}
 use Rattle.agenda_answers.specs.Sources.{AreSourcesOf, IsFailureOf, IsGiven, IsSourceOf, IsUnreadIn}
 
--- one source more
+-- one more source
 sources_more :
     (held : Held) (paths : List SourcePath) (sources : List Source) (given : SourcePath) (source : Source) →
     AreSourcesOf held paths sources → IsSourceOf held given source → AreSourcesOf held (paths ++ given ∷ []) (sources ++ source ∷ [])
@@ -36,7 +37,7 @@ pub sources_none : (held : Held) → AreSourcesOf held [] []
 unfolding AreSourcesOf
 sources_none held = tt
 
--- a path of some is one of more
+-- if the paths of P are among those of Q, so is the path of a failure
 pub unread_in :
     (P Q : List ℕ → Type 0) (failure : Failure) → ((path : List ℕ) → P path → Q path) → IsFailureOf P failure → IsFailureOf Q failure
 unread_in P Q (File path) more is = more path is
@@ -59,7 +60,7 @@ unread_path held path read failure is unsure unread =
     unread_in (λ p. p ≡ path) (λ p. (p ≡ path) × IsUnsure (held p)) failure
     (λ p same. (same, subst (λ q. IsUnsure (held q)) (is ∙ sym same) unsure)) unread
 
--- what is so of a failure is so where it was handed on
+-- what holds for an error holds for the result that passes it on
 pub err_as : {A E : Type 0} (result : Result A E) (e : E) (P : E → Type 0) → IsErrAnd result (λ x. x ≡ e) → P e → IfErr result P
 err_as (Ok x) e P is p = tt
 err_as (Err x) e P is p = subst P (sym is) p

@@ -1,4 +1,4 @@
--- What the program answers, by what was asked of it: its status, and what both streams then hold. All of it is own.
+-- What the program answers to a request: its exit status, and what both streams hold after it. All of it is our choice (agenda).
 use Rattle.std.specs.Prelude.{◌≡◌, ⊤, ℕ, ◌<◌, ◌≤◌, ◌⊎◌, Bool, List, [], codes, Option, Result, Ok, Err}
 use Rattle.std.specs.Io.KnownBytes.{Keeps}
 use Rattle.plan_clock.specs.declared.row.Change.{Change}
@@ -36,13 +36,13 @@ use Rattle.agenda_answers.specs.Sources.{AreSourcesOf, IsUnreadInput}
 use Rattle.agenda_answers.specs.Zone.{HasClock, HasNoClock}
 use Rattle.plan_streams.specs.Stream.{BreaksOff, PutsOrBreaksOff}
 
--- memory aside, the text of usage where a word of the command line isn't UTF-8
+-- the text of usage if an argument isn't UTF-8, unless an allocation failed
 abbrev pub SaysNotUtf8 : UsageFault → Type 0
 SaysNotUtf8 usage.NoMemory = ⊤
 SaysNotUtf8 (usage.Usage text) = text ≡ codes "a word of the command line is not UTF-8\n"
 SaysNotUtf8 (usage.Help text) = ⊥
 
--- the text is that of a moment
+-- the text is that of this timestamp
 abbrev pub IsMoment : List ℕ → ℕ → Type 0
 IsMoment text moment = (moment ≤ end_second) × (text ≡ moment_text_of moment)
 
@@ -51,17 +51,17 @@ abbrev pub GivesNext : Held → List ℕ → Option (List ℕ) → ℕ → Asked
 GivesNext held after zone count rule text =
     (moment : ℕ) × (clock : List Change) × IsMoment after moment × HasClock held zone clock × IsTextOfNext clock rule moment count text
 
--- a command was not done, for a fault of which this is so
+-- a command failed with an error for which this holds
 abbrev pub FailsRun : (RunFault → Type 0) → Failure → Type 0
 FailsRun IsTheirs (Run fault) = IsTheirs fault
 FailsRun IsTheirs other = ⊥
 
--- the text is that of no moment
+-- the text isn't that of a timestamp
 abbrev pub GivesNoMoment : List ℕ → Failure → Type 0
 GivesNoMoment after (After fault) = HasFault after fault
 GivesNoMoment after other = ⊥
 
--- when each failure of `next` comes: the moment is read first, then the zone, then the count and the rule
+-- when `next` fails, and why: the timestamp is read first, then the zone, then the count and the rule
 abbrev pub FailsNext : Held → List ℕ → Option (List ℕ) → ℕ → Asked → Failure → Type 0
 FailsNext held after zone count rule failure =
     GivesNoMoment after failure
@@ -69,11 +69,11 @@ FailsNext held after zone count rule failure =
     ⊎ ((moment : ℕ) × (clock : List Change) × IsMoment after moment × HasClock held zone clock
     × FailsRun (RefusesNext clock rule count) failure))
 
--- the span between two moments that were given
+-- the span between two timestamps
 abbrev pub IsSpan : (since upto : List ℕ) → Bounds → Type 0
 IsSpan since upto span = IsMoment since span.since × IsMoment upto span.upto
 
--- when two texts give no span: the first moment is looked at first, then the second, then their order
+-- when two texts give no span, and why: the first timestamp is checked first, then the second, then their order
 abbrev pub GivesNoSpan : (since upto : List ℕ) → Failure → Type 0
 GivesNoSpan since upto (Since fault) = HasFault since fault
 GivesNoSpan since upto (Upto fault) = (begin : ℕ) × IsMoment since begin × HasFault upto fault
@@ -87,7 +87,7 @@ GivesPlan held wanted text =
     (span : Bounds) × (clock : List Change) × (sources : List Source) × IsSpan wanted.since wanted.upto span
     × HasClock held wanted.zone clock × AreSourcesOf held wanted.sources sources × IsTextOfPlan clock sources span wanted.sizes text
 
--- when each failure of `plan` comes: the span is read first, then the zone, then the files, then the plan is made
+-- when `plan` fails, and why: the span is read first, then the zone, then the files, and then the plan is made
 abbrev pub FailsPlan : Held → Wanted → Failure → Type 0
 FailsPlan held wanted failure =
     GivesNoSpan wanted.since wanted.upto failure
@@ -103,7 +103,7 @@ GivesQuiet held wanted least text =
     × HasClock held wanted.zone clock × AreSourcesOf held wanted.sources sources
     × IsTextOfQuiet clock sources span wanted.sizes least text
 
--- when each failure of `quiet` comes: as for `plan`
+-- when `quiet` fails, and why: in the same order as `plan`
 abbrev pub FailsQuiet : Held → Wanted → (least : ℕ) → Failure → Type 0
 FailsQuiet held wanted least failure =
     GivesNoSpan wanted.since wanted.upto failure
@@ -118,7 +118,7 @@ GivesUpcoming held after zone paths text =
     (moment : ℕ) × (clock : List Change) × (sources : List Source) × IsMoment after moment × HasClock held zone clock
     × AreSourcesOf held paths sources × IsTextOfUpcoming clock sources moment text
 
--- when each failure of `upcoming` comes: the moment is read first, then the zone, then the files, then their texts
+-- when `upcoming` fails, and why: the timestamp is read first, then the zone, then the files, and then their texts
 abbrev pub FailsUpcoming : Held → (after : List ℕ) → Option (List ℕ) → List SourcePath → Failure → Type 0
 FailsUpcoming held after zone paths failure =
     GivesNoMoment after failure
@@ -126,18 +126,18 @@ FailsUpcoming held after zone paths failure =
     ⊎ ((moment : ℕ) × (clock : List Change) × (sources : List Source) × IsMoment after moment × HasClock held zone clock
     × AreSourcesOf held paths sources × FailsRun (RefusesUpcoming clock sources) failure))
 
--- the status of a check
+-- the exit status of `check`
 abbrev pub status_on : Verdict → ℕ
 status_on Clean = 0
 status_on Refused = refused_status
 
--- what `check` prints, and the status with which it ends
+-- what `check` prints, and its exit status
 abbrev pub GivesCheck : Held → Option (List ℕ) → List SourcePath → (status : ℕ) → List ℕ → Type 0
 GivesCheck held zone paths status text =
     (clock : List Change) × (sources : List Source) × (verdict : Verdict) × HasClock held zone clock × AreSourcesOf held paths sources
     × IsTextOfCheck clock paths sources verdict text × (status ≡ status_on verdict)
 
--- when each failure of `check` comes: the zone is read first, then the files; what is found of them never fails but for memory
+-- when `check` fails, and why: the zone is read first, then the files; after that only an allocation can fail
 abbrev pub FailsCheck : Held → Option (List ℕ) → List SourcePath → Failure → Type 0
 FailsCheck held zone paths failure = IsUnreadInput held zone paths failure ⊎ FailsRun RefusesCheck failure
 
@@ -145,33 +145,33 @@ FailsCheck held zone paths failure = IsUnreadInput held zone paths failure ⊎ F
 abbrev pub GivesSteps : Held → List ℕ → List ℕ → Type 0
 GivesSteps held file text = (script : List ℕ) × IsHeld (held file).bytes script × IsTextOfRun script text
 
--- when each failure of `steps` comes: the file is read first, and is the failure only where it may fail
+-- when `steps` fails, and why: the file is read first, and only a file that may fail is reported
 abbrev pub FailsSteps : Held → List ℕ → Failure → Type 0
 FailsSteps held file (File path) = (path ≡ file) × IsUnsure (held path)
 FailsSteps held file (Run fault) = (script : List ℕ) × IsHeld (held file).bytes script × RefusesRun script fault
 FailsSteps held file failure = ⊥
 
--- what is wanted of a plan, by what was given
+-- what a plan is made from, by its parts
 abbrev pub wanted_of : (since upto : List ℕ) → Option (List ℕ) → List SourcePath → Sizes → Wanted
 wanted_of since upto zone sources sizes = record { since = since; upto = upto; zone = zone; sources = sources; sizes = sizes }
 
--- `plan`, by what is wanted of it
+-- the request `plan`, by what the plan is made from
 abbrev pub asked_plan : Wanted → Ask
 asked_plan wanted = Plan wanted.since wanted.upto wanted.zone wanted.sources wanted.sizes
 
--- `quiet`, by what is wanted of the plan
+-- the request `quiet`, by what its plan is made from
 abbrev pub asked_quiet : Wanted → (least : ℕ) → Ask
 asked_quiet wanted least = Quiet wanted.since wanted.upto wanted.zone wanted.sources wanted.sizes least
 
--- `check`, by the zone and the paths of the sources
+-- the request `check`, by the zone and the paths of the sources
 abbrev pub asked_check : Option (List ℕ) → List SourcePath → Ask
 asked_check zone paths = Check zone paths
 
--- `upcoming`, by the moment, the zone and the paths of the sources
+-- the request `upcoming`, by the timestamp, the zone and the paths of the sources
 abbrev pub asked_upcoming : (after : List ℕ) → Option (List ℕ) → List SourcePath → Ask
 asked_upcoming after zone paths = Upcoming after zone paths
 
--- what is printed for what was asked, and the status with which it ends: the text of a command, or that of help
+-- what is printed for a request, and the exit status: the text of a command, or the text of help
 abbrev pub Prints : Held → Result Ask UsageFault → (status : ℕ) → List ℕ → Type 0
 Prints held (Ok (Next after zone count rule)) status text = (status ≡ 0) × GivesNext held after zone count rule text
 Prints held (Ok (Plan since upto zone sources sizes)) status text =
@@ -184,11 +184,11 @@ Prints held (Ok (Steps file)) status text = (status ≡ 0) × GivesSteps held fi
 Prints held (Err (usage.Help help)) status text = (status ≡ 0) × (text ≡ help)
 Prints held (Err refusal) status text = ⊥
 
--- what may be printed, with whatever status
+-- what may be printed, with any status
 abbrev pub MayPrint : Held → Result Ask UsageFault → List ℕ → Type 0
 MayPrint held asked text = (status : ℕ) × Prints held asked status text
 
--- when what was asked is refused: words that are no use of the program are a failure of their own, and help is never refused
+-- when a request is rejected, and why: invalid arguments are a failure by themselves, and help is never rejected
 abbrev pub Refuses : Held → Result Ask UsageFault → Failure → Type 0
 Refuses held (Ok (Next after zone count rule)) failure = FailsNext held after zone count rule failure
 Refuses held (Ok (Plan since upto zone sources sizes)) failure = FailsPlan held (wanted_of since upto zone sources sizes) failure
@@ -201,7 +201,7 @@ Refuses held (Err (usage.Help text)) failure = ⊥
 Refuses held (Err (usage.Usage text)) failure = failure ≡ Usage text
 Refuses held (Err usage.NoMemory) failure = failure ≡ Run run.NoMemory
 
--- what standard output holds after a failure: where the stream fails a part of a text, and else, where it was refused, what it held
+-- what standard output holds after a failure: a first part of the text if the stream failed, and otherwise what it held before
 abbrev pub Stops :
     Bool → (List ℕ → Type 0) → (Failure → Type 0) → Failure → (old new : Option (List ℕ)) → Type 0
 Stops takes_all IsText IsRefused (Run run.Device) old new = (text : List ℕ) × IsText text × BreaksOff takes_all old new text
@@ -215,21 +215,21 @@ sources_of (Ok (Quiet _ _ _ sources _ _)) = sources
 sources_of (Ok (Check _ sources)) = sources
 sources_of other = []
 
--- a stream: whether it takes all, and what it held before and after
+-- a stream: whether it accepts all bytes, and what it held before and after
 pub record Stream : Type 0 where
   pub takes_all : Bool
   pub old : Option (List ℕ)
   pub new : Option (List ℕ)
 
--- the program's answer: the answer on standard output with its status, which is 0 unless a check refuses something, and nothing on
--- standard error; or the status of a failure, and its line on standard error
+-- the program's answer: either the text on standard output with its status, which is 0 unless `check` finds
+-- an error, and nothing on standard error; or the status of a failure, and its line on standard error
 abbrev pub Answers : Held → Result Ask UsageFault → ℕ → (out err : Stream) → Type 0
 Answers held asked status out err =
     (Writes (Prints held asked status) out.old out.new × Keeps err.old err.new)
     ⊎ ((failure : Failure) × Stops out.takes_all (MayPrint held asked) (Refuses held asked) failure out.old out.new
     × (status ≡ status_of failure) × PutsOrBreaksOff err.takes_all err.old err.new (fault_text (sources_of asked) failure))
 
--- the same, by the words of the command line
+-- the same, by the arguments of the command line
 abbrev pub AnswersWords : Held → List (List ℕ) → ℕ → (out err : Stream) → Type 0
 AnswersWords held words status out err =
     (asked : Result Ask UsageFault) × Gives asked (asked_by words) × Answers held asked status out err

@@ -1,4 +1,4 @@
--- The sources of a plan, by the paths that were given. All of it is own.
+-- The sources of a plan, by the given paths. All of it is our choice (agenda).
 use Rattle.std.specs.Prelude.{◌≡◌, ◌⊎◌, ⊤, ℕ, Option, List, [], ◌∷◌, Some, slice_get}
 use Rattle.plan_clock.specs.declared.row.Change.{Change}
 use Rattle.agenda_sources.specs.declared.Source.{Source}
@@ -22,21 +22,21 @@ AreSourcesOf held (given ∷ paths) (source ∷ sources) = IsSourceOf held given
 AreSourcesOf held [] (source ∷ sources) = ⊥
 AreSourcesOf held (given ∷ paths) [] = ⊥
 
--- the path is one of those that were given
+-- the path is one of the given paths
 abbrev pub IsGiven : List SourcePath → List ℕ → Type 0
 IsGiven paths path = (place : ℕ) × (given : SourcePath) × (slice_get paths place ≡ Some given) × (path ≡ given.path)
 
--- the failure is that of a path for which this is so, or memory was refused
+-- the failure is that of a path for which this holds, or an allocation failed
 abbrev pub IsFailureOf : (List ℕ → Type 0) → Failure → Type 0
 IsFailureOf IsTheirs (File path) = IsTheirs path
 IsFailureOf IsTheirs (Run run.NoMemory) = ⊤
 IsFailureOf IsTheirs other = ⊥
 
--- why sources are not read: the file of one of their paths, which may fail, or memory was refused
+-- why sources can't be read: one of their files may fail, or an allocation failed
 abbrev pub IsUnreadIn : Held → (List ℕ → Type 0) → Failure → Type 0
 IsUnreadIn held IsTheirs failure = IsFailureOf (λ path. IsTheirs path × IsUnsure (held path)) failure
 
--- why a zone and sources are not read: the zone is read first, then the sources in the order of their paths
+-- why a zone and sources can't be read: the zone is read first, then the sources in the order of their paths
 abbrev pub IsUnreadInput : Held → Option (List ℕ) → List SourcePath → Failure → Type 0
 IsUnreadInput held zone paths failure =
     HasNoClock held zone failure ⊎ ((clock : List Change) × HasClock held zone clock × IsUnreadIn held (IsGiven paths) failure)

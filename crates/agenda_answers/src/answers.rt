@@ -1,4 +1,4 @@
-//! What the program does, over any files and streams.
+//! Does what the arguments request, over any files and streams.
 
 ghost use Rattle.std.specs.Prelude.{◌≡◌, ◌≢◌, ℕ, IfErr, IfOk, Ok, OnOk, map, string_bytes};
 ghost use Rattle.std.specs.Io.KnownBytes.{Keeps};
@@ -29,7 +29,7 @@ use std::io::ErrorKind;
 use std::sync::Wait;
 use std::thread::Threads;
 
-// What is wanted of a plan: the texts of two moments and of the zone, the paths of its sources, and its sizes.
+// What a plan is made from: the texts of two timestamps and of the zone, the paths of the sources, and the sizes.
 #[derive(Drop)]
 struct Wanted {
     since: Text,
@@ -39,20 +39,22 @@ struct Wanted {
     sizes: Sizes,
 }
 
-// The status of what was done, and of help.
+// The exit status after success, and after help.
 const DONE: u8 = 0;
 
-// The status of a check that refuses something.
+// The exit status if `check` finds an error.
 const REFUSED: u8 = 1;
 
-// The text of usage where a word isn't UTF-8.
+// The text of usage if an argument isn't UTF-8.
 const NOT_UTF8: &str = "a word of the command line is not UTF-8\n";
 
-/// Does what the words of the command line ask for, of which the first is the program's name, and answers the status with
-/// which the program ends: 0 where it was done, and for help; 1 where input or a count was refused, or a check refuses
-/// something; 2 where the words are no use of the program; 3 where memory was refused, or a device or a file failed.
+/// Does what the arguments of the command line request, and returns the exit status of the program. The first
+/// of `words` is the name of the program.
 ///
-/// The answer goes to `out`. One line of a fault, or the text of usage, goes to `err`.
+/// The status is 0 after success and after help; 1 if the input or a count is rejected, or if `check` finds
+/// an error; 2 if the arguments are invalid; 3 if an allocation, a device or a file failed.
+///
+/// The answer goes to `out`. The line of an error, or the text of usage, goes to `err`.
 pub fn answer_words<R: Threads + Wait + Sync, F: Files, O: Stream, E: Stream>(
     rt: &R,
     alloc: Global,
@@ -68,7 +70,7 @@ pub fn answer_words<R: Threads + Wait + Sync, F: Files, O: Stream, E: Stream>(
     answer(rt, alloc, read_words(alloc, words), files, out, err)
 }
 
-/// Does what is asked for, as `answer_words` does.
+/// Does what is requested, like `answer_words`.
 pub fn answer<R: Threads + Wait + Sync, F: Files, O: Stream, E: Stream>(
     rt: &R,
     alloc: Global,
@@ -147,7 +149,8 @@ pub fn answer<R: Threads + Wait + Sync, F: Files, O: Stream, E: Stream>(
     }
 }
 
-/// What stands for words of the command line that could not be read: usage where one isn't UTF-8, and else a want of memory.
+/// Returns the error for arguments that could not be read: a usage error if one isn't UTF-8, and out of
+/// memory for any other `kind`.
 pub fn unread_words(alloc: Global, kind: ErrorKind) -> UsageFault
     ensures not_utf8 { kind ≡ ErrorKind.InvalidData → SaysNotUtf8 result }
     ensures memory { kind ≢ ErrorKind.InvalidData → result ≡ UsageFault.NoMemory }
@@ -161,7 +164,7 @@ pub fn unread_words(alloc: Global, kind: ErrorKind) -> UsageFault
     }
 }
 
-// The answer to `plan`.
+// Answers `plan`.
 fn answer_plan<R: Threads + Wait + Sync, F: Files, O: Stream, E: Stream>(
     rt: &R,
     alloc: Global,
@@ -178,7 +181,7 @@ fn answer_plan<R: Threads + Wait + Sync, F: Files, O: Stream, E: Stream>(
     status_of(done, wanted.sources.as_slice(), err)
 }
 
-// The answer to `upcoming`.
+// Answers `upcoming`.
 fn answer_upcoming<F: Files, O: Stream, E: Stream>(
     alloc: Global,
     after: &Text,
@@ -196,7 +199,7 @@ fn answer_upcoming<F: Files, O: Stream, E: Stream>(
     status_of(done, sources.as_slice(), err)
 }
 
-// The answer to `quiet`.
+// Answers `quiet`.
 fn answer_quiet<R: Threads + Wait + Sync, F: Files, O: Stream, E: Stream>(
     rt: &R,
     alloc: Global,
@@ -214,7 +217,7 @@ fn answer_quiet<R: Threads + Wait + Sync, F: Files, O: Stream, E: Stream>(
     status_of(done, wanted.sources.as_slice(), err)
 }
 
-// The answer to `check`.
+// Answers `check`.
 fn answer_check<F: Files, O: Stream, E: Stream>(
     alloc: Global,
     zone: &Option<Text>,
@@ -234,7 +237,8 @@ fn answer_check<F: Files, O: Stream, E: Stream>(
     }
 }
 
-// The status of what was done, or was not. `sources` are the paths of the sources of a plan.
+// Returns the exit status of a command, and writes the line of its error. `sources` are the paths of the
+// sources of a plan.
 fn status_of<S: Stream>(done: Result<(), Failure>, sources: &[SourcePath], err: &mut S) -> u8
     ensures done { OnOk done ((result ≡ 0) × Keeps (S.holds err.old) (S.holds err.new)) }
     ensures failed { IfErr done (λ failure. (result ≡ failure_status failure)
@@ -246,7 +250,7 @@ fn status_of<S: Stream>(done: Result<(), Failure>, sources: &[SourcePath], err: 
     }
 }
 
-// The command `next`.
+// Runs the command `next`.
 fn next<F: Files, S: Stream>(
     alloc: Global,
     after: &Text,
@@ -268,7 +272,7 @@ fn next<F: Files, S: Stream>(
     }
 }
 
-// The command `plan`.
+// Runs the command `plan`.
 fn plan<R: Threads + Wait + Sync, F: Files, S: Stream>(
     rt: &R,
     alloc: Global,
@@ -296,7 +300,7 @@ fn plan<R: Threads + Wait + Sync, F: Files, S: Stream>(
     }
 }
 
-// The command `upcoming`.
+// Runs the command `upcoming`.
 fn upcoming<F: Files, S: Stream>(
     alloc: Global,
     after: &Text,
@@ -317,7 +321,7 @@ fn upcoming<F: Files, S: Stream>(
     }
 }
 
-// The command `quiet`.
+// Runs the command `quiet`.
 fn quiet<R: Threads + Wait + Sync, F: Files, S: Stream>(
     rt: &R,
     alloc: Global,
@@ -347,7 +351,7 @@ fn quiet<R: Threads + Wait + Sync, F: Files, S: Stream>(
     }
 }
 
-// The command `check`.
+// Runs the command `check`.
 fn check<F: Files, S: Stream>(
     alloc: Global,
     zone: &Option<Text>,
@@ -367,7 +371,7 @@ fn check<F: Files, S: Stream>(
     }
 }
 
-// The moment after which starts are wanted.
+// Reads the timestamp after which starts are requested.
 fn moment_after(after: &Text) -> Result<u64, Failure>
     ensures moment { IfOk result (IsMoment after.now) }
     ensures none { IfErr result (GivesNoMoment after.now) }
@@ -378,7 +382,7 @@ fn moment_after(after: &Text) -> Result<u64, Failure>
     }
 }
 
-// The span between two moments.
+// Reads the two timestamps of a span.
 fn span_between(since: &Text, upto: &Text) -> Result<Span, Failure>
     ensures span { IfOk result (IsSpan since.now upto.now) }
     ensures no_span { IfErr result (GivesNoSpan since.now upto.now) }
@@ -397,7 +401,7 @@ fn span_between(since: &Text, upto: &Text) -> Result<Span, Failure>
     }
 }
 
-// The command `steps`.
+// Runs the command `steps`.
 fn steps<F: Files, S: Stream>(
     alloc: Global,
     file: Text,
@@ -421,7 +425,7 @@ fn steps<F: Files, S: Stream>(
     }
 }
 
-// The text of help.
+// Prints the text of help.
 fn help<S: Stream>(text: &Text, out: &mut S) -> Result<(), Failure>
     ensures done { OnOk result (Writes (λ printed. printed ≡ text.now) (S.holds out.old) (S.holds out.new)) }
     ensures failed { IfErr result (λ failure. Stops S.takes_all (λ printed. printed ≡ text.now) (λ _. ⊥)

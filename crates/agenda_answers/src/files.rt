@@ -1,4 +1,4 @@
-//! Files: what is opened by its path and read up to a limit.
+//! Files, which are opened by their paths and read up to a limit.
 
 ghost use Rattle.std.specs.Prelude.{◌≡◌, IfErr, IfOk};
 ghost use Rattle.std.specs.IoError.{error_kind};
@@ -15,16 +15,17 @@ pub trait OpenFile {
     ghost use Rattle.std.specs.IoError.{error_kind};
     ghost use Rattle.agenda_answers.specs.Files.{Known, IsFrontOf, MayFail};
 
-    /// What is known of it.
+    /// What contracts know of the file.
     ghost known: { Self → Known };
 
-    /// Its bytes, of which no more than one past the limit of every input are read: 1,048,577.
+    /// Reads the first 1,048,577 bytes of the file, one more than the limit of every input, or all of them if
+    /// there are fewer.
     fn front(self, alloc: Global) -> io::Result<Vec<u8>>
         ensures bytes { IfOk result (λ bytes. IsFrontOf (known self).bytes bytes.items) }
         ensures fails { IfErr result (λ fault. MayFail (known self) (error_kind fault)) };
 }
 
-/// Each reader is such a file, which may fail.
+/// Every reader is such a file. It may fail.
 impl<R: Read + Drop> OpenFile for R {
     ghost use Rattle.std.specs.Prelude.{false};
 
@@ -35,7 +36,7 @@ impl<R: Read + Drop> OpenFile for R {
     }
 }
 
-/// What opens files by their paths.
+/// Opens files by their paths.
 pub trait Files {
     ghost use Rattle.std.specs.Prelude.{◌≡◌, List, ℕ, IfErr, IfOk};
     ghost use Rattle.std.specs.IoError.{error_kind};
@@ -44,17 +45,18 @@ pub trait Files {
     /// A file that was opened.
     type File: OpenFile;
 
-    /// What is known of the file of a path.
+    /// What contracts know of the file with a path.
     ghost held: { Self → List ℕ → Known };
 
-    /// Opens the file of a path, to be read from its first byte.
+    /// Opens the file with a path, and starts at its first byte.
     fn open(&mut self, path: &str) -> io::Result<Self::File>
         ensures known { IfOk result (λ file. Self.File.known file ≡ held self.old path.now) }
         ensures fails { IfErr result (λ fault. MayFail (held self.old path.now) (error_kind fault)) }
         ensures same { held self.new ≡ held self.old };
 }
 
-/// The bytes of a file, of which no more than one past the limit of every input are read: 1,048,577.
+/// Reads the first 1,048,577 bytes of a file, one more than the limit of every input, or all of them if there
+/// are fewer.
 pub fn read_file<F: Files>(alloc: Global, files: &mut F, path: &str) -> io::Result<Vec<u8>>
     ensures bytes { IfOk result (λ bytes. IsFrontOf (F.held files.old path.now).bytes bytes.items) }
     ensures fails { IfErr result (λ fault. MayFail (F.held files.old path.now) (error_kind fault)) }
@@ -64,7 +66,7 @@ pub fn read_file<F: Files>(alloc: Global, files: &mut F, path: &str) -> io::Resu
     file.front(alloc)
 }
 
-// The bytes of a reader, up to one past the limit.
+// Reads the bytes of a reader, up to one more than the limit.
 fn read_front<R: Read + Drop>(alloc: Global, file: R) -> io::Result<Vec<u8>>
     ensures { IfOk result (λ bytes. IsFrontOf (R.remaining file) bytes.items) }
 {

@@ -1,7 +1,7 @@
-//! What the program does: it answers the words of the command line over any files and streams.
+//! Does what the arguments of the command line request, over any files and streams.
 //!
-//! It stands on agenda_words, which reads the words, and on agenda_commands, which does what they ask for. Open `answers` first, then
-//! `files`, what the program has to know of files.
+//! The crate uses agenda_words, which reads the arguments, and agenda_commands, which runs what they request.
+//! Read `answers` first, then `files`, which describes what the program requires of files.
 #![tactic(auto)]
 
 mod answers;

@@ -1,4 +1,4 @@
-//! The sources of a plan, read from files.
+//! Reads the clock of the zone and the sources from files.
 
 ghost use Rattle.std.specs.Prelude.{◌≡◌, IfErr, IfOk};
 ghost use Rattle.agenda_answers.specs.Files.{IsFrontOf};
@@ -14,7 +14,7 @@ use plan_rules::Text;
 use std::alloc::Global;
 use std::io::ErrorKind;
 
-/// What jobs are made of: their sources, and the clock of the zone in which their rules are read.
+/// What jobs are made from: their sources, and the clock of the time zone of their rules.
 #[derive(Drop)]
 pub struct Input {
     /// The clock of the zone.
@@ -23,11 +23,12 @@ pub struct Input {
     pub sources: Sources,
 }
 
-/// Reads the clock of the zone that a text gives, then the sources of these paths, in order, each path once.
+/// Reads the clock of the zone that a text gives, then the sources with these paths, in order, each path once.
 ///
 /// # Errors
 ///
-/// Those of `read_clock`, then `File` with the first path that can't be opened or read, or `Run(NoMemory)`.
+/// The errors of `read_clock`; then `File` with the first path that can't be opened or read, or
+/// `Run(NoMemory)` if an allocation failed.
 pub fn read_input<F: Files>(
     alloc: Global,
     files: &mut F,
@@ -43,9 +44,9 @@ pub fn read_input<F: Files>(
     Ok(Input { clock, sources })
 }
 
-// Reads the sources of these paths, in order, each path once.
+// Reads the sources with these paths, in order, each path once.
 //
-// `File` with the first path that can't be opened or read, or `Run(NoMemory)`.
+// Returns `File` with the first path that can't be opened or read, or `Run(NoMemory)` if an allocation failed.
 fn read_sources<F: Files>(
     alloc: Global,
     files: &mut F,
@@ -62,7 +63,7 @@ fn read_sources<F: Files>(
     Ok(Sources::new(sources))
 }
 
-// Reads a source, and takes its name from its path.
+// Reads a source. Its name comes from its path.
 fn read_source<F: Files>(
     alloc: Global,
     files: &mut F,
@@ -81,7 +82,7 @@ fn read_source<F: Files>(
     })
 }
 
-// Reads the file of a path, up to one byte past the limit.
+// Reads the file with a path, up to one byte more than the limit.
 fn read_path<F: Files>(alloc: Global, files: &mut F, path: &Text) -> Result<Bytes, Failure>
     ensures read { IfOk result (IsFrontOf (F.held files.old path.now).bytes) }
     ensures unread { IfErr result (IsUnreadIn (F.held files.old) (λ unread. unread ≡ path.now)) }
@@ -96,7 +97,7 @@ fn read_path<F: Files>(alloc: Global, files: &mut F, path: &Text) -> Result<Byte
     }
 }
 
-// The failure where a path can't be opened or read.
+// Returns the failure of a path that can't be opened or read.
 fn unread_path(alloc: Global, path: &Text) -> Failure
     ensures { IsFailureOf (λ unread. unread ≡ path.now) result }
 {

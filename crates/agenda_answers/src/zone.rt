@@ -1,4 +1,4 @@
-//! The clock of the zone in which rules are read, by the text that gives the zone.
+//! Reads the clock of the time zone of the rules.
 
 ghost use Rattle.std.specs.Prelude.{◌≡◌, IfErr, IfOk};
 ghost use Rattle.agenda_answers.specs.Zone.{HasClock, HasNoClock, IsClockIn, RejectsBytes, RejectsName, RejectsPath};
@@ -13,12 +13,12 @@ use plan_zones::{ZoneFault, ZoneSource, read_zone, zone_path, zone_source};
 use std::alloc::Global;
 use std::io::ErrorKind;
 
-/// Reads the clock of the zone that a text gives. Without a text it is that of UTC, and no file is read.
+/// Reads the clock of the zone that a text gives. Without a text it is the clock of UTC, and no file is read.
 ///
 /// # Errors
 ///
-/// `Zone` for a text that gives no zone, a name without a file, and a file that is no zone's; `File` for a path that can't be opened or
-/// read; `Run(NoMemory)` where an allocation failed.
+/// `Zone` if the text gives no zone, if there is no file for the name, or if the file isn't a zone's; `File`
+/// if a path can't be opened or read; `Run(NoMemory)` if an allocation failed.
 pub fn read_clock<F: Files>(
     alloc: Global,
     files: &mut F,
@@ -39,7 +39,7 @@ pub fn read_clock<F: Files>(
     }
 }
 
-// The clock of the zone whose file has a path.
+// Reads the clock of the zone whose file has this path.
 fn clock_of_path<F: Files>(alloc: Global, files: &mut F, path: &str) -> Result<Clock, Failure>
     ensures clock { IfOk result (IsClockIn (F.held files.old path.now)) }
     ensures none { IfErr result (RejectsPath (F.held files.old) path.now) }
@@ -54,7 +54,7 @@ fn clock_of_path<F: Files>(alloc: Global, files: &mut F, path: &str) -> Result<C
     }
 }
 
-// The clock of a zone of the system.
+// Reads the clock of the system's zone with this name.
 fn clock_of_name<F: Files>(alloc: Global, files: &mut F, name: &str) -> Result<Clock, Failure>
     ensures clock { IfOk result (IsClockIn (F.held files.old (zone_path name.now))) }
     ensures none { IfErr result (RejectsName (F.held files.old (zone_path name.now))) }
@@ -64,7 +64,7 @@ fn clock_of_name<F: Files>(alloc: Global, files: &mut F, name: &str) -> Result<C
     clock_of_system(alloc, files, path.as_str())
 }
 
-// The clock of the zone of the system whose file has a path.
+// Reads the clock of the system's zone whose file has this path.
 fn clock_of_system<F: Files>(alloc: Global, files: &mut F, path: &str) -> Result<Clock, Failure>
     ensures clock { IfOk result (IsClockIn (F.held files.old path.now)) }
     ensures none { IfErr result (RejectsName (F.held files.old path.now)) }
@@ -79,7 +79,7 @@ fn clock_of_system<F: Files>(alloc: Global, files: &mut F, path: &str) -> Result
     }
 }
 
-// The clock of the zone whose file has these bytes.
+// Reads the clock of the zone whose file has these bytes.
 fn clock_of_bytes(alloc: Global, bytes: &[u8]) -> Result<Clock, Failure>
     ensures clock { IfOk result (IsClockOf bytes.now) }
     ensures none { IfErr result (RejectsBytes bytes.now) }

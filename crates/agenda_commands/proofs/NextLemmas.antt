@@ -1,6 +1,7 @@
 -- Starts that are listed one after another: for `starts_text` of next.rt. `refused_as` is for `refused` of `run_next`.
--- `IsListed` cuts the rule's starts after a moment into those that are listed and those after the latest. The least of
--- these is listed next (`passing-least`). Where there is none, those listed are all (`passing-none`).
+-- `IsListed` splits the rule's starts after a time into those that are already listed and those after the
+-- latest. The first of these is listed next (`passing-least`). If there is none, those already listed are all
+-- of them (`passing-none`).
 use Rattle.std.proofs.Common.{◌≡◌, ℕ, ◌+◌, ◌<◌, true, false, List, [], ◌∷◌, ◌++◌, length, take, nat_lt, codes, refl, ap, sym, ◌∙◌, subst, arith, append_assoc, append-nil, take_all}
 use Rattle.std.proofs.Common.{Result, Ok, Err, IsErrAnd, IfErr}
 use Rattle.std.specs.List.{flat_map}
@@ -13,7 +14,7 @@ use Rattle.plan_next.specs.StartsLaws.{passing-least, passing-none}
 use Rattle.agenda_faults.specs.declared.faults.RunFault.{RunFault}
 use Rattle.agenda_commands.specs.Next.{moment_line, starts_text, next_text}
 
--- some starts were listed, and those after the latest are left
+-- some starts are listed, and those after the latest remain
 pub record IsListed (rule : Rule) (after latest : ℕ) (text moments : List ℕ) : Type 0 where
   pub cut : starts rule (after + 1) end_second ≡ moments ++ starts rule (latest + 1) end_second
   pub lines : text ≡ flat_map moment_line moments
@@ -36,7 +37,7 @@ listed_push rule after latest n text new moments so_far least line = record {
   lines = line ∙ ap (λ l. l ++ moment_line n) so_far.lines ∙ sym (lines_push moments n);
 }
 
--- as many as were asked for
+-- as many starts as requested
 pub lists_all :
     (rule : Rule) (after latest count : ℕ) (text moments : List ℕ) → IsListed rule after latest text moments → length moments ≡ count →
     text ≡ next_text rule after count
@@ -47,7 +48,7 @@ lists_all rule after latest count text moments so_far all =
     (rw (← all) (take-append_seam moments (starts rule (latest + 1) end_second))) in
     so_far.lines ∙ sym (rw (first, full) (append-nil (flat_map moment_line moments)))
 
--- fewer, with the line `none`
+-- fewer starts, with the line `none`
 pub lists_fewer :
     (rule : Rule) (after latest count : ℕ) (text new moments : List ℕ) → IsListed rule after latest text moments → length moments < count →
     NoneIn (is_start rule) (latest + 1) end_second → new ≡ text ++ codes "none\n" → new ≡ next_text rule after count
@@ -59,7 +60,7 @@ lists_fewer rule after latest count text new moments so_far few none line =
     let first : take count (starts rule (after + 1) end_second) ≡ moments = ap (take count) all ∙ take_all count moments (omega arith) in
     line ∙ ap (λ l. l ++ codes "none\n") so_far.lines ∙ sym (rw (first, short) refl)
 
--- a fault that is known decides what is said of any
+-- what holds for an error that is known holds for any error of the result
 pub refused_as :
     (result : Result (Unit {0}) RunFault) (fault : RunFault) (P : RunFault → Type 0) → IsErrAnd result (λ e. e ≡ fault) → P fault →
     IfErr result P

@@ -1,4 +1,4 @@
--- What is written of what is found of sources. All of it is own.
+-- What `check` writes about the findings on sources. All of it is our choice (agenda).
 use Rattle.std.specs.Prelude.{◌≡◌, ⊤, ℕ, Bool, true, false, ◌==◌, if◌then◌else◌, List, [], ◌++◌, codes, decimal, is_ok, Option, Some, None, slice_get}
 use Rattle.std.specs.List.{flat_map}
 use Rattle.plan_grammar.specs.Causes.{rule_cause}
@@ -22,11 +22,11 @@ use Rattle.agenda_commands.specs.declared.check.Verdict.TheVariants as verdict
 
 -- ---- a line
 
--- the number of a line, behind its path; the whole file has none
+-- the number of a line, after its path; a finding about the whole file has none
 abbrev pub line_mark : ℕ → List ℕ
 line_mark line = if line == 0 then [] else codes ":" ++ decimal line
 
--- why a line is refused: of a rule also which of its parts
+-- why a line is rejected; for a rule also which of its parts
 abbrev pub cause_text : LineCause → List ℕ
 cause_text (Rule fault) = codes "part " ++ (decimal fault.part ++ (codes ": " ++ rule_cause fault.cause))
 cause_text cause = line_cause cause
@@ -44,12 +44,12 @@ finding_line path finding = path ++ (line_mark finding.line ++ (codes ": " ++ (w
 
 -- ---- all lines
 
--- the path of a source, if it is there
+-- the path of a source, if the source exists
 abbrev pub path_in : Option SourcePath → List ℕ
 path_in None = []
 path_in (Some source) = source.path
 
--- the path at a place, from 0
+-- the path at a place, which is counted from 0
 abbrev pub path_at : List SourcePath → ℕ → List ℕ
 path_at paths place = path_in (slice_get paths place)
 
@@ -59,17 +59,17 @@ check_text paths found = flat_map (λ one. finding_line (path_at paths one.place
 
 -- ---- the command
 
--- what a check comes to
+-- the verdict of a check
 abbrev pub verdict_of : (is_clean : Bool) → Verdict
 verdict_of true = verdict.Clean
 verdict_of false = verdict.Refused
 
--- what is printed for sources: all findings; something is refused exactly where the sources make no list of jobs
+-- what is printed for sources: all findings; there is an error exactly if the sources make no list of jobs
 abbrev pub IsTextOfCheck : List Change → List SourcePath → List Source → Verdict → List ℕ → Type 0
 IsTextOfCheck clock paths sources verdict text =
     (text ≡ check_text paths (sources_findings clock sources)) × (verdict ≡ verdict_of (is_ok (sources_reading sources)))
 
--- when that is refused: for want of memory alone
+-- when a check fails: only if an allocation failed
 abbrev pub RefusesCheck : RunFault → Type 0
 RefusesCheck NoMemory = ⊤
 RefusesCheck other = ⊥

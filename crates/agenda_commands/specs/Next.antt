@@ -16,44 +16,44 @@ use Rattle.agenda_sources.specs.declared.Asked.TheVariants.{Cron, Event}
 use Rattle.agenda_faults.specs.declared.faults.RunFault.{RunFault}
 use Rattle.agenda_faults.specs.declared.faults.RunFault.TheVariants.{NoMemory, BadCount, Rule as BadRule}
 
--- the line of a moment (own)
+-- the line of a timestamp (agenda)
 abbrev pub moment_line : ℕ → List ℕ
 moment_line n = moment_text_of n ++ codes "\n"
 
--- one line for each moment, then `none` where there are fewer than were asked for (own)
+-- one line for each timestamp, then `none` if there are fewer than requested (agenda)
 unfoldable pub starts_text : ℕ → List ℕ → List ℕ
 starts_text count moments =
     flat_map moment_line moments ++ (if nat_lt (length moments) count then codes "none\n" else [])
 
--- the text of next starts: the first `count` starts of the rule after a moment, then `none` where there are fewer (own)
+-- the text of next starts: the first `count` starts of the rule after a time, then `none` if there are fewer (agenda)
 abbrev pub next_text : Rule → (after count : ℕ) → List ℕ
 next_text rule after count = starts_text count (take count (starts rule (after + 1) end_second))
 
--- the rule that a text asks about, in UTC unless it names a zone
+-- the requested rule, from its text; in UTC unless it names a zone (agenda)
 abbrev pub asked_rule : Asked → Reading Rule
 asked_rule (Cron text) = cron_reading text
 asked_rule (Event text) = event_rule_reading text
 
--- the same by the clock of a zone
+-- the same, by the clock of a zone (agenda)
 abbrev pub asked_reading : List Change → Asked → Reading Rule
 asked_reading clock asked = do
   rule ← asked_rule asked
   Ok (rule_in clock rule)
 
--- how many starts may be asked for at most (own)
+-- the maximum number of starts that can be requested (agenda)
 abbrev pub most_starts : ℕ
 most_starts = 1000
 
--- how many starts may be asked for (own)
+-- the number of starts can be requested (agenda)
 abbrev pub IsCount : ℕ → Type 0
 IsCount count = (1 ≤ count) × (count ≤ most_starts)
 
--- the text of next starts of the rule that was asked about
+-- what `next` prints for the requested rule (agenda)
 abbrev pub IsTextOfNext : List Change → Asked → (after count : ℕ) → List ℕ → Type 0
 IsTextOfNext clock asked after count text =
     IsCount count × ((rule : Rule) × (asked_reading clock asked ≡ Ok rule) × (text ≡ next_text rule after count))
 
--- when `next` is refused: the count is looked at first, then the rule (own)
+-- when `next` is rejected, and why: the count is checked first, then the rule (agenda)
 abbrev pub RefusesNext : List Change → Asked → ℕ → RunFault → Type 0
 RefusesNext clock asked count BadCount = IsCount count → ⊥
 RefusesNext clock asked count (BadRule fault) = IsCount count × (asked_reading clock asked ≡ Err fault)

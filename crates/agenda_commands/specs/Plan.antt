@@ -1,4 +1,4 @@
--- What a plan writes. All of it is own.
+-- What a plan writes. All of it is our choice (agenda).
 use Rattle.std.specs.Prelude.{◌≡◌, ⊤, ℕ, ◌<◌, ◌≤◌, true, false, List, length, Ok, Err}
 use Rattle.plan_clock.specs.declared.row.Change.{Change}
 use Rattle.plan_rules.specs.Job.{JobParts}
@@ -18,7 +18,7 @@ use Rattle.agenda_faults.specs.declared.faults.RunFault.{RunFault}
 use Rattle.agenda_faults.specs.declared.faults.RunFault.TheVariants.{NoMemory, Plan}
 use Rattle.agenda_faults.specs.Faults.{fault_of_sources}
 
--- the jobs make a plan: the sizes and the limit are good ones, and their agenda over the span has no more entries than that
+-- the jobs make a plan: the sizes and the limit are in range, and the agenda of the jobs over the span isn't longer than the limit
 abbrev pub MakePlan : List JobParts → Bounds → Sizes → Type 0
 MakePlan jobs span sizes =
     (is_size sizes.planners sizes.room ≡ true) × (is_limit sizes.limit ≡ true) × (length (agenda (rules_of jobs) span) ≤ sizes.limit)
@@ -32,7 +32,7 @@ abbrev pub IsTextOfPlan : List Change → List Source → Bounds → Sizes → L
 IsTextOfPlan clock sources span sizes text =
     (jobs : List JobParts) × (jobs_reading clock sources ≡ Ok jobs) × IsTextFor jobs span sizes text
 
--- when the agenda of jobs is refused: first for the sizes, then for the limit, then for its entries
+-- when the agenda of jobs is rejected, and why: the sizes are checked first, then the limit, then the number of entries
 abbrev pub RefusesJobs : PlanFault → List JobParts → Bounds → Sizes → Type 0
 RefusesJobs plan.BadSize jobs span sizes = is_size sizes.planners sizes.room ≡ false
 RefusesJobs plan.BadLimit jobs span sizes = (is_size sizes.planners sizes.room ≡ true) × (is_limit sizes.limit ≡ false)
@@ -40,7 +40,7 @@ RefusesJobs (plan.Collect collect.TooMany) jobs span sizes =
     (is_size sizes.planners sizes.room ≡ true) × (is_limit sizes.limit ≡ true) × (sizes.limit < length (agenda (rules_of jobs) span))
 RefusesJobs other jobs span sizes = ⊥
 
--- when a plan is refused: the sources are read first, whose fault is that of the plan, then their jobs are planned
+-- when a plan is rejected, and why: the sources are read first, and their error is that of the plan; then their jobs are planned
 abbrev pub RefusesPlan : List Change → List Source → Bounds → Sizes → RunFault → Type 0
 RefusesPlan clock sources span sizes NoMemory = ⊤
 RefusesPlan clock sources span sizes (Plan fault) =

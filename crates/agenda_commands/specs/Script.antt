@@ -1,4 +1,4 @@
--- What a run of a script writes. All of it is own.
+-- What a run of a script writes. All of it is our choice (agenda).
 use Rattle.std.specs.Prelude.{◌≡◌, ⊤, ℕ, List, length, Ok, Err}
 use Rattle.plan_mailbox.specs.declared.replies.Reply.{Reply}
 use Rattle.plan_mailbox.specs.Reply.{RepliesInTurn}
@@ -7,8 +7,8 @@ use Rattle.agenda_script.specs.Script.{Meaning, script_reading, replies_text}
 use Rattle.agenda_faults.specs.declared.faults.RunFault.{RunFault}
 use Rattle.agenda_faults.specs.declared.faults.RunFault.TheVariants as run
 
--- the text of the replies to a script's steps on a new mailbox: one for each step, and each is the one after the history
--- of the steps before it; and the history that they record is lawful
+-- the text of the replies to a script's steps on a new mailbox: there is one reply for each step, which
+-- follows from the history of the steps before it; and the history that the replies record is lawful
 abbrev pub IsTextOfRun : List ℕ → List ℕ → Type 0
 IsTextOfRun script text =
     (meaning : Meaning) × (replies : List (Reply (List ℕ))) × (script_reading script ≡ Ok meaning)
@@ -17,7 +17,7 @@ IsTextOfRun script text =
     × IsLawful meaning.senders meaning.room (record_of meaning.steps replies)
     × (text ≡ replies_text replies)
 
--- when a run of a script is refused
+-- when a run of a script is rejected, and why
 abbrev pub RefusesRun : List ℕ → RunFault → Type 0
 RefusesRun script (run.Script fault) = script_reading script ≡ Err fault
 RefusesRun script run.NoMemory = ⊤

@@ -1,4 +1,4 @@
--- What is written of the next starts of jobs. All of it is own.
+-- What is written about the next starts of jobs. All of it is our choice (agenda).
 use Rattle.std.specs.Prelude.{◌≡◌, ⊤, ℕ, List, Ok, Err}
 use Rattle.plan_clock.specs.declared.row.Change.{Change}
 use Rattle.plan_rules.specs.Job.{JobParts}
@@ -16,7 +16,7 @@ IsTextOfUpcoming clock sources after text =
     (jobs : List JobParts) × (jobs_reading clock sources ≡ Ok jobs)
     × ((nexts : List (ℕ × ℕ)) × AreUpcoming jobs after nexts × (text ≡ upcoming_text nexts jobs))
 
--- when that is refused: only where the sources are, whose fault it is
+-- when `upcoming` is rejected, and why: only if the sources are, with their error
 abbrev pub RefusesUpcoming : List Change → List Source → RunFault → Type 0
 RefusesUpcoming clock sources NoMemory = ⊤
 RefusesUpcoming clock sources fault =

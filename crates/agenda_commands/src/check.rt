@@ -1,4 +1,4 @@
-//! All that is wrong with crontabs and timer files, and what of them may not be meant.
+//! Finds all errors of crontabs and timer files, and warns of what may not be meant.
 
 ghost use Rattle.std.specs.Prelude.{◌≡◌, ◌++◌, IfErr, IfOk, OnOk};
 ghost use Rattle.std.specs.List.{list_all};
@@ -16,20 +16,25 @@ use plan_rules::LineCause;
 use plan_streams::Stream;
 use std::alloc::{AllocError, Global};
 
-/// What a check comes to.
+/// The verdict of a check.
 #[derive(Clone, Copy, Debug, PartialEq, Eq)]
 pub enum Verdict {
-    /// Nothing is refused: the sources make a list of jobs.
+    /// There is no error: the sources make a list of jobs.
     Clean,
-    /// Something is refused.
+    /// There is at least one error.
     Refused,
 }
 
-/// Writes all that is found of sources, a line for each finding, in the order of the sources: the path of the source, of which `paths`
-/// has that of each, the number of the line where it isn't the whole file, and what is found. It answers whether anything is refused.
+/// Writes all findings on the sources, one line for each, in the order of the sources. Returns whether there
+/// is an error.
 ///
-/// `NoMemory` where memory was refused; nothing is written then. `Device` where the stream fails, which then took the first bytes of
-/// the text.
+/// A line has the path of the source, which is at the same place in `paths`, then the number of the line,
+/// unless the finding is about the whole file, then what is found.
+///
+/// # Errors
+///
+/// `NoMemory` if an allocation failed; nothing is written then. `Device` if the stream failed, which then
+/// accepted the first bytes of the text.
 pub fn run_check<S: Stream>(
     alloc: Global,
     paths: &[SourcePath],
@@ -47,7 +52,7 @@ pub fn run_check<S: Stream>(
     Ok(verdict_on(found.as_slice()))
 }
 
-// What these findings come to.
+// Returns the verdict on these findings.
 fn verdict_on(found: &[Found]) -> Verdict
     ensures { result ≡ verdict_of (is_all_clean found.now) }
 {
@@ -58,21 +63,21 @@ fn verdict_on(found: &[Found]) -> Verdict
     }
 }
 
-// Whether all of them are notes.
+// Returns whether all findings are notes.
 fn are_notes(found: &[Found]) -> bool
     ensures { result ≡ list_all (λ one. is_note one.finding.what) found.now }
 {
     found.iter().all(|one| is_note(one.finding.what))
 }
 
-// Whether it is a note, of something that isn't refused.
+// Returns whether a finding is a note, which is no error.
 fn is_note(what: What) -> bool
     ensures { result ≡ is_note what }
 {
     matches!(what, What::Noted(_))
 }
 
-// The text of findings.
+// Returns the text of findings.
 fn check_text(alloc: Global, paths: &[SourcePath], found: &[Found]) -> Result<Vec<u8>, AllocError>
     ensures { IfOk result (λ text. text.items ≡ check_text paths.now found.now) }
 {
@@ -83,7 +88,7 @@ fn check_text(alloc: Global, paths: &[SourcePath], found: &[Found]) -> Result<Ve
     Ok(text)
 }
 
-// The path at a place.
+// Returns the path at a place, which is counted from 0.
 fn path_at(paths: &[SourcePath], place: usize) -> &str
     ensures { result.now ≡ path_at paths.now place }
 {
@@ -93,7 +98,7 @@ fn path_at(paths: &[SourcePath], place: usize) -> &str
     }
 }
 
-// Adds the line of a finding.
+// Appends the line of a finding.
 fn add_line(text: &mut Vec<u8>, path: &str, finding: Finding) -> Result<(), AllocError>
     ensures { OnOk result (text.new.items ≡ text.old.items ++ finding_line path.now finding) }
 {
@@ -105,7 +110,7 @@ fn add_line(text: &mut Vec<u8>, path: &str, finding: Finding) -> Result<(), Allo
     Ok(())
 }
 
-// Adds the number of a line.
+// Appends the number of a line, unless it is 0, which means the whole file.
 fn add_mark(text: &mut Vec<u8>, line: u32) -> Result<(), AllocError>
     ensures { OnOk result (text.new.items ≡ text.old.items ++ line_mark line) }
 {
@@ -118,7 +123,7 @@ fn add_mark(text: &mut Vec<u8>, line: u32) -> Result<(), AllocError>
     Ok(())
 }
 
-// Adds what is found.
+// Appends what is found.
 fn add_what(text: &mut Vec<u8>, what: What) -> Result<(), AllocError>
     ensures { OnOk result (text.new.items ≡ text.old.items ++ what_text what) }
 {
@@ -133,7 +138,7 @@ fn add_what(text: &mut Vec<u8>, what: What) -> Result<(), AllocError>
     }
 }
 
-// Adds why a line is refused.
+// Appends why a line is rejected.
 fn add_cause(text: &mut Vec<u8>, cause: LineCause) -> Result<(), AllocError>
     ensures { OnOk result (text.new.items ≡ text.old.items ++ cause_text cause) }
 {
@@ -149,7 +154,7 @@ fn add_cause(text: &mut Vec<u8>, cause: LineCause) -> Result<(), AllocError>
     }
 }
 
-// Adds bytes.
+// Appends bytes.
 fn add(text: &mut Vec<u8>, bytes: &[u8]) -> Result<(), AllocError>
     ensures { OnOk result (text.new.items ≡ text.old.items ++ bytes.now) }
 {

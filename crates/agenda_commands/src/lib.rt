@@ -1,8 +1,11 @@
-//! What the commands write: the next starts of a rule, an agenda of all sources, when each of their jobs starts next, when none
-//! does, all that is wrong with sources, and the replies to a script.
+//! The commands: each of them writes its text to a stream.
 //!
-//! It stands on plan_threads, agenda_sources and agenda_script, which do the work, and on agenda_faults, by which all of them fail. A
-//! module for each command: open `plan` first.
+//! `next` writes the next starts of a rule, `plan` the agenda of all sources, `upcoming` when each of their jobs
+//! starts next, `quiet` the gaps without a start, `check` all errors of sources, and `steps`, whose module is
+//! `script`, the replies to a script.
+//!
+//! The crate uses plan_threads, agenda_sources and agenda_script, which do the work, and agenda_faults for
+//! the errors. There is a module for each command. Read `plan` first.
 #![tactic(auto)]
 
 mod check;

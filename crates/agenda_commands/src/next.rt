@@ -1,4 +1,4 @@
-//! The next starts of one rule.
+//! Writes the next starts of one rule.
 
 ghost use Rattle.std.specs.Prelude.{◌≡◌, IfOk, IfErr, OnOk};
 ghost use Rattle.agenda_commands.specs.Command.{Fails, Writes};
@@ -14,14 +14,17 @@ use plan_sets::moment_text;
 use plan_streams::Stream;
 use std::alloc::{AllocError, Global};
 
-/// How many starts may be asked for at most.
+/// The maximum number of starts that can be requested.
 pub const MOST_STARTS: u64 = 1_000;
 
-/// Writes the first `count` starts of a rule later than `after`, in seconds since 1970-01-01T00:00:00Z: one moment a line, and
-/// the line `none` after them where the rule has no more.
+/// Writes the first `count` starts of a rule that are later than `after`, one timestamp per line. `after` is
+/// in seconds since 1970-01-01T00:00:00Z. If the rule has fewer starts, the line `none` follows them.
 ///
-/// `BadCount` where the count is outside 1 to 1,000; else `Rule` where the text is no rule; `NoMemory` where memory was
-/// refused. Nothing is written then. `Device` where the stream fails, which then took the first bytes of the text.
+/// # Errors
+///
+/// `BadCount` if the count is outside 1 to 1,000; then `Rule` if the text isn't a rule, or `NoMemory` if an
+/// allocation failed. Nothing is written then. `Device` if the stream failed, which then accepted the first
+/// bytes of the text.
 pub fn run_next<S: Stream>(
     alloc: Global,
     asked: &Asked,
@@ -34,7 +37,7 @@ pub fn run_next<S: Stream>(
     ensures refused { IfErr result (λ fault. Fails S.takes_all (IsTextOfNext clock.now asked.now after count) (RefusesNext clock.now asked.now count) fault
         (S.holds out.old) (S.holds out.new)) }
 
-    // A bad count is found before anything else, and before memory is asked for.
+    // A bad count is found before anything else, and before memory is allocated.
     ensures bad_count { ¬ IsCount count → result ≡ Err RunFault.BadCount }
 {
     if count == 0 || count > MOST_STARTS {
@@ -46,7 +49,7 @@ pub fn run_next<S: Stream>(
     Ok(())
 }
 
-// The rule that was asked about, by the clock of a zone.
+// Reads the requested rule, for the clock of a zone.
 fn zoned_rule(alloc: Global, asked: &Asked, clock: &Clock) -> Result<Rule, RuleFault>
     ensures { Gives result (asked_reading clock.now asked.now) }
 {
@@ -54,7 +57,7 @@ fn zoned_rule(alloc: Global, asked: &Asked, clock: &Clock) -> Result<Rule, RuleF
     Ok(rule.in_zone(alloc, clock)?)
 }
 
-// The rule that was asked about, in UTC unless it names a zone.
+// Reads the requested rule, in UTC unless it names a zone.
 fn asked_rule(alloc: Global, asked: &Asked) -> Result<Rule, RuleFault>
     ensures { Gives result (asked_rule asked.now) }
 {
@@ -64,7 +67,7 @@ fn asked_rule(alloc: Global, asked: &Asked) -> Result<Rule, RuleFault>
     }
 }
 
-// The text of the next starts.
+// Returns the text of the next starts.
 fn starts_text(alloc: Global, rule: &Rule, after: u64, count: u64) -> Result<Vec<u8>, AllocError>
     ensures { IfOk result (λ text. text.items ≡ next_text rule.now after count) }
 {

@@ -1,4 +1,4 @@
-//! The agenda of the jobs of crontabs and timer files, planned and written.
+//! Plans and writes the agenda of the jobs of crontabs and timer files.
 
 ghost use Rattle.std.specs.Prelude.{◌≡◌, IfErr, IfSome, OnOk};
 ghost use Rattle.agenda_sources.specs.AtOnce.{fault_at_once};
@@ -17,14 +17,19 @@ use std::alloc::Global;
 use std::sync::Wait;
 use std::thread::Threads;
 
-/// Writes the agenda of the jobs of sources over a span: its header line, then one line for each start, by time and then by job.
-/// The planners of `sizes` search, each in a thread of its own. It waits for them.
+/// Writes the agenda of the jobs of the sources over a span: its header line, then one line for each start,
+/// sorted by time and then by job. The planners of `sizes` search for the starts, each in its own thread. The
+/// function waits for them.
 ///
-/// The faults, in this order: `InSource`, `SameName` and `Full` where the sources make no list of jobs, the
-/// first that stands in them; `Plan(BadSize)` where the planners or the room are out of their ranges, `Plan(BadLimit)` where the
-/// limit is; `Plan(Collect(TooMany))` where the agenda has more entries than the limit. `NoMemory` may come in place of each, but
-/// never of a fault of the first source that `jobs_of_sources` finds at once.
-/// Nothing is written then. `Device` where the stream fails, which then took the first bytes of the text.
+/// # Errors
+///
+/// The first of these is returned: `InSource`, `SameName` or `Full` if the sources make no list of jobs,
+/// whichever comes first in them; `Plan(BadSize)` if the number of planners or their capacity is out of
+/// range; `Plan(BadLimit)` if the limit is; `Plan(Collect(TooMany))` if the agenda has more entries than the
+/// limit. `NoMemory` may come in place of each of them if an allocation failed, but never in place of an
+/// error of the first source that `jobs_of_sources` finds at once. Nothing is written then.
+///
+/// `Device` if the stream failed, which then accepted the first bytes of the text.
 pub fn run_plan<R: Threads + Wait + Sync, S: Stream>(
     rt: &R,
     alloc: Global,
@@ -38,7 +43,7 @@ pub fn run_plan<R: Threads + Wait + Sync, S: Stream>(
     ensures refused { IfErr result (λ fault. Fails S.takes_all (IsTextOfPlan clock.now sources.now span sizes)
         (RefusesPlan clock.now sources.now span sizes) fault (S.holds out.old) (S.holds out.new)) }
 
-    // These are found before any memory is asked for.
+    // These errors are found before any memory is allocated.
     ensures at_once { IfSome (fault_at_once sources.now) (λ fault. result ≡ Err (fault_of_sources fault)) }
 {
     let jobs = jobs_of_sources(alloc, sources, clock)?;

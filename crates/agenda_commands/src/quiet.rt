@@ -1,4 +1,4 @@
-//! When no job of crontabs and timer files starts.
+//! Writes the gaps in which no job of crontabs and timer files starts.
 
 ghost use Rattle.std.specs.Prelude.{◌≡◌, ◌≤◌, IfErr, IfSome, OnOk};
 ghost use Rattle.agenda_sources.specs.AtOnce.{fault_at_once};
@@ -17,11 +17,13 @@ use std::alloc::Global;
 use std::sync::Wait;
 use std::thread::Threads;
 
-/// Writes the gaps of a span in which no job of sources starts and that last `least` seconds or longer, a line for each, in order. Its
-/// plan is made as `run_plan` makes it.
+/// Writes the gaps of a span in which no job of the sources starts, one line for each, in order. Only gaps of
+/// `least` seconds or more are written. The plan is made as in `run_plan`.
 ///
-/// The faults: `BadLeast` where `least` is 0, and else those of `run_plan`, in its order. Nothing is written then. `Device` where the
-/// stream fails, which then took the first bytes of the text.
+/// # Errors
+///
+/// `BadLeast` if `least` is 0; then the errors of `run_plan`, in its order. Nothing is written then. `Device`
+/// if the stream failed, which then accepted the first bytes of the text.
 pub fn run_quiet<R: Threads + Wait + Sync, S: Stream>(
     rt: &R,
     alloc: Global,
@@ -36,7 +38,7 @@ pub fn run_quiet<R: Threads + Wait + Sync, S: Stream>(
     ensures refused { IfErr result (λ fault. Fails S.takes_all (IsTextOfQuiet clock.now sources.now span sizes least)
         (RefusesQuiet clock.now sources.now span sizes least) fault (S.holds out.old) (S.holds out.new)) }
 
-    // These are found before any memory is asked for.
+    // These errors are found before any memory is allocated.
     ensures bad_least { least ≡ 0 → result ≡ Err RunFault.BadLeast }
     ensures at_once { 1 ≤ least → IfSome (fault_at_once sources.now) (λ fault. result ≡ Err (fault_of_sources fault)) }
 {

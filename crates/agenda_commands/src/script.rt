@@ -1,4 +1,4 @@
-//! Scripts: a list of steps on a mailbox, and what it replies to them.
+//! Runs scripts: steps on a mailbox, and its replies to them.
 
 ghost use Rattle.std.specs.Prelude.{◌≡◌, IfErr, IfOk, OnOk, vec_len};
 ghost use Rattle.plan_mailbox.specs.History.{IsLawful, record_of};
@@ -14,11 +14,14 @@ use plan_mailbox::{Reply, Rings, Step, run_steps};
 use plan_streams::Stream;
 use std::alloc::Global;
 
-/// Takes the steps of a script on a new mailbox, and writes one line for each reply.
+/// Runs the steps of a script on a new mailbox, and writes one line for each reply.
 ///
-/// The first line is `mailbox SENDERS ROOM`; each further one is `send S TEXT`, `take` or `close S`. `Script` holds the
-/// first fault of the script's bytes; `NoMemory` says that memory was refused. Nothing is written then. `Device` comes where
-/// the stream fails, which then took the first bytes of the text.
+/// The first line of a script is `mailbox SENDERS ROOM`. Each of the others is `send S TEXT`, `take` or `close S`.
+///
+/// # Errors
+///
+/// `Script` with the first error in the script's bytes, or `NoMemory` if an allocation failed. Nothing is
+/// written then. `Device` if the stream failed, which then accepted the first bytes of the text.
 pub fn run_script<S: Stream>(alloc: Global, script: &[u8], out: &mut S) -> Result<(), RunFault>
     ensures written { OnOk result (Writes (IsTextOfRun script.now) (S.holds out.old) (S.holds out.new)) }
     ensures refused { IfErr result (λ fault. Fails S.takes_all (IsTextOfRun script.now) (RefusesRun script.now) fault
@@ -33,7 +36,8 @@ pub fn run_script<S: Stream>(alloc: Global, script: &[u8], out: &mut S) -> Resul
     Ok(())
 }
 
-// The replies of new rings to steps, whatever the messages are: those of a script are lent, and a trait's call names no lifetime.
+// Returns the replies of new rings to steps, for any type of messages. The messages of a script are borrowed,
+// and a call of a trait names no lifetime.
 fn replies_to<M: Drop>(
     alloc: Global,
     rings: &mut Rings<M>,

@@ -1,4 +1,4 @@
-//! When each job of crontabs and timer files starts next.
+//! Writes when each job of crontabs and timer files starts next.
 
 ghost use Rattle.std.specs.Prelude.{◌≡◌, IfErr, IfSome, OnOk};
 ghost use Rattle.agenda_sources.specs.AtOnce.{fault_at_once};
@@ -13,12 +13,16 @@ use plan_streams::Stream;
 use plan_write::{Upcoming, write_upcoming};
 use std::alloc::Global;
 
-/// Writes when each job of sources starts next, later than `after`, in seconds since 1970-01-01T00:00:00Z: a line for each job, by
-/// time and then by job, and at last those that have no further start, with `none` in place of the moment.
+/// Writes when each job of the sources starts next, later than `after`: one line for each job, sorted by time
+/// and then by job. `after` is in seconds since 1970-01-01T00:00:00Z. Jobs without a further start come last,
+/// with `none` in place of the timestamp.
 ///
-/// The faults: `InSource`, `SameName` and `Full` where the sources make no list of jobs, the first that stands in them. `NoMemory`
-/// may come in place of each, but never of a fault of the first source that `jobs_of_sources` finds at once. Nothing is written
-/// then. `Device` where the stream fails, which then took the first bytes of the text.
+/// # Errors
+///
+/// `InSource`, `SameName` or `Full` if the sources make no list of jobs, whichever comes first in them.
+/// `NoMemory` may come in place of each of them if an allocation failed, but never in place of an error of
+/// the first source that `jobs_of_sources` finds at once. Nothing is written then. `Device` if the stream
+/// failed, which then accepted the first bytes of the text.
 pub fn run_upcoming<S: Stream>(
     alloc: Global,
     sources: &Sources,
@@ -30,7 +34,7 @@ pub fn run_upcoming<S: Stream>(
     ensures refused { IfErr result (λ fault. Fails S.takes_all (IsTextOfUpcoming clock.now sources.now after) (RefusesUpcoming clock.now sources.now) fault
         (S.holds out.old) (S.holds out.new)) }
 
-    // These are found before any memory is asked for.
+    // These errors are found before any memory is allocated.
     ensures at_once { IfSome (fault_at_once sources.now) (λ fault. result ≡ Err (fault_of_sources fault)) }
 {
     let jobs = jobs_of_sources(alloc, sources, clock)?;

@@ -1,6 +1,7 @@
--- The lines of faults whose cause is known not to be a want of memory: for `put_rule_fault`, `put_script_fault`,
--- `put_source_rule_fault`, `put_source_fault`, `put_collect_fault` and `put_zone_fault`, in their last branch. By the cases of the cause:
--- `NoMemory` is ruled out, and `Rule` for the line of a source. For each other one the definition computes.
+-- The lines of errors whose cause is known not to be `NoMemory`: for the last branch of `put_rule_fault`,
+-- `put_script_fault`, `put_source_rule_fault`, `put_source_fault`, `put_collect_fault` and `put_zone_fault`. By
+-- the cases of the cause: `NoMemory` is ruled out, and so is `Rule` for the line of a source. In every other
+-- case the definition computes.
 use Rattle.std.proofs.Common.{◌≡◌, ◌≢◌, ℕ, List, ◌++◌, codes, decimal, refl, sym}
 use Rattle.plan_rules.specs.declared.RuleCause.{RuleCause}
 use Rattle.plan_rules.specs.declared.RuleCause.TheVariants as cause
@@ -72,7 +73,7 @@ pub source_line-text :
 source_line-text source digits name line refused not no_rule line_is name_is =
     rw (line_is, name_is) (sym (source_line-refused source line refused not no_rule))
 
--- the line of what a collector refused
+-- the line of an error of a collector
 collect_line-refused :
     (refused : CollectFault) → refused ≢ collect.NoMemory →
     collect_line refused ≡ codes "agenda: plan: " ++ (collect_cause refused ++ codes "\n")

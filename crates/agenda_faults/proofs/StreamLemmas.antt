@@ -1,6 +1,8 @@
--- A text that is written piece by piece: for `put_each`, where a piece could not be put. The pieces before it were
--- written, and then some first bytes of it: together these are the first bytes of the whole (`breaks_off_in`).
--- `puts_as` is for `put_failure` and those below it: the text that they put is the line of the definition.
+-- A text that is written piece by piece: for `put_each`, if a piece could not be put. The pieces before it were
+-- written, and then the first bytes of this piece. Together these are the first bytes of the whole
+-- (`breaks_off_in`).
+-- `puts_as` is for `put_failure` and the functions that it calls: the text that they put is the line of the
+-- definition.
 use Rattle.std.proofs.Common.{◌≡◌, ℕ, ◌+◌, Bool, List, ◌++◌, length, take, drop, Option, ap, subst, ◌∙◌, arith, sym, length-append, get_or, take-append-drop, ◌<◌, Result, Ok, Err, IsErr, true, false}
 use Rattle.std.proofs.Math.Seq.{take-append-add}
 use Rattle.std.specs.List.{flat_map}
@@ -25,7 +27,7 @@ breaks_off_in takes_all a b c front piece back text is before (fails, (k, within
       ),
     )
 
--- a piece of a text of pieces, with what stands before and behind it
+-- a piece of a text of pieces, with what is before and after it
 pub flat_map_at :
     {X : Type 0} (f : X → List ℕ) (xs : List X) (i : ℕ) (d : X) → i < length xs →
     flat_map f xs ≡ flat_map f (take i xs) ++ (f (get_or xs i d) ++ flat_map f (drop (i + 1) xs))
@@ -33,14 +35,14 @@ flat_map_at f xs i d within =
     sym (ap (flat_map f) (take-append-drop i xs)) ∙ flat_map-append f (take i xs) (drop i xs)
     ∙ ap (λ l. flat_map f (take i xs) ++ flat_map f l) (drop_more xs i d within)
 
--- at an error the stream broke off
+-- if there is an error, the stream broke off
 pub puts_err :
     {A E : Type 0} (takes_all : Bool) (result : Result A E) (old new : Option (List ℕ)) (text : List ℕ) → IsErr result →
     BreaksOff takes_all old new text → Puts takes_all result old new text
 puts_err takes_all (Ok x) old new text is off = absurd (let no : false ≡ true = is in cc)
 puts_err takes_all (Err e) old new text is off = off
 
--- the same text, written otherwise
+-- the same text, written differently
 pub puts_as :
     {A E : Type 0} (takes_all : Bool) (result : Result A E) (old new : Option (List ℕ)) (text same : List ℕ) →
     Puts takes_all result old new text → text ≡ same → Puts takes_all result old new same

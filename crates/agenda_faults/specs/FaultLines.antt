@@ -1,4 +1,4 @@
--- The lines of failures, as the program writes them on standard error. All of it is own.
+-- The lines of errors, as the program writes them on standard error (agenda).
 use Rattle.std.specs.Prelude.{ℕ, List, [], ◌++◌, codes, decimal, Option, None, Some, slice_get, unwrap_or}
 use Rattle.plan_rules.specs.declared.RuleCause.{RuleCause}
 use Rattle.plan_rules.specs.declared.RuleCause.TheVariants as cause
@@ -26,23 +26,23 @@ use Rattle.agenda_sources.specs.Name.{file_name}
 use Rattle.agenda_sources.specs.Kind.{label_of}
 use Rattle.agenda_sources.specs.declared.SourcePath.{SourcePath}
 
--- memory was refused
+-- an allocation failed
 abbrev pub memory_line : List ℕ
 memory_line = codes "agenda: NoMemory\n"
 
--- the rule of `next`: its part and cause; a want of memory has no part
+-- the rule of `next`: its part and cause. If an allocation failed, the line has no part
 abbrev pub rule_line : ℕ → RuleCause → List ℕ
 rule_line part cause.NoMemory = memory_line
 rule_line part refused =
     codes "agenda: rule: part " ++ (decimal part ++ (codes ": " ++ (rule_cause refused ++ codes "\n")))
 
--- a script: its line and cause; a want of memory has no line
+-- a script: its line and cause. If an allocation failed, no line is named
 abbrev pub script_line : ℕ → ScriptCause → List ℕ
 script_line line script.NoMemory = memory_line
 script_line line refused =
     codes "agenda: script: line " ++ (decimal line ++ (codes ": " ++ (script_cause refused ++ codes "\n")))
 
--- a line of a crontab or of a timer file: the source's name, the line's number in decimal and the cause
+-- a line of a crontab or a timer file: the source's name, the line's number in decimal and the cause
 abbrev pub text_of_line : (source line cause : List ℕ) → List ℕ
 text_of_line source line cause =
     codes "agenda: " ++ (source ++ (codes ": line " ++ (line ++ (codes ": " ++ (cause ++ codes "\n")))))
@@ -53,36 +53,36 @@ text_of_part source line part cause =
     codes "agenda: "
     ++ (source ++ (codes ": line " ++ (line ++ (codes ": part " ++ (part ++ (codes ": " ++ (cause ++ codes "\n")))))))
 
--- a rule on a line of a crontab or of a timer file; a want of memory has no line
+-- a rule on a line of a crontab or a timer file. If an allocation failed, no line is named
 abbrev pub source_rule_line : List ℕ → (line part : ℕ) → RuleCause → List ℕ
 source_rule_line source line part cause.NoMemory = memory_line
 source_rule_line source line part refused = text_of_part source (decimal line) (decimal part) (rule_cause refused)
 
--- a crontab or a timer file that is refused; a want of memory has no line
+-- a crontab or a timer file that is rejected. If an allocation failed, no line is named
 abbrev pub source_line : List ℕ → ℕ → LineCause → List ℕ
 source_line source line on_line.NoMemory = memory_line
 source_line source line (on_line.Rule fault) = source_rule_line source line fault.part fault.cause
 source_line source line refused = text_of_line source (decimal line) (line_cause refused)
 
--- what a source is called: by the label of its kind, or by its file's name
+-- the name of a source in error lines: the label of its kind, or its file's name
 abbrev pub name_of : SourcePath → List ℕ
 name_of source = unwrap_or (label_of source.kind) (file_name source.path)
 
--- the source, if it is there
+-- the name of a source that may be missing
 abbrev pub name_in : Option SourcePath → List ℕ
 name_in None = []
 name_in (Some source) = name_of source
 
--- the source at a place
+-- the name of the source at a place
 abbrev pub source_name : List SourcePath → ℕ → List ℕ
 source_name sources place = name_in (slice_get sources place)
 
--- what a collector refused; a want of memory has no cause
+-- an error of a collector. If an allocation failed, no cause is named
 abbrev pub collect_line : CollectFault → List ℕ
 collect_line collect.NoMemory = memory_line
 collect_line refused = codes "agenda: plan: " ++ (collect_cause refused ++ codes "\n")
 
--- a plan that is refused; a want of memory has no cause
+-- a plan that was not made. If an allocation failed, no cause is named
 abbrev pub plan_line : PlanFault → List ℕ
 plan_line plan.NoMemory = memory_line
 plan_line plan.BadSize = codes "agenda: plan: BadSize\n"
@@ -90,7 +90,7 @@ plan_line (plan.Collect fault) = collect_line fault
 plan_line (plan.NotSettled unsettled) = codes "agenda: NotSettled\n"
 plan_line plan.BadLimit = codes "agenda: plan: BadLimit\n"
 
--- a command that was not done, with the paths of the sources of a plan
+-- a command that was not done, with the paths of the plan's sources
 abbrev pub run_line : List SourcePath → RunFault → List ℕ
 run_line sources NoMemory = memory_line
 run_line sources BadCount = codes "agenda: count: BadCount\n"
@@ -103,12 +103,12 @@ run_line sources (Script fault) = script_line fault.line fault.cause
 run_line sources Device = codes "agenda: Device\n"
 run_line sources BadLeast = codes "agenda: quiet: BadLeast\n"
 
--- a zone that can't be used; running out of memory has no name of its own here
+-- a zone that can't be used. If an allocation failed, the zone is not named
 abbrev pub zone_line : ZoneFault → List ℕ
 zone_line zone.NoMemory = memory_line
 zone_line refused = codes "agenda: zone: " ++ (zone_fault_name refused ++ codes "\n")
 
--- what standard error gets: the text of usage as it is, or one line
+-- what standard error gets: the text of usage unchanged, or one line
 abbrev pub fault_text : List SourcePath → Failure → List ℕ
 fault_text sources (Usage text) = text
 fault_text sources (After fault) = codes "agenda: after: " ++ (moment_cause fault ++ codes "\n")

@@ -1,4 +1,4 @@
-//! The lines of failures on standard error.
+//! The lines of errors on standard error.
 
 ghost use Rattle.std.specs.Prelude.{◌≡◌, ◌≤◌, ◌++◌, IfSome, codes, length, take};
 ghost use Rattle.std.specs.List.{flat_map};
@@ -16,15 +16,16 @@ use plan_rules::{LineCause, LineFault, RuleCause, RuleFault};
 use plan_streams::{Stream, WriteFault};
 use plan_zones::ZoneFault;
 
-// How many bytes of a line go out by one write: all but those with a very long path.
+// The maximum number of bytes of a line that is written by one write. Only lines with a very long path have more.
 const LINE_ROOM: usize = 1_024;
 
-// The line where memory was refused.
+// The line if an allocation failed.
 const MEMORY_LINE: &[u8] = b"agenda: NoMemory\n";
 
-/// Writes the line of a failure, or the text of usage, and answers the status with which the program ends: 1 where input,
-/// a size, a count or a limit was refused, 2 for usage, 3 where memory was refused, or a device or a file failed. `sources` are
-/// the paths of the sources of a plan, of which a fault names one by its place. A fault of this stream is passed over. Takes no memory.
+/// Writes the line of a failure, or the text of usage, and returns the exit status.
+///
+/// The status is that of `Failure::status`. `sources` are the paths of a plan's sources; an error in a source
+/// has its place in this list. An error of this stream is ignored. This requests no memory.
 pub fn fault_line<S: Stream>(failure: &Failure, sources: &[SourcePath], stream: &mut S) -> u8
     ensures status { result ≡ status_of failure.now }
     ensures line { PutsOrBreaksOff S.takes_all (S.holds stream.old) (S.holds stream.new)
@@ -101,7 +102,7 @@ fn put_run_fault<S: Stream>(
     }
 }
 
-// What lines of faults call the source at a place, if it is there.
+// Returns the name of the source at a place in error lines, or an empty name if there is no such source.
 fn source_name(sources: &[SourcePath], place: usize) -> &str
     ensures { result.now ≡ source_name sources.now place }
 {
@@ -111,7 +112,7 @@ fn source_name(sources: &[SourcePath], place: usize) -> &str
     }
 }
 
-// What they call a source: by the label of its kind, or by its file's name.
+// Returns the name of a source in error lines: the label of its kind, or its file's name.
 fn name_of(source: &SourcePath) -> &str
     ensures { result.now ≡ name_of source.now }
 {
@@ -129,7 +130,7 @@ fn put_same_name<S: Stream>(name: &str, stream: &mut S) -> Result<(), WriteFault
     put_joined(&[b"agenda: job ", name.as_bytes(), b": SameName\n"], stream)
 }
 
-// Writes the line of a plan that was refused.
+// Writes the line of a plan that was not made.
 fn put_plan_fault<S: Stream>(fault: PlanFault, stream: &mut S) -> Result<(), WriteFault>
     ensures { Puts S.takes_all result (S.holds stream.old) (S.holds stream.new) (plan_line fault) }
 {
@@ -152,7 +153,7 @@ fn put_zone_fault<S: Stream>(fault: ZoneFault, stream: &mut S) -> Result<(), Wri
     }
 }
 
-// Writes the line of what a collector refused.
+// Writes the line of an error of a collector.
 fn put_collect_fault<S: Stream>(fault: CollectFault, stream: &mut S) -> Result<(), WriteFault>
     ensures { Puts S.takes_all result (S.holds stream.old) (S.holds stream.new)
         (collect_line fault) }
@@ -163,7 +164,7 @@ fn put_collect_fault<S: Stream>(fault: CollectFault, stream: &mut S) -> Result<(
     }
 }
 
-// Writes the line of a crontab or of a timer file that was refused, by its name.
+// Writes the line of a crontab or a timer file that is rejected, with its name.
 fn put_source_fault<S: Stream>(
     source: &[u8],
     fault: LineFault,
@@ -181,7 +182,7 @@ fn put_source_fault<S: Stream>(
     }
 }
 
-// Writes the line of a rule that was refused on a line of a crontab or of a timer file.
+// Writes the line of a rule that is rejected, on a line of a crontab or a timer file.
 fn put_source_rule_fault<S: Stream>(
     source: &[u8],
     line: u32,
@@ -200,7 +201,7 @@ fn put_source_rule_fault<S: Stream>(
     }
 }
 
-// Writes the line of a line of a source.
+// Writes the line of an error on a line of a source.
 fn put_line<'a, S: Stream>(
     source: &'a [u8],
     line: &'a [u8],
@@ -216,7 +217,7 @@ fn put_line<'a, S: Stream>(
     )
 }
 
-// Writes the line of a part of a rule on a line of a source.
+// Writes the line of an error in a part of a rule on a line of a source.
 fn put_part<'a, S: Stream>(
     source: &'a [u8],
     line: &'a [u8],
@@ -243,7 +244,7 @@ fn put_part<'a, S: Stream>(
     )
 }
 
-// Writes the line of a rule that was refused.
+// Writes the line of a rule that is rejected.
 fn put_rule_fault<S: Stream>(fault: RuleFault, stream: &mut S) -> Result<(), WriteFault>
     ensures { Puts S.takes_all result (S.holds stream.old) (S.holds stream.new)
         (rule_line fault.part fault.cause) }
@@ -265,7 +266,7 @@ fn put_rule_fault<S: Stream>(fault: RuleFault, stream: &mut S) -> Result<(), Wri
     }
 }
 
-// Writes the line of a script that was refused.
+// Writes the line of a script that is rejected.
 fn put_script_fault<S: Stream>(fault: ScriptFault, stream: &mut S) -> Result<(), WriteFault>
     ensures { Puts S.takes_all result (S.holds stream.old) (S.holds stream.new)
         (script_line fault.line fault.cause) }
@@ -287,8 +288,8 @@ fn put_script_fault<S: Stream>(fault: ScriptFault, stream: &mut S) -> Result<(),
     }
 }
 
-// Writes pieces as one text: by one write, where they fit a buffer, so that the lines of programs which run at once don't
-// mix.
+// Writes pieces as one text. If they fit in a buffer, this is one write, so that the lines of programs that run
+// at the same time don't mix.
 fn put_joined<S: Stream>(pieces: &[&[u8]], stream: &mut S) -> Result<(), WriteFault>
     ensures { Puts S.takes_all result (S.holds stream.old) (S.holds stream.new)
         (flat_map (λ piece. piece.now) pieces.now) }
@@ -300,7 +301,7 @@ fn put_joined<S: Stream>(pieces: &[&[u8]], stream: &mut S) -> Result<(), WriteFa
     }
 }
 
-// Copies pieces one behind the other into a buffer, and answers how many bytes they are; `None` where they don't fit.
+// Copies pieces into a buffer, one after the other, and returns their number of bytes, or `None` if they don't fit.
 fn join(pieces: &[&[u8]], buffer: &mut [u8]) -> Option<usize>
     ensures { IfSome result (λ len. (len ≤ length buffer.new)
         × (take len buffer.new ≡ flat_map (λ piece. piece.now) pieces.now)) }

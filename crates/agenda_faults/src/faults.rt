@@ -1,4 +1,4 @@
-//! Why the program fails, and the status with which it then ends.
+//! Why the program fails, and its exit status in each case.
 
 ghost use Rattle.std.specs.Prelude.{◌≡◌};
 ghost use Rattle.agenda_faults.specs.Faults.{line_status, plan_status, rule_status, script_status, zone_status};
@@ -16,34 +16,34 @@ use thiserror::Error;
 /// Why a command was not done.
 #[derive(Debug, Drop, Error)]
 pub enum RunFault {
-    /// 1: memory was refused.
+    /// An allocation failed.
     #[error("NoMemory")]
     NoMemory,
-    /// 2: the count of `next` is outside 1 to 1,000.
+    /// The count of `next` is outside 1 to 1,000.
     #[error("BadCount")]
     BadCount,
-    /// 3: the text of `next` is no rule.
+    /// The text of `next` is not a rule.
     #[error("{0}")]
     Rule(RuleFault),
-    /// 4: the source at this place, from 0, is refused.
+    /// The source at this place, from 0, is invalid. This is its first error.
     #[error("{1}")]
     InSource(usize, LineFault),
-    /// 5: another job has this name.
+    /// Two jobs have this name.
     #[error("SameName")]
     SameName(Text),
-    /// 6: there are more than 1,000 jobs.
+    /// There are more than 1,000 jobs.
     #[error("Full")]
     Full,
-    /// 7: the jobs make no plan.
+    /// No plan was made of the jobs.
     #[error("{0}")]
     Plan(PlanFault),
-    /// 8: the script was refused.
+    /// The script is invalid.
     #[error("{0}")]
     Script(ScriptFault),
-    /// 9: the writer failed.
+    /// The writer failed.
     #[error("Device")]
     Device,
-    /// 10: the least gap of `quiet` is 0 seconds.
+    /// The minimum gap of `quiet` is 0 seconds.
     #[error("BadLeast")]
     BadLeast,
 }
@@ -81,7 +81,7 @@ impl From<WriteFault> for RunFault {
     }
 }
 
-// A want of memory inside a fault of a rule is a want of memory.
+// If the cause of the rule's error is `NoMemory`, so is the result.
 impl From<RuleFault> for RunFault {
     ghost use Rattle.std.specs.Prelude.{◌≡◌};
     ghost use Rattle.agenda_faults.specs.Faults.{fault_of_rule};
@@ -112,7 +112,7 @@ impl From<SourceFault> for RunFault {
     }
 }
 
-// A want of memory is always the same fault.
+// Running out of memory is always the same error.
 impl From<PlanFault> for RunFault {
     ghost use Rattle.std.specs.Prelude.{◌≡◌};
     ghost use Rattle.agenda_faults.specs.Faults.{fault_of_plan};
@@ -127,7 +127,7 @@ impl From<PlanFault> for RunFault {
     }
 }
 
-// A want of memory inside a fault of a script is a want of memory.
+// If the cause of the script's error is `NoMemory`, so is the result.
 impl From<ScriptFault> for RunFault {
     ghost use Rattle.std.specs.Prelude.{◌≡◌};
     ghost use Rattle.agenda_faults.specs.Faults.{fault_of_script};
@@ -145,15 +145,15 @@ impl From<ScriptFault> for RunFault {
 /// Why the program ends with a status other than 0.
 #[derive(Debug, Drop)]
 pub enum Failure {
-    /// The words of the command line are no use of the program. The text says what is.
+    /// The arguments are invalid. The text shows the usage.
     Usage(Text),
-    /// The text of `--after` is no moment.
+    /// The text of `--after` is not a timestamp.
     After(MomentFault),
-    /// The text of `--since` is no moment.
+    /// The text of `--since` is not a timestamp.
     Since(MomentFault),
-    /// The text of `--upto` is no moment.
+    /// The text of `--upto` is not a timestamp.
     Upto(MomentFault),
-    /// The moments of `--since` and `--upto` bound no span.
+    /// The timestamps of `--since` and `--upto` don't bound a span.
     Span(SpanFault),
     /// The zone of `--zone` can't be used.
     Zone(ZoneFault),
@@ -187,7 +187,7 @@ impl<T: Drop> From<AllocFailed<T>> for Failure {
     }
 }
 
-// Running out of memory for a zone is always the same failure.
+// Running out of memory for a zone is always the same error.
 impl From<ZoneFault> for Failure {
     ghost use Rattle.std.specs.Prelude.{◌≡◌};
     ghost use Rattle.agenda_faults.specs.Faults.{failure_of_zone};
@@ -202,20 +202,20 @@ impl From<ZoneFault> for Failure {
     }
 }
 
-// The status where input, a size, a count or a limit was refused.
+// The status if input, a size, a count or a limit is rejected.
 const REFUSED: u8 = 1;
 
-// The status where the words are no use of the program.
+// The status if the arguments are invalid.
 const USAGE: u8 = 2;
 
-// The status where memory was refused, or a device or a file failed.
+// The status if an allocation, a device or a file failed, or if the planners' accounts don't agree.
 const FAILED: u8 = 3;
 
 impl Failure {
     ghost use Rattle.agenda_faults.specs.Faults.{status_of};
 
-    /// The status with which the program ends: 1 where input or a count was refused, 2 for usage, 3 where memory was
-    /// refused, or a device or a file failed.
+    /// Returns the exit status: 1 if input, a size, a count or a limit is rejected, 2 for usage, and 3 if an
+    /// allocation, a device or a file failed or the planners' accounts don't agree.
     pub fn status(&self) -> u8
         ensures { result ≡ status_of self.now }
     {
@@ -232,7 +232,7 @@ impl Failure {
 impl RunFault {
     ghost use Rattle.agenda_faults.specs.Faults.{run_status};
 
-    // The status with which the program ends where a command was not done.
+    // Returns the exit status if a command was not done.
     fn status(&self) -> u8
         ensures { result ≡ run_status self.now }
     {
@@ -249,7 +249,7 @@ impl RunFault {
     }
 }
 
-// The status of a rule that was refused.
+// Returns the status for a rule that is rejected.
 fn rule_status(cause: RuleCause) -> u8
     ensures { result ≡ rule_status cause }
 {
@@ -259,7 +259,7 @@ fn rule_status(cause: RuleCause) -> u8
     }
 }
 
-// The status of a crontab or a timer file that was refused.
+// Returns the status for a crontab or a timer file that is rejected.
 fn line_status(cause: LineCause) -> u8
     ensures { result ≡ line_status cause }
 {
@@ -270,7 +270,7 @@ fn line_status(cause: LineCause) -> u8
     }
 }
 
-// The status of a plan that was refused.
+// Returns the status if no plan was made.
 fn plan_status(fault: PlanFault) -> u8
     ensures { result ≡ plan_status fault }
 {
@@ -282,7 +282,7 @@ fn plan_status(fault: PlanFault) -> u8
     }
 }
 
-// The status of a zone that can't be used.
+// Returns the status for a zone that can't be used.
 fn zone_status(fault: ZoneFault) -> u8
     ensures { result ≡ zone_status fault }
 {
@@ -292,7 +292,7 @@ fn zone_status(fault: ZoneFault) -> u8
     }
 }
 
-// The status of a script that was refused.
+// Returns the status for a script that is rejected.
 fn script_status(cause: ScriptCause) -> u8
     ensures { result ≡ script_status cause }
 {

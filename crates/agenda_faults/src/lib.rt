@@ -1,6 +1,7 @@
-//! What the program says where it fails: why a command isn't done, the line of that on standard error, and the status.
+//! What the program says when it fails: the error, its line on standard error, and the exit status.
 //!
-//! It stands on every crate that has a fault of its own, and on plan_streams for the stream. Open `faults` first, then `fault_lines`.
+//! The errors are those of the crates below, and plan_streams writes the line. Read `faults` first, then
+//! `fault_lines`.
 #![tactic(auto)]
 
 mod fault_lines;

@@ -1,6 +1,6 @@
--- How the steps of a script are read from top to bottom.
--- For the loop of `read_steps`, whose invariant is `AreRead`, and for `read_script`, where bytes are a text or none.
--- The lines are numbered from 2 on; a turn is a law of `each` on the line at its place.
+-- How the steps of a script are read, from the first line to the last.
+-- For the loop of `read_steps`, whose invariant is `AreRead`, and for the two cases of `read_script`: bytes that are
+-- UTF-8, and others. The lines are numbered from 2 on. A turn of the loop is a law of `each` on the line at its place.
 use Rattle.std.proofs.Common.{◌≡◌, ℕ, ◌+◌, ◌<◌, ◌≤◌, List, [], ◌∷◌, ◌++◌, length, take, get_or, Ok, Err, refl, ap, ap₂, sym, ◌∙◌, arith, map, Bor, Bool, true, false, true≢false}
 use Rattle.std.proofs.lemmas.List.{take_more, take_all, get_or-map, length-map}
 use Rattle.std.proofs.lemmas.List.FromFn.{length-enumerate_from, get_or-enumerate_from}
@@ -49,7 +49,7 @@ found lines k number line inside is place =
     let n : 2 + k ≡ number = omega arith in
     get_or-enumerate_from 2 lines k (number, line) inside ∙ ap₂ (λ (a : ℕ) (b : List ℕ). (a, b)) n (sym is)
 
--- one line more was read
+-- one more line was read
 pub one_more_read :
     (lines : List (List ℕ)) (k number : ℕ) (line : List ℕ) (steps : List (Step (List ℕ))) (step : Step (List ℕ)) →
     k < length lines → line ≡ get_or lines k line → number ≡ k + 2 → AreRead lines k steps → step_on number line ≡ Ok step →
@@ -63,7 +63,7 @@ one_more_read lines k number line steps step inside is place read here =
           ∙ each-push numbered_step (take k all) steps (number, line) step read.so_far here;
     }
 
--- the next line is faulty
+-- the next line is invalid
 pub fault_read :
     (lines : List (List ℕ)) (k number : ℕ) (line : List ℕ) (steps : List (Step (List ℕ))) (fault : ScriptFault) → k < length lines →
     line ≡ get_or lines k line → number ≡ k + 2 → AreRead lines k steps → step_on number line ≡ Err fault →
@@ -80,7 +80,7 @@ all_read lines k steps past read =
     let whole : length (enumerate_from 2 lines) ≤ k = omega (arith, length-enumerate_from 2 lines) in
     ap (each numbered_step) (sym (take_all k (enumerate_from 2 lines) whole)) ∙ read.so_far
 
--- bytes that are no text
+-- bytes that are not UTF-8
 pub no_text_read : (bytes : List ℕ) → is_too_large bytes ≡ false → ¬ (IsUtf8 bytes) → script_reading bytes ≡ fault_on 0 NotUtf8
 unfolding script_reading
 no_text_read bytes few isnt_text = go (is_utf8 bytes) refl
@@ -89,11 +89,11 @@ no_text_read bytes few isnt_text = go (is_utf8 bytes) refl
     go true is = absurd (isnt_text (IsUtf8-from_is_utf8 bytes is))
     go false is = rw (few, is) refl
 
--- bytes that are a text are read by its lines
+-- bytes that are UTF-8 are read by their lines
 pub text_read : (bytes : List ℕ) → is_too_large bytes ≡ false → IsUtf8 bytes → script_reading bytes ≡ lines_reading (lines bytes)
 unfolding script_reading
 text_read bytes few text = rw (few, is_utf8-from_IsUtf8 bytes text) refl
 
--- they are not both a text and none
+-- bytes can't be both UTF-8 and not
 pub is_text : (bytes : List ℕ) → IsUtf8 bytes → is_utf8 bytes ≡ false → ⊥
 is_text bytes text none = true≢false (sym (is_utf8-from_IsUtf8 bytes text) ∙ none)

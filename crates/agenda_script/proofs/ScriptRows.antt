@@ -1,6 +1,6 @@
--- Worked rows of scripts, by what the definitions say of them.
--- They answer no function, but try `script_reading`, `step_on` and `replies_text`. Each row is computed, with the
--- definitions that it needs unfolded.
+-- Worked rows of scripts: what the definitions say about some examples.
+-- They answer no goal of a function, but test `script_reading`, `step_on` and `replies_text`. Each row is
+-- computed, with the definitions that it needs unfolded.
 use lib.Utf8.{encode}
 use Rattle.std.proofs.Common.{◌≡◌, [], ◌∷◌, Ok, codes, refl}
 use Rattle.std.specs.Str.{chars, is_utf8}

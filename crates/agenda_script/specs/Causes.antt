@@ -1,9 +1,9 @@
--- The names of causes, as `Display` and the lines of faults show them (own).
+-- The names of causes, as `Display` and error lines show them (agenda).
 use Rattle.std.specs.Prelude.{ℕ, List, codes}
 use Rattle.agenda_script.specs.declared.fault.ScriptCause.{ScriptCause}
 use Rattle.agenda_script.specs.declared.fault.ScriptCause.TheVariants as script
 
--- of a script
+-- the name of a script's cause
 abbrev pub script_cause : ScriptCause → List ℕ
 script_cause script.NoMemory = codes "NoMemory"
 script_cause script.NotUtf8 = codes "NotUtf8"

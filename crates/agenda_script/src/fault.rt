@@ -1,4 +1,4 @@
-//! Why a script is refused.
+//! Why a script is rejected.
 
 use plan_mailbox::NewFault;
 use std::alloc::{AllocError, AllocFailed};
@@ -8,17 +8,17 @@ use thiserror::Error;
 #[derive(Clone, Copy, Debug, PartialEq, Eq, Error)]
 #[error("{}", self.name())]
 pub enum ScriptCause {
-    /// 1: memory was refused; its line is 0.
+    /// An allocation failed. The line is 0.
     NoMemory,
-    /// 2: the bytes are not UTF-8; the line is 0.
+    /// The bytes are not UTF-8. The line is 0.
     NotUtf8,
-    /// 3: the script is longer than 1,048,576 bytes; the line is 0.
+    /// The script has more than 1,048,576 bytes. The line is 0.
     TooLarge,
-    /// 4: the line has none of a script's forms, or the first line is missing.
+    /// The line has none of the forms of a script, or the first line is missing.
     BadLine,
-    /// 5: the first line asks for no number of senders from 1 to 8, or for no room from 1 to 1,024.
+    /// The first line doesn't have 1 to 8 senders and a capacity of 1 to 1,024.
     BadSize,
-    /// 6: the script has more than 10,000 steps; the line is 10,002.
+    /// The script has more than 10,000 steps. The line is 10,002.
     TooManySteps,
 }
 
@@ -26,7 +26,7 @@ impl ScriptCause {
     ghost use Rattle.std.specs.Prelude.{◌≡◌};
     ghost use Rattle.agenda_script.specs.Causes.{script_cause};
 
-    /// Its name, as fault lines show it.
+    /// Returns the cause's name, which error lines show.
     pub fn name(&self) -> &'static str
         ensures { result.now ≡ script_cause self.now }
     {
@@ -41,11 +41,11 @@ impl ScriptCause {
     }
 }
 
-/// The first fault of a script.
+/// The first error of a script.
 #[derive(Clone, Copy, Debug, PartialEq, Eq, Error)]
 #[error("{cause}")]
 pub struct ScriptFault {
-    /// The line, from 1; 0 is the whole script.
+    /// The line, from 1. The whole script is 0.
     pub line: u32,
     /// What is wrong with it.
     pub cause: ScriptCause,
@@ -79,7 +79,7 @@ impl<T: Drop> From<AllocFailed<T>> for ScriptFault {
     }
 }
 
-// The sizes of a mailbox stand in the first line.
+// The sizes of a mailbox are in the first line.
 impl From<NewFault> for ScriptFault {
     ghost use Rattle.std.specs.Prelude.{◌≡◌};
     ghost use Rattle.agenda_script.specs.Script.{fault_of_mailbox};

@@ -1,6 +1,6 @@
-//! Scripts: how their bytes are read as steps on a mailbox, and the text of what the mailbox replies.
+//! Scripts of steps on a mailbox: how their bytes are read, and the text of the mailbox's replies.
 //!
-//! It stands on plan_mailbox, whose steps and replies they are, and on plan_texts. Open `reader` first.
+//! The steps and the replies are those of plan_mailbox. plan_texts cuts lines and reads numbers. Read `reader` first.
 #![tactic(auto)]
 
 mod fault;

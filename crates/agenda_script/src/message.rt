@@ -2,7 +2,7 @@
 
 use std::marker::Model;
 
-/// A message: the bytes of a text, lent from the script in which it stands.
+/// A message: the bytes of a text, borrowed from its script.
 #[derive(Debug, Drop)]
 pub struct Message<'a> {
     text: &'a [u8],
@@ -19,14 +19,14 @@ impl<'a> Model for Message<'a> {
 impl<'a> Message<'a> {
     ghost use Rattle.std.specs.Prelude.{◌≡◌};
 
-    /// The message with these bytes.
+    /// Returns the message with these bytes.
     pub fn new(text: &'a [u8]) -> Message<'a>
         ensures { result ≡ text.entry.now }
     {
         Message { text }
     }
 
-    /// Its bytes.
+    /// Lends the bytes of the message.
     pub fn as_bytes(&self) -> &[u8]
         ensures { result.now ≡ self.now }
     {

@@ -1,4 +1,4 @@
-//! How a script is read: a line that makes a mailbox, and a line for each step on it.
+//! The reader of scripts: the first line makes a mailbox, and each further line is a step on it.
 
 ghost use Rattle.std.specs.Prelude.{◌≡◌, ◌+◌, ◌≤◌, IfOk, OnOk, false, map, true};
 ghost use Rattle.std.specs.Str.{is_utf8};
@@ -16,25 +16,30 @@ use plan_texts::lines::{is_too_large, lines};
 use plan_texts::{cut, number};
 use std::alloc::Global;
 
-/// How many steps a script has at most.
+/// The maximum number of steps of a script.
 pub const MOST_STEPS: u32 = 10_000;
 
 /// A script that was read: a new mailbox of rings, and the steps on it.
 #[derive(Drop)]
 pub struct Script<'a> {
-    /// The mailbox, of the sizes that the first line says.
+    /// The mailbox, with the sizes in the first line.
     pub mailbox: Rings<Message<'a>>,
-    /// The steps, one for each further line. Their messages are lent from the script.
+    /// The steps, one for each further line. Their messages are borrowed from the script.
     pub steps: Vec<Step<Message<'a>>>,
 }
 
-/// Reads a script: what its bytes mean, or its first fault, or that memory was refused.
+/// Reads a script from its bytes.
+///
+/// # Errors
+///
+/// The script's first error, or `NoMemory` if an allocation fails. `TooLarge` and `NotUtf8` are found before
+/// any memory is requested.
 #[tactic(auto, unfolding(crate::specs::Script::script_reading))]
 pub fn read_script<'a>(alloc: Global, script: &'a [u8]) -> Result<Script<'a>, ScriptFault>
     ensures meaning { GivesUnless memory_refused meaning_of result (script_reading script.now) }
     ensures new { IfOk result (λ read. IsNew (mailbox_in read)) }
 
-    // These two are found before any memory is asked for.
+    // These two are found before any memory is requested.
     ensures too_large { is_too_large script.now ≡ true
         → result ≡ fault_on 0 ScriptCause.TooLarge }
     ensures not_utf8 { is_too_large script.now ≡ false → is_utf8 script.now ≡ false
@@ -50,7 +55,7 @@ pub fn read_script<'a>(alloc: Global, script: &'a [u8]) -> Result<Script<'a>, Sc
     read_lines(alloc, lines.as_slice())
 }
 
-// The script of these lines.
+// Reads a script from its lines.
 #[tactic(auto, unfolding(crate::specs::Script::lines_reading))]
 fn read_lines<'a>(alloc: Global, lines: &[&'a str]) -> Result<Script<'a>, ScriptFault>
     ensures meaning { GivesUnless memory_refused meaning_of result
@@ -71,7 +76,7 @@ fn fault_on(line: u32, cause: ScriptCause) -> ScriptFault
     ScriptFault { line, cause }
 }
 
-// The new mailbox of the first line.
+// Makes the new mailbox of the first line.
 #[tactic(auto, unfolding(crate::specs::Script::size_reading))]
 fn new_mailbox<'a>(alloc: Global, line: &[u8]) -> Result<Rings<Message<'a>>, ScriptFault>
     ensures size { GivesUnless memory_refused (λ rings. sizes_in (mailbox_of rings)) result
@@ -85,7 +90,7 @@ fn new_mailbox<'a>(alloc: Global, line: &[u8]) -> Result<Rings<Message<'a>>, Scr
     Ok(mailbox)
 }
 
-// `mailbox SENDERS ROOM`.
+// Reads the sizes in `mailbox SENDERS ROOM`.
 #[tactic(auto, unfolding(crate::specs::Script::mailbox_line))]
 fn read_mailbox(line: &[u8]) -> Option<(usize, usize)>
     ensures { result ≡ mailbox_line line.now }
@@ -96,7 +101,7 @@ fn read_mailbox(line: &[u8]) -> Option<(usize, usize)>
     }
 }
 
-// `SENDERS ROOM`.
+// Reads `SENDERS ROOM`.
 #[tactic(auto, unfolding(crate::specs::Script::sizes_of))]
 fn read_sizes(text: &[u8]) -> Option<(usize, usize)>
     ensures { result ≡ sizes_of text.now }
@@ -110,7 +115,7 @@ fn read_sizes(text: &[u8]) -> Option<(usize, usize)>
     }
 }
 
-// The steps of the lines after the first.
+// Reads the steps of the lines after the first.
 fn read_steps<'a>(alloc: Global, lines: &[&'a str]) -> Result<Vec<Step<Message<'a>>>, ScriptFault>
     ensures { GivesUnless memory_refused (λ steps. steps.items) result
         (steps_reading (map (λ line. line.now) lines.now)) }
@@ -125,7 +130,7 @@ fn read_steps<'a>(alloc: Global, lines: &[&'a str]) -> Result<Vec<Step<Message<'
     Ok(steps)
 }
 
-// The step of the line of this number.
+// Reads the step of the line with this number.
 #[tactic(auto, unfolding(crate::specs::Script::step_on))]
 fn step_on(number: u32, line: &[u8]) -> Result<Step<Message<'_>>, ScriptFault>
     ensures reading { result ≡ step_on number line.now }
@@ -140,7 +145,7 @@ fn step_on(number: u32, line: &[u8]) -> Result<Step<Message<'_>>, ScriptFault>
     }
 }
 
-// `take`, `send S TEXT` or `close S`.
+// Reads `take`, `send S TEXT` or `close S`.
 #[tactic(auto, unfolding(crate::specs::Script::step_of))]
 fn read_step(line: &[u8]) -> Option<Step<Message<'_>>>
     ensures { result ≡ step_of line.now }
@@ -163,7 +168,7 @@ fn read_step(line: &[u8]) -> Option<Step<Message<'_>>>
     }
 }
 
-// `S TEXT`: the text is all that follows the one space.
+// Reads `S TEXT`. The text is everything after the one space.
 #[tactic(auto, unfolding(crate::specs::Script::send_of))]
 fn read_send(text: &[u8]) -> Option<Step<Message<'_>>>
     ensures { result ≡ send_of text.now }

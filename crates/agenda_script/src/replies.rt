@@ -1,4 +1,4 @@
-//! The text of what a mailbox replies.
+//! The text of a mailbox's replies.
 
 ghost use Rattle.std.specs.Prelude.{◌≡◌, ◌++◌, IfOk, OnOk, codes};
 ghost use Rattle.agenda_script.specs.Script.{replies_text, reply_line};
@@ -8,7 +8,11 @@ use itoa::Buffer;
 use plan_mailbox::Reply;
 use std::alloc::{AllocError, Global};
 
-/// The text of some replies: one line for each.
+/// Returns the text of some replies: one line for each.
+///
+/// # Errors
+///
+/// `AllocError` if an allocation fails.
 #[tactic(auto, unfolding(crate::specs::Script::replies_text))]
 pub fn replies_text(alloc: Global, replies: &[Reply<Message<'_>>]) -> Result<Vec<u8>, AllocError>
     ensures { IfOk result (λ text. text.items ≡ replies_text replies.now) }
@@ -20,7 +24,7 @@ pub fn replies_text(alloc: Global, replies: &[Reply<Message<'_>>]) -> Result<Vec
     Ok(text)
 }
 
-// Writes the line of a reply behind a text.
+// Appends the line of a reply to a text.
 #[tactic(auto, unfolding(crate::specs::Script::reply_line))]
 fn push_reply(text: &mut Vec<u8>, reply: &Reply<Message<'_>>) -> Result<(), AllocError>
     ensures { OnOk result (text.new.items ≡ text.old.items ++ reply_line reply.now) }
@@ -43,7 +47,7 @@ fn push_reply(text: &mut Vec<u8>, reply: &Reply<Message<'_>>) -> Result<(), Allo
     }
 }
 
-// Writes a message and a newline behind a text, with some words before it.
+// Appends some words, a message and a newline to a text.
 fn push_message(text: &mut Vec<u8>, words: &[u8], message: &Message<'_>) -> Result<(), AllocError>
     ensures { OnOk result
         (text.new.items ≡ text.old.items ++ (words.now ++ message.now ++ codes "\n")) }

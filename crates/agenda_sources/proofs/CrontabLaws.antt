@@ -1,6 +1,7 @@
--- Crontabs at the front of a plan need no look at the names of their jobs: for the law `crontabs_need_no_look`.
--- `all_new` goes through the jobs of a crontab, each of which has a new name (NameLemmas.antt), so that only their number is left to
--- be looked at. CrontabNames.antt says that these names are new: to no job, and to the jobs of a user's crontab.
+-- The names of the jobs of crontabs at the start of a plan need no check: for the law `crontabs_need_no_look`.
+-- `all_new` goes through the jobs of a crontab. Each has a new name (NameLemmas.antt), so only their number is
+-- left to check. CrontabNames.antt shows that these names are new: no other job of the crontab has them, and no
+-- job of a user's crontab.
 use Rattle.std.proofs.Common.{◌≡◌, ℕ, ◌+◌, ◌≤◌, Bool, true, false, cond, nat_le, nat_lt, List, [], ◌∷◌, ◌++◌, length, codes, Option, Some, None, Ok, Err, IfOk, refl, ap, sym, subst, ◌∙◌, arith, append_assoc, append-nil, length-append}
 use Rattle.std.specs.List.{All}
 use Rattle.std.proofs.lemmas.Bool.Decides.{nat_tests}
@@ -27,7 +28,7 @@ none_left jobs few =
     let fits : nat_le (length jobs) most_jobs ≡ true = grind (arith, nat_tests, few) in
     rw (append-nil jobs, fits) refl
 
--- one job more, whose name was looked at
+-- one more job, whose name was checked
 one_more :
     (jobs : List JobParts) (job : JobParts) (more : List JobParts) (fits : Bool) → nat_lt (length jobs) most_jobs ≡ fits →
     (length (jobs ++ job ∷ []) ≤ most_jobs → with_jobs (jobs ++ job ∷ []) more ≡ behind (jobs ++ job ∷ []) more) →
@@ -40,7 +41,7 @@ one_more jobs job more false full later =
     grind (arith, nat_tests, full, length-append jobs (job ∷ more)) in
     rw many refl
 
--- jobs of which some stand behind the old ones already
+-- jobs, some of which are already appended to the old ones
 all_new :
     (old all : List JobParts) → All (λ j. number_of j.name old ≡ None) all → HaveDistinctNames all →
     (done rest : List JobParts) → done ++ rest ≡ all → length (old ++ done) ≤ most_jobs →

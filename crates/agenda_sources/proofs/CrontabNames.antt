@@ -1,6 +1,6 @@
--- The names of a crontab's jobs: each is that of a line, and no two jobs have one. For the law
--- `crontabs_need_no_look`, by CrontabLaws.antt. By induction over the lines: the later jobs are named by
--- later lines, and the names of two lines differ, as their numbers fit a word (`few_enough`).
+-- The names of a crontab's jobs: each is that of a line, and no two jobs have the same. For the law
+-- `crontabs_need_no_look`, by CrontabLaws.antt. By induction over the lines: the later jobs are named by later
+-- lines, and the names of two lines differ, since their numbers fit in 64 bits (`few_enough`).
 use Rattle.std.proofs.Common.{◌≡◌, ◌≢◌, ℕ, ◌+◌, ◌<◌, ◌≤◌, ◌^◌, Bool, true, false, cond, eqb, nat_le, List, [], ◌∷◌, ◌++◌, length, map, codes, Option, Some, None, Result, Ok, Err, IfOk, refl, ap, sym, ◌∙◌, arith, get_or}
 use Rattle.std.proofs.lemmas.Fmt.{decimal_injective}
 use Rattle.std.proofs.lemmas.List.{append_cancel_left}
@@ -88,14 +88,14 @@ same_line label m n small other is =
 other_label : (m n : ℕ) → job_name (codes "system") m ≢ job_name (codes "cron") n
 other_label m n is = let first : 115 ≡ 99 = ap (λ name. get_or name 0 0) is in omega (arith, first)
 
--- the job of a line behind this one, whose number a machine can hold
+-- the job of a later line, whose number fits in 64 bits
 pub record IsLineBehind (label : List ℕ) (low : ℕ) (job : JobParts) : Type 0 where
   pub number : ℕ
   pub behind : low < number
   pub fits : number < 2 ^ 64
   pub named : job.name ≡ job_name label number
 
--- such jobs, of which no two have one name
+-- such jobs, no two of which have the same name
 abbrev pub AreLinesBehind : List ℕ → ℕ → List JobParts → Type 0
 AreLinesBehind label low jobs = AllByRecursion (IsLineBehind label low) jobs × HaveDistinctNames jobs
 
@@ -126,7 +126,7 @@ one_more label low (Some j) jobs small named (all, distinct) = (
   (apart label (low + 1) j.name jobs small named all, distinct),
 )
 
--- the jobs of lines, of which the first has this place
+-- the jobs of lines, the first of which is at this place
 each_line :
     (label : List ℕ) (kind : Kind) (place : ℕ) (texts : List (List ℕ)) → place + length texts < 2 ^ 64 →
     IfOk (each (numbered_reading label kind) (enumerate_from place texts)) (λ found. AreLinesBehind label place (filter_map (λ j. j) found))
@@ -183,13 +183,13 @@ by_text P true utf8 bytes next small = tt
 by_text P false true bytes next small = small refl
 by_text P false false bytes next small = tt
 
--- each has the name of a line, and no two have one
+-- each has the name of a line, and no two have the same
 pub crontab_names : (label : List ℕ) (kind : Kind) (bytes : List ℕ) → IfOk (crontab_reading label kind bytes) (AreLinesBehind label 0)
 crontab_names label kind bytes =
     by_text (AreLinesBehind label 0) (is_too_large bytes) (is_utf8 bytes) bytes (λ text. jobs_reading label kind (lines text))
     (λ small. all_lines label kind (lines bytes) (few_enough bytes small))
 
--- so they are new where no line of such a crontab was read
+-- so they are new if no line of such a crontab was read
 new_names :
     (label : List ℕ) (old jobs : List JobParts) → HasNoLineOf label old → AllByRecursion (IsLineBehind label 0) jobs →
     AllByRecursion (λ job. number_of job.name old ≡ None) jobs
@@ -209,7 +209,7 @@ pub crontab_is_distinct :
     crontab_reading label kind bytes ≡ Ok jobs → HaveDistinctNames jobs
 crontab_is_distinct label kind bytes jobs is = (IfOk-at_ok (AreLinesBehind label 0) is (crontab_names label kind bytes)).1
 
--- ---- the jobs of a user's crontab alone
+-- ---- the jobs of only a user's crontab
 
 not_named :
     (number : ℕ) (jobs : List JobParts) → AllByRecursion (IsLineBehind (codes "cron") 0) jobs →
@@ -225,7 +225,7 @@ in_a_source :
 in_a_source P place (Ok jobs) names = names
 in_a_source P place (Err fault) names = tt
 
--- none has the name of a line of the system's
+-- none has the name of a line of the system's crontab
 pub users_alone : (bytes : Option (List ℕ)) → IfOk (with_users [] bytes) (HasNoLineOf (codes "system"))
 users_alone None = λ number. refl
 users_alone (Some bytes) =

@@ -1,5 +1,6 @@
--- Nothing is refused of sources exactly where they make a list of jobs: for `findings_of_sources`. The law of plan_check says so of
--- files and the names of their jobs; here sources are such files, and the names are those of the jobs (`same_with`, `same_from`).
+-- No finding in the sources is an error exactly if they make a list of jobs: for `findings_of_sources`. The law
+-- of plan_check says so of files and the names of their jobs. Here sources are such files, and the names are
+-- those of the jobs (`same_with`, `same_from`).
 use Rattle.std.proofs.Common.{◌≡◌, ℕ, zero, suc, ◌+◌, Bool, true, false, List, [], ◌∷◌, ◌++◌, length, map, drop, Option, None, Some, Ok, Err}
 use Rattle.std.proofs.Common.{inl, inr, refl, ap, sym, ◌∙◌, arith, ◌≤◌, append-nil}
 use Rattle.std.specs.Prelude.{is_ok, is_some, nat_lt, if◌then◌else◌}
@@ -35,7 +36,7 @@ findings_back : (place : ℕ) (found : List Finding) → map (λ (one : Found). 
 findings_back place [] = refl
 findings_back place (finding ∷ found) = ap (λ more. finding ∷ more) (findings_back place found)
 
--- what is found of sources is what is found of them as files
+-- the findings of sources are those of the files that they are
 found_files :
     (place : ℕ) (known : KnownNames) (sources : List Source) →
     map (λ (one : Found). one.finding) (found_from place known sources) ≡ files_findings known (files_of sources)
@@ -63,14 +64,14 @@ some_where : (is : Bool) (n : ℕ) → is_some (if is then Some n else None) ≡
 some_where true n = refl
 some_where false n = refl
 
--- one place is below one length where the places before them are
+-- adding one to both sides keeps the order
 one_more : (m n : ℕ) → nat_lt (1 + m) (suc n) ≡ nat_lt m n
 one_more m n = elim (cases_lt m n) [
   | inl lt ↦ lt-ltb (1 + m) (suc n) (omega arith) ∙ sym (lt-ltb m n lt)
   | inr at ↦ le-ltb (1 + m) (suc n) (omega arith) ∙ sym (le-ltb m n at)
 ]
 
--- a job has a name where a place of the list has it
+-- a job has the name exactly if the search for it ends before the end of the list
 place_of : (name : List ℕ) (jobs : List JobParts) →
     nat_lt (position_or_len (is_named name) jobs) (length jobs) ≡ is_added name (names_of jobs)
 place_of name [] = refl
@@ -84,7 +85,7 @@ same_name name jobs =
     some_where (nat_lt (position_or_len (is_named name) jobs) (length jobs)) (position_or_len (is_named name) jobs)
     ∙ place_of name jobs
 
--- ---- jobs behind the others, and their names
+-- ---- jobs that are appended, and their names
 
 -- the names of the jobs that were read, if they were
 abbrev names_read : SourceReading (List JobParts) → Option (List (List ℕ))
@@ -150,7 +151,7 @@ pub clean_sources :
 clean_sources law clock sources =
     ap is_clean (found_files 0 (no_names clock) sources) ∙ law clock (files_of sources) ∙ same_from 0 sources []
 
--- the same of findings that were made
+-- the same for findings that were made
 pub clean_made :
     ((clock : List Change) (files : List File) → is_clean (files_findings (no_names clock) files) ≡ is_some (files_names [] files)) →
     (clock : List Change) (sources : List Source) (found : List Found) → found ≡ sources_findings clock sources →
@@ -165,7 +166,7 @@ none_left [] (suc place) few = refl
 none_left (source ∷ sources) zero few = absurd (omega arith)
 none_left (source ∷ sources) (suc place) few = none_left sources place (omega arith)
 
--- behind the last source all is found
+-- after the last source all is found
 pub all_found :
     (place : ℕ) (known : KnownNames) (sources : List Source) (found all : List Found) → length sources ≤ place →
     found ++ found_from place known (drop place sources) ≡ all → found ≡ all

@@ -1,5 +1,6 @@
 -- Sources that are read one after another: for the loop of `jobs_of_sources` and its `meaning`.
--- What is left begins with the next source (`next_source`), so its jobs, or its fault, are those of the definition there.
+-- The rest of the list starts with the next source (`next_source`), so its jobs, or its error, are those of the
+-- definition there.
 use Rattle.std.proofs.Common.{◌≡◌, ℕ, ◌+◌, ◌<◌, List, ◌∷◌, length, get_or, drop, Ok, Err, refl, ap, sym, ◌∙◌}
 use Rattle.std.proofs.lemmas.List.{drop_more}
 use Rattle.plan_texts.specs.Steps.{◌>>=◌}
@@ -9,7 +10,7 @@ use Rattle.agenda_sources.specs.declared.sources.Source.{Source}
 use Rattle.agenda_sources.specs.Faults.{SourceReading}
 use Rattle.agenda_sources.specs.Sources.{sources_from, with_source}
 
--- what is left, from a source on
+-- the reading of the rest, from a source on
 abbrev pub left : List Source → ℕ → List JobParts → SourceReading (List JobParts)
 left sources index jobs = sources_from index jobs (drop index sources)
 
@@ -32,7 +33,7 @@ read_on sources index source jobs next whole within is so_far read =
     sym (ap (λ (r : SourceReading (List JobParts)). r >>= λ next. left sources (index + 1) next) read) ∙
     sym (next_source sources index source jobs within is) ∙ so_far
 
--- the source has a fault
+-- the source has an error
 pub read_fault :
     (sources : List Source) (index : ℕ) (source : Source) (jobs : List JobParts) (fault : SourceFault)
     (whole : SourceReading (List JobParts)) →

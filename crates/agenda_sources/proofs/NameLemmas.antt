@@ -1,6 +1,8 @@
--- Names that no job of a list has: for CrontabNames.antt and CrontabLaws.antt, by which crontabs need no look at names.
--- That a list has no such job is turned into `AllFail`, which holds of two joined lists where it holds of both. So
--- `next_is_new` splits: no old job has the name, and none of the jobs that were added before, as all differ.
+-- Names that no job of a list has: for CrontabNames.antt and CrontabLaws.antt, which show that the names of
+-- crontabs need no check.
+-- That a list has no such job is turned into `AllFail`, which holds for a concatenation if it holds for both
+-- lists. So `next_is_new` splits: no old job has the name, and none of the jobs that were added before has it,
+-- since all differ.
 use Rattle.std.proofs.Common.{◌≡◌, ◌≢◌, ℕ, ◌+◌, ◌≤◌, Bool, true, false, not, cond, List, [], ◌∷◌, ◌++◌, length, map, position, Some, None, refl, sym, arith, subst}
 use Rattle.std.proofs.lemmas.Bool.{false_from_ne_true, ltb-false, le-ltb}
 use Rattle.std.proofs.lemmas.List.Elements.{recursion_from_All}
@@ -52,7 +54,7 @@ pub fail_behind : {A : Type 0} (p : A → Bool) (xs ys : List A) → AllFail p x
 fail_behind p [] ys first later = later
 fail_behind p (x ∷ xs) ys first later = (first.0, fail_behind p xs ys first.1 later)
 
--- ---- a job among jobs of distinct names
+-- ---- a job among jobs with distinct names
 
 before : {A : Type 0} (P : A → Type 0) (xs : List A) (x : A) (ys : List A) → AllByRecursion P (xs ++ x ∷ ys) → P x
 before P [] x ys all = all.0
@@ -73,7 +75,7 @@ distinct_before [] job more distinct = tt
 distinct_before (j ∷ jobs) job more distinct =
     (turned j.name job.name (names_before j.name jobs job more distinct.0), distinct_before jobs job more distinct.1)
 
--- the next of some jobs with new names has a new name
+-- among jobs with new names, the next one has a new name
 pub next_is_new :
     (old done : List JobParts) (job : JobParts) (more all : List JobParts) → done ++ job ∷ more ≡ all →
     All (λ j. number_of j.name old ≡ None) all → HaveDistinctNames all → number_of job.name (old ++ done) ≡ None

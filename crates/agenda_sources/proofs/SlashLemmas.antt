@@ -1,6 +1,6 @@
 -- A path's last slash: for `file_name`, where the path was cut (`name_cut`) and where it has no slash (`name_uncut`).
--- By induction over the path, with `has_slash` and `file_name` unfolded: up to the last slash there is one ahead, so
--- the definition goes on, and behind it there is none, so it stops.
+-- By induction over the path, with `has_slash` and `file_name` unfolded. Up to the last slash there is one
+-- ahead, so the definition goes on. After it there is none, so it stops.
 use Rattle.std.proofs.Common.{◌≡◌, ◌≢◌, ℕ, zero, suc, ◌+◌, ◌-◌, ◌<◌, ◌==◌, true, false, List, [], ◌∷◌, length, drop, get_or, None, Some, refl, ap, sym, ◌∙◌, arith, length-drop}
 use Rattle.std.proofs.lemmas.Bool.{cond-true, cond-false, or_from, or_left, or_right, eq-eqb, ne_eqb}
 use Rattle.std.proofs.lemmas.List.{get_or-drop}

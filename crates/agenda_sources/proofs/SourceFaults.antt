@@ -1,6 +1,8 @@
--- Which faults sources have: a want of memory never stands inside one. For `own_fault` of `jobs_of_sources`.
--- The lemmas follow the definition from one source to all: a step, or a choice, keeps it where both parts do. Each
--- source's fault passes `fault_by_cause`, which makes `NoMemory` of such a want. Last, it is led to the answer.
+-- Which errors sources have: `NoMemory` is never the cause inside the error of a source. For `own_fault` of
+-- `jobs_of_sources`.
+-- The lemmas follow the definition from one source to all: a step, or a choice, keeps this if both parts do.
+-- Each source's error passes `fault_by_cause`, which turns it into `NoMemory` in that case. The last lemma is
+-- about the answer.
 use Rattle.std.proofs.Common.{◌≡◌, ◌≢◌, ℕ, ◌+◌, Bool, true, false, cond, nat_lt, is_some, List, [], ◌∷◌, ◌++◌, length, Result, Ok, Err, IfErr}
 use Rattle.plan_rules.specs.declared.line_fault.LineCause.{LineCause}
 use Rattle.plan_rules.specs.declared.line_fault.LineCause.TheVariants as cause
@@ -58,7 +60,7 @@ all place jobs [] = tt
 all place jobs (source ∷ more) =
     steps IsOwnFault (with_source place jobs source) _ (of_one place jobs source) (λ next. all (place + 1) next more)
 
--- ---- so each fault that a call answers
+-- ---- so for each error that a call returns
 
 at_fault : {A : Type 0} (r : SourceReading A) (fault : SourceFault) → r ≡ Err fault → IfErr r IsOwnFault → IsOwnFault fault
 at_fault (Ok x) fault is own = absurd cc

@@ -1,4 +1,4 @@
--- Jobs in a zone: for `jobs_of_sources`, which leaves them as they are in UTC, and where there are none.
+-- Jobs in a zone: for `jobs_of_sources`, which leaves them unchanged in UTC, and if there are none.
 use Rattle.std.proofs.Common.{◌≡◌, ◌≢◌, List, [], ◌∷◌, refl, ap, ◌∙◌, sym}
 use Rattle.plan_clock.specs.declared.row.Change.{Change}
 use Rattle.plan_rules.specs.Job.{JobParts}

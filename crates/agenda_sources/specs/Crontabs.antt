@@ -1,4 +1,5 @@
--- Crontabs at the front of a plan, whose jobs need no look at their names: the lines' numbers tell them apart. All of it is own.
+-- Crontabs at the start of a plan. The names of their jobs need no check, since line numbers make them
+-- different (agenda).
 use Rattle.std.specs.Prelude.{ℕ, ◌+◌, ◌≡◌, nat_le, if◌then◌else◌, List, [], ◌∷◌, ◌++◌, length, codes, Option, Some, None, Ok, Err}
 use Rattle.plan_rules.specs.declared.crontabs.Kind.TheVariants as whose
 use Rattle.plan_texts.specs.Steps.{◌>>=◌}
@@ -21,30 +22,30 @@ abbrev pub system_source : List ℕ → Option (List ℕ) → List Source
 system_source name None = []
 system_source name (Some bytes) = record { kind = System; name = name; bytes = bytes } ∷ []
 
--- jobs behind the others: there are at most 1,000
+-- jobs with others appended: there are at most 1,000
 abbrev pub behind : List JobParts → List JobParts → SourceReading (List JobParts)
 behind jobs more = if nat_le (length (jobs ++ more)) most_jobs then Ok (jobs ++ more) else Err Full
 
--- the jobs of a user's crontab, if there is one
+-- these jobs, then those of a user's crontab, if there is one
 abbrev pub with_users : List JobParts → Option (List ℕ) → SourceReading (List JobParts)
 with_users jobs None = Ok jobs
 with_users jobs (Some bytes) = do
   more ← in_source 0 (crontab_reading (codes "cron") whose.User bytes)
   behind jobs more
 
--- the jobs of the system's, if there is one, which stands at a place
+-- these jobs, then those of the system's crontab, if there is one; it is the source at this place
 abbrev pub with_systems : ℕ → List JobParts → Option (List ℕ) → SourceReading (List JobParts)
 with_systems place jobs None = Ok jobs
 with_systems place jobs (Some bytes) = do
   more ← in_source place (crontab_reading (codes "system") whose.System bytes)
   behind jobs more
 
--- how many sources a crontab is, which may be missing
+-- how many sources an optional crontab is: 0 or 1
 abbrev pub count_of : Option (List ℕ) → ℕ
 count_of None = 0
 count_of (Some bytes) = 1
 
--- the user's crontab, then the system's, then the sources behind them
+-- the user's crontab, then the system's, then the sources after them
 abbrev pub crontabs_first :
     Option (List ℕ) → Option (List ℕ) → (ℕ → List JobParts → SourceReading (List JobParts)) → SourceReading (List JobParts)
 crontabs_first user system behind_them = do

@@ -1,4 +1,4 @@
--- What is found of sources, one after another. All of it is own.
+-- The findings of all sources, in the order of the sources (agenda).
 use Rattle.std.specs.Prelude.{ℕ, ◌+◌, Bool, List, [], ◌∷◌, ◌++◌, map}
 use Rattle.plan_clock.specs.declared.row.Change.{Change}
 use Rattle.plan_check.specs.declared.finding.Finding.{Finding}
@@ -13,21 +13,21 @@ use Rattle.agenda_sources.specs.Kind.{file_of}
 abbrev pub source_file : Source → File
 source_file source = file_of source.kind source.name source.bytes
 
--- that something is found of the source at a place
+-- a finding in the source at a place
 abbrev pub found_at : (place : ℕ) → Finding → Found
 found_at place finding = record { place = place; finding = finding }
 
--- what is found of sources in order, of which the first stands at a place, where jobs have some names already
+-- the findings of sources in order. The first of them is at this place, and the jobs before have the known names
 abbrev pub found_from : (place : ℕ) → KnownNames → List Source → List Found
 found_from place known [] = []
 found_from place known (source ∷ more) =
     map (found_at place) (file_findings known (source_file source))
     ++ found_from (place + 1) (after_file known (source_file source)) more
 
--- of all of them, whose jobs start by the clock of a zone
+-- the findings of all sources, whose jobs start by the clock of a zone
 abbrev pub sources_findings : List Change → List Source → List Found
 sources_findings clock sources = found_from 0 (no_names clock) sources
 
--- whether nothing is refused
+-- whether no finding is an error
 abbrev pub is_all_clean : List Found → Bool
 is_all_clean found = is_clean (map (λ one. one.finding) found)

@@ -1,4 +1,5 @@
--- The kinds of sources: one table of what stands for each of them, in the order in which a plan reads them. All of it is own.
+-- The kinds of sources: one table with the option, the label and the meaning of each kind, in the order in
+-- which a plan reads them (agenda).
 use Rattle.std.specs.Prelude.{ℕ, Bool, if◌then◌else◌, List, [], ◌∷◌, codes, Option, None, Some, is_none, Ok}
 use Rattle.std.specs.Str.{is_utf8}
 use Rattle.plan_texts.specs.Lines.{is_too_large}
@@ -20,11 +21,11 @@ use Rattle.agenda_sources.specs.declared.kind.SourceKind.TheVariants.{Crontab, S
 
 -- ---- which kinds there are
 
--- all of them, in the order in which a plan reads their sources
+-- all kinds, in the order in which a plan reads their sources
 abbrev pub kinds : List SourceKind
 kinds = Crontab ∷ System ∷ CronD ∷ Spool ∷ Timer ∷ []
 
--- ---- what they are called
+-- ---- their names
 
 -- the option, or the argument, that gives the path of a source
 abbrev pub option_of : SourceKind → List ℕ
@@ -34,8 +35,8 @@ option_of CronD = codes "cron-d"
 option_of Spool = codes "spool"
 option_of Timer = codes "timer"
 
--- the label in lines of faults, for a kind of which a plan is given one source at most. The sources of another kind are told apart
--- by their own names
+-- the label in error lines, for a kind of which a plan has at most one source. Sources of the other kinds are
+-- identified by their names
 abbrev pub label_of : SourceKind → Option (List ℕ)
 label_of Crontab = Some (codes "crontab")
 label_of System = Some (codes "system crontab")
@@ -43,19 +44,20 @@ label_of CronD = None
 label_of Spool = None
 label_of Timer = None
 
--- whether a plan may be given more than one source of this kind
+-- whether a plan may have more than one source of this kind
 abbrev pub is_many : SourceKind → Bool
 is_many kind = is_none (label_of kind)
 
 -- ---- what their sources mean
 
--- a text that means one job
+-- the reading of one job, as a list of one
 abbrev pub alone : TextReading JobParts → TextReading (List JobParts)
 alone reading = do
   job ← reading
   Ok (job ∷ [])
 
--- the jobs of a source, by its name and its bytes: of two kinds of crontabs the name doesn't count, and their jobs have labels
+-- the jobs of a source, from its name and its bytes. The jobs of the first two kinds are named by a label,
+-- whatever the file's name
 abbrev pub reading_of : SourceKind → (name bytes : List ℕ) → TextReading (List JobParts)
 reading_of Crontab name bytes = crontab_reading (codes "cron") whose.User bytes
 reading_of System name bytes = crontab_reading (codes "system") whose.System bytes
@@ -63,7 +65,7 @@ reading_of CronD name bytes = tab_reading folder.CronD name bytes
 reading_of Spool name bytes = tab_reading folder.Spool name bytes
 reading_of Timer name bytes = alone (timer_reading name bytes)
 
--- the same as a file, of which all that is found is told
+-- the same source as a file of plan_check, for its findings
 abbrev pub file_of : SourceKind → (name bytes : List ℕ) → File
 file_of Crontab name bytes = file.Crontab (codes "cron") whose.User bytes
 file_of System name bytes = file.Crontab (codes "system") whose.System bytes
@@ -71,20 +73,20 @@ file_of CronD name bytes = file.Tab folder.CronD name bytes
 file_of Spool name bytes = file.Tab folder.Spool name bytes
 file_of Timer name bytes = file.Timer name bytes
 
--- what is wrong with a source's bytes, found before any memory is asked for: their number is looked at first
+-- what is wrong with a source's bytes, found before any memory is requested: their number is checked first
 abbrev pub bytes_cause : List ℕ → Option LineCause
 bytes_cause bytes =
     if is_too_large bytes then Some cause.TooLarge else (if is_utf8 bytes then None else Some cause.NotUtf8)
 
--- what is so found of a crontab that has a name: the name is looked at first
+-- the same for a crontab that has a name: the name is checked first
 abbrev pub tab_cause : TabFolder → (name bytes : List ℕ) → Option LineCause
 tab_cause folder name bytes = if is_tab_name folder name then bytes_cause bytes else Some cause.BadTabName
 
--- what is so found of a timer: its name is looked at first
+-- the same for a timer: its name is checked first
 abbrev pub timer_cause : (name bytes : List ℕ) → Option LineCause
 timer_cause name bytes = if is_timer_name name then bytes_cause bytes else Some cause.BadTimerName
 
--- what is so found of a source
+-- the same for a source of any kind
 abbrev pub cause_at_once : SourceKind → (name bytes : List ℕ) → Option LineCause
 cause_at_once Crontab name bytes = bytes_cause bytes
 cause_at_once System name bytes = bytes_cause bytes

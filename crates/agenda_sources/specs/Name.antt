@@ -1,4 +1,4 @@
--- The name of a file, by its path. All of it is own.
+-- The name of a file, from its path (agenda).
 use Rattle.std.specs.Prelude.{ℕ, ◌==◌, Bool, false, ◌||◌, if◌then◌else◌, List, [], ◌∷◌}
 use Rattle.std.specs.Path.{slash}
 

@@ -1,4 +1,4 @@
--- The jobs that the sources of a plan make, or the first fault of the sources. All of it is own.
+-- The jobs of the sources of a plan, or the first error of the sources (agenda).
 use Rattle.std.specs.Prelude.{ℕ, ◌+◌, nat_lt, if◌then◌else◌, List, [], ◌∷◌, ◌++◌, length, is_some, Ok, Err}
 use Rattle.plan_clock.specs.declared.row.Change.{Change}
 use Rattle.plan_texts.specs.Steps.{◌>>=◌}
@@ -11,24 +11,24 @@ use Rattle.agenda_sources.specs.declared.fault.SourceFault.TheVariants.{SameName
 use Rattle.agenda_sources.specs.Faults.{SourceReading, in_source}
 use Rattle.agenda_sources.specs.Kind.{reading_of}
 
--- ---- jobs behind the others
+-- ---- appending jobs
 
--- a job more: that another has its name is looked at first, then that there are fewer than 1,000
+-- one more job: first its name must be new, then there must be fewer than 1,000 jobs
 abbrev pub with_job : List JobParts → JobParts → SourceReading (List JobParts)
 with_job jobs job =
     if is_some (number_of job.name jobs) then Err (SameName job.name)
     else (if nat_lt (length jobs) most_jobs then Ok (jobs ++ job ∷ []) else Err Full)
 
--- the jobs of a source, in order
+-- more jobs, in order
 abbrev pub with_jobs : List JobParts → List JobParts → SourceReading (List JobParts)
 with_jobs jobs [] = Ok jobs
 with_jobs jobs (job ∷ more) = do
   next ← with_job jobs job
   with_jobs next more
 
--- ---- one source more
+-- ---- one more source
 
--- the source at a place, from 0
+-- these jobs, then those of the source at a place, from 0
 abbrev pub with_source : ℕ → List JobParts → Source → SourceReading (List JobParts)
 with_source place jobs source = do
   more ← in_source place (reading_of source.kind source.name source.bytes)
@@ -36,23 +36,24 @@ with_source place jobs source = do
 
 -- ---- all sources
 
--- sources in order, of which the first stands at a place: each one's jobs are added before the next is read
+-- these jobs, then those of sources in order, the first of which is at this place. A source's jobs are added
+-- before the next is read
 abbrev pub sources_from : ℕ → List JobParts → List Source → SourceReading (List JobParts)
 sources_from place jobs [] = Ok jobs
 sources_from place jobs (source ∷ more) = do
   next ← with_source place jobs source
   sources_from (place + 1) next more
 
--- all of them
+-- the jobs of all sources, in UTC
 abbrev pub sources_reading : List Source → SourceReading (List JobParts)
 sources_reading sources = sources_from 0 [] sources
 
--- jobs in the zone of a clock; in UTC they are as they were read
+-- jobs in the zone of a clock; in UTC they are unchanged
 abbrev pub zoned : List Change → List JobParts → List JobParts
 zoned [] jobs = jobs
 zoned (first ∷ more) jobs = jobs_in (first ∷ more) jobs
 
--- the same jobs in the zone of a clock
+-- the jobs of all sources, in the zone of a clock
 abbrev pub jobs_reading : List Change → List Source → SourceReading (List JobParts)
 jobs_reading clock sources = do
   jobs ← sources_reading sources

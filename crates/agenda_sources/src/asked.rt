@@ -1,8 +1,8 @@
-//! The rule that is asked about by itself.
+//! A rule that is given by itself, as the command `next` gets it.
 
 use plan_texts::Text;
 
-/// The rule that is asked about.
+/// A rule that is given by itself.
 #[derive(Debug, Drop)]
 pub enum Asked {
     /// The text of a cron rule.

@@ -1,10 +1,10 @@
-//! Bytes that are kept as they were handed in.
+//! Bytes that are kept unchanged.
 
 ghost use Rattle.std.specs.Prelude.{◌≡◌};
 
 use std::marker::Model;
 
-/// Bytes, as of a file, which are lent as they were handed in.
+/// Bytes, for example of a file, that are kept and lent unchanged.
 #[derive(Debug, Drop)]
 pub struct Bytes {
     kept: Vec<u8>,
@@ -26,7 +26,7 @@ impl Bytes {
         Bytes { kept: bytes }
     }
 
-    /// The bytes, lent.
+    /// Lends the bytes.
     pub fn as_slice(&self) -> &[u8]
         ensures { result.now ≡ self.now }
     {

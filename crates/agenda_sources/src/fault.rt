@@ -6,16 +6,16 @@ ghost use Rattle.agenda_sources.specs.Faults.{fault_at};
 use plan_rules::{LineCause, LineFault, Text};
 use thiserror::Error;
 
-/// The first fault of sources.
+/// The first error of the sources.
 #[derive(Debug, Drop, Error)]
 pub enum SourceFault {
-    /// Memory was refused.
+    /// An allocation failed.
     #[error("NoMemory")]
     NoMemory,
-    /// The source at this place, from 0, is refused, with its first fault, whose cause is never `NoMemory`.
+    /// The source at this place, from 0, is invalid. This is its first error, whose cause is never `NoMemory`.
     #[error("{1}")]
     InSource(usize, LineFault),
-    /// Another job has this name.
+    /// Two jobs have this name.
     #[error("SameName")]
     SameName(Text),
     /// There are more than 1,000 jobs.
@@ -24,7 +24,7 @@ pub enum SourceFault {
 }
 
 impl SourceFault {
-    // The fault of the source at a place. A want of memory inside it is a want of memory.
+    // Returns the error of the source at a place. If its cause is `NoMemory`, so is the result.
     pub(crate) fn in_source(place: usize, fault: LineFault) -> SourceFault
         ensures { result ≡ fault_at place fault }
     {

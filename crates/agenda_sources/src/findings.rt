@@ -1,4 +1,4 @@
-//! What is found of sources, one after another.
+//! The findings of all sources, in the order of the sources.
 
 ghost use Rattle.std.specs.Prelude.{◌≡◌, ◌++◌, IfOk, OnOk, is_ok, map};
 ghost use Rattle.plan_check.specs.Files.{after_file, file_findings};
@@ -10,24 +10,30 @@ use plan_check::{Finding, Names, clean_where_jobs_are};
 use plan_clock::Clock;
 use std::alloc::{AllocError, Global};
 
-/// What is found of one of several sources.
+/// A finding in one of several sources.
 #[derive(Clone, Copy, Debug, PartialEq, Eq)]
 pub struct Found {
     /// The place of the source, from 0.
     pub place: usize,
-    /// What is found of it.
+    /// The finding in that source.
     pub finding: Finding,
 }
 
-/// All findings of sources, in the order of the sources: of each what is found of the whole file and then by lines, as
-/// `crontab_findings`, `tab_findings` and `timer_findings` of plan_check find it, by the clock of a zone. It fails where memory is refused.
+/// Returns all findings of the sources, in the order of the sources.
+///
+/// The findings of a source are those of `crontab_findings`, `tab_findings` or `timer_findings` of plan_check:
+/// first those of the whole file, then those of its lines. Rules start by the clock of a zone.
+///
+/// # Errors
+///
+/// `AllocError` if an allocation fails.
 pub fn findings_of_sources(
     alloc: Global,
     sources: &Sources,
     clock: &Clock,
 ) -> Result<Vec<Found>, AllocError>
     ensures found { IfOk result (λ found. found.items ≡ sources_findings clock.now sources.now) }
-    // Nothing is refused exactly where the sources make a list of jobs, as `jobs_of_sources` makes it.
+    // There is no error among the findings exactly if `jobs_of_sources` makes a list of jobs of the sources.
     ensures clean { IfOk result (λ found. is_all_clean found.items ≡ is_ok (sources_reading sources.now)) }
 {
     clean_where_jobs_are();
@@ -40,7 +46,7 @@ pub fn findings_of_sources(
     Ok(found)
 }
 
-// Adds what is found of the source at a place.
+// Adds the findings of the source at a place.
 fn add_source(
     alloc: Global,
     names: &mut Names,

@@ -1,4 +1,4 @@
-//! The kinds of sources: one table of what stands for each of them.
+//! The kinds of sources: one table with the option, the label and the reader of each kind.
 
 ghost use Rattle.std.specs.Prelude.{◌≡◌, Err, IfOk, IfSome, OnOk, option_map};
 ghost use Rattle.plan_texts.specs.Steps.{GivesUnless};
@@ -16,18 +16,18 @@ use std::alloc::{AllocError, Global};
 pub enum SourceKind {
     /// A user's crontab (crontab(5)).
     Crontab,
-    /// The system's crontab: a user stands before each command.
+    /// The system's crontab: a user precedes each command.
     System,
-    /// The crontab of a package, of /etc/cron.d: a user stands before each command (cron(8) of Debian).
+    /// The crontab of a package, in /etc/cron.d: a user precedes each command (cron(8) of Debian).
     CronD,
-    /// The crontab of a user, of the spool folder (cron(8) of Debian).
+    /// The crontab of a user, in the spool directory (cron(8) of Debian).
     Spool,
     /// A timer file (systemd.timer(5)).
     Timer,
 }
 
 impl SourceKind {
-    /// All kinds, in their order.
+    /// Returns all kinds, in their order.
     pub fn all() -> [SourceKind; 5]
         ensures { result ≡ kinds }
     {
@@ -40,7 +40,7 @@ impl SourceKind {
         ]
     }
 
-    /// The name of the option, or of the argument, that gives the path of a source.
+    /// Returns the name of the option, or of the argument, that gives the path of a source.
     pub fn option(self) -> &'static str
         ensures { result.now ≡ option_of self }
     {
@@ -53,8 +53,9 @@ impl SourceKind {
         }
     }
 
-    /// The label in lines of faults, for a kind of which a plan is given one source at most. The sources of another kind are told
-    /// apart by their own names.
+    /// Returns the label in error lines, for a kind of which a plan has at most one source.
+    ///
+    /// Sources of the other kinds are identified by their names.
     pub fn label(self) -> Option<&'static str>
         ensures { option_map (λ label. label.now) result ≡ label_of self }
     {
@@ -65,18 +66,18 @@ impl SourceKind {
         }
     }
 
-    /// Whether a plan may be given more than one source of this kind.
+    /// Returns whether a plan may have more than one source of this kind.
     pub fn is_many(self) -> bool
         ensures { result ≡ is_many self }
     {
         self.label().is_none()
     }
 
-    // The jobs of a source of this kind, by its name and its bytes.
+    // Reads the jobs of a source of this kind, from its name and its bytes.
     pub(crate) fn read(self, alloc: Global, name: &str, bytes: &[u8]) -> Result<Vec<Job>, LineFault>
         ensures meaning { GivesUnless want_of_memory (λ jobs. jobs.items) result
             (reading_of self name.now bytes.now) }
-        // These are found before any memory is asked for.
+        // These errors are found before any memory is requested.
         ensures at_once { IfSome (cause_at_once self name.now bytes.now)
             (λ cause. result ≡ Err (of_whole cause)) }
     {
@@ -89,7 +90,8 @@ impl SourceKind {
         }
     }
 
-    // All findings of a source of this kind, by its name and its bytes. The names are those of the jobs before, and become those after.
+    // Returns all findings of a source of this kind, from its name and its bytes. Adds the names of its jobs to
+    // `names`, which has the names of the jobs before them.
     pub(crate) fn find(
         self,
         alloc: Global,
@@ -110,7 +112,7 @@ impl SourceKind {
     }
 }
 
-// The one job of a timer.
+// Reads the one job of a timer.
 fn timer_alone(alloc: Global, name: &str, bytes: &[u8]) -> Result<Vec<Job>, LineFault>
     ensures meaning { GivesUnless want_of_memory (λ jobs. jobs.items) result
         (alone (timer_reading name.now bytes.now)) }

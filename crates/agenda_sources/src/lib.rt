@@ -1,8 +1,9 @@
-//! The sources of a plan, and the jobs that they make: a user's crontab, the system's, those of packages and of users by their names, and
-//! timer files; and what is found of all their lines.
+//! The sources of a plan, the jobs that they make, and the findings of `check` in them.
 //!
-//! It stands on plan_rules, which reads each of them, and on plan_check. Open `kind` first, the table of the kinds of sources, then
-//! `sources`, `reading` and `findings`.
+//! A source is a user's crontab, the system's crontab, a crontab with a name (of a package or a user), or a
+//! timer file. plan_rules reads each of them, and plan_check finds their errors.
+//!
+//! Read `kind` first, the table of the kinds of sources, then `sources`, `reading` and `findings`.
 #![tactic(auto)]
 
 mod asked;

@@ -1,4 +1,4 @@
-//! The paths that are given of the sources of a plan.
+//! The paths of a plan's sources, as they are given on the command line.
 
 ghost use Rattle.std.specs.Prelude.{◌≡◌, ◌++◌, ◌∷◌, [], IfErr, is_ok, if◌then◌else◌};
 
@@ -10,13 +10,13 @@ use std::marker::Model;
 /// The path of a source.
 #[derive(Debug, Drop)]
 pub struct SourcePath {
-    /// What kind of source the file holds.
+    /// The kind of source in the file.
     pub kind: SourceKind,
     /// The path of the file.
     pub path: Text,
 }
 
-/// Paths in the order in which a plan reads them, seen as that list.
+/// Paths in the order in which a plan reads them. Contracts see this value as a list.
 #[derive(Debug, Drop)]
 pub struct SourcePaths {
     kept: Vec<SourcePath>,
@@ -32,7 +32,7 @@ impl Model for SourcePaths {
 }
 
 impl SourcePaths {
-    /// No path. This takes no memory; `push` takes what it needs from `alloc`.
+    /// Returns an empty list. This requests no memory; `push` requests what it needs from `alloc`.
     pub fn new(alloc: Global) -> SourcePaths
         ensures { result ≡ [] }
     {
@@ -41,7 +41,11 @@ impl SourcePaths {
         }
     }
 
-    /// Adds a path behind the others; where memory is refused the path comes back and the list is unchanged.
+    /// Appends a path.
+    ///
+    /// # Errors
+    ///
+    /// `AllocFailed`, with the path, if an allocation fails. The list is unchanged then.
     pub fn push(&mut self, path: SourcePath) -> Result<(), AllocFailed<SourcePath>>
         ensures list { self.new ≡ (if is_ok result then self.old ++ path ∷ [] else self.old) }
         ensures returned { IfErr result (λ refused. refused.value ≡ path) }
@@ -49,7 +53,7 @@ impl SourcePaths {
         self.kept.push(path)
     }
 
-    /// The paths, lent.
+    /// Lends the paths.
     pub fn as_slice(&self) -> &[SourcePath]
         ensures { result.now ≡ self.now }
     {

@@ -1,4 +1,4 @@
-//! How the sources of a plan are read, one after another.
+//! The jobs of all sources of a plan, read one source after another.
 
 ghost use Rattle.std.specs.Prelude.{◌≡◌, ◌≤◌, [], IfErr, IfSome, Ok, Err, length};
 ghost use Rattle.plan_texts.specs.Steps.{GivesUnless};
@@ -13,18 +13,25 @@ use plan_clock::Clock;
 use plan_rules::{AddFault, Job, Jobs};
 use std::alloc::Global;
 
-/// Returns the jobs that sources make, in the order of the sources: those of a crontab's lines, and one of each timer. Their rules go by
-/// the clock of a zone.
+/// Returns the jobs of the sources, in the order of the sources: one for each command line of a crontab, and
+/// one for each timer. Their rules start by the clock of a zone.
 ///
-/// Each source's jobs are added before the next source is read, and the first fault is the answer: `InSource` for the first fault of a
-/// source, as `crontab`, `tab` and `timer` find it; `SameName` where another job has a job's name; `Full` where there are more than
-/// 1,000 jobs; `NoMemory`, also in place of one that stands in a source's fault, but never in place of a fault of the first source that
-/// is found before its lines are read: `BadTabName`, `BadTimerName`, `TooLarge` and `NotUtf8`.
+/// The jobs of a source are added before the next source is read.
+///
+/// # Errors
+///
+/// The first error is returned:
+///
+/// - `InSource`: a source is invalid. This is its first error, as `crontab`, `tab` or `timer` finds it.
+/// - `SameName`: two jobs have the same name.
+/// - `Full`: there are more than 1,000 jobs.
+/// - `NoMemory`: an allocation failed, also while a source was read. It never replaces an error of the first
+///   source that is found before its lines are read: `BadTabName`, `BadTimerName`, `TooLarge` or `NotUtf8`.
 pub fn jobs_of_sources(alloc: Global, sources: &Sources, clock: &Clock) -> Result<Jobs, SourceFault>
     ensures meaning { GivesUnless SourceFault.NoMemory (λ jobs. jobs) result (jobs_reading clock.now sources.now) }
     ensures own_fault { IfErr result IsOwnFault }
 
-    // These are found before any memory is asked for.
+    // These errors are found before any memory is requested.
     ensures at_once { IfSome (fault_at_once sources.now) (λ fault. result ≡ Err fault) }
     ensures no_source { sources.now ≡ [] → result ≡ Ok [] }
 {
@@ -41,12 +48,12 @@ pub fn jobs_of_sources(alloc: Global, sources: &Sources, clock: &Clock) -> Resul
     }
 }
 
-// The same jobs, whatever the zone.
+// Returns the same jobs, all in UTC.
 fn read_jobs(alloc: Global, sources: &Sources) -> Result<Jobs, SourceFault>
     ensures meaning { GivesUnless SourceFault.NoMemory (λ jobs. jobs) result (sources_reading sources.now) }
     ensures own_fault { IfErr result IsOwnFault }
 
-    // These are found before any memory is asked for.
+    // These errors are found before any memory is requested.
     ensures at_once { IfSome (fault_at_once sources.now) (λ fault. result ≡ Err fault) }
     ensures no_source { sources.now ≡ [] → result ≡ Ok [] }
 {
@@ -80,7 +87,7 @@ fn add_source(
     }
 }
 
-// Adds the jobs that a source has, in order.
+// Adds the jobs of a source, in order.
 fn add_all(jobs: &mut Jobs, more: Vec<Job>) -> Result<(), SourceFault>
     requires { length jobs.old ≤ most_jobs }
     ensures meaning { GivesUnless SourceFault.NoMemory (λ _. jobs.new) result
@@ -93,7 +100,7 @@ fn add_all(jobs: &mut Jobs, more: Vec<Job>) -> Result<(), SourceFault>
     Ok(())
 }
 
-// Adds a job that a source has.
+// Adds one job of a source.
 fn add_job(jobs: &mut Jobs, job: Job) -> Result<(), SourceFault>
     requires { length jobs.old ≤ most_jobs }
     ensures meaning { GivesUnless SourceFault.NoMemory (λ _. jobs.new) result (with_job jobs.old job) }

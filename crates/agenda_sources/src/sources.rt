@@ -1,4 +1,4 @@
-//! What a plan is made of: sources, as they were read.
+//! The sources of a plan, with their bytes.
 
 ghost use Rattle.std.specs.Prelude.{◌≡◌};
 
@@ -7,18 +7,18 @@ use crate::kind::SourceKind;
 use plan_texts::Text;
 use std::marker::Model;
 
-/// A source, as it was read.
+/// A source: its kind, its name and its bytes.
 #[derive(Debug, Drop)]
 pub struct Source {
-    /// What kind it is of.
+    /// The kind of the source.
     pub kind: SourceKind,
-    /// The file's own name, without the folders in front of it.
+    /// The name of the file, without its directories.
     pub name: Text,
-    /// What the file holds.
+    /// The bytes of the file.
     pub bytes: Bytes,
 }
 
-/// Sources in the order in which a plan reads them, seen as that list.
+/// Sources in the order in which a plan reads them. Contracts see this value as a list.
 #[derive(Debug, Drop)]
 pub struct Sources {
     kept: Vec<Source>,
@@ -41,7 +41,7 @@ impl Sources {
         Sources { kept: sources }
     }
 
-    /// The sources, lent.
+    /// Lends the sources.
     pub fn as_slice(&self) -> &[Source]
         ensures { result.now ≡ self.now }
     {

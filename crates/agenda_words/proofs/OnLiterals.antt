@@ -1,4 +1,4 @@
--- What a proof unfolds, beside clap's `clap_on_literals`, to compute with the command line of `agenda`.
+-- What a proof unfolds to compute with the command line of `agenda`, in addition to clap's `clap_on_literals`.
 use Rattle.std.specs.Prelude.{⊤}
 use Rattle.agenda_words.specs.Command.{agenda, check, next, plan, quiet, steps, upcoming, with_sizes, with_sources}
 use Rattle.agenda_words.specs.Words.{asked_by_quiet}

@@ -1,6 +1,7 @@
--- The kinds of error that clap leaves open at the words of `agenda` are answered alike.
--- For `read_words`, where clap refuses the words. One lemma for each of clap's definitions of faults, from one use of
--- an argument up to the whole command; the walk goes by induction over the words. Only `stray` has two kinds.
+-- Clap leaves open which of several kinds of error it returns. `agenda` answers all of them in the same way.
+-- For `read_words`, if clap rejects the arguments. There is one lemma for each of clap's definitions of
+-- errors, from one use of an argument up to the whole command. The walk goes by induction over the arguments.
+-- Only `stray` has two kinds.
 use Rattle.std.proofs.Common.{◌≡◌, ◌∙◌, ◌&&◌, ◌||◌, ◌⊎◌, ◌==◌, ◌+◌, ℕ, Bool, true, false, zero, suc, List, [], ◌∷◌, Option, Some, None, Result, Err, ap, sym, subst, inl, inr, refl, not, cond, min, drop, length, nat_lt, codes}
 use Rattle.std.specs.Prelude.{encode_utf8, find, if◌then◌else◌, is_some, slice_get}
 use Rattle.std.specs.List.{list_all}
@@ -29,7 +30,7 @@ use Rattle.agenda_words.specs.Command.{agenda}
 use Rattle.agenda_words.specs.Words.{Gives, IsAnswerTo, Refusal, asked_unless, is_usage, refusal_of}
 use Rattle.agenda_words.proofs.OnLiterals.{agenda_on_literals}
 
--- any two of the kinds stand for one refusal
+-- all of these kinds are answered by the same refusal
 pub record Alike (kinds : Kinds) : Type 0 where
   pub same : (a b : ErrorKind) → IsAmong a kinds → IsAmong b kinds → refusal_of a ≡ refusal_of b
 
@@ -117,7 +118,7 @@ use_alike : (again : Bool) (a : Rule) (values : List Text) (rows : List Row) →
 use_alike again a values rows = either _ _ (range_alike (unwrap_or_range a.range).start_inclusive (most_values a) (length values))
     (action_alike (action_of a) again a (values_or_missing a values) rows)
 
--- ---- the walk over the words
+-- ---- the walk over the arguments
 
 settle_alike : (c : List Rule) (again : Bool) (h : Held) → Alike (settle_fault c again h)
 settle_alike c again h = mapped _ h.pending [] (λ p. mapped _ (arg_by_id c p.0) [] (λ a. use_alike again a p.1 h.rows) none) none
@@ -166,7 +167,7 @@ never : (b : Bool) → (b && false) ≡ false
 never true = refl
 never false = refl
 
--- with no subcommand `help`
+-- without a subcommand `help`
 other_alike :
     (s : Shape) → s.disable_help_subcommand ≡ true → (met : Option Text) (word : Text) (h : Held) → Alike (other_fault s met word h)
 other_alike s plain (Some name) word h = rw (plain, never (bytes_eq name (codes "help"))) none
@@ -247,7 +248,7 @@ built_alike a words top subs =
 
 -- ---- the command line of `agenda`
 
--- clap's contracts say exactly what it makes of the command
+-- clap's contracts say exactly how it reads the command line
 pub agenda_is_simple : is_simple agenda ≡ true
 unfolding clap_on_literals agenda_on_literals
 agenda_is_simple = refl
@@ -256,12 +257,12 @@ pub agenda_is_free : is_simple_and_free agenda ≡ true
 unfolding clap_on_literals agenda_on_literals
 agenda_is_free = refl
 
--- the kinds of error that clap leaves open are answered alike
+-- the kinds of error that clap leaves open are answered in the same way
 pub agenda_alike : (words : List Text) → Alike (fault_of agenda words)
 unfolding clap_on_literals agenda_on_literals
 agenda_alike words = built_alike (built agenda) (argument_words agenda words) refl refl
 
--- an error that clap gives is answered as the definition says
+-- an error from clap is answered as the definition says
 pub listed : (kinds : Kinds) → Alike kinds → (k : ErrorKind) → IsAmong k kinds → (read : Result Ask Refusal)
     → asked_unless kinds read ≡ Err (refusal_of k)
 listed [] alike k among read = absurd among

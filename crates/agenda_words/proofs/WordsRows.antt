@@ -1,6 +1,6 @@
--- Worked rows of the command line, by the definition of what its words ask for.
--- They answer no function, but try `asked_by`, which is unfolded with clap's definitions and computed. One row holds of
--- any two plain words (`any_moment_and_rule`): it rests on how clap reads them.
+-- Worked rows of the command line: what the arguments request, by the definition.
+-- They answer the goals of no function, but test `asked_by`, which is unfolded with clap's definitions and
+-- computed. One row holds for any two plain words (`any_moment_and_rule`). It depends on how clap reads them.
 use Rattle.std.proofs.Common.{◌≡◌, List, ℕ, [], ◌∷◌, false, None, Some, Ok, Err, codes, refl}
 use Rattle.std.specs.Str.{bytes_eq}
 use Rattle.clap.specs.Lexer.{long_of, short_of}
@@ -39,58 +39,58 @@ two_zones_are_given :
 unfolding asked_by clap_on_literals agenda_on_literals
 two_zones_are_given = refl
 
--- without `--count` one start is wanted
+-- one start without `--count`
 one_start_by_default : asked_by (next_with (codes "--cron" ∷ rule ∷ [])) ≡ Ok (Next moment None 1 (Cron rule))
 unfolding asked_by clap_on_literals agenda_on_literals
 one_start_by_default = refl
 
--- none may be wanted
+-- a count of 0 is accepted here
 no_start : asked_by (next_with (codes "--count" ∷ codes "0" ∷ codes "--cron" ∷ rule ∷ [])) ≡ Ok (Next moment None 0 (Cron rule))
 unfolding asked_by clap_on_literals agenda_on_literals
 no_start = refl
 
--- the most that 32 bits hold
+-- the largest number of 32 bits
 most_starts : asked_by (next_with (codes "--count=4294967295" ∷ codes "--cron" ∷ rule ∷ [])) ≡ Ok (Next moment None 4294967295 (Cron rule))
 unfolding asked_by clap_on_literals agenda_on_literals
 most_starts = refl
 
--- and one more
+-- a count that is too large for 32 bits
 one_start_too_many : asked_by (next_with (codes "--count=4294967296" ∷ codes "--cron" ∷ rule ∷ [])) ≡ Err is_usage
 unfolding asked_by clap_on_literals agenda_on_literals
 one_start_too_many = refl
 
--- a count that is no number
+-- a count that isn't a number
 count_is_no_number : asked_by (next_with (codes "--count" ∷ codes "x" ∷ codes "--cron" ∷ rule ∷ [])) ≡ Err is_usage
 unfolding asked_by clap_on_literals agenda_on_literals
 count_is_no_number = refl
 
--- no `--cron`, which clap lets through
+-- no `--cron`, which clap accepts
 no_rule_is_given : asked_by (next_with []) ≡ Err is_usage
 unfolding asked_by clap_on_literals agenda_on_literals
 no_rule_is_given = refl
 
--- no `--after`, which clap refuses
+-- no `--after`, which clap rejects
 no_moment_is_given : asked_by (codes "agenda" ∷ codes "next" ∷ codes "--cron" ∷ rule ∷ []) ≡ Err is_usage
 unfolding asked_by clap_on_literals agenda_on_literals
 no_moment_is_given = refl
 
--- the program's name alone
+-- only the program's name
 no_subcommand_is_given : asked_by (codes "agenda" ∷ []) ≡ Err is_usage
 unfolding asked_by clap_on_literals agenda_on_literals
 no_subcommand_is_given = refl
 
--- help comes before what is missing
+-- help comes before missing options
 help_is_wanted : asked_by (codes "agenda" ∷ codes "next" ∷ codes "--help" ∷ []) ≡ Err wants_help
 unfolding asked_by clap_on_literals agenda_on_literals
 help_is_wanted = refl
 
--- a word that is no flag, as clap reads it
+-- a word that clap doesn't read as a flag
 record IsPlainWord (word : List ℕ) : Type 0 where
   long : long_of word ≡ None
   short : short_of word ≡ None
   trailing : bytes_eq word (codes "--") ≡ false
 
--- any two plain words are taken
+-- any two plain words are accepted
 any_moment_and_rule : (name after cron : List ℕ) → IsPlainWord after → IsPlainWord cron
     → asked_by (name ∷ codes "next" ∷ codes "--after" ∷ after ∷ codes "--cron" ∷ cron ∷ []) ≡ Ok (Next after None 1 (Cron cron))
 unfolding asked_by clap_on_literals agenda_on_literals
@@ -102,7 +102,7 @@ an_event_is_given : asked_by (next_with (codes "--calendar" ∷ codes "daily" �
 unfolding asked_by clap_on_literals agenda_on_literals
 an_event_is_given = refl
 
--- both
+-- a calendar event and a cron rule
 two_rules_are_given : asked_by (next_with (codes "--calendar" ∷ codes "daily" ∷ codes "--cron" ∷ rule ∷ [])) ≡ Err is_usage
 unfolding asked_by clap_on_literals agenda_on_literals
 two_rules_are_given = refl
@@ -133,7 +133,7 @@ plan_with words = codes "agenda" ∷ codes "plan" ∷ codes "--since" ∷ moment
 abbrev sized : (planners room limit : ℕ) → Sizes
 sized planners room limit = record { planners = planners; room = room; limit = limit }
 
--- a span alone: no crontab, no timer, and each number by its default
+-- only a span: no crontab, no timer, and the default of each number
 a_span_is_given : asked_by (plan_with []) ≡ Ok (Plan moment (codes "u") None [] (sized 2 16 10000))
 unfolding asked_by clap_on_literals agenda_on_literals
 a_span_is_given = refl
@@ -145,7 +145,7 @@ all_is_given : asked_by (plan_with (codes "--crontab" ∷ codes "c" ∷ codes "-
 unfolding asked_by clap_on_literals agenda_on_literals
 all_is_given = refl
 
--- timers, also between options, in the order of the words
+-- timers, also between options, in the order of the arguments
 timers_are_given : asked_by (plan_with (codes "b.timer" ∷ codes "--room=1" ∷ codes "a.timer" ∷ codes "--" ∷ codes "-c" ∷ []))
     ≡ Ok (Plan moment (codes "u") None (path_of Timer (codes "b.timer") ∷ path_of Timer (codes "a.timer") ∷ path_of Timer (codes "-c") ∷ [])
     (sized 2 1 10000))
@@ -169,7 +169,7 @@ sources_in_order : asked_by (plan_with (codes "t.timer" ∷ codes "--system-cron
 unfolding asked_by clap_on_literals agenda_on_literals
 sources_in_order = refl
 
--- crontabs that have names, in any number; of one kind they stand in the order of the words
+-- crontabs that have names, any number of them; those of one kind are in the order of the arguments
 named_crontabs :
     asked_by (plan_with (codes "--spool=u" ∷ codes "--cron-d" ∷ codes "b" ∷ codes "--cron-d=a" ∷ codes "--spool" ∷ codes "-" ∷ []))
     ≡ Ok (Plan moment (codes "u") None (path_of CronD (codes "b") ∷ path_of CronD (codes "a") ∷ path_of Spool (codes "u")
@@ -177,12 +177,12 @@ named_crontabs :
 unfolding asked_by clap_on_literals agenda_on_literals
 named_crontabs = refl
 
--- two user crontabs, which clap refuses
+-- two user crontabs, which clap rejects
 two_crontabs_are_given : asked_by (plan_with (codes "--crontab" ∷ codes "c" ∷ codes "--crontab=d" ∷ [])) ≡ Err is_usage
 unfolding asked_by clap_on_literals agenda_on_literals
 two_crontabs_are_given = refl
 
--- planners that are no number
+-- a number of planners that isn't a number
 planners_are_no_number : asked_by (plan_with (codes "--planners" ∷ codes "x" ∷ [])) ≡ Err is_usage
 unfolding asked_by clap_on_literals agenda_on_literals
 planners_are_no_number = refl
@@ -192,7 +192,7 @@ limit_is_too_large : asked_by (plan_with (codes "--limit=4294967296" ∷ [])) �
 unfolding asked_by clap_on_literals agenda_on_literals
 limit_is_too_large = refl
 
--- the version is told, of the program alone
+-- `--version` without a subcommand
 version_is_wanted : asked_by (codes "agenda" ∷ codes "--version" ∷ []) ≡ Err wants_help
 unfolding asked_by clap_on_literals agenda_on_literals
 version_is_wanted = refl
@@ -201,20 +201,20 @@ no_version_of_next : asked_by (next_with (codes "--version" ∷ [])) ≡ Err is_
 unfolding asked_by clap_on_literals agenda_on_literals
 no_version_of_next = refl
 
--- `upcoming` of a crontab and a timer
+-- `upcoming` with a crontab and a timer
 upcoming_of_two :
     asked_by (codes "agenda" ∷ codes "upcoming" ∷ codes "a.timer" ∷ codes "--crontab" ∷ codes "c" ∷ codes "--after" ∷ moment ∷ [])
     ≡ Ok (Upcoming moment None (path_of Crontab (codes "c") ∷ path_of Timer (codes "a.timer") ∷ []))
 unfolding asked_by clap_on_literals agenda_on_literals
 upcoming_of_two = refl
 
--- `quiet` without what may be missing: gaps of half an hour, and a limit of 1,000,000
+-- `quiet` with all defaults: gaps of half an hour, and a limit of 1,000,000
 quiet_by_default : asked_by (codes "agenda" ∷ codes "quiet" ∷ codes "--since" ∷ moment ∷ codes "--upto" ∷ codes "z" ∷ [])
     ≡ Ok (Quiet moment (codes "z") None [] (record { planners = 2; room = 16; limit = 1000000 }) 1800)
 unfolding asked_by clap_on_literals agenda_on_literals
 quiet_by_default = refl
 
--- a gap of less than nothing
+-- a negative gap
 quiet_of_less :
     asked_by (codes "agenda" ∷ codes "quiet" ∷ codes "--since" ∷ moment ∷ codes "--upto" ∷ moment ∷ codes "--least" ∷ codes "-1" ∷ [])
     ≡ Err is_usage

@@ -1,4 +1,4 @@
--- The command line of the program, as clap reads it.
+-- The command line of the program, as it is described to clap.
 use Rattle.std.specs.Prelude.{ℕ, true, pos, List, [], ◌∷◌, ◌++◌, map, Some, codes}
 use Rattle.clap.specs.Words.{App, Rule, new_app, new_rule, with_rule, with_subcommand}
 use Rattle.clap.specs.Simple.{on_top}
@@ -8,34 +8,35 @@ use Rattle.agenda_sources.specs.declared.SourceKind.{SourceKind}
 use Rattle.agenda_sources.specs.declared.SourceKind.TheVariants.{Crontab, System, CronD, Spool, Timer}
 use Rattle.agenda_sources.specs.Kind.{kinds, option_of}
 
--- own: an argument `VALUE`, which may be missing
+-- an argument `VALUE`, which is optional (agenda)
 abbrev pub argument_named : List ℕ → Rule
 argument_named name = record (new_rule name) { value_names = 1 }
 
--- own: an option `--name VALUE`, which may be missing
+-- an option `--name VALUE`, which is optional (agenda)
 abbrev pub option_named : List ℕ → Rule
 option_named name = record (argument_named name) { long = Some name }
 
--- own: a moment, which has to be there
+-- an option for a timestamp, which is required (agenda)
 abbrev pub moment_option : List ℕ → Rule
 moment_option name = record (option_named name) { required = true }
 
--- `--zone ZONE`, which may be missing (agenda)
+-- the option `--zone ZONE`, which is optional (agenda)
 abbrev pub zone_option : Rule
 zone_option = option_named (codes "zone")
 
--- own: a whole number of 32 bits; where it is missing, the default
+-- an option for a whole number of 32 bits, which has a default (agenda)
 abbrev pub number_option : List ℕ → List ℕ → Rule
 number_option name default = record (option_named name) {
   parser = Some (parser.Signed (pos 0) (pos 4294967295));
   defaults = default ∷ [];
 }
 
--- own: `FILE`, which has to be there
+-- the required argument `FILE` (agenda)
 abbrev pub file_argument : Rule
 file_argument = record (argument_named (codes "file")) { required = true }
 
--- own: where jobs come from: `--crontab F`, `--system-crontab F`, and in any number `--cron-d F`, `--spool F` and `TIMER ..`
+-- what names sources of a kind: `--crontab F`, `--system-crontab F`, and, any number of times, `--cron-d F`,
+-- `--spool F` and `TIMER` (agenda)
 abbrev pub source_rule : SourceKind → Rule
 source_rule Crontab = option_named (option_of Crontab)
 source_rule System = option_named (option_of System)
@@ -43,62 +44,63 @@ source_rule CronD = record (option_named (option_of CronD)) { action = Some Appe
 source_rule Spool = record (option_named (option_of Spool)) { action = Some Append }
 source_rule Timer = record (argument_named (option_of Timer)) { action = Some Append }
 
--- own: a command with further arguments, one after the other
+-- a command with these arguments added, one after the other (agenda)
 abbrev pub with_each : App → List Rule → App
 with_each app [] = app
 with_each app (rule ∷ rules) = with_each (with_rule app rule) rules
 
--- own: a subcommand with further options and arguments
+-- a subcommand with these options and arguments added (agenda)
 abbrev pub with_rules : App → List Rule → App
 with_rules app rules = on_top (λ s. record s { rules = s.rules ++ rules }) app
 
--- own: a subcommand with these options and arguments
+-- a subcommand with these options and arguments (agenda)
 abbrev pub subcommand_with : List ℕ → List Rule → App
 subcommand_with name rules = with_rules (new_app name) rules
 
--- own: a command with what gives the sources of each kind: `[--crontab F] [--system-crontab F] [--cron-d F ..] [--spool F ..] [TIMER ..]`
+-- a command with the options and arguments that name sources added: `[--crontab F] [--system-crontab F]
+-- [--cron-d F ..] [--spool F ..] [TIMER ..]` (agenda)
 unfoldable pub with_sources : App → App
 with_sources app = with_each app (map source_rule kinds)
 
--- own: `next --after T [--zone ZONE] [--count N] (--cron TEXT or --calendar TEXT)`; that exactly one of the last two is there is tested
--- after the parse
+-- `next --after T [--zone ZONE] [--count N] (--cron TEXT or --calendar TEXT)`; that exactly one of the last
+-- two is present is checked after clap's parse (agenda)
 unfoldable pub next : App
 next = subcommand_with (codes "next") (moment_option (codes "after") ∷ zone_option ∷ number_option (codes "count") (codes "1")
     ∷ option_named (codes "cron") ∷ option_named (codes "calendar") ∷ [])
 
--- own: a command with the sizes of a plan: `[--planners N] [--room N] [--limit N]`; where the limit is missing, it is the default
+-- a command with the sizes of a plan added: `[--planners N] [--room N] [--limit N]`; `default` is the default of the limit (agenda)
 unfoldable pub with_sizes : App → (default : List ℕ) → App
 with_sizes app default = with_rules app (number_option (codes "planners") (codes "2") ∷ number_option (codes "room") (codes "16")
     ∷ number_option (codes "limit") default ∷ [])
 
--- own: the span of a plan: `--since T --upto T [--zone ZONE]`
+-- the span of a plan, and the zone: `--since T --upto T [--zone ZONE]` (agenda)
 abbrev pub span_rules : List Rule
 span_rules = moment_option (codes "since") ∷ moment_option (codes "upto") ∷ zone_option ∷ []
 
--- own: `plan --since T --upto T [--zone ZONE]`, what gives the sources, and the sizes
+-- `plan --since T --upto T [--zone ZONE]`, the sources and the sizes (agenda)
 unfoldable pub plan : App
 plan = with_sizes (with_sources (subcommand_with (codes "plan") span_rules)) (codes "10000")
 
--- own: `upcoming --after T [--zone ZONE]`, and what gives the sources
+-- `upcoming --after T [--zone ZONE]` and the sources (agenda)
 unfoldable pub upcoming : App
 upcoming = with_sources (subcommand_with (codes "upcoming") (moment_option (codes "after") ∷ zone_option ∷ []))
 
--- own: `quiet --since T --upto T [--zone ZONE]`, what gives the sources, `[--least N]`, and the sizes
+-- `quiet --since T --upto T [--zone ZONE]`, the sources, `[--least N]` and the sizes (agenda)
 unfoldable pub quiet : App
 quiet = with_sizes
     (with_rules (with_sources (subcommand_with (codes "quiet") span_rules)) (number_option (codes "least") (codes "1800") ∷ []))
     (codes "1000000")
 
--- own: `check [--zone ZONE]`, and what gives the sources
+-- `check [--zone ZONE]` and the sources (agenda)
 unfoldable pub check : App
 check = with_sources (subcommand_with (codes "check") (zone_option ∷ []))
 
--- own: `steps FILE`
+-- `steps FILE` (agenda)
 unfoldable pub steps : App
 steps = subcommand_with (codes "steps") (file_argument ∷ [])
 
--- own: `agenda`, which a subcommand follows or `--version`; there is no subcommand `help`, so that each fault of clap has
--- one answer
+-- `agenda` without its subcommands; it requires a subcommand or `--version`, and has no subcommand `help`, so
+-- that each error of clap has only one answer (agenda)
 abbrev pub agenda_alone : App
 agenda_alone = on_top (λ s. record s {
   has_version = true;
@@ -106,7 +108,7 @@ agenda_alone = on_top (λ s. record s {
   disable_help_subcommand = true;
 }) (new_app (codes "agenda"))
 
--- own: `agenda next ..`, `agenda plan ..`, `agenda upcoming ..`, `agenda quiet ..`, `agenda check ..` or `agenda steps ..`
+-- `agenda next ..`, `agenda plan ..`, `agenda upcoming ..`, `agenda quiet ..`, `agenda check ..` or `agenda steps ..` (agenda)
 unfoldable pub agenda : App
 agenda =
     with_subcommand (with_subcommand (with_subcommand (with_subcommand (with_subcommand (with_subcommand agenda_alone next.top) plan.top)

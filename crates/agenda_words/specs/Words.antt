@@ -1,4 +1,4 @@
--- What the words of the command line ask for.
+-- What the arguments of the command line request.
 use Rattle.std.specs.Prelude.{◌≡◌, ⊤, ℕ, false, List, [], ◌∷◌, Option, Some, None, Result, Ok, Err}
 use Rattle.std.specs.Prelude.{codes, if◌then◌else◌, map, option_and_then, unwrap_or}
 use Rattle.std.specs.List.{flat_map}
@@ -21,42 +21,43 @@ use Rattle.agenda_sources.specs.declared.SourcePath.{SourcePath}
 use Rattle.agenda_sources.specs.Kind.{is_many, kinds, option_of}
 use Rattle.agenda_words.specs.Command.{agenda}
 
--- own: words that ask for nothing: help or the version is wanted, or they are no use of the program
+-- why arguments request no command: they request help or the version, or they are invalid (agenda)
 pub data Refusal : Type 0 where
   wants_help : Refusal
   is_usage : Refusal
 
 infixl 10 ◌>>=◌
--- own: the first refusal decides
+-- one step after another: the first refusal is the result (agenda)
 abbrev pub ◌>>=◌ : {X Y : Type 0} → Result X Refusal → (X → Result Y Refusal) → Result Y Refusal
 (Ok x) >>= f = f x
 (Err e) >>= f = Err e
 
--- own: an option that has to be there
+-- the value of a required option (agenda)
 abbrev pub wanted : {X : Type 0} → Option X → Result X Refusal
 wanted None = Err is_usage
 wanted (Some x) = Ok x
 
--- own: the number that a text writes in decimal digits, where it is one of 32 bits
+-- the number that a text gives in decimal digits, if it has at most 32 bits (agenda)
 abbrev pub number_of : List ℕ → Option ℕ
 number_of text = if accepts false (parser.Unsigned 0 4294967295) text
     then Some (digits_value 10 (without_leading_plus text)) else None
 
+-- the number in an optional text (agenda)
 abbrev pub number_in : Option (List ℕ) → Option ℕ
 number_in text = option_and_then number_of text
 
--- own: exactly one of a cron rule and a calendar event has to be there
+-- exactly one of a cron rule and a calendar event is required (agenda)
 abbrev pub one_rule : Option (List ℕ) → Option (List ℕ) → Result Asked Refusal
 one_rule (Some cron) None = Ok (Cron cron)
 one_rule None (Some calendar) = Ok (Event calendar)
 one_rule (Some cron) (Some calendar) = Err is_usage
 one_rule None None = Err is_usage
 
--- the text of the zone, which may be missing (agenda)
+-- the text of the zone, which is optional (agenda)
 abbrev pub zone_in : List Row → Option (List ℕ)
 zone_in rows = first_of (codes "zone") rows
 
--- own: the values that `next` was given
+-- what `next` requests, by its values (agenda)
 abbrev pub asked_by_next : List Row → Result Ask Refusal
 asked_by_next rows = do
   after ← wanted (first_of (codes "after") rows)
@@ -64,7 +65,7 @@ asked_by_next rows = do
   rule ← one_rule (first_of (codes "cron") rows) (first_of (codes "calendar") rows)
   Ok (Next after (zone_in rows) count rule)
 
--- own: the sizes of a plan, in the order in which they are looked at
+-- the sizes of a plan, in the order in which they are checked (agenda)
 abbrev pub sizes_in : List Row → Result Sizes Refusal
 sizes_in rows = do
   planners ← wanted (number_in (one_of (codes "planners") rows))
@@ -72,25 +73,26 @@ sizes_in rows = do
   limit ← wanted (number_in (one_of (codes "limit") rows))
   Ok (record { planners = planners; room = room; limit = limit })
 
--- own: the path of a source of a kind
+-- a path with the kind of its source (agenda)
 abbrev pub path_of : SourceKind → List ℕ → SourcePath
 path_of kind path = record { kind = kind; path = path }
 
--- own: the one text that may have been given
+-- an optional text, as a list (agenda)
 abbrev pub all_given : Option (List ℕ) → List (List ℕ)
 all_given None = []
 all_given (Some text) = text ∷ []
 
--- own: the paths of the sources of a kind: of any number, in the order of the words, or of one that may be missing
+-- the paths of the sources of a kind: all of them, in the order of the arguments, or at most one for a kind
+-- with a single source (agenda)
 abbrev pub paths_in : SourceKind → List Row → List (List ℕ)
 paths_in kind rows =
     if is_many kind then unwrap_or (all_of (option_of kind) rows) [] else all_given (first_of (option_of kind) rows)
 
--- own: the paths of all sources, in the order of their kinds
+-- the paths of all sources, in the order of their kinds (agenda)
 abbrev pub sources_in : List Row → List SourcePath
 sources_in rows = flat_map (λ kind. map (path_of kind) (paths_in kind rows)) kinds
 
--- own: the values that `plan` was given; there may be no source
+-- what `plan` requests, by its values; there may be no source (agenda)
 abbrev pub asked_by_plan : List Row → Result Ask Refusal
 asked_by_plan rows = do
   since ← wanted (first_of (codes "since") rows)
@@ -98,13 +100,13 @@ asked_by_plan rows = do
   sizes ← sizes_in rows
   Ok (Plan since upto (zone_in rows) (sources_in rows) sizes)
 
--- own: the values that `upcoming` was given; there may be no source
+-- what `upcoming` requests, by its values; there may be no source (agenda)
 abbrev pub asked_by_upcoming : List Row → Result Ask Refusal
 asked_by_upcoming rows = do
   after ← wanted (first_of (codes "after") rows)
   Ok (Upcoming after (zone_in rows) (sources_in rows))
 
--- own: the values that `quiet` was given; there may be no source
+-- what `quiet` requests, by its values; there may be no source (agenda)
 unfoldable pub asked_by_quiet : List Row → Result Ask Refusal
 asked_by_quiet rows = do
   since ← wanted (first_of (codes "since") rows)
@@ -113,17 +115,17 @@ asked_by_quiet rows = do
   sizes ← sizes_in rows
   Ok (Quiet since upto (zone_in rows) (sources_in rows) sizes least)
 
--- own: the values that `check` was given; there may be no source
+-- what `check` requests, by its values; there may be no source (agenda)
 abbrev pub asked_by_check : List Row → Result Ask Refusal
 asked_by_check rows = Ok (Check (zone_in rows) (sources_in rows))
 
--- own: the file that `steps` was given
+-- what `steps` requests, by its values (agenda)
 abbrev pub asked_by_steps : List Row → Result Ask Refusal
 asked_by_steps rows = do
   file ← wanted (first_of (codes "file") rows)
   Ok (Steps file)
 
--- own: by the name of the subcommand that was met, and what it was given
+-- what the given subcommand requests, by its name and its values (agenda)
 abbrev pub asked_by_subcommand : Option (List ℕ × List Row) → Result Ask Refusal
 asked_by_subcommand None = Err is_usage
 asked_by_subcommand (Some met) =
@@ -134,29 +136,29 @@ asked_by_subcommand (Some met) =
     else (if bytes_eq met.0 (codes "check") then asked_by_check met.1
     else (if bytes_eq met.0 (codes "steps") then asked_by_steps met.1 else Err is_usage)))))
 
--- own: a call for help or for the version is answered, and each other fault is usage
+-- how an error of clap is answered: help and the version are printed, and all other errors are usage errors (agenda)
 abbrev pub refusal_of : ErrorKind → Refusal
 refusal_of DisplayHelp = wants_help
 refusal_of DisplayVersion = wants_help
 refusal_of _ = is_usage
 
--- own: words that clap refuses ask for nothing
+-- arguments that clap rejects request nothing; the first error decides (agenda)
 abbrev pub asked_unless : Kinds → Result Ask Refusal → Result Ask Refusal
 asked_unless [] read = read
 asked_unless (kind ∷ _) read = Err (refusal_of kind)
 
--- own: what the words ask for
+-- what the arguments request (agenda)
 unfoldable pub asked_by : List (List ℕ) → Result Ask Refusal
 asked_by words = asked_unless (fault_of agenda words) (asked_by_subcommand (subcommand_of agenda words))
 
--- own: the answer is the definition's, or memory was refused
+-- the result is what the definition says, or an allocation failed (agenda)
 abbrev pub Gives : {X : Type 0} → Result X UsageFault → Result X Refusal → Type 0
 Gives (Ok x) read = read ≡ Ok x
 Gives (Err NoMemory) read = ⊤
 Gives (Err (Usage text)) read = read ≡ Err is_usage
 Gives (Err (Help text)) read = read ≡ Err wants_help
 
--- own: the fault that stands for a kind of clap's error
+-- the error that is returned for a kind of clap's errors (agenda)
 abbrev pub IsAnswerTo : ErrorKind → UsageFault → Type 0
 IsAnswerTo OutOfMemory fault = fault ≡ NoMemory
 IsAnswerTo DisplayHelp fault = (text : List ℕ) × (fault ≡ Help text)

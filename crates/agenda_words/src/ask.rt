@@ -1,4 +1,4 @@
-//! What the words of the command line ask for.
+//! What the arguments of the command line request.
 
 use agenda_sources::{Asked, SourcePaths};
 use plan_collect::Sizes;
@@ -6,81 +6,81 @@ use plan_texts::Text;
 use std::alloc::AllocError;
 use thiserror::Error;
 
-/// What the words ask for.
+/// A request to the program.
 #[derive(Debug, Drop)]
 pub enum Ask {
-    /// The next starts of one rule.
+    /// Print the next starts of one rule.
     Next {
-        /// The text of a moment: the starts are later.
+        /// The text of a timestamp. The starts are later.
         after: Text,
-        /// The text of the time zone of the rules; UTC where it is missing.
+        /// The text of the time zone of the rules. It is UTC if this is missing.
         zone: Option<Text>,
-        /// How many starts.
+        /// The number of starts.
         count: u32,
         /// The rule.
         rule: Asked,
     },
-    /// The agenda of the jobs of crontabs and timers.
+    /// Print the agenda of the jobs of crontabs and timers.
     Plan {
-        /// The text of a moment: the agenda begins with it.
+        /// The text of a timestamp, the start of the span.
         since: Text,
-        /// The text of a moment: the agenda ends before it.
+        /// The text of a timestamp, the end of the span. It is outside the span.
         upto: Text,
-        /// The text of the time zone of the rules; UTC where it is missing.
+        /// The text of the time zone of the rules. It is UTC if this is missing.
         zone: Option<Text>,
-        /// The paths of its sources, in the order of their kinds, and those of one kind in the order of the words.
+        /// The paths of the sources, in the order of their kinds. Those of one kind are in the order of the arguments.
         sources: SourcePaths,
-        /// How many planners, with how much room each, and how many starts at most.
+        /// The number of planners, the capacity of each one's ring, and the maximum number of starts.
         sizes: Sizes,
     },
-    /// When each job of crontabs and timers starts next.
+    /// Print when each job of crontabs and timers starts next.
     Upcoming {
-        /// The text of a moment: the starts are later.
+        /// The text of a timestamp. The starts are later.
         after: Text,
-        /// The text of the time zone of the rules; UTC where it is missing.
+        /// The text of the time zone of the rules. It is UTC if this is missing.
         zone: Option<Text>,
-        /// The paths of the sources, in the order of a plan's.
+        /// The paths of the sources, in the same order as for `Plan`.
         sources: SourcePaths,
     },
-    /// When no job of crontabs and timers starts.
+    /// Print the gaps in which no job of crontabs and timers starts.
     Quiet {
-        /// The text of a moment: the span begins with it.
+        /// The text of a timestamp, the start of the span.
         since: Text,
-        /// The text of a moment: the span ends before it.
+        /// The text of a timestamp, the end of the span. It is outside the span.
         upto: Text,
-        /// The text of the time zone of the rules; UTC where it is missing.
+        /// The text of the time zone of the rules. It is UTC if this is missing.
         zone: Option<Text>,
-        /// The paths of the sources, in the order of a plan's.
+        /// The paths of the sources, in the same order as for `Plan`.
         sources: SourcePaths,
-        /// The sizes of the plan of which the gaps are.
+        /// The sizes of the plan that is searched for gaps.
         sizes: Sizes,
-        /// How many seconds a gap lasts at least.
+        /// The minimum length of a gap, in seconds.
         least: u32,
     },
-    /// What is wrong with crontabs and timers.
+    /// Print what is wrong with crontabs and timers.
     Check {
-        /// The text of the time zone of the rules; UTC where it is missing.
+        /// The text of the time zone of the rules. It is UTC if this is missing.
         zone: Option<Text>,
-        /// The paths of the sources, in the order of a plan's.
+        /// The paths of the sources, in the same order as for `Plan`.
         sources: SourcePaths,
     },
-    /// The replies to the steps of a script.
+    /// Print the replies to the steps of a script.
     Steps {
         /// The path of the script.
         file: Text,
     },
 }
 
-/// Why the words ask for nothing.
+/// Why the arguments request no command.
 #[derive(Debug, Drop, Error)]
 pub enum UsageFault {
-    /// Memory was refused.
+    /// An allocation failed.
     #[error("NoMemory")]
     NoMemory,
-    /// The words are no use of the program. The text is for standard error.
+    /// The arguments are invalid. The text is for standard error.
     #[error("Usage")]
     Usage(Text),
-    /// The words ask for help or for the version. The text is for standard output.
+    /// The arguments request help or the version. The text is for standard output.
     #[error("Help")]
     Help(Text),
 }

@@ -1,4 +1,4 @@
-//! The command line, as `clap` reads it.
+//! Describes the command line to `clap`.
 ghost use Rattle.std.specs.Prelude.{◌≡◌, [], ◌∷◌, IfOk, false};
 ghost use Rattle.clap.specs.Words.{app_of, items_of, rule_of, with_rule, with_subcommand};
 ghost use Rattle.clap.specs.declared.builder.command.Command.TheViews.{out-Command};
@@ -12,10 +12,14 @@ use agenda_sources::SourceKind;
 use clap::{Arg, ArgAction, Command, value_parser};
 use std::alloc::{AllocError, Global};
 
-// The version of the program, which stands here alone, and what it was proved with.
+// The version of the program, which is written only here, and the prover's version.
 const VERSION: &str = "0.1.0\nproved with rattle-kit-13f logic dac8208d650f15bf";
 
-/// The command line of the program.
+/// Returns the command line of the program.
+///
+/// # Errors
+///
+/// An allocation failed.
 #[tactic(auto, unfolding(crate::specs::Command::agenda))]
 pub(crate) fn agenda_command<'a>(alloc: Global) -> Result<Command<'a>, AllocError>
     ensures { IfOk result (λ command. app_of command ≡ agenda) }
@@ -128,7 +132,7 @@ fn steps_command<'a>(alloc: Global) -> Result<Command<'a>, AllocError>
     Ok(command)
 }
 
-// The command with one more subcommand.
+// Adds a subcommand to the command.
 fn with_command<'a>(command: Command<'a>, below: Command<'a>) -> Result<Command<'a>, AllocError>
     requires local { (out-Command below).has_globals ≡ false }
     ensures { IfOk result (λ new. app_of new ≡ with_subcommand (app_of command.entry) (app_of below.entry).top) }
@@ -136,7 +140,7 @@ fn with_command<'a>(command: Command<'a>, below: Command<'a>) -> Result<Command<
     command.subcommand(below)
 }
 
-// The command with the arguments that name where its jobs come from.
+// Adds the options and arguments that name the sources of jobs.
 #[tactic(auto, unfolding(crate::specs::Command::with_sources))]
 fn with_sources<'a>(alloc: Global, command: Command<'a>) -> Result<Command<'a>, AllocError>
     requires local { (out-Command command).has_globals ≡ false }
@@ -150,7 +154,7 @@ fn with_sources<'a>(alloc: Global, command: Command<'a>) -> Result<Command<'a>, 
     Ok(command)
 }
 
-// The command with the sizes of a plan, the limit of which has this default.
+// Adds the sizes of a plan. `limit` is the default of the option `--limit`.
 #[tactic(auto, unfolding(crate::specs::Command::with_sizes))]
 fn with_sizes<'a>(
     alloc: Global,
@@ -161,16 +165,15 @@ fn with_sizes<'a>(
     ensures app { IfOk result (λ new. app_of new ≡ with_sizes (app_of command.entry) limit.entry.now) }
     ensures local { IfOk result (λ new. (out-Command new).has_globals ≡ false) }
 {
-    let command = with_argument(
-        command,
-        number_option(alloc, "planners", "2", help::PLANNERS),
-    )?;
-    let command = with_argument(command, number_option(alloc, "room", "16", help::ROOM))?;
+    let planners = number_option(alloc, "planners", "2", help::PLANNERS);
+    let command = with_argument(command, planners.help_heading(help::TUNING))?;
+    let room = number_option(alloc, "room", "16", help::ROOM);
+    let command = with_argument(command, room.help_heading(help::TUNING))?;
     let command = with_argument(command, number_option(alloc, "limit", limit, help::LIMIT))?;
     Ok(command)
 }
 
-// The command with one more argument, which is its own and no subcommand's.
+// Adds an argument to the command. It isn't global: subcommands don't have it.
 fn with_argument<'a>(command: Command<'a>, argument: Arg<'a>) -> Result<Command<'a>, AllocError>
     requires own { argument.global ≡ false }
     requires local { (out-Command command).has_globals ≡ false }
@@ -180,7 +183,7 @@ fn with_argument<'a>(command: Command<'a>, argument: Arg<'a>) -> Result<Command<
     command.arg(argument)
 }
 
-// `FILE`, which has to be there.
+// Returns the argument `FILE`, which is required.
 fn file_argument<'a>(alloc: Global) -> Arg<'a>
     ensures rule { rule_of result ≡ file_argument }
     ensures local { result.global ≡ false }
@@ -188,7 +191,8 @@ fn file_argument<'a>(alloc: Global) -> Arg<'a>
     argument(alloc, "file", "FILE", help::FILE).required(true)
 }
 
-// `--crontab F`, `--system-crontab F`, or, any number of times, `--cron-d F`, `--spool F` or `TIMER`.
+// Returns the option or argument for sources of a kind: `--crontab F`, `--system-crontab F`, or, any number
+// of times, `--cron-d F`, `--spool F` or `TIMER`.
 fn source_argument<'a>(alloc: Global, kind: SourceKind) -> Arg<'a>
     ensures rule { rule_of result ≡ source_rule kind }
     ensures local { result.global ≡ false }
@@ -208,7 +212,7 @@ fn source_argument<'a>(alloc: Global, kind: SourceKind) -> Arg<'a>
     }
 }
 
-// `--name T`, a moment, which has to be there.
+// Returns the option `--name T`, a timestamp, which is required.
 fn moment_option<'a>(alloc: Global, name: &'a str, help: &'a str) -> Arg<'a>
     ensures rule { rule_of result ≡ moment_option name.entry.now }
     ensures local { result.global ≡ false }
@@ -216,7 +220,7 @@ fn moment_option<'a>(alloc: Global, name: &'a str, help: &'a str) -> Arg<'a>
     text_option(alloc, name, "T", help).required(true)
 }
 
-// `--zone ZONE`, which may be missing.
+// Returns the option `--zone ZONE`, which is optional.
 fn zone_option<'a>(alloc: Global) -> Arg<'a>
     ensures rule { rule_of result ≡ zone_option }
     ensures local { result.global ≡ false }
@@ -224,7 +228,7 @@ fn zone_option<'a>(alloc: Global) -> Arg<'a>
     text_option(alloc, "zone", "ZONE", help::ZONE)
 }
 
-// `--name N`, a whole number of 32 bits; where it is missing, the default.
+// Returns the option `--name N`, a whole number of 32 bits, with a default.
 fn number_option<'a>(alloc: Global, name: &'a str, default: &'a str, help: &'a str) -> Arg<'a>
     ensures rule { rule_of result ≡ number_option name.entry.now default.entry.now }
     ensures local { result.global ≡ false }
@@ -234,7 +238,7 @@ fn number_option<'a>(alloc: Global, name: &'a str, default: &'a str, help: &'a s
         .default_value(default)
 }
 
-// `--name VALUE`, which may be missing.
+// Returns the option `--name VALUE`, which is optional.
 fn text_option<'a>(alloc: Global, name: &'a str, value: &'a str, help: &'a str) -> Arg<'a>
     ensures rule { rule_of result ≡ option_named name.entry.now }
     ensures shown { items_of result.val_names ≡ value.entry ∷ [] }
@@ -243,7 +247,7 @@ fn text_option<'a>(alloc: Global, name: &'a str, value: &'a str, help: &'a str) 
     argument(alloc, name, value, help).long(name)
 }
 
-// `VALUE`, which may be missing, under a name.
+// Returns an argument `VALUE` with this name, which is optional.
 fn argument<'a>(alloc: Global, name: &'a str, value: &'a str, help: &'a str) -> Arg<'a>
     ensures rule { rule_of result ≡ argument_named name.entry.now }
     ensures shown { items_of result.val_names ≡ value.entry ∷ [] }

@@ -1,7 +1,8 @@
-//! The words of the command line: what they ask for, or the text of help or of usage.
+//! The arguments of the command line: what they request, or the text of help or of a usage error.
 //!
-//! It stands on the kit's `clap`, on plan_texts for texts that are kept, and on agenda_sources for the table of the kinds of sources. Open
-//! `words` first, then `command`, the command line in clap's words, with its `help`.
+//! The crate uses the kit's `clap`, plan_texts for the texts that it keeps, and agenda_sources for the table
+//! of the kinds of sources. Read `words` first, then `command`, which describes the command line to clap,
+//! with the texts in its `help`.
 #![tactic(auto)]
 
 mod ask;

@@ -1,4 +1,4 @@
-//! The paths of the sources of a plan.
+//! The paths of the sources that the arguments name.
 ghost use Rattle.std.specs.Prelude.{◌≡◌, ◌++◌, ◌∷◌, [], IfOk, OnOk, map, unwrap_or};
 ghost use Rattle.std.specs.List.{flat_map};
 ghost use Rattle.clap.specs.Words.{all_of, first_of, found_of, rows_of};
@@ -10,7 +10,12 @@ use agenda_sources::{SourceKind, SourcePath, SourcePaths};
 use clap::ArgMatches;
 use std::alloc::{AllocError, Global};
 
-/// The paths of the sources that were given, in the order of their kinds, and those of one kind in the order of the words.
+/// Returns the paths of the given sources, in the order of their kinds. Those of one kind are in the order of
+/// the arguments.
+///
+/// # Errors
+///
+/// An allocation failed.
 pub(crate) fn sources_of(alloc: Global, given: &ArgMatches<'_>) -> Result<SourcePaths, AllocError>
     ensures { IfOk result (λ paths. paths ≡ sources_in (rows_of (found_of given.now))) }
 {
@@ -52,7 +57,7 @@ fn add_paths(
     }
 }
 
-// Adds the path of the one source of a kind, if it was given.
+// Adds the path of the only source of a kind, if it was given.
 fn add_one(
     alloc: Global,
     given: &ArgMatches<'_>,
@@ -68,7 +73,7 @@ fn add_one(
     }
 }
 
-// Adds the paths of all sources of a kind.
+// Adds the paths of all sources of a kind that can be given more than once.
 fn add_many(
     alloc: Global,
     given: &ArgMatches<'_>,
@@ -84,7 +89,7 @@ fn add_many(
     }
 }
 
-// Adds the paths of sources of a kind, in order.
+// Adds these paths of sources of a kind, in order.
 fn add_all(
     alloc: Global,
     kind: SourceKind,

@@ -1,4 +1,4 @@
-//! What a subcommand was given.
+//! The values of a subcommand's options and arguments.
 ghost use Rattle.std.specs.Prelude.{◌≡◌, IfOk};
 ghost use Rattle.clap.specs.Words.{first_of, found_of, one_of, rows_of};
 ghost use Rattle.agenda_words.specs.Words.{Gives, number_in, wanted};
@@ -10,7 +10,11 @@ use std::alloc::{AllocError, Global};
 
 const TRY_HELP: &str = "For more information, try '--help'.";
 
-/// The value of an option that may be missing.
+/// Returns the value of an option, if it is given.
+///
+/// # Errors
+///
+/// An allocation failed.
 pub(crate) fn text_if_given(
     alloc: Global,
     given: &ArgMatches<'_>,
@@ -24,7 +28,11 @@ pub(crate) fn text_if_given(
     }
 }
 
-/// The value of an option or an argument that has to be there.
+/// Returns the value of a required option or argument.
+///
+/// # Errors
+///
+/// `Usage` if the value is missing; `NoMemory` if an allocation failed.
 pub(crate) fn text_of(
     alloc: Global,
     given: &ArgMatches<'_>,
@@ -38,7 +46,11 @@ pub(crate) fn text_of(
     }
 }
 
-/// The number that is the value of an option that has to be there.
+/// Returns the number that is the value of an option, which is required or has a default.
+///
+/// # Errors
+///
+/// `Usage` if the value is missing; `NoMemory` if an allocation failed.
 pub(crate) fn number_of(
     alloc: Global,
     given: &ArgMatches<'_>,
@@ -52,13 +64,18 @@ pub(crate) fn number_of(
     }
 }
 
-// The text of usage where a value isn't there. No words lead here: `clap` asks for the value, or knows its default.
+// Returns the text of usage for a missing value. No arguments lead here: `clap` rejects a missing value
+// itself, or uses the default.
 fn missing(alloc: Global, option: &str) -> Result<Text, AllocError> {
     let text = format!(in alloc; "error: the option '--{option}' is missing\n\n{TRY_HELP}\n")?;
     Ok(Text::new(text))
 }
 
-/// The text, kept.
+/// Returns a copy of the text.
+///
+/// # Errors
+///
+/// An allocation failed.
 pub(crate) fn text(alloc: Global, written: &str) -> Result<Text, AllocError>
     ensures { IfOk result (λ text. text ≡ written.now) }
 {

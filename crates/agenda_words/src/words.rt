@@ -1,4 +1,4 @@
-//! How the words of the command line are read.
+//! Reads the arguments of the command line.
 ghost use Rattle.std.specs.Prelude.{IfOk, map, string_bytes};
 ghost use Rattle.clap.specs.Words.{found_of, kind_of, rows_of, subcommand_rows_of};
 ghost use Rattle.agenda_words.specs.Words.{Gives, IsAnswerTo, asked_by, asked_by_check, asked_by_next};
@@ -21,8 +21,12 @@ const ONE_RULE: &str = "exactly one of --cron and --calendar\n";
 const NO_SUBCOMMAND: &str =
     "error: a subcommand is missing\n\nFor more information, try '--help'.\n";
 
-/// Reads the words of the command line, of which the first is the program's name: what they ask for,
-/// or the text of help, of the version or of usage.
+/// Returns what the arguments of the command line request. The first of `words` is the name of the program.
+///
+/// # Errors
+///
+/// `Help` with the text of help or of the version, if that is requested; `Usage` with the text of usage, if
+/// the arguments are invalid; `NoMemory` if an allocation failed.
 pub fn read_words(alloc: Global, words: &[String]) -> Result<Ask, UsageFault>
     ensures { Gives result (asked_by (map string_bytes words.now)) }
 {
@@ -33,7 +37,7 @@ pub fn read_words(alloc: Global, words: &[String]) -> Result<Ask, UsageFault>
     }
 }
 
-// What the subcommand that was met asks for.
+// Returns what the given subcommand requests.
 fn asked_by_subcommand(alloc: Global, matches: &ArgMatches<'_>) -> Result<Ask, UsageFault>
     ensures { Gives result (asked_by_subcommand (subcommand_rows_of matches.now)) }
 {
@@ -129,7 +133,7 @@ fn asked_by_quiet(alloc: Global, given: &ArgMatches<'_>) -> Result<Ask, UsageFau
     })
 }
 
-// The sizes of a plan. The numbers of the words have 32 bits; here they become a plan's, as which they go on.
+// Returns the sizes of a plan. The numbers in the arguments have 32 bits. Here they get the types that a plan uses.
 fn sizes_of(alloc: Global, given: &ArgMatches<'_>) -> Result<Sizes, UsageFault>
     ensures { Gives result (sizes_in (rows_of (found_of given.now))) }
 {
@@ -158,7 +162,7 @@ fn asked_by_steps(alloc: Global, given: &ArgMatches<'_>) -> Result<Ask, UsageFau
     Ok(Ask::Steps { file })
 }
 
-// The fault that stands for an error of `clap`, with its text.
+// Returns the error for an error of `clap`, with its text.
 fn refusal(alloc: Global, error: &clap::Error) -> Result<UsageFault, AllocError>
     ensures { IfOk result (IsAnswerTo (kind_of error.now)) }
 {

@@ -1,15 +1,21 @@
-//! Does pieces of work of which `bin/bench` takes the time, and prints a line for each: what was done, and what it found.
+//! Does work that `bin/bench` measures, and prints a line for each piece of work: what was done, and what it
+//! found.
 //!
-//! Four words ask for a piece: what is done, two numbers, and a source, the path of a crontab or of a timer file (`-` where none is
-//! read):
+//! Each piece of work has four arguments: what to do, two numbers, and a source. The source is the path of a
+//! crontab or of a timer file, or `-` if none is read:
 //!
-//! - `read TIMES 0 SOURCE` makes the jobs of the source, so many times, and finds how many there are. Those of a timer file are 8.
-//! - `next TIMES COUNT SOURCE` searches for so many starts of its last job, one after the other, and finds the last of them.
-//! - `piece TIMES UPTO SOURCE` searches for a piece of that job's starts before a second, and finds how many there are.
-//! - `plan LIMIT SECONDS SOURCE` plans its jobs in one thread, and finds how many starts there are, 0 where that is above the limit.
-//! - `ring COUNT ROOM -` and `lock COUNT ROOM -` send messages from one thread to another, and find how many came.
+//! - `read TIMES 0 SOURCE` makes the jobs of the source TIMES times, and finds how many there are. A timer file
+//!   makes 8 jobs.
+//! - `next TIMES COUNT SOURCE` searches for COUNT starts of its last job, one after the other, and finds the last
+//!   of them. It does so TIMES times.
+//! - `piece TIMES UPTO SOURCE` searches for a piece of that job's starts before the second UPTO, and finds how many
+//!   there are. It does so TIMES times.
+//! - `plan LIMIT SECONDS SOURCE` plans its jobs in one thread, and finds how many starts there are, or 0 if that is
+//!   more than the limit.
+//! - `ring COUNT ROOM -` and `lock COUNT ROOM -` send COUNT messages from one thread to another, with a capacity of
+//!   ROOM messages, and find how many arrived.
 //!
-//! Other words are refused as invalid input, and so is work that can't be done.
+//! Other arguments are rejected as invalid input, and so is work that can't be done.
 #![tactic(auto)]
 
 mod plans;
@@ -48,17 +54,17 @@ fn main(rt: HostRuntime) -> io::Result<()> {
     Ok(())
 }
 
-// What comes of words that ask for no work.
+// Returns the error for arguments that request no work.
 fn refused() -> io::Error {
     io::Error::from(ErrorKind::InvalidInput)
 }
 
-// The number that a word writes.
+// Returns the number that an argument gives.
 fn number(word: &str) -> io::Result<u64> {
     word.parse().or(Err(refused()))
 }
 
-// What a piece of work finds; `None` where there is no such work, or it can't be done.
+// Returns what a piece of work finds, or `None` if there is no such work or it can't be done.
 fn found<R: AllocGlobal + Files + Threads + Wait + Sync>(
     rt: &R,
     work: &str,
@@ -74,7 +80,7 @@ fn found<R: AllocGlobal + Files + Threads + Wait + Sync>(
     Ok(found)
 }
 
-// What a piece of work finds in a source.
+// Returns what a piece of work finds in a source.
 fn found_in(alloc: Global, work: &str, count: u64, size: u64, source: &[u8]) -> Option<u64> {
     match work {
         "read" => read(alloc, source, count),

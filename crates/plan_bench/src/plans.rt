@@ -5,10 +5,11 @@ use plan_collect::{CollectFault, PlanFault, Span};
 use plan_serial::plan_serial;
 use std::alloc::Global;
 
-// The begin of 2024.
+// The start of 2024.
 const NEW_YEAR: u64 = 1_704_067_200;
 
-/// How many starts jobs have in so many seconds. Where that is above the limit, 0: they were found and collected then, and not sorted.
+/// Returns how many starts the jobs have in this many seconds. Returns 0 if there are more than the limit:
+/// then they were found and collected, but not sorted.
 pub fn plan(alloc: Global, source: &[u8], limit: u64, seconds: u64) -> Option<u64> {
     let jobs = jobs_of(alloc, source)?;
     let span = Span::new(NEW_YEAR, NEW_YEAR.saturating_add(seconds)).ok()?;

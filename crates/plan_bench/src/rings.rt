@@ -6,10 +6,10 @@ use std::sync::Wait;
 use std::thread;
 use std::thread::Threads;
 
-// A message of a few words.
+// A message of four numbers.
 type Message = [u64; 4];
 
-/// Sends so many messages from one thread to another through a ring, and answers how many were taken.
+/// Sends this many messages from one thread to another through a ring, and returns how many were taken.
 pub fn through_ring<R: Threads + Wait + Sync>(
     rt: &R,
     alloc: Global,
@@ -27,7 +27,7 @@ pub fn through_ring<R: Threads + Wait + Sync>(
     Some(taken)
 }
 
-// Sends the messages, each again while the ring is full.
+// Sends the messages. Sends each again while the ring is full.
 fn send_all<R: Wait>(rt: &R, mut outlet: Outlet<Message>, count: u64) {
     for number in 0..count {
         for _ in rt.forever() {
@@ -39,7 +39,7 @@ fn send_all<R: Wait>(rt: &R, mut outlet: Outlet<Message>, count: u64) {
     }
 }
 
-// Takes the messages, and answers how many there were.
+// Takes the messages, and returns how many there were.
 fn take_all<R: Wait>(rt: &R, mut inlet: Inlet<Message>, count: u64) -> u64 {
     let mut taken = 0u64;
     for _ in rt.forever() {
@@ -54,7 +54,8 @@ fn take_all<R: Wait>(rt: &R, mut inlet: Inlet<Message>, count: u64) -> u64 {
     taken
 }
 
-/// Sends so many messages from one thread to another through a mailbox behind a lock, and answers how many were taken.
+/// Sends this many messages from one thread to another through a mailbox behind a lock, and returns how many
+/// were taken.
 pub fn through_lock<R: Threads + Wait + Sync>(
     rt: &R,
     alloc: Global,
@@ -79,7 +80,7 @@ fn send_all_locked<R: Wait>(rt: &R, locked: &Locked<Message>, count: u64) {
     locked.close(rt, 0);
 }
 
-// Takes until the sender is closed, and answers how many messages there were.
+// Takes messages until the sender is closed, and returns how many there were.
 fn take_all_locked<R: Wait>(rt: &R, locked: &Locked<Message>) -> u64 {
     let mut taken = 0u64;
     for _ in rt.forever() {

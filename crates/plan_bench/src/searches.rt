@@ -5,11 +5,11 @@ use plan_next::{next_piece, next_start};
 use plan_sets::END_SECOND;
 use std::alloc::Global;
 
-// The most starts of a piece.
+// The maximum number of starts in a piece.
 const MOST: usize = 1_024;
 
-/// The last of so many starts from second 0 on, one asked for after the other; where there are no more the next is second 0. All are
-/// searched for so many times.
+/// Returns the last of `count` starts from second 0 on, each searched for after the one before. If there are no
+/// more, the next one counts as second 0. Repeats the whole search `times` times.
 pub fn next(alloc: Global, source: &[u8], times: u64, count: u64) -> Option<u64> {
     let job = job_of(alloc, source)?;
     let mut last = 0;
@@ -22,7 +22,8 @@ pub fn next(alloc: Global, source: &[u8], times: u64, count: u64) -> Option<u64>
     Some(last)
 }
 
-/// How many starts the piece has that begins with second 0 and ends before `upto`. It is searched for so many times.
+/// Returns how many starts the piece has that starts at second 0 and ends before `upto`. Searches for it
+/// `times` times.
 pub fn piece(alloc: Global, source: &[u8], times: u64, upto: u64) -> Option<u64> {
     let job = job_of(alloc, source)?;
     let mut found = 0;

@@ -3,12 +3,12 @@
 use plan_rules::{Job, Jobs, Kind, crontab, timer};
 use std::alloc::Global;
 
-// The names of the jobs of a timer file.
+// The names of the jobs that a timer file makes.
 const NAMES: [&str; 8] = [
     "a.timer", "b.timer", "c.timer", "d.timer", "e.timer", "f.timer", "g.timer", "h.timer",
 ];
 
-/// How many jobs a source makes, of which they are made so many times.
+/// Makes the jobs of a source `times` times, and returns how many there are.
 pub fn read(alloc: Global, source: &[u8], times: u64) -> Option<u64> {
     let mut found = 0;
     for _ in 0..times {
@@ -17,7 +17,7 @@ pub fn read(alloc: Global, source: &[u8], times: u64) -> Option<u64> {
     Some(found)
 }
 
-/// The jobs of a crontab, or 8 of a timer file, which have one rule.
+/// Returns the jobs of a crontab, or 8 jobs of a timer file, which have the same rule.
 pub fn jobs_of(alloc: Global, source: &[u8]) -> Option<Jobs> {
     let mut jobs = Jobs::new(alloc);
     if is_timer(source) {
@@ -32,7 +32,7 @@ pub fn jobs_of(alloc: Global, source: &[u8]) -> Option<Jobs> {
     Some(jobs)
 }
 
-/// The last job of a crontab, or the job of a timer file.
+/// Returns the last job of a crontab, or the job of a timer file.
 pub fn job_of(alloc: Global, source: &[u8]) -> Option<Job> {
     if is_timer(source) {
         return timer(alloc, NAMES[0], source).ok();
@@ -40,7 +40,7 @@ pub fn job_of(alloc: Global, source: &[u8]) -> Option<Job> {
     crontab(alloc, "cron", source, Kind::User).ok()?.pop()
 }
 
-// Whether a source is a timer file, which begins with its section.
+// Returns whether a source is a timer file, which starts with a section.
 fn is_timer(source: &[u8]) -> bool {
     matches!(source, [b'[', ..])
 }

@@ -1,5 +1,5 @@
--- Nothing is refused of files exactly where jobs can be made of them: for `clean_where_jobs_are`.
--- `Agrees` says so of one file, or of its lines, with the names that go on from there; the rest follows the lists.
+-- Files have no finding but notes exactly if jobs can be made of them: for `clean_where_jobs_are`.
+-- `Agrees` says so of one file, or of its lines, with the names that follow; the rest is induction over the lists.
 use Rattle.std.proofs.Common.{◌≡◌, ℕ, Bool, true, false, not, ◌&&◌, eqb, nat_lt, cond, List, [], ◌∷◌, ◌++◌, length, map, Option, Some, None, is_some, option_map, Ok, Err, refl, ap, sym, ◌∙◌, subst}
 use Rattle.std.specs.List.{cons_option, flat_map}
 use Rattle.plan_clock.specs.declared.row.Change.{Change}
@@ -33,16 +33,16 @@ use Rattle.plan_check.specs.Names.{KnownNames, is_added, after_where, no_names}
 use Rattle.plan_check.specs.Notes.{rule_notes, never_starts, is_reboot, is_either_day}
 use Rattle.plan_check.specs.Timers as timers
 
--- the names that are known while it was not told that there are too many
+-- the names that are known as long as Full was not reported
 abbrev known_by : List Change → List (List ℕ) → KnownNames
 known_by clock added = record { added = added; told = false; clock = clock }
 
--- where jobs are made nothing is refused, and the names are theirs; else something is
+-- if jobs are made, nothing is rejected, and the names are theirs; else something is rejected
 abbrev Agrees : List Change → Option (List (List ℕ)) → List Finding → KnownNames → Type 0
 Agrees clock None found after = is_clean found ≡ false
 Agrees clock (Some next) found after = (is_clean found ≡ true) × (after ≡ known_by clock next)
 
--- ---- notes count for nothing
+-- ---- notes don't count
 
 and_assoc : (a b c : Bool) → (a && (b && c)) ≡ ((a && b) && c)
 and_assoc true b c = refl
@@ -79,7 +79,7 @@ agrees_by clock (Some next) found same after is h = (is ∙ h.0, h.1)
 
 -- ---- one job
 
--- what is found of a job's name, by whether it is there and whether there is room
+-- the finding about a job's name, by whether the name is already used and whether there are fewer than 1,000 jobs
 abbrev named_findings : ℕ → (a b : Bool) → List Finding
 named_findings line a b =
     cons_option (option_map (λ what. finding_at line what) (cond a (Some SameName) (cond b None (cond false None (Some Full))))) []

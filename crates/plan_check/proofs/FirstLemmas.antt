@@ -1,5 +1,6 @@
--- The first fault among the findings of a crontab: for the clause `first` of `crontab_findings`.
--- The faults among what is found of lines are those of their entries (`faults_of_entries`), the first of which decides.
+-- The first error among the findings of a crontab: for the clause `first` of `crontab_findings`.
+-- The errors among the findings of lines are those of their entries (`faults_of_entries`), the first of which
+-- decides.
 use Rattle.std.proofs.Common.{◌≡◌, ℕ, Bool, true, false, not, ◌&&◌, nat_lt, cond, List, [], ◌∷◌, ◌++◌, length, Option, Some, None, option_map, Ok, Err, refl, ap, ◌∙◌}
 use Rattle.std.proofs.lemmas.List.Elements.{filter_map-append}
 use Rattle.std.specs.List.{filter_map, cons_option}
@@ -40,7 +41,7 @@ no_fault_in_notes : (clock : List Change) (line : ℕ) (rule : Rule) → filter_
 no_fault_in_notes clock line rule =
     no_fault_noted (not (is_reboot rule) && never_starts (rule_in clock rule)) (is_either_day rule) line NeverStarts EitherDay
 
--- of a name
+-- the same for the finding about a name
 no_fault_named :
     (a b c : Bool) (line : ℕ) →
     filter_map fault_of (cons_option (option_map (λ what. finding_at line what)

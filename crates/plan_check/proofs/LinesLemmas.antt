@@ -1,5 +1,6 @@
--- What is found of lines, one after the other: for `add_lines`. What is found of two lists of entries is what is found of the first, and
--- then of the second with the names after it (`entries_findings-append`); a line adds its entry, if it has one (`entries_push`).
+-- The findings of lines, one after the other: for `add_lines`. The findings of two lists of entries are those
+-- of the first, and then those of the second with the names after the first (`entries_findings-append`). A line
+-- adds its entry, if it has one (`entries_push`).
 use Rattle.std.proofs.Common.{◌≡◌, ℕ, ◌+◌, ◌<◌, ◌≤◌, Bool, List, [], ◌∷◌, ◌++◌, length, take, get_or, map, Option, refl, ap, sym, ◌∙◌}
 use Rattle.std.proofs.lemmas.List.{append_assoc}
 use Rattle.std.specs.List.{cons_option, filter_map}
@@ -29,7 +30,7 @@ after_entries-append is_named known [] second = refl
 after_entries-append is_named known (entry ∷ more) second =
     after_entries-append is_named (after_line is_named known entry.read) more second
 
--- the entries of the lines so far, and that of one line more
+-- the entries of the lines so far, and that of one more line
 grown :
     {A : Type 0} (f : ℕ × List ℕ → Option (Entry JobParts)) (v : A → List ℕ) (lines : List A) (place : ℕ) (d : A) →
     place < length lines →
@@ -37,7 +38,7 @@ grown :
     ≡ filter_map f (take (place + 1) (placed v lines))
 grown f v lines place d inside = entries_push f v lines place d _ _ inside refl refl
 
--- so is what was found
+-- the findings grow in the same way
 pub found_more :
     {A : Type 0} (is_named : Bool) (known : KnownNames) (f : ℕ × List ℕ → Option (Entry JobParts)) (v : A → List ℕ) (lines : List A)
     (place : ℕ) (d : A) (before so_far next : List Finding) (names : KnownNames) → place < length lines →
@@ -55,7 +56,7 @@ found_more is_named known f v lines place d before so_far next names inside foun
     ∙ ap (λ found. before ++ found)
     (sym (entries_findings-append is_named known first second) ∙ ap (entries_findings is_named known) (grown f v lines place d inside))
 
--- and so are the names
+-- and the names
 pub names_more :
     {A : Type 0} (is_named : Bool) (known : KnownNames) (f : ℕ × List ℕ → Option (Entry JobParts)) (v : A → List ℕ) (lines : List A)
     (place : ℕ) (d : A) (names next : KnownNames) → place < length lines →

@@ -1,5 +1,5 @@
 -- The names that are kept: the bytes of the keys of a set. For `has` and `add` of `Names`.
--- A search in a mapped list finds what one for mapped items finds (`list_any-map`), and a key whose bytes no other has goes last.
+-- A search in a mapped list is a search by the mapped test (`list_any-map`), and a key with new bytes is appended.
 use Rattle.std.proofs.Common.{◌≡◌, ℕ, Bool, true, false, ◌||◌, if◌then◌else◌, nat_lt, length, List, [], ◌∷◌, ◌++◌, map, String, Global, string_bytes, refl, ap, sym, ◌∙◌}
 use Rattle.std.proofs.lemmas.List.{map-append}
 use Rattle.std.specs.List.{list_any}
@@ -13,13 +13,13 @@ list_any-map : {A B : Type 0} (p : B → Bool) (f : A → B) (xs : List A) → l
 list_any-map p f [] = refl
 list_any-map p f (x ∷ xs) = ap (λ found. p (f x) || found) (list_any-map p f xs)
 
--- a name is that of a key where it has the bytes of one
+-- a name is that of a key if it has the same bytes
 pub is_added-keys :
     (name : List ℕ) (keys : List (String Global)) →
     list_any (λ key. bytes_eq name (string_bytes key)) keys ≡ is_added name (map string_bytes keys)
 is_added-keys name keys = sym (list_any-map (bytes_eq name) string_bytes keys)
 
--- a key whose bytes no other has goes last
+-- a key with new bytes is appended
 pub insert_key-name :
     (keys : List (String Global)) (key : String Global) (name : List ℕ) → string_bytes key ≡ name →
     is_added name (map string_bytes keys) ≡ false →
@@ -31,7 +31,7 @@ insert_key-name keys key name named absent =
     ∙ map-append string_bytes keys (key ∷ [])
     ∙ ap (λ bytes. map string_bytes keys ++ bytes ∷ []) named
 
--- a name that no job has is added, where there are few
+-- a name that no job has is added if there are fewer than 1,000
 pub names_after-new :
     (known : KnownNames) (name : List ℕ) → is_added name known.added ≡ false → nat_lt (length known.added) most_jobs ≡ true →
     names_after known name ≡ record known { added = known.added ++ name ∷ [] }

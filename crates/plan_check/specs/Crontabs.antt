@@ -1,4 +1,4 @@
--- What is found of a crontab (crontab(5)). What is found, and in which order, is own.
+-- The findings of a crontab (crontab(5)). Which findings there are, and their order, is our choice (agenda).
 use Rattle.std.specs.Prelude.{ℕ, Bool, true, not, List, [], ◌∷◌, ◌++◌, option_map, Ok, Err}
 use Rattle.std.specs.List.{cons_option}
 use Rattle.plan_rules.specs.declared.crontabs.Kind.{Kind}
@@ -16,20 +16,21 @@ use Rattle.plan_check.specs.Notes.{rule_notes}
 
 -- ---- one line
 
--- what is found of a line, where the file's name is good or not: its one fault, or what is wrong with its job, and then its notes
+-- the findings of a line: its one error, or what is wrong with its job's name, and then the notes. `is_named` says
+-- whether the file's name is good
 abbrev pub line_findings : Bool → KnownNames → ℕ → LineReading JobParts → List Finding
 line_findings is_named known line (Ok job) =
     cons_option (option_map (λ what. finding_at line what) (fault_where is_named known job.name)) [] ++ rule_notes known.clock line job.rule
 line_findings is_named known line (Err cause) = refused_at line cause ∷ []
 
--- the names after a line: a line that is accepted makes a job, whatever else is refused
+-- the names after a line: a line that isn't rejected makes a job, whatever else is rejected
 abbrev pub after_line : Bool → KnownNames → LineReading JobParts → KnownNames
 after_line is_named known (Ok job) = after_where is_named known job.name
 after_line is_named known (Err cause) = known
 
 -- ---- all lines
 
--- what is found of lines, in order
+-- the findings of lines, in order
 abbrev pub entries_findings : Bool → KnownNames → List (Entry JobParts) → List Finding
 entries_findings is_named known [] = []
 entries_findings is_named known (entry ∷ more) =
@@ -40,18 +41,19 @@ abbrev pub after_entries : Bool → KnownNames → List (Entry JobParts) → Kno
 after_entries is_named known [] = known
 after_entries is_named known (entry ∷ more) = after_entries is_named (after_line is_named known entry.read) more
 
--- of a text that is too large or no UTF-8 there are no lines
+-- the findings of a text: if it is too large or not UTF-8, it has no lines
 abbrev pub text_findings : Bool → KnownNames → TextReading (List (Entry JobParts)) → List Finding
 text_findings is_named known (Ok entries) = entries_findings is_named known entries
 text_findings is_named known (Err fault) = refused_at fault.line fault.cause ∷ []
 
+-- the names after a text
 abbrev pub after_text : Bool → KnownNames → TextReading (List (Entry JobParts)) → KnownNames
 after_text is_named known (Ok entries) = after_entries is_named known entries
 after_text is_named known (Err fault) = known
 
 -- ---- a crontab
 
--- what is found of a crontab whose jobs have a label
+-- the findings of a crontab whose jobs have a label
 abbrev pub crontab_findings : KnownNames → (label : List ℕ) → Kind → List ℕ → List Finding
 crontab_findings known label kind bytes = text_findings true known (crontab_entries label kind bytes)
 
@@ -59,12 +61,13 @@ crontab_findings known label kind bytes = text_findings true known (crontab_entr
 abbrev pub after_crontab : KnownNames → (label : List ℕ) → Kind → List ℕ → KnownNames
 after_crontab known label kind bytes = after_text true known (crontab_entries label kind bytes)
 
--- what is found of a crontab whose jobs have its file's name: the name is looked at first, and the rest whatever it is
+-- the findings of a crontab whose jobs have its file's name: the name is checked first, and then the rest, even if
+-- the name is bad
 abbrev pub tab_findings : KnownNames → TabFolder → (name bytes : List ℕ) → List Finding
 tab_findings known folder name bytes =
     refused_if (not (is_tab_name folder name)) 0 BadTabName
     ++ text_findings (is_tab_name folder name) known (crontab_entries name (kind_in folder) bytes)
 
--- the names after it: a file whose name is bad makes no job
+-- the names after it: a file whose name is bad makes no jobs
 abbrev pub after_tab : KnownNames → TabFolder → (name bytes : List ℕ) → KnownNames
 after_tab known folder name bytes = after_text (is_tab_name folder name) known (crontab_entries name (kind_in folder) bytes)

@@ -1,4 +1,4 @@
--- What is found of several files, and whether jobs can be made of them. All of it is own.
+-- The findings of several files, and whether jobs can be made of them (agenda).
 use Rattle.std.specs.Prelude.{ℕ, nat_lt, if◌then◌else◌, List, [], ◌∷◌, ◌++◌, length, Option, Some, None, Ok, Err}
 use Rattle.plan_rules.specs.declared.crontabs.Kind.{Kind}
 use Rattle.plan_rules.specs.declared.tabs.TabFolder.{TabFolder}
@@ -20,27 +20,28 @@ pub data File : Type 0 where
   Tab : (folder : TabFolder) (name bytes : List ℕ) → File
   Timer : (name bytes : List ℕ) → File
 
--- ---- what is found
+-- ---- findings
 
--- of a file, and the names of jobs after it
+-- the findings of a file
 abbrev pub file_findings : KnownNames → File → List Finding
 file_findings known (Crontab label kind bytes) = crontab_findings known label kind bytes
 file_findings known (Tab folder name bytes) = tab_findings known folder name bytes
 file_findings known (Timer name bytes) = timer_findings known name bytes
 
+-- the names of jobs after a file
 abbrev pub after_file : KnownNames → File → KnownNames
 after_file known (Crontab label kind bytes) = after_crontab known label kind bytes
 after_file known (Tab folder name bytes) = after_tab known folder name bytes
 after_file known (Timer name bytes) = after_timer known name
 
--- of files, in order
+-- the findings of files, in order
 abbrev pub files_findings : KnownNames → List File → List Finding
 files_findings known [] = []
 files_findings known (file ∷ more) = file_findings known file ++ files_findings (after_file known file) more
 
 -- ---- the jobs that are made
 
--- the jobs of a file, or its first fault
+-- the jobs of a file, or its first error
 abbrev pub file_reading : File → TextReading (List JobParts)
 file_reading (Crontab label kind bytes) = crontab_reading label kind bytes
 file_reading (Tab folder name bytes) = tab_reading folder name bytes
@@ -48,19 +49,19 @@ file_reading (Timer name bytes) = do
   job ← timer_reading name bytes
   Ok (job ∷ [])
 
--- the names once jobs are added, if none has the name of another and there are at most 1,000
+-- the names after jobs are added, if no two have the same name and there are at most 1,000
 abbrev pub names_with : List (List ℕ) → List JobParts → Option (List (List ℕ))
 names_with added [] = Some added
 names_with added (job ∷ more) =
     if is_added job.name added then None
     else (if nat_lt (length added) most_jobs then names_with (added ++ job.name ∷ []) more else None)
 
--- the names once the jobs of a reading are added
+-- the names after the jobs of a reading are added
 abbrev pub names_by : List (List ℕ) → TextReading (List JobParts) → Option (List (List ℕ))
 names_by added (Ok jobs) = names_with added jobs
 names_by added (Err fault) = None
 
--- some names, if there are any, and what follows them
+-- names, if there are any, and what follows them
 abbrev pub names_then : Option (List (List ℕ)) → (List (List ℕ) → Option (List (List ℕ))) → Option (List (List ℕ))
 names_then None next = None
 names_then (Some added) next = next added

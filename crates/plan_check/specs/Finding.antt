@@ -1,4 +1,4 @@
--- What is found of lines and of whole files. All of it is own.
+-- Findings of lines and of whole files (agenda).
 use Rattle.std.specs.Prelude.{ℕ, Bool, true, false, List, [], ◌∷◌, codes, Option, Some, None}
 use Rattle.std.specs.List.{filter_map, list_all}
 use Rattle.plan_rules.specs.declared.line_fault.LineCause.{LineCause}
@@ -20,52 +20,53 @@ note_name note.NoEvents = codes "NoEvents"
 
 -- ---- one finding
 
--- what is found of the line with a number, from 1, or of the whole file, 0
+-- a finding of the line with a number, from 1, or of the whole file, which is 0
 abbrev pub finding_at : ℕ → What → Finding
 finding_at line what = record { line = line; what = what }
 
--- that a line is refused
+-- a line is rejected
 abbrev pub refused_at : ℕ → LineCause → Finding
 refused_at line cause = finding_at line (Refused cause)
 
--- that a line, or a file, is refused, where that is so
+-- a line, or a file, is rejected if this is true
 abbrev pub refused_if : Bool → ℕ → LineCause → List Finding
 refused_if true line cause = refused_at line cause ∷ []
 refused_if false line cause = []
 
--- a note, where it is so
+-- a note, if this is true
 abbrev pub noted_if : Bool → ℕ → Note → List Finding
 noted_if true line note = finding_at line (Noted note) ∷ []
 noted_if false line note = []
 
--- ---- what is refused
+-- ---- errors
 
--- the fault that a finding tells, if a line or a file is refused
+-- the error of a finding, if it rejects a line or a file
 abbrev pub fault_by : ℕ → What → Option LineFault
 fault_by line (Refused cause) = Some (fault_on_line line cause)
 fault_by line SameName = None
 fault_by line Full = None
 fault_by line (Noted note) = None
 
+-- the same for a finding with its line
 abbrev pub fault_of : Finding → Option LineFault
 fault_of finding = fault_by finding.line finding.what
 
--- the first of a list
+-- the first element of a list
 abbrev pub first_of : {A : Type 0} → List A → Option A
 first_of [] = None
 first_of (x ∷ xs) = Some x
 
--- the first fault of a line or of a whole file that is among findings
+-- the first error of a line or of a whole file among the findings
 abbrev pub first_fault : List Finding → Option LineFault
 first_fault found = first_of (filter_map fault_of found)
 
--- whether a finding is a note, of something that isn't refused
+-- whether a finding is a note, so that nothing is rejected
 abbrev pub is_note : What → Bool
 is_note (Refused cause) = false
 is_note SameName = false
 is_note Full = false
 is_note (Noted note) = true
 
--- whether nothing is refused
+-- whether nothing is rejected
 abbrev pub is_clean : List Finding → Bool
 is_clean found = list_all (λ finding. is_note finding.what) found

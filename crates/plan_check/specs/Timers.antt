@@ -1,4 +1,4 @@
--- What is found of a timer file (systemd.timer(5)). What is found, and in which order, is own.
+-- The findings of a timer file (systemd.timer(5)). Which findings there are, and their order, is our choice (agenda).
 use Rattle.std.specs.Prelude.{ℕ, Bool, not, ◌&&◌, ◌==◌, List, [], ◌∷◌, ◌++◌, option_map, Ok, Err}
 use Rattle.std.specs.List.{cons_option, flat_map}
 use Rattle.plan_clock.specs.declared.row.Change.{Change}
@@ -18,22 +18,24 @@ use Rattle.plan_check.specs.Notes.{never_starts}
 
 -- ---- one event
 
--- what is found of an event: its fault, or that it has no start by itself, by the clock of a zone
+-- the finding of an event: its error, or that a job with only this event never starts, by the clock of a zone
 abbrev pub read_findings : List Change → ℕ → LineReading Calendar → List Finding
 read_findings clock line (Ok event) = noted_if (never_starts (rule_in clock (Events (event ∷ [])))) line NeverStarts
 read_findings clock line (Err cause) = refused_at line cause ∷ []
 
+-- the same for an event with its line
 abbrev pub event_findings : List Change → Entry Calendar → List Finding
 event_findings clock entry = read_findings clock entry.line entry.read
 
 -- ---- a timer file
 
--- what is wrong with the name of the timer's job; each timer makes a job, whatever else is refused, but one whose name is bad
+-- what is wrong with the name of the timer's job. Each timer makes a job, whatever else is rejected, unless its
+-- name is bad
 abbrev pub job_findings : Bool → KnownNames → List ℕ → List Finding
 job_findings is_named known name = cons_option (option_map (λ what. finding_at 0 what) (fault_where is_named known name)) []
 
--- what is found of the text: first of the whole file, then of its events. Of a text that is too large or no UTF-8 there are no lines,
--- so no section is missed
+-- the findings of the text: first those of the whole file, then those of its events. A text that is too large
+-- or not UTF-8 has no lines, and no missing section is reported
 abbrev pub text_findings : Bool → KnownNames → List ℕ → TextReading TimerParts → List Finding
 text_findings is_named known name (Ok parts) =
     refused_if (not parts.has_section) 0 NoTimerSection
@@ -41,7 +43,7 @@ text_findings is_named known name (Ok parts) =
     ++ (noted_if (parts.has_section && (parts.held == 0)) 0 NoEvents ++ flat_map (event_findings known.clock) parts.events))
 text_findings is_named known name (Err fault) = refused_at fault.line fault.cause ∷ job_findings is_named known name
 
--- what is found of a timer file: its name is looked at first, and the rest whatever it is
+-- the findings of a timer file: its name is checked first, and then the rest, even if the name is bad
 abbrev pub timer_findings : KnownNames → (name bytes : List ℕ) → List Finding
 timer_findings known name bytes =
     refused_if (not (is_timer_name name)) 0 BadTimerName ++ text_findings (is_timer_name name) known name (timer_entries bytes)

@@ -1,4 +1,4 @@
-//! What is found of a crontab (crontab(5)).
+//! The findings of a crontab (crontab(5)).
 
 ghost use Rattle.std.specs.Prelude.{◌≡◌, ◌≤◌, ◌++◌, [], length, map, IfOk, OnOk};
 ghost use Rattle.std.specs.List.{cons_option};
@@ -20,13 +20,21 @@ use plan_rules::{
 };
 use std::alloc::{AllocError, Global};
 
-/// All findings of a crontab whose jobs have a label, by lines (crontab(5)); `names` are those of the jobs before, and become those after
-/// it. What they are where memory is refused isn't said.
+/// Returns all findings of a crontab whose jobs have a label, line by line (crontab(5)). Adds the names of its
+/// jobs to `names`, which has the names of the jobs before them.
 ///
-/// Of the whole file is found `TooLarge` for more than 1,048,576 bytes, else `NotUtf8`, and then nothing of its lines. Of a line that is
-/// refused its one fault is found, as `crontab` of plan_rules finds it of the first. A line that is accepted makes a job, named
-/// `LABEL:n`: where another job has its name `SameName` is found, else where 1,000 are there `Full`, once for all files; it isn't added
-/// then. Last come the notes on its rule, `NeverStarts` unless it is `@reboot`, and `EitherDay`.
+/// - If the text has more than 1,048,576 bytes, the only finding is `TooLarge`; else, if it isn't UTF-8, it is
+///   `NotUtf8`. Such a text has no lines.
+/// - A rejected line has one error: the one that `crontab` of plan_rules returns if this line is the first that
+///   is rejected.
+/// - Any other line that isn't empty, a comment or a setting makes a job, named `LABEL:n`. If another job has
+///   this name, the error is `SameName`. Else, if there are 1,000 jobs, it is `Full`, which is reported once
+///   for all files. In both cases the job isn't added.
+/// - The notes on the job's rule come last: `NeverStarts`, unless it is `@reboot`, and then `EitherDay`.
+///
+/// # Errors
+///
+/// `AllocError` if an allocation fails. The contract doesn't say what `names` has then.
 pub fn crontab_findings(
     alloc: Global,
     names: &mut Names,
@@ -36,7 +44,7 @@ pub fn crontab_findings(
 ) -> Result<Vec<Finding>, AllocError>
     ensures found { IfOk result (λ found. found.items ≡ crontab_findings names.old label.now kind bytes.now) }
     ensures names { OnOk result (names.new ≡ after_crontab names.old label.now kind bytes.now) }
-    // The first line that is refused, or the whole file, has the fault that `crontab` answers.
+    // The first line that is rejected, or the whole file, has the error that `crontab` returns.
     ensures first { IfOk result (λ found. first_fault found.items ≡ result_err (crontab_reading label.now kind bytes.now)) }
 {
     let mut found = Vec::new(alloc);
@@ -45,11 +53,17 @@ pub fn crontab_findings(
     Ok(found)
 }
 
-/// All findings of a crontab whose jobs have its file's name (cron(8) of Debian).
+/// Returns all findings of a crontab whose jobs have the name of its file (cron(8) of Debian). Adds the names of its
+/// jobs to `names`, which has the names of the jobs before them.
 ///
-/// First is found `BadTabName` of the whole file, where the name is empty or has another character than letters, digits, `_`, `-` and,
-/// in the spool folder and not as the first, `.`; then what `crontab_findings` finds. A file whose name is bad makes no jobs, so nothing
-/// is found of their names.
+/// The first finding is `BadTabName`, of the whole file, if the name is empty or has a character other than
+/// letters, digits, `_` and `-`. In the spool directory `.` is allowed too, but not first. Then come the
+/// findings of `crontab_findings`. A file whose name is bad makes no jobs, so it has no findings about their
+/// names.
+///
+/// # Errors
+///
+/// `AllocError` if an allocation fails. The contract doesn't say what `names` has then.
 pub fn tab_findings(
     alloc: Global,
     names: &mut Names,
@@ -68,7 +82,7 @@ pub fn tab_findings(
     Ok(found)
 }
 
-// Adds what is found of a crontab's bytes.
+// Adds the findings of a crontab's bytes.
 fn add_text(
     alloc: Global,
     names: &mut Names,
@@ -91,7 +105,7 @@ fn add_text(
     }
 }
 
-// Adds what is found of lines, in order. Of each the job is dropped before the next is read.
+// Adds the findings of lines, in order. The job of a line is dropped before the next line is read.
 #[tactic(auto, unfolding(plan_rules::specs::Crontab::entries_of_lines))]
 fn add_lines(
     alloc: Global,
@@ -123,7 +137,7 @@ fn add_lines(
     Ok(())
 }
 
-// Adds what is found of the line with a number.
+// Adds the findings of the line with a number.
 fn add_line(
     alloc: Global,
     names: &mut Names,
@@ -145,7 +159,7 @@ fn add_line(
     }
 }
 
-// Adds what is found of a line that says something or is refused.
+// Adds the findings of a line that makes a job or is rejected.
 fn add_entry(
     alloc: Global,
     names: &mut Names,

@@ -1,45 +1,45 @@
-//! What is found of a file.
+//! A finding: an error or a note, of a line or of a whole file.
 
 ghost use Rattle.std.specs.Prelude.{◌≡◌};
 ghost use Rattle.plan_check.specs.Finding.{note_name};
 
 use plan_rules::LineCause;
 
-/// What is right and maybe not meant.
+/// A note: something valid that may not be what was meant.
 #[derive(Clone, Copy, Debug, PartialEq, Eq)]
 pub enum Note {
-    /// A rule of a crontab, or an event of a timer, has no start in all years.
+    /// A rule of a crontab, or an event of a timer, has no start from 1970 to 2999.
     NeverStarts,
-    /// Both day fields of a rule are restricted, so that either suffices (crontab(5)).
+    /// Both day fields of a rule are restricted, so either is enough (crontab(5)).
     EitherDay,
     /// The list of a timer's events is empty at the end of the file (systemd.timer(5)).
     NoEvents,
 }
 
-/// What is found.
+/// The error or the note of a finding.
 #[derive(Clone, Copy, Debug, PartialEq, Eq)]
 pub enum What {
-    /// A line, or the whole file, is refused; the cause is never `NoMemory`.
+    /// The line, or the whole file, is rejected. The cause is never `NoMemory`.
     Refused(LineCause),
     /// Another job has the job's name.
     SameName,
-    /// The job is one more than 1,000.
+    /// There are 1,000 jobs already, so the job isn't added.
     Full,
-    /// Nothing is refused, and something may not be meant.
+    /// The text is valid, and may not be what was meant.
     Noted(Note),
 }
 
-/// What is found of a line, or of a whole file.
+/// A finding of a line, or of a whole file.
 #[derive(Clone, Copy, Debug, PartialEq, Eq)]
 pub struct Finding {
-    /// The line, from 1; 0 is the whole file.
+    /// The line, from 1. The whole file is 0.
     pub line: u32,
-    /// What is found.
+    /// The error or the note.
     pub what: What,
 }
 
 impl Note {
-    /// Its name, as lines of findings show it.
+    /// Returns the note's name, which the line of the finding shows.
     pub fn name(&self) -> &'static str
         ensures { result.now ≡ note_name self.now }
     {

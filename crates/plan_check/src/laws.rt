@@ -1,4 +1,4 @@
-//! How what is found of files and the jobs that are made of them go together.
+//! The law that connects the findings of files with the jobs that files make.
 
 ghost use Rattle.std.specs.Prelude.{◌≡◌, List, [], is_some};
 ghost use Rattle.plan_clock.specs.declared.row.Change.{Change};
@@ -8,8 +8,9 @@ ghost use Rattle.plan_check.specs.Files.{File, files_findings, files_names};
 
 use plan_rules::{crontab_is_its_entries, timer_is_its_entries};
 
-/// The law of findings: of files in order nothing is refused exactly where jobs can be made of all of them: each is read without a fault,
-/// no job has the name of another, and there are at most 1,000.
+/// States the law of findings: files in order have no finding but notes exactly if jobs can be made of all of
+/// them. That means that each file is read without an error, no two jobs have the same name, and there are at
+/// most 1,000 jobs.
 ///
 /// The function does nothing: its contract is the law.
 pub fn clean_where_jobs_are()

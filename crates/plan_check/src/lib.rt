@@ -1,8 +1,8 @@
-//! What is wrong with files, and what of them may not be meant: all findings of a crontab and of a timer file, by lines.
+//! The findings of `check`: all errors and notes of a crontab or a timer file, line by line.
 //!
-//! It stands on plan_rules, which reads each line by itself, and on plan_next, which tells whether a rule has a start. Open `finding`
-//! first, then `crontab_findings` and `timer_findings` in `crontabs` and `timers`; `names` is what goes from file to file, and `laws`
-//! says how findings and jobs go together.
+//! plan_rules reads each line by itself, and plan_next says whether a rule has a start. Read `finding` first,
+//! then `crontab_findings` in `crontabs` and `timer_findings` in `timers`. `names` is what is passed from file
+//! to file, and `laws` connects findings with jobs.
 #![tactic(auto)]
 
 mod crontabs;

@@ -1,4 +1,4 @@
-//! The names of jobs, from file to file.
+//! The names of jobs, which are passed from file to file.
 
 ghost use Rattle.std.specs.Prelude.{◌≡◌, IfOk, OnOk};
 ghost use Rattle.plan_check.specs.Names.{is_added, name_fault, names_after, no_names};
@@ -10,12 +10,12 @@ use plan_rules::MOST_JOBS;
 use std::alloc::{AllocError, Global};
 use std::marker::Model;
 
-/// What is known from file to file: the names of the jobs so far, at most 1,000, whether it was reported that there are more, and the clock
-/// of the zone in which the jobs start.
+/// What is known from file to file: the names of the jobs so far, at most 1,000, whether `Full` was reported,
+/// and the clock of the zone in which the jobs start.
 #[derive(Debug, Drop)]
 pub struct Names {
     kept: IndexSet<String>,
-    // Whether it was reported that there are too many.
+    // Whether `Full` was reported.
     is_told: bool,
     clock: Clock,
 }
@@ -30,7 +30,8 @@ impl Model for Names {
 }
 
 impl Names {
-    /// Returns what is known before the first file: no names, and the clock of the jobs' zone. Takes no memory.
+    /// Returns what is known before the first file: no names, and the clock of the jobs' zone. This requests no
+    /// memory.
     pub fn new(alloc: Global, clock: Clock) -> Names
         ensures { result ≡ no_names clock }
     {
@@ -41,14 +42,14 @@ impl Names {
         }
     }
 
-    // The clock of the zone in which the jobs start, as a handle of its own.
+    // Returns a new handle of the clock of the zone in which the jobs start.
     pub(crate) fn clock(&self) -> Result<Clock, AllocError>
         ensures { IfOk result (λ clock. clock ≡ self.now.clock) }
     {
         self.clock.try_clone()
     }
 
-    // Adds the name of a job, and answers what is wrong with it.
+    // Adds the name of a job, and returns what is wrong with it.
     pub(crate) fn add(&mut self, alloc: Global, name: &str) -> Result<Option<What>, AllocError>
         ensures fault { IfOk result (λ fault. fault ≡ name_fault self.old name.now) }
         ensures after { OnOk result (self.new ≡ names_after self.old name.now) }
@@ -68,7 +69,7 @@ impl Names {
         Ok(Some(What::Full))
     }
 
-    // Whether a job has this name.
+    // Returns whether a job has this name.
     fn has(&self, name: &str) -> bool
         ensures { result ≡ is_added name.now self.now.added }
     {

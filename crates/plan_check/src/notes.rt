@@ -1,4 +1,4 @@
-//! What is noted of rules that are right.
+//! The notes on valid rules.
 
 ghost use Rattle.std.specs.Prelude.{◌≡◌, ◌++◌, IfOk, OnOk};
 ghost use Rattle.plan_match.specs.Zone.{rule_in};
@@ -31,7 +31,7 @@ pub(crate) fn add_notes(
     note_if(found, is_either_day(rule), line, Note::EitherDay)
 }
 
-// Whether a rule has no start in all years, by the clock of a zone.
+// Returns whether a rule never starts from 1970 to 2999, by the clock of a zone.
 pub(crate) fn never_starts(alloc: Global, clock: &Clock, rule: &Rule) -> Result<bool, AllocError>
     ensures { IfOk result (λ never. never ≡ never_starts (rule_in clock.now rule.now)) }
 {
@@ -39,14 +39,14 @@ pub(crate) fn never_starts(alloc: Global, clock: &Clock, rule: &Rule) -> Result<
     Ok(next_from(&rule, 0).is_none())
 }
 
-// Whether it is the rule of `@reboot`.
+// Returns whether this is the rule of `@reboot`.
 fn is_reboot(rule: &Rule) -> bool
     ensures { result ≡ is_reboot rule.now }
 {
     matches!(rule, Rule::Never)
 }
 
-// Whether both day fields of a rule are restricted, so that either suffices.
+// Returns whether both day fields of a rule are restricted, so either is enough.
 fn is_either_day(rule: &Rule) -> bool
     ensures { result ≡ is_either_day rule.now }
 {

@@ -1,4 +1,4 @@
-//! How findings are added to those before them.
+//! Functions that append a finding to those before it.
 
 ghost use Rattle.std.specs.Prelude.{◌≡◌, ◌++◌, ◌∷◌, [], OnOk, option_map};
 ghost use Rattle.std.specs.List.{cons_option};
@@ -10,7 +10,7 @@ use crate::names::Names;
 use plan_rules::LineCause;
 use std::alloc::{AllocError, Global};
 
-// Adds a note on a line, where it is so.
+// Adds a note on a line if `is_so`.
 pub(crate) fn note_if(
     found: &mut Vec<Finding>,
     is_so: bool,
@@ -26,7 +26,7 @@ pub(crate) fn note_if(
     Ok(())
 }
 
-// Adds that a whole file is refused, where it is so.
+// Adds that a whole file is rejected if `is_so`.
 pub(crate) fn refuse_if(
     found: &mut Vec<Finding>,
     is_so: bool,
@@ -40,7 +40,7 @@ pub(crate) fn refuse_if(
     Ok(())
 }
 
-// Adds that a line is refused, or the whole file.
+// Adds that a line is rejected, or the whole file, which is line 0.
 pub(crate) fn refuse(
     found: &mut Vec<Finding>,
     line: u32,
@@ -53,7 +53,8 @@ pub(crate) fn refuse(
     Ok(())
 }
 
-// Adds what is wrong with the name of a line's job, unless the file's name is bad, and keeps the name.
+// Adds the name of a line's job to the names, and what is wrong with it to the findings. Does nothing if the
+// file's name is bad.
 pub(crate) fn add_job(
     alloc: Global,
     names: &mut Names,

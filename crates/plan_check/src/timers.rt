@@ -1,4 +1,4 @@
-//! What is found of a timer file (systemd.timer(5)).
+//! The findings of a timer file (systemd.timer(5)).
 
 ghost use Rattle.std.specs.Prelude.{◌≡◌, ◌++◌, ◌∷◌, [], IfOk, OnOk, Ok};
 ghost use Rattle.std.specs.List.{flat_map};
@@ -17,13 +17,22 @@ use plan_rules::{
 };
 use std::alloc::{AllocError, Global};
 
-/// All findings of a timer file (systemd.timer(5)); `names` are those of the jobs before, and become those after it. What they are
-/// where memory is refused isn't said.
+/// Returns all findings of a timer file (systemd.timer(5)). Adds the name of its job to `names`, which has the
+/// names of the jobs before it.
 ///
-/// Of the whole file, in this order: `BadTimerName`; `TooLarge` for more than 1,048,576 bytes, else `NotUtf8`; `NoTimerSection`, unless
-/// one of these two is found; `SameName` where another job has the file's name, else `Full` where 1,000 jobs are there, once for all
-/// files; and the note `NoEvents` where there is a `[Timer]` section and the list of events is empty at the end. A file whose name is
-/// bad makes no job. Then by lines each event's fault, or the note `NeverStarts`, as `timer_entries` of plan_rules reads them.
+/// The findings of the whole file come first, in this order:
+///
+/// - `BadTimerName`. A file whose name is bad makes no job.
+/// - `TooLarge` for more than 1,048,576 bytes, else `NotUtf8`.
+/// - `NoTimerSection`, unless one of these two is found.
+/// - `SameName` if another job has the file's name. Else `Full` if there are 1,000 jobs, once for all files.
+/// - The note `NoEvents` if there is a `[Timer]` section and the list of events is empty at the end.
+///
+/// Then each event has its error, or the note `NeverStarts`, as `timer_entries` of plan_rules reads it.
+///
+/// # Errors
+///
+/// `AllocError` if an allocation fails. The contract doesn't say what `names` has then.
 pub fn timer_findings(
     alloc: Global,
     names: &mut Names,
@@ -40,7 +49,7 @@ pub fn timer_findings(
     Ok(found)
 }
 
-// Adds what is found of a timer's text.
+// Adds the findings of a timer's text.
 fn add_text(
     alloc: Global,
     names: &mut Names,
@@ -68,7 +77,7 @@ fn add_text(
     }
 }
 
-// Adds what is found of the whole file that has a text, and then of its events.
+// Adds the findings of the whole file, whose text was read, and then those of its events.
 fn add_entries(
     alloc: Global,
     names: &mut Names,
@@ -93,7 +102,7 @@ fn add_entries(
     add_events(alloc, found, &clock, events)
 }
 
-// Adds what is found of events, in order.
+// Adds the findings of events, in order.
 fn add_events(
     alloc: Global,
     found: &mut Vec<Finding>,
@@ -109,7 +118,7 @@ fn add_events(
     Ok(())
 }
 
-// Adds what is found of an event.
+// Adds the finding of an event, if there is one.
 fn add_event(
     alloc: Global,
     found: &mut Vec<Finding>,

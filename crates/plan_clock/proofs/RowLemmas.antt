@@ -10,7 +10,7 @@ use Rattle.std.proofs.lemmas.List.Sums.{prefix_len_is}
 use Rattle.plan_clock.specs.declared.row.Change.{Change}
 use Rattle.plan_clock.specs.Rows.{row_at, row_after, no_change, is_bounded, AreChanges, HavePassed}
 
--- a change further on is at no earlier second
+-- a later change in the list is at no earlier second
 rise_at :
     (changes : List Change) → AreChanges changes → (i j : ℕ) → i ≤ j → j < length changes →
     (get_or changes i no_change).second ≤ (get_or changes j no_change).second
@@ -36,7 +36,7 @@ rise changes are i j d le lt =
     let up = rise_at changes are i j le lt in
     omega arith
 
--- the row after as many as have passed
+-- the row of a second is the row after the changes that have passed
 pub row_at-passed : (changes : List Change) (n passed : ℕ) → HavePassed changes n passed → row_at changes n ≡ row_after changes passed
 unfolding row_at
 row_at-passed changes n passed have =
@@ -44,7 +44,7 @@ row_at-passed changes n passed have =
     (λ k lt. le-leb (get_or changes k no_change).second n (have.begun k lt))
     (λ lt. lt-leb (get_or changes passed no_change).second n (have.next lt)))
 
--- a later second before the next row has passed as many
+-- at a later second before the next change, the same number of changes have passed
 pub HavePassed-later :
     (changes : List Change) (n m passed : ℕ) → HavePassed changes n passed → n ≤ m →
     (passed < length changes → m < (get_or changes passed no_change).second) → HavePassed changes m passed
@@ -74,7 +74,7 @@ begun_after changes n (suc k) have =
     let lt : suc k - 1 < suc k = omega arith in
     rw some (have.begun (suc k - 1) lt)
 
--- the last that has passed, and the next, tell how many have
+-- the last change that has passed and the one after it give the number of changes that have passed
 pub HavePassed-by :
     (changes : List Change) (n passed : ℕ) → AreChanges changes → 0 < passed → passed ≤ length changes →
     (get_or changes (passed - 1) no_change).second ≤ n → (passed < length changes → n < (get_or changes passed no_change).second) →

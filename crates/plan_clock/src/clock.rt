@@ -8,8 +8,10 @@ use std::alloc::{AllocError, Global};
 use std::marker::Model;
 use std::sync::Arc;
 
-/// What a clock shows, seen as the list of its changes, none for UTC; the first is that with which it begins, at second 0. A clock is a
-/// handle: a copy of it shares the list.
+/// A clock, seen as the list of its changes.
+///
+/// The list of UTC is empty. Otherwise the first change is at second 0 and gives the offset at the start. A
+/// clock is a handle: a copy shares the list.
 #[derive(Debug, Drop)]
 pub struct Clock {
     changes: Option<Arc<Vec<Change>>>,
@@ -31,7 +33,7 @@ impl Model for Clock {
     ghost invariant = { λ c. AreChanges (list_of c.changes) };
 }
 
-// Equal are clocks with the same rows.
+// Two clocks are equal if they have the same changes.
 impl PartialEq for Clock {
     ghost use Rattle.plan_clock.specs.Equal.{same_changes, same_changes_laws};
 
@@ -50,29 +52,31 @@ impl Eq for Clock {
     ghost laws = { same_changes_equivalence };
 }
 
-/// A part of time in which a clock has one row.
+/// A part of time in which a clock has the same row.
 #[derive(Clone, Copy, Debug)]
 pub struct Stretch {
     /// The row.
     pub row: Row,
-    /// The second before which the part ends.
+    /// The end of the part: the first second after it.
     pub upto: u64,
 }
 
 impl Clock {
-    /// The clock of UTC. Takes no memory.
+    /// Returns the clock of UTC. This allocates nothing.
     pub fn utc() -> Clock
         ensures { result ≡ [] }
     {
         Clock { changes: None }
     }
 
-    /// Makes the clock with these changes. The first is at second 0, each later one comes after the one before it and has another offset,
-    /// and no offset is more than 26 hours from UTC (RFC 9636).
+    /// Makes the clock with these changes.
+    ///
+    /// The first change must be at second 0. Each later one must be after the one before it and have another
+    /// offset. No offset may be more than 26 hours from UTC (RFC 9636).
     ///
     /// # Errors
     ///
-    /// `AllocError` where memory for the handle runs out.
+    /// Fails if the allocation of the handle fails.
     pub fn new(alloc: Global, changes: Vec<Change>) -> Result<Clock, AllocError>
         requires { AreChanges changes.items }
         ensures { IfOk result (λ clock. clock ≡ changes.items) }
@@ -83,7 +87,7 @@ impl Clock {
         })
     }
 
-    /// Whether the clock has no change, and so is that of UTC.
+    /// Returns whether the clock has no changes, and so is that of UTC.
     pub fn is_utc(&self) -> bool
         ensures { IsTrue result ↔ (self.now ≡ []) }
     {
@@ -93,7 +97,7 @@ impl Clock {
         }
     }
 
-    /// The changes.
+    /// Returns the changes.
     pub fn changes(&self) -> &[Change]
         ensures value { result.now ≡ self.now }
         ensures good { AreChanges self.now }
@@ -104,7 +108,11 @@ impl Clock {
         }
     }
 
-    /// The same clock, which shares the list. Takes no memory; it fails only where there are too many handles.
+    /// Returns the same clock, which shares the list. This allocates nothing.
+    ///
+    /// # Errors
+    ///
+    /// Fails only if there are too many handles.
     pub fn try_clone(&self) -> Result<Clock, AllocError>
         ensures { IfOk result (λ clock. clock ≡ self.now) }
     {
@@ -115,7 +123,7 @@ impl Clock {
         Ok(Clock { changes })
     }
 
-    /// The part of time from a second on, before `end`, in which the clock keeps its row.
+    /// Returns the part of time from `second` on, up to `end`, in which the clock has the same row.
     pub fn stretch(&self, second: u64, end: u64) -> Stretch
         requires { second < end }
         ensures row { result.row ≡ row_at self.now second }
@@ -133,7 +141,10 @@ impl Clock {
         }
     }
 
-    /// The same; `guess` is how many changes may begin at or before the second, and then how many do. Where it's right nothing is searched.
+    /// Does the same as `stretch`, with a guess that can save the search.
+    ///
+    /// `guess` is how many changes are probably at or before the second. The call sets it to the right
+    /// number. If it already is right, nothing is searched.
     pub fn stretch_near(&self, second: u64, end: u64, guess: &mut usize) -> Stretch
         requires { second < end }
         ensures row { result.row ≡ row_at self.now second }
@@ -153,7 +164,7 @@ impl Clock {
     }
 }
 
-// How many changes begin at or before a second; that may be the guess.
+// Returns how many changes are at or before a second. The guess is checked first.
 fn passed_near(changes: &[Change], second: u64, guess: usize) -> usize
     requires { AreChanges changes.now }
     ensures { HavePassed changes.now second result }
@@ -164,7 +175,8 @@ fn passed_near(changes: &[Change], second: u64, guess: usize) -> usize
     passed(changes, second)
 }
 
-// Whether so many changes, at least one, begin at or before a second.
+// Returns whether exactly `count` changes are at or before a second, if `count` is at least 1. Returns
+// `false` for 0.
 #[inline(always)]
 fn have_passed(changes: &[Change], second: u64, count: usize) -> bool
     requires { AreChanges changes.now }
@@ -179,7 +191,7 @@ fn have_passed(changes: &[Change], second: u64, count: usize) -> bool
     }
 }
 
-// How many changes begin at or before a second.
+// Returns how many changes are at or before a second.
 fn passed(changes: &[Change], second: u64) -> usize
     requires { AreChanges changes.now }
     ensures { HavePassed changes.now second result }
@@ -191,7 +203,7 @@ fn passed(changes: &[Change], second: u64) -> usize
     )
 }
 
-// The row after so many changes.
+// Returns the row after the first `passed` changes.
 fn row_after(changes: &[Change], passed: usize) -> Row
     requires { passed ≤ length changes.now }
     ensures { result ≡ row_after changes.now passed }
@@ -208,7 +220,7 @@ fn row_after(changes: &[Change], passed: usize) -> Row
     }
 }
 
-// Where the next change is, if that is before `end`.
+// Returns the second of the next change, or `end` if that is earlier.
 fn end_after(changes: &[Change], passed: usize, end: u64) -> u64
     ensures to { result ≤ end }
     ensures next { passed < length changes.now → result ≡ min (slice_index_or changes.now passed no_change).second end }

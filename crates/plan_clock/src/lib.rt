@@ -1,6 +1,7 @@
-//! Clocks: how far what a clock of a zone shows is from UTC, second for second.
+//! Clocks: the offset from UTC of a zone's clock, at each second.
 //!
-//! It stands on nothing, and reads no files: a clock is made of its rows.
+//! The crate uses no other crate and reads no files: a clock is made from the list of its changes. Open `row`
+//! first, then `clock`.
 #![tactic(auto)]
 
 mod clock;

@@ -1,6 +1,6 @@
--- An agenda ascends: for `Collector::finish`, by HoldsLemmas.antt, where the sorted entries are shown to be the agenda.
--- By induction over the seconds, and in each row over the rules. In a row the jobs ascend, and no entry of a later row
--- comes before one of an earlier second.
+-- An agenda ascends: for `Collector::finish`, by HoldsLemmas.antt, which shows that the sorted entries are the agenda. By
+-- induction over the seconds, and in each row over the rules. In a row the jobs ascend, and no entry of a later row comes
+-- before one of an earlier second.
 use Rattle.std.proofs.Common.{◌≡◌, ℕ, zero, suc, ◌+◌, ◌-◌, ◌<◌, ◌≤◌, Bool, true, false, cond, List, [], ◌∷◌, ◌++◌, arith}
 use Rattle.std.specs.List.{range_with_len, flat_map}
 use Rattle.plan_match.specs.declared.rule.Rule.{Rule}
@@ -17,14 +17,14 @@ none_step : (is : Bool) (x y : ℕ × ℕ) (row : List (ℕ × ℕ)) → is_befo
 none_step true x y row here none = (here, none)
 none_step false x y row here none = none
 
--- in a row no entry comes before one of the same second and an earlier job
+-- in a row, no entry comes before one of the same second and an earlier job
 NoneBefore-row : (n j job : ℕ) (rules : List Rule) → j ≤ job → NoneBefore (n, j) (row_from job rules n)
 NoneBefore-row n j job [] low = tt
 NoneBefore-row n j job (rule ∷ rules) low =
     none_step (is_start rule n) (n, j) (n, job) (row_from (job + 1) rules n)
     (before_false (n, job) (n, j) (omega arith, λ same. low)) (NoneBefore-row n j (job + 1) rules (omega arith))
 
--- nor before one of an earlier second
+-- in a row, no entry comes before one of an earlier second
 NoneBefore-later : (m j n job : ℕ) (rules : List Rule) → m < n → NoneBefore (m, j) (row_from job rules n)
 NoneBefore-later m j n job [] lt = tt
 NoneBefore-later m j n job (rule ∷ rules) lt =

@@ -1,6 +1,7 @@
 -- Lists of entries: what they weigh, and when one is the other in order. For `Collector::finish`, by HoldsLemmas.antt.
--- The aim is `Ascends-unique`, by induction over both lists. Hard is that they begin alike: weigh 1 what comes before
--- y, the first of one list. That list weighs 0, as it ascends, so the other does, and its first isn't before y.
+-- The aim is `Ascends-unique`, by induction over both lists. The hard part is that they start with the same entry: weigh
+-- 1 what comes before y, the first of one list. That list weighs 0, since it ascends. So the other does, and its first
+-- isn't before y.
 use Rattle.std.proofs.Common.{◌≡◌, ℕ, suc, ◌+◌, ◌<◌, ◌≤◌, Bool, true, false, cond, List, [], ◌∷◌, ◌++◌, length, refl, ap, sym, ◌∙◌, inl, inr, arith}
 use Rattle.std.specs.Prelude.{nat_lt, ◌==◌, IsPermutation}
 use Rattle.std.specs.List.{sum_by}
@@ -29,7 +30,7 @@ pub SameEntries-permutation : (xs ys zs : List (ℕ × ℕ)) → IsPermutation x
 SameEntries-permutation xs ys zs moved same = λ weight.
     weigh-sum_by weight ys ∙ sum_by-IsPermutation weight xs ys moved ∙ sym (weigh-sum_by weight xs) ∙ same weight
 
--- the same entries are equally many
+-- lists with the same entries have the same length
 pub SameEntries-length : (xs ys : List (ℕ × ℕ)) → SameEntries xs ys → length xs ≡ length ys
 SameEntries-length xs ys same = sym (weigh-length xs) ∙ same (λ _. 1) ∙ weigh-length ys
 
@@ -42,7 +43,7 @@ abbrev pub NoneBefore : ℕ × ℕ → List (ℕ × ℕ) → Type 0
 NoneBefore x [] = Unit {0}
 NoneBefore x (y ∷ ys) = (is_before y x ≡ false) × NoneBefore x ys
 
--- no entry comes before one that stands in front of it
+-- no entry comes before one that precedes it in the list
 abbrev pub Ascends : List (ℕ × ℕ) → Type 0
 Ascends [] = Unit {0}
 Ascends (x ∷ xs) = NoneBefore x xs × Ascends xs
@@ -114,7 +115,7 @@ NoneBefore-trans x y (z ∷ zs) first (here, none) =
     let q : NotBefore z y = not_before z y here in
     (before_false z x (omega arith, λ same. omega arith), NoneBefore-trans x y zs first none)
 
--- what a sort makes ascends
+-- a sorted list ascends
 pub Ascends-sorted : (xs : List (ℕ × ℕ)) → IsSorted (λ x y. ordering_then (nat_cmp x.0 y.0) (nat_cmp x.1 y.1)) xs → Ascends xs
 Ascends-sorted [] sorted = tt
 Ascends-sorted (x ∷ []) sorted = (tt, tt)
@@ -125,7 +126,7 @@ Ascends-sorted (x ∷ y ∷ ys) sorted =
     let first : is_before y x ≡ false = sorted 0 x (omega arith) (omega arith) in
     ((first, NoneBefore-trans x y ys first later.0), later)
 
--- entries of which none comes before x weigh nothing where those before x weigh one
+-- entries that don't come before x weigh nothing if only those before x weigh one
 weigh-none : (x : ℕ × ℕ) (ys : List (ℕ × ℕ)) → NoneBefore x ys → weigh (λ y. cond (is_before y x) 1 0) ys ≡ 0
 weigh-none x [] none = refl
 weigh-none x (y ∷ ys) (here, none) = let rest = weigh-none x ys none in rw here (omega arith)
@@ -151,7 +152,7 @@ neither_before (a, j) (b, k) p q =
     let jobs : j ≡ k = omega arith in
     λ i. (seconds i, jobs i)
 
--- there is one order of the same entries in which they ascend
+-- the same entries ascend in only one order
 pub Ascends-unique : (xs ys : List (ℕ × ℕ)) → SameEntries xs ys → Ascends xs → Ascends ys → xs ≡ ys
 Ascends-unique [] [] same up rises = refl
 Ascends-unique [] (y ∷ ys) same up rises = let none = SameEntries-length [] (y ∷ ys) same in absurd (omega arith)

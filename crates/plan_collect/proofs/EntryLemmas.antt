@@ -1,7 +1,6 @@
--- Entries are told apart, and ordered, by their numbers: for `Entry` of entry.rt.
--- The second is the number's quotient by the most jobs, and the job its remainder, so the one with the greater quotient is the
--- greater number, and where the quotients are one the remainders decide. A piece's starts have room in entries, as each is of the
--- planner's years.
+-- Entries are compared by their numbers: for `Entry` of entry.rt. The second is the number's quotient by `job_numbers`,
+-- and the job its remainder. So the number with the greater quotient is greater, and if the quotients are equal, the
+-- remainders decide. A piece's starts fit in entries, since each is in the years that can be planned.
 use Rattle.std.proofs.Common.{◌≡◌, ℕ, ◌-◌, ◌/◌, ◌%◌, ◌<◌, Bool, true, false, cond, ◌&&◌, List, [], ◌∷◌, filter, refl, arith}
 use Rattle.std.specs.Prelude.{nat_lt, IsTrue}
 use Rattle.std.specs.List.{list_all, range_with_len}
@@ -15,7 +14,7 @@ use Rattle.plan_match.specs.declared.rule.Rule.{Rule}
 use Rattle.plan_next.specs.Starts.{is_start, passing, rule_starts, starts}
 use Rattle.plan_collect.specs.Entry.{job_numbers}
 
--- what is so of a number's parts is so of the number
+-- the order of the quotients, and then of the remainders, is the order of the numbers
 step :
     (a b : Ordering) (n m : ℕ) → MatchOrdering a (n / job_numbers < m / job_numbers) (n / job_numbers ≡ m / job_numbers)
     (m / job_numbers < n / job_numbers) → MatchOrdering b (n % job_numbers < m % job_numbers) (n % job_numbers ≡ m % job_numbers)
@@ -26,7 +25,7 @@ step Equal Less n m first second = omega arith
 step Equal Equal n m first second = omega arith
 step Equal Greater n m first second = omega arith
 
--- entries are ordered as their numbers are
+-- entries are ordered like their numbers
 pub same_order :
     (n m : ℕ) → ordering_then (nat_cmp (n / job_numbers) (m / job_numbers)) (nat_cmp (n % job_numbers) (m % job_numbers)) ≡ nat_cmp n m
 same_order n m =
@@ -34,7 +33,7 @@ same_order n m =
     (step (nat_cmp (n / job_numbers) (m / job_numbers)) (nat_cmp (n % job_numbers) (m % job_numbers)) n m
     (ranks (n / job_numbers) (m / job_numbers)) (ranks (n % job_numbers) (m % job_numbers)))
 
--- seconds of the planner's years
+-- seconds in the years that can be planned
 abbrev pub AreInYears : List ℕ → Type 0
 AreInYears seconds = IsTrue (list_all (λ second. nat_lt second end_second) seconds)
 

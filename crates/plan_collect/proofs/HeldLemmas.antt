@@ -1,5 +1,5 @@
--- What a collector holds, against the agenda: for `has_room`, `keep` and `finish` of `Collector`, by HoldsLemmas.antt.
--- What is held runs from job to job, and the agenda from second to second. So both are weighed: `weigh-rows` takes the
+-- What a collector holds, compared with the agenda: for `has_room`, `keep` and `finish` of `Collector`, by
+-- HoldsLemmas.antt. What is held is ordered by job, and the agenda by second. So both are weighed: `weigh-rows` takes the
 -- first job's starts out of all rows, and the rest is induction over the jobs, with a job's starts cut in two.
 use Rattle.std.proofs.Common.{◌≡◌, ℕ, zero, suc, ◌+◌, ◌-◌, ◌<◌, ◌≤◌, Bool, true, false, cond, List, [], ◌∷◌, ◌++◌, length, map, filter, Some, ◌==◌, refl, ap, sym, ◌∙◌, arith}
 use Rattle.std.specs.Prelude.{slice_get, slice_index, slice_set}
@@ -122,7 +122,7 @@ held-le weight job span (rule ∷ rules) (upto ∷ covered) (low, high, within) 
           (held_from (job + 1) span.since rules covered),
     )
 
--- where each job is covered to the end, all is held
+-- if each job is covered to the end, everything is held
 pub held-complete :
     (weight : ℕ × ℕ → ℕ) (job : ℕ) (span : Bounds) (rules : List Rule) (covered : List ℕ) → length covered ≡ length rules →
     list_all (λ upto. upto == span.upto) covered ≡ true →
@@ -145,7 +145,7 @@ held-complete weight job span (rule ∷ rules) (upto ∷ covered) len all =
           (held_from (job + 1) span.since rules covered),
     )
 
--- a piece of a job that begins where the job is covered to adds its starts
+-- a piece that starts where its job is covered to adds its starts
 pub held-more :
     (weight : ℕ × ℕ → ℕ) (first place since : ℕ) (rules : List Rule) (covered : List ℕ) (rule : Rule) (end : ℕ) →
     slice_get rules place ≡ Some rule → place < length covered → since ≤ slice_index covered place →

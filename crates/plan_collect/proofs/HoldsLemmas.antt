@@ -1,6 +1,7 @@
--- What a collector holds as it begins, takes a piece and ends: for the invariant of the type, `Holds`, in
--- `Collector::new` and `keep`, and for `has_room` and `finish`. By any weights, what is held with a piece is what was
--- held and the piece's starts (`with_piece`), within the agenda: so it passes the limit where a piece has no room.
+-- What a collector holds when it is made, accepts a piece and finishes: for the invariant of the type, `Holds`, in
+-- `Collector::new` and `keep`, and for `has_room` and `finish`. With any weights, what is held with a piece is what was
+-- held and the piece's starts (`with_piece`), within the agenda. So the agenda exceeds the limit if a piece doesn't fit
+-- in it.
 use Rattle.std.proofs.Common.{◌≡◌, ℕ, ◌+◌, ◌-◌, ◌<◌, ◌≤◌, ◌%◌, Bool, true, false, ◌&&◌, ◌==◌, List, [], ◌∷◌, ◌++◌, length, Option, None, Some, inl, inr, refl, ap, sym, subst, ◌∙◌, arith, length-append, length-set, get_or-set_same, get_or-set_other}
 use Rattle.std.specs.Prelude.{slice_get, slice_index, slice_set, replicate, nat_lt, nat_le, IsPermutation}
 use Rattle.std.specs.List.{list_all}
@@ -64,12 +65,12 @@ rule_of_some : (own : Option Rule) (rule : Rule) → is_rule_of own rule ≡ tru
 rule_of_some None rule h = absurd (false≢true h)
 rule_of_some (Some own) rule h = ap Some ((same_rule-Decides own rule).0 h)
 
--- the job of a piece that belongs is there, and has its rule
+-- the job of a piece that belongs exists, and has its rule
 pub known_rule :
     (rules : List Rule) (job : ℕ) (rule : Rule) → is_rule_of (slice_get rules job) rule ≡ true → slice_get rules job ≡ Some rule
 known_rule rules job rule is = rule_of_some (slice_get rules job) rule is
 
--- and is covered to some second
+-- the job of a piece that belongs is covered to some second
 pub job_covered :
     (view c : Collected) (entries : List (ℕ × ℕ)) (job : ℕ) (rule : Rule) → view ≡ c → Holds view entries →
     is_rule_of (slice_get c.rules job) rule ≡ true → job < length view.covered
@@ -101,7 +102,7 @@ fits c entries job piece holds belongs adjoins =
       ends = leb-true piece.upto c.span.upto both.1;
     }
 
--- what is held with a piece, by any weights
+-- what is held with a piece, with any weights
 with_piece :
     (weight : ℕ × ℕ → ℕ) (c : Collected) (entries : List (ℕ × ℕ)) (job : ℕ) (piece : Part) → Holds c entries → Fits c job piece →
     piece.since ≤ piece.upto →
@@ -158,14 +159,14 @@ Holds-more c entries new job piece holds belongs adjoins room forward is =
       ordered = holds.ordered;
     }
 
--- what is held is not more than the agenda
+-- no more is held than the agenda has
 held_within : (c : Collected) → AreWithin c.span c.covered → length (held c) ≤ length (agenda c.rules c.span)
 unfolding agenda
 held_within c within =
     let le = held-le (λ _. 1) 0 c.span c.rules c.covered within in
     omega (arith, le, weigh-length (held c), weigh-length (agenda c.rules c.span))
 
--- where a piece has no room, the agenda has more entries than the limit
+-- if a piece doesn't fit in the limit, the agenda has more entries than the limit
 pub too_many :
     (c : Collected) (entries : List (ℕ × ℕ)) (job : ℕ) (piece : Part) → Holds c entries →
     is_rule_of (slice_get c.rules job) piece.rule ≡ true → adjoins c (note.Part job piece) ≡ true →
@@ -227,7 +228,7 @@ agenda_held c entries sorted holds complete moved up =
     Ascends-unique sorted (agenda c.rules c.span) (SameEntries-permutation entries sorted (agenda c.rules c.span) moved all)
     (Ascends-sorted sorted up) (Ascends-agenda c.rules c.span)
 
--- the same of the value that contracts see, which is that of the fields
+-- the same for the value that contracts see, which is that of the fields
 pub Holds-kept :
     (view c : Collected) (entries new : List (ℕ × ℕ)) (job : ℕ) (piece : Part) (found : List ℕ) (end : ℕ) → view ≡ c →
     Holds view entries → is_rule_of (slice_get c.rules job) piece.rule ≡ true → adjoins c (note.Part job piece) ≡ true →
@@ -242,7 +243,7 @@ Holds-kept view c entries new job piece found end e holds belongs adjoining room
     (is ∙ ap (λ xs. entries ++ entries_of job xs) all) in
     subst (λ n. Holds (record view { covered = slice_set view.covered job n }) new) (sym last) kept
 
--- the test of room by the entries that are there
+-- the test of the limit, by the entries that are kept
 pub room_is :
     (view c : Collected) (entries : List (ℕ × ℕ)) (job : ℕ) (piece : Part) (found : List ℕ) (many : ℕ) → view ≡ c →
     Holds view entries → found ≡ starts piece.rule piece.since piece.upto → many ≡ length entries →
@@ -260,7 +261,7 @@ room_is view c entries job piece found many e holds all is =
     ] in
     by_view ∙ ap (λ v. has_room v (note.Part job piece)) e
 
--- where there is no room for a piece that belongs and adjoins, the agenda has more entries than the limit
+-- if a piece that belongs and adjoins doesn't fit in the limit, the agenda has more entries than the limit
 pub no_room :
     (view c : Collected) (entries : List (ℕ × ℕ)) (planner job : ℕ) (piece : Part) → view ≡ c → Holds view entries →
     belongs c planner (note.Part job piece) ≡ true → adjoins c (note.Part job piece) ≡ true →

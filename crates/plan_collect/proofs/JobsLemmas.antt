@@ -1,5 +1,5 @@
--- The rules of jobs, one after the other: for the loop of `rules_in`, and for that of `plan_serial`, in which each
--- number has a job. `rules_more` is `rules_of` of a list with one more. The others go by induction over the list.
+-- The rules of jobs, one after the other: for the loop of `rules_in`, and for the loop of `plan_serial`, in which each
+-- number is that of a job. `rules_more` is `rules_of` of a list with one more. The others go by induction over the list.
 use Rattle.std.proofs.Common.{◌≡◌, ℕ, ◌+◌, ◌<◌, List, [], ◌∷◌, ◌++◌, length, take, None, Some, ap, sym, ◌∙◌, arith, suc, zero}
 use Rattle.std.specs.Prelude.{slice_get}
 use Rattle.std.proofs.lemmas.List.{take_more, map-append}
@@ -23,6 +23,6 @@ past_end [] n none lt = omega arith
 past_end (job ∷ jobs) zero none lt = cc
 past_end (job ∷ jobs) (suc n) none lt = past_end jobs n none (omega arith)
 
--- each number below the number of jobs has a job
+-- each number below the number of jobs is that of a job
 pub job_there : (jobs : List JobParts) (n : ℕ) → None ≡ slice_get jobs n → n < length jobs → ⊥
 job_there jobs n none lt = past_end jobs n none lt

@@ -1,6 +1,6 @@
--- What a collector answers does not depend on the order in which the notes of different planners arrive.
--- For `accepts_every_merging`, by TilingLemmas.antt. `merged` goes by induction over the arrivals: of each planner what
--- is left fits, or brings too many starts (`Sends`), and a note changes nothing for other planners (`alike_other`).
+-- A collector's answer doesn't depend on the order in which the messages of different planners arrive. For
+-- `accepts_every_merging`, by TilingLemmas.antt. `merged` goes by induction over the arrivals: what each planner still
+-- sends fits, or brings too many starts (`Sends`), and a message changes nothing for other planners (`alike_other`).
 use Rattle.std.proofs.Common.{◌≡◌, ◌≢◌, ℕ, suc, ◌+◌, ◌%◌, ◌<◌, ◌≤◌, ◌⊎◌, Bool, true, false, ◌&&◌, ◌==◌, nat_lt, nat_le, List, [], ◌∷◌, length, get_or, Some, None, Result, Err, inl, inr, refl, ap, ap₂, sym, ◌∙◌, subst, arith}
 use Rattle.std.specs.Prelude.{slice_get, slice_index, if◌then◌else◌, unwrap_or, Option, MatchResult}
 use Rattle.std.specs.List.{list_all}
@@ -21,38 +21,38 @@ use Rattle.plan_collect.specs.Tiling.{starts_in, notes_of}
 use Rattle.plan_collect.specs.Merging.{answer_to}
 use Rattle.plan_collect.proofs.PiecesLemmas.{held_further}
 
--- ---- notes that fit
+-- ---- messages that fit
 
--- a piece does not end before it begins
+-- a piece does not end before it starts
 abbrev pub IsOrdered : Note → Type 0
 IsOrdered (Part job piece) = piece.since ≤ piece.upto
 IsOrdered Last = Unit {0}
 
--- but for its room, the collector accepts the planner's note
+-- the collector accepts the planner's message, unless there are too many starts
 pub record Fits (k : ℕ) (c : Collected) (note : Note) : Type 0 where
   pub own : belongs c k note ≡ true
   pub early : has_ended c k ≡ false
   pub next : adjoins c note ≡ true
   pub ordered : IsOrdered note
 
--- the planner's jobs are covered, and its last note came
+-- the planner's jobs are covered, and its last message was accepted
 pub record IsDone (k : ℕ) (c : Collected) : Type 0 where
   pub covered : (j : ℕ) → j < length c.covered → j % length c.ended ≡ k → slice_index c.covered j ≡ c.span.upto
   pub ended : has_ended c k ≡ true
 
--- the planner's notes fit one after another, and then all of it is done
+-- the planner's messages fit one after another, and then the planner is done
 abbrev pub Ready : ℕ → Collected → List Note → Type 0
 Ready k c [] = IsDone k c
 Ready k c (note ∷ notes) = Fits k c note × Ready k (after c k note) notes
 
--- the planner's notes fit one after another, and with `count` they bring more starts than the limit
+-- the planner's messages fit one after another, and with `count` they bring more starts than the limit
 abbrev pub Over : (limit count k : ℕ) → Collected → List Note → Type 0
 Over limit count k c [] = limit < count
 Over limit count k c (note ∷ notes) = Fits k c note × Over limit (count + starts_in note) k (after c k note) notes
 
--- ---- what a planner's notes look at
+-- ---- what decides about a planner's messages
 
--- two collectors are alike to a planner
+-- two collectors are alike for a planner
 record IsAlike (k : ℕ) (c d : Collected) : Type 0 where
   pub rules : c.rules ≡ d.rules
   pub span : c.span ≡ d.span
@@ -61,7 +61,7 @@ record IsAlike (k : ℕ) (c d : Collected) : Type 0 where
   pub covered : (j : ℕ) → j % length c.ended ≡ k → slice_index c.covered j ≡ slice_index d.covered j
   pub ended : has_ended c k ≡ has_ended d k
 
--- a job's number is the planner's
+-- the planner's number is that of the job, modulo the number of planners
 own_job :
     (c : Collected) (k job : ℕ) (rule : Option Rule) (fits : Bool) →
     (nat_lt k (length c.ended) && (job % length c.ended == k && fits)) ≡ true → job % length c.ended ≡ k
@@ -85,7 +85,7 @@ alike_fits k c d Last alike fits = record {
   ordered = tt;
 }
 
--- the same write to two lists that read alike at a place
+-- the same write to two lists that are alike at a place
 set_alike :
     (xs ys : List ℕ) (i j v : ℕ) → length xs ≡ length ys → get_or xs j 0 ≡ get_or ys j 0 →
     get_or (set xs i v) j 0 ≡ get_or (set ys i v) j 0
@@ -104,7 +104,7 @@ set_alike xs ys i j v size same =
       | inr not ↦ get_or-set_other xs i j v 0 not ∙ same ∙ sym (get_or-set_other ys i j v 0 not)
     ]
 
--- the last note ends its planner
+-- after its last message, a planner has ended
 ends_now : (k : ℕ) (ended : List Bool) → k < length ended → unwrap_or (slice_get (set ended k true) k) false ≡ true
 ends_now k ended inside = unwrap_or-slice_get (set ended k true) k false ∙ get_or-set_same ended k true false inside
 
@@ -129,7 +129,7 @@ alike_after k c d Last alike fits =
       ended = ends_now k c.ended inside ∙ sym (ends_now k d.ended (omega arith));
     }
 
--- to another planner a note changes nothing
+-- a message changes nothing for another planner
 alike_other : (k other : ℕ) (c : Collected) (note : Note) → other ≢ k → Fits k c note → IsAlike other c (after c k note)
 alike_other k other c (Part job piece) not fits =
     let own : job % length c.ended ≡ k = own_job c k job (slice_get c.rules job) _ fits.own in
@@ -176,13 +176,13 @@ alike_over limit count k (note ∷ notes) c d alike (fits, rest) = (
 
 -- ---- what is held
 
--- the parts of a collector fit one another
+-- the parts of a collector fit together
 pub record IsSound (c : Collected) : Type 0 where
   pub jobs : length c.covered ≡ length c.rules
   pub since : (j : ℕ) → j < length c.covered → c.span.since ≤ slice_index c.covered j
   pub few : length (held c) ≤ c.limit
 
--- a rule that is the same as the one known is that one
+-- a rule that is the same as the known rule is that rule
 found : (known : Option Rule) (rule : Rule) → is_rule_of known rule ≡ true → known ≡ Some rule
 found None rule is = cc
 found (Some own) rule is = ap (λ r. Some r) ((same_rule-Decides own rule).0 is)
@@ -204,7 +204,7 @@ held_after k c (Part job piece) sound fits =
     held_further 0 c.span.since c.rules c.covered job piece.since piece.upto piece.rule known inside reached (omega arith) fits.ordered
 held_after k c Last sound fits = omega arith
 
--- a collector that has room for a note that fits stays sound
+-- a collector stays sound after a message that fits and keeps the limit
 sound_after : (k : ℕ) (c : Collected) (note : Note) → IsSound c → Fits k c note → has_room c note ≡ true → IsSound (after c k note)
 sound_after k c (Part job piece) sound fits room =
     let reached : slice_index c.covered job ≡ piece.since = eqb-true _ _ (and_parts _ _ fits.next).0 in
@@ -234,7 +234,7 @@ sound_after k c Last sound fits room = record { jobs = sound.jobs; since = sound
 
 -- ---- all together
 
--- what is left of a planner's notes: they fit to the end, or they bring more starts than the limit
+-- what a planner still sends: it fits to the end, or brings more starts than the limit
 abbrev pub Sends : ℕ → Collected → List Note → Type 0
 Sends k c notes = Ready k c notes ⊎ ((count : ℕ) × ((count ≤ length (held c)) × Over c.limit count k c notes))
 
@@ -244,7 +244,7 @@ all_of :
 all_of test [] d each = refl
 all_of test (x ∷ xs) d each = and_from _ _ (each 0 (omega arith)) (all_of test xs d (λ i inside. each (suc i) (omega arith)))
 
--- where nothing more comes, a planner is done: it cannot have sent more than the collector has room for
+-- if nothing more comes, a planner is done: it can't have sent more than the limit
 done_of : (k : ℕ) (c : Collected) → IsSound c → Sends k c [] → IsDone k c
 done_of k c sound (inl done) = done
 done_of k c sound (inr (count, (held_so_far, more))) = let few = sound.few in absurd (omega arith)
@@ -258,7 +258,7 @@ complete_of c sound some each =
     (all_of (λ ended. ended) c.ended false (λ k inside.
     sym (unwrap_or-slice_get c.ended k false) ∙ (done_of k c sound (each k inside)).ended))
 
--- a note at the front is its planner's next
+-- the first message of a history is the next of its planner
 notes_own : (k : ℕ) (sent : ℕ × Note) (history : List (ℕ × Note)) → sent.0 ≡ k → notes_of k (sent ∷ history) ≡ sent.1 ∷ notes_of k history
 notes_own k sent history is = rw (eq-eqb sent.0 k is) refl
 
@@ -269,7 +269,7 @@ fits_of : (k : ℕ) (c : Collected) (note : Note) (notes : List Note) → Sends 
 fits_of k c note notes (inl (fits, rest)) = fits
 fits_of k c note notes (inr (count, (few, (fits, rest)))) = fits
 
--- what is left to send after a note was accepted
+-- what a planner still sends after a message was accepted
 sends_own :
     (k : ℕ) (c : Collected) (note : Note) (notes : List Note) → IsSound c → Sends k c (note ∷ notes) →
     Sends k (after c k note) notes
@@ -291,11 +291,11 @@ sends_other k other c (Part job piece) notes not sound fits (inr (count, (few, r
 sends_other k other c Last notes not sound fits (inr (count, (few, rest))) =
     inr (count, (few, alike_over c.limit count other notes c (after c k Last) (alike_other k other c Last not fits) rest))
 
--- a note that fits is refused for want of room alone
+-- a message that fits is rejected only for too many starts
 refusal_of : (k : ℕ) (c : Collected) (note : Note) → Fits k c note → refusal c k note ≡ (if has_room c note then None else Some TooMany)
 refusal_of k c note fits = rw (fits.own, fits.early, fits.next) refl
 
--- each note is of one of these planners
+-- each message is from one of these planners
 abbrev pub AllOf : (planners : ℕ) → List (ℕ × Note) → Type 0
 AllOf planners [] = Unit {0}
 AllOf planners (sent ∷ history) = (sent.0 < planners) × AllOf planners history
@@ -314,11 +314,11 @@ answer_refused :
     answer_to c (sent ∷ history) ≡ Err fault
 answer_refused c sent history fault is = rw (is, answer_to) refl
 
--- the collector accepted all and is complete, or it has no more room
+-- the collector accepted all and is complete, or it answered TooMany
 abbrev pub IsFair : Result Collected CollectFault → Type 0
 IsFair answer = MatchResult answer (λ d. is_complete d ≡ true) (λ fault. fault ≡ TooMany)
 
--- for every order of arrival
+-- the answer is one of these, in every order of arrival
 pub merged :
     (history : List (ℕ × Note)) (c : Collected) → IsSound c → 0 < length c.ended → AllOf (length c.ended) history →
     ((k : ℕ) → k < length c.ended → Sends k c (notes_of k history)) → IsFair (answer_to c history)

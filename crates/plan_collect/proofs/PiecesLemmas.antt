@@ -1,6 +1,6 @@
--- How many starts a collector holds: for `accepts_every_merging`, by `held_after` of MergingLemmas.antt.
--- By induction over the jobs down to the one that is covered further: its starts are cut at the second to which it was
--- covered, and the entries of the other jobs stay.
+-- How many starts a collector holds: for `accepts_every_merging`, by `held_after` of MergingLemmas.antt. By induction
+-- over the jobs up to the one that is covered further: its starts are cut at the second to which it was covered, and the
+-- entries of the other jobs stay.
 use Rattle.std.proofs.Common.{◌≡◌, ℕ, zero, suc, ◌+◌, ◌<◌, ◌≤◌, List, [], ◌∷◌, ◌++◌, length, map, get_or, Some, ap, ap₂, ◌∙◌, arith, length-append}
 use Rattle.std.specs.Prelude.{slice_get}
 use Rattle.std.proofs.Math.ListN.{set}
@@ -11,7 +11,7 @@ use Rattle.plan_next.specs.Starts.{is_start, starts}
 use Rattle.plan_next.specs.StartsLaws.{passing-append}
 use Rattle.plan_collect.specs.Collecting.{held_from}
 
--- a job that is covered further has the starts between beside those that were held
+-- a job that is covered further has the starts between, in addition to those held before
 pub held_further :
     (job since : ℕ) (rules : List Rule) (covered : List ℕ) (i from upto : ℕ) (rule : Rule) → slice_get rules i ≡ Some rule →
     i < length covered → get_or covered i 0 ≡ from → since ≤ from → from ≤ upto →

@@ -1,6 +1,6 @@
--- What a planner sends fits, note by note: for `accepts_every_merging`, whose clause is `accepts`.
--- `ready_parts` goes by induction over the jobs, with `IsAt` for how far the planner is, and `ready_pieces` by the
--- seconds that are left of a job. `cut_ready` cuts that after the limit, and `merged` of MergingLemmas.antt ends it.
+-- What a planner sends fits, message by message: for `accepts_every_merging`, whose clause is `accepts`. `ready_parts`
+-- goes by induction over the jobs, with `IsAt` for how far the planner is, and `ready_pieces` by the seconds of a job
+-- that remain. `cut_ready` cuts that after the limit, and `merged` of MergingLemmas.antt ends it.
 use Rattle.std.proofs.Common.{◌≡◌, ℕ, zero, suc, ◌+◌, ◌-◌, ◌%◌, ◌<◌, ◌≤◌, ◌⊎◌, true, false, nat_lt, nat_le, List, [], ◌∷◌, ◌++◌, length, map, replicate, get_or, Some, inl, inr, refl, ap, sym, ◌∙◌, subst, arith, append_assoc}
 use Rattle.std.specs.Prelude.{slice_get, slice_index}
 use Rattle.std.proofs.Math.ListN.{set}
@@ -28,7 +28,7 @@ set_again [] i a b = refl
 set_again (x ∷ xs) zero a b = refl
 set_again (x ∷ xs) (suc i) a b = ap (λ rest. x ∷ rest) (set_again xs i a b)
 
--- a job of the planner, with its rule, that the planner is at
+-- the planner is at this job, which has this rule
 record IsAtJob (k job : ℕ) (rule : Rule) (c : Collected) : Type 0 where
   pub planner : k < length c.ended
   pub own : job % length c.ended ≡ k
@@ -97,7 +97,7 @@ ready_pieces (suc seconds) k job rule c from rest here reached part few ready =
           subst (λ ps. Ready k c (map (note.Part job) ps ++ rest)) (sym (pieces_last seconds rule from c.span.upto stop)) all)
     ]
 
--- the planner's jobs before this one are covered, and of those from it on, which have these rules, nothing came
+-- the planner's jobs before this one are covered, and nothing has arrived of those from it on, which have these rules
 record IsAt (k job : ℕ) (rules : List Rule) (c : Collected) : Type 0 where
   pub planner : k < length c.ended
   pub early : has_ended c k ≡ false
@@ -107,7 +107,7 @@ record IsAt (k job : ℕ) (rules : List Rule) (c : Collected) : Type 0 where
   pub coming : (j : ℕ) → job ≤ j → j < length c.covered → slice_index c.covered j ≡ c.span.since
   pub done : (j : ℕ) → j < job → j % length c.ended ≡ k → slice_index c.covered j ≡ c.span.upto
 
--- the last note fits where all jobs are covered
+-- the last message fits if all jobs are covered
 ready_last : (k job : ℕ) (c : Collected) → IsAt k job [] c → Ready k c (note.Last ∷ [])
 ready_last k job c here =
     let size = length-set c.ended k true in
@@ -160,7 +160,7 @@ at_next_other k job rule rules c other here =
       ];
     }
 
--- what is left of a tiling from a job on fits
+-- what remains of a tiling from a job on fits
 ready_parts :
     (rules : List Rule) (k job : ℕ) (c : Collected) → IsAt k job rules c →
     Ready k c (parts_from job k (length c.ended) rules c.span ++ note.Last ∷ [])
@@ -190,7 +190,7 @@ ready_parts (rule ∷ rules) k job c here =
 
 -- ---- a tiling that is cut
 
--- notes that fit to the end, cut after the limit, fit, or bring more starts than the limit
+-- messages that fit to the end, when they are cut after the limit, fit or bring more starts than the limit
 cut_ready :
     (limit count k : ℕ) (notes : List Note) (c : Collected) → Ready k c notes →
     Ready k c (cut_after limit count notes) ⊎ Over limit count k c (cut_after limit count notes)
@@ -236,7 +236,7 @@ sends_at_begin k planners limit rules span few part =
       | inr over ↦ inr (0, (omega arith, over))
     ]
 
--- it holds nothing
+-- a new collector holds nothing
 held_at_begin : (rules : List Rule) (job since : ℕ) → length (held_from job since rules (replicate (length rules) since)) ≡ 0
 held_at_begin [] job since = refl
 held_at_begin (rule ∷ rules) job since =
@@ -262,7 +262,7 @@ all_of_places planners [] known = tt
 all_of_places planners (sent ∷ history) known =
     (known 0 sent.0 sent.1 refl, all_of_places planners history (λ place planner note is. known (suc place) planner note is))
 
--- every merging is accepted to its end, or there is no more room
+-- every merging is accepted to its end, or the answer is TooMany
 pub accepts : AcceptsMergings
 accepts planners limit rules span history size part merging =
     let c = begun rules span planners limit in

@@ -1,4 +1,4 @@
--- What is so of every agenda.
+-- What holds for every agenda (agenda).
 use Rattle.std.specs.Prelude.{◌≡◌, ℕ, ◌+◌, ◌-◌, ◌≤◌, Bool, true, false, nat_lt, List, [], ◌∷◌, length}
 use Rattle.std.proofs.Common.{cond, refl, ◌∙◌, arith}
 use Rattle.std.specs.List.{range_with_len, flat_map, list_all}
@@ -12,7 +12,7 @@ use Rattle.plan_rules.specs.Job.{JobParts}
 use Rattle.plan_collect.specs.Span.{Bounds}
 use Rattle.plan_collect.specs.Agenda.{row_from, agenda, rules_of, IsInYears, IsOfJobs}
 
--- what is so of each entry of a row is so of all entries of all rows
+-- a test that each entry of a row passes is passed by all entries of all rows
 step :
     (test : ℕ × ℕ → Bool) (is : Bool) (entry : ℕ × ℕ) (row : List (ℕ × ℕ)) → (is ≡ true → test entry ≡ true) →
     list_all test row ≡ true → list_all test (cond is (entry ∷ row) row) ≡ true
@@ -34,7 +34,7 @@ row_in_years job (rule ∷ rules) second =
     step (λ entry. nat_lt entry.0 end_second) (is_start rule second) (second, job) (row_from (job + 1) rules second)
     (λ is. (and_parts (nat_lt second end_second) (rule_starts rule second) is).0) (row_in_years (job + 1) rules second)
 
--- its seconds are of the planner's years
+-- the seconds of an agenda are in the years that can be planned
 pub agenda-in_years : (rules : List Rule) (span : Bounds) → IsInYears (agenda rules span)
 unfolding agenda
 agenda-in_years rules span =
@@ -46,7 +46,7 @@ row_of_jobs job jobs (rule ∷ rules) second few =
     step (λ entry. nat_lt entry.1 jobs) (is_start rule second) (second, job) (row_from (job + 1) rules second)
     (λ is. lt-ltb job jobs (omega arith)) (row_of_jobs (job + 1) jobs rules second (omega arith))
 
--- its entries are of the jobs that the rules are of
+-- each entry of an agenda has the number of one of the jobs with these rules
 pub agenda-of_rules : (rules : List Rule) (span : Bounds) → IsOfJobs (length rules) (agenda rules span)
 unfolding agenda
 agenda-of_rules rules span =

@@ -1,16 +1,16 @@
--- The names of faults, as `Display` and the lines of faults show them (own).
+-- The names of errors, as `Display` and error lines show them (agenda).
 use Rattle.std.specs.Prelude.{ℕ, List, codes}
 use Rattle.plan_collect.specs.declared.span.SpanFault.{SpanFault}
 use Rattle.plan_collect.specs.declared.span.SpanFault.TheVariants as span
 use Rattle.plan_collect.specs.declared.collector.CollectFault.{CollectFault}
 use Rattle.plan_collect.specs.declared.collector.CollectFault.TheVariants as collect
 
--- of a span
+-- the names of the errors of a span
 abbrev pub span_cause : SpanFault → List ℕ
 span_cause span.Backwards = codes "Backwards"
 span_cause span.OutOfYears = codes "OutOfYears"
 
--- of what a collector refuses
+-- the names of a collector's errors
 abbrev pub collect_cause : CollectFault → List ℕ
 collect_cause collect.NoMemory = codes "NoMemory"
 collect_cause collect.Stranger = codes "Stranger"

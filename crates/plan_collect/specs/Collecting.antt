@@ -1,4 +1,4 @@
--- What a collector holds, which notes it refuses, and what the others add (own).
+-- What a collector holds, which messages it rejects, and what the others add (agenda).
 use Rattle.std.specs.Prelude.{◌≡◌, ℕ, ◌+◌, ◌%◌, ◌<◌, ◌≤◌, Bool, true, false, ◌&&◌, ◌==◌, nat_lt, nat_le, if◌then◌else◌, List, [], ◌∷◌, ◌++◌, length, map, replicate, Option, Some, None, slice_get, slice_index, slice_set, unwrap_or, Result, Ok, Err}
 use Rattle.std.specs.Prelude.{refl}
 use Rattle.std.specs.Coded.{Coded, code_by, coded×, coded_list, coded_ℕ, coded_bool}
@@ -16,8 +16,9 @@ use Rattle.plan_collect.specs.Span.{Bounds, bounds_code}
 use Rattle.plan_collect.specs.Limits.{is_limit, is_size}
 use Rattle.plan_collect.specs.Agenda.{Planned, planned}
 
--- what contracts see of a collector: the jobs' rules, the span, the limit of entries, the second before which all starts of each
--- job are held, and for each planner whether its last note was accepted; which starts are held follows from these
+-- what contracts see of a collector: the jobs' rules, the span, the limit of entries, for each job the second before
+-- which all its starts are held, and for each planner whether its last message was accepted; the starts that are held
+-- follow from these
 pub record Collected : Type 0 where
   pub rules : List Rule
   pub span : Bounds
@@ -34,7 +35,7 @@ collected_code =
     (λ t. record { rules = t.0.0; span = t.0.1; limit = t.1.0; covered = t.1.1.0; ended = t.1.1.1 })
     (λ _. refl)
 
--- a new collector holds nothing
+-- a new collector, which holds nothing
 abbrev pub begun : List Rule → Bounds → (planners limit : ℕ) → Collected
 begun rules span planners limit = record {
   rules = rules;
@@ -44,44 +45,44 @@ begun rules span planners limit = record {
   ended = replicate planners false;
 }
 
--- the entries of jobs from `since` to where each is covered, where the first job has number `job`
+-- the entries of jobs from `since` to where each is covered; the first job has number `job`
 abbrev pub held_from : (job since : ℕ) → List Rule → List ℕ → List (ℕ × ℕ)
 held_from job since [] covered = []
 held_from job since (rule ∷ rules) [] = []
 held_from job since (rule ∷ rules) (upto ∷ covered) =
     map (λ second. (second, job)) (starts rule since upto) ++ held_from (job + 1) since rules covered
 
--- what a collector holds: of each job all starts from the span's begin to where the job is covered
+-- what a collector holds: for each job, all starts from the start of the span to where the job is covered
 abbrev pub held : Collected → List (ℕ × ℕ)
 held c = held_from 0 c.span.since c.rules c.covered
 
--- this is the job's rule
+-- this is the job's rule, if there is such a job
 abbrev pub is_rule_of : Option Rule → Rule → Bool
 is_rule_of None rule = false
 is_rule_of (Some own) rule = same_rule own rule
 
--- the note is one that this planner may send: there is such a planner, and a piece is of the rule of a job that is there and is
--- this planner's; job j is planner j mod planners' (own)
+-- this planner may send the message: there is such a planner, and a piece is of a job of this planner and has the job's
+-- rule; job j is that of planner j mod planners (agenda)
 abbrev pub belongs : Collected → (planner : ℕ) → Note → Bool
 belongs c planner (Part job piece) =
     nat_lt planner (length c.ended) && (job % length c.ended == planner && is_rule_of (slice_get c.rules job) piece.rule)
 belongs c planner Last = nat_lt planner (length c.ended)
 
--- this planner's last note was accepted before
+-- this planner's last message was accepted before
 abbrev pub has_ended : Collected → (planner : ℕ) → Bool
 has_ended c planner = unwrap_or (slice_get c.ended planner) false
 
--- a piece begins where its job is covered to, and ends within the span
+-- a piece starts where its job is covered to, and ends within the span
 abbrev pub adjoins : Collected → Note → Bool
 adjoins c (Part job piece) = slice_index c.covered job == piece.since && nat_le piece.upto c.span.upto
 adjoins c Last = true
 
--- a piece's starts and those that are held are not more than the limit
+-- a piece's starts and those that are held are at most as many as the limit
 abbrev pub has_room : Collected → Note → Bool
 has_room c (Part job piece) = nat_le (length (held c) + length (starts piece.rule piece.since piece.upto)) c.limit
 has_room c Last = true
 
--- why a note is refused, memory aside: the first of these that holds
+-- why a message is rejected, unless an allocation fails: the first that applies
 abbrev pub refusal : Collected → (planner : ℕ) → Note → Option CollectFault
 refusal c planner note =
     if belongs c planner note then
@@ -91,27 +92,27 @@ refusal c planner note =
     Some Gap)) else
     Some Stranger
 
--- the note adds no starts to what is held
+-- the message adds no starts to what is held
 abbrev pub AddsNothing : Note → Type 0
 AddsNothing (Part job piece) = starts piece.rule piece.since piece.upto ≡ []
 AddsNothing Last = Unit {0}
 
--- the answer to a note: a refusal where there is one, else the note is accepted or memory was refused
+-- the answer to a message: the error, if it is rejected; else it is accepted, or an allocation failed
 abbrev pub Answers : Result (Unit {0}) CollectFault → Option CollectFault → Type 0
 Answers (Ok done) refused = refused ≡ None
 Answers (Err NoMemory) refused = refused ≡ None
 Answers (Err fault) refused = refused ≡ Some fault
 
--- what an accepted note changes
+-- what an accepted message changes
 abbrev pub after : Collected → (planner : ℕ) → Note → Collected
 after c planner (Part job piece) = record c { covered = slice_set c.covered job piece.upto }
 after c planner Last = record c { ended = slice_set c.ended planner true }
 
--- each job is covered to the span's end, and each planner's last note was accepted
+-- each job is covered to the end of the span, and each planner's last message was accepted
 abbrev pub is_complete : Collected → Bool
 is_complete c = list_all (λ upto. upto == c.span.upto) c.covered && list_all (λ has_sent_last. has_sent_last) c.ended
 
--- the answer of a collector to which nothing more comes
+-- the answer of a collector that receives nothing more
 abbrev pub finished : Collected → Result Planned CollectFault
 finished c = if is_complete c then Ok (planned c.rules c.span) else Err Missing
 
@@ -120,11 +121,11 @@ abbrev pub weigh : (ℕ × ℕ → ℕ) → List (ℕ × ℕ) → ℕ
 weigh weight [] = 0
 weigh weight (entry ∷ entries) = weight entry + weigh weight entries
 
--- two lists have the same entries, each as often: by any weights of entries they weigh the same
+-- two lists have the same entries, each as often: with any weights of entries, they have the same sum
 abbrev pub SameEntries : List (ℕ × ℕ) → List (ℕ × ℕ) → Type 0
 SameEntries xs ys = (weight : ℕ × ℕ → ℕ) → weigh weight xs ≡ weigh weight ys
 
--- these entries, in any order, are what a collector holds, and its parts fit one another
+-- these entries, in any order, are what a collector holds, and its parts fit together
 pub record Holds (c : Collected) (entries : List (ℕ × ℕ)) : Type 0 where
   pub same : SameEntries entries (held c)
   pub few : length entries ≤ c.limit

@@ -1,15 +1,15 @@
--- The limits of a plan (own).
+-- The limits of a plan (agenda).
 use Rattle.std.specs.Prelude.{ℕ, Bool, ◌&&◌, nat_le}
 
--- how many entries an agenda may be limited to
+-- the maximum limit of an agenda, in entries
 abbrev pub most_entries : ℕ
 most_entries = 1000000
 
--- how many planners there may be
+-- the maximum number of planners
 abbrev pub most_planners : ℕ
 most_planners = 8
 
--- how many starts a planner's piece has at most
+-- the maximum number of starts in a planner's piece
 abbrev pub most_starts : ℕ
 most_starts = 1024
 

@@ -1,4 +1,4 @@
--- What a collector answers to the notes of planners, in any order of arrival (own).
+-- What a collector answers to the messages of planners, in any order of arrival (agenda).
 use Rattle.std.specs.Prelude.{◌≡◌, ℕ, ◌≤◌, true, List, [], ◌∷◌, Some, None, Result, Ok, Err, MatchResult}
 use Rattle.plan_match.specs.declared.rule.Rule.{Rule}
 use Rattle.plan_collect.specs.declared.note.Note.{Note}
@@ -9,7 +9,7 @@ use Rattle.plan_collect.specs.Limits.{is_size}
 use Rattle.plan_collect.specs.Collecting.{Collected, begun, refusal, after, is_complete}
 use Rattle.plan_collect.specs.Tiling.{IsMerging}
 
--- what comes of notes that arrive one after another, each with its planner's number: the first that is refused ends it
+-- the answer to messages that arrive one after another, each with its planner's number: the first that is rejected ends it
 abbrev pub answer_to : Collected → List (ℕ × Note) → Result Collected CollectFault
 answer_to c [] = Ok c
 answer_to c (sent ∷ history) = elim (refusal c sent.0 sent.1) [
@@ -17,8 +17,8 @@ answer_to c (sent ∷ history) = elim (refusal c sent.0 sent.1) [
   | Some fault ↦ Err fault
 ]
 
--- for every order in which the notes of all planners may arrive, a new collector accepts them all and is complete, or it has no more
--- room: it never meets a stranger, a gap or a note after the last, and nothing is missing
+-- in every order in which the messages of all planners may arrive, a new collector accepts them all and is complete, or
+-- it answers TooMany: no other error comes
 abbrev pub AcceptsMergings : Type 0
 AcceptsMergings = (planners limit : ℕ) (rules : List Rule) (span : Bounds) (history : List (ℕ × Note))
     → is_size planners ≡ true → span.since ≤ span.upto → IsMerging planners limit rules span history

@@ -1,8 +1,8 @@
--- What contracts see of a span.
+-- What contracts see of a span (agenda).
 use Rattle.std.specs.Prelude.{ℕ, refl}
 use Rattle.std.specs.Coded.{Coded, code_by, coded×, coded_ℕ}
 
--- the seconds from `since` on, `upto` excluded
+-- the seconds from `since` on, without `upto`
 pub record Bounds : Type 0 where
   pub since : ℕ
   pub upto : ℕ

@@ -1,4 +1,4 @@
--- What planners send, one step at a time.
+-- What planners send, one step at a time (agenda).
 use Rattle.std.proofs.Common.{◌≡◌, ℕ, zero, suc, ◌+◌, ◌-◌, ◌%◌, ◌<◌, ◌≤◌, true, false, ◌==◌, nat_lt, nat_le, Bool, List, [], ◌∷◌, ◌++◌, length, map, filter, get_or, inl, inr, refl, ap, sym, ◌∙◌, arith}
 use Rattle.std.specs.List.{range_with_len}
 use Rattle.std.proofs.lemmas.Bool.{cases_lt, cases_Bool, eq-eqb, ne_eqb, lt-ltb, le-ltb, le-leb, lt-leb}
@@ -14,7 +14,7 @@ use Rattle.plan_collect.specs.Tiling.{pieces_within, pieces, parts_from, starts_
 
 -- ---- where pieces end
 
--- a number that passed a test lies in the range
+-- a number that passed a test is in the range
 record IsWithin (a end n : ℕ) : Type 0 where
   pub from : a ≤ n
   pub to : n < end
@@ -43,7 +43,7 @@ in_range test (suc n) a end is i lt =
           rw fails (record { from = omega (arith, later.from); to = later.to }))
     ]
 
--- a piece ends within its part, and not before it begins; it moves on in a part that isn't empty
+-- a piece ends within its part, and not before it starts; in a part that isn't empty it ends later than it starts
 pub record Ends (since upto end : ℕ) : Type 0 where
   pub from : since ≤ end
   pub to : end ≤ upto
@@ -71,7 +71,7 @@ piece_ends rule since upto most some part =
           rw is (record { from = part; to = omega arith; moves = λ before. before }))
     ]
 
--- a piece of no seconds ends where it begins
+-- a piece of no seconds ends where it starts
 pub piece_of_nothing : (rule : Rule) (second most : ℕ) → piece_end rule second second most ≡ second
 piece_of_nothing rule second most =
     let none : starts rule second second ≡ [] = passing-none (is_start rule) second second (λ n low high. absurd (omega arith)) in
@@ -98,7 +98,7 @@ pub pieces_one : (rule : Rule) (since upto : ℕ) → pieces_within zero rule si
 unfolding pieces_within
 pieces_one rule since upto = refl
 
--- more seconds than there are make no difference
+-- a larger bound than the number of seconds makes no difference
 pieces_enough :
     (m n : ℕ) (rule : Rule) (since upto : ℕ) → since ≤ upto → upto - since ≤ m → upto - since ≤ n →
     pieces_within m rule since upto ≡ pieces_within n rule since upto
@@ -130,7 +130,7 @@ pieces_enough (suc m) (suc n) rule since upto part few enough =
           pieces_last m rule since upto stop ∙ sym (pieces_last n rule since upto stop))
     ]
 
--- the pieces of a part are its first, and where that ends early those of the rest
+-- the pieces of a part are its first and, if that ends early, those of the rest
 pub pieces_stop :
     (rule : Rule) (since upto : ℕ) → since ≤ upto → upto ≤ piece_end rule since upto most_starts →
     pieces rule since upto ≡ piece_of rule since upto most_starts ∷ []
@@ -169,7 +169,7 @@ pub parts_other :
 unfolding parts_from
 parts_other job k planners rule rules span other = let is : (job % planners == k) ≡ false = ne_eqb _ _ other in rw (is, parts_from) refl
 
--- ---- a tiling that is cut
+-- ---- a tiling that is cut after the limit
 
 pub cut_here :
     (limit count : ℕ) (note : Note) (notes : List Note) → limit < count + starts_in note →

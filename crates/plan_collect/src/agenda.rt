@@ -8,7 +8,7 @@ use crate::span::Span;
 use plan_sets::END_SECOND;
 use std::marker::Model;
 
-/// The starts of jobs in a span: each a second and a job's number, ascending by second and then by job.
+/// The starts of jobs in a span. Each is a second and a job's number; they ascend by second and then by job.
 #[derive(Debug, Drop)]
 pub struct Agenda {
     span: Span,
@@ -28,7 +28,7 @@ impl Model for Agenda {
 }
 
 impl Agenda {
-    // The agenda of these entries, over a span.
+    // Makes the agenda of these entries, over a span.
     pub(crate) fn new(span: Span, entries: Vec<Entry>) -> Agenda
         requires { IsInYears entries.items }
         ensures { result ≡ record { span = span; entries = entries.items } }
@@ -36,7 +36,7 @@ impl Agenda {
         Agenda { span, entries }
     }
 
-    /// The second with which the agenda's span begins.
+    /// Returns the second at which the agenda's span starts.
     pub fn since(&self) -> u64
         ensures value { result ≡ self.now.span.since }
         ensures ordered { result ≤ self.now.span.upto }
@@ -44,7 +44,7 @@ impl Agenda {
         self.span.since()
     }
 
-    /// The second before which the agenda's span ends.
+    /// Returns the second before which the agenda's span ends.
     pub fn upto(&self) -> u64
         ensures value { result ≡ self.now.span.upto }
         ensures ordered { self.now.span.since ≤ result }
@@ -53,21 +53,22 @@ impl Agenda {
         self.span.upto()
     }
 
-    /// How many entries there are.
+    /// Returns the number of entries.
     pub fn len(&self) -> usize
         ensures { result ≡ length self.now.entries }
     {
         self.entries.len()
     }
 
-    /// Whether there is no entry.
+    /// Returns whether there are no entries.
     pub fn is_empty(&self) -> bool
         ensures { IsTrue result ↔ (self.now.entries ≡ []) }
     {
         self.entries.is_empty()
     }
 
-    /// The entry at a place, from 0: a second and the number of the job that starts then.
+    /// Returns the entry at a place, from 0: a second, and the number of the job that starts then. `None` if
+    /// there is no such entry.
     pub fn entry(&self, place: usize) -> Option<(u64, u32)>
         ensures { result ≡ slice_get self.now.entries place }
     {
@@ -75,7 +76,7 @@ impl Agenda {
         Some((entry.second(), entry.job()))
     }
 
-    /// The entries, in order.
+    /// Returns the entries, in order.
     pub fn entries(&self) -> &[Entry]
         ensures entries { result.now ≡ self.now.entries }
         ensures years { IsInYears self.now.entries }

@@ -1,4 +1,4 @@
-//! The collector: it checks what planners send, keeps the starts, and makes the agenda of them.
+//! The collector, which checks what planners send, keeps the starts, and makes the agenda of them.
 
 ghost use Rattle.std.specs.Prelude.{◌≡◌, ◌≢◌, ℕ, ◌+◌, ◌%◌, ◌<◌, ◌≤◌, ◌↔◌, [], ◌++◌, Bool, true, false, ◌&&◌, ◌==◌, nat_lt, nat_le, IsTrue, length, map, slice_get, slice_index, slice_set, IfOk, IfErr, IsOk, OnOk, OnErr};
 ghost use Rattle.std.specs.Arc.{arc_value};
@@ -24,41 +24,42 @@ use std::marker::Model;
 use std::sync::Arc;
 use thiserror::Error;
 
-/// How many entries an agenda may be limited to.
+/// The maximum limit of an agenda, in entries.
 pub const MOST_ENTRIES: u64 = 1_000_000;
 
-/// How many planners there may be.
+/// The maximum number of planners.
 pub const MOST_PLANNERS: usize = 8;
 
-/// Why there is no new collector.
+/// Why a collector can't be made.
 #[derive(Clone, Copy, Debug, PartialEq, Eq, Error)]
 pub enum CollectorFault {
-    /// 1: memory was refused.
+    /// An allocation failed.
     #[error("NoMemory")]
     NoMemory,
-    /// 2: the limit is not 1 to 1,000,000.
+    /// The limit isn't 1 to 1,000,000.
     #[error("BadLimit")]
     BadLimit,
-    /// 3: there are not 1 to 8 planners.
+    /// The number of planners isn't 1 to 8.
     #[error("BadSize")]
     BadSize,
 }
 
-/// Why a collector refuses a note, or to finish.
+/// Why a collector rejects a message, or can't finish.
 #[derive(Clone, Copy, Debug, PartialEq, Eq, Error)]
 #[error("{}", self.name())]
 pub enum CollectFault {
-    /// 1: memory was refused.
+    /// An allocation failed.
     NoMemory,
-    /// 2: there is no such planner; or no such job, or it is not this planner's, or it has another rule than the piece.
+    /// There is no such planner, or no such job, or the job is another planner's, or its rule isn't the
+    /// piece's.
     Stranger,
-    /// 3: the piece does not begin where its job is covered to, or ends after the span.
+    /// The piece doesn't start at the second to which its job is covered, or it ends after the span.
     Gap,
-    /// 4: there are more starts than the limit.
+    /// There are more starts than the limit.
     TooMany,
-    /// 5: the planner's last note was accepted before.
+    /// The planner's last message was accepted before.
     AfterLast,
-    /// 6: a job is not covered to the span's end, or a planner's last note is missing.
+    /// A job isn't covered to the end of the span, or a planner's last message is missing.
     Missing,
 }
 
@@ -66,7 +67,7 @@ impl CollectFault {
     ghost use Rattle.std.specs.Prelude.{◌≡◌};
     ghost use Rattle.plan_collect.specs.Causes.{collect_cause};
 
-    /// Its name, as fault lines show it.
+    /// Returns the name of the error, as error lines show it.
     pub fn name(&self) -> &'static str
         ensures { result.now ≡ collect_cause self.now }
     {
@@ -105,8 +106,10 @@ impl From<AllocError> for CollectFault {
     }
 }
 
-/// Keeps the starts of jobs in a span, which planners send piece by piece. A job's number modulo the number of planners is its
-/// planner. Of each job all starts are held from the span's begin to where the job is covered.
+/// Keeps the starts of jobs in a span, which planners send piece by piece.
+///
+/// The planner of a job is the job's number modulo the number of planners. For each job, the collector holds
+/// all starts from the start of the span to the second to which the job is covered.
 #[derive(Drop)]
 pub struct Collector {
     rules: Vec<Arc<Rule>>,
@@ -144,10 +147,13 @@ impl Model for Collector {
 }
 
 impl Collector {
-    /// A collector of the starts of these jobs in a span that holds none yet, for this many planners and at most `limit` starts.
+    /// Makes a collector for the starts of these jobs in a span. It takes messages from this many planners,
+    /// and at most `limit` starts. It holds none yet.
     ///
-    /// Faults, in this order: `BadSize` for other than 1 to 8 planners, `BadLimit` for a limit other than 1 to 1,000,000,
-    /// `NoMemory`.
+    /// # Errors
+    ///
+    /// The first that applies: `BadSize` if the number of planners isn't 1 to 8; `BadLimit` if the limit
+    /// isn't 1 to 1,000,000; `NoMemory` if an allocation failed.
     pub fn new(
         alloc: Global,
         jobs: &Jobs,
@@ -177,23 +183,25 @@ impl Collector {
         })
     }
 
-    /// Takes a note that a planner sent.
+    /// Accepts a message from a planner.
     ///
-    /// Faults, in this order, each for the whole note; the collector stays as it was, and the note is gone:
-    /// `Stranger` where there is no such planner or no such job, or the job is not this planner's, or has another rule;
-    /// `AfterLast` where this planner's last note was accepted before;
-    /// `Gap` where the piece does not begin where its job is covered to, or ends after the span;
-    /// `TooMany` where its starts and those held are more than the limit;
-    /// `NoMemory`, where the note adds starts.
+    /// # Errors
+    ///
+    /// The first of these that applies: `Stranger` if there is no such planner or no such job, or the job is
+    /// another planner's, or has another rule; `AfterLast` if this planner's last message was accepted
+    /// before; `Gap` if the piece doesn't start at the second to which its job is covered, or ends after the
+    /// span; `TooMany` if its starts and those held are more than the limit; `NoMemory` if the message adds
+    /// starts and an allocation failed. The message is then dropped as a whole, and the collector stays as it
+    /// was.
     pub fn accept(&mut self, planner: usize, note: Note) -> Result<(), CollectFault>
         ensures answer { Answers result (refusal self.old planner note) }
         ensures accepted { OnOk result (self.new ≡ after self.old planner note) }
         ensures unchanged { OnErr result (self.new ≡ self.old) }
 
-        // A note that adds no starts asks for no memory.
+        // A message that adds no starts requests no memory.
         ensures spared { AddsNothing note → result ≢ Err CollectFault.NoMemory }
 
-        // Only an agenda that has more entries than the limit is refused for that.
+        // `TooMany` comes only if the agenda has more entries than the limit.
         ensures too_many { result ≡ Err CollectFault.TooMany
             → self.old.limit < length (agenda self.old.rules self.old.span) }
     {
@@ -218,8 +226,12 @@ impl Collector {
         }
     }
 
-    /// The agenda, once each job is covered to the span's end and each planner's last note was accepted; else `Missing`.
-    /// Takes no memory.
+    /// Makes the agenda, once each job is covered to the end of the span and each planner's last message was
+    /// accepted. Requests no memory.
+    ///
+    /// # Errors
+    ///
+    /// `Missing` if a job isn't covered, or a last message is missing.
     pub fn finish(self) -> Result<Agenda, CollectFault>
         ensures agenda { result ≡ finished self }
         ensures few { IfOk result (λ made. length made.entries ≤ self.limit) }
@@ -234,7 +246,7 @@ impl Collector {
         Ok(Agenda::new(span, entries))
     }
 
-    // Whether this planner may send the note.
+    // Returns whether this planner may send the message.
     fn belongs(&self, planner: usize, note: &Note) -> bool
         ensures { result ≡ belongs self.now planner note.now }
     {
@@ -250,7 +262,7 @@ impl Collector {
         }
     }
 
-    // Whether there is a job with this number and this rule.
+    // Returns whether there is a job with this number and this rule.
     fn has_rule(&self, job: usize, rule: &Rule) -> bool
         ensures { result ≡ is_rule_of (slice_get self.now.rules job) rule.now }
     {
@@ -260,14 +272,14 @@ impl Collector {
         }
     }
 
-    // Whether this planner's last note was accepted.
+    // Returns whether this planner's last message was accepted.
     fn has_ended(&self, planner: usize) -> bool
         ensures { result ≡ has_ended self.now planner }
     {
         self.ended.get(planner).copied().unwrap_or(false)
     }
 
-    // Whether a piece begins where its job is covered to, and ends within the span.
+    // Returns whether a piece starts at the second to which its job is covered, and ends within the span.
     fn adjoins(&self, note: &Note) -> bool
         ensures { result ≡ adjoins self.now note.now }
     {
@@ -280,11 +292,12 @@ impl Collector {
         }
     }
 
-    // Whether a piece's starts and those held are not more than the limit.
+    // Returns whether a piece's starts and those held are at most as many as the limit.
     fn has_room(&self, note: &Note) -> bool
         ensures value { result ≡ has_room self.now note.now }
 
-        // Else a piece of a job that is there and adjoins is of an agenda with more entries than the limit.
+        // If not, and the piece belongs to its planner and adjoins, the agenda has more entries than the
+        // limit.
         ensures too_many { (planner : ℕ) → belongs self.now planner note.now ≡ true → adjoins self.now note.now ≡ true
             → result ≡ false → self.now.limit < length (agenda self.now.rules self.now.span) }
     {
@@ -310,7 +323,7 @@ impl Collector {
         Ok(())
     }
 
-    // Marks that this planner's last note was accepted.
+    // Records that this planner's last message was accepted.
     fn end(&mut self, planner: usize)
         requires { planner < length self.old.ended }
         ensures { self.new ≡ record self.old { ended = slice_set self.old.ended planner true } }
@@ -318,14 +331,15 @@ impl Collector {
         self.ended[planner] = true;
     }
 
-    // Whether each job is covered to the span's end, and each planner's last note was accepted.
+    // Returns whether each job is covered to the end of the span, and each planner's last message was
+    // accepted.
     fn is_complete(&self) -> bool
         ensures { result ≡ is_complete self.now }
     {
         self.is_covered() && self.has_all_last()
     }
 
-    // Whether each job is covered to the span's end.
+    // Returns whether each job is covered to the end of the span.
     fn is_covered(&self) -> bool
         ensures { result ≡ list_all (λ upto. upto == self.now.span.upto) self.now.covered }
     {
@@ -333,7 +347,7 @@ impl Collector {
         self.covered.iter().all(|covered| *covered == upto)
     }
 
-    // Whether each planner's last note was accepted.
+    // Returns whether each planner's last message was accepted.
     fn has_all_last(&self) -> bool
         ensures { result ≡ list_all (λ has_sent_last. has_sent_last) self.now.ended }
     {
@@ -341,7 +355,7 @@ impl Collector {
     }
 }
 
-// The rules of jobs, in their order.
+// Returns the rules of jobs, in their order.
 fn rules_in(alloc: Global, jobs: &Jobs) -> Result<Vec<Arc<Rule>>, AllocError>
     ensures rules { IfOk result (λ rules. map (λ rule. arc_value rule) rules.items ≡ rules_of jobs.now) }
     ensures few { IfOk result (λ rules. length rules.items ≤ most_jobs) }
@@ -355,7 +369,7 @@ fn rules_in(alloc: Global, jobs: &Jobs) -> Result<Vec<Arc<Rule>>, AllocError>
     Ok(rules)
 }
 
-// Appends an entry for each start of a job. Where memory is refused, which comes first, nothing is appended.
+// Appends an entry for each start of a job. Memory is allocated first; if that fails, nothing is appended.
 fn append(entries: &mut Vec<Entry>, job: u32, starts: &[u64]) -> Result<(), AllocError>
     requires job { job < job_numbers }
     requires years { IsTrue (list_all (λ second. nat_lt second end_second) starts.now) }

@@ -1,4 +1,4 @@
-//! Entries of an agenda: which second, and which job.
+//! Entries of an agenda: a second and a job.
 
 ghost use Rattle.std.specs.Prelude.{◌≡◌, ◌<◌, ◌≤◌, ◌&&◌, nat_eq};
 ghost use Rattle.std.specs.Cmp.{partial_order_from_own_ties};
@@ -16,7 +16,8 @@ const JOB_NUMBERS: u64 = 1_048_576;
 
 /// A second, and the number of the job that starts then. Entries are ordered by second and then by job.
 ///
-/// Both stand in one number, the second in front, so that an entry takes 8 bytes and two of them are compared at once.
+/// One number holds both, with the second in its upper part. So an entry takes 8 bytes, and two entries are
+/// compared at once.
 #[derive(Clone, Copy, Debug)]
 pub struct Entry {
     number: u64,
@@ -36,7 +37,7 @@ impl Model for Entry {
 }
 
 impl Entry {
-    /// The entry of a second and the number of a job.
+    /// Makes the entry of a second and the number of a job.
     pub fn new(second: u64, job: u32) -> Entry
         requires second { second ≤ end_second }
         requires job { job < job_numbers }
@@ -47,14 +48,14 @@ impl Entry {
         }
     }
 
-    /// The second, since 1970-01-01T00:00:00Z.
+    /// Returns the second, counted from 1970-01-01T00:00:00Z.
     pub fn second(self) -> u64
         ensures { result ≡ self.0 }
     {
         self.number / JOB_NUMBERS
     }
 
-    /// The job's number.
+    /// Returns the job's number.
     pub fn job(self) -> u32
         ensures { result ≡ self.1 }
     {

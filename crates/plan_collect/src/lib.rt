@@ -1,8 +1,8 @@
-//! The agenda of jobs over a span: which job starts when. Planners send pieces of the jobs' starts, a collector checks and keeps
-//! them, and the agenda comes out, by time and then by job.
+//! The agenda of jobs over a span: which job starts when. Planners send pieces of the jobs' starts. A
+//! collector checks and keeps them, and makes the agenda, sorted by time and then by job.
 //!
-//! It stands on plan_rules, whose jobs are planned, and on plan_next, whose pieces are sent. Open `collector` first, then `agenda`;
-//! `plan_fault` says why jobs make no plan. The texts of agendas are made by plan_write.
+//! The crate uses plan_rules for the jobs, and plan_next for the pieces. Read `collector` first, then
+//! `agenda`. `plan_fault` has the errors of a plan. plan_write makes the text of an agenda.
 #![tactic(auto)]
 
 mod agenda;

@@ -1,10 +1,10 @@
-//! The law of mergings: the answer does not depend on the order in which the planners' notes arrive.
+//! The law of mergings: a collector's answer doesn't depend on the order in which the planners' messages
+//! arrive.
 
 ghost use Rattle.plan_collect.specs.Merging.{AcceptsMergings};
 
-/// The law of mergings: whatever the order in which the notes of all planners arrive, a new collector accepts them all and is
-/// complete, or it refuses one for want of room; it never meets a stranger, a gap or a note after a planner's last, and nothing is
-/// missing.
+/// States the law of mergings: in whatever order the messages of all planners arrive, a new collector accepts
+/// them all and is complete, or it rejects one with `TooMany`. No other error comes.
 ///
 /// The function does nothing: its contract is the law.
 pub fn accepts_every_merging()

@@ -1,15 +1,15 @@
-//! What a planner sends.
+//! The messages of planners.
 
 use plan_next::Piece;
 
-/// How many starts a planner's piece has at most.
+/// The maximum number of starts in a planner's piece.
 pub const PIECE_STARTS: usize = 1_024;
 
-/// What a planner sends to the collector.
+/// A message from a planner to the collector.
 #[derive(Debug, Drop)]
 pub enum Note {
     /// A piece of the starts of the job with this number.
     Part(u32, Piece),
-    /// The planner has sent all pieces of its jobs.
+    /// The planner's last message: it has sent all pieces of its jobs.
     Last,
 }

@@ -1,26 +1,28 @@
-//! Why jobs make no plan.
+//! The errors of a plan.
 
 use crate::collector::{CollectFault, CollectorFault};
 use plan_mailbox::NotSettled;
 use plan_next::NoMemory;
 use thiserror::Error;
 
-/// Why there is no plan.
+/// Why a plan can't be made.
 #[derive(Clone, Copy, Debug, PartialEq, Eq, Error)]
 pub enum PlanFault {
-    /// 1: memory was refused.
+    /// An allocation failed.
     #[error("NoMemory")]
     NoMemory,
-    /// 2: there are not 1 to 8 planners, or there is not room for 1 to 1,024 notes.
+    /// The number of planners isn't 1 to 8, or the capacity isn't 1 to 1,024 messages.
     #[error("BadSize")]
     BadSize,
-    /// 3: the collector refused a note, or to finish; never for want of memory, which is `NoMemory`.
+    /// The collector rejected a message, or could not finish. It is never `CollectFault::NoMemory`, which
+    /// becomes `NoMemory`.
     #[error("{0}")]
     Collect(CollectFault),
-    /// 4: what a planner thread sent can't be told, which `Inlet::settle` alone says.
+    /// What a planner's thread sent can't be determined. Only `Inlet::settle` can make this error, and it
+    /// always succeeds.
     #[error("{0}")]
     NotSettled(NotSettled),
-    /// 5: the limit is not 1 to 1,000,000.
+    /// The limit isn't 1 to 1,000,000.
     #[error("BadLimit")]
     BadLimit,
 }

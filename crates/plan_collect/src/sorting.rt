@@ -1,7 +1,8 @@
-//! How entries come into order.
+//! How entries are sorted.
 //!
-//! No contract says where the parts of time lie that entries are sent to: each place is looked at before it is used, and sums wrap. Neither
-//! ever matters. That the entries stay the same is all that is asked of the spread, since the last sort is one of all.
+//! No contract says where the parts of time lie to which entries are moved. So each place is checked before
+//! it is used, and sums wrap; in practice neither matters. Moving entries to parts only has to keep the same
+//! entries, since the last sort is one of all entries.
 
 ghost use Rattle.std.specs.Prelude.{◌≡◌, ◌<◌, IsPermutation, vec_len};
 ghost use Rattle.std.specs.List.Sorted.{IsSorted};
@@ -9,25 +10,28 @@ ghost use Rattle.std.specs.Ordering.{nat_cmp, ordering_then};
 
 use crate::entry::Entry;
 
-// So many entries and more are spread over parts of time before they are sorted.
+// The minimum number of entries that are spread over parts of time before they are sorted.
 const FEWEST_SPREAD: usize = 32_768;
 
-// How many parts there are at most: as many as there are numbers of so many bits.
+// The maximum number of parts: as many as there are numbers of `PART_BITS` bits.
 const MOST_PARTS: usize = 2_048;
 
 const PART_BITS: u32 = 11;
 
-// One of so many entries is looked at to find over which time they lie: a prime, so that it isn't always the same start of each job.
+// One in this many entries is sampled to find the time that the entries cover. It is a prime, so that it
+// isn't always the same start of each job.
 const SAMPLE_STEP: usize = 61;
 
-// How often each part is looked at while entries are sent to theirs. A round closes at least half of the places that are open as it begins: each
-// that it looks at closes one, and each that it passes over was closed in the same round. So none of a million is open after 20.
+// The maximum number of rounds. In a round, the entries of each part are checked, and moved to their parts. A
+// round closes at least half of the places that are open when it starts: each place that it checks closes
+// one, and each that it skips was closed in the same round. So with a million entries, none is open after 20
+// rounds.
 const MOST_ROUNDS: u32 = 24;
 
-/// Sorts entries by second and then by job. Takes no memory.
+/// Sorts entries by second and then by job. Requests no memory.
 ///
-/// Starts arrive job by job. Where there are many of them, they are spread over parts of time, and each part is sorted by itself. The sort of
-/// all after that finds them in order.
+/// Starts arrive job by job. If there are many, they are spread over parts of time, and each part is sorted
+/// by itself. After that, the sort of all entries finds them in order.
 pub(crate) fn sort_entries(entries: &mut Vec<Entry>)
     ensures permutation { IsPermutation entries.old.items entries.new.items }
     ensures len { vec_len entries.new ≡ vec_len entries.old }
@@ -37,8 +41,9 @@ pub(crate) fn sort_entries(entries: &mut Vec<Entry>)
     entries.sort_unstable();
 }
 
-// Sorts each part of time by itself. Few entries, and those that are in order already, as a single job's, are left as they are; so are those of
-// which one part has more than half, for which the sort of all is as good.
+// Sorts each part of time by itself. Leaves the entries as they are if there are few, or if they are in order
+// already, such as those of a single job. Also does so if one part has more than half of them: then the sort
+// of all is as good.
 fn sort_parts(entries: &mut [Entry])
     ensures { IsPermutation entries.old entries.new }
 {
@@ -54,18 +59,18 @@ fn sort_parts(entries: &mut [Entry])
     sort_each(entries, &ends);
 }
 
-// Parts of time that are equally long.
+// Parts of time of equal length.
 #[derive(Clone, Copy)]
 struct Parts {
-    // The second with which the first part begins.
+    // The second at which the first part starts.
     first: u64,
-    // A part is two to the power of this many seconds long.
+    // The length of a part is two to the power of this, in seconds.
     shift: u32,
 }
 
 impl Parts {
-    // The shortest of such parts over the time of these entries, as far as the sample of them shows it. What comes before that time counts to the
-    // first part, and what comes after it to the last.
+    // Returns the shortest such parts that cover the time of these entries, as far as a sample of them shows
+    // it. Entries before that time belong to the first part, and entries after it to the last.
     fn of(entries: &[Entry]) -> Parts {
         let mut first = u64::MAX;
         let mut last = 0;
@@ -78,7 +83,7 @@ impl Parts {
         Parts { first, shift }
     }
 
-    // The part in which an entry lies.
+    // Returns the part that an entry belongs to.
     #[inline(always)]
     fn part_of(self, entry: Entry) -> usize
         ensures { result < MOST_PARTS }
@@ -87,7 +92,7 @@ impl Parts {
         (seconds.wrapping_shr(self.shift) as usize).min(MOST_PARTS - 1)
     }
 
-    // Where each part ends once the entries are spread.
+    // Returns the place at which each part ends once the entries are spread.
     fn ends(self, entries: &[Entry]) -> [u32; MOST_PARTS] {
         let mut ends = [0_u32; MOST_PARTS];
         for entry in entries {
@@ -102,11 +107,12 @@ impl Parts {
         ends
     }
 
-    // Brings each entry to its part.
+    // Moves each entry to its part.
     fn spread(self, entries: &mut [Entry], ends: &[u32; MOST_PARTS])
         ensures { IsPermutation entries.old entries.new }
     {
-        // Of each part the first place that is open: those before it are closed, as each has an entry of the part.
+        // The first open place of each part. The places before it are closed, as each has an entry of the
+        // part.
         let mut open = [0_u32; MOST_PARTS];
         open[1..].copy_from_slice(&ends[..MOST_PARTS - 1]);
         for _ in 0..MOST_ROUNDS {
@@ -122,7 +128,7 @@ impl Parts {
         }
     }
 
-    // Brings each entry at these places to its part.
+    // Moves each entry at these places to its part.
     fn bring(self, entries: &mut [Entry], begin: u32, end: u32, open: &mut [u32; MOST_PARTS])
         ensures { IsPermutation entries.old entries.new }
     {
@@ -131,8 +137,8 @@ impl Parts {
         }
     }
 
-    // Swaps the entry at a place with that at the first open place of its own part, which is closed by that. What comes back is looked at in a later
-    // round, so that hardly a swap waits for the one before.
+    // Swaps the entry at a place with the entry at the first open place of its part, which closes that place.
+    // The entry that comes back is checked in a later round, so that swaps rarely wait for the one before.
     #[inline(always)]
     fn bring_one(self, entries: &mut [Entry], from: usize, open: &mut [u32; MOST_PARTS])
         ensures { IsPermutation entries.old entries.new }
@@ -149,7 +155,7 @@ impl Parts {
     }
 }
 
-// How many entries the part has that has the most.
+// Returns the number of entries of the largest part.
 fn longest(ends: &[u32; MOST_PARTS]) -> usize {
     let mut longest = 0;
     let mut begin = 0;
@@ -171,7 +177,7 @@ fn sort_each(entries: &mut [Entry], ends: &[u32; MOST_PARTS])
     }
 }
 
-// Sorts the entries from `begin` up to `end`, which is excluded.
+// Sorts the entries from `begin` to `end`, which is excluded.
 fn sort_part(entries: &mut [Entry], begin: u32, end: u32)
     ensures { IsPermutation entries.old entries.new }
 {

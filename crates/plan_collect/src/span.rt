@@ -6,13 +6,13 @@ use plan_sets::END_SECOND;
 use std::marker::Model;
 use thiserror::Error;
 
-/// Why two moments bound no span: the first of these that holds.
+/// Why two timestamps make no span: the first that applies.
 #[derive(Clone, Copy, Debug, PartialEq, Eq, Error)]
 #[error("{}", self.name())]
 pub enum SpanFault {
-    /// 1: the span ends before it begins.
+    /// The span ends before it starts.
     Backwards,
-    /// 2: the span ends after `END_SECOND`.
+    /// The span ends after `END_SECOND`.
     OutOfYears,
 }
 
@@ -20,7 +20,7 @@ impl SpanFault {
     ghost use Rattle.std.specs.Prelude.{◌≡◌};
     ghost use Rattle.plan_collect.specs.Causes.{span_cause};
 
-    /// Its name, as fault lines show it.
+    /// Returns the name of the error, as error lines show it.
     pub fn name(&self) -> &'static str
         ensures { result.now ≡ span_cause self.now }
     {
@@ -31,7 +31,8 @@ impl SpanFault {
     }
 }
 
-/// The seconds from one moment on, another excluded, both in seconds since 1970-01-01T00:00:00Z and at most `END_SECOND`.
+/// The seconds from one timestamp to another, which is excluded. Both are in seconds since
+/// 1970-01-01T00:00:00Z, and at most `END_SECOND`.
 #[derive(Clone, Copy, Debug)]
 pub struct Span {
     since: u64,
@@ -53,9 +54,11 @@ impl Model for Span {
 }
 
 impl Span {
-    /// The span from `since` on, `upto` excluded.
+    /// Makes the span from `since` to `upto`, which is excluded.
     ///
-    /// `Backwards` where `upto` comes before `since`, else `OutOfYears` where it comes after `END_SECOND`.
+    /// # Errors
+    ///
+    /// `Backwards` if `upto` is before `since`, else `OutOfYears` if it is after `END_SECOND`.
     pub fn new(since: u64, upto: u64) -> Result<Span, SpanFault>
         ensures span { IfOk result (λ span. span ≡ record { since = since; upto = upto }) }
         ensures backwards { (result ≡ Err SpanFault.Backwards) ↔ (upto < since) }
@@ -70,7 +73,7 @@ impl Span {
         Ok(Span { since, upto })
     }
 
-    /// The second with which the span begins.
+    /// Returns the second at which the span starts.
     pub fn since(self) -> u64
         ensures value { result ≡ self.since }
         ensures ordered { result ≤ self.upto }
@@ -78,7 +81,7 @@ impl Span {
         self.since
     }
 
-    /// The second before which the span ends.
+    /// Returns the second before which the span ends.
     pub fn upto(self) -> u64
         ensures value { result ≡ self.upto }
         ensures ordered { self.since ≤ result }

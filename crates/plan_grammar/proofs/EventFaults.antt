@@ -1,6 +1,7 @@
--- An event's words are never refused for want of memory or for a specifier: no definition gives such a fault.
--- `all_words` is for the clauses `memory` and `specifier` of `calendar_event`. One lemma for each definition of an
--- event's reading, from a component's number up, which is unfolded; TextFaults puts parts together.
+-- The reading of an event's words never has the error that an allocation failed or that there is a specifier: no
+-- definition gives such an error.
+-- `all_words` is for the clauses `memory` and `specifier` of `calendar_event`. There is one lemma for each definition
+-- in the reading of an event, from a component's number up, which it unfolds; TextFaults puts the parts together.
 use Rattle.std.proofs.Common.{ℕ, ◌||◌, not, List, [], ◌∷◌, codes, length, eqb, Option, Some, None}
 use Rattle.std.specs.Str.{str_eq_ignore_ascii_case}
 use Rattle.plan_grammar.specs.declared.fault.RuleCause.TheVariants.{BadName}
@@ -173,7 +174,7 @@ no_zone [] = spelled []
 no_zone (word ∷ []) = lone word (expression_of word)
 no_zone (first ∷ second ∷ others) = spelled (first ∷ second ∷ others)
 
--- the fault of an event's words is the text's
+-- the error of an event's words has a cause that words may have
 pub all_words : (texts : List (List ℕ)) → IsTextFault (words_reading texts)
 unfolding words_reading
 all_words texts = steps (zone_dropped texts) _ (zone texts) (λ left. steps (zoneless left) _ (no_zone left) (λ event. tt))

@@ -10,14 +10,14 @@ use Rattle.plan_grammar.specs.Readings.{Reading, Gives}
 use Rattle.plan_grammar.specs.Cron.{part_of, lowest, highest, item_reading, items_reading, field_reading}
 use Rattle.plan_grammar.specs.Elements.{set_in_part, values_by}
 
--- one byte more before what is one piece
+-- one more byte before a text that is one piece
 one_ahead :
     (x : ℕ) (xs : List ℕ) (pieces : List (List ℕ)) (here later : Bool) → (here || later) ≡ false →
     (later ≡ false → pieces ≡ xs ∷ []) → cond here ([] ∷ pieces) (onto_first x pieces) ≡ (x ∷ xs) ∷ []
 one_ahead x xs pieces true later none rest = absurd (true≢false none)
 one_ahead x xs pieces false later none rest = ap (onto_first x) (rest none)
 
--- where no byte passes the test, the text is the one piece
+-- if no byte passes the test, the text is one piece
 one_piece : (p : ℕ → Bool) (text : List ℕ) → list_any p text ≡ false → slice_split p text ≡ text ∷ []
 one_piece p [] none = refl
 one_piece p (x ∷ xs) none =
@@ -39,7 +39,7 @@ one_item-values field text item none read =
     ap (values_by (part_of field) (λ items. set_reading items (lowest field) (highest field)))
     (one_item field text none ∙ ap (λ r. r >>= λ item. Ok (item ∷ [])) read)
 
--- the fault of a text without a comma is that of its one item
+-- the error of a text without a comma is that of its one item
 pub one_item-fault :
     (field : Field) (text : List ℕ) (fault : RuleFault) → list_any (λ b. b == 44) text ≡ false →
     item_reading field text ≡ Err fault → field_reading field text ≡ Err fault
@@ -48,7 +48,7 @@ one_item-fault field text fault none read =
     ap (values_by (part_of field) (λ items. set_reading items (lowest field) (highest field)))
     (one_item field text none ∙ ap (λ r. r >>= λ item. Ok (item ∷ [])) read)
 
--- an answer that is the reading itself
+-- a result that equals the reading gives it
 pub given : {A : Type 0} (answer reading : Reading A) → reading ≡ answer → Gives answer reading
 given (Ok x) reading is = is
 given (Err fault) reading is = λ kept. is

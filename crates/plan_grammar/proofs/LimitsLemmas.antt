@@ -1,6 +1,6 @@
--- The sets of a rule that is read lie within their fields' limits.
--- For clause `within` of `cron_rule` and `calendar_event`. A set is made of the values of its span that pass a test
--- (`span`), so it lies there; `steps` carries that through each definition of a reading.
+-- The sets of a rule that was read are within the limits of their fields.
+-- For clause `within` of `cron_rule` and `calendar_event`. A set has those values of its span that pass a test
+-- (`span`), so it is within the span; `steps` carries that through each definition of a reading.
 use Rattle.std.proofs.Common.{◌≡◌, ℕ, ◌+◌, ◌-◌, ◌&&◌, Bool, true, false, cond, List, [], ◌∷◌, Option, Some, None, Result, Ok, Err, IfOk, IfSome, refl, arith, subst, sym, ◌∙◌}
 use Rattle.std.proofs.lemmas.Bool.Decides.{nat_tests}
 use Rattle.std.specs.Int.{IsInRange}
@@ -46,7 +46,7 @@ choice : {A : Type 0} (P : A → Type 0) (b : Bool) (x y : Reading A) → IfOk x
 choice P true x y first second = first
 choice P false x y first second = second
 
--- what is true of a reading is true of a call's answer that gives it
+-- if a call's result is this reading, what holds for the reading holds for the result
 pub answered :
     {A : Type 0} (P : A → Type 0) (answer : Result A RuleFault) (reading : Reading A) → Gives answer reading → IfOk reading P →
     IfOk answer P
@@ -62,7 +62,7 @@ both false y is = is
 among : (first count last v : ℕ) → last + 1 ≡ first + count → is_among first count v ≡ true → IsInRange first last v
 among first count last v ends is = (grind (arith, nat_tests), grind (arith, nat_tests))
 
--- the values that pass a test lie in their span
+-- the values that pass a test are within their span
 span : (first count last : ℕ) (test : ℕ → Bool) → last + 1 ≡ first + count → LieWithin first last (values_where first count test)
 span first count last test ends = λ v has.
     among first count last v ends (both (is_among first count v) (test v) (sym (has_value-values_where first count test v) ∙ has))
@@ -72,7 +72,7 @@ unless_fault :
 unless_fault P values None own = own
 unless_fault P values (Some fault) own = tt
 
--- so do the values of items
+-- so are the values of items
 items_within :
     (items : List Item) (first last count : ℕ) → last + 1 - first ≡ count → last + 1 ≡ first + count →
     IfOk (set_reading items first last) (LieWithin first last)
@@ -147,7 +147,7 @@ unfolding rule_reading
 rule [] = tt
 rule (first ∷ others) = choice RuleIsWithinLimits _ _ _ (at_words (first ∷ others)) (fields (first ∷ others))
 
--- the sets of a cron rule that a text means lie within the limits of their fields
+-- the sets of a cron rule that was read are within the limits of their fields
 pub cron : (text : List ℕ) → IfOk (cron_reading text) RuleIsWithinLimits
 cron text = rule (words text)
 
@@ -255,6 +255,6 @@ unfolding words_reading
 all_words texts = then EventIsWithinLimits (zone_dropped texts) _
     (λ left. steps EventIsWithinLimits EventIsWithinLimits (zoneless left) _ (no_zone left) (named (has_zone texts)))
 
--- the sets of a calendar event that a text means lie within the limits of their components
+-- the sets of a calendar event that was read are within the limits of their components
 pub event : (text : List ℕ) → IfOk (event_reading text) EventIsWithinLimits
 event text = choice EventIsWithinLimits (has_specifier text) _ _ tt (all_words (words text))

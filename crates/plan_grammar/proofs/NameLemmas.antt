@@ -1,6 +1,6 @@
 -- How a name is found in a table.
--- For `named_value` of a field, for `at_word`, and for `rule_of` (`other_at_words`). The code searches a table of lent
--- texts, the definition one of texts: by induction over the table both find the same place or row.
+-- For `named_value` of a field, for `at_word`, and for `rule_of` (`other_at_words`). The code searches a table of
+-- borrowed texts, the definition a table of texts. By induction over the table both find the same place or row.
 use Rattle.std.proofs.Common.{◌≡◌, ℕ, ◌+◌, ◌<◌, arith, get_or, Bool, true, false, cond, List, [], ◌∷◌, length, ◌==◌, map, find, position, Option, Some, None, refl, ap, sym, ◌∙◌}
 use Rattle.std.proofs.lemmas.List.{length-map}
 use Rattle.std.specs.List.{prefix_len}
@@ -29,7 +29,7 @@ find-map p v (x ∷ xs) = choice (p (v x)) (find-map p v xs)
     choice b later = elim b as (λ b. option_map v (cond b (Some x) (find (λ y. p (v y)) xs)) ≡ cond b (Some (v x))
         (find p (map v xs))) [ true ↦ refl | false ↦ later ]
 
--- the place of a name among the names that are lent
+-- the place of a name among the borrowed names
 pub named_by_place :
     {A : Type 0} (v : A → List ℕ) (field : Field) (name : List ℕ) (names : List A) (place : Option ℕ) →
     map v names ≡ names_of field → place ≡ position (λ known. str_eq_ignore_ascii_case name (v known)) names →
@@ -42,7 +42,7 @@ twice : {X Y Z : Type 0} (v : X → Y) (w : Y → Z) (o : Option X) → option_m
 twice v w None = refl
 twice v w (Some x) = refl
 
--- what stands beside a word among the words that are lent
+-- what the table has for a word, in the table of borrowed texts
 pub found_by_word :
     {A : Type 0} (v : A → List ℕ × Option (List ℕ)) (word : List ℕ) (known : List A) (found : Option A) → map v known ≡ at_words →
     found ≡ find (λ row. bytes_eq ((v row).0) word) known → option_map (λ row. (v row).1) found ≡ at_word word
@@ -51,7 +51,7 @@ found_by_word v word known found shown is =
     ∙ ap (option_map (λ row. row.1))
     (ap (option_map v) is ∙ find-map (λ row. bytes_eq (row.0) word) v known ∙ ap (find (λ row. bytes_eq (row.0) word)) shown)
 
--- more words than one, of which the first begins with `@`
+-- several words whose first begins with `@`
 pub other_at_words :
     {A : Type 0} (v : A → List ℕ) (words : List A) (d : A) → 1 < length words →
     begins_with (λ b. b == 64) (v (get_or words 0 d)) ≡ true → rule_reading (map v words) ≡ refused 0 UnknownWord

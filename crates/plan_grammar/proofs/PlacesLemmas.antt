@@ -1,6 +1,6 @@
--- The places that a list of items names, looked at one by one.
--- For the loops of `first_fault` (`first_place_fault-push`, `-found`) and of `listed_places` (the rest). Faults go by
--- induction over the items: the first stays the first. Places go by whether a value is the place of the turn.
+-- The places that a list of items stands for, checked one by one.
+-- For the loops of `first_fault` (`first_place_fault-push`, `-found`) and of `listed_places` (the rest). Errors are by
+-- induction over the items: the first error stays the first. Places are a case split on whether a value is the place of the turn.
 use Rattle.std.proofs.Common.{◌≡◌, ℕ, ◌+◌, Bool, true, false, ◌&&◌, ◌||◌, nat_eq, List, [], ◌∷◌, ◌++◌, take, drop, Option, Some, None, refl, ap, sym, ◌∙◌, arith, inl, inr, take-append-drop, ◌⊎◌}
 use Rattle.std.proofs.lemmas.Bool.{cases_eq}
 use Rattle.std.proofs.lemmas.Bool.Decides.{nat_tests}
@@ -19,7 +19,7 @@ cases_fault : (fault : Option SetFault) → (fault ≡ None) ⊎ ((f : SetFault)
 cases_fault None = inl refl
 cases_fault (Some fault) = inr (fault, refl)
 
--- one item more
+-- one more item
 pub first_place_fault-push :
     (items : List Item) (item : Item) → first_place_fault items ≡ None → first_place_fault (items ++ item ∷ []) ≡ place_fault item
 first_place_fault-push [] item none = fault_or-None (place_fault item)
@@ -31,7 +31,7 @@ first_place_fault-push (i ∷ items) item none =
       | inr there ↦ let bad : Some there.0 ≡ None = rw there.1 at none in cc
     ]
 
--- a fault stays the first, whatever follows
+-- the first error stays the first, whatever follows
 first_place_fault-append :
     (items more : List Item) (fault : SetFault) → first_place_fault items ≡ Some fault →
     first_place_fault (items ++ more) ≡ Some fault
@@ -46,7 +46,7 @@ first_place_fault-append (i ∷ items) more fault is =
           rw there.1 same
     ]
 
--- the fault of a list whose items are faultless up to a faulty one
+-- the error of a list whose items have no error before this item
 pub first_place_fault-found :
     (items : List Item) (k : ℕ) (item : Item) (fault : SetFault) → take (k + 1) items ≡ take k items ++ item ∷ [] →
     first_place_fault (take k items) ≡ None → place_fault item ≡ Some fault → first_place_fault items ≡ Some fault
@@ -56,11 +56,11 @@ first_place_fault-found items k item fault more none is =
     ap first_place_fault more ∙ first_place_fault-push (take k items) item none ∙ is in
     ap first_place_fault (sym whole) ∙ first_place_fault-append (take (k + 1) items) (drop (k + 1) items) fault front
 
--- before the first place none is collected
+-- before the first place, nothing is collected
 pub none_yet : (b : Bool) (v : ℕ) → false ≡ (is_among 1 0 v && b)
 none_yet b v = grind (arith, nat_tests)
 
--- one place more that is listed
+-- one more place, which is listed
 pub place_added :
     (b : Bool) (test : ℕ → Bool) (n v : ℕ) → test (n + 1) ≡ true → b ≡ (is_among 1 n v && test v) →
     (nat_eq v (n + 1) || b) ≡ (is_among 1 (n + 1) v && test v)
@@ -70,7 +70,7 @@ place_added b test n v passes is =
       | inr apart ↦ grind (arith, nat_tests)
     ])
 
--- one place more that is not
+-- one more place, which isn't listed
 pub place_passed :
     (b : Bool) (test : ℕ → Bool) (n v : ℕ) → test (n + 1) ≡ false → b ≡ (is_among 1 n v && test v) →
     b ≡ (is_among 1 (n + 1) v && test v)
@@ -80,7 +80,7 @@ place_passed b test n v fails is =
       | inr apart ↦ grind (arith, nat_tests)
     ])
 
--- the places that were collected up to the last
+-- all places up to the last are collected
 pub places_collected :
     (test : ℕ → Bool) (n : ℕ) (places : Values) → places.base ≡ 1 → ((v : ℕ) → has_value places v ≡ (is_among 1 n v && test v)) →
     places ≡ values_where 1 n test

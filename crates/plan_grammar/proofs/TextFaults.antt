@@ -1,6 +1,7 @@
--- No text is refused for want of memory, nor for a specifier once its words are read: no definition gives such a fault.
--- For clause `memory` of `cron_rule`, and for `memory` and `specifier` of `calendar_event`. One lemma for each
--- definition of a cron text's reading, which is unfolded; `steps`, `elements` and `choice` put the parts together.
+-- No reading of a text has the error that an allocation failed, nor, after its words are cut, that it has a specifier:
+-- no definition gives such an error.
+-- For clause `memory` of `cron_rule`, and for `memory` and `specifier` of `calendar_event`. There is one lemma for each
+-- definition in the reading of a cron text, which it unfolds; `steps`, `elements` and `choice` put the parts together.
 use Rattle.std.proofs.Common.{◌≡◌, ◌≢◌, ℕ, Bool, true, false, cond, List, [], ◌∷◌, codes, length, eqb, Option, Some, None, Result, Ok, Err, ok_or, IfErr, ap, subst, inl, inr}
 use Rattle.std.proofs.lemmas.Bool.{cases_eq}
 use Rattle.std.specs.Str.{bytes_eq}
@@ -27,7 +28,7 @@ IsTextCause NoMemory = ⊥
 IsTextCause Specifier = ⊥
 IsTextCause other = Unit {0}
 
--- a reading whose fault, if it has one, is the text's
+-- the error of a reading, if it has one, has such a cause
 abbrev pub IsTextFault : {A : Type 0} → Reading A → Type 0
 IsTextFault (Ok x) = Unit {0}
 IsTextFault (Err fault) = IsTextCause fault.cause
@@ -61,13 +62,13 @@ span value own text None = steps (value text) _ (own text) (λ a. tt)
 span value own text (Some ends) =
     steps (value ends.0) _ (own ends.0) (λ a. steps (value ends.1) _ (own ends.1) (λ b. tt))
 
--- what stands before a step, by how a value is read
+-- what comes before a step, given how a value is read
 pub side_of :
     (value : List ℕ → Reading ℕ) → ((t : List ℕ) → IsTextFault (value t)) → (mark text : List ℕ) →
     IsTextFault (side_by value mark text)
 side_of value own mark text = choice (bytes_eq text (codes "*")) _ _ tt (span value own text (cut_at mark text))
 
--- an element, by how its two sides are read and what they mean
+-- an element, given how its two sides are read and what they mean
 pub cut_item :
     (side : List ℕ → Reading Side) (step : List ℕ → Reading ℕ) (meaning : Side → Option ℕ → Reading Item) →
     ((t : List ℕ) → IsTextFault (side t)) → ((t : List ℕ) → IsTextFault (step t)) →
@@ -156,7 +157,7 @@ rule [] = tt
 rule (first ∷ others) =
     choice (begins_with (λ b. eqb b 64) first) _ _ (at_words (first ∷ others)) (fields (first ∷ others))
 
--- the fault of a cron text is the text's
+-- the error of a cron text has such a cause
 pub cron : (text : List ℕ) → IsTextFault (cron_reading text)
 cron text = rule (words text)
 
@@ -166,7 +167,7 @@ without_cause :
 without_cause cause none (Ok x) fault own is = absurd cc
 without_cause cause none (Err other) fault own is = λ e. let same : other.cause ≡ cause = cc in none (subst IsTextCause same own)
 
--- so a call that gives such a reading answers that memory was refused with no part
+-- so if a call with such a reading fails because of an allocation, its part is 0
 pub part_of_memory :
     {A : Type 0} (answer : Result A RuleFault) (reading : Reading A) → Gives answer reading → IsTextFault reading →
     IfErr answer (λ fault. fault.cause ≡ NoMemory → fault.part ≡ 0)
@@ -178,7 +179,7 @@ part_of_memory (Err fault) reading gives own = λ is.
           (gives (λ same. some (ap (λ (f : RuleFault). f.part) same))) is)
     ]
 
--- and never that there is a specifier
+-- and it never reports a specifier
 pub no_specifier :
     {A : Type 0} (answer : Result A RuleFault) (reading : Reading A) (fault : RuleFault) → Gives answer reading →
     IsTextFault reading → fault.cause ≡ Specifier → answer ≢ Err fault

@@ -1,10 +1,10 @@
--- The names of causes, as `Display` and the lines of faults show them (own).
+-- The names of causes, as `Display` and error lines show them (agenda).
 use Rattle.std.specs.Prelude.{ℕ, List, codes}
 use Rattle.plan_sets.specs.Causes.{set_cause}
 use Rattle.plan_grammar.specs.declared.fault.RuleCause.{RuleCause}
 use Rattle.plan_grammar.specs.declared.fault.RuleCause.TheVariants as rule
 
--- of a rule
+-- the name of the cause of a rule's error
 abbrev pub rule_cause : RuleCause → List ℕ
 rule_cause rule.NoMemory = codes "NoMemory"
 rule_cause rule.WrongParts = codes "WrongParts"

@@ -1,4 +1,4 @@
--- The meaning of a cron text (crontab(5)): a rule, or the first fault with its part.
+-- The meaning of a cron text (crontab(5)): a rule, or the first error with its part.
 use Rattle.std.specs.Prelude.{ℕ, ◌+◌, Bool, not, ◌&&◌, ◌||◌, ◌==◌, if◌then◌else◌, List, [], ◌∷◌, length, find, position, codes, Option, Some, None, Ok, ok_or}
 use Rattle.std.specs.Char.{is_ascii_alphabetic}
 use Rattle.std.specs.Option.{option_map}
@@ -27,7 +27,7 @@ part_of MonthDay = 3
 part_of Month = 4
 part_of WeekDay = 5
 
--- the least value of a field (crontab(5), fields)
+-- the minimum value of a field (crontab(5), fields)
 abbrev pub lowest : Field → ℕ
 lowest Minute = 0
 lowest Hour = 0
@@ -35,7 +35,7 @@ lowest MonthDay = 1
 lowest Month = 1
 lowest WeekDay = 0
 
--- the greatest value of a field (crontab(5), fields; day of week 7 is Sunday too)
+-- the maximum value of a field; day of week 7 is Sunday too (crontab(5), fields)
 abbrev pub highest : Field → ℕ
 highest Minute = 59
 highest Hour = 23
@@ -43,7 +43,7 @@ highest MonthDay = 31
 highest Month = 12
 highest WeekDay = 7
 
--- the names of a field's values, from its least value on (crontab(5), names)
+-- the names of a field's values, in order from its minimum (crontab(5), names)
 abbrev pub names_of : Field → List (List ℕ)
 names_of Month =
     codes "jan" ∷ codes "feb" ∷ codes "mar" ∷ codes "apr" ∷ codes "may" ∷ codes "jun" ∷ codes "jul" ∷ codes "aug"
@@ -52,12 +52,12 @@ names_of WeekDay =
     codes "sun" ∷ codes "mon" ∷ codes "tue" ∷ codes "wed" ∷ codes "thu" ∷ codes "fri" ∷ codes "sat" ∷ []
 names_of other = []
 
--- the value that a name stands for, in any case of its letters (crontab(5), names)
+-- the value of a name, in any case of its letters (crontab(5), names)
 abbrev pub named_value : Field → List ℕ → Option ℕ
 named_value field name =
     option_map (λ place. lowest field + place) (position (str_eq_ignore_ascii_case name) (names_of field))
 
--- a value: a name where it begins with a letter, else a number (crontab(5), names; own: which fault it is)
+-- a value: a name if it begins with a letter, else a number (crontab(5), names; which error it is: (agenda))
 unfoldable pub value_reading : Field → List ℕ → Reading ℕ
 value_reading field text =
     if length text == 0 then refused (part_of field) WrongParts
@@ -69,12 +69,12 @@ value_reading field text =
 unfoldable pub step_reading : Field → List ℕ → Reading ℕ
 step_reading field text = number_reading (part_of field) text
 
--- what stands before a step: `*`, one value, or two values around the first `-` (crontab(5), ranges)
+-- what comes before a step: `*`, one value, or two values with the first `-` between them (crontab(5), ranges)
 unfoldable pub side_reading : Field → List ℕ → Reading Side
 side_reading field text = side_by (value_reading field) (codes "-") text
 
--- the item that an element means, by what stands before its step and its step, if it has one (crontab(5), ranges and
--- steps); a step after one value is refused (own)
+-- the item of an element, from what comes before its step and from the step, if it has one (crontab(5), ranges and
+-- steps); a step after one value is rejected (agenda)
 abbrev pub item_of : Field → Side → Option ℕ → Reading Item
 item_of field Star None = Ok (Range (lowest field) (highest field) 1)
 item_of field Star (Some step) = Ok (Range (lowest field) (highest field) step)
@@ -88,7 +88,7 @@ unfoldable pub item_reading : Field → List ℕ → Reading Item
 item_reading field text =
     cut_item_by (side_reading field) (step_reading field) (item_of field) text (cut_at (codes "/") text)
 
--- the items of a field, by its elements between commas (crontab(5), lists)
+-- the items of a field: its elements are separated by commas (crontab(5), lists)
 unfoldable pub items_reading : Field → List ℕ → Reading (List Item)
 items_reading field text = each (item_reading field) (pieces (byte ",") text)
 
@@ -97,19 +97,19 @@ unfoldable pub field_reading : Field → List ℕ → Reading SetOfValues
 field_reading field text =
     values_by (part_of field) (λ items. set_reading items (lowest field) (highest field)) (items_reading field text)
 
--- whether a day of the week, from 0, Sunday, is among the written days, where 7 is Sunday too (crontab(5), fields)
+-- whether a day of the week, from 0 for Sunday, is among the written days, in which 7 is Sunday too (crontab(5), fields)
 abbrev pub has_week_day : SetOfValues → ℕ → Bool
 has_week_day written day = has_value written day || ((day == 0) && has_value written 7)
 
--- the days of the week from 0, Sunday, to 6
+-- the days of the week, from 0 for Sunday to 6 (crontab(5), fields)
 unfoldable pub week_days_of : SetOfValues → SetOfValues
 week_days_of written = values_where 0 7 (has_week_day written)
 
--- a day field is restricted where its first character isn't `*` (crontab(5), the note on the day of a command's run)
+-- a day field is restricted if its first character isn't `*` (crontab(5), the note on the day of a command's execution)
 abbrev pub is_restricted : List ℕ → Bool
 is_restricted text = not (begins_with (λ b. b == byte "*") text)
 
--- five fields, read from left to right; any other number of words is no rule (crontab(5), fields)
+-- five fields, read from left to right; any other number of words is rejected (crontab(5), fields)
 unfoldable pub five_fields : List (List ℕ) → Reading Rule
 five_fields (minute ∷ hour ∷ month_day ∷ month ∷ week_day ∷ []) = do
   minutes ← field_reading Minute minute
@@ -132,8 +132,7 @@ five_fields (minute ∷ hour ∷ month_day ∷ month ∷ week_day ∷ []) = do
       }))
 five_fields other = refused 0 WrongParts
 
--- the words that begin with `@`, each with the five fields that it stands for (crontab(5), extensions); `@reboot` stands
--- for none
+-- the words that begin with `@`, each with the five fields that it abbreviates (crontab(5), extensions); `@reboot` has no fields
 abbrev pub at_words : List (List ℕ × Option (List ℕ))
 at_words =
     (codes "@yearly", Some (codes "0 0 1 1 *"))
@@ -146,22 +145,22 @@ at_words =
     ∷ (codes "@reboot", None)
     ∷ []
 
--- what a word that begins with `@` stands for; None where it isn't in the table, which is in lower case (own)
+-- what a word that begins with `@` abbreviates; None if it isn't in the table; it must be in lower case, as the table is (agenda)
 abbrev pub at_word : List ℕ → Option (Option (List ℕ))
 at_word word = option_map (λ known. known.1) (find (λ known. bytes_eq known.0 word) at_words)
 
--- the rule of a word that was looked up; without fields it is the rule that never starts a job (own)
+-- the rule of a word that was looked up; if it has no fields, its rule never starts a job (agenda)
 abbrev pub found_reading : Option (Option (List ℕ)) → Reading Rule
 found_reading None = refused 0 UnknownWord
 found_reading (Some None) = Ok Never
 found_reading (Some (Some fields)) = five_fields (words fields)
 
--- a text that begins with `@` is one word of the table
+-- a text that begins with `@` is one word of the table (agenda)
 abbrev pub at_reading : List (List ℕ) → Reading Rule
 at_reading (word ∷ []) = found_reading (at_word word)
 at_reading other = refused 0 UnknownWord
 
--- the words of a rule: an at-word, or five fields
+-- the words of a rule: one word with `@`, or five fields (crontab(5))
 unfoldable pub rule_reading : List (List ℕ) → Reading Rule
 rule_reading [] = refused 0 WrongParts
 rule_reading (first ∷ others) =

@@ -9,18 +9,18 @@ use Rattle.plan_grammar.specs.declared.fault.RuleCause.TheVariants.{NoMemory}
 abbrev pub Reading : Type 0 → Type 0
 Reading A = Result A RuleFault
 
--- the fault of a part of a rule's text (own)
+-- the error of a part of a rule's text (agenda)
 abbrev pub refused : {A : Type 0} → ℕ → RuleCause → Reading A
 refused part cause = Err (record { part = part; cause = cause })
 
--- that memory was refused (own): a fault of no part
+-- an allocation failed: an error with part 0 (agenda)
 abbrev pub memory_refused : RuleFault
 memory_refused = record { part = 0; cause = NoMemory }
 
--- a call's answer, as `view` shows it, is this reading, unless memory was refused (own)
+-- the result of a call, as `view` shows it, is this reading, unless an allocation failed (agenda)
 abbrev pub GivesBy : {A B : Type 0} → (A → B) → Result A RuleFault → Reading B → Type 0
 GivesBy view answer reading = GivesUnless memory_refused view answer reading
 
--- a call's answer is this reading, unless memory was refused
+-- the result of a call is this reading, unless an allocation failed
 abbrev pub Gives : {A : Type 0} → Result A RuleFault → Reading A → Type 0
 Gives answer reading = GivesBy (λ x. x) answer reading

@@ -33,15 +33,15 @@ pub record ShapeText : Type 0 where
   pub date : DateText
   pub time : TimeText
 
--- what the parts of a date lend
+-- the components of a date that the code borrows from the text
 abbrev pub date_text : Date → DateText
 date_text date = record { year = date.year.now; month = date.month.now; day = date.day.now; count = date.count }
 
--- what the parts of a time lend
+-- the components of a time that the code borrows from the text
 abbrev pub time_text : Time → TimeText
 time_text time = record { hour = time.hour.now; minute = time.minute.now; second = time.second.now }
 
--- what the parts of an event lend
+-- the parts of an event that the code borrows from the text
 abbrev pub shape_text : Shape → ShapeText
 shape_text shape = record {
   weekdays = option_map (λ text. text.now) shape.weekdays;
@@ -57,18 +57,18 @@ date_from_start (year ∷ month ∷ day ∷ []) =
     Ok (record { year = year; month = month; day = day; count = FromStart })
 date_from_start other = refused 0 WrongParts
 
--- what stands before `~` is a month, or a year and a month (systemd.time(7), `~`)
+-- before `~` comes a month, or a year and a month (systemd.time(7), `~`)
 abbrev pub date_from_end : List (List ℕ) → List ℕ → Reading DateText
 date_from_end (month ∷ []) day = Ok (record { year = codes "*"; month = month; day = day; count = FromEnd })
 date_from_end (year ∷ month ∷ []) day = Ok (record { year = year; month = month; day = day; count = FromEnd })
 date_from_end other day = refused 0 WrongParts
 
--- a date, cut at its first `~` or not cut
+-- a date, which is cut at its first `~` if it has one (systemd.time(7), `~`)
 abbrev pub cut_date : List ℕ → Option (List ℕ × List ℕ) → Reading DateText
 cut_date text None = date_from_start (pieces (byte "-") text)
 cut_date text (Some cut) = date_from_end (pieces (byte "-") (cut.0)) (cut.1)
 
--- a date
+-- a date (systemd.time(7))
 unfoldable pub date_reading : List ℕ → Reading DateText
 date_reading text = cut_date text (cut_at (codes "~") text)
 
@@ -78,7 +78,7 @@ time_of_pieces (hour ∷ minute ∷ []) = Ok (record { hour = hour; minute = min
 time_of_pieces (hour ∷ minute ∷ second ∷ []) = Ok (record { hour = hour; minute = minute; second = second })
 time_of_pieces other = refused 0 WrongParts
 
--- a time of day
+-- a time of day, with `:` between its pieces (systemd.time(7))
 unfoldable pub time_reading : List ℕ → Reading TimeText
 time_reading text = time_of_pieces (pieces (byte ":") text)
 
@@ -90,11 +90,11 @@ every_day = record { year = codes "*"; month = codes "*"; day = codes "*"; count
 abbrev pub midnight : TimeText
 midnight = record { hour = codes "00"; minute = codes "00"; second = codes "00" }
 
--- a word with `:` in it is a time, and any other a date
+-- a word that contains `:` is a time, any other word is a date (systemd.time(7))
 abbrev pub is_time : List ℕ → Bool
 is_time word = list_any (λ b. b == byte ":") word
 
--- a word that stands alone after the weekday part
+-- a single word after the weekday part: a time or a date
 abbrev pub one_word : Option (List ℕ) → List ℕ → Reading ShapeText
 one_word weekdays word =
     if is_time word
@@ -108,14 +108,14 @@ two_words weekdays first second =
     then refused 0 WrongParts
     else (date_reading first >>= λ date. time_reading second >>= λ time. Ok (record { weekdays = weekdays; date = date; time = time }))
 
--- the words after the weekday part, of which there are at most two
+-- the words after the weekday part: at most two (systemd.time(7))
 unfoldable pub dated : Option (List ℕ) → List (List ℕ) → Reading ShapeText
 dated weekdays [] = Ok (record { weekdays = weekdays; date = every_day; time = midnight })
 dated weekdays (word ∷ []) = one_word weekdays word
 dated weekdays (first ∷ second ∷ []) = two_words weekdays first second
 dated weekdays other = refused 0 WrongParts
 
--- a first word that begins with a letter is the weekday part; no word at all is no event (own)
+-- a first word that begins with a letter is the weekday part; no words at all are rejected (agenda)
 unfoldable pub shape_reading : List (List ℕ) → Reading ShapeText
 shape_reading [] = refused 0 WrongParts
 shape_reading (first ∷ others) =

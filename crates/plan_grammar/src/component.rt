@@ -1,4 +1,5 @@
-//! The components of a calendar event: their limits, and the values that a component's text admits (systemd.time(7)).
+//! The components of a calendar event: their limits, and the values that a component's text stands for
+//! (systemd.time(7)).
 
 ghost use Rattle.std.specs.Prelude.{◌≡◌, ◌<◌, ◌^◌, IfOk};
 ghost use Rattle.plan_texts.specs.Limits.{most_digits};
@@ -27,7 +28,7 @@ pub enum Component {
 }
 
 impl Component {
-    // The part of the text that the component is.
+    // Returns the number of the component's part of the text.
     fn part(self) -> u8
         ensures { result ≡ component_part self }
     {
@@ -41,7 +42,7 @@ impl Component {
         }
     }
 
-    // The least value of the component.
+    // Returns the minimum value of the component.
     fn lowest(self) -> u16
         ensures { result ≡ least_of self }
     {
@@ -52,7 +53,7 @@ impl Component {
         }
     }
 
-    // The greatest value of the component.
+    // Returns the maximum value of the component.
     fn highest(self) -> u16
         ensures { result ≡ greatest_of self }
     {
@@ -65,7 +66,7 @@ impl Component {
         }
     }
 
-    // A fault of this component.
+    // Returns an error of this component.
     fn fault(self, cause: RuleCause) -> RuleFault
         ensures part { result.part ≡ component_part self }
         ensures cause { result.cause ≡ cause }
@@ -76,7 +77,7 @@ impl Component {
         }
     }
 
-    // A number, of which a second's may hold no fraction.
+    // Reads a number. A number of seconds must not have a fraction.
     #[tactic(auto, unfolding(crate::specs::Event::component_number))]
     fn number(self, text: &[u8]) -> Result<u16, RuleFault>
         ensures value { result ≡ component_number self text.now }
@@ -88,7 +89,7 @@ impl Component {
         }
     }
 
-    // A value; a year of one or two digits lies from 1970 to 2069.
+    // Reads a value. A year of one or two digits is from 1970 to 2069.
     #[tactic(auto, unfolding(crate::specs::Event::component_value))]
     fn value(self, text: &[u8]) -> Result<u16, RuleFault>
         ensures { result ≡ component_value self text.now }
@@ -100,7 +101,7 @@ impl Component {
         }
     }
 
-    // What stands before the step of an element.
+    // Reads what comes before the step of an element.
     #[tactic(auto, unfolding(crate::specs::Event::component_side))]
     fn side(self, text: &[u8]) -> Result<Side, RuleFault>
         ensures { result ≡ component_side self text.now }
@@ -116,7 +117,7 @@ impl Component {
         Ok(Side::Between(first, last))
     }
 
-    // The item of an element, by what stands before its step and by its step.
+    // Returns the item of an element. `side` is what comes before its step.
     fn item_of(self, side: Side, step: Option<u16>) -> Result<Item, RuleFault>
         ensures { result ≡ component_item_of self side step }
     {
@@ -126,7 +127,7 @@ impl Component {
         }
     }
 
-    // The item of an element that may have a step.
+    // Returns the item of an element that may have a step.
     fn spread(self, side: Side, step: Option<u16>) -> Item
         ensures { result ≡ spread_item self side step }
     {
@@ -139,7 +140,7 @@ impl Component {
         }
     }
 
-    // An element of the component.
+    // Reads an element of the component.
     #[tactic(auto, unfolding(crate::specs::Event::component_item))]
     fn item(self, text: &[u8]) -> Result<Item, RuleFault>
         ensures { result ≡ component_item self text.now }
@@ -152,7 +153,7 @@ impl Component {
         self.item_of(side, Some(step))
     }
 
-    // The items of the component, between commas.
+    // Reads the elements of the component, which commas separate.
     #[tactic(auto, unfolding(crate::specs::Event::component_items))]
     fn items(self, alloc: Global, text: &[u8]) -> Result<Vec<Item>, RuleFault>
         ensures { GivesBy (λ items. items.items) result (component_items self text.now) }
@@ -164,7 +165,7 @@ impl Component {
         Ok(items)
     }
 
-    // The set that the items of the component mean.
+    // Returns the set of the values of the component's items.
     fn set_of_items(self, items: &[Item]) -> Result<ValueSet, SetFault>
         ensures { result ≡ component_set self items.now }
     {
@@ -174,7 +175,11 @@ impl Component {
         }
     }
 
-    /// The values that the component's text admits.
+    /// Returns the values that the component's text stands for.
+    ///
+    /// # Errors
+    ///
+    /// Those that `calendar_event` describes for a part.
     #[tactic(auto, unfolding(crate::specs::Event::component_reading))]
     pub fn values(self, alloc: Global, text: &[u8]) -> Result<ValueSet, RuleFault>
         ensures { Gives result (component_reading self text.now) }
@@ -187,7 +192,7 @@ impl Component {
     }
 }
 
-// The year that a number stands for, by the text that it was written with.
+// Returns the year that a number stands for. `text` is how the number was written.
 fn full_year(text: &[u8], number: u16) -> u16
     requires { number < 10 ^ most_digits }
     ensures { result ≡ full_year text.now number }

@@ -1,4 +1,4 @@
-//! Cron rules, and how their texts are read (crontab(5)).
+//! Parses cron rules (crontab(5)).
 
 ghost use Rattle.std.specs.Prelude.{◌≡◌, IfErr, IfOk, map};
 ghost use Rattle.std.specs.Option.{option_map};
@@ -14,8 +14,8 @@ use plan_sets::ValueSet;
 use plan_texts::{begins_with, words};
 use std::alloc::Global;
 
-// The words that begin with `@`, each with the five fields that it stands for (crontab(5), extensions). `@reboot` stands for
-// none.
+// The words that begin with `@`, each with the five fields that it abbreviates (crontab(5), extensions).
+// `@reboot` has no fields.
 static AT_WORDS: [(&str, Option<&str>); 8] = [
     ("@yearly", Some("0 0 1 1 *")),
     ("@annually", Some("0 0 1 1 *")),
@@ -27,31 +27,39 @@ static AT_WORDS: [(&str, Option<&str>); 8] = [
     ("@reboot", None),
 ];
 
-/// The fault of a text that hasn't five fields.
+/// The error of a text that doesn't have five fields.
 pub const WRONG_PARTS: RuleFault = RuleFault {
     part: 0,
     cause: RuleCause::WrongParts,
 };
 
-// The fault of a text that begins with `@` and is no word of the table.
+// The error of a text that begins with `@` and isn't a word of the table.
 const UNKNOWN_WORD: RuleFault = RuleFault {
     part: 0,
     cause: RuleCause::UnknownWord,
 };
 
-/// The rule that a text means: five fields with blanks between and around them, or one of the words `@yearly`, `@annually`,
-/// `@monthly`, `@weekly`, `@daily`, `@midnight`, `@hourly` and `@reboot` (crontab(5)). Months and days of the week may be named.
+/// Parses a cron rule (crontab(5)).
 ///
-/// The fault is the first of these, with its part: `UnknownWord`, part 0, where the text begins with `@` and is no such word;
-/// `WrongParts`, part 0, where it hasn't five fields; then those of the fields, from left to right, with the field's number
-/// from 1.
+/// The text has five fields with blanks between and around them, or is one of the words `@yearly`, `@annually`,
+/// `@monthly`, `@weekly`, `@daily`, `@midnight`, `@hourly` and `@reboot`. Months and days of the week may be
+/// written as names.
 ///
-/// In a field the first element whose form is faulty decides, and in it the first value, then the second, then the step, then
-/// that a step may not follow one value. `WrongParts` is an empty value or step, and a step after one value; `BadName` is a
-/// value that begins with a letter and is no name of the field; `BadNumber` is any other value, or a step, that isn't 1 to 4
-/// digits. Where all forms are right, `Values` holds what `plan_sets::set_of` finds wrong with the field's items.
+/// # Errors
 ///
-/// `NoMemory`, part 0, can come before a fault that isn't found yet.
+/// The first of these, with its part:
+///
+/// - `UnknownWord`, part 0: the text begins with `@` and isn't one of those words.
+/// - `WrongParts`, part 0: the text doesn't have five fields.
+/// - The errors of the fields, from left to right. The part is the field's number, from 1.
+///
+/// In a field, the first element with an invalid form decides. The checks in it are in this order: the first
+/// value, the second value, the step, and then whether a step is allowed there. `WrongParts` is an empty value
+/// or step, or a step after one value. `BadName` is a value that begins with a letter and isn't a name of the
+/// field. `BadNumber` is any other value, or a step, that isn't 1 to 4 digits. If all forms are valid, `Values`
+/// has the error that `plan_sets::set_of` finds in the field's items.
+///
+/// `NoMemory`, part 0, means that an allocation failed. It can come before an error that isn't found yet.
 pub fn cron_rule(alloc: Global, text: &str) -> Result<Rule, RuleFault>
     ensures meaning { Gives result (cron_reading text.now) }
     ensures within { IfOk result RuleIsWithinLimits }
@@ -61,7 +69,7 @@ pub fn cron_rule(alloc: Global, text: &str) -> Result<Rule, RuleFault>
     rule_of(alloc, words.as_slice())
 }
 
-// The rule of a text's words.
+// Parses the words of a rule.
 #[tactic(auto, unfolding(crate::specs::Cron::rule_reading))]
 fn rule_of(alloc: Global, words: &[&[u8]]) -> Result<Rule, RuleFault>
     ensures { Gives result (rule_reading (map (λ word. word.now) words.now)) }
@@ -78,14 +86,14 @@ fn rule_of(alloc: Global, words: &[&[u8]]) -> Result<Rule, RuleFault>
     at_rule(alloc, first)
 }
 
-// The table of the words that begin with `@`.
+// Returns the table of the words that begin with `@`.
 fn at_words() -> &'static [(&'static str, Option<&'static str>)]
     ensures { map (λ row. (row.0.now, option_map (λ text. text.now) row.1)) result.now ≡ at_words }
 {
     &AT_WORDS
 }
 
-// What a word that begins with `@` stands for, or `None` where it isn't in the table.
+// Returns what a word that begins with `@` abbreviates, or `None` if it isn't in the table.
 fn at_word(word: &[u8]) -> Option<Option<&'static str>>
     ensures { option_map (λ fields. option_map (λ text. text.now) fields) result ≡ at_word word.now }
 {
@@ -95,7 +103,11 @@ fn at_word(word: &[u8]) -> Option<Option<&'static str>>
     Some(*fields)
 }
 
-/// The rule of a word that begins with `@` (crontab(5), extensions). Faults as of `cron_rule`.
+/// Returns the rule of a word that begins with `@` (crontab(5), extensions).
+///
+/// # Errors
+///
+/// Those of `cron_rule`.
 pub fn at_rule(alloc: Global, word: &[u8]) -> Result<Rule, RuleFault>
     ensures { Gives result (found_reading (at_word word.now)) }
 {
@@ -109,7 +121,11 @@ pub fn at_rule(alloc: Global, word: &[u8]) -> Result<Rule, RuleFault>
     five_fields(alloc, fields.as_slice())
 }
 
-/// The rule of five fields. Faults as of `cron_rule`.
+/// Parses a rule of five fields.
+///
+/// # Errors
+///
+/// Those of `cron_rule`.
 #[tactic(auto, unfolding(crate::specs::Cron::five_fields))]
 pub fn five_fields(alloc: Global, fields: &[&[u8]]) -> Result<Rule, RuleFault>
     ensures { Gives result (five_fields (map (λ field. field.now) fields.now)) }
@@ -130,7 +146,7 @@ pub fn five_fields(alloc: Global, fields: &[&[u8]]) -> Result<Rule, RuleFault>
     }))
 }
 
-// The days of a week from 0, Sunday, to 6.
+// Returns the days of the week, from 0 for Sunday to 6.
 fn week_days(written: &ValueSet) -> ValueSet
     ensures { result ≡ week_days_of written.now }
 {
@@ -143,7 +159,7 @@ fn week_days(written: &ValueSet) -> ValueSet
     days
 }
 
-// Whether a day of the week from 0, Sunday, to 6 was written; 7 is Sunday too.
+// Returns whether a day of the week, from 0 for Sunday to 6, is among the written days, in which 7 is Sunday too.
 fn has_week_day(written: &ValueSet, day: u16) -> bool
     ensures { result ≡ has_week_day written.now day }
 {

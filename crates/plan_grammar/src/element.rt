@@ -1,4 +1,4 @@
-//! The elements of a list: what stands before a step, and the numbers in them.
+//! The elements of a list: what comes before the step, and the numbers in them.
 
 ghost use Rattle.std.specs.Prelude.{◌≡◌, ◌<◌, ◌^◌, IfOk};
 ghost use Rattle.plan_texts.specs.Limits.{most_digits};
@@ -7,7 +7,7 @@ ghost use Rattle.plan_grammar.specs.Elements.{number_reading};
 use crate::fault::{RuleCause, RuleFault};
 use plan_texts::number;
 
-/// What stands before the step of an element.
+/// What comes before the step of an element.
 #[derive(Clone, Copy)]
 pub(crate) enum Side {
     /// `*`.
@@ -18,7 +18,11 @@ pub(crate) enum Side {
     Between(u16, u16),
 }
 
-/// The number that a part of a rule's text writes: `WrongParts` where the text is empty, else `BadNumber` where it is none.
+/// Returns the number that a part of a rule's text writes.
+///
+/// # Errors
+///
+/// `WrongParts` if the text is empty, `BadNumber` if it isn't a number.
 pub(crate) fn number_in(part: u8, text: &[u8]) -> Result<u16, RuleFault>
     ensures value { result ≡ number_reading part text.now }
     ensures small { IfOk result (λ n. n < 10 ^ most_digits) }

@@ -1,4 +1,4 @@
-//! Calendar events, and how their texts are read (systemd.time(7)).
+//! Parses calendar events (systemd.time(7)).
 
 ghost use Rattle.std.specs.Prelude.{◌≡◌, ◌↔◌, IfErr, IfOk, IsTrue, codes, map};
 ghost use Rattle.std.specs.Char.{is_ascii_alphabetic};
@@ -21,25 +21,34 @@ use plan_sets::ValueSet;
 use plan_texts::{begins_with_letter, words};
 use std::alloc::Global;
 
-/// The calendar event that a text means (systemd.time(7)): weekdays, a date, a time of day and the zone `UTC`, each of
-/// which may be missing; or one of the words `minutely`, `hourly`, `daily`, `weekly`, `monthly`, `quarterly`, `semiannually`,
-/// `yearly` and `annually`.
+/// Parses a calendar event (systemd.time(7)).
 ///
-/// The fault is the first of these, with its part. `Specifier`, part 0: a `%` anywhere. `WrongParts`, part 0: no word.
-/// `Zone`, part 8: a last word of several that begins with a letter and isn't `UTC`. `UnknownWord`, part 0: one word of
-/// letters alone that is neither one of those words nor a weekday. `WrongParts`, part 0: any other shape. Then those of the
-/// weekdays, part 1, and of the year, month, day, hour, minute and second, parts 2 to 7.
+/// The text has weekdays, a date, a time of day and the zone `UTC`. Each may be missing. Or it is one of the words
+/// `minutely`, `hourly`, `daily`, `weekly`, `monthly`, `quarterly`, `semiannually`, `yearly` and `annually`.
 ///
-/// In each part the first element that is faulty in its form decides: `WrongParts` is an empty name, value or step, or a
-/// step after `*` in days from the month's end; `BadName` is an unknown weekday; `Fraction` is a second or its step with a
-/// `.` in it; `BadNumber` is any other value or step that isn't 1 to 4 digits. Only then `Values` holds the fault of the
-/// items, as `plan_sets::set_of` finds it; but a range of days from the month's end may run either way.
+/// # Errors
 ///
-/// `NoMemory`, part 0, can come before a fault that isn't found yet.
+/// The first of these, with its part:
+///
+/// - `Specifier`, part 0: a `%` anywhere.
+/// - `WrongParts`, part 0: no word.
+/// - `Zone`, part 8: there are several words, and the last begins with a letter and isn't `UTC`.
+/// - `UnknownWord`, part 0: one word of letters only, which is neither one of those words nor a weekday.
+/// - `WrongParts`, part 0: any other shape.
+/// - The errors of the weekdays, part 1, and then of the year, month, day, hour, minute and second, parts 2
+///   to 7.
+///
+/// In each part, the first element with an invalid form decides. `WrongParts` is an empty name, value or step,
+/// or a step after `*` in days from the end of the month. `BadName` is an unknown weekday. `Fraction` is a
+/// second, or its step, that contains a `.`. `BadNumber` is any other value or step that isn't 1 to 4 digits.
+/// If all forms are valid, `Values` has the error that `plan_sets::set_of` finds in the items. But a range of
+/// days from the end of the month may run in either direction.
+///
+/// `NoMemory`, part 0, means that an allocation failed. It can come before an error that isn't found yet.
 pub fn calendar_event(alloc: Global, text: &str) -> Result<Calendar, RuleFault>
     ensures meaning { Gives result (event_reading text.now) }
     ensures within { IfOk result EventIsWithinLimits }
-    // A specifier is found before any memory is asked for.
+    // A specifier is found before any memory is requested.
     ensures specifier { (result ≡ Err (record { part = 0; cause = RuleCause.Specifier }))
         ↔ IsTrue (has_specifier text.now) }
     ensures memory { IfErr result (λ fault. fault.cause ≡ RuleCause.NoMemory → fault.part ≡ 0) }
@@ -54,7 +63,11 @@ pub fn calendar_event(alloc: Global, text: &str) -> Result<Calendar, RuleFault>
     event_of_words(alloc, words.as_slice())
 }
 
-/// The rule of the one calendar event that a text means. Its faults are those of `calendar_event`.
+/// Returns the rule of one calendar event.
+///
+/// # Errors
+///
+/// Those of `calendar_event`.
 pub fn calendar_rule(alloc: Global, text: &str) -> Result<Rule, RuleFault>
     ensures meaning { Gives result (event_rule_reading text.now) }
     ensures within { IfOk result RuleIsWithinLimits }
@@ -66,7 +79,7 @@ pub fn calendar_rule(alloc: Global, text: &str) -> Result<Rule, RuleFault>
     Ok(Rule::Events(Events::one(alloc, event)?))
 }
 
-// The event of a text's words.
+// Parses the words of an event.
 #[tactic(auto, unfolding(crate::specs::Event::words_reading))]
 fn event_of_words(alloc: Global, words: &[&[u8]]) -> Result<Calendar, RuleFault>
     ensures { Gives result (words_reading (map (λ word. word.now) words.now)) }
@@ -76,7 +89,7 @@ fn event_of_words(alloc: Global, words: &[&[u8]]) -> Result<Calendar, RuleFault>
     Ok(with_own_zone(event, has_zone(words)))
 }
 
-// The event with a zone of its own, or without.
+// Sets whether the event names its own zone.
 fn with_own_zone(event: Calendar, names_zone: bool) -> Calendar
     ensures { result ≡ with_own_zone names_zone event }
 {
@@ -86,7 +99,7 @@ fn with_own_zone(event: Calendar, names_zone: bool) -> Calendar
     }
 }
 
-// Whether the last of the words is a zone: it isn't the first, and begins with a letter.
+// Returns whether the last word is a zone: it isn't the first word, and begins with a letter.
 fn has_zone(words: &[&[u8]]) -> bool
     ensures { result ≡ has_zone (map (λ word. word.now) words.now) }
 {
@@ -96,7 +109,7 @@ fn has_zone(words: &[&[u8]]) -> bool
     }
 }
 
-// The words before the zone, which is the last word where it isn't the first and begins with a letter.
+// Returns the words before the zone. The last word is a zone if it isn't the first word and begins with a letter.
 #[tactic(auto, unfolding(crate::specs::Event::zone_dropped))]
 fn without_zone<'w, 't>(words: &'w [&'t [u8]]) -> Result<&'w [&'t [u8]], RuleFault>
     ensures { GivesBy (λ left. map (λ word. word.now) left.now) result
@@ -117,14 +130,14 @@ fn without_zone<'w, 't>(words: &'w [&'t [u8]]) -> Result<&'w [&'t [u8]], RuleFau
     })
 }
 
-// Whether a zone is UTC, in any case.
+// Returns whether a zone is UTC. Upper and lower case are the same.
 fn is_utc(zone: &[u8]) -> bool
     ensures { result ≡ str_eq_ignore_ascii_case zone.now (codes "utc") }
 {
     zone.eq_ignore_ascii_case(b"utc")
 }
 
-// The event of words without a zone, of which one alone may stand for an expression.
+// Parses words without a zone. A single word may abbreviate an expression.
 #[tactic(auto, unfolding(crate::specs::Event::zoneless))]
 fn zoneless(alloc: Global, words: &[&[u8]]) -> Result<Calendar, RuleFault>
     ensures { Gives result (zoneless (map (λ word. word.now) words.now)) }
@@ -144,7 +157,7 @@ fn zoneless(alloc: Global, words: &[&[u8]]) -> Result<Calendar, RuleFault>
     spelled_out(alloc, words)
 }
 
-// The event of an expression that a word stands for.
+// Parses the expression that a word abbreviates.
 fn event_of_expression(alloc: Global, expression: &[u8]) -> Result<Calendar, RuleFault>
     ensures { Gives result (spelled_out (words expression.now)) }
 {
@@ -152,7 +165,7 @@ fn event_of_expression(alloc: Global, expression: &[u8]) -> Result<Calendar, Rul
     spelled_out(alloc, words.as_slice())
 }
 
-// The expression that a word stands for, in any case.
+// Returns the expression that a word abbreviates. Upper and lower case are the same.
 #[tactic(auto, unfolding(crate::specs::Event::expression_of))]
 fn expression(word: &[u8]) -> Option<&'static [u8]>
     ensures { option_map (λ text. text.now) result ≡ expression_of word.now }
@@ -178,21 +191,21 @@ fn expression(word: &[u8]) -> Option<&'static [u8]>
     }
 }
 
-// Whether a word is made of letters alone and names no weekday.
+// Returns whether a word has only letters and isn't a weekday.
 fn is_unknown_word(word: &[u8]) -> bool
     ensures { result ≡ is_unknown_word word.now }
 {
     is_of_letters(word) && weekday_of(word).is_none()
 }
 
-// Whether a word is made of ASCII letters alone.
+// Returns whether a word has only ASCII letters.
 fn is_of_letters(word: &[u8]) -> bool
     ensures { result ≡ list_all is_ascii_alphabetic word.now }
 {
     word.iter().all(|byte| byte.is_ascii_alphabetic())
 }
 
-// The event of words that spell it out.
+// Parses words that spell out an event.
 #[tactic(auto, unfolding(crate::specs::Event::spelled_out))]
 fn spelled_out(alloc: Global, words: &[&[u8]]) -> Result<Calendar, RuleFault>
     ensures { Gives result (spelled_out (map (λ word. word.now) words.now)) }
@@ -201,7 +214,7 @@ fn spelled_out(alloc: Global, words: &[&[u8]]) -> Result<Calendar, RuleFault>
     event_of(alloc, shape)
 }
 
-// The event of a shape.
+// Returns the event of a shape.
 #[tactic(auto, unfolding(crate::specs::Event::event_of))]
 fn event_of(alloc: Global, shape: Shape<'_>) -> Result<Calendar, RuleFault>
     ensures { Gives result (event_of (shape_text shape.entry)) }
@@ -221,7 +234,7 @@ fn event_of(alloc: Global, shape: Shape<'_>) -> Result<Calendar, RuleFault>
     })
 }
 
-// The weekdays, where there is a weekday part.
+// Returns the weekdays, if there is a weekday part.
 fn weekdays_if_given(alloc: Global, text: Option<&[u8]>) -> Result<Option<ValueSet>, RuleFault>
     ensures { Gives result (weekdays_if_given (option_map (λ text. text.now) text.entry)) }
 {
@@ -231,7 +244,7 @@ fn weekdays_if_given(alloc: Global, text: Option<&[u8]>) -> Result<Option<ValueS
     Ok(Some(weekdays(alloc, text)?))
 }
 
-// The component that a text of days is.
+// Returns the component that reads the days: they count from the start or from the end of the month.
 fn day_component(count: DayCount) -> Component
     ensures { result ≡ day_component count }
 {

@@ -1,4 +1,4 @@
-//! Why a text is no rule.
+//! The errors in the text of a rule.
 
 use plan_sets::SetFault;
 use std::alloc::{AllocError, AllocFailed};
@@ -8,23 +8,23 @@ use thiserror::Error;
 #[derive(Clone, Copy, Debug, PartialEq, Eq, Error)]
 #[error("{}", self.name())]
 pub enum RuleCause {
-    /// 1: memory was refused; its part is 0.
+    /// An allocation failed; its part is 0.
     NoMemory,
-    /// 2: a part is missing, empty, or not allowed where it stands.
+    /// A part is missing, empty, or not allowed at its place.
     WrongParts,
-    /// 3: a value or a step is no number of 1 to 4 digits.
+    /// A value or a step isn't a number of 1 to 4 digits.
     BadNumber,
-    /// 4: a name isn't known where it stands. In a field of a crontab a value that begins with a letter is a name.
+    /// A name is unknown at its place. In a field of a crontab, a value that begins with a letter is a name.
     BadName,
-    /// 5: the values of a part are no set.
+    /// The values of a part don't make a valid set.
     Values(SetFault),
-    /// 6: a second, or its step, is written with a fraction.
+    /// A second, or its step, has a fraction.
     Fraction,
-    /// 7: the time zone isn't UTC.
+    /// The time zone isn't UTC.
     Zone,
-    /// 8: a word that stands for a whole rule isn't known.
+    /// A word that abbreviates a whole rule, such as `@daily`, is unknown.
     UnknownWord,
-    /// 9: the text holds a specifier, which begins with `%`.
+    /// The text contains a specifier, which begins with `%`.
     Specifier,
 }
 
@@ -32,7 +32,7 @@ impl RuleCause {
     ghost use Rattle.std.specs.Prelude.{◌≡◌};
     ghost use Rattle.plan_grammar.specs.Causes.{rule_cause};
 
-    /// Its name, as fault lines show it; that of values is the name of what is wrong with their set.
+    /// Returns its name, as error lines show it. The name of `Values` is that of its `SetFault`.
     pub fn name(&self) -> &'static str
         ensures { result.now ≡ rule_cause self.now }
     {
@@ -50,13 +50,13 @@ impl RuleCause {
     }
 }
 
-/// The first fault of a rule's text.
+/// The first error in a rule's text.
 #[derive(Clone, Copy, Debug, PartialEq, Eq, Error)]
 #[error("{cause}")]
 pub struct RuleFault {
-    /// The part of the text, from 1; 0 is the whole text.
+    /// The part of the text, from 1, or 0 for the whole text.
     pub part: u8,
-    /// What is wrong with it.
+    /// What is wrong with the part.
     pub cause: RuleCause,
 }
 

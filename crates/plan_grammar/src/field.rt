@@ -1,4 +1,4 @@
-//! The five fields of a cron rule: their limits, and the values that a field's text admits.
+//! The five fields of a cron rule: their limits, and the values that a field's text stands for.
 
 ghost use Rattle.std.specs.Prelude.{◌≡◌, Bool, IsTrue, map};
 ghost use Rattle.std.specs.Str.{bytes_eq};
@@ -13,12 +13,12 @@ use plan_sets::{Item, ValueSet, set_of};
 use plan_texts::{begins_with, cut, number};
 use std::alloc::Global;
 
-// The names of the months, from 1 on (crontab(5), names).
+// The names of the months, from 1 for January (crontab(5), names).
 const MONTHS: [&str; 12] = [
     "jan", "feb", "mar", "apr", "may", "jun", "jul", "aug", "sep", "oct", "nov", "dec",
 ];
 
-// The names of the days of a week, from 0 on (crontab(5), names).
+// The names of the days of the week, from 0 for Sunday (crontab(5), names).
 const WEEK_DAYS: [&str; 7] = ["sun", "mon", "tue", "wed", "thu", "fri", "sat"];
 
 /// A field of a cron rule.
@@ -32,7 +32,7 @@ pub enum Field {
 }
 
 impl Field {
-    /// The place of the field in a rule's text, from 1.
+    /// Returns the place of the field in a rule's text, from 1.
     pub fn part(self) -> u8
         ensures { result ≡ part_of self }
     {
@@ -45,7 +45,7 @@ impl Field {
         }
     }
 
-    /// The least value of the field.
+    /// Returns the minimum value of the field.
     pub fn lowest(self) -> u16
         ensures { result ≡ lowest self }
     {
@@ -55,7 +55,7 @@ impl Field {
         }
     }
 
-    /// The greatest value of the field; day of week 7 is Sunday, as 0 is.
+    /// Returns the maximum value of the field. Day of week 7 is Sunday, as 0 is.
     pub fn highest(self) -> u16
         ensures { result ≡ highest self }
     {
@@ -68,7 +68,7 @@ impl Field {
         }
     }
 
-    // The names of the field's values, from its least value on.
+    // Returns the names of the field's values, in order from its minimum.
     fn names(self) -> &'static [&'static str]
         ensures { map (λ name. name.now) result.now ≡ names_of self }
     {
@@ -79,7 +79,7 @@ impl Field {
         }
     }
 
-    // The value that a name of the field stands for, in any case of its letters.
+    // Returns the value of a name of the field. Upper and lower case are the same.
     fn named_value(self, name: &[u8]) -> Option<u16>
         ensures { result ≡ named_value self name.now }
     {
@@ -90,7 +90,7 @@ impl Field {
         Some(self.lowest() + place as u16)
     }
 
-    // A fault of this field.
+    // Returns an error of this field.
     fn fault(self, cause: RuleCause) -> RuleFault
         ensures part { result.part ≡ part_of self }
         ensures cause { result.cause ≡ cause }
@@ -101,7 +101,7 @@ impl Field {
         }
     }
 
-    // A value: a name where it begins with a letter, else a number.
+    // Reads a value. It is a name if it begins with a letter, else a number.
     #[tactic(auto, unfolding(crate::specs::Cron::value_reading))]
     fn value(self, text: &[u8]) -> Result<u16, RuleFault>
         ensures { result ≡ value_reading self text.now }
@@ -115,7 +115,7 @@ impl Field {
         }
     }
 
-    // A step: the number after `/`.
+    // Reads a step, the number after `/`.
     #[tactic(auto, unfolding(crate::specs::Cron::step_reading))]
     fn step(self, text: &[u8]) -> Result<u16, RuleFault>
         ensures { result ≡ step_reading self text.now }
@@ -123,7 +123,7 @@ impl Field {
         number_in(self.part(), text)
     }
 
-    // What stands before the step of an element.
+    // Reads what comes before the step of an element.
     #[tactic(auto, unfolding(crate::specs::Cron::side_reading))]
     fn side(self, text: &[u8]) -> Result<Side, RuleFault>
         ensures { result ≡ side_reading self text.now }
@@ -139,7 +139,7 @@ impl Field {
         Ok(Side::Between(first, last))
     }
 
-    // The item of an element, by what stands before its step and by its step.
+    // Returns the item of an element. `side` is what comes before its step.
     fn item_of(self, side: Side, step: Option<u16>) -> Result<Item, RuleFault>
         ensures { result ≡ item_of self side step }
     {
@@ -153,7 +153,7 @@ impl Field {
         }
     }
 
-    // An element of the field.
+    // Reads an element of the field.
     #[tactic(auto, unfolding(crate::specs::Cron::item_reading))]
     fn item(self, text: &[u8]) -> Result<Item, RuleFault>
         ensures { result ≡ item_reading self text.now }
@@ -166,7 +166,7 @@ impl Field {
         self.item_of(side, Some(step))
     }
 
-    // The items of the field, between commas.
+    // Reads the elements of the field, which commas separate.
     #[tactic(auto, unfolding(crate::specs::Cron::items_reading))]
     fn items(self, alloc: Global, text: &[u8]) -> Result<Vec<Item>, RuleFault>
         ensures { GivesBy (λ items. items.items) result (items_reading self text.now) }
@@ -178,7 +178,7 @@ impl Field {
         Ok(items)
     }
 
-    // The set of the values of the field's items.
+    // Returns the set of the values of the field's items.
     fn set_of_items(self, items: &[Item]) -> Result<ValueSet, RuleFault>
         ensures { result ≡ set_in_part (part_of self) (set_reading items.now (lowest self) (highest self)) }
     {
@@ -188,7 +188,12 @@ impl Field {
         }
     }
 
-    /// The values that the field's text admits. A text without a comma is one element, which takes no memory.
+    /// Returns the values that the field's text stands for. No memory is requested for a text without a comma,
+    /// which is one element.
+    ///
+    /// # Errors
+    ///
+    /// Those that `cron_rule` describes for a field.
     #[tactic(auto, unfolding(crate::specs::Cron::field_reading))]
     pub fn values(self, alloc: Global, text: &[u8]) -> Result<ValueSet, RuleFault>
         ensures { Gives result (field_reading self text.now) }
@@ -202,7 +207,7 @@ impl Field {
     }
 }
 
-/// Whether a day field is restricted: its first character isn't `*`.
+/// Returns whether a day field is restricted: its first character isn't `*`.
 pub fn is_restricted(text: &[u8]) -> bool
     ensures { result ≡ is_restricted text.now }
 {

@@ -1,7 +1,7 @@
-//! The readers of the texts of rules, and why a text is no rule.
+//! Parses the texts of cron rules and of calendar events, and reports why a text is not a rule.
 //!
-//! It stands on plan_texts, which cuts a text, and on plan_match, whose rules come out. Open `cron` first, with `field` below it; then
-//! `event`, with `shape`, `component` and `places`. `fault` has what all of them refuse.
+//! This crate uses plan_texts to cut a text, and makes the rules of plan_match. For cron rules read `cron`, then
+//! `field`. For calendar events read `event`, then `shape`, `component` and `places`. `fault` has the errors of both.
 #![tactic(auto)]
 
 mod component;

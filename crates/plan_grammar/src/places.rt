@@ -1,4 +1,4 @@
-//! The places of days from the end of their month, which a list after `~` names (systemd.time(7)).
+//! The days after `~` in a calendar event, which are counted from the end of their month (systemd.time(7)).
 
 ghost use Rattle.std.specs.Prelude.{◌≡◌};
 ghost use Rattle.plan_sets.specs.Values.{values_where};
@@ -6,12 +6,14 @@ ghost use Rattle.plan_grammar.specs.Event.{place_belongs, place_fault, first_pla
 
 use plan_sets::{Item, SetFault, ValueSet};
 
-/// The place of the first day of the longest month.
+/// The place of the first day of the longest month. The last day of a month has place 1.
 const LAST_PLACE: u16 = 31;
 
-/// The set of the places from 1 to 31 that belong to one of the items.
+/// Returns the set of the places from 1 to 31 that belong to one of the items.
 ///
-/// The first faulty item decides the fault: a place outside 1 to 31 is `OutOfRange`, else a step of 0 is `ZeroStep`.
+/// # Errors
+///
+/// The first invalid item decides: a place outside 1 to 31 is `OutOfRange`, else a step of 0 is `ZeroStep`.
 #[tactic(auto, unfolding(crate::specs::Event::places_reading))]
 pub fn places_of(items: &[Item]) -> Result<ValueSet, SetFault>
     ensures { result ≡ places_reading items.now }
@@ -22,7 +24,7 @@ pub fn places_of(items: &[Item]) -> Result<ValueSet, SetFault>
     Ok(listed_places(items))
 }
 
-// What is wrong with the first item that is faulty.
+// Returns the error of the first invalid item.
 fn first_fault(items: &[Item]) -> Option<SetFault>
     ensures { result ≡ first_place_fault items.now }
 {
@@ -34,7 +36,7 @@ fn first_fault(items: &[Item]) -> Option<SetFault>
     None
 }
 
-// What is wrong with an item.
+// Returns what is wrong with an item.
 fn fault_of(item: Item) -> Option<SetFault>
     ensures { result ≡ place_fault item }
 {
@@ -52,7 +54,7 @@ fn fault_of(item: Item) -> Option<SetFault>
     }
 }
 
-// The places from 1 to 31 that belong to one of the items.
+// Returns the places from 1 to 31 that belong to one of the items.
 fn listed_places(items: &[Item]) -> ValueSet
     ensures { result ≡ values_where 1 31 (is_listed_place items.now) }
 {
@@ -65,14 +67,14 @@ fn listed_places(items: &[Item]) -> ValueSet
     places
 }
 
-// Whether a place belongs to one of the items.
+// Returns whether a place belongs to one of the items.
 fn is_listed(items: &[Item], place: u16) -> bool
     ensures { result ≡ is_listed_place items.now place }
 {
     items.iter().any(|item| belongs(*item, place))
 }
 
-// Whether a place belongs to an item. A step goes from the greater place down to the month's last day.
+// Returns whether a place belongs to an item. Steps go from the greater place down, towards the last day of the month.
 fn belongs(item: Item, place: u16) -> bool
     ensures { result ≡ place_belongs item place }
 {

@@ -36,7 +36,7 @@ pub struct Shape<'a> {
     pub time: Time<'a>,
 }
 
-// The fault of words that have no shape of an event.
+// Returns the error of words that don't have the shape of an event.
 fn shapeless() -> RuleFault
     ensures part { result.part ≡ 0 }
     ensures cause { result.cause ≡ RuleCause.WrongParts }
@@ -47,7 +47,7 @@ fn shapeless() -> RuleFault
     }
 }
 
-// A date: month and day, or year, month and day.
+// Reads the pieces of a date: month and day, or year, month and day.
 fn date_from_start<'a>(pieces: &[&'a [u8]]) -> Result<Date<'a>, RuleFault>
     ensures { GivesBy date_text result (date_from_start (map (λ piece. piece.now) pieces.now)) }
 {
@@ -68,7 +68,7 @@ fn date_from_start<'a>(pieces: &[&'a [u8]]) -> Result<Date<'a>, RuleFault>
     }
 }
 
-// A date whose day is counted from the end of the month: a month before it, or a year and a month.
+// Reads a date whose day is counted from the end of the month. `pieces` are a month, or a year and a month.
 fn date_from_end<'a>(pieces: &[&'a [u8]], day: &'a [u8]) -> Result<Date<'a>, RuleFault>
     ensures { GivesBy date_text result
         (date_from_end (map (λ piece. piece.now) pieces.now) day.now) }
@@ -90,7 +90,7 @@ fn date_from_end<'a>(pieces: &[&'a [u8]], day: &'a [u8]) -> Result<Date<'a>, Rul
     }
 }
 
-// A date, cut at its first `~` or not cut.
+// Reads a date. If it has a `~`, it is cut at the first one.
 #[tactic(auto, unfolding(crate::specs::Shape::date_reading))]
 fn date_of(alloc: Global, text: &[u8]) -> Result<Date<'_>, RuleFault>
     ensures { GivesBy date_text result (date_reading text.now) }
@@ -103,7 +103,7 @@ fn date_of(alloc: Global, text: &[u8]) -> Result<Date<'_>, RuleFault>
     date_from_end(parts.as_slice(), day)
 }
 
-// A time of day: hour and minute, or hour, minute and second.
+// Reads the pieces of a time of day: hour and minute, or hour, minute and second.
 fn time_of_pieces<'a>(pieces: &[&'a [u8]]) -> Result<Time<'a>, RuleFault>
     ensures { GivesBy time_text result (time_of_pieces (map (λ piece. piece.now) pieces.now)) }
 {
@@ -122,7 +122,7 @@ fn time_of_pieces<'a>(pieces: &[&'a [u8]]) -> Result<Time<'a>, RuleFault>
     }
 }
 
-// A time of day.
+// Reads a time of day.
 #[tactic(auto, unfolding(crate::specs::Shape::time_reading))]
 fn time_of(alloc: Global, text: &[u8]) -> Result<Time<'_>, RuleFault>
     ensures { GivesBy time_text result (time_reading text.now) }
@@ -131,7 +131,7 @@ fn time_of(alloc: Global, text: &[u8]) -> Result<Time<'_>, RuleFault>
     time_of_pieces(parts.as_slice())
 }
 
-// The date that is meant where none is written.
+// Returns the date that a missing date stands for.
 fn every_day() -> Date<'static>
     ensures { date_text result ≡ every_day }
 {
@@ -143,7 +143,7 @@ fn every_day() -> Date<'static>
     }
 }
 
-// The time that is meant where none is written.
+// Returns the time that a missing time stands for.
 fn midnight() -> Time<'static>
     ensures { time_text result ≡ midnight }
 {
@@ -154,14 +154,14 @@ fn midnight() -> Time<'static>
     }
 }
 
-// Whether a word is a time, and no date.
+// Returns whether a word is a time, not a date.
 fn is_time(word: &[u8]) -> bool
     ensures { result ≡ is_time word.now }
 {
     word.contains(&b':')
 }
 
-// Date and time of the words after the weekday part, of which there are at most two.
+// Reads the date and the time in the words after the weekday part. At most two words are allowed.
 #[tactic(auto, unfolding(crate::specs::Shape::dated))]
 fn dated<'a>(
     alloc: Global,
@@ -183,7 +183,7 @@ fn dated<'a>(
     }
 }
 
-// The shape with one word after the weekday part.
+// Reads the one word after the weekday part: a date or a time.
 fn one_word<'a>(
     alloc: Global,
     weekdays: Option<&'a [u8]>,
@@ -208,7 +208,7 @@ fn one_word<'a>(
     })
 }
 
-// The shape with two words after the weekday part: a date and then a time.
+// Reads the two words after the weekday part: a date and then a time.
 fn two_words<'a>(
     alloc: Global,
     weekdays: Option<&'a [u8]>,
@@ -230,10 +230,14 @@ fn two_words<'a>(
     })
 }
 
-/// The shape of an event's words, without its zone.
+/// Returns the shape of an event's words, without its zone.
 ///
-/// Faults: `NoMemory`, else `WrongParts` of part 0. A first word that begins with a letter is the weekday part. After it
-/// comes a date, a time, a date and then a time, or nothing; a time holds a `:`, and what else is missing has a default.
+/// A first word that begins with a letter is the weekday part. After it comes a date, a time, a date and then a
+/// time, or nothing. A time contains a `:`. Other missing parts have defaults.
+///
+/// # Errors
+///
+/// `WrongParts`, part 0, if the words have no such shape. `NoMemory` if an allocation fails.
 #[tactic(auto, unfolding(crate::specs::Shape::shape_reading))]
 pub fn shape_of<'a>(alloc: Global, words: &[&'a [u8]]) -> Result<Shape<'a>, RuleFault>
     ensures { GivesBy shape_text result (shape_reading (map (λ word. word.now) words.now)) }

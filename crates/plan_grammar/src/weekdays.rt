@@ -1,4 +1,4 @@
-//! The weekday part of a calendar event (systemd.time(7)).
+//! Parses the weekday part of a calendar event (systemd.time(7)).
 
 ghost use Rattle.std.specs.Prelude.{◌≡◌};
 ghost use Rattle.plan_grammar.specs.Readings.{Gives, GivesBy};
@@ -9,10 +9,10 @@ use plan_sets::{Item, ValueSet, set_of};
 use plan_texts::cut;
 use std::alloc::Global;
 
-/// The part of the text that the weekdays are.
+/// The part of the text that has the weekdays.
 const WEEKDAY_PART: u8 = 1;
 
-// A fault of the weekday part.
+// Returns an error of the weekday part.
 fn weekday_fault(cause: RuleCause) -> RuleFault
     ensures part { result.part ≡ 1 }
     ensures cause { result.cause ≡ cause }
@@ -23,14 +23,14 @@ fn weekday_fault(cause: RuleCause) -> RuleFault
     }
 }
 
-// Whether a name is a weekday's name in full, or its first three letters, in any case.
+// Returns whether a name is a weekday's full name or its first three letters. Upper and lower case are the same.
 fn names_weekday(name: &[u8], full: &[u8]) -> bool
     ensures { result ≡ names_weekday name.now full.now }
 {
     name.eq_ignore_ascii_case(full) || full.len() >= 3 && name.eq_ignore_ascii_case(&full[..3])
 }
 
-/// The weekday of a name, from 0 for Monday.
+/// Returns the weekday of a name, from 0 for Monday, or `None` if it isn't a weekday.
 #[tactic(auto, unfolding(crate::specs::Event::weekday_of))]
 pub fn weekday_of(name: &[u8]) -> Option<u16>
     ensures { result ≡ weekday_of name.now }
@@ -54,7 +54,7 @@ pub fn weekday_of(name: &[u8]) -> Option<u16>
     }
 }
 
-// A name in the weekday part.
+// Reads a name in the weekday part.
 #[tactic(auto, unfolding(crate::specs::Event::weekday_reading))]
 fn weekday(name: &[u8]) -> Result<u16, RuleFault>
     ensures { result ≡ weekday_reading name.now }
@@ -65,7 +65,7 @@ fn weekday(name: &[u8]) -> Result<u16, RuleFault>
     weekday_of(name).ok_or(weekday_fault(RuleCause::BadName))
 }
 
-// A name, or two names around the first `..`.
+// Reads a name, or two names with the first `..` between them.
 #[tactic(auto, unfolding(crate::specs::Event::weekday_item))]
 fn weekday_item(text: &[u8]) -> Result<Item, RuleFault>
     ensures { result ≡ weekday_item text.now }
@@ -78,14 +78,14 @@ fn weekday_item(text: &[u8]) -> Result<Item, RuleFault>
     Ok(Item::Range(first, last, 1))
 }
 
-// The text without a comma at its end.
+// Returns the text without a comma at its end.
 fn without_comma(text: &[u8]) -> &[u8]
     ensures { result.now ≡ without_comma text.now }
 {
     text.strip_suffix(b",").unwrap_or(text)
 }
 
-// The items of the weekday part, between commas.
+// Reads the items of the weekday part, which commas separate.
 #[tactic(auto, unfolding(crate::specs::Event::weekday_items))]
 fn weekday_items(alloc: Global, text: &[u8]) -> Result<Vec<Item>, RuleFault>
     ensures { GivesBy (λ items. items.items) result (weekday_items text.now) }
@@ -97,7 +97,11 @@ fn weekday_items(alloc: Global, text: &[u8]) -> Result<Vec<Item>, RuleFault>
     Ok(items)
 }
 
-/// The weekdays that the weekday part admits, from 0 for Monday to 6 for Sunday.
+/// Returns the weekdays that the weekday part stands for, from 0 for Monday to 6 for Sunday.
+///
+/// # Errors
+///
+/// Those that `calendar_event` describes for the weekdays.
 #[tactic(auto, unfolding(crate::specs::Event::weekdays_reading))]
 pub fn weekdays(alloc: Global, text: &[u8]) -> Result<ValueSet, RuleFault>
     ensures { Gives result (weekdays_reading text.now) }

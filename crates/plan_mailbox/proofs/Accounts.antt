@@ -1,6 +1,6 @@
--- What was taken of a sender that was settled, and what is known to wait: for all of `takes_what_outlets_sent`.
--- `Accounts` says that the two, joined, are what was sent, and four clauses cut that list. For `stays`: a take of
--- another sender changes neither part, and one of this sender moves its first known message to those taken.
+-- What was taken from a settled sender, and what is known to wait: for all of `takes_what_outlets_sent`. `Accounts` says
+-- that the two, appended, are what was sent, and four clauses cut that list. For `stays`: a take from another sender
+-- changes neither part, and a take from this sender moves its first known message to those taken.
 use Rattle.std.proofs.Common.{◌≡◌, ℕ, ◌<◌, true, List, [], ◌∷◌, ◌++◌, length, drop, Some, sym, ap, ◌∙◌, ⊎_elim, append_assoc, subst, arith}
 use Rattle.std.specs.List.{slice_get}
 use Rattle.std.proofs.lemmas.Bool.{cases_order}
@@ -39,7 +39,7 @@ module _ {M : Type 0} where
       known_at (after_take before t m rest) s ≡ known_at before s
   known-other before t s m rest other = get_or-set_other before.known t s rest [] other
 
-  -- a take of another sender
+  -- a take from another sender
   stays-other :
       (b a : Receiving M) (t s : ℕ) (m : M) → (s ≡ t → ⊥) → IsTake b t m a → (sent : List M) → Accounts b s sent → Accounts a s sent
   stays-other b a t s m other take sent e =
@@ -47,7 +47,7 @@ module _ {M : Type 0} where
       (taken-other b t s m (known_at a t) other)
       ∙ ap (λ xs. taken_at b s ++ xs) (known-other b t s m (known_at a t) other) ∙ e
 
-  -- and of the sender itself
+  -- a take from the sender itself
   stays-same :
       (b a : Receiving M) (t : ℕ) (m : M) → t < length b.taken → IsTake b t m a → (sent : List M) → is_settled_at b t ≡ true →
       Accounts b t sent → Accounts a t sent

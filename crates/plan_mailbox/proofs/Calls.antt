@@ -1,5 +1,5 @@
--- What a mailbox replies, by cases: for `send`, `take` and `is_new` of `Lanes`, and for `is_new` of `Lanes::new`.
--- Each lemma puts what the code found into the tests of the definition. In `next-found-in` and `next-none-in` the code
+-- What a mailbox replies, by cases: for `send`, `take` and `is_new` of `Lanes`, and for `is_new` of `Lanes::new`. Each
+-- lemma applies what the code found to the tests of the definition. In `next-found-in` and `next-none-in` the code
 -- searched the lanes, and the definition the mailbox's lists of the same length: Lines.antt does the rest.
 use Rattle.std.proofs.Common.{◌≡◌, ℕ, zero, suc, ◌<◌, Bool, true, false, not, ◌||◌, cond, eqb, ltb, List, [], ◌∷◌, length, map, replicate, None, Some, find, refl, subst, sym, ap, ◌∙◌}
 use Rattle.std.specs.List.{list_any, list_all, slice_get, AllPass}
@@ -13,7 +13,7 @@ use Rattle.plan_mailbox.specs.Turn.{in_turn, line_of}
 use Rattle.plan_mailbox.specs.Reply.{taking}
 use Rattle.plan_mailbox.proofs.Lines.{next-found, next-none}
 
--- a message is sent where nothing refuses it
+-- a message is sent if nothing rejects it
 pub send_reply-sent :
     {M : Type 0} (b : Mailbox M) (s : ℕ) (m : M) → s < senders_of b → is_shut_at b s ≡ false →
     (length (waiting_at b s) ≡ b.room → ⊥) → send_reply b s m ≡ Sent
@@ -23,7 +23,7 @@ send_reply-sent b s m known open' fits =
     ∙ cond-false (is_shut_at b s) (Closed m) room open' ∙ cond-false (eqb (length (waiting_at b s)) b.room) (Full m) Sent
     (ne_eqb (length (waiting_at b s)) b.room fits)
 
--- marks none of which is set
+-- if no mark is set, all marks are false
 pub none_marked : (marks : List Bool) → list_any (λ x. x) marks ≡ false → marks ≡ replicate (length marks) false
 none_marked [] none = refl
 none_marked (x ∷ marks) none =
@@ -40,7 +40,7 @@ none_marked-pass (x ∷ marks) pass =
     let here = not-true x (All-head (λ y. not y ≡ true) x marks pass) in
     ap (λ y. y || list_any (λ z. z) marks) here ∙ none_marked-pass marks (All-tail (λ y. not y ≡ true) x marks pass)
 
--- who is next in line, by a search through the lanes
+-- the next sender in line, by a search through the lanes
 pub next-found-in :
     {M L : Type 0} (waiting : L → List M) (lanes seen : List L) (turn s : ℕ) (m : M) (rest : List M) → seen ≡ lanes →
     waiting_in waiting lanes s ≡ m ∷ rest
@@ -59,7 +59,7 @@ next-none-in waiting lanes seen turn same e =
     (sym (e ∙ ap (λ ls. find (λ t. ltb 0 (length (waiting_in waiting ls t))) (in_turn (length ls) turn)) same
     ∙ ap (λ n. find (λ t. ltb 0 (length (waiting_in waiting lanes t))) (in_turn n turn)) (sym (length-map lanes waiting))))
 
--- where none waits, the reply is by whether all are shut
+-- if no message waits, the reply depends on whether all senders are closed
 pub take_reply-none :
     {M : Type 0} (b : Mailbox M) (all : Bool) → next_of b ≡ None → list_all (λ x. x) b.shut ≡ all → take_reply b ≡ taking None all
 take_reply-none b all none shut = ap (λ next. taking next (list_all (λ x. x) b.shut)) none ∙ ap (taking None) shut
@@ -67,12 +67,12 @@ take_reply-none b all none shut = ap (λ next. taking next (list_all (λ x. x) b
 pub take_reply-found : {M : Type 0} (b : Mailbox M) (s : ℕ) (m : M) → next_of b ≡ Some (s, m) → take_reply b ≡ Took s m
 take_reply-found b s m found = ap (λ next. taking next (list_all (λ x. x) b.shut)) found
 
--- whether some mark is set, of marks that a function gives
+-- whether a mark is set, for marks that a function gives
 pub list_any-map : {A : Type 0} (f : A → Bool) (xs : List A) → list_any (λ x. x) (map f xs) ≡ list_any f xs
 list_any-map f [] = refl
 list_any-map f (x ∷ xs) = ap (λ b. f x || b) (list_any-map f xs)
 
--- a mailbox whose parts are those of a new one
+-- a mailbox with the parts of a new one
 pub IsNew-from :
     {M : Type 0} (b : Mailbox M) → b.waiting ≡ replicate (senders_of b) [] → b.shut ≡ replicate (senders_of b) false → b.turn ≡ 0 →
     b.has_sent ≡ false → IsNew b

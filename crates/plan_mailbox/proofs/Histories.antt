@@ -1,6 +1,6 @@
--- A history with one more event: for Steps.antt. `in_order-whole` is also for `prefix` of `takes_what_was_sent`.
--- A moment of the longer history is one of the shorter or the whole, so `IsLawful-push` needs of the new event only
--- what `IsAllowed` says of the whole. For what waits, `Leaves-push` cuts what was sent behind what was taken.
+-- A history with one more event: for Steps.antt. `in_order-whole` is also for `prefix` of `takes_what_was_sent`. The
+-- longer history at any time is the shorter one at that time, or the whole. So `IsLawful-push` needs only what
+-- `IsAllowed` says of the whole. For the waiting messages, `Leaves-push` cuts what was sent after what was taken.
 use Rattle.std.proofs.Common.{◌≡◌, ℕ, ◌+◌, ◌%◌, ◌<◌, ◌≤◌, Bool, true, false, cond, ◌||◌, eqb, List, [], ◌∷◌, ◌++◌, length, take, drop, None, refl, sym, ap, ◌∙◌, inl, inr, ⊎_elim, subst, arith, add-zero, zero-add}
 use Rattle.std.specs.Prelude.{flat_map, count_by}
 use Rattle.std.specs.List.{list_any, last_or}
@@ -15,7 +15,7 @@ use Rattle.std.proofs.lemmas.Bool.{cases_lt, cases_Bool, or_left, or_parts, eq-e
 use Rattle.plan_mailbox.specs.History.{Event, Sends, Takes, Shuts, sent_by, taken_by, shuts, is_send, giver_of, sender_of, sent_of, taken_of, waiting_of, was_shut, turn_of, turn_after, IsPrefix, IsLawful}
 use Rattle.plan_mailbox.proofs.Places.{last_or_push}
 
--- a mapped and joined list with one more element
+-- a list that is mapped and flattened, with one more element
 flat_map_push : {X A : Type 0} (f : X → List A) (xs : List X) (x : X) → flat_map f (xs ++ x ∷ []) ≡ flat_map f xs ++ f x
 flat_map_push f xs x = flat_map-append f xs (x ∷ []) ∙ ap (λ r. flat_map f xs ++ r) (append-nil (f x))
 
@@ -23,7 +23,7 @@ pub or_false : (b : Bool) → (b || false) ≡ b
 or_false true = refl
 or_false false = refl
 
--- what a history with one more event says of a sender
+-- what a history with one more event says about a sender
 pub was_shut-push : {M : Type 0} (h : List (Event M)) (e : Event M) (s : ℕ) → was_shut (h ++ e ∷ []) s ≡ (was_shut h s || shuts s e)
 was_shut-push h e s = list_any-append (shuts s) h (e ∷ []) ∙ ap (λ b. was_shut h s || b) (or_false (shuts s e))
 
@@ -36,14 +36,14 @@ sent_of-push h e s = flat_map_push (sent_by s) h e
 pub taken_of-push : {M : Type 0} (h : List (Event M)) (e : Event M) (s : ℕ) → taken_of (h ++ e ∷ []) s ≡ taken_of h s ++ taken_by s e
 taken_of-push h e s = flat_map_push (taken_by s) h e
 
--- a prefix is one by any rest, and what waits is that rest
+-- a list is a prefix of itself with anything appended, and the waiting messages are what was appended
 pub IsPrefix-from : {M : Type 0} (xs ys zs : List M) → ys ≡ xs ++ zs → IsPrefix xs ys
 IsPrefix-from xs ys zs e = e ∙ ap (λ r. xs ++ r) (sym (front_rest ys xs zs e))
 
 pub waiting_of-from : {M : Type 0} (h : List (Event M)) (s : ℕ) (zs : List M) → sent_of h s ≡ taken_of h s ++ zs → waiting_of h s ≡ zs
 waiting_of-from h s zs e = front_rest (sent_of h s) (taken_of h s) zs e
 
--- what a sender sent is what was taken of it and then these messages, which wait
+-- a sender sent what was taken from it, and then these messages, which wait
 pub record Leaves {M : Type 0} (h : List (Event M)) (s : ℕ) (zs : List M) : Type 0 where
   pub in_order : IsPrefix (taken_of h s) (sent_of h s)
   pub waits : waiting_of h s ≡ zs
@@ -51,7 +51,7 @@ pub record Leaves {M : Type 0} (h : List (Event M)) (s : ℕ) (zs : List M) : Ty
 Leaves-from : {M : Type 0} (h : List (Event M)) (s : ℕ) (zs : List M) → sent_of h s ≡ taken_of h s ++ zs → Leaves h s zs
 Leaves-from h s zs e = record { in_order = IsPrefix-from (taken_of h s) (sent_of h s) zs e; waits = waiting_of-from h s zs e }
 
--- one more event, by what it adds to either list
+-- one more event, by what it adds to what was sent and taken
 Leaves-push :
     {M : Type 0} (h : List (Event M)) (e : Event M) (s : ℕ) (zs : List M) →
     sent_of h s ++ sent_by s e ≡ taken_of h s ++ taken_by s e ++ zs → Leaves (h ++ e ∷ []) s zs
@@ -84,7 +84,7 @@ pub Leaves-shuts :
 Leaves-shuts h t s p = Leaves-push h (Shuts t) s _
     (append-nil (sent_of h s) ∙ p ∙ ap (λ r. r ++ waiting_of h s) (sym (append-nil (taken_of h s))))
 
--- a sender that was not shut was shut no times
+-- a sender that was not closed was closed zero times
 count_of_none : {M : Type 0} (h : List (Event M)) (s : ℕ) → was_shut h s ≡ false → count_by (shuts s) h ≡ 0
 count_of_none [] s none = refl
 count_of_none (e ∷ h) s none =
@@ -98,7 +98,7 @@ count_by-push :
 count_by-push h e s = sum_by-append (λ x. cond (shuts s x) 1 0) h (e ∷ []) ∙ ap (λ n. count_by (shuts s) h + n)
     (sum_by-cons (λ x. cond (shuts s x) 1 0) e [] ∙ add-zero (cond (shuts s e) 1 0))
 
--- a moment of a history with one more event is one of the history before it, or the whole
+-- the history with one more event, at any time, is the history without it at that time, or the whole
 moment_before :
     {M : Type 0} (h : List (Event M)) (e : Event M) (P : List (Event M) → Type 0) → ((k : ℕ) → P (take k h)) → P (h ++ e ∷ []) →
     (k : ℕ) → P (take k (h ++ e ∷ []))
@@ -107,7 +107,7 @@ moment_before h e P before whole k =
     (λ (ge : length h + 1 ≤ k). subst P (sym (take_all k (h ++ e ∷ []) (omega (arith, length-append h (e ∷ []))))) whole)
     (cases_lt k (length h + 1))
 
--- what one more event has to keep
+-- the conditions for one more event
 pub record IsAllowed {M : Type 0} (senders room : ℕ) (h : List (Event M)) (e : Event M) : Type 0 where
   pub in_order : (s : ℕ) → IsPrefix (taken_of (h ++ e ∷ []) s) (sent_of (h ++ e ∷ []) s)
   pub roomy : (s : ℕ) → length (waiting_of (h ++ e ∷ []) s) ≤ room
@@ -124,7 +124,7 @@ IsLawful-nil senders room = record {
   known = All-nil (λ x. sender_of x < senders);
 }
 
--- a sender that was shut at a moment was shut
+-- a sender that was closed at some time was closed
 was_shut-take : {M : Type 0} (h : List (Event M)) (k s : ℕ) → was_shut (take k h) s ≡ true → was_shut h s ≡ true
 was_shut-take h k s shut =
     ap (λ p. was_shut p s) (sym (take-append-drop k h)) ∙ list_any-append (shuts s) (take k h) (drop k h) ∙ or_left
@@ -154,7 +154,7 @@ IsLawful-push senders room h e l a = record {
       (All-cons (λ x. sender_of x < senders) e [] a.known (All-nil (λ x. sender_of x < senders)));
 }
 
--- the whole of a history is a moment of it
+-- the whole history is the history at one time
 pub in_order-whole :
     {M : Type 0} (senders room : ℕ) (h : List (Event M)) → IsLawful senders room h → (s : ℕ) → IsPrefix (taken_of h s) (sent_of h s)
 in_order-whole senders room h l s = subst (λ p. IsPrefix (taken_of p s) (sent_of p s)) (take_all (length h) h (omega arith))

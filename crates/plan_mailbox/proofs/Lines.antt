@@ -1,6 +1,6 @@
--- Who is next in line: for `Lanes::take` by Calls.antt, for `run_steps` by Steps.antt, and for `next` in locked.rt.
--- By induction over the senders in turn. If a message of the first of them waits, it is the first of the line. If none
--- does, both the line and the search for a sender are those of the others.
+-- The next sender in line: for `Lanes::take` by Calls.antt, for `run_steps` by Steps.antt, and for `next` in locked.rt.
+-- By induction over the senders in turn. If a message of the first sender waits, it is the first of the line. If none
+-- waits, both the line and the search for a sender are those of the other senders.
 use Rattle.std.proofs.Common.{◌≡◌, ℕ, cond, ltb, List, [], ◌∷◌, ◌++◌, length, map, Option, None, Some, find, refl, sym, ap, ◌∙◌, arith}
 use Rattle.std.specs.List.{slice_get}
 use Rattle.std.proofs.lemmas.Option.{same_Some, none-some}
@@ -13,7 +13,7 @@ line_of-same f g h [] = refl
 line_of-same f g h (s ∷ order) =
     ap (λ ms. map (λ m. (s, m)) ms ++ line_of f order) (h s) ∙ ap (λ r. map (λ m. (s, m)) (g s) ++ r) (line_of-same f g h order)
 
--- the message that is first in a line is the oldest of its sender
+-- the first message in a line is the oldest of its sender
 first_among : {M : Type 0} (f : ℕ → List M) (s : ℕ) (ms : List M) (others : List (ℕ × M)) (next : ℕ × M) → f s ≡ ms
     → (slice_get others 0 ≡ Some next → (rest : List M) × (f next.0 ≡ next.1 ∷ rest)) → slice_get
     (map (λ m. (s, m)) ms ++ others) 0 ≡ Some next → (rest : List M) × (f next.0 ≡ next.1 ∷ rest)
@@ -28,7 +28,7 @@ pub first_in_line :
 first_in_line f [] next e = absurd (none-some next e)
 first_in_line f (s ∷ order) next e = first_among f s (f s) (line_of f order) next refl (first_in_line f order next) e
 
--- the first sender of which a message waits gives the first message of the line
+-- the first sender with a waiting message gives the first message of the line
 found_among :
     {M : Type 0} (f : ℕ → List M) (x : ℕ) (ms : List M) (others : List (ℕ × M)) (found : Option ℕ) (s : ℕ) (m : M) (rest : List M) →
     f x ≡ ms → f s ≡ m ∷ rest
@@ -47,7 +47,7 @@ next-found f [] s m rest there e = absurd (none-some s e)
 next-found f (x ∷ order) s m rest there e = found_among f x (f x) (line_of f order)
     (find (λ t. ltb 0 (length (f t))) order) s m rest refl there (next-found f order s m rest there) e
 
--- and where no message waits of any, the line is empty
+-- if no sender has a waiting message, the line is empty
 none_among :
     {M : Type 0} (x : ℕ) (ms : List M) (others : List (ℕ × M)) (found : Option ℕ) → (found ≡ None → slice_get others 0 ≡ None) →
     cond (ltb 0 (length ms)) (Some x) found ≡ None → slice_get (map (λ m. (x, m)) ms ++ others) 0 ≡ None

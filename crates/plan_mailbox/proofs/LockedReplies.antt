@@ -1,6 +1,6 @@
--- What a mailbox behind a lock replies: for `reply` and `answer` of `next` in locked.rt, where it isn't `Nothing`.
--- By the cases of `taking`. The sender of a message is below 8, since it is one of the mailbox's: past them nothing
--- waits, and what is first in line does.
+-- What a mailbox behind a lock replies: for `reply` and `answer` of `next` in locked.rt, if it isn't `Nothing`. By the
+-- cases of `taking`. The sender of a message has a number below 8, since it is a sender of the mailbox: for larger
+-- numbers nothing waits, but the first message in line does.
 use Rattle.std.proofs.Common.{◌≡◌, ℕ, ◌<◌, ◌≤◌, Bool, true, false, List, [], ◌∷◌, Option, None, Some, refl, sym, ap, subst, ◌∙◌, ⊎_elim, arith}
 use Rattle.std.specs.List.{list_all}
 use Rattle.std.proofs.lemmas.Bool.{cases_lt}
@@ -16,7 +16,7 @@ use Rattle.plan_mailbox.proofs.Lines.{first_in_line}
 nil_is_no_cons : {A : Type 0} (x : A) (xs : List A) → [] ≡ x ∷ xs → ⊥
 nil_is_no_cons x xs e = cc
 
--- who is next in line is a sender
+-- the next in line is a sender of the mailbox
 next-known : {M : Type 0} (b : Mailbox M) (next : ℕ × M) → next_of b ≡ Some next → next.0 < senders_of b
 next-known b next e =
     let waits = first_in_line (waiting_at b) (in_turn (senders_of b) b.turn) next e in
@@ -31,7 +31,7 @@ taking-replies (Some next) all known goes_on = (known next refl, refl)
 taking-replies None true known goes_on = (tt, refl)
 taking-replies None false known goes_on = absurd (goes_on refl)
 
--- the replies to a take, but for that a message may still come
+-- the replies to a take, except that a message may still come
 pub take-replies :
     {M : Type 0} (b : Mailbox M) (reply : Reply M) → senders_of b ≤ most_senders → reply ≡ take_reply b → (reply ≡ Nothing → ⊥) →
     IsTakeReply reply × (Some reply ≡ answer_to_take (take_reply b))

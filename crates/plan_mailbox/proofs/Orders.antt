@@ -1,6 +1,6 @@
--- What a lawful history says of the order of its events: for `in_order` and `closed` of `takes_what_was_sent`.
--- In order: what was taken is a prefix of what was sent. Closed: a send behind its close would stand in the history
--- from the close on, where `closed` of `IsLawful` says that the sender sent nothing.
+-- What a lawful history says about the order of its events: for `in_order` and `closed` of `takes_what_was_sent`. In
+-- order: what was taken is a prefix of what was sent. Closed: a send after its close would be in the history from the
+-- close on, for which `closed` of `IsLawful` says that the sender sent nothing.
 use Rattle.std.proofs.Common.{◌≡◌, ℕ, zero, suc, ◌+◌, ◌-◌, ◌<◌, ◌≤◌, Bool, true, cond, eqb, List, [], ◌∷◌, ◌++◌, length, get_or, take, drop, Some, refl, sym, ap, ◌∙◌, ⊎_elim, arith}
 use Rattle.std.specs.Prelude.{flat_map}
 use Rattle.std.specs.List.{list_any, slice_get}
@@ -11,7 +11,7 @@ use Rattle.plan_mailbox.specs.History.{Event, Sends, Shuts, sent_by, shuts, sent
 use Rattle.plan_mailbox.proofs.Places.{slice_get_before, slice_get-drop}
 use Rattle.plan_mailbox.proofs.Histories.{in_order-whole}
 
--- where a joined list is empty, each of its parts is
+-- if an appended list is empty, each of its parts is empty
 empty_left : {A : Type 0} (xs ys : List A) → xs ++ ys ≡ [] → xs ≡ []
 empty_left [] ys e = refl
 empty_left (x ∷ xs) ys e = cc
@@ -25,7 +25,7 @@ empty_part f [] k x at_k e = absurd (none-some x at_k)
 empty_part f (y ∷ ys) zero x at_k e = ap f (sym (same_Some y x at_k)) ∙ empty_left (f y) (flat_map f ys) e
 empty_part f (y ∷ ys) (suc k) x at_k e = empty_part f ys k x at_k (empty_right (f y) (flat_map f ys) e)
 
--- an event that is met at a place has happened after it
+-- an event at a place has happened once the place is passed
 met : {X : Type 0} (p : X → Bool) (xs : List X) (i : ℕ) (x : X) → slice_get xs i ≡ Some x → p x ≡ true → list_any p (take (i + 1) xs) ≡ true
 met p xs i x at_i holds =
     list_any_more p xs i x (slice_get_within xs i x at_i) ∙ or_right (list_any p (take i xs)) (p (get_or xs i x))
@@ -37,7 +37,7 @@ IsInOrder-lawful senders room h l s k m e =
     ap (λ ms. slice_get ms k) (in_order-whole senders room h l s) ∙ slice_get_before (taken_of h s)
     (drop (length (taken_of h s)) (sent_of h s)) k (slice_get_within (taken_of h s) k m e) ∙ e
 
--- and nothing is sent after a close
+-- in a lawful history, nothing is sent after a close
 not_after :
     {M : Type 0} (senders room : ℕ) (h : List (Event M)) → IsLawful senders room h → (s i j : ℕ) (m : M) →
     slice_get h i ≡ Some (Shuts s) → slice_get h j ≡ Some (Sends s m) → i < j → ⊥

@@ -1,6 +1,6 @@
--- The receiver's ends, where one of them changes: for `take_among` and for `accounts` and `settled` of `Inlet::settle`.
--- `receiving` maps functions over the ends, so a write to one end is a write to each of these lists, or none where the
--- function gives what it gave (`map_set_same`). `receiving-take` and the two others do so for all four lists.
+-- The receiving ends, when one of them changes: for `take_among` and for `accounts` and `settled` of `Inlet::settle`.
+-- `receiving` maps functions over the ends. So a write to one end is a write to each of these lists, or to none if the
+-- function gives the same as before (`map_set_same`). `receiving-take` and the two others do so for all four lists.
 use Rattle.std.proofs.Common.{◌≡◌, ℕ, ◌<◌, ◌≤◌, List, [], ◌∷◌, ◌++◌, length, get_or, set, drop, map, true, false, sym, ap, ◌∙◌}
 use Rattle.std.proofs.lemmas.List.{map-set, length-map, get_or-set_same}
 use Rattle.std.proofs.Math.Seq.{drop-append_seam}
@@ -11,13 +11,13 @@ use Rattle.plan_mailbox.specs.History as history
 use Rattle.plan_mailbox.specs.Ends.{consumer_ring, receiving, after_settle, taken_at, known_at, is_settled_at, IsTakeAmong}
 use Rattle.plan_mailbox.proofs.Places.{map_read, map_set_same}
 
--- a list that another begins with
+-- a list is a prefix of the list that starts with it
 pub IsPrefix-rest : {A : Type 0} (xs ys : List A) → IsPrefix xs ys → history.IsPrefix xs ys
 IsPrefix-rest xs ys p = sym p.1 ∙ ap (λ rest. xs ++ rest) (sym (drop-append_seam xs p.0) ∙ ap (drop (length xs)) p.1)
 
 module _ {M : Type 0} (turn : ℕ) (ends : List (RingEnd M)) (s : ℕ) (now was : RingEnd M) (within : s < length ends)
     (read : was ≡ get_or ends s was) where
-  -- what is seen of the end before and after
+  -- what is seen of the end, before and after
   pub taken-was : taken_at (receiving turn ends) s ≡ received was.consumer
   taken-was = map_read (λ (e : RingEnd M). received e.consumer) ends s was [] within read
 
@@ -38,7 +38,7 @@ module _ {M : Type 0} (turn : ℕ) (ends : List (RingEnd M)) (s : ℕ) (now was 
       (known_items now.consumer) [] within_map
 
   module _ (ring : consumer_ring now.consumer ≡ consumer_ring was.consumer) where
-    -- an end of which nothing changes
+    -- an end that doesn't change
     pub receiving-same :
         received now.consumer ≡ received was.consumer → known_items now.consumer ≡ known_items was.consumer →
         now.is_settled ≡ was.is_settled → receiving turn (set ends s now) ≡ receiving turn ends
@@ -50,7 +50,7 @@ module _ {M : Type 0} (turn : ℕ) (ends : List (RingEnd M)) (s : ℕ) (now was 
           map_set_same (λ (e : RingEnd M). e.is_settled) ends s now was within read settled,
         )
 
-    -- an end of which a message was taken
+    -- an end from which a message was taken
     pub receiving-take : (m : M) → now.is_settled ≡ was.is_settled → received now.consumer ≡ received was.consumer ++ m ∷ []
         → receiving turn (set ends s now) ≡ record (receiving turn ends) {
           taken = set (receiving turn ends).taken s (taken_at (receiving turn ends) s ++ m ∷ []);
@@ -81,7 +81,7 @@ module _ {M : Type 0} (turn : ℕ) (ends : List (RingEnd M)) (s : ℕ) (now was 
           settled,
         )
 
-    -- a take, where the senders from one on and up to another were looked at
+    -- a take, when the senders from `from` to before `upto` were checked
     pub IsTakeAmong-from :
         (from upto : ℕ) (m : M) → now.is_settled ≡ was.is_settled → received now.consumer ≡ received was.consumer ++ m ∷ []
         → IsPrefix (known_items was.consumer) (m ∷ known_items now.consumer) →

@@ -1,6 +1,6 @@
--- A mailbox of rings that is taken apart: for `outlets`, `room` and `inlet` of `Rings::split`, and for its loop.
--- By induction over the lanes. Nothing was sent on an unused lane, so by its `fifo` nothing was received and nothing is
--- known to wait, and by its `all_free` all its places are known to be free.
+-- A mailbox of rings that is split: for `outlets`, `room` and `inlet` of `Rings::split`, and for its loop. By induction
+-- over the lanes. Nothing was sent on an unused lane. So by its `fifo` nothing was received and nothing is known to wait,
+-- and by its `all_free` all its places are known to be free.
 use Rattle.std.proofs.Common.{◌≡◌, ℕ, suc, ◌+◌, All, List, [], ◌∷◌, ◌++◌, length, map, replicate, false, refl, sym, ap, ◌∙◌, add-zero, arith}
 use Rattle.std.specs.List.{enumerate_from}
 use Rattle.std.proofs.lemmas.List.{length-append, length-map, nil_from_length}
@@ -11,7 +11,7 @@ use Rattle.plan_mailbox.specs.declared.outlet.Outlet.{Outlet}
 use Rattle.plan_mailbox.specs.declared.ring_end.RingEnd.{RingEnd}
 use Rattle.plan_mailbox.specs.Ends.{Ring, Sending, consumer_ring, free_of, producer_ring, receiving, new_inlet, new_outlets}
 
--- the numbers of a list with one more
+-- the numbers of a list with one more element
 pub enumerate_from-push :
     {A : Type 0} (n : ℕ) (xs : List A) (x : A) → enumerate_from n (xs ++ x ∷ []) ≡ enumerate_from n xs ++ (n + length xs, x) ∷ []
 enumerate_from-push n [] x = ap (λ k. (k, x) ∷ []) (sym (add-zero n))
@@ -32,7 +32,7 @@ module _ {M : Type 0} where
   abbrev pub outlet_from : ℕ × RingLane M → Sending M
   outlet_from p = record { sender = p.0; ring = ring_in p.1; sent = sent p.1.producer }
 
-  -- the receiver's end of a lane
+  -- the receiving end of a lane
   abbrev pub end_from : RingLane M → RingEnd M
   end_from lane = record { consumer = lane.consumer; is_settled = false }
 
@@ -74,7 +74,7 @@ module _ {M : Type 0} where
   settled-apart [] = refl
   settled-apart (lane ∷ lanes) = ap (λ marks. false ∷ marks) (settled-apart lanes)
 
-  -- how many places the producer of a lane knows to be free
+  -- how many places the sending end of a lane knows to be free
   abbrev pub free_in : RingLane M → ℕ
   free_in lane = known_free lane.producer
 
@@ -98,7 +98,7 @@ module _ {M : Type 0} where
       (All-head (λ n. n ≡ room) (free_of outlet) (map free_of outlets) free)
       (outlets-free outlets room (All-tail (λ n. n ≡ room) (free_of outlet) (map free_of outlets) free))
 
-  -- in the rings of unused lanes each outlet knows all places to be free
+  -- each outlet of an unused lane knows that all places of its ring are free
   pub free-apart :
       (lanes : List (RingLane M)) (outlets : List (Outlet M)) (room : ℕ) → map free_of outlets ≡ map free_in lanes →
       All IsUnused lanes → All (λ (lane : RingLane M). producer_capacity lane.producer ≡ room) lanes
@@ -106,7 +106,7 @@ module _ {M : Type 0} where
   free-apart lanes outlets room same unused reserved = outlets-free outlets room
       (All-same (λ n. n ≡ room) (map free_of outlets) (map free_in lanes) same (lanes-free lanes room unused reserved))
 
-  -- the receiver's ends of unused lanes are a new inlet
+  -- the receiving ends of unused lanes make a new inlet
   pub inlet-apart : (lanes : List (RingLane M)) → All IsUnused lanes → receiving 0 (map end_from lanes) ≡ new_inlet (map ring_in lanes)
   inlet-apart lanes unused = rw (
     rings-apart lanes,
@@ -116,7 +116,7 @@ module _ {M : Type 0} where
     length-map lanes ring_in,
   )
 
-  -- and the senders' are new outlets
+  -- the sending ends of unused lanes make new outlets
   outlets-from :
       (n : ℕ) (lanes : List (RingLane M)) → All IsUnused lanes →
       map outlet_from (enumerate_from n lanes) ≡ map (λ p. record { sender = p.0; ring = p.1; sent = [] })

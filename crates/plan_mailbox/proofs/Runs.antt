@@ -1,6 +1,6 @@
--- A run of steps, one step on: `IsRun` is in the invariant of the loop of `run_steps`, and gives its clauses at `Ok`.
--- In `IsRun-push` a reply at an earlier place is as it was, since its history is. The last one is that after the whole
--- history, because the mailbox is what that left (`reply_of-left`).
+-- A run of steps, and one more step: `IsRun` is in the invariant of the loop of `run_steps`, and gives its clauses at
+-- `Ok`. In `IsRun-push` an earlier reply stays, since its history does. The last reply is the one after the whole
+-- history, because that history left the mailbox (`reply_of-left`).
 use Rattle.std.proofs.Common.{◌≡◌, ℕ, ◌+◌, ◌<◌, ◌≤◌, List, [], ◌∷◌, ◌++◌, length, take, Some, refl, sym, ap, ◌∙◌, inl, inr, subst, arith}
 use Rattle.std.proofs.lemmas.List.{append-nil, append_assoc, length-append, take-append-le, take_at}
 use Rattle.std.proofs.lemmas.Option.{same_Some, none-some, slice_get_within}
@@ -29,7 +29,7 @@ pub record IsRun {M : Type 0} (senders room : ℕ) (steps : List (Step M)) (repl
   pub in_turn : RepliesInTurn senders room steps replies
   pub keeps : Keeps senders room (record_of steps replies) b
 
--- no step was taken yet
+-- no step was performed yet
 pub IsRun-nil : {M : Type 0} (b : Mailbox M) → IsNew b → IsRun (senders_of b) b.room [] [] b
 IsRun-nil {M} b new = record {
   as_many = refl;
@@ -37,7 +37,7 @@ IsRun-nil {M} b new = record {
   keeps = subst (λ x. Keeps (senders_of b) b.room [] x) (sym new) (Keeps-new (senders_of b) b.room);
 }
 
--- and one more step
+-- one more step was performed
 pub IsRun-push :
     {M : Type 0} (senders room : ℕ) (xs : List (Step M)) (rs : List (Reply M)) (b : Mailbox M) (x : Step M) →
     IsRun senders room xs rs b → IsRun senders room (xs ++ x ∷ []) (rs ++ reply_of b x ∷ []) (after b x)

@@ -1,6 +1,6 @@
--- A mailbox that a history left, one step on: for `in_turn`, `lawful` and `left` of `run_steps`, by way of Runs.antt.
--- `Keeps-step` goes through the tests of the reply in their order. A refused step records no event. The others have a
--- lemma each, `Keeps-sends`, `Keeps-takes` and `Keeps-shuts`, that sees to the step's own sender and to all others.
+-- A mailbox that a history left, and one more step: for `in_turn`, `lawful` and `left` of `run_steps`, by way of
+-- Runs.antt. `Keeps-step` goes through the tests of the reply in their order. A rejected step records no event. For the
+-- others there is one lemma each, `Keeps-sends`, `Keeps-takes` and `Keeps-shuts`, about the step's sender and all others.
 use Rattle.std.proofs.Common.{◌≡◌, ℕ, ◌≢◌, ◌+◌, ◌%◌, ◌<◌, ◌≤◌, Bool, true, false, cond, ◌||◌, eqb, ltb, List, [], ◌∷◌, ◌++◌, length, drop, set, get_or, replicate, Option, None, Some, refl, sym, ap, ◌∙◌, inl, inr, ⊎_elim, subst, arith}
 use Rattle.std.specs.List.{list_all, list_any, slice_get, range_with_len}
 use Rattle.std.proofs.lemmas.List.{append-nil, length-append, length-set, length-replicate, get_or-replicate, get_or_past, set-get_or, set_past}
@@ -17,7 +17,7 @@ use Rattle.plan_mailbox.proofs.Lines.{line_of-same, first_in_line}
 use Rattle.plan_mailbox.proofs.Places.{all_by_places, get_or-set}
 use Rattle.plan_mailbox.proofs.Histories.{or_false, any_send-push, was_shut-push, Leaves-sends, Leaves-takes, Leaves-takes_other, Leaves-shuts, IsLawful-nil, IsLawful-push, in_order-whole, roomy-whole, turn_of-takes, turn_of-other}
 
--- the mailbox replies what the history says
+-- the mailbox replies what the definition by histories says
 pub reply_of-left :
     {M : Type 0} (senders room : ℕ) (h : List (Event M)) (b : Mailbox M) → IsLeftBy senders room h b → (step : Step M) →
     reply_of b step ≡ reply_after senders room h step
@@ -35,12 +35,12 @@ reply_of-left senders room h b l Take =
 reply_of-left senders room h b l (Close s) =
     let e1 = l.senders_stay in let e2 = l.shut_is s in cc
 
--- what a history leaves, with the history lawful
+-- the mailbox that a history leaves, if the history is lawful
 pub record Keeps {M : Type 0} (senders room : ℕ) (h : List (Event M)) (b : Mailbox M) : Type 0 where
   pub lawful : IsLawful senders room h
   pub left : IsLeftBy senders room h b
 
--- nothing happened
+-- no event happened
 Keeps-same : {M : Type 0} (senders room : ℕ) (h : List (Event M)) (b : Mailbox M) → Keeps senders room h b → Keeps senders room (h ++ []) b
 Keeps-same senders room h b k = rw (append-nil h) k
 
@@ -133,7 +133,7 @@ Keeps-takes senders room h b s m rest k known w =
       };
     }
 
--- a sender is shut
+-- a sender is closed
 Keeps-shuts :
     {M : Type 0} (senders room : ℕ) (h : List (Event M)) (b : Mailbox M) (s : ℕ) → Keeps senders room h b → s < senders →
     was_shut h s ≡ false
@@ -162,7 +162,7 @@ Keeps-shuts senders room h b s k known open' =
       };
     }
 
--- whatever the step and its reply, the history that they record goes on
+-- a step and its reply continue the history, whatever they are
 Keeps-take :
     {M : Type 0} (senders room : ℕ) (h : List (Event M)) (b : Mailbox M) (found : Option (ℕ × M)) (all : Bool) → next_of b ≡ found →
     Keeps senders room h b
@@ -205,7 +205,7 @@ Keeps-step {M} senders room h b (Close s) k =
     (sym (l.shut_is s) ∙ open')))
     (λ past. same (set_past b.shut s true (let ge = ltb-false s (senders_of b) past in omega (arith, l.senders_stay, l.marks_stay))))
 
--- a new mailbox is what no event leaves
+-- a new mailbox is what a history without events leaves
 get_or-replicate_same : {A : Type 0} (n k : ℕ) (x : A) → get_or (replicate n x) k x ≡ x
 get_or-replicate_same n k x = ⊎_elim (λ (lt : k < n). get_or-replicate n k x x lt)
     (λ (ge : n ≤ k). get_or_past (replicate n x) k x (omega (arith, length-replicate n x))) (cases_lt k n)

@@ -1,4 +1,4 @@
--- A mailbox as its callers see it, and what each call does to it. All of it is own.
+-- A mailbox as its callers see it, and what each call does to it (agenda).
 use Rattle.std.specs.Prelude.{◌≡◌, ℕ, ◌+◌, ◌%◌, Bool, true, false, not, ◌==◌, nat_lt, nat_le, ◌&&◌, if◌then◌else◌, List, [], ◌∷◌, ◌++◌, length, drop, replicate, Option, slice_get, slice_set, slice_index_or}
 use Rattle.std.specs.List.{list_all, list_any, AllPass}
 use Rattle.plan_mailbox.specs.declared.replies.Step.{Step}
@@ -11,13 +11,13 @@ use Rattle.plan_mailbox.specs.Reply.{taking}
 
 -- a mailbox of messages M
 pub record Mailbox (M : Type 0) : Type 0 where
-  -- how many messages of each sender may wait
+  -- the capacity of each sender, in messages
   pub room : ℕ
-  -- for each sender the messages that wait, the oldest first
+  -- for each sender, its waiting messages, the oldest first
   pub waiting : List (List M)
-  -- for each sender whether it is shut
+  -- for each sender, whether it is closed
   pub shut : List Bool
-  -- the sender that a take looks at first
+  -- the sender that a take checks first
   pub turn : ℕ
   -- whether a message was ever sent
   pub has_sent : Bool
@@ -26,15 +26,15 @@ pub record Mailbox (M : Type 0) : Type 0 where
 abbrev pub senders_of : {M : Type 0} → Mailbox M → ℕ
 senders_of b = length b.waiting
 
--- what waits of sender s
+-- the waiting messages of sender s
 abbrev pub waiting_at : {M : Type 0} → Mailbox M → ℕ → List M
 waiting_at b s = slice_index_or b.waiting s []
 
--- whether sender s is shut
+-- whether sender s is closed
 abbrev pub is_shut_at : {M : Type 0} → Mailbox M → ℕ → Bool
 is_shut_at b s = slice_index_or b.shut s false
 
--- a new mailbox: nothing waits, no sender is shut, the first has the turn, and no message was sent
+-- a new mailbox: nothing waits, no sender is closed, the first has the turn, and no message was sent
 abbrev pub new_mailbox : {M : Type 0} → ℕ → ℕ → Mailbox M
 new_mailbox senders room = record {
   room = room;
@@ -45,36 +45,37 @@ new_mailbox senders room = record {
   has_sent = false;
 }
 
--- the most senders of a mailbox
+-- the maximum number of senders of a mailbox
 abbrev pub most_senders : ℕ
 most_senders = 8
 
--- the most messages of a sender for which a mailbox has room
+-- the maximum capacity of a sender, in messages
 abbrev pub most_room : ℕ
 most_room = 1024
 
--- the sizes that a mailbox may have: from 1 sender on, with room for 1 message of each on
+-- the valid sizes of a mailbox: at least 1 sender, with a capacity of at least 1 message, and at most these maximums
 abbrev pub is_size : ℕ → ℕ → Bool
 is_size senders room = nat_le 1 senders && nat_le senders most_senders && (nat_le 1 room && nat_le room most_room)
 
--- a mailbox is as new
+-- a mailbox is equal to a new one
 abbrev pub IsNew : {M : Type 0} → Mailbox M → Type 0
 IsNew b = b ≡ new_mailbox (senders_of b) b.room
 
--- no message was ever sent, and no sender is shut
+-- no message was ever sent, and no sender is closed
 abbrev pub IsUnused : {M : Type 0} → Mailbox M → Type 0
 IsUnused b = (b.has_sent ≡ false) × AllPass not b.shut
 
--- the reply to a send, in this order: no such sender, it is shut, its room is full, sent
+-- the reply to a send, by the first that applies: no such sender, it is closed, its capacity is used up, sent
 abbrev pub send_reply : {M : Type 0} → Mailbox M → ℕ → M → Reply M
 send_reply b s m = if nat_lt s (senders_of b)
     then (if is_shut_at b s then Closed m else (if length (waiting_at b s) == b.room then Full m else Sent)) else NoSender m
 
--- the mailbox after a send with this reply: where it was sent, the message waits behind the others of its sender
+-- the mailbox after a send with this reply: if it was sent, the message waits after the others of its sender
 abbrev pub sending : {M : Type 0} → Mailbox M → ℕ → M → Reply M → Mailbox M
 sending b s m Sent = record b { waiting = slice_set b.waiting s (waiting_at b s ++ m ∷ []); has_sent = true }
 sending b s m reply = b
 
+-- the mailbox after a send
 abbrev pub after_send : {M : Type 0} → Mailbox M → ℕ → M → Mailbox M
 after_send b s m = sending b s m (send_reply b s m)
 
@@ -82,7 +83,7 @@ after_send b s m = sending b s m (send_reply b s m)
 abbrev pub next_of : {M : Type 0} → Mailbox M → Option (ℕ × M)
 next_of b = slice_get (line_of (waiting_at b) (in_turn (senders_of b) b.turn)) 0
 
--- the reply to a take: the message that is first in line; where none waits, whether one may still come
+-- the reply to a take: the message that is first in line; if none waits, whether one may still come
 abbrev pub take_reply : {M : Type 0} → Mailbox M → Reply M
 take_reply b = taking (next_of b) (list_all (λ is_shut. is_shut) b.shut)
 
@@ -91,34 +92,36 @@ abbrev pub taking_from : {M : Type 0} → Mailbox M → Reply M → Mailbox M
 taking_from b (Took s m) = record b { waiting = slice_set b.waiting s (drop 1 (waiting_at b s)); turn = (s + 1) % senders_of b }
 taking_from b reply = b
 
+-- the mailbox after a take
 abbrev pub after_take : {M : Type 0} → Mailbox M → Mailbox M
 after_take b = taking_from b (take_reply b)
 
--- the reply to a close, in this order: no such sender, it is shut already, shut
+-- the reply to a close, by the first that applies: no such sender, it is closed already, closed now
 abbrev pub close_reply : {M : Type 0} → Mailbox M → ℕ → Reply M
 close_reply b s = if nat_lt s (senders_of b) then (if is_shut_at b s then AlreadyShut else Shut) else Unknown
 
--- the mailbox after a close: the sender is shut, if there is one, and what waits stays
+-- the mailbox after a close: the sender is closed, if there is one, and its waiting messages stay
 abbrev pub after_close : {M : Type 0} → Mailbox M → ℕ → Mailbox M
 after_close b s = record b { shut = slice_set b.shut s true }
 
--- the reply to a step, and the mailbox after it
+-- the reply to a step
 abbrev pub reply_of : {M : Type 0} → Mailbox M → Step M → Reply M
 reply_of b (Send s m) = send_reply b s m
 reply_of b Take = take_reply b
 reply_of b (Close s) = close_reply b s
 
+-- the mailbox after a step
 abbrev pub after : {M : Type 0} → Mailbox M → Step M → Mailbox M
 after b (Send s m) = after_send b s m
 after b Take = after_take b
 after b (Close s) = after_close b s
 
--- the mailbox is what the history h leaves of one with so many senders and this room
+-- the mailbox is what the history h leaves of a new one with this many senders and this capacity
 pub record IsLeftBy {M : Type 0} (senders room : ℕ) (h : List (Event M)) (b : Mailbox M) : Type 0 where
   pub senders_stay : senders_of b ≡ senders
   pub marks_stay : length b.shut ≡ senders
   pub room_stays : b.room ≡ room
-  -- for each sender what waits is what it sent, without what was taken of it
+  -- the waiting messages of a sender are what it sent, without what was taken from it
   pub waits : (s : ℕ) → waiting_at b s ≡ waiting_of h s
   pub shut_is : (s : ℕ) → is_shut_at b s ≡ was_shut h s
   pub turn_is : b.turn ≡ turn_of senders h

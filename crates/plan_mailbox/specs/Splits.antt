@@ -1,4 +1,4 @@
--- The rings of a mailbox that is split.
+-- The rings of a mailbox that is split (agenda).
 use Rattle.std.specs.Prelude.{List, map}
 use Rattle.plan_mailbox.specs.declared.lane.Lane as declared
 use Rattle.plan_mailbox.specs.declared.lanes.Lanes.{Lanes}

@@ -1,13 +1,15 @@
+//! The receiving end of all rings of a mailbox.
+
 ghost use Rattle.std.specs.Prelude.{◌<◌, vec_len};
 
 use crate::outlet::Receipt;
 use crate::ring_end::{RingEnd, take_among};
 use thiserror::Error;
 
-/// The end of all rings of a mailbox: the receiver's own.
+/// The receiving end of all rings of a mailbox, which belongs to the receiver.
 ///
-/// Contracts see it as the turn and, for each sender, its ring, the messages that were taken of it, those that are known
-/// to wait, and whether its receipt was settled.
+/// Contracts see the turn and, for each sender, its ring, the messages taken from it, the messages known to
+/// wait, and whether its receipt was settled.
 #[derive(Drop)]
 pub struct Inlet<M> {
     ends: Vec<RingEnd<M>>,
@@ -15,7 +17,7 @@ pub struct Inlet<M> {
     ghost turn_in_range: { turn < vec_len ends },
 }
 
-/// What an outlet sent can't be told. `Inlet::settle` alone makes it.
+/// The error of a receipt that can't be settled. Only `Inlet::settle` can make it, and that always succeeds.
 #[derive(Clone, Copy, Debug, PartialEq, Eq, Error)]
 #[error("NotSettled")]
 pub struct NotSettled {
@@ -26,7 +28,7 @@ impl<M> Inlet<M> {
     ghost use Rattle.std.specs.Prelude.{◌≡◌, IfSome, IfNone};
     ghost use Rattle.plan_mailbox.specs.Ends.{IsTake, NothingKnown, inlet_of, receiving};
 
-    /// The inlet over these ends. The first sender has the turn.
+    /// Makes the inlet of these ends. The first sender has the turn.
     pub(crate) fn new(ends: Vec<RingEnd<M>>) -> Self
         requires { 0 < vec_len ends }
         ensures { inlet_of result ≡ receiving 0 ends.items }
@@ -34,8 +36,9 @@ impl<M> Inlet<M> {
         Inlet { ends, turn: 0 }
     }
 
-    /// Takes the oldest message of the first sender, from the turn on and round, of which the ring has one, with the
-    /// sender's number. The sender after it then has the turn. It returns at once, whatever the senders do.
+    /// Takes the oldest message of the first sender, from the turn on and then from sender 0, that has one in its ring.
+    /// Returns the sender's number and the message. The turn then passes to the next sender. Returns at once,
+    /// whatever the senders do.
     pub fn try_take(&mut self) -> Option<(usize, M)>
         ensures took { IfSome result (λ took. IsTake (inlet_of self.old) took.0 took.1 (inlet_of self.new)) }
         ensures unchanged { IfNone result (inlet_of self.new ≡ inlet_of self.old) }
@@ -57,9 +60,10 @@ impl<M: Drop> Inlet<M> {
     ghost use Rattle.std.specs.Prelude.{◌≡◌, IsOk, slice_get};
     ghost use Rattle.plan_mailbox.specs.Ends.{Accounts, after_settle, inlet_of, known_at, receipt_of};
 
-    /// Tells what still waits of the sender whose outlet was closed. It returns at once, and is `Ok`.
+    /// Learns from the receipt of a closed outlet which messages of its sender still wait. Returns at once,
+    /// and always succeeds.
     pub fn settle(&mut self, sender: usize, receipt: Receipt<M>) -> Result<(), NotSettled>
-        // The receipt is that of the outlet of this sender of the same split.
+        // The receipt comes from the outlet of this sender, of the same split.
         requires { slice_get (inlet_of self.old).rings sender ≡ Some (receipt_of receipt).ring }
         ensures succeeds { IsOk result }
         ensures accounts { Accounts (inlet_of self.new) sender (receipt_of receipt).sent }

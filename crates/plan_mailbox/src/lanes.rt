@@ -1,3 +1,5 @@
+//! The mailbox whose code `Core` and `Rings` share: a lane for each sender.
+
 ghost use Rattle.std.specs.Prelude.{◌≡◌, ◌<◌, ◌≤◌, All, length, vec_len, false};
 ghost use Rattle.plan_mailbox.specs.Mailbox.{most_room, most_senders};
 
@@ -10,9 +12,9 @@ use crate::sizes::{MOST_ROOM, MOST_SENDERS};
 use std::alloc::Global;
 use std::marker::PhantomData;
 
-/// A mailbox of messages `M` that keeps a lane `L` for each sender. Its room is made by `new`.
+/// A mailbox of messages `M` that keeps a lane `L` for each sender. `new` allocates its capacity.
 ///
-/// Both `Core` and `Rings` are such a mailbox, and meet every clause of `Post` by one body.
+/// `Core` and `Rings` are both of this type. So one implementation meets every clause of `Post` for both.
 #[derive(Drop)]
 pub struct Lanes<M, L: Lane<M>> {
     room: usize,
@@ -36,9 +38,12 @@ impl<M: Drop, L: Lane<M>> Lanes<M, L> {
     ghost use Rattle.plan_mailbox.specs.Mailbox.{IsNew, is_size, new_mailbox};
     ghost use Rattle.plan_mailbox.specs.Lanes.{mailbox_of};
 
-    /// An empty mailbox of 1 to 8 senders, with room for 1 to 1,024 messages of each: the only call that takes memory.
+    /// Makes an empty mailbox of 1 to 8 senders, each with a capacity of 1 to 1,024 messages. No other call
+    /// allocates memory.
     ///
-    /// `BadSize` comes at other sizes, and before `NoMemory`.
+    /// # Errors
+    ///
+    /// `BadSize` if a size is out of its range, else `NoMemory` if an allocation failed.
     pub fn new(alloc: Global, senders: usize, room: usize) -> Result<Self, NewFault>
         ensures made { IfOk result (λ made. mailbox_of made ≡ new_mailbox senders room) }
         ensures is_new { IfOk result (λ made. IsNew (mailbox_of made)) }
@@ -60,7 +65,7 @@ impl<M: Drop, L: Lane<M>> Lanes<M, L> {
 impl<M, L: Lane<M>> Lanes<M, L> {
     ghost use Rattle.std.specs.Prelude.{◌≡◌};
 
-    /// Its lanes, in the order of the senders.
+    /// Returns the lanes, in the order of the senders.
     pub(crate) fn into_lanes(self) -> Vec<L>
         ensures { result ≡ self.lanes }
     {

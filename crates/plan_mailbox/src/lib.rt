@@ -1,11 +1,13 @@
-//! The mailbox: some senders, each with room for so many messages, and one receiver.
+//! A mailbox: a few senders, each with a fixed capacity for messages, and one receiver.
 //!
-//! `Post` is what every mailbox does, and `run_steps` takes a list of steps on any of them. Its replies are those after the
-//! history of the steps before, and that history is lawful: of each sender what is taken is a prefix of what it sent, each
-//! message once and in order, and nothing is sent after its close. `Core` keeps a queue for each sender, and `Rings` a ring.
+//! `Post` is what every mailbox can do, and `run_steps` performs a list of steps on any of them. Each reply
+//! follows from the history of the steps before it. That history is lawful: what is taken from a sender is a
+//! prefix of what it sent, each message once and in order, and a sender sends nothing after its close. `Core`
+//! keeps a queue for each sender, `Rings` a ring.
 //!
-//! It stands on no crate of the project, and on the kit's `rtrb` for the rings. Open `mailbox` first, then `lanes`, the one body that
-//! `Core` and `Rings` share; `outlet` and `inlet` are the ends that threads hold.
+//! The crate uses no other crate of the project. From the kit it uses `rtrb` for the rings. Read `mailbox`
+//! first, then `lanes`, whose code `Core` and `Rings` share. `outlet` and `inlet` are the ends that threads
+//! hold.
 #![tactic(auto)]
 
 mod faults;

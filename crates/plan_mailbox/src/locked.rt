@@ -1,3 +1,5 @@
+//! A plain mailbox behind a lock, for several threads.
+
 ghost use Rattle.std.specs.Prelude.{◌≡◌, ◌<◌, ◌≤◌, ◌↔◌, IfOk, IsErrOf, MatchOption, MatchResult, false};
 ghost use Rattle.plan_mailbox.specs.Lanes.{mailbox_of};
 ghost use Rattle.plan_mailbox.specs.Locked.{IsCloseReply, IsSendReply, IsTakeReply, answer_to_close, answer_to_send, answer_to_take, senders_in};
@@ -11,10 +13,12 @@ use crate::replies::Reply;
 use std::alloc::Global;
 use std::sync::{Condvar, Mutex, Wait};
 
-/// A plain mailbox behind a lock, that threads share: a send waits for room, and a take for a message.
+/// A plain mailbox behind a lock, which threads share. A send waits for a free place, and a take for a
+/// message.
 ///
-/// Whenever the lock is got, the mailbox is one of 1 to 8 senders, no more messages of each wait than there is room for,
-/// and the turn is a sender's: its type says so. What was sent before isn't known to a caller.
+/// Whenever a thread holds the lock, the mailbox has 1 to 8 senders, no more messages of each wait than its
+/// capacity, and the turn is one of the senders. The type guarantees that. A caller doesn't know what was
+/// sent before.
 #[derive(Drop)]
 pub struct Locked<M: Drop>
 where
@@ -27,9 +31,12 @@ where
 }
 
 impl<M: Drop> Locked<M> {
-    /// An empty mailbox of 1 to 8 senders, with room for 1 to 1,024 messages of each: the only call that takes memory.
+    /// Makes an empty mailbox of 1 to 8 senders, each with a capacity of 1 to 1,024 messages. No other call
+    /// allocates memory.
     ///
-    /// `BadSize` comes at other sizes, and before `NoMemory`.
+    /// # Errors
+    ///
+    /// `BadSize` if a size is out of its range, else `NoMemory` if an allocation failed.
     pub fn new(alloc: Global, senders: usize, room: usize) -> Result<Self, NewFault>
         ensures senders { IfOk result (λ locked. senders_in locked ≡ senders) }
         ensures bad_size { IsErrOf result NewFault.BadSize ↔ (is_size senders room ≡ false) }
@@ -43,8 +50,8 @@ impl<M: Drop> Locked<M> {
         })
     }
 
-    /// The sender sends the message, and waits for room: `NoSender` if there is no such sender, else `Closed` if it is
-    /// shut, else `Sent`.
+    /// Sends the message, and waits for a free place if its sender has none. Replies `NoSender` if there is
+    /// no such sender, else `Closed` if the sender is closed, else `Sent`.
     pub fn send<R: Wait>(&self, rt: &R, sender: usize, message: M) -> Reply<M>
         ensures no_sender { senders_in self.now ≤ sender → result ≡ Reply.NoSender message }
         ensures sender { sender < senders_in self.now → IsSendReply message result }
@@ -67,8 +74,9 @@ impl<M: Drop> Locked<M> {
         unreachable!()
     }
 
-    /// Takes the oldest message of the first sender, from the turn on and round, of which one waits, and waits for one:
-    /// `Took`, or `Ended` where none waits and all senders are shut.
+    /// Takes the oldest message of the first sender, from the turn on and then from sender 0, that has one
+    /// waiting. If there is none, waits for one. Replies `Took`, or `Ended` if no message waits and all
+    /// senders are closed.
     pub fn take<R: Wait>(&self, rt: &R) -> Reply<M>
         ensures { IsTakeReply result }
     {
@@ -83,8 +91,8 @@ impl<M: Drop> Locked<M> {
         unreachable!()
     }
 
-    /// Shuts the sender, and wakes those who wait: `Unknown` if there is no such sender, else `Shut`, or `AlreadyShut`
-    /// where it was shut before. What waits stays.
+    /// Closes the sender, and wakes all threads that wait. Replies `Unknown` if there is no such sender, else
+    /// `AlreadyShut` if it was closed before, else `Shut`. Its waiting messages stay.
     pub fn close<R: Wait>(&self, rt: &R, sender: usize) -> Reply<M>
         ensures no_sender { senders_in self.now ≤ sender → result ≡ Reply.Unknown }
         ensures sender { sender < senders_in self.now → IsCloseReply result }
@@ -99,7 +107,7 @@ impl<M: Drop> Locked<M> {
     }
 }
 
-// Sends a message to the mailbox, and hands it back where its room is full.
+// Sends a message to the mailbox. Returns it as the error if the sender's capacity is used up.
 fn offer<M: Drop>(core: &mut Core<M>, sender: usize, message: M) -> Result<Reply<M>, M>
     ensures reply { MatchResult result (IsSendReply message) (λ back. back ≡ message) }
     ensures answer { result ≡ answer_to_send (send_reply (mailbox_of core.old) sender message) }
@@ -112,7 +120,7 @@ fn offer<M: Drop>(core: &mut Core<M>, sender: usize, message: M) -> Result<Reply
     }
 }
 
-// Takes a message, or tells that none will come. `None` where one may still come.
+// Takes a message, or replies that none will come. Returns `None` if one may still come.
 fn next<M: Drop>(core: &mut Core<M>) -> Option<Reply<M>>
     ensures reply { MatchOption result (Unit {0}) IsTakeReply }
     ensures answer { result ≡ answer_to_take (take_reply (mailbox_of core.old)) }
@@ -124,7 +132,7 @@ fn next<M: Drop>(core: &mut Core<M>) -> Option<Reply<M>>
     }
 }
 
-// Shuts a sender.
+// Closes a sender.
 fn shut<M: Drop>(core: &mut Core<M>, sender: usize) -> Reply<M>
     ensures reply { IsCloseReply result }
     ensures answer { result ≡ answer_to_close (close_reply (mailbox_of core.old) sender) }

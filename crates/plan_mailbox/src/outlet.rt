@@ -1,10 +1,12 @@
+//! The sending end of a ring, and the receipt that remains when it is closed.
+
 ghost use Rattle.std.specs.Prelude.{◌≡◌, IsOk, OnOk, OnErr, IfErr};
 
 use rtrb::{Producer, PushError};
 
-/// The end of a ring that sends: the sender's own. It can move to another thread.
+/// The sending end of a ring, which belongs to one sender. It can move to another thread.
 ///
-/// Contracts see it as the sender's number, its ring and the messages that it sent, and by how many places of the ring it
+/// Contracts see the sender's number, its ring, the messages that it sent, and how many places of the ring it
 /// knows to be free.
 #[derive(Drop)]
 pub struct Outlet<M> {
@@ -12,7 +14,7 @@ pub struct Outlet<M> {
     producer: Producer<M>,
 }
 
-/// What is left of an outlet that was closed. It tells the inlet all that the outlet sent.
+/// What remains of a closed outlet. The inlet learns from it everything that the outlet sent.
 #[derive(Drop)]
 pub struct Receipt<M> {
     outlet: Outlet<M>,
@@ -23,7 +25,7 @@ impl<M> Outlet<M> {
     ghost use Rattle.rtrb.specs.Ring.{known_free, sent};
     ghost use Rattle.plan_mailbox.specs.Ends.{free_of, outlet_of, producer_ring, receipt_of};
 
-    /// The outlet of the sender with this number, over one end of its ring.
+    /// Makes the outlet of the sender with this number, from the sending end of its ring.
     pub(crate) fn new(sender: usize, producer: Producer<M>) -> Self
         ensures free { free_of result ≡ known_free producer }
         ensures outlet { outlet_of result ≡ record { sender = sender; ring = producer_ring producer; sent = sent producer } }
@@ -31,15 +33,20 @@ impl<M> Outlet<M> {
         Outlet { sender, producer }
     }
 
-    /// The sender's number.
+    /// Returns the sender's number.
     pub fn sender(&self) -> usize
         ensures { result ≡ (outlet_of self.now).sender }
     {
         self.sender
     }
 
-    /// Sends the message where the ring has room, and else hands it back, and nothing is sent. It returns at once,
-    /// whatever the receiver does. Where it knows of a free place it sends, and takes no more than that one.
+    /// Sends the message if the ring has a free place. Returns at once, whatever the receiver does.
+    ///
+    /// An outlet that knows of a free place sends without error, and uses up no more than that place.
+    ///
+    /// # Errors
+    ///
+    /// If the ring is full, nothing is sent, and the message comes back.
     pub fn try_send(&mut self, message: M) -> Result<(), M>
         ensures sent { let before = outlet_of self.old in OnOk result
             (outlet_of self.new ≡ record before { sent = before.sent ++ message ∷ [] }) }
@@ -55,7 +62,7 @@ impl<M> Outlet<M> {
         }
     }
 
-    /// Ends the sending: the receipt stands for all that was sent.
+    /// Closes the outlet. The receipt accounts for everything that was sent.
     pub fn close(self) -> Receipt<M>
         ensures { receipt_of result ≡ outlet_of self }
     {
@@ -67,14 +74,14 @@ impl<M> Receipt<M> {
     ghost use Rattle.rtrb.specs.Ring.{sent};
     ghost use Rattle.plan_mailbox.specs.Ends.{producer_ring, receipt_of};
 
-    /// The number of the outlet's sender.
+    /// Returns the number of the outlet's sender.
     pub fn sender(&self) -> usize
         ensures { result ≡ (receipt_of self.now).sender }
     {
         self.outlet.sender
     }
 
-    /// The end of the ring that the outlet had.
+    /// Returns the sending end of the outlet's ring.
     pub(crate) fn into_producer(self) -> Producer<M>
         ensures ring { producer_ring result ≡ (receipt_of self).ring }
         ensures sent { sent result ≡ (receipt_of self).sent }

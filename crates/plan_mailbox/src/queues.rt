@@ -1,3 +1,5 @@
+//! The plain mailbox, which keeps a queue for each sender.
+
 ghost use Rattle.std.specs.Prelude.{◌≤◌, length};
 ghost use Rattle.std.specs.VecDeque.{deque_capacity, deque_len};
 
@@ -9,7 +11,7 @@ use std::collections::VecDeque;
 /// The plain mailbox: a queue for each sender.
 pub type Core<M> = Lanes<M, QueueLane<M>>;
 
-/// The queue of a sender, and whether it is shut. Its room is made by `new`.
+/// The queue of a sender, and whether the sender is closed. `new` allocates its capacity.
 #[derive(Drop)]
 pub struct QueueLane<M> {
     queue: VecDeque<M>,

@@ -1,11 +1,13 @@
+//! The steps on a mailbox, and its replies.
+
 /// A step on a mailbox.
 #[derive(Debug, PartialEq, Eq, Drop)]
 pub enum Step<M> {
-    /// The sender of this number sends a message.
+    /// The sender with this number sends a message.
     Send(usize, M),
     /// The receiver takes a message.
     Take,
-    /// The sender of this number is closed: it sends no more.
+    /// The sender with this number is closed. It sends no more.
     Close(usize),
 }
 
@@ -14,22 +16,22 @@ pub enum Step<M> {
 pub enum Reply<M> {
     /// The message was sent, and waits.
     Sent,
-    /// As many messages of this sender wait as there is room for. The message comes back.
+    /// The capacity of this sender is used up. The message comes back.
     Full(M),
-    /// The sender is shut. The message comes back.
+    /// The sender is closed. The message comes back.
     Closed(M),
-    /// The mailbox has no sender of this number. The message comes back.
+    /// The mailbox has no sender with this number. The message comes back.
     NoSender(M),
-    /// The message that was taken, and the number of its sender.
+    /// The message that was taken, after the number of its sender.
     Took(usize, M),
-    /// No message waits, and a sender isn't shut yet.
+    /// No message waits, and a sender isn't closed yet.
     Nothing,
-    /// No message waits, and all senders are shut.
+    /// No message waits, and all senders are closed.
     Ended,
-    /// The sender is shut from now on.
+    /// The sender is closed from now on.
     Shut,
-    /// The sender was shut before.
+    /// The sender was closed before.
     AlreadyShut,
-    /// The mailbox has no sender of this number.
+    /// The mailbox has no sender with this number.
     Unknown,
 }

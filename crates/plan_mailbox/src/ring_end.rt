@@ -1,3 +1,5 @@
+//! The receiving end of one ring.
+
 ghost use Rattle.std.specs.Prelude.{◌≡◌, ◌<◌, ◌≤◌, ◌↔◌, ℕ, [], ◌∷◌, ◌++◌, IsTrue, IfSome, IfNone, false, length, slice_set, true, vec_len};
 ghost use mathlib.Core.List.{IsPrefix};
 ghost use Rattle.rtrb.specs.Ring.{IsPair, known_items, received, sent};
@@ -5,7 +7,7 @@ ghost use Rattle.plan_mailbox.specs.Ends.{IsTakeAmong, consumer_ring, known_at, 
 
 use rtrb::{Consumer, Producer};
 
-/// The end of a ring that takes, and whether the receipt of its sender was settled.
+/// The receiving end of a ring, and whether the receipt of its sender was settled.
 #[derive(Drop)]
 pub(crate) struct RingEnd<M> {
     consumer: Consumer<M>,
@@ -13,7 +15,7 @@ pub(crate) struct RingEnd<M> {
 }
 
 impl<M> RingEnd<M> {
-    /// The end of a ring whose receipt was not settled.
+    /// Makes the receiving end of a ring. The receipt isn't settled yet.
     pub(crate) fn new(consumer: Consumer<M>) -> Self
         ensures { result ≡ record { consumer = consumer; is_settled = false } }
     {
@@ -23,7 +25,8 @@ impl<M> RingEnd<M> {
         }
     }
 
-    /// Takes the oldest message, if there is one. Where the receipt was settled, it is one that is known to wait.
+    /// Takes the oldest message, if there is one. Once the receipt is settled, it takes only messages that
+    /// are known to wait.
     fn try_take(&mut self) -> Option<M>
         ensures ring { consumer_ring self.new.consumer ≡ consumer_ring self.old.consumer }
         ensures settled { self.new.is_settled ≡ self.old.is_settled }
@@ -43,7 +46,8 @@ impl<M> RingEnd<M> {
         Some(self.consumer.pop_known())
     }
 
-    /// Whether a message waits. Where the receipt was settled, all that wait are known, and the ring isn't looked at.
+    /// Returns whether a message waits. Once the receipt is settled, all waiting messages are known, and the
+    /// ring isn't read.
     fn has_message(&mut self) -> bool
         ensures value { IsTrue result ↔ (0 < length (known_items self.new.consumer)) }
         ensures ring { consumer_ring self.new.consumer ≡ consumer_ring self.old.consumer }
@@ -61,7 +65,7 @@ impl<M> RingEnd<M> {
 }
 
 impl<M: Drop> RingEnd<M> {
-    /// Learns what still waits from the other end, which sends no more.
+    /// Learns which messages still wait from the sending end, which sends no more.
     pub(crate) fn settle(&mut self, producer: Producer<M>)
         requires { IsPair producer self.old.consumer }
         ensures ring { consumer_ring self.new.consumer ≡ consumer_ring self.old.consumer }
@@ -75,7 +79,7 @@ impl<M: Drop> RingEnd<M> {
     }
 }
 
-/// Takes the oldest message of the first sender, from one on and up to another, of which the ring has one.
+/// Takes the oldest message of the first sender, from `from` to before `upto`, that has one in its ring.
 pub(crate) fn take_among<M>(
     ends: &mut Vec<RingEnd<M>>,
     from: usize,

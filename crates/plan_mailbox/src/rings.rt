@@ -1,3 +1,5 @@
+//! The mailbox of rings, and how it is split into the ends that threads hold.
+
 ghost use Rattle.std.specs.Prelude.{◌≡◌, ◌++◌, []};
 ghost use Rattle.rtrb.specs.Ring.{IsPair, known_free, known_items, producer_capacity, received, sent};
 
@@ -9,10 +11,10 @@ use crate::ring_end::RingEnd;
 use rtrb::{Consumer, Producer, RingBuffer};
 use std::alloc::{AllocError, Global};
 
-/// The mailbox of rings: a ring for each sender, of as many places as there is room for messages.
+/// The mailbox of rings: a ring for each sender, with as many places as the sender's capacity.
 pub type Rings<M> = Lanes<M, RingLane<M>>;
 
-/// Both ends of the ring of a sender, and whether it is shut.
+/// Both ends of a sender's ring, and whether the sender is closed.
 #[derive(Drop)]
 pub struct RingLane<M> {
     producer: Producer<M>,
@@ -75,10 +77,12 @@ impl<M: Drop> Lanes<M, RingLane<M>> {
     ghost use Rattle.plan_mailbox.specs.Mailbox.{IsNew, senders_of};
     ghost use Rattle.plan_mailbox.specs.Splits.{rings_of};
 
-    /// The ends of the rings of a new mailbox: an outlet for each sender, at its place, and the inlet for the receiver.
-    /// Each outlet knows that there is room for as many messages as the mailbox had.
+    /// Splits a new mailbox into the ends of its rings: an outlet for each sender, in the order of the
+    /// senders, and the inlet for the receiver. Each outlet knows that its whole capacity is free.
     ///
-    /// Room for them is made first. Where memory is refused the rings come back unchanged.
+    /// # Errors
+    ///
+    /// If an allocation fails, the mailbox comes back unchanged.
     pub fn split(self, alloc: Global) -> Result<(Vec<Outlet<M>>, Inlet<M>), Self>
         requires { IsNew (mailbox_of self) }
         ensures refused { IfErr result (λ back. back ≡ self) }
@@ -104,7 +108,7 @@ impl<M: Drop> Lanes<M, RingLane<M>> {
 }
 
 impl<M> RingLane<M> {
-    /// Both ends of its ring.
+    /// Returns both ends of the ring.
     fn into_ends(self) -> (Producer<M>, Consumer<M>)
         ensures producer { result.0 ≡ self.producer }
         ensures consumer { result.1 ≡ self.consumer }

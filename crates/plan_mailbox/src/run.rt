@@ -1,3 +1,5 @@
+//! Performs a list of steps on a mailbox.
+
 ghost use Rattle.std.specs.Prelude.{◌≡◌, ℕ, IfErr, IfOk, OnErr, vec_len};
 ghost use Rattle.plan_mailbox.specs.History.{IsLawful, record_of, waiting_of};
 ghost use Rattle.plan_mailbox.specs.Mailbox.{IsLeftBy, IsNew, after, reply_of, senders_of, waiting_at};
@@ -7,10 +9,13 @@ use crate::mailbox::Post;
 use crate::replies::{Reply, Step};
 use std::alloc::Global;
 
-/// Takes the steps on a new mailbox, in order, and answers what it replied to each.
+/// Performs the steps on a new mailbox, in order, and returns its reply to each of them.
 ///
-/// Room for all replies is made first: the only memory that it takes. Where that is refused the steps come back, and the
-/// mailbox is unchanged.
+/// Memory for all replies is allocated first. No other memory is requested.
+///
+/// # Errors
+///
+/// If that allocation fails, the steps come back, and the mailbox is unchanged.
 pub fn run_steps<M: Drop, P: Post<M>>(
     alloc: Global,
     post: &mut P,
@@ -21,8 +26,8 @@ pub fn run_steps<M: Drop, P: Post<M>>(
     ensures unchanged { OnErr result (post.new ≡ post.old) }
     ensures as_many { IfOk result (λ replies. vec_len replies ≡ vec_len steps) }
 
-    // With the mailbox as it was seen before: each reply is the one after the steps before it, what
-    // they all record is lawful, and the mailbox is what that leaves.
+    // `before` is the mailbox before the call. Each reply follows from the steps before it, the history that
+    // all steps record is lawful, and that history leaves the mailbox as it is afterwards.
     ensures in_turn { let before = P.seen post.old in IfOk result (λ replies.
         RepliesInTurn (senders_of before) before.room steps.items replies.items) }
     ensures lawful { let before = P.seen post.old in IfOk result (λ replies.
@@ -43,7 +48,7 @@ pub fn run_steps<M: Drop, P: Post<M>>(
     Ok(replies)
 }
 
-/// Takes one step on a mailbox.
+/// Performs one step on a mailbox.
 fn take_step<M, P: Post<M>>(post: &mut P, step: Step<M>) -> Reply<M>
     ensures reply { result ≡ reply_of (P.seen post.old) step }
     ensures after { P.seen post.new ≡ after (P.seen post.old) step }

@@ -1,3 +1,5 @@
+//! Searches through the lanes of a mailbox.
+
 ghost use Rattle.std.specs.Prelude.{◌≡◌, ◌<◌, ◌≤◌, All, IfOk, IfSome, [], false, find, length, nat_lt, vec_len};
 ghost use Rattle.std.specs.List.{list_all, list_any};
 ghost use Rattle.plan_mailbox.specs.Places.{waiting_in};
@@ -6,7 +8,7 @@ ghost use Rattle.plan_mailbox.specs.Turn.{in_turn};
 use crate::lane::Lane;
 use std::alloc::{AllocError, Global};
 
-/// The first sender, from the turn on and round, of which a message waits.
+/// Returns the first sender, from the turn on and then from sender 0, that has a message waiting.
 pub(crate) fn first_waiting<M, L: Lane<M>>(lanes: &[L], turn: usize) -> Option<usize>
     requires { turn < length lanes.now }
     ensures first { result ≡ find (λ s. nat_lt 0 (length (waiting_in L.waiting lanes.now s)))
@@ -19,28 +21,28 @@ pub(crate) fn first_waiting<M, L: Lane<M>>(lanes: &[L], turn: usize) -> Option<u
         .find(|sender| has_waiting(lanes, *sender))
 }
 
-/// Whether all senders are shut.
+/// Returns whether all senders are closed.
 pub(crate) fn all_shut<M, L: Lane<M>>(lanes: &[L]) -> bool
     ensures { result ≡ list_all L.marked lanes.now }
 {
     lanes.iter().all(|lane| lane.is_shut())
 }
 
-/// Whether any sender is shut.
+/// Returns whether any sender is closed.
 pub(crate) fn any_shut<M, L: Lane<M>>(lanes: &[L]) -> bool
     ensures { result ≡ list_any L.marked lanes.now }
 {
     lanes.iter().any(|lane| lane.is_shut())
 }
 
-/// Whether a message of the sender waits.
+/// Returns whether a message of the sender waits.
 fn has_waiting<M, L: Lane<M>>(lanes: &[L], sender: usize) -> bool
     ensures { result ≡ nat_lt 0 (length (waiting_in L.waiting lanes.now sender)) }
 {
     lanes.get(sender).is_some_and(|lane| lane.len() > 0)
 }
 
-/// Empty lanes, each with its room.
+/// Makes empty lanes, as many as there are senders, each with the capacity `room`.
 pub(crate) fn new_lanes<M, L: Lane<M>>(
     alloc: Global,
     senders: usize,

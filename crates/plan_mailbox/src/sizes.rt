@@ -1,5 +1,7 @@
-/// The most senders of a mailbox.
+//! The limits for the sizes of a mailbox.
+
+/// The maximum number of senders of a mailbox.
 pub const MOST_SENDERS: usize = 8;
 
-/// The most messages of a sender for which a mailbox has room.
+/// The maximum capacity of a sender, in messages.
 pub const MOST_ROOM: usize = 1024;

@@ -1,4 +1,4 @@
--- How a calendar event is stored as numbers, sets and truth values, by which a proof tells two of them apart.
+-- How a calendar event is encoded as numbers, sets and truth values, so that a proof can tell two events apart.
 use Rattle.std.specs.Prelude.{◌≡◌, Bool, true, false, List, Option, refl}
 use Rattle.std.specs.Coded.{Coded, code_by, coded×, coded_bool, coded_list, coded_option}
 use Rattle.plan_sets.specs.Values.{Values, values_code}
@@ -8,10 +8,12 @@ use Rattle.plan_match.specs.declared.event.DayCount.{DayCount}
 use Rattle.plan_match.specs.declared.event.DayCount.TheVariants.{FromStart, FromEnd}
 use Rattle.plan_match.specs.declared.event.Calendar.{Calendar}
 
+-- whether the days are counted from the end of the month
 abbrev pub is_from_end : DayCount → Bool
 is_from_end FromStart = false
 is_from_end FromEnd = true
 
+-- the direction that such a truth value encodes
 abbrev pub count_if : Bool → DayCount
 count_if false = FromStart
 count_if true = FromEnd
@@ -20,20 +22,22 @@ pub count_if-is_from_end : (count : DayCount) → count_if (is_from_end count) �
 count_if-is_from_end FromStart = refl
 count_if-is_from_end FromEnd = refl
 
--- which way the days are counted, as a truth value
+-- the direction in which days are counted, as a truth value
 abbrev pub count_code : Coded DayCount
 count_code = code_by Bool coded_bool is_from_end count_if count_if-is_from_end
 
--- the parts of an event, in pairs
+-- the parts of an event, as nested pairs
 abbrev pub Parts : Type 0
 Parts = (Values × Values) × (((Values × DayCount) × (Values × Values)) × ((Values × Option Values) × (Bool × List Change)))
 
+-- the code of the parts
 abbrev pub parts_code : Coded Parts
 parts_code =
     coded× (coded× values_code values_code)
     (coded× (coded× (coded× values_code count_code) (coded× values_code values_code))
     (coded× (coded× values_code (coded_option values_code)) (coded× coded_bool (coded_list change_code))))
 
+-- the code of an event, from that of its parts
 abbrev pub calendar_code : Coded Calendar
 calendar_code =
     code_by Parts parts_code

@@ -1,4 +1,4 @@
--- When two rules are equal: they are of one kind, and their parts are equal.
+-- When two rules are equal: they are of the same kind, and their parts are equal.
 use Rattle.std.specs.Prelude.{◌≡◌, Bool, ◌&&◌, ◌==◌, true, false, Option, Some, None, refl, List}
 use Rattle.std.specs.Bool.{Decides, beq}
 use Rattle.std.specs.Cmp.{IsEquivalence, IsPartialEquivalence, partial_equiv_from_equiv, decided, booleans_Decides}
@@ -32,7 +32,7 @@ same_cron a b =
     && (beq a.week_days_restricted b.week_days_restricted
     && (beq a.is_wildcard b.is_wildcard && same_changes a.clock b.clock)))))))
 
--- the days are counted the same way
+-- the days are counted in the same direction
 abbrev pub same_count : DayCount → DayCount → Bool
 same_count FromStart FromStart = true
 same_count FromStart FromEnd = false
@@ -56,14 +56,14 @@ same_calendar a b =
 abbrev pub same_events : List Calendar → List Calendar → Bool
 same_events a b = pointwise same_calendar a b
 
--- two rules are of one kind and have the same parts
+-- two rules are of the same kind and have the same parts
 abbrev pub same_rule : Rule → Rule → Bool
 same_rule (Cron a) (Cron b) = same_cron a b
 same_rule (Events a) (Events b) = same_events a b
 same_rule Never Never = true
 same_rule a b = false
 
--- the parts of two cron rules, which are two values of one type only where all of them are
+-- all parts of two cron rules are equal, so the rules are equal
 abbrev PartsAre : CronRule → CronRule → Type 0
 PartsAre a b =
     (a.minutes ≡ b.minutes)
@@ -112,7 +112,7 @@ parts_from_cron a b same = (
   ),
 )
 
--- the test of two cron rules tells whether they are equal
+-- the test of two cron rules decides whether they are equal
 pub same_cron-Decides : (a b : CronRule) → Decides (same_cron a b) (a ≡ b)
 same_cron-Decides a b =
     Decides-like _ (cron_from_parts a b) (parts_from_cron a b)
@@ -137,7 +137,7 @@ maybe-Decides None (Some b) = (λ e. cc, λ e. cc)
 maybe-Decides (Some a) None = (λ e. cc, λ e. cc)
 maybe-Decides (Some a) (Some b) = Decides-like _ (ap Some) (λ e. cc) (Decides-listing a b)
 
--- the parts of two calendar events, which are two values of one type only where all of them are
+-- all parts of two calendar events are equal, so the events are equal
 abbrev CalendarPartsAre : Calendar → Calendar → Type 0
 CalendarPartsAre a b =
     (a.years ≡ b.years)
@@ -191,7 +191,7 @@ parts_from_calendar a b same = (
   ),
 )
 
--- the test of two calendar events tells whether they are equal
+-- the test of two calendar events decides whether they are equal
 pub same_calendar-Decides : (a b : Calendar) → Decides (same_calendar a b) (a ≡ b)
 same_calendar-Decides a b =
     Decides-like _ (calendar_from_parts a b) (parts_from_calendar a b)
@@ -205,7 +205,7 @@ same_calendar-Decides a b =
     (Decides-and _ _ (maybe-Decides a.weekdays b.weekdays)
     (Decides-and _ _ (booleans_Decides a.names_zone b.names_zone) (same_changes-Decides a.clock b.clock))))))))))
 
--- the test of two lists of them does too
+-- the test of two lists of events decides whether they are equal
 pub same_events-Decides : (a b : List Calendar) → Decides (same_events a b) (a ≡ b)
 same_events-Decides a b = pointwise_decides same_calendar-Decides a b
 
@@ -215,7 +215,7 @@ same_events_equivalence = decided same_events same_events-Decides
 pub same_events_laws : IsPartialEquivalence same_events
 same_events_laws = partial_equiv_from_equiv same_events_equivalence
 
--- the test of two rules tells whether they are equal
+-- the test of two rules decides whether they are equal
 pub same_rule-Decides : (a b : Rule) → Decides (same_rule a b) (a ≡ b)
 same_rule-Decides (Cron a) (Cron b) = Decides-like _ (ap Cron) (λ e. cc) (same_cron-Decides a b)
 same_rule-Decides (Cron a) (Events b) = (λ e. cc, λ e. cc)
@@ -227,7 +227,7 @@ same_rule-Decides Never (Cron b) = (λ e. cc, λ e. cc)
 same_rule-Decides Never (Events b) = (λ e. cc, λ e. cc)
 same_rule-Decides Never Never = (λ e. refl, λ e. refl)
 
--- and so it is an equivalence
+-- so the test is an equivalence
 pub same_rule_equivalence : IsEquivalence same_rule
 same_rule_equivalence = decided same_rule same_rule-Decides
 

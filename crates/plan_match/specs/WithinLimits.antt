@@ -1,4 +1,4 @@
--- Rules whose sets hold values of their fields alone.
+-- Rules whose sets have only values of their fields.
 use Rattle.std.specs.Prelude.{ℕ, IfSome, IsTrue}
 use Rattle.std.specs.Int.{IsInRange}
 use Rattle.std.specs.List.{All}
@@ -9,11 +9,11 @@ use Rattle.plan_match.specs.declared.event.Calendar.{Calendar}
 use Rattle.plan_match.specs.declared.rule.Rule.{Rule}
 use Rattle.plan_match.specs.declared.rule.Rule.TheVariants.{Cron, Events, Never}
 
--- each member of a set is a value from the first to the last
+-- each member of a set is in the range from the first value to the last
 abbrev pub LieWithin : ℕ → ℕ → SetOfValues → Type 0
 LieWithin first last values = (v : ℕ) → IsTrue (has_value values v) → IsInRange first last v
 
--- the values of the fields of a cron rule (crontab(5), fields); weekdays count from 0 for Sunday to 6
+-- the limits of the fields of a cron rule (crontab(5), fields); weekdays are from 0 for Sunday to 6
 pub record CronIsWithinLimits (rule : CronRule) : Type 0 where
   pub minutes : LieWithin 0 59 rule.minutes
   pub hours : LieWithin 0 23 rule.hours
@@ -21,7 +21,7 @@ pub record CronIsWithinLimits (rule : CronRule) : Type 0 where
   pub months : LieWithin 1 12 rule.months
   pub week_days : LieWithin 0 6 rule.week_days
 
--- the values of the components of a calendar event (systemd.time(7); own for the years); weekdays count from 0 for Monday
+-- the limits of the components of a calendar event (systemd.time(7); the years: (agenda)); weekdays are from 0 for Monday
 pub record EventIsWithinLimits (event : Calendar) : Type 0 where
   pub years : LieWithin first_year last_year event.years
   pub months : LieWithin 1 12 event.months
@@ -31,7 +31,7 @@ pub record EventIsWithinLimits (event : Calendar) : Type 0 where
   pub seconds : LieWithin 0 59 event.seconds
   pub weekdays : IfSome event.weekdays (LieWithin 0 6)
 
--- a rule of such fields or events
+-- all fields or events of a rule are within their limits
 abbrev pub RuleIsWithinLimits : Rule → Type 0
 RuleIsWithinLimits (Cron rule) = CronIsWithinLimits rule
 RuleIsWithinLimits (Events events) = All EventIsWithinLimits events

@@ -6,11 +6,11 @@ use Rattle.plan_match.specs.declared.event.Calendar.{Calendar}
 use Rattle.plan_match.specs.declared.rule.Rule.{Rule}
 use Rattle.plan_match.specs.declared.rule.Rule.TheVariants.{Cron, Never, Events}
 
--- a cron rule goes by the clock of the zone that cron runs in (cron(8))
+-- a cron rule uses the clock of the zone in which cron runs (cron(8))
 abbrev pub cron_in : List Change → CronRule → CronRule
 cron_in clock rule = record rule { clock = clock }
 
--- a calendar event goes by the clock of the system's zone, unless it names a zone of its own (systemd.time(7))
+-- a calendar event uses the clock of the system's zone, unless it names its own zone (systemd.time(7))
 abbrev pub event_in : List Change → Calendar → Calendar
 event_in clock event = if event.names_zone then event else record event { clock = clock }
 

@@ -6,7 +6,7 @@ use plan_clock::{Clock, Row};
 use plan_sets::{Civil, ValueSet};
 use std::alloc::AllocError;
 
-/// A cron rule: the values that its five fields admit, and which of its day fields are restricted (crontab(5)).
+/// A cron rule: the values of its five fields, and which of its day fields are restricted (crontab(5)).
 #[derive(Debug, Drop, PartialEq, Eq)]
 pub struct CronRule {
     /// The minutes of an hour, 0 to 59.
@@ -17,19 +17,20 @@ pub struct CronRule {
     pub month_days: ValueSet,
     /// The months, 1 to 12.
     pub months: ValueSet,
-    /// The days of a week, 0 to 6 from Sunday.
+    /// The days of a week, 0 to 6, from Sunday.
     pub week_days: ValueSet,
-    /// Whether the day of month was written without a `*` in front.
+    /// Whether the day of month was written without a leading `*`.
     pub month_days_restricted: bool,
-    /// Whether the day of week was written without a `*` in front.
+    /// Whether the day of week was written without a leading `*`.
     pub week_days_restricted: bool,
-    /// Whether the minutes or the hours were written with a `*` in front: such a rule runs by what the clock shows alone.
+    /// Whether the minutes or the hours were written with a leading `*`. Such a rule always starts by what the
+    /// clock shows, also around clock changes (cron(8)).
     pub is_wildcard: bool,
-    /// The clock whose fields have to match; without a change it is that of UTC.
+    /// The clock whose civil fields must match. A clock without changes is that of UTC.
     pub clock: Clock,
 }
 
-/// How large a change cron(8) takes for one of the clock that is made up for, in seconds: three hours.
+/// The size of a clock change, in seconds, up to which cron(8) handles it specially: three hours.
 const SMALL_CHANGE: i32 = 10_800;
 
 impl CronRule {
@@ -44,7 +45,7 @@ impl CronRule {
     ///
     /// # Errors
     ///
-    /// Fails only where the clock has too many handles.
+    /// `AllocError`, but only if the clock has too many handles.
     pub fn in_zone(&self, clock: &Clock) -> Result<CronRule, AllocError>
         ensures { IfOk result (λ rule. rule ≡ cron_in clock.now self.now) }
     {
@@ -61,28 +62,28 @@ impl CronRule {
         })
     }
 
-    /// The minutes of an hour, 0 to 59.
+    /// Returns the minutes of an hour, 0 to 59.
     pub fn minutes(&self) -> &ValueSet
         ensures { result.now ≡ self.now.minutes }
     {
         &self.minutes
     }
 
-    /// The hours of a day, 0 to 23.
+    /// Returns the hours of a day, 0 to 23.
     pub fn hours(&self) -> &ValueSet
         ensures { result.now ≡ self.now.hours }
     {
         &self.hours
     }
 
-    /// The months, 1 to 12.
+    /// Returns the months, 1 to 12.
     pub fn months(&self) -> &ValueSet
         ensures { result.now ≡ self.now.months }
     {
         &self.months
     }
 
-    /// Whether the rule is run otherwise about the change with which a row of its clock begins (cron(8)).
+    /// Returns whether the rule handles the clock change at the start of this row specially (cron(8)).
     pub fn heeds(&self, row: Row) -> bool
         requires { is_bounded row ≡ true }
         ensures { result ≡ cron_heeds self.now row }
@@ -91,10 +92,10 @@ impl CronRule {
         !self.is_wildcard && (-SMALL_CHANGE <= size && size < 0 || 0 < size && size < SMALL_CHANGE)
     }
 
-    /// Whether the rule admits the day that these civil fields show: its year, month, day and weekday alone are looked at.
+    /// Returns whether the rule matches the day of these civil fields. Only the date and the weekday are read.
     pub fn day_matches(&self, civil: &Civil) -> bool
         ensures value { result ≡ day_matches self.now civil.now }
-        // The rule matches exactly where the day does, hour and minute are among its values, and the second is 0.
+        // The rule matches if and only if the day matches, hour and minute are among its values, and the second is 0.
         ensures rule { IsTrue (cron_matches self.now civil.now)
             ↔ (IsTrue result × HasTimeOfDay self.now civil.now) }
         ensures month { IsTrue result → IsTrue (has_value self.now.months civil.now.month) }
@@ -102,7 +103,7 @@ impl CronRule {
         self.months.contains(u16::from(civil.month)) && self.days_admit(civil)
     }
 
-    // Whether the day fields admit the day: one of them where both are restricted, else both.
+    // Returns whether the day fields match the day. If both are restricted, one match is enough; else both must match.
     fn days_admit(&self, civil: &Civil) -> bool
         ensures { result ≡ days_admit self.now civil.now }
     {
@@ -115,7 +116,7 @@ impl CronRule {
         }
     }
 
-    // Whether the rule admits the second that has these civil fields.
+    // Returns whether the rule matches the second that has these civil fields.
     pub(crate) fn matches(&self, civil: &Civil) -> bool
         ensures { result ≡ cron_matches self.now civil.now }
     {

@@ -7,23 +7,23 @@ use plan_clock::Clock;
 use plan_sets::{Civil, FIRST_YEAR, LAST_YEAR, ValueSet, month_length};
 use std::alloc::AllocError;
 
-/// Which way the days of an event are counted.
+/// The direction in which the days of an event are counted.
 #[derive(Clone, Copy, Debug, PartialEq, Eq)]
 pub enum DayCount {
     /// From the start of the month: 1 is the first day.
     FromStart,
-    /// From the end of the month, as after `~`: 1 is the last day.
+    /// From the end of the month, after a `~`: 1 is the last day.
     FromEnd,
 }
 
-/// A calendar event: the values that its components admit (systemd.time(7)).
+/// A calendar event: the values of its components (systemd.time(7)).
 #[derive(Debug, Drop, PartialEq, Eq)]
 pub struct Calendar {
     /// The years, `FIRST_YEAR` to `LAST_YEAR`.
     pub years: ValueSet,
     /// The months, 1 to 12.
     pub months: ValueSet,
-    /// The days of a month, 1 to 31, as `day_count` says.
+    /// The days of a month, 1 to 31, counted as `day_count` says.
     pub days: ValueSet,
     /// Whether the days are counted from the start or from the end of the month.
     pub day_count: DayCount,
@@ -33,11 +33,11 @@ pub struct Calendar {
     pub minutes: ValueSet,
     /// The seconds of a minute, 0 to 59.
     pub seconds: ValueSet,
-    /// The weekdays, 0 to 6 from Monday, where a weekday part was given.
+    /// The weekdays, 0 to 6 from Monday, if there is a weekday part.
     pub weekdays: Option<ValueSet>,
-    /// Whether the event was written with a time zone of its own.
+    /// Whether the event was written with a time zone.
     pub names_zone: bool,
-    /// The clock whose fields have to match; without a change it is that of UTC.
+    /// The clock whose civil fields must match. A clock without changes is that of UTC.
     pub clock: Clock,
 }
 
@@ -47,11 +47,11 @@ impl Calendar {
     ghost use Rattle.plan_match.specs.EventMatch.{month_day_matches, weekday_matches, event_day_matches, event_matches, HasEventTime};
     ghost use Rattle.plan_match.specs.Zone.{event_in};
 
-    /// Returns the same event in the zone of a clock, unless it names a zone of its own (systemd.time(7)).
+    /// Returns the same event in the zone of a clock, or in its own zone if it names one (systemd.time(7)).
     ///
     /// # Errors
     ///
-    /// Fails only where a clock has too many handles.
+    /// `AllocError`, but only if the clock has too many handles.
     pub fn in_zone(&self, clock: &Clock) -> Result<Calendar, AllocError>
         ensures { IfOk result (λ event. event ≡ event_in clock.now self.now) }
     {
@@ -70,45 +70,45 @@ impl Calendar {
         })
     }
 
-    /// The years, `FIRST_YEAR` to `LAST_YEAR`.
+    /// Returns the years, `FIRST_YEAR` to `LAST_YEAR`.
     pub fn years(&self) -> &ValueSet
         ensures { result.now ≡ self.now.years }
     {
         &self.years
     }
 
-    /// The months, 1 to 12.
+    /// Returns the months, 1 to 12.
     pub fn months(&self) -> &ValueSet
         ensures { result.now ≡ self.now.months }
     {
         &self.months
     }
 
-    /// The hours of a day, 0 to 23.
+    /// Returns the hours of a day, 0 to 23.
     pub fn hours(&self) -> &ValueSet
         ensures { result.now ≡ self.now.hours }
     {
         &self.hours
     }
 
-    /// The minutes of an hour, 0 to 59.
+    /// Returns the minutes of an hour, 0 to 59.
     pub fn minutes(&self) -> &ValueSet
         ensures { result.now ≡ self.now.minutes }
     {
         &self.minutes
     }
 
-    /// The seconds of a minute, 0 to 59.
+    /// Returns the seconds of a minute, 0 to 59.
     pub fn seconds(&self) -> &ValueSet
         ensures { result.now ≡ self.now.seconds }
     {
         &self.seconds
     }
 
-    /// Whether the event admits the day of these civil fields: their year, month, day and weekday, whatever the time of day.
+    /// Returns whether the event matches the day of these civil fields. Only the date and the weekday are read.
     pub fn day_matches(&self, civil: &Civil) -> bool
         ensures value { result ≡ event_day_matches self.now civil.now }
-        // The event matches exactly where the day does, and hour, minute and second are among its values.
+        // The event matches if and only if the day matches, and hour, minute and second are among its values.
         ensures rule { IsTrue (event_matches self.now civil.now)
             ↔ (IsTrue result × HasEventTime self.now civil.now) }
         ensures month { IsTrue result → IsTrue (has_value self.now.months civil.now.month) }
@@ -120,7 +120,7 @@ impl Calendar {
             && self.weekday_matches(civil)
     }
 
-    /// Whether the event admits the second that has these civil fields: its day, hour, minute and second.
+    /// Returns whether the event matches the second that has these civil fields: its day, hour, minute and second.
     pub fn matches(&self, civil: &Civil) -> bool
         ensures value { result ≡ event_matches self.now civil.now }
     {
@@ -130,7 +130,7 @@ impl Calendar {
             && self.seconds.contains(u16::from(civil.second))
     }
 
-    // Whether the list of days holds the day.
+    // Returns whether the list of days contains the day.
     fn month_day_matches(&self, civil: &Civil) -> bool
         ensures { result ≡ month_day_matches self.now.day_count self.now.days civil.now }
     {
@@ -143,7 +143,7 @@ impl Calendar {
         }
     }
 
-    // Whether the weekday is one of the event's, where it has a weekday part.
+    // Returns whether the weekday matches. It does if there is no weekday part.
     fn weekday_matches(&self, civil: &Civil) -> bool
         ensures { result ≡ weekday_matches self.now.weekdays civil.now }
     {
@@ -154,7 +154,8 @@ impl Calendar {
     }
 }
 
-// The place of a day from the end of its month, where the last day is 1; `None` where the calendar has no such day.
+// Returns the place of a day from the end of its month, where the last day is 1, or `None` if the calendar has
+// no such day.
 fn place_from_end(civil: &Civil) -> Option<u16>
     ensures { result ≡ (if is_day civil.now then Some (place_from_end civil.now) else None) }
 {

@@ -10,7 +10,7 @@ use plan_sets::Civil;
 use std::alloc::{AllocError, AllocFailed, Global};
 use std::marker::Model;
 
-/// A list of calendar events, seen as that list: a job with it starts where any of them matches.
+/// A list of calendar events. A job with it starts when any of them matches.
 #[derive(Debug, Drop)]
 pub struct Events {
     calendars: Vec<Calendar>,
@@ -30,7 +30,7 @@ impl Model for Events {
     ghost view = { λ events. events.calendars.items };
 }
 
-// Equal are lists with equal events in the same order.
+// Two lists are equal if they have equal events in the same order.
 impl PartialEq for Events {
     ghost use Rattle.std.specs.Prelude.{◌≡◌};
     ghost use Rattle.plan_match.specs.Equal.{same_events, same_events_laws};
@@ -53,7 +53,7 @@ impl Eq for Events {
 }
 
 impl Events {
-    /// The list with no event.
+    /// Returns a list without events.
     pub fn new(alloc: Global) -> Events
         ensures { result ≡ [] }
     {
@@ -62,7 +62,11 @@ impl Events {
         }
     }
 
-    /// The list of one event; where memory is refused the event comes back.
+    /// Returns a list of one event.
+    ///
+    /// # Errors
+    ///
+    /// If an allocation fails, the error returns the event.
     pub fn one(alloc: Global, event: Calendar) -> Result<Events, AllocFailed<Calendar>>
         ensures list { IfOk result (λ events. events ≡ event ∷ []) }
         ensures returned { IfErr result (λ refused. refused.value ≡ event) }
@@ -72,7 +76,11 @@ impl Events {
         Ok(events)
     }
 
-    /// Adds an event at the end; where memory is refused the event comes back and the list is unchanged.
+    /// Adds an event at the end.
+    ///
+    /// # Errors
+    ///
+    /// If an allocation fails, the error returns the event, and the list is unchanged.
     pub fn push(&mut self, event: Calendar) -> Result<(), AllocFailed<Calendar>>
         ensures list { self.new ≡ (if is_ok result then self.old ++ event ∷ [] else self.old) }
         ensures returned { IfErr result (λ refused. refused.value ≡ event) }
@@ -80,18 +88,19 @@ impl Events {
         self.calendars.push(event)
     }
 
-    /// Takes all events away.
+    /// Removes all events.
     pub fn clear(&mut self)
         ensures { self.new ≡ [] }
     {
         self.calendars.clear();
     }
 
-    /// Returns the same list with each event in the zone of a clock, unless it names a zone of its own (systemd.time(7)).
+    /// Returns the same list with each event in the zone of a clock, or in its own zone if it names one
+    /// (systemd.time(7)).
     ///
     /// # Errors
     ///
-    /// Fails where memory is refused.
+    /// `AllocError` if an allocation fails.
     pub fn in_zone(&self, alloc: Global, clock: &Clock) -> Result<Events, AllocError>
         ensures { IfOk result (λ events. events ≡ map (event_in clock.now) self.now) }
     {
@@ -102,21 +111,21 @@ impl Events {
         Ok(Events { calendars })
     }
 
-    /// How many events there are.
+    /// Returns the number of events.
     pub fn len(&self) -> usize
         ensures { result ≡ length self.now }
     {
         self.calendars.len()
     }
 
-    /// The event at a place, from 0; `None` past the last.
+    /// Returns the event at a place, from 0, or `None` after the last.
     pub fn get(&self, i: usize) -> Option<&Calendar>
         ensures { option_copied result ≡ slice_get self.now i }
     {
         self.calendars.get(i)
     }
 
-    /// Whether some event admits the second that has these civil fields.
+    /// Returns whether some event matches the second that has these civil fields.
     pub fn matches(&self, civil: &Civil) -> bool
         ensures { result ≡ some_event_matches self.now civil.now }
     {

@@ -1,6 +1,7 @@
-//! Rules as values: which seconds they match, and when two are equal.
+//! Rules as values: which seconds they match, and when two rules are equal.
 //!
-//! It stands on plan_sets, and knows nothing of texts. Open `rule` first, then `cron` and `event`, the two kinds that match by fields.
+//! This crate uses plan_sets and plan_clock, and knows nothing of texts. Read `rule` first, then `cron` and
+//! `event`, the two kinds of rules that match by fields.
 #![tactic(auto)]
 
 mod cron;

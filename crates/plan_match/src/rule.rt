@@ -13,15 +13,15 @@ use std::alloc::{AllocError, Global};
 /// When a job starts.
 #[derive(Debug, Drop)]
 pub enum Rule {
-    /// By the five fields of a crontab (crontab(5)).
+    /// At the times of the five fields of a crontab (crontab(5)).
     Cron(CronRule),
-    /// By a list of calendar events, any of which may match (systemd.timer(5)).
+    /// At the times of a list of calendar events, any of which may match (systemd.timer(5)).
     Events(Events),
-    /// Never, as `@reboot` in a crontab: it has no start in any span.
+    /// Never: a rule such as `@reboot` in a crontab has no start in any span.
     Never,
 }
 
-/// Equal are rules of one kind with equal parts.
+/// Two rules are equal if they have the same kind and equal parts.
 impl PartialEq for Rule {
     ghost use Rattle.std.specs.Prelude.{◌≡◌, ◌↔◌, IsTrue};
     ghost use Rattle.plan_match.specs.Equal.{same_rule, same_rule_laws};
@@ -50,11 +50,11 @@ impl Eq for Rule {
 }
 
 impl Rule {
-    /// Returns the same rule in the zone of a clock; an event that names a zone of its own keeps that (systemd.time(7)).
+    /// Returns the same rule in the zone of a clock. An event that names its own zone keeps that (systemd.time(7)).
     ///
     /// # Errors
     ///
-    /// Fails where memory is refused.
+    /// `AllocError` if an allocation fails.
     pub fn in_zone(&self, alloc: Global, clock: &Clock) -> Result<Rule, AllocError>
         ensures { IfOk result (λ rule. rule ≡ rule_in clock.now self.now) }
     {
@@ -65,7 +65,7 @@ impl Rule {
         }
     }
 
-    /// Whether a job with this rule starts at the second that has these civil fields. `Never` starts at none.
+    /// Returns whether a job with this rule starts at the second that has these civil fields. `Never` has no starts.
     pub fn matches(&self, civil: &Civil) -> bool
         ensures { result ≡ rule_matches self.now civil.now }
     {

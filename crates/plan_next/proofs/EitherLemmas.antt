@@ -1,6 +1,6 @@
--- The days of a month that one of a cron rule's two day fields admits.
--- For `first_of_either`: within a month the fields of a day follow from its number, and the first day of either field is the earlier
--- of the two fields' first days.
+-- The days of a month that match one of a cron rule's two day fields.
+-- For `first_of_either`: within a month the fields of a day follow from its number, and the first day of either field
+-- is the earlier of the two fields' first days.
 use Rattle.std.proofs.Common.{◌≡◌, ℕ, ◌+◌, ◌%◌, ◌<◌, ◌≤◌, Bool, true, false, ◌&&◌, ◌||◌, inl, inr, refl, ap, ◌∙◌, arith}
 use Rattle.std.proofs.lemmas.Bool.{cases_lt}
 use Rattle.plan_sets.specs.declared.civil.Civil.{Civil}
@@ -18,7 +18,7 @@ pub record HasBoth (rule : CronRule) : Type 0 where
   pub month_days : rule.month_days_restricted ≡ true
   pub week_days : rule.week_days_restricted ≡ true
 
--- the month of the rule's days is admitted, and one of the day fields
+-- the rule matches the month of the day, and one of its day fields matches the day
 abbrev pub either_admits : CronRule → Month → ℕ → Bool
 either_admits rule month day =
     has_value rule.months (month.number % 12 + 1)
@@ -37,7 +37,7 @@ admits-either rule month day both is from to =
     let week : ((day + 3) % 7 + 1) % 7 ≡ (day + 4) % 7 = omega arith in
     ap (λ (civil : Civil). day_matches rule civil) date ∙ rw (by_month, by_week, week) refl
 
--- where the month isn't admitted, none of its days is
+-- if the month doesn't match, none of its days does
 pub none_of_either :
     (rule : CronRule) (month : Month) (day : ℕ) → HasBoth rule → IsMonth month →
     has_value rule.months (month.number % 12 + 1) ≡ false → month.first ≤ day → day < month.end → cron_admits_day rule day ≡ false
@@ -47,7 +47,7 @@ either_true : (a b : Bool) → b ≡ true → (a || b) ≡ true
 either_true true b h = refl
 either_true false b h = h
 
--- the first day of the week days before the first of the month days, or else that
+-- the first day that the day of the week matches, before the first that the day of the month matches, or else that one
 pub first_of_either :
     (rule : CronRule) (month : Month) (from until place day : ℕ) → HasBoth rule → IsMonth month →
     has_value rule.months (month.number % 12 + 1) ≡ true → month.first ≤ from → until ≤ month.end →

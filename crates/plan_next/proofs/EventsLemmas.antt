@@ -1,6 +1,6 @@
 -- The starts of a list of events are those of its events.
--- For the loops of `first_of_each`, `next_of_each` and `first_within`: one event more than those so far. The next of
--- two tests is the lesser of both; where the second is searched up to the first answer only, there are four cases.
+-- For the loops of `first_of_each`, `next_of_each` and `first_within`: one event more than those so far. The next
+-- number of two tests is the smaller of both. If the second test is searched only up to the first answer, there are four cases.
 use Rattle.std.proofs.Common.{◌≡◌, ℕ, ◌+◌, zero, suc, length, ◌≤◌, Bool, true, false, ◌||◌, List, [], ◌∷◌, ◌++◌, Option, None, Some, inl, inr, Bor, take, refl, ap, sym, ◌∙◌, arith}
 use Rattle.std.specs.Prelude.{min, slice_get, unwrap_or}
 use Rattle.std.specs.List.{list_any}
@@ -27,7 +27,7 @@ or_right : (a b : Bool) → b ≡ true → (a || b) ≡ true
 or_right true b h = refl
 or_right false b h = h
 
--- where the second answer is searched up to the first one, it is the first of both tests where there is one
+-- if the second test is searched only up to the first answer, its answer is the first of both; if it has none, the first answer is
 IsFirstIn-narrowed :
     (p q : ℕ → Bool) (a b : ℕ) (first second : Option ℕ) → IsFirstIn p a b first → IsFirstIn q a (unwrap_or first b) second →
     IsFirstIn (λ n. p n || q n) a b (option_or second first)
@@ -39,7 +39,7 @@ IsFirstIn-narrowed p q a b (Some m) None (low, high, is, none) k =
 IsFirstIn-narrowed p q a b (Some m) (Some k) (low, high, is, none) (low₂, high₂, is₂, none₂) =
     (low₂, omega arith, or_right (p k) (q k) is₂, λ n from to. or_false (p n) (q n) (none n from (omega arith)) (none₂ n from to))
 
--- the earlier of two next numbers is the next of both tests
+-- the smaller of two next numbers is the next of both tests
 IsFirstOrEnd-min :
     (p q : ℕ → Bool) (a b n m : ℕ) → IsFirstOrEnd p a b n → IsFirstOrEnd q a b m → IsFirstOrEnd (λ k. p k || q k) a b (min n m)
 IsFirstOrEnd-min p q a b n m first second =
@@ -101,7 +101,7 @@ more_nexts events i from end earliest next event is so_far more =
     (λ n h. matched_by-more events i n event is)
     (IsFirstOrEnd-min (matched_by (take i events)) (event_starts event) from end earliest next so_far more)
 
--- an event of the list that matches is a start
+-- a start of an event of the list is a start of the list
 pub is_start-event :
     (events : List Calendar) (k n : ℕ) (event : Calendar) → slice_get events k ≡ Some event → event_starts event n ≡ true →
     matched_by events n ≡ true

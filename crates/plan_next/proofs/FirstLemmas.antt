@@ -1,9 +1,9 @@
--- First answers to two tests, or to one in two parts of a range.
+-- First answers to two tests, or to one test in two parts of a range.
 use Rattle.std.proofs.Common.{◌≡◌, ℕ, ◌<◌, ◌≤◌, Bool, Option, Some, None, inl, inr, sym, ◌∙◌, arith}
 use Rattle.std.proofs.lemmas.Bool.{cases_lt}
 use Rattle.plan_next.specs.Starts.{NoneIn, IsFirstIn}
 
--- a test that passes the same numbers has the same first one
+-- if two tests pass the same numbers, they have the same first one
 pub IsFirstIn-same :
     (test other : ℕ → Bool) (a b : ℕ) (answer : Option ℕ) → ((n : ℕ) → n < b → test n ≡ other n) → IsFirstIn test a b answer →
     IsFirstIn other a b answer
@@ -11,7 +11,7 @@ IsFirstIn-same test other a b None same none = λ n low high. sym (same n high) 
 IsFirstIn-same test other a b (Some n) same (low, high, is, none) =
     (low, high, sym (same n high) ∙ is, λ k from to. sym (same k (omega arith)) ∙ none k from to)
 
--- where none passes in an earlier part, the first of the later part is the first of both
+-- if no number passes in the earlier part, the first of the later part is the first of both
 pub IsFirstIn-later :
     (test : ℕ → Bool) (a b c : ℕ) (answer : Option ℕ) → a ≤ b → NoneIn test a b → IsFirstIn test b c answer →
     IsFirstIn test a c answer
@@ -30,7 +30,7 @@ IsFirstIn-later test a b c (Some m) le none (low, high, is, first) = (
   ],
 )
 
--- the same where the tests agree in the range
+-- the same, if the tests agree in the range
 pub IsFirstIn-within :
     (test other : ℕ → Bool) (a b : ℕ) (answer : Option ℕ) → ((n : ℕ) → a ≤ n → n < b → test n ≡ other n) → IsFirstIn test a b answer →
     IsFirstIn other a b answer

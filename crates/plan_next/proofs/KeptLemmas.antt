@@ -1,6 +1,6 @@
--- The next starts that the events of a list keep.
--- For the loops of `first_of_each` and `next_of_each`, and for `first_starts`, `next_of_event` and `next_of_cron`. Hard
--- is `KeepsNexts-start`: an event that started before the list's next start would itself be a start (`not_before`).
+-- The next starts that are kept for the events of a list.
+-- For the loops of `first_of_each` and `next_of_each`, and for `first_starts`, `next_of_event` and `next_of_cron`.
+-- `KeepsNexts-start` is hard: an event that started before the list's next start would itself be a start (`not_before`).
 use Rattle.std.proofs.Common.{◌≡◌, ◌≢◌, ℕ, ◌+◌, ◌<◌, ◌≤◌, true, List, [], length, get_or, set, get_or-set_other, get_or-set_same, Some, inl, inr, Bor, sym, ap, ◌∙◌, subst, arith}
 use Rattle.std.specs.Prelude.{nat_lt, slice_get, slice_index}
 use Rattle.std.proofs.lemmas.Bool.{cases_lt, lt-ltb, true≢false}
@@ -17,7 +17,7 @@ use Rattle.plan_next.proofs.EventsLemmas.{is_start-event}
 use Rattle.plan_next.proofs.NextsLemmas.{IsFirstOrEnd-later}
 use Rattle.plan_next.proofs.StartsLemmas.{is_start-cron}
 
--- a start of a cron rule without a clock is admitted
+-- the pattern of a cron rule without a clock matches the rule's starts
 pub admits_moment-cron :
     (cron : Bor CronRule) (start : ℕ) → cron.now.clock ≡ [] → start < end_second → is_start (rule.Cron cron.now) start ≡ true →
     admits_moment (Cron cron) start ≡ true
@@ -38,7 +38,7 @@ not_before events from end start k n event next lt years is kept =
       | inr after ↦ after
     ]
 
--- what each event keeps, where the rule's next start is known
+-- what is kept for each event, if the rule's next start is known
 pub KeepsNexts-start :
     (of : Rule) (from end start : ℕ) (kept : List ℕ) → IsFirstOrEnd (is_start of) from end start → start < end → end ≤ end_second →
     KeepsNexts of from end kept → KeepsNexts of start end kept
@@ -50,13 +50,13 @@ KeepsNexts-start (rule.Events events) from end start kept next lt years keeps =
     IsFirstOrEnd-later (event_starts event) from end (slice_index kept k) start here next.from
     (not_before events from end start k (slice_index kept k) event next lt years is here)
 
--- the events before the place i keep their next starts
+-- the next starts are kept for the events before place i
 abbrev pub AreKept : List Calendar → (from end i : ℕ) → List ℕ → Type 0
 AreKept events from end i kept =
     (k : ℕ) → (event : Calendar) → k < i → slice_get events k ≡ Some event
     → IsFirstOrEnd (event_starts event) from end (get_or kept k 0)
 
--- and those from i on
+-- and for the events at or after i
 abbrev pub AreLeft : List Calendar → (from end i : ℕ) → List ℕ → Type 0
 AreLeft events from end i kept =
     (k : ℕ) → (event : Calendar) → i ≤ k → slice_get events k ≡ Some event

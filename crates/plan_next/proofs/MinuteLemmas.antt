@@ -1,5 +1,6 @@
--- A cron rule starts first at the first minute, where it starts at that, and after a start at the next of its minutes in the hour.
--- For `first_of_cron` and `add_cron_starts_of_hour`. Of the seconds of a minute the first alone is admitted (`none_of_second`).
+-- A cron rule's first start is at the first minute if the rule starts then. After a start, the next one is at the next
+-- of its minutes in the hour.
+-- For `first_of_cron` and `add_cron_starts_of_hour`. The only second of a minute that can match is its first (`none_of_second`).
 use Rattle.std.proofs.Common.{◌≡◌, ℕ, ◌+◌, ◌-◌, ◌*◌, ◌/◌, ◌%◌, ◌<◌, true, false, ◌==◌, Bor, List, inl, inr, arith}
 use Rattle.std.specs.Int.{div_ceil}
 use Rattle.std.proofs.lemmas.Bool.{and_parts, and_from, and_left, and_right, eqb-true, eq-eqb, ne_eqb, cases_eq}
@@ -12,7 +13,7 @@ use Rattle.plan_next.specs.Next.{starts_at_minute, AreNextMinutes, IsFirstOrEnd}
 use Rattle.plan_next.specs.Search.{admits_day, admits_hour, admits_in_hour, admits_minute, admits_moment, admits_time}
 use Rattle.plan_next.specs.Starts.{NoneIn, IsLeastIn}
 
--- what a second that is admitted shows
+-- what a matching second shows
 record IsAdmitted (cron : Bor CronRule) (n : ℕ) : Type 0 where
   day : admits_day (Cron cron) (n / seconds_a_day) ≡ true
   hour : has_value cron.now.hours (n % seconds_a_day / 3600) ≡ true
@@ -26,14 +27,14 @@ IsAdmitted-moment cron n admitted =
     let (minute, second) = and_parts (has_value cron.now.minutes (n % seconds_a_day % 3600 / 60)) _ in_hour in
     record { day = day; hour = hour; minute = minute; second = eqb-true (n % seconds_a_day % 3600 % 60) 0 second }
 
--- the minute of a second that is admitted is one of the rule's
+-- the minute of a matching second is one of the rule's
 pub minute-admitted :
     (cron : Bor CronRule) (n : ℕ) → admits_moment (Cron cron) n ≡ true → has_value cron.now.minutes (n / 60 % 60) ≡ true
 minute-admitted cron n admitted =
     let same : n % seconds_a_day % 3600 / 60 ≡ n / 60 % 60 = omega arith in
     rw same at (IsAdmitted-moment cron n admitted).minute
 
--- the first second of a minute is admitted where its day, its hour and the minute are
+-- the first second of a minute matches if its day, its hour and the minute do
 admitted_by :
     (cron : Bor CronRule) (n : ℕ) → admits_day (Cron cron) (n / seconds_a_day) ≡ true →
     has_value cron.now.hours (n % seconds_a_day / 3600) ≡ true → has_value cron.now.minutes (n % seconds_a_day % 3600 / 60) ≡ true →
@@ -45,7 +46,7 @@ admitted_by cron n day hour minute second =
     (and_from (admits_minute (Cron cron) (time % 3600 / 60)) (time % 3600 % 60 == 0) minute
     (eq-eqb (time % 3600 % 60) 0 second)))
 
--- no other second of a minute is admitted
+-- no other second of a minute matches
 none_of_second :
     (cron : Bor CronRule) (k : ℕ) → (k % seconds_a_day % 3600 % 60 ≡ 0 → ⊥) → admits_moment (Cron cron) k ≡ false
 none_of_second cron k other =
@@ -54,12 +55,12 @@ none_of_second cron k other =
     (and_right (admits_hour (Cron cron) (time / 3600)) (admits_in_hour (Cron cron) (time % 3600))
     (and_right (admits_minute (Cron cron) (time % 3600 / 60)) (time % 3600 % 60 == 0) (ne_eqb (time % 3600 % 60) 0 other)))
 
--- so none is before the first second of the next minute
+-- so none before the first second of the next minute matches
 none_within :
     (cron : Bor CronRule) (from n : ℕ) → n % 60 ≡ 0 → n < from + 60 → NoneIn (admits_moment (Cron cron)) from n
 none_within cron from n whole near k low high = none_of_second cron k (λ zero. omega (arith, zero))
 
--- the first second of a later minute of the hour is admitted where the minute is
+-- the first second of a later minute of the hour matches if the minute does
 admitted_later :
     (cron : Bor CronRule) (n next later : ℕ) → IsAdmitted cron n → n / 60 % 60 < next → next < 60 →
     later ≡ n + (next - n / 60 % 60) * 60 → has_value cron.now.minutes next ≡ true → admits_moment (Cron cron) later ≡ true
@@ -70,7 +71,7 @@ admitted_later cron n next later admitted more room is has =
     let minute : later % seconds_a_day % 3600 / 60 ≡ next = omega arith in
     admitted_by cron later (rw day admitted.day) (rw hour admitted.hour) (rw minute has) (omega arith)
 
--- a second of a minute that isn't the rule's is not admitted
+-- a second doesn't match if its minute isn't one of the rule's
 none_of_minute :
     (cron : Bor CronRule) (k : ℕ) → has_value cron.now.minutes (k % seconds_a_day % 3600 / 60) ≡ false →
     admits_moment (Cron cron) k ≡ false
@@ -80,7 +81,7 @@ none_of_minute cron k other =
     (and_right (admits_hour (Cron cron) (time / 3600)) (admits_in_hour (Cron cron) (time % 3600))
     (and_left (admits_minute (Cron cron) (time % 3600 / 60)) (time % 3600 % 60 == 0) other))
 
--- so it is the next one, where the minutes between aren't the rule's
+-- so it is the next one, if the minutes between aren't the rule's
 pub IsLeastIn-minute :
     (cron : Bor CronRule) (n next later end : ℕ) → admits_moment (Cron cron) n ≡ true →
     IsFirstOrEnd (has_value cron.now.minutes) (n / 60 % 60 + 1) 60 next → next < 60 → later ≡ n + (next - n / 60 % 60) * 60 → later < end →
@@ -101,7 +102,7 @@ IsLeastIn-minute cron n next later end admitted first room is before =
       ]),
     )
 
--- a start's minute keeps the next one
+-- the next minute is kept for the minute of a start
 pub next-kept :
     (cron : Bor CronRule) (kept : List ℕ) (n minute : ℕ) → AreNextMinutes cron.now.minutes kept →
     admits_moment (Cron cron) n ≡ true → minute ≡ n / 60 % 60 →
@@ -109,7 +110,7 @@ pub next-kept :
 next-kept cron kept n minute keeps admitted is =
     keeps minute (omega arith) (rw is (minute-admitted cron n admitted))
 
--- the first second of a minute is admitted where the rule starts at that minute
+-- the first second of a minute matches if the rule starts at that minute
 admitted_minute :
     (cron : Bor CronRule) (minute : ℕ) → starts_at_minute cron.now minute ≡ true → admits_moment (Cron cron) (minute * 60) ≡ true
 admitted_minute cron minute starts =
@@ -120,7 +121,7 @@ admitted_minute cron minute starts =
     let same_minute : minute * 60 % seconds_a_day % 3600 / 60 ≡ minute % 60 = omega arith in
     admitted_by cron (minute * 60) (rw same_day has_day) (rw same_hour has_hour) (rw same_minute has_minute) (omega arith)
 
--- and is the first one from a second on, where no minute begins in between
+-- it is the first match at or after a second if no minute begins between them
 pub IsLeastIn-first_minute :
     (cron : Bor CronRule) (from minute end : ℕ) → minute ≡ div_ceil from 60 → minute * 60 < end →
     starts_at_minute cron.now minute ≡ true → IsLeastIn (admits_moment (Cron cron)) from end (minute * 60)

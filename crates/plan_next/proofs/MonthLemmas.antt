@@ -1,6 +1,6 @@
--- The month of a day, by its civil fields.
+-- The month of a day, from its civil fields.
 -- `IsDateOf-day` is for every answer of `Month::of_day`. The fields at a day's midnight are a date of the calendar in
--- the planner's years, and `IsDayOf-civil_fields` tells the first day of its month.
+-- the planner's years, and `IsDayOf-civil_fields` gives the first day of its month.
 use Rattle.std.proofs.Common.{◌≡◌, ℕ, ◌+◌, ◌-◌, ◌*◌, ◌/◌, ◌%◌, ◌<◌, ◌≤◌, refl, arith}
 use Rattle.std.specs.Int.{IsInRange}
 use Rattle.plan_sets.specs.declared.civil.Civil.{Civil}

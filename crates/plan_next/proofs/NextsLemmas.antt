@@ -1,6 +1,6 @@
--- Next starts: of a rule by those of its events, and each by the one before it.
--- For `first_of_event`, `next_of_event` and `first_starts`, KeptLemmas and EventsLemmas. `IsFirstOrEnd` is the first number that
--- passes, or the end of the part: each lemma builds one such record from others.
+-- Next starts: of a rule from those of its events, and each from the one before it.
+-- For `first_of_event`, `next_of_event` and `first_starts`, and for KeptLemmas and EventsLemmas. `IsFirstOrEnd` is the
+-- first number that passes, or the end of the part. Each lemma builds one such record from others.
 use Rattle.std.proofs.Common.{◌≡◌, ℕ, ◌<◌, ◌≤◌, Bool, true, Option, Some, None, inl, inr, sym, ap, ◌∙◌, arith}
 use Rattle.std.specs.Prelude.{nat_lt, unwrap_or}
 use Rattle.std.specs.Bool.{then_some}
@@ -24,15 +24,15 @@ IsFirstOrEnd-first test a b (Some n) le (low, high, is, none) = record {
   is = λ lt. is;
 }
 
--- the least of those that pass, where the next one isn't the end
+-- if the next number isn't the end, it is the first that passes
 pub IsLeastIn-next : (test : ℕ → Bool) (a b n : ℕ) → IsFirstOrEnd test a b n → n < b → IsLeastIn test a b n
 IsLeastIn-next test a b n next lt = (next.from, lt, next.is lt, next.none)
 
--- and where it is, there is none
+-- if it is the end, none passes
 pub NoneIn-next : (test : ℕ → Bool) (a b n : ℕ) → IsFirstOrEnd test a b n → b ≤ n → NoneIn test a b
 NoneIn-next test a b n next le k low high = next.none k low (omega arith)
 
--- the next one where it isn't the end
+-- the next number as an option: None if it is the end
 pub IsFirstIn-next : (test : ℕ → Bool) (a b n : ℕ) → IsFirstOrEnd test a b n → IsFirstIn test a b (then_some (nat_lt n b) n)
 IsFirstIn-next test a b n next =
     elim (cases_lt n b) [
@@ -40,7 +40,7 @@ IsFirstIn-next test a b n next =
       | inr le ↦ rw (le-ltb n b le) (NoneIn-next test a b n next le)
     ]
 
--- a part that begins later, and not after the next number
+-- a part that begins later, but not after the next number
 pub IsFirstOrEnd-later : (test : ℕ → Bool) (a b n later : ℕ) → IsFirstOrEnd test a b n → a ≤ later → later ≤ n → IsFirstOrEnd test later b n
 IsFirstOrEnd-later test a b n later next low high = record {
   from = high;
@@ -60,7 +60,7 @@ IsFirstOrEnd-same test other a b n same next =
       is = λ lt. sym (same n lt) ∙ next.is lt;
     }
 
--- a part begins with the next number, which then passes
+-- if a part begins with the next number, that passes
 pub passes-next : (test : ℕ → Bool) (a b n : ℕ) → IsFirstOrEnd test a b n → n ≤ a → a < b → test a ≡ true
 passes-next test a b n next le lt =
     let from = next.from in

@@ -1,6 +1,6 @@
 -- Starts that are found one after another.
 -- For the loop of `first_starts`, whose invariant is `AreFound`, and for `next_piece` (`piece_ordered`). The starts of
--- a part are those before a second, then those from it on. Hard is `full_piece`, where a start is left over.
+-- a part are those before a second, then those at or after it. `full_piece` is hard: there a start remains.
 use Rattle.std.proofs.Common.{◌≡◌, ℕ, ◌+◌, ◌-◌, ◌<◌, ◌≤◌, true, false, List, [], ◌∷◌, ◌++◌, length, take, get_or, nat_le, inl, inr, refl, ap, sym, ◌∙◌, arith, append-nil, take_all}
 use Rattle.std.proofs.lemmas.Bool.{cases_lt, le-leb, lt-leb}
 use Rattle.std.proofs.lemmas.List.{length_push, get_or_append_left, take-append-le}
@@ -24,7 +24,7 @@ found_none rule since upto most found is le = rw is (record {
   last = λ some. absurd (omega arith);
 })
 
--- one more start, the least after those that were found
+-- one more start, the first after those that were found
 pub found_more :
     (rule : Rule) (since upto most n reached : ℕ) (found new : List ℕ) → AreFound rule since upto most found reached →
     IsLeastIn (is_start rule) reached upto n → length found < most → new ≡ found ++ n ∷ [] →
@@ -47,7 +47,7 @@ found_more rule since upto most n reached found new so_far (low, high, is, none)
       last = λ some. (omega arith, ap (λ k. get_or (found ++ n ∷ []) k 0 + 1) place ∙ ap (λ k. k + 1) (get_or-append_seam found n [] 0));
     })
 
--- the starts of the whole part, by those that were found
+-- the starts of the whole part, from those that were found
 starts_after :
     (rule : Rule) (since upto most reached : ℕ) (found rest : List ℕ) → AreFound rule since upto most found reached →
     starts rule reached upto ≡ rest → starts rule since upto ≡ found ++ rest
@@ -55,7 +55,7 @@ starts_after rule since upto most reached found rest so_far is =
     passing-append (is_start rule) since reached upto so_far.from so_far.to ∙ ap (λ xs. xs ++ starts rule reached upto)
     (sym so_far.all) ∙ ap (λ xs. found ++ xs) is
 
--- the part ended with them
+-- no start follows them in the part
 pub record IsWhole (rule : Rule) (since upto most : ℕ) (found : List ℕ) (end : ℕ) : Type 0 where
   pub end_is : end ≡ piece_end rule since upto most
   pub all : found ≡ starts rule since end
@@ -74,7 +74,7 @@ whole_part rule since upto most reached found so_far none =
       first = rw all (sym (take_all most found so_far.few));
     }
 
--- there are more starts than a piece has room for
+-- the part has more starts than fit into the piece
 pub full_piece :
     (rule : Rule) (since upto most reached n : ℕ) (found : List ℕ) → AreFound rule since upto most found reached →
     length found ≡ most → 1 ≤ most → IsLeastIn (is_start rule) reached upto n → IsWhole rule since upto most found reached

@@ -1,5 +1,6 @@
 -- The starts of a cron rule in an hour of what its clock shows.
--- For `add_starts_of_hour`, which goes on from a start in a part of time where the rule starts just where what is shown matches.
+-- For `add_starts_of_hour`, which continues from a start in a part of time where the rule starts exactly when what is
+-- shown matches.
 use Rattle.std.proofs.Common.{◌≡◌, ℕ, ◌+◌, ◌-◌, ◌*◌, ◌/◌, ◌%◌, ◌<◌, ◌≤◌, true, Bor, List, Some, sym, ap, subst, ◌∙◌, arith}
 use Rattle.plan_sets.specs.Limits.{end_second}
 use Rattle.plan_sets.specs.Values.{has_value}
@@ -16,7 +17,7 @@ use Rattle.plan_next.proofs.MinuteLemmas.{next-kept, IsLeastIn-minute}
 use Rattle.plan_next.proofs.StartsLemmas.{admits_moment-shown, is_start-by}
 use Rattle.plan_next.proofs.StretchLemmas.{IsFirstIn-moved, IsLeastIn-longer}
 
--- what is shown at a start of the part is admitted
+-- what is shown at a start of the part matches
 pub plain_admits :
     (cron : Bor CronRule) (start end : ℕ) (part : Plain) (last : ℕ) → end ≤ end_second → IsPlain (Cron cron) start end part →
     start ≤ last → last < part.upto → is_start (rule.Cron cron.now) last ≡ true →
@@ -31,7 +32,7 @@ plain_admits cron start end part last bound plain from before is =
     ∙ is_start-by cron last (omega arith)
     ∙ is
 
--- the rule starts next at the next of its minutes, where the part has that
+-- the rule starts next at the next of its minutes, if that is in the part
 pub IsLeastIn-next_minute :
     (cron : Bor CronRule) (start end : ℕ) (part : Plain) (last minute next later : ℕ) → end ≤ end_second →
     IsPlain (Cron cron) start end part → start ≤ last → last < part.upto → is_start (rule.Cron cron.now) last ≡ true →
@@ -63,7 +64,7 @@ IsLeastIn-next_minute cron start end part last minute next later bound plain fro
     (λ k lt. is_start-by cron k (omega arith))
     (IsLeastIn-longer (starts_by (Cron cron)) (last + 1) part.upto end later to starts)
 
--- a start's minute keeps the next one
+-- the next minute is kept for the minute of a start
 pub next_minute :
     (cron : Bor CronRule) (kept : List ℕ) (start end : ℕ) (part : Plain) (last minute : ℕ) → end ≤ end_second →
     IsPlain (Cron cron) start end part → AreNextMinutes cron.now.minutes kept → start ≤ last → last < part.upto →

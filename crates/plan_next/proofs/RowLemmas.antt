@@ -1,7 +1,6 @@
--- Starts in a row of a clock, by what the clock shows.
--- For `first_in_stretch` and `first_hope`. Hard is `found_in_row`: the first second that counts and matches, moved back, is the first
--- start;
--- one that a gap left out is made up for at the row's second.
+-- Starts in a row of a clock, from what the clock shows.
+-- For `first_in_stretch` and `first_hope`. `found_in_row` is hard: the first second that counts and matches, moved
+-- back, is the first start, and a start that a gap skipped is made up for at the row's second.
 use Rattle.std.proofs.Common.{◌≡◌, ℕ, ◌+◌, ◌-◌, ◌<◌, ◌≤◌, zero, suc, ℤ, pos, negsuc, neg_ℤ, ◌+ℤ◌, ◌<ℤ◌, ◌≤ℤ◌, int_lt, int_le, Bool, true, false, not, ◌&&◌, ◌||◌, ◌==◌, if◌then◌else◌, max, Option, None, Some, inl, inr, refl, sym, ap, ◌∙◌, arith}
 use Rattle.std.specs.List.{list_any, range_with_len}
 use Rattle.std.specs.Option.{option_map}
@@ -51,7 +50,7 @@ range_yes test a (suc n) m low high is =
       | inr after ↦ (let same : m ≡ a = omega arith in or_left (test a) _ (ap test (sym same) ∙ is))
     ]
 
--- what `natural` is, in words that `omega` reads
+-- what `natural` is, in a form that `omega` reads
 pub natural-above : (z : ℤ) → z ≤ℤ pos (natural z)
 natural-above (pos n) = omega (arith, ints)
 natural-above (negsuc n) = omega (arith, ints)
@@ -98,7 +97,7 @@ cond_le : (b : Bool) (x y m : ℕ) → x ≤ m → y ≤ m → (if b then x else
 cond_le true x y m h k = h
 cond_le false x y m h k = k
 
--- the least second that counts, at the row's second and after it
+-- the first second that counts, at the row's second and after it
 counted_here : (row : Row) (from : ℕ) → from ≡ row.second → first_counted row true from ≡ natural (due row)
 counted_here row from is = rw (eq-eqb from row.second is) refl
 
@@ -123,7 +122,7 @@ due_counted row from m le =
     (λ here. (let is = counted_here row from (eqb-true from row.second here) in omega (arith, ints)))
     (λ away. (let is = counted_later row from away in omega (arith, ints)))
 
--- where no second that counts and is shown by then matches, n is no start
+-- if no second that counts and is shown by then matches, n is no start
 pub reach-none :
     (row : Row) (heeds : Bool) (test : ℕ → Bool) (from n low : ℕ) → row.second ≤ from → from ≤ n → low ≡ first_counted row heeds from →
     ((m : ℕ) → low ≤ m → pos m ≤ℤ shown row n → test m ≡ false) → starts_in row heeds test n ≡ false
@@ -147,7 +146,7 @@ reach-none row true test from n low begun after is none =
     (λ away. passes-no test (shown row n)
     (λ m here. let le = counted_le row from m (omega (arith, ints)) (omega (arith, ints)) in none m (omega arith) (omega (arith, ints)))))
 
--- a second that shows one that matches is a start
+-- a second is a start if what it shows matches
 shown_starts :
     (row : Row) (heeds : Bool) (test : ℕ → Bool) (n m : ℕ) → shown row n ≡ pos m → (heeds ≡ true → due row ≤ℤ pos m) → test m ≡ true →
     starts_in row heeds test n ≡ true
@@ -160,7 +159,7 @@ shown_starts row true test n m is fresh holds =
     (λ here. some_between-holds test (due row) (shown row n) m late (omega (arith, ints)) holds)
     (λ away. passes-holds test (shown row n) m is holds))
 
--- and so is the row's second, where one that the gap left out matches
+-- and so is the row's second, if a time that the gap skipped matches
 made_up_starts :
     (row : Row) (test : ℕ → Bool) (n m : ℕ) → n ≡ row.second → due row ≤ℤ pos m → pos m ≤ℤ shown row n → test m ≡ true →
     starts_in row true test n ≡ true
@@ -171,7 +170,7 @@ made_up_starts row test n m is low high holds =
     (λ here. some_between-holds test (due row) (shown row n) m low high holds)
     (λ away. (let here = eq-eqb n row.second is in cc)))
 
--- a match that is shown before `from` was left out by the gap with which the row begins there
+-- a match that is shown before `from` was skipped by the gap with which the row begins there
 record IsMadeUp (row : Row) (heeds : Bool) (from m : ℕ) : Type 0 where
   heeded : heeds ≡ true
   begun : from ≡ row.second
@@ -258,7 +257,7 @@ near row bounded =
       offset_to = le_is _ _ offset_to;
     }
 
--- where nothing that is at most 26 hours away matches, n is no start
+-- if nothing within 26 hours matches, n is no start
 pub far-none :
     (row : Row) (heeds : Bool) (test : ℕ → Bool) (n : ℕ) → is_bounded row ≡ true →
     ((m : ℕ) → n ≤ m + most_offset → m ≤ n + most_offset → test m ≡ false) → starts_in row heeds test n ≡ false
@@ -280,7 +279,7 @@ far-none row true test n bounded none =
     some_between-no test (due row) (shown row n) (λ m low high. none m (omega (arith, ints)) (omega (arith, ints))))
     (λ away. passes-no test (shown row n) (λ m here. none m (omega (arith, ints)) (omega (arith, ints)))))
 
--- a start in a row isn't repeated where the row is heeded
+-- if the row's change is heeded, a start in it isn't repeated
 fresh_start : (row : Row) (heeds : Bool) (test : ℕ → Bool) (n : ℕ) → starts_in row heeds test n ≡ true → heeds ≡ true →
     due row ≤ℤ shown row n
 unfolding starts_in
@@ -290,7 +289,7 @@ fresh_start row true test n starts heeded =
     by_bool (is_repeated row n) (λ again. (let isnt : not (is_repeated row n) ≡ false = rw again refl in absurd (cc)))
     (λ fresh_too. lt_not (shown row n) (due row) fresh_too)
 
--- after the row's second, what isn't repeated starts just where what is shown matches
+-- after the row's second, times that aren't repeated start exactly if what is shown matches
 plain_in_row :
     (row : Row) (heeds : Bool) (test : ℕ → Bool) (n : ℕ) → row.second < n → (heeds ≡ true → due row ≤ℤ shown row n) →
     starts_in row heeds test n ≡ passes test (shown row n)
@@ -306,7 +305,7 @@ passes-is : (test : ℕ → Bool) (z : ℤ) → passes test z ≡ true → pos (
 passes-is test (pos m) starts = refl
 passes-is test (negsuc m) starts = absurd (cc)
 
--- from such a start on the row's starts are the matches, as far as the row goes
+-- from such a start on, the starts are the matches, up to the end of the row
 pub plain_from :
     (row : Row) (heeds : Bool) (test : ℕ → Bool) (start k : ℕ) → row.second < start → starts_in row heeds test start ≡ true →
     starts_in row heeds test (start + k) ≡ test (natural (shown row start) + k)

@@ -1,6 +1,6 @@
--- What is searched month by month is searched as a whole.
--- For `first_open_day` and `first_later_day`, and for `date` and `later` of `Month`. Days and months are compared by the
--- first day of a month (`ComesBefore-day`). Hard is `none_later`, on the months passed over.
+-- A search month by month is a search of the whole.
+-- For `first_open_day` and `first_later_day`, and for `date` and `later` of `Month`. Days and months are compared by
+-- the first day of a month (`ComesBefore-day`). `none_later` is hard: it is about the months that were skipped.
 use Rattle.std.proofs.Common.{◌≡◌, ℕ, ◌+◌, ◌-◌, ◌*◌, ◌/◌, ◌%◌, ◌<◌, ◌≤◌, Bool, true, false, ◌&&◌, Option, Some, None, inl, inr, refl, ap, sym, ◌∙◌, subst, arith}
 use Rattle.std.specs.Prelude.{min}
 use Rattle.std.specs.Int.{IsInRange}
@@ -32,7 +32,7 @@ later_true : (a b : Bool) → (a && b) ≡ true → b ≡ true
 later_true true b h = h
 later_true false b h = absurd (false≢true h)
 
--- where the date is admitted, so are its year and its month
+-- if the date matches, so do its year and its month
 record HasMonth (pattern : Pattern) (civil : Civil) : Type 0 where
   year : admits_year pattern civil.year ≡ true
   month : admits_month pattern civil.month ≡ true
@@ -57,7 +57,7 @@ month_here pattern year month (low, high) has_year has_month =
     let same_month : (12 * year + (month - 1)) % 12 + 1 ≡ month = omega arith in
     rw (same, same_month, has_year, has_month) refl
 
--- no day of a month that isn't admitted is admitted
+-- no day of a month that doesn't match does
 no_day_of_month :
     (pattern : Pattern) (day : ℕ) → day < end_day → admits_month_number pattern (month_of_day day) ≡ false →
     admits_day pattern day ≡ false
@@ -74,7 +74,7 @@ no_day_of_month pattern day h none =
 day_of_first_second : (day : ℕ) → day * seconds_a_day / seconds_a_day ≡ day
 day_of_first_second day = omega arith
 
--- the first day of a month against any day
+-- the first day of a month, compared with any day
 ComesBefore-day :
     (month first day : ℕ) → month ≤ end_month → IsFirstDay month first → day < end_day →
     ComesBefore month first day (civil_fields (day * seconds_a_day))
@@ -93,7 +93,7 @@ ends_in_years month is =
     let high = is.to in
     IsFirstDay-le_end (month.number + 1) month.end (omega arith) (IsFirstDay-end_of month is)
 
--- a day from the end of a month on is one of a later month
+-- a day at or after the end of a month is in a later month
 month_past : (month : Month) (day : ℕ) → IsMonth month → month.end ≤ day → day < end_day → month.number + 1 ≤ month_of_day day
 month_past month day is from known =
     let high = is.to in
@@ -103,7 +103,7 @@ month_past month day is from known =
       | inr le ↦ le
     ]
 
--- a day before a month is one of an earlier month
+-- a day before a month is in an earlier month
 month_before : (month : Month) (day : ℕ) → IsMonth month → day < month.first → day < end_day → month_of_day day < month.number
 month_before month day is until known =
     let high = is.to in
@@ -126,7 +126,7 @@ day_of month day is from to =
     ap (λ (c : Civil). c.day) (civil_fields-of_month month.number month.first day (omega arith) is.first_day from (omega arith)
     (omega arith))
 
--- the search of a month from `from` on has come to a day, and knows where the days of the month go on
+-- the search of a month from `from` has reached a day, and knows the next place in the month where a day may match
 pub record IsOpen (pattern : Pattern) (month : Month) (from day : ℕ) (place : Option ℕ) : Type 0 where
   pub known : IsMonth month
   pub start : month.first ≤ from
@@ -134,7 +134,7 @@ pub record IsOpen (pattern : Pattern) (month : Month) (from day : ℕ) (place : 
   pub none : NoneIn (admits_day pattern) from day
   pub goes_on : IsFirstOpen pattern (day - month.first + 1) place
 
--- no day of a month before the next open one is admitted
+-- no day of a month before that place matches
 pub not_open :
     (pattern : Pattern) (month : Month) (from day first k : ℕ) → IsOpen pattern month from day (Some first) → from ≤ k →
     k < month.first + (first - 1) → k < month.end → admits_day pattern k ≡ false
@@ -159,7 +159,7 @@ none_open pattern month from day end is k low high =
       | inr after ↦ is.goes_on (civil_fields (k * seconds_a_day)) (omega arith)
     ]
 
--- the search from `begin` on has come to a day of a month, or to its end
+-- the search from `begin` has reached a day of a month, or the month's end
 pub record IsReached (pattern : Pattern) (begin : ℕ) (month : Month) (from : ℕ) : Type 0 where
   pub known : IsMonth month
   pub start : month.first ≤ from
@@ -177,7 +177,7 @@ none_of_month pattern begin from end day month reached none low high until =
       | inr after ↦ none day after (omega arith)
     ]
 
--- a day before the month `upto`, where no month from the next one on, before that, is admitted
+-- a day before the month `upto` doesn't match if no month between this one and that one does
 none_later :
     (pattern : Pattern) (begin from end upto day : ℕ) (month : Month) → IsReached pattern begin month from →
     NoneIn (admits_day pattern) from (min end month.end) → NoneIn (admits_month_number pattern) (month.number + 1) upto →
@@ -213,7 +213,7 @@ ends_before month later is is_later lt =
       | inr le ↦ le
     ]
 
--- the search goes on with the first day of the next month that is admitted
+-- the search continues with the first day of the next matching month
 pub month_reached :
     (pattern : Pattern) (begin from end next : ℕ) (month later : Month) → IsReached pattern begin month from →
     NoneIn (admits_day pattern) from (min end month.end) → month.end < end →

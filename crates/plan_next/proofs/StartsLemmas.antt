@@ -1,6 +1,6 @@
--- What a pattern of a rule admits are the starts of the rule.
--- For `first_of_cron`, `next_of_cron`, `first_of_event`, `next_of_event`, KeptLemmas and EventsLemmas. The pattern looks at
--- the day and at the second of the day, the rule at the civil fields: both see the same (`admits_moment-fields`).
+-- The seconds that a pattern of a rule matches are the starts of the rule.
+-- For `first_of_cron`, `next_of_cron`, `first_of_event`, `next_of_event`, KeptLemmas and EventsLemmas. The pattern
+-- reads the day and the second of the day, the rule reads the civil fields: both see the same (`admits_moment-fields`).
 use Rattle.std.proofs.Common.{◌≡◌, ℕ, ◌*◌, ◌/◌, ◌%◌, ◌<◌, Bool, true, ◌&&◌, nat_lt, Bor, [], refl, sym, ◌∙◌, arith}
 use Rattle.std.proofs.lemmas.Bool.{lt-ltb}
 use Rattle.plan_sets.specs.Civil.{civil_fields}
@@ -21,7 +21,7 @@ use Rattle.plan_next.specs.Starts.{is_start}
 use Rattle.plan_next.specs.UtcLaws.{cron_starts-utc, event_starts-utc}
 use Rattle.plan_next.specs.Search.{admits_date, admits_day, admits_hour, admits_minute, admits_moment, admits_second, clock_of, matches_shown, starts_by}
 
--- the date and each field of the time of day are admitted
+-- the pattern matches the date and each field of the time of day
 abbrev pub admits_fields : Pattern → Civil → Bool
 admits_fields pattern c =
     admits_date pattern c && (admits_hour pattern c.hour && (admits_minute pattern c.minute && admits_second pattern c.second))
@@ -36,7 +36,7 @@ weekday-same : (weekdays : Option SetOfValues) (a b : Civil) → SameDate a b �
 weekday-same None a b same = refl
 weekday-same (Some weekdays) a b same = rw same.weekday refl
 
--- a date is admitted by its year, month, day and weekday alone
+-- whether a date matches depends only on its year, month, day and weekday
 admits_date-same : (pattern : Pattern) (a b : Civil) → SameDate a b → admits_date pattern a ≡ admits_date pattern b
 admits_date-same (Cron rule) a b same = rw (same.month, same.day, same.weekday) refl
 admits_date-same (Event event) a b same =
@@ -58,11 +58,11 @@ admits_moment-fields pattern n =
     let hour : time / 3600 ≡ c.hour = omega arith in
     rw (date, hour, minute, second) refl
 
--- a cron rule looks at them in the other order
+-- a cron rule checks them in reverse order
 turned : (date hour minute second : Bool) → (date && (hour && (minute && second))) ≡ (second && (minute && (hour && date)))
 turned date hour minute second = grind arith
 
--- what a pattern admits are the seconds whose fields match
+-- a pattern matches the seconds whose civil fields match
 pub admits_moment-shown : (pattern : Pattern) (n : ℕ) → n < end_second → admits_moment pattern n ≡ matches_shown pattern n
 admits_moment-shown (Cron cron) n before =
     let known : nat_lt n end_second ≡ true = lt-ltb _ _ before in
@@ -79,18 +79,18 @@ pub starts_by-utc : (pattern : Pattern) (n : ℕ) → clock_of pattern ≡ [] �
 starts_by-utc (Cron cron) n none = cron_starts-utc cron.now n none
 starts_by-utc (Event event) n none = event_starts-utc event.now n none
 
--- and are what the pattern admits
+-- and those are the seconds that the pattern matches
 pub starts_by-moment :
     (pattern : Pattern) (n : ℕ) → clock_of pattern ≡ [] → n < end_second → admits_moment pattern n ≡ starts_by pattern n
 starts_by-moment pattern n none before = admits_moment-shown pattern n before ∙ sym (starts_by-utc pattern n none)
 
--- the starts of a cron rule's pattern are the rule's
+-- the starts of a cron rule's pattern are the rule's starts
 pub is_start-by : (cron : Bor CronRule) (n : ℕ) → n < end_second → starts_by (Cron cron) n ≡ is_start (rule.Cron cron.now) n
 is_start-by cron n before =
     let known : nat_lt n end_second ≡ true = lt-ltb _ _ before in
     rw known refl
 
--- so where it has no clock the seconds that its pattern admits are
+-- so if it has no clock, they are the seconds that its pattern matches
 pub is_start-cron :
     (cron : Bor CronRule) (n : ℕ) → cron.now.clock ≡ [] → n < end_second → admits_moment (Cron cron) n ≡ is_start (rule.Cron cron.now) n
 is_start-cron cron n none before = starts_by-moment (Cron cron) n none before ∙ is_start-by cron n before

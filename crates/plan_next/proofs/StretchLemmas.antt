@@ -1,4 +1,5 @@
--- Starts in a part of time in which a clock has one row, by what a pattern admits; and where there are none.
+-- Starts in a stretch of time in which a clock has one row, from what a pattern matches; and parts of time without
+-- starts.
 -- For `first_in_stretch`, `first_hope` and `first_by_clock`.
 use Rattle.std.proofs.Common.{◌≡◌, ℕ, ◌+◌, ◌-◌, ◌<◌, ◌≤◌, Bool, true, false, min, max, Option, None, Some, [], nat_lt, inl, inr, sym, ap, subst, ◌∙◌, arith}
 use Rattle.std.specs.Option.{option_map}
@@ -16,12 +17,12 @@ use Rattle.plan_next.proofs.FirstLemmas.{IsFirstIn-same}
 use Rattle.plan_next.proofs.RowLemmas.{far-none, found_in_row, natural-above, plain_from}
 use Rattle.plan_next.proofs.StartsLemmas.{admits_moment-shown, starts_by-utc}
 
--- nothing that is shown after the planner's years matches
+-- what is shown after the planner's years doesn't match
 matches_shown-after : (pattern : Pattern) (m : ℕ) → end_second ≤ m → matches_shown pattern m ≡ false
 matches_shown-after (Cron cron) m after = let known : nat_lt m end_second ≡ false = le-ltb _ _ after in rw known
 matches_shown-after (Event event) m after = let known : nat_lt m end_second ≡ false = le-ltb _ _ after in rw known
 
--- the first admitted second that counts, moved back, is the first start
+-- the first matching second that counts, moved back, is the first start
 pub found_in_stretch :
     (pattern : Pattern) (row : Row) (from upto low high : ℕ) (answer : Option ℕ) → row.second ≤ from → from < upto →
     low ≡ first_counted row (heeds pattern row) from → high ≡ min (natural (shown row upto)) end_second →
@@ -35,7 +36,7 @@ found_in_stretch pattern row from upto low high answer begun part low_is high_is
     (IsFirstIn-same (admits_moment pattern) (matches_shown pattern) low high answer
     (λ m before. admits_moment-shown pattern m (omega arith)) first)
 
--- where nothing matches up to 26 hours away, there is no start
+-- if nothing within 26 hours matches, there is no start
 far_start :
     (pattern : Pattern) (n : ℕ) → ((n : ℕ) → is_bounded (row_at (clock_of pattern) n) ≡ true) →
     ((m : ℕ) → n ≤ m + most_offset → m ≤ n + most_offset → m < end_second → admits_moment pattern m ≡ false) →
@@ -68,7 +69,7 @@ hope_some pattern from end earliest found hope bounded part low is none = record
   none = λ n after before. far_start pattern n bounded (λ m down up within. none m (omega arith) (omega arith));
 }
 
--- a start in the part that was searched last is the first of all
+-- a start in the part that was searched last is the first start of all parts
 pub first_later :
     (test : ℕ → Bool) (since from upto end n : ℕ) → since ≤ from → upto ≤ end → NoneIn test since from → IsLeastIn test from upto n →
     IsLeastIn test since end n
@@ -82,7 +83,7 @@ first_later test since from upto end n after part before (low, high, is, none) =
   ],
 )
 
--- parts without a start, one behind the other
+-- consecutive parts without a start
 pub none_upto : (test : ℕ → Bool) (since from upto hope : ℕ) → NoneIn test since from → NoneIn test from upto → NoneIn test upto hope →
     NoneIn test since hope
 none_upto test since from upto hope first second third = λ n low high.
@@ -94,7 +95,7 @@ none_upto test since from upto hope first second third = λ n low high.
       ]
     ]
 
--- what matches lies in the planner's years
+-- what matches is in the planner's years
 matches_shown-within : (pattern : Pattern) (m : ℕ) → matches_shown pattern m ≡ true → m < end_second
 matches_shown-within pattern m matches =
     elim (cases_lt m end_second) [
@@ -102,7 +103,7 @@ matches_shown-within pattern m matches =
       | inr after ↦ (let none = matches_shown-after pattern m after in absurd (cc))
     ]
 
--- the starts from one on, after the second with which its row begins, and as far as the row goes
+-- the starts from one on, after the second with which its row begins, up to the end of the row
 pub plain_part :
     (pattern : Pattern) (row : Row) (start shown_start row_end upto end : ℕ) → row.second < start → start < row_end → row_end ≤ end →
     ((n : ℕ) → start ≤ n → n < row_end → row_at (clock_of pattern) n ≡ row) → starts_by pattern start ≡ true →
@@ -127,7 +128,7 @@ plain_part pattern row start shown_start row_end upto end after before within sa
           ∙ ap (λ n. matches_shown pattern (n + k)) (sym shown_is);
     }
 
--- without a clock that is the whole part
+-- without a clock, that holds for the whole part
 pub plain_utc :
     (pattern : Pattern) (start end : ℕ) → clock_of pattern ≡ [] → start < end → end ≤ end_second →
     IsPlain pattern start end (record { shown = start; upto = end })
@@ -138,7 +139,7 @@ plain_utc pattern start end none before years = record {
   same = λ k lt. starts_by-utc pattern (start + k) none;
 }
 
--- the first of the later starts of such a part, by what it shows
+-- the first of the later starts of such a part, from what it shows
 pub IsFirstIn-moved :
     (test other : ℕ → Bool) (start shown upto a : ℕ) (answer : Option ℕ) → start ≤ upto →
     ((k : ℕ) → start + k < upto → other (start + k) ≡ test (shown + k)) → IsFirstIn test (shown + a) (shown + (upto - start)) answer →
@@ -156,7 +157,7 @@ IsFirstIn-moved test other start shown upto a (Some m) part same (low, high, is,
           ap other (sym there) ∙ same (n - start) (omega arith) ∙ none (shown + (n - start)) (omega arith) (omega arith)),
     )
 
--- what is shown at the start of such a part is admitted
+-- what is shown at the start of such a part matches
 pub plain_admitted :
     (pattern : Pattern) (start end : ℕ) (part : Plain) → IsPlain pattern start end part → starts_by pattern start ≡ true →
     admits_moment pattern part.shown ≡ true
@@ -171,7 +172,7 @@ plain_admitted pattern start end part plain starts =
     ∙ ap (starts_by pattern) here
     ∙ starts
 
--- the next start in it, by the next admitted second
+-- the next start in it, from the next matching second
 pub plain_next :
     (pattern : Pattern) (start end : ℕ) (part : Plain) (answer : Option ℕ) → IsPlain pattern start end part →
     IsFirstIn (admits_moment pattern) (part.shown + 1) (part.shown + (part.upto - start)) answer →
@@ -183,6 +184,6 @@ plain_next pattern start end part answer plain first =
     (IsFirstIn-same (admits_moment pattern) (matches_shown pattern) (part.shown + 1) (part.shown + (part.upto - start)) answer
     (λ n lt. admits_moment-shown pattern n (omega arith)) first)
 
--- an answer in the first part is one of both
+-- an answer in the first part is an answer in both
 pub IsLeastIn-longer : (test : ℕ → Bool) (a b c n : ℕ) → b ≤ c → IsLeastIn test a b n → IsLeastIn test a c n
 IsLeastIn-longer test a b c n le (low, high, is, none) = (low, omega arith, is, none)

@@ -8,34 +8,35 @@ use Rattle.plan_match.specs.declared.rule.Rule.TheVariants.{Cron, Never, Events}
 use Rattle.plan_next.specs.Search.{cron_admits_day}
 use Rattle.plan_next.specs.Starts.{NoneIn, event_starts}
 
--- the longest list of events of which each keeps its next start (own)
+-- the maximum length of a list of events whose next starts are kept (agenda)
 abbrev pub most_kept : ℕ
 most_kept = 64
 
--- n is the least number from a on, b excluded, that passes the test, and b where no number does
+-- n is the first number at or after a and before b that passes the test, or b if no number does
 pub record IsFirstOrEnd (test : ℕ → Bool) (a b n : ℕ) : Type 0 where
   pub from : a ≤ n
   pub to : n ≤ b
   pub none : NoneIn test a n
   pub is : n < b → test n ≡ true
 
--- of each of these minutes the next one of its hour is kept, and 60 where it is the last
+-- the next minute in the hour is kept for each of these minutes, and 60 for the last
 abbrev pub AreNextMinutes : (minutes : Values) → List ℕ → Type 0
 AreNextMinutes minutes kept =
     (m : ℕ) → m < 60 → has_value minutes m ≡ true → IsFirstOrEnd (has_value minutes) (m + 1) 60 (slice_index kept m)
 
--- the rule starts at that minute, counted from 1970-01-01T00:00:00Z
+-- the rule starts at that minute, counted from 1970-01-01T00:00:00Z, by UTC
 abbrev pub starts_at_minute : CronRule → ℕ → Bool
 starts_at_minute rule minute =
     has_value rule.minutes (minute % 60) && (has_value rule.hours (minute / 60 % 24) && cron_admits_day rule (minute / 60 / 24))
 
--- each number of `kept` is the next start of the event with its place
+-- each number of `kept` is the next start of the event at the same place
 abbrev pub AreNexts : List Calendar → (from end : ℕ) → List ℕ → Type 0
 AreNexts events from end kept =
     (k : ℕ) → (event : Calendar) → slice_get events k ≡ Some event
     → IsFirstOrEnd (event_starts event) from end (slice_index kept k)
 
--- a cron rule keeps the next one of each of its minutes, and a list of events that isn't too long the next start of each
+-- what is kept: for a cron rule the next minute for each of its minutes, and for a list of events that isn't too long
+-- the next start of each
 abbrev pub KeepsNexts : Rule → (from end : ℕ) → List ℕ → Type 0
 KeepsNexts (Cron rule) from end kept = AreNextMinutes rule.minutes kept
 KeepsNexts Never from end kept = Unit {0}

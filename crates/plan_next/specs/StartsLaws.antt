@@ -1,4 +1,4 @@
--- Laws of the numbers of a range that pass a test, by their first.
+-- Laws about the numbers of a range that pass a test, and about the first of them.
 use Rattle.std.proofs.Common.{◌≡◌, ℕ, zero, suc, ◌+◌, ◌-◌, ◌<◌, ◌≤◌, Bool, true, false, [], ◌∷◌, ◌++◌, filter, Option, Some, None, refl, ap, ◌∙◌, arith}
 use Rattle.std.specs.Prelude.{slice_get}
 use Rattle.std.specs.List.{range_with_len}
@@ -31,27 +31,27 @@ passing-append test a b c low high =
     (range-append a (b - a) (c - b) ∙ (rw place refl)) in
     ap (filter test) cut ∙ filter-append test (range_with_len a (b - a)) (range_with_len b (c - b))
 
--- where none passes
+-- if no number passes
 pub passing-none : (test : ℕ → Bool) (a b : ℕ) → NoneIn test a b → passing test a b ≡ []
 unfolding passing
 passing-none test a b none =
     none_of_range test a (b - a) (λ k low high. none k low (omega arith))
 
--- where the first number passes
+-- if the first number of the range passes
 passing-here : (test : ℕ → Bool) (a b : ℕ) → a < b → test a ≡ true → passing test a b ≡ a ∷ passing test (a + 1) b
 unfolding passing
 passing-here test a b lt is =
     let more : b - a ≡ suc (b - (a + 1)) = omega arith in
     rw (more, is) refl
 
--- where the least one that passes is known
+-- if the first number that passes is known
 pub passing-least : (test : ℕ → Bool) (a b n : ℕ) → IsLeastIn test a b n → passing test a b ≡ n ∷ passing test (n + 1) b
 passing-least test a b n (low, high, is, none) =
     passing-append test a n b low (omega arith)
     ∙ ap (λ xs. xs ++ passing test n b) (passing-none test a n none)
     ∙ passing-here test n b high is
 
--- the first that passes is the first of those that pass
+-- the first number that passes is the first of the list
 pub passing-first : (test : ℕ → Bool) (a b : ℕ) (answer : Option ℕ) → IsFirstIn test a b answer → answer ≡ slice_get (passing test a b) 0
 passing-first test a b None none = rw (passing-none test a b none) refl
 passing-first test a b (Some n) least = rw (passing-least test a b n least) refl

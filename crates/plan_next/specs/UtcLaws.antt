@@ -21,7 +21,7 @@ abbrev pub HaveNoClock : List Calendar → Type 0
 HaveNoClock [] = Unit {0}
 HaveNoClock (event ∷ events) = (event.clock ≡ []) × HaveNoClock events
 
--- the rule is meant by UTC
+-- the rule starts by UTC: it has no clock
 abbrev pub HasNoClock : Rule → Type 0
 HasNoClock (Cron rule) = rule.clock ≡ []
 HasNoClock Never = Unit {0}
@@ -31,7 +31,7 @@ row_at-utc : (n : ℕ) → row_at [] n ≡ utc
 unfolding row_at
 row_at-utc n = refl
 
--- in the row of UTC
+-- in the row of UTC the starts are the seconds that pass the test
 pub starts_in-utc : (heeds : Bool) (test : ℕ → Bool) (n : ℕ) → heeds ≡ false → starts_in utc heeds test n ≡ test n
 unfolding starts_in
 starts_in-utc heeds test n none = rw none (ap test (add-zero n))
@@ -48,7 +48,7 @@ event_starts-utc event n none =
     ap (λ (row : Row). starts_in row (event_heeds row) (is_shown (event_matches event)) n) row
     ∙ starts_in-utc false (is_shown (event_matches event)) n refl
 
--- a test that comes with each of the list comes once with all
+-- a condition that all elements of a list share is tested once for the whole list
 both_or : (a b c : Bool) → ((a && b) || (a && c)) ≡ (a && (b || c))
 both_or true b c = refl
 both_or false b c = refl
@@ -72,7 +72,7 @@ twice : (a b : Bool) → (a && (a && b)) ≡ (a && b)
 twice true b = refl
 twice false b = refl
 
--- what a start is without clocks
+-- the starts of a rule without clocks
 pub is_start-utc : (rule : Rule) (n : ℕ) → HasNoClock rule → is_start rule n ≡ (nat_lt n end_second && rule_matches rule (civil_fields n))
 is_start-utc (Cron rule) n none =
     ap (λ b. nat_lt n end_second && b) (cron_starts-utc rule n none) ∙ twice (nat_lt n end_second) (cron_matches rule (civil_fields n))

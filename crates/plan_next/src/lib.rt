@@ -1,7 +1,8 @@
-//! The next start of a rule, found by jumps from field to field, and pieces: all starts of a rule in a part of time.
+//! Finds the next start of a rule by jumps from field to field, and makes pieces: all starts of a rule in a
+//! part of time.
 //!
-//! It stands on plan_match, which says what a rule admits, and on plan_sets. Open `next` first, whose head says how starts are named
-//! here; `search` has the jumps, and `piece` what planners send.
+//! This crate uses plan_match, which says what a rule matches, plan_clock and plan_sets. Read `next` first: its
+//! head explains the names of functions. `search` has the jumps, and `piece` has what planners send.
 #![tactic(auto)]
 
 mod laws;

@@ -1,4 +1,4 @@
-//! The starts of a cron rule within an hour: for each of its minutes is kept which comes next.
+//! Finds the starts of a cron rule within an hour. For each minute of the rule, the next one in the hour is kept.
 
 ghost use Rattle.std.specs.Prelude.{◌≡◌, ◌+◌, ◌<◌, ◌≤◌, ℕ, true, None, IfOk};
 ghost use Rattle.plan_sets.specs.Limits.{end_second};
@@ -17,7 +17,7 @@ use plan_match::{CronRule, Rule};
 use plan_sets::ValueSet;
 use std::alloc::AllocError;
 
-/// Keeps for each of these minutes of an hour which of them comes next, or 60 where none does.
+/// Keeps, for each of these minutes of an hour, which of them comes next, or 60 after the last.
 pub(crate) fn keep_next_minutes(minutes: &ValueSet, kept: &mut [u64; MOST_KEPT])
     ensures { AreNextMinutes minutes.now kept.new }
 {
@@ -29,7 +29,7 @@ pub(crate) fn keep_next_minutes(minutes: &ValueSet, kept: &mut [u64; MOST_KEPT])
     }
 }
 
-// The first of these minutes from one of an hour on, or 60 where there is none.
+// Returns the first of these minutes of an hour at or after `from`, or 60 if there is none.
 fn minute_or_end(minutes: &ValueSet, from: u16) -> u16
     requires { from ≤ MINUTES_AN_HOUR }
     ensures { IsFirstOrEnd (has_value minutes.now) from MINUTES_AN_HOUR result }
@@ -40,10 +40,15 @@ fn minute_or_end(minutes: &ValueSet, from: u16) -> u16
     }
 }
 
-/// Adds those starts of a cron rule that follow `start` in its hour, before `upto`, until `most` are found, and answers the last start that is
-/// found then. `start` is the last that is found so far. Other rules add none.
+/// Adds the starts of a cron rule that follow `start` in its hour, until `found` has `most` starts, and returns
+/// the last start that was found.
 ///
-/// It fails where memory is refused.
+/// Only starts before `upto` are added. `start` is the last start found so far. If none is added, such as for
+/// any other kind of rule, `start` is returned.
+///
+/// # Errors
+///
+/// `AllocError` if an allocation fails.
 pub(crate) fn add_starts_of_hour(
     rule: &Rule,
     kept: &[u64; MOST_KEPT],
@@ -74,7 +79,8 @@ pub(crate) fn add_starts_of_hour(
     }
 }
 
-// The same of a cron rule.
+// Does the same for a cron rule. `part` begins with a start, and in it the rule starts exactly when what its
+// clock shows matches.
 fn add_cron_starts_of_hour(
     rule: &CronRule,
     kept: &[u64; MOST_KEPT],

@@ -1,4 +1,4 @@
-//! Months, with what the dates of their days follow from.
+//! Months, and the dates of their days.
 
 ghost use Rattle.std.specs.Prelude.{◌≡◌, ◌*◌, ◌%◌, ◌+◌, ◌<◌, ◌≤◌};
 ghost use Rattle.plan_sets.specs.Limits.{first_year, seconds_a_day};
@@ -13,18 +13,18 @@ pub(crate) const MONTHS_A_YEAR: u16 = 12;
 /// A month of the planner's years.
 #[derive(Clone, Copy)]
 pub(crate) struct Month {
-    /// Its number, where January of the year 0 is month 0.
+    /// The number of the month. January of the year 0 is month 0.
     pub(crate) number: u16,
     /// The day number of its first day.
     pub(crate) first: u64,
-    /// The day number of the day after its last.
+    /// The day number of the day after its last day.
     pub(crate) end: u64,
 }
 
 impl Month {
     ghost use Rattle.plan_next.specs.Search.{IsMonth};
 
-    /// The month of a day, whose civil fields are given.
+    /// Returns the month of a day. `civil` has the civil fields of the day.
     pub(crate) fn of_day(day: u64, civil: &Civil) -> Month
         requires years { day < end_day }
         requires fields { civil.now ≡ civil_fields (day * seconds_a_day) }
@@ -40,7 +40,7 @@ impl Month {
         }
     }
 
-    /// A later month, by its number.
+    /// Returns a later month, given its number.
     pub(crate) fn later(self, number: u16) -> Month
         requires month { IsMonth self }
         requires from { self.number < number }
@@ -61,7 +61,7 @@ impl Month {
         }
     }
 
-    /// The civil fields of a day of the month at midnight; its weekday is given.
+    /// Returns the civil fields of a day of the month at midnight. `weekday` is the day's weekday, from 0 for Monday.
     pub(crate) fn date(self, day: u64, weekday: u8) -> Civil
         requires month { IsMonth self }
         requires from { self.first ≤ day }
@@ -81,7 +81,7 @@ impl Month {
     }
 }
 
-// The first day of a month, by its day number.
+// Returns the day number of the first day of a month.
 fn first_day(month: u16) -> u64
     requires from { first_year * 12 ≤ month }
     requires to { month < end_month }

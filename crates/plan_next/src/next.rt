@@ -1,8 +1,8 @@
-//! The next start of a rule, by the kind of rule.
+//! Finds the next start of a rule, depending on the kind of rule.
 //!
-//! Within the crate `first_..` is the first start from a second on, and `next_..` the first after a start, both before an end. What
-//! the crate offers ends with the planner's years: `next_from` finds the first start from a second on, and `next_start` the first
-//! later than it.
+//! In this crate, `first_..` finds the first start at or after a second, and `next_..` the first start after
+//! another start. Both search up to an end. The public functions search up to the end of the planner's years:
+//! `next_from` finds the first start at or after a second, and `next_start` the first start after it.
 
 ghost use Rattle.std.specs.Prelude.{◌≡◌, ◌+◌, ◌*◌, ◌<◌, ◌≤◌, slice_get};
 ghost use Rattle.plan_sets.specs.Limits.{end_second};
@@ -13,11 +13,13 @@ use crate::search::{HOURS_A_DAY, MINUTES_AN_HOUR, Pattern, SECONDS_A_MINUTE};
 use plan_match::{CronRule, Events, Rule};
 use plan_sets::{END_SECOND, SECONDS_A_DAY, civil_of};
 
-// The days after the first that are searched before all later ones: so many that most events start in them.
+// After the first day, this many days are searched in all events before any event is searched further. Most
+// events start within them.
 const FAR_DAYS: u64 = 400;
 
-/// The first start of a rule later than `after`, which is any number of seconds since 1970-01-01T00:00:00Z; `None` where the
-/// rule has none before `END_SECOND`. Takes no memory.
+/// Returns the first start of a rule after `after`, or `None` if it has none before `END_SECOND`.
+///
+/// `after` is any number of seconds since 1970-01-01T00:00:00Z. No memory is requested.
 pub fn next_start(rule: &Rule, after: u64) -> Option<u64>
     ensures first { result ≡ slice_get (starts rule.now (after + 1) end_second) 0 }
     ensures least { IsFirstIn (is_start rule.now) (after + 1) end_second result }
@@ -25,8 +27,9 @@ pub fn next_start(rule: &Rule, after: u64) -> Option<u64>
     next_from(rule, after.saturating_add(1))
 }
 
-/// The first start of a rule from `since` on, which is any number of seconds since 1970-01-01T00:00:00Z; `None` where the
-/// rule has none before `END_SECOND`. Takes no memory.
+/// Returns the first start of a rule at or after `since`, or `None` if it has none before `END_SECOND`.
+///
+/// `since` is any number of seconds since 1970-01-01T00:00:00Z. No memory is requested.
 pub fn next_from(rule: &Rule, since: u64) -> Option<u64>
     ensures first { result ≡ slice_get (starts rule.now since end_second) 0 }
     ensures least { IsFirstIn (is_start rule.now) since end_second result }
@@ -34,7 +37,7 @@ pub fn next_from(rule: &Rule, since: u64) -> Option<u64>
     first_start(rule, since, END_SECOND)
 }
 
-/// The first start of a rule from `since` on, before `end`.
+/// Returns the first start of a rule at or after `since` and before `end`.
 pub(crate) fn first_start(rule: &Rule, since: u64, end: u64) -> Option<u64>
     requires { end ≤ end_second }
     ensures { IsFirstIn (is_start rule.now) since end result }
@@ -49,8 +52,9 @@ pub(crate) fn first_start(rule: &Rule, since: u64, end: u64) -> Option<u64>
     }
 }
 
-/// The first start of a cron rule from `since` on, before `end`. The first minute from there on is tried before the search: where the rule
-/// starts at it, what comes later doesn't wait for the search.
+/// Returns the first start of a cron rule at or after `since` and before `end`.
+///
+/// For a rule in UTC, the first whole minute is tried before the search. If the rule starts then, no search is needed.
 pub(crate) fn first_of_cron(rule: &CronRule, since: u64, end: u64) -> Option<u64>
     requires part { since ≤ end }
     requires years { end ≤ end_second }
@@ -66,7 +70,7 @@ pub(crate) fn first_of_cron(rule: &CronRule, since: u64, end: u64) -> Option<u64
     Pattern::Cron(rule).first_start(since, end)
 }
 
-// Whether a cron rule starts at a minute, counted from 1970-01-01T00:00:00Z.
+// Returns whether a cron rule starts at a minute, counted from 1970-01-01T00:00:00Z, by UTC.
 fn starts_at_minute(rule: &CronRule, minute: u64) -> bool
     requires { minute * SECONDS_A_MINUTE < end_second }
     ensures { result ≡ starts_at_minute rule.now minute }
@@ -81,8 +85,10 @@ fn starts_at_minute(rule: &CronRule, minute: u64) -> bool
         && rule.day_matches(&civil_of(day * SECONDS_A_DAY))
 }
 
-/// The first start of a list of events from `since` on, before `end`. Of several events all are searched through a near part
-/// of time before any is searched through a far one.
+/// Returns the first start of a list of events at or after `since` and before `end`.
+///
+/// If there are several events, all of them are searched through a near part of time before any is searched
+/// through a far one.
 pub(crate) fn first_of_events(events: &Events, since: u64, end: u64) -> Option<u64>
     requires part { since ≤ end }
     requires years { end ≤ end_second }
@@ -102,8 +108,8 @@ pub(crate) fn first_of_events(events: &Events, since: u64, end: u64) -> Option<u
     first_within(events, far, end)
 }
 
-// The first start of a list of events from `since` on, before `end`: each event is searched up to the first start of those
-// before it.
+// Returns the first start of a list of events at or after `since` and before `end`. Each event is searched up
+// to the first start of the events before it in the list.
 fn first_within(events: &Events, since: u64, end: u64) -> Option<u64>
     requires part { since ≤ end }
     requires years { end ≤ end_second }

@@ -1,6 +1,8 @@
-//! The starts of a rule one after the other: each follows from the one before it, and no event is searched again while its
-//! next start is known. A number is kept for each event, so the end of the part stands for none. For a cron rule a number is kept for each of
-//! its minutes.
+//! Finds the starts of a rule one after another, each from the one before it.
+//!
+//! The next start of each event is kept, so an event isn't searched again while its next start is known. The
+//! end of the part of time is kept for an event without a next start. For a cron rule, the next minute is kept
+//! for each of its minutes.
 
 ghost use Rattle.std.specs.Prelude.{◌≡◌, ◌+◌, ◌<◌, ◌≤◌, true, None, [], length};
 ghost use Rattle.plan_sets.specs.Limits.{end_second};
@@ -14,11 +16,14 @@ use crate::search::Pattern;
 use plan_clock::Clock;
 use plan_match::{Calendar, CronRule, Events, Rule};
 
-/// The longest list of events of which each keeps its next start, which is no less than the minutes of an hour.
+/// The maximum length of a list of events whose next starts are kept. It must be at least 60, so that the
+/// minutes of an hour can be kept.
 pub(crate) const MOST_KEPT: usize = 64;
 
-/// The first start of a rule from `from` on, or `end` where it has none before that. Where its events aren't too many, `kept`
-/// then holds the same of each; of each minute of a cron rule it holds the next one.
+/// Returns the first start of a rule at or after `from`, or `end` if it has none before that.
+///
+/// For a list of at most `MOST_KEPT` events, `kept` then has the first start of each event at or after `from`,
+/// or `end`. For a cron rule, it has the next minute for each minute of the rule.
 pub(crate) fn first_or_end(rule: &Rule, from: u64, end: u64, kept: &mut [u64; MOST_KEPT]) -> u64
     requires part { from ≤ end }
     requires years { end ≤ end_second }
@@ -36,8 +41,10 @@ pub(crate) fn first_or_end(rule: &Rule, from: u64, end: u64, kept: &mut [u64; MO
     }
 }
 
-/// The start of a rule after its start `start`, or `end` where it has none before that. `kept` holds what each event has from
-/// `start` on, and then what it has after it; what a cron rule keeps stays as it is.
+/// Returns the first start of a rule after its start `start`, or `end` if it has none before that.
+///
+/// For a list of events, `kept` must have the first start of each event at or after `start`. Then it has the
+/// first one after `start`. What is kept for a cron rule doesn't change. `guess` is from `changes_passed`.
 pub(crate) fn next_or_end(
     rule: &Rule,
     start: u64,
@@ -64,8 +71,11 @@ pub(crate) fn next_or_end(
     }
 }
 
-/// How many changes of the clock of a rule begin at or before a second, by the first event of a list; `None` where no clock of the rule has a
-/// change. Searches take it as a guess, of which no answer depends.
+/// Returns how many changes of the rule's clock are at or before a second, or `None` if no clock of the rule
+/// has a change.
+///
+/// For a list of events, the clock is that of the first event that has one. Searches use the number as a guess;
+/// no result depends on it.
 pub(crate) fn changes_passed(rule: &Rule, second: u64, end: u64) -> Option<usize>
     ensures { result ≡ None → HasNoClock rule.now }
 {
@@ -77,7 +87,7 @@ pub(crate) fn changes_passed(rule: &Rule, second: u64, end: u64) -> Option<usize
     }
 }
 
-// The same of a list of events.
+// Does the same for a list of events.
 fn passed_by_events(events: &Events, second: u64, end: u64) -> Option<usize>
     ensures { result ≡ None → HaveNoClock events.now }
 {
@@ -91,7 +101,7 @@ fn passed_by_events(events: &Events, second: u64, end: u64) -> Option<usize>
     None
 }
 
-// How many changes of a clock begin at or before a second, if that is before the end.
+// Returns how many changes of a clock are at or before a second, or 0 if the second isn't before the end.
 fn passed(clock: &Clock, second: u64, end: u64) -> usize {
     let mut passed = 0;
     if second < end {
@@ -100,7 +110,7 @@ fn passed(clock: &Clock, second: u64, end: u64) -> usize {
     passed
 }
 
-// The first start of a cron rule after `start`, before `end`.
+// Returns the first start of a cron rule after `start` and before `end`.
 fn next_of_cron(rule: &CronRule, start: u64, end: u64, guess: Option<usize>) -> Option<u64>
     requires part { start < end }
     requires years { end ≤ end_second }
@@ -111,7 +121,7 @@ fn next_of_cron(rule: &CronRule, start: u64, end: u64, guess: Option<usize>) -> 
     Pattern::Cron(rule).next_start(start, end, guess)
 }
 
-// Finds the first start of each event from `from` on, or `end` where it has none, and answers the earliest.
+// Finds the first start of each event at or after `from`, or `end` if it has none, and returns the earliest.
 fn first_of_each(events: &Events, from: u64, end: u64, kept: &mut [u64; MOST_KEPT]) -> u64
     requires part { from ≤ end }
     requires years { end ≤ end_second }
@@ -130,7 +140,7 @@ fn first_of_each(events: &Events, from: u64, end: u64, kept: &mut [u64; MOST_KEP
     earliest
 }
 
-// Moves those events on that start at `start`, and answers the earliest of their next starts.
+// Finds the next start of each event that starts at `start`, and returns the earliest of all next starts.
 #[inline(always)]
 fn next_of_each(
     events: &Events,
@@ -158,7 +168,7 @@ fn next_of_each(
     earliest
 }
 
-// The same of events of which some have a clock, apart from the loop of those that have none.
+// Does the same for events that may have clocks. It isn't inlined, to keep the loop for events without clocks apart.
 #[inline(never)]
 fn next_of_each_by_clock(
     events: &Events,
@@ -178,7 +188,7 @@ fn next_of_each_by_clock(
     next_of_each(events, start, end, kept, guess)
 }
 
-// The first start of an event from `from` on, or `end` where it has none before that.
+// Returns the first start of an event at or after `from`, or `end` if it has none before that.
 fn first_of_event(event: &Calendar, from: u64, end: u64) -> u64
     requires part { from ≤ end }
     requires years { end ≤ end_second }
@@ -187,7 +197,8 @@ fn first_of_event(event: &Calendar, from: u64, end: u64) -> u64
     Pattern::Event(event).first_start(from, end).unwrap_or(end)
 }
 
-// The first start of an event after `start`, or `end` where it has none before that; `next` is the same from `start` on.
+// Returns the first start of an event after `start`, or `end` if it has none before that. `next` is the first
+// one at or after `start`, or `end`.
 #[inline(always)]
 fn next_of_event(event: &Calendar, start: u64, next: u64, end: u64, guess: Option<usize>) -> u64
     requires part { start < end }

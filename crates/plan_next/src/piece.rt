@@ -14,7 +14,7 @@ use std::marker::Model;
 use std::sync::Arc;
 use thiserror::Error;
 
-/// Memory was refused.
+/// An allocation failed.
 #[derive(Clone, Copy, Debug, PartialEq, Eq, Error)]
 #[error("NoMemory")]
 pub struct NoMemory;
@@ -31,7 +31,7 @@ impl<T: Drop> From<AllocFailed<T>> for NoMemory {
     }
 }
 
-/// A rule, a part of time and the rule's starts in it: all of them, ascending.
+/// A rule, a part of time, and all starts of the rule in that part, ascending.
 #[derive(Debug, Drop)]
 pub struct Piece {
     rule: Arc<Rule>,
@@ -55,21 +55,21 @@ impl Model for Piece {
 }
 
 impl Piece {
-    /// The rule.
+    /// Returns the rule.
     pub fn rule(&self) -> &Arc<Rule>
         ensures { arc_value result.now ≡ self.now.rule }
     {
         &self.rule
     }
 
-    /// The second with which the part begins.
+    /// Returns the first second of the part.
     pub fn since(&self) -> u64
         ensures { result ≡ self.now.since }
     {
         self.since
     }
 
-    /// The second before which the part ends.
+    /// Returns the end of the part: the second after its last.
     pub fn upto(&self) -> u64
         ensures value { result ≡ self.now.upto }
         ensures ordered { self.now.since ≤ result }
@@ -77,7 +77,7 @@ impl Piece {
         self.upto
     }
 
-    /// The starts of the rule in the part, ascending.
+    /// Returns the starts of the rule in the part, ascending.
     pub fn starts(&self) -> &[u64]
         ensures { result.now ≡ starts self.now.rule self.now.since self.now.upto }
     {
@@ -85,10 +85,14 @@ impl Piece {
     }
 }
 
-/// The piece of a rule that begins at `since`: the whole part up to `upto` where that has at most `most` starts, else the
-/// part up to the last of its first `most` starts and with it.
+/// Returns the piece of a rule that begins at `since`.
 ///
-/// `NoMemory` where memory was refused.
+/// If the rule has at most `most` starts before `upto`, the piece ends at `upto`. Otherwise it ends just after
+/// the first `most` starts.
+///
+/// # Errors
+///
+/// `NoMemory` if an allocation fails.
 pub fn next_piece(
     alloc: Global,
     rule: &Arc<Rule>,
@@ -105,7 +109,7 @@ pub fn next_piece(
         (λ piece. starts (arc_value rule.now) since piece.upto
         ≡ take most (starts (arc_value rule.now) since upto)) }
 
-    // A caller that goes on from where the piece ends comes to `upto`.
+    // A caller that continues from the end of each piece reaches `upto`.
     ensures within { IfOk result (λ piece. piece.upto ≤ upto) }
     ensures moves { IfOk result (λ piece. since < upto → since < piece.upto) }
 {
@@ -119,7 +123,7 @@ pub fn next_piece(
     })
 }
 
-// The first starts of a part, at most `most`, and the second before which they are all.
+// Returns the first starts of a part, at most `most`, and the second before which these are all starts.
 fn first_starts(
     alloc: Global,
     rule: &Rule,

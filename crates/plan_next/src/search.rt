@@ -1,9 +1,10 @@
-//! The search for the least second that a pattern admits: the least year, month, day, hour, minute and second in turn, and
-//! one field back where a field has none left.
+//! Searches for the first second that a pattern matches: the first year, month, day, hour, minute and second in
+//! turn. If a field has no value left, the search goes back to the field before it.
 //!
-//! Three names for each unit, of which each stands on those of the smaller units: `first_UNIT` finds the first admitted one from a
-//! number on; `next_UNIT` the first after an admitted one, whose greater fields need no look; `first_of_later_UNITS` goes on where a
-//! unit has none left. A moment is a day and a time; a time is an hour, a minute and a second.
+//! Each unit has up to three functions, which use those of the smaller units. `first_UNIT` finds the first
+//! match at or after a number. `next_UNIT` finds the first match after another match, so it needn't check the
+//! larger fields. `first_of_later_UNITS` continues if a unit has no value left. In these names a moment is a
+//! day and a time, and a time is an hour, a minute and a second.
 
 ghost use Rattle.std.specs.Prelude.{◌≡◌, ◌+◌, ◌*◌, ◌/◌, ◌<◌, ◌≤◌, false, true, min};
 ghost use Rattle.plan_sets.specs.Limits.{end_second, last_year, seconds_a_day};
@@ -25,7 +26,7 @@ pub(crate) const SECONDS_A_MINUTE: u16 = 60;
 
 const SECONDS_AN_HOUR: u32 = 3_600;
 
-/// What a rule admits, field by field: the date as a whole, and each field of the time of day by itself.
+/// What a rule matches, field by field: the date as a whole, and each field of the time of day by itself.
 #[derive(Clone, Copy)]
 pub(crate) enum Pattern<'a> {
     /// The fields of a cron rule.
@@ -37,7 +38,7 @@ pub(crate) enum Pattern<'a> {
 impl Pattern<'_> {
     ghost use Rattle.plan_next.specs.Search.{admits_year, admits_month, admits_date, admits_hour, admits_minute, admits_second, admits_month_number, admits_day, admits_in_hour, admits_time, admits_moment, end_day, end_month, takes_either, IsFirstOpen, IsMonth};
 
-    /// The first admitted second from `from` on, before `end`.
+    /// Returns the first matching second at or after `from` and before `end`.
     pub(crate) fn first_moment(self, from: u64, end: u64) -> Option<u64>
         requires part { from ≤ end }
         requires years { end ≤ end_second }
@@ -50,7 +51,7 @@ impl Pattern<'_> {
             .filter(|moment| *moment < end)
     }
 
-    /// The first admitted second after an admitted one, before `end`.
+    /// Returns the first matching second after `moment`, which matches, and before `end`.
     #[inline(always)]
     pub(crate) fn next_moment(self, moment: u64, end: u64) -> Option<u64>
         requires part { moment < end }
@@ -62,7 +63,7 @@ impl Pattern<'_> {
             .filter(|moment| *moment < end)
     }
 
-    // The first admitted second from `from` on, before the day `end`.
+    // Returns the first matching second at or after `from`, before the day `end`.
     fn first_before_day(self, from: u64, end: u64) -> Option<u64>
         requires part { from < end * seconds_a_day }
         requires years { end ≤ end_day }
@@ -78,7 +79,8 @@ impl Pattern<'_> {
         self.first_of_later_days(today, &civil, end)
     }
 
-    // The first admitted second after an admitted one, before the day `end`: most often one of its hour.
+    // Returns the first matching second after `moment`, which matches, before the day `end`. It is usually in
+    // the same hour.
     #[inline(always)]
     fn next_before_day(self, moment: u64, end: u64) -> Option<u64>
         requires part { moment < end * seconds_a_day }
@@ -93,7 +95,7 @@ impl Pattern<'_> {
         self.first_after_hour(moment, end)
     }
 
-    // The first admitted second after the hour of an admitted one, before the day `end`.
+    // Returns the first matching second after the hour of `moment`, which matches, before the day `end`.
     #[inline(never)]
     fn first_after_hour(self, moment: u64, end: u64) -> Option<u64>
         requires part { moment < end * seconds_a_day }
@@ -112,7 +114,7 @@ impl Pattern<'_> {
         self.first_of_later_days(today, &civil_of(today * SECONDS_A_DAY), end)
     }
 
-    // The first admitted second after a day, whose civil fields are given, before the day `end`.
+    // Returns the first matching second after a day, before the day `end`. `civil` has the civil fields of the day.
     fn first_of_later_days(self, day: u64, civil: &Civil, end: u64) -> Option<u64>
         requires part { day < end }
         requires years { end ≤ end_day }
@@ -127,7 +129,8 @@ impl Pattern<'_> {
         Some(day * SECONDS_A_DAY + u64::from(time))
     }
 
-    // The first admitted day after a day, whose civil fields are given, before `end`, by day numbers.
+    // Returns the first matching day after a day and before `end`, by day numbers. `civil` has the civil fields
+    // of the day.
     fn first_later_day(self, day: u64, civil: &Civil, end: u64) -> Option<u64>
         requires part { day < end }
         requires years { end ≤ end_day }
@@ -149,7 +152,7 @@ impl Pattern<'_> {
         }
     }
 
-    // The first admitted day of a month from `from` on, before `end`, by day numbers.
+    // Returns the first matching day of a month at or after `from` and before `end`, by day numbers.
     fn first_day_in(self, month: Month, from: u64, end: u64) -> Option<u64>
         requires month { IsMonth month }
         requires from { month.first ≤ from }
@@ -165,7 +168,7 @@ impl Pattern<'_> {
         }
     }
 
-    // Whether a day is admitted by one of two fields: by those of a cron rule that are both restricted.
+    // Returns whether one of two day fields is enough to match a day: those of a cron rule that are both restricted.
     fn takes_either(self) -> bool
         ensures { result ≡ takes_either self.entry }
     {
@@ -175,7 +178,7 @@ impl Pattern<'_> {
         }
     }
 
-    // The same where no field is enough: each open place in the month is tried.
+    // Does the same if one day field isn't enough: tries each place in the month where a day may match.
     fn first_open_day(self, month: Month, from: u64, end: u64) -> Option<u64>
         requires fields { takes_either self ≡ false }
         requires month { IsMonth month }
@@ -200,7 +203,8 @@ impl Pattern<'_> {
         None
     }
 
-    // A place in the month, from `from` on, before which no day from there on is admitted in any month; `None` where no day is.
+    // Returns the first place in a month, at or after `from`, where a day may match: between `from` and it no day
+    // of any month matches. Returns `None` if no day at or after `from` matches.
     fn first_open_place(self, from: u16) -> Option<u16>
         requires fields { takes_either self ≡ false }
         ensures { IsFirstOpen self.entry from result }
@@ -214,7 +218,7 @@ impl Pattern<'_> {
         }
     }
 
-    // The first month from `from` on whose year and month are admitted.
+    // Returns the first month at or after `from` whose year and month match.
     fn first_month(self, from: u16) -> Option<u16>
         requires { from ≤ end_month }
         ensures { IsFirstIn (admits_month_number self.entry) from end_month result }
@@ -234,7 +238,7 @@ impl Pattern<'_> {
         Some(year * MONTHS_A_YEAR + (month - 1))
     }
 
-    // The first admitted time of day from `from` on, in seconds.
+    // Returns the first matching time of day at or after `from`, in seconds.
     #[inline(always)]
     fn first_time(self, from: u32) -> Option<u32>
         requires { from < seconds_a_day }
@@ -249,7 +253,7 @@ impl Pattern<'_> {
         self.first_of_later_hours(hour)
     }
 
-    // The first admitted time of day after an hour, in seconds.
+    // Returns the first matching time of day after an hour, in seconds.
     #[inline(never)]
     fn first_of_later_hours(self, hour: u16) -> Option<u32>
         requires { hour < HOURS_A_DAY }
@@ -260,7 +264,7 @@ impl Pattern<'_> {
         Some(u32::from(hour) * SECONDS_AN_HOUR + u32::from(rest))
     }
 
-    // The first admitted second of an hour from `from` on.
+    // Returns the first matching second of an hour at or after `from`.
     #[inline(always)]
     fn first_in_hour(self, from: u16) -> Option<u16>
         requires { from < SECONDS_AN_HOUR }
@@ -275,7 +279,7 @@ impl Pattern<'_> {
         self.first_of_later_minutes(minute)
     }
 
-    // The first admitted second of an hour after an admitted one.
+    // Returns the first matching second of an hour after `second`, which matches.
     #[inline(always)]
     fn next_in_hour(self, second: u16) -> Option<u16>
         requires hour { second < SECONDS_AN_HOUR }
@@ -289,7 +293,7 @@ impl Pattern<'_> {
         self.first_of_later_minutes(minute)
     }
 
-    // The first admitted second of an hour after a minute.
+    // Returns the first matching second of an hour after a minute.
     #[inline(always)]
     fn first_of_later_minutes(self, minute: u16) -> Option<u16>
         requires { minute < MINUTES_AN_HOUR }
@@ -303,7 +307,7 @@ impl Pattern<'_> {
         Some(minute * SECONDS_A_MINUTE + second)
     }
 
-    // The first admitted year from `from` on.
+    // Returns the first matching year at or after `from`.
     fn first_year(self, from: u16) -> Option<u16>
         ensures { IsFirstIn (admits_year self.entry) from (last_year + 1) result }
     {
@@ -313,7 +317,7 @@ impl Pattern<'_> {
         }
     }
 
-    // The first admitted month of a year from `from` on.
+    // Returns the first matching month of a year at or after `from`.
     fn first_month_of_year(self, from: u16) -> Option<u16>
         ensures { IsFirstIn (admits_month self.entry) from (MONTHS_A_YEAR + 1) result }
     {
@@ -323,7 +327,7 @@ impl Pattern<'_> {
         }
     }
 
-    // Whether the date of civil fields is admitted.
+    // Returns whether the date of civil fields matches.
     #[inline(always)]
     fn admits_date(self, civil: &Civil) -> bool
         ensures { result ≡ admits_date self.entry civil.now }
@@ -334,7 +338,7 @@ impl Pattern<'_> {
         }
     }
 
-    // Whether the hour is admitted.
+    // Returns whether the hour matches.
     fn has_hour(self, hour: u16) -> bool
         ensures { result ≡ admits_hour self.entry hour }
     {
@@ -344,7 +348,7 @@ impl Pattern<'_> {
         }
     }
 
-    // The first admitted hour from `from` on.
+    // Returns the first matching hour at or after `from`.
     fn first_hour(self, from: u16) -> Option<u16>
         ensures { IsFirstIn (admits_hour self.entry) from HOURS_A_DAY result }
     {
@@ -354,7 +358,7 @@ impl Pattern<'_> {
         }
     }
 
-    // Whether the minute is admitted.
+    // Returns whether the minute matches.
     fn has_minute(self, minute: u16) -> bool
         ensures { result ≡ admits_minute self.entry minute }
     {
@@ -364,7 +368,7 @@ impl Pattern<'_> {
         }
     }
 
-    // The first admitted minute from `from` on.
+    // Returns the first matching minute at or after `from`.
     #[inline(always)]
     fn first_minute(self, from: u16) -> Option<u16>
         ensures { IsFirstIn (admits_minute self.entry) from MINUTES_AN_HOUR result }
@@ -375,7 +379,7 @@ impl Pattern<'_> {
         }
     }
 
-    // The first admitted second of a minute from `from` on.
+    // Returns the first matching second of a minute at or after `from`.
     fn first_second(self, from: u16) -> Option<u16>
         ensures { IsFirstIn (admits_second self.entry) from SECONDS_A_MINUTE result }
     {
@@ -386,15 +390,15 @@ impl Pattern<'_> {
     }
 }
 
-// The first member of a set from `from` on, before `end`.
+// Returns the first member of a set at or after `from` and before `end`.
 fn first_in(set: &ValueSet, from: u16, end: u16) -> Option<u16>
     ensures { IsFirstIn (has_value set.now) from end result }
 {
     set.first_from(from).filter(|value| *value < end)
 }
 
-// The first day of a month from `from` on, before `end`, by day numbers, that a cron rule with two restricted day fields admits:
-// one by its day of the month or one by its day of the week.
+// Returns the first day of a month at or after `from` and before `end`, by day numbers, that a cron rule with
+// two restricted day fields matches: by its day of the month or by its day of the week.
 fn first_of_either(rule: &CronRule, month: Month, from: u64, end: u64) -> Option<u64>
     requires month { IsMonth month }
     requires from { month.first ≤ from }
@@ -415,7 +419,8 @@ fn first_of_either(rule: &CronRule, month: Month, from: u64, end: u64) -> Option
     (day < until).then_some(day)
 }
 
-// The first day from `from` on whose place in the month that begins with `first` is in a set, or `until` where none before that is.
+// Returns the first day at or after `from` whose place in its month is in a set, or `until` if there is none
+// before that. The month begins with the day `first`.
 fn first_by_month(places: &ValueSet, first: u64, from: u64, until: u64) -> u64
     requires from { first ≤ from }
     requires to { from ≤ until }
@@ -429,7 +434,8 @@ fn first_by_month(places: &ValueSet, first: u64, from: u64, until: u64) -> u64
     }
 }
 
-// The first day from `from` on whose place in the week, from 0 for Sunday, is in a set, or `until` where none before that is.
+// Returns the first day at or after `from` whose place in the week, from 0 for Sunday, is in a set, or `until`
+// if there is none before that.
 fn first_by_week(places: &ValueSet, from: u64, until: u64) -> u64
     requires to { from ≤ until }
     requires years { until ≤ end_day }

@@ -1,5 +1,5 @@
-//! The starts of a pattern by its clock: the search goes from one part of time in which the clock has one row to the next, and in each of
-//! them it looks for what the clock shows.
+//! Finds the starts of a pattern by its clock. The search goes from one stretch of time to the next. In a
+//! stretch the clock has one row, and what the clock shows is searched for a match.
 
 ghost use Rattle.std.specs.Prelude.{◌≡◌, ℕ, ◌+◌, ◌<◌, ◌≤◌, true, None, [], IfSome};
 ghost use Rattle.plan_clock.specs.Rows.{is_bounded, row_at};
@@ -10,19 +10,19 @@ use crate::search::Pattern;
 use plan_clock::{Clock, MOST_OFFSET, Row, Stretch};
 use plan_sets::END_SECOND;
 
-/// A part of time that begins with a start, and in which a pattern starts just where what its clock shows matches.
+/// A part of time that begins with a start. In it a pattern starts exactly when what its clock shows matches.
 #[derive(Clone, Copy)]
 pub(crate) struct Plain {
-    /// What the clock shows at its first second, as a second of UTC.
+    /// What the clock shows at the first second of the part, as a second of UTC.
     pub(crate) shown: u64,
-    /// The second before which it ends.
+    /// The end of the part: the second after its last.
     pub(crate) upto: u64,
 }
 
 impl Pattern<'_> {
     ghost use Rattle.plan_next.specs.Search.{clock_of, heeds, matches_shown, starts_by, IsHope, IsPlain};
 
-    /// The first start from `since` on, before `end`.
+    /// Returns the first start at or after `since` and before `end`.
     #[inline(always)]
     pub(crate) fn first_start(self, since: u64, end: u64) -> Option<u64>
         requires part { since ≤ end }
@@ -35,8 +35,10 @@ impl Pattern<'_> {
         self.first_by_clock(since, end)
     }
 
-    /// The first start after a start, before `end`. `guess` is how many changes of the clock may begin at or before the start; `None` says that
-    /// the clock has no change.
+    /// Returns the first start after `start`, which is a start itself, and before `end`.
+    ///
+    /// `guess` is a guess of how many changes of the clock are at or before `start`. It is `None` if the clock
+    /// has no change.
     #[inline(always)]
     pub(crate) fn next_start(self, start: u64, end: u64, guess: Option<usize>) -> Option<u64>
         requires part { start < end }
@@ -51,7 +53,8 @@ impl Pattern<'_> {
         }
     }
 
-    // The same by the rows of the clock: most often the next match of what is shown, in the same row.
+    // Does the same by the rows of the clock. The next start is usually the next match of what is shown, in the
+    // same row.
     #[inline(never)]
     fn next_by_clock(self, start: u64, end: u64, guess: usize) -> Option<u64>
         requires part { start < end }
@@ -68,8 +71,11 @@ impl Pattern<'_> {
         self.first_by_clock(part.upto, end)
     }
 
-    /// A part of time before `end` that begins with a start, and in which the pattern starts just where what its clock shows matches; `None`
-    /// where the start makes up for a gap. The guess is that of `next_start`.
+    /// Returns a part of time that begins with the start `start` and ends at or before `end`, in which the
+    /// pattern starts exactly when what its clock shows matches.
+    ///
+    /// Returns `None` if a row of the clock begins at `start`: the start may make up for a gap. `guess` is as
+    /// for `next_start`.
     #[inline(always)]
     pub(crate) fn plain_part(self, start: u64, end: u64, guess: Option<usize>) -> Option<Plain>
         requires part { start < end }
@@ -87,7 +93,7 @@ impl Pattern<'_> {
         }
     }
 
-    // The same by the rows of the clock.
+    // Does the same by the rows of the clock.
     #[inline(never)]
     fn part_by_clock(self, start: u64, end: u64, guess: usize) -> Option<Plain>
         requires part { start < end }
@@ -108,7 +114,7 @@ impl Pattern<'_> {
         })
     }
 
-    // The clock by which the pattern is meant.
+    // Returns the clock of the pattern.
     fn clock(&self) -> &Clock
         ensures { result.now ≡ clock_of self.now }
     {
@@ -118,7 +124,7 @@ impl Pattern<'_> {
         }
     }
 
-    // Whether the pattern heeds the change with which a row of its clock begins.
+    // Returns whether the pattern handles the change at the start of this row specially.
     fn heeds(self, row: Row) -> bool
         requires { is_bounded row ≡ true }
         ensures { result ≡ heeds self.entry row }
@@ -129,7 +135,7 @@ impl Pattern<'_> {
         }
     }
 
-    // The first start from `since` on, before `end`, by the rows of the clock.
+    // Returns the first start at or after `since` and before `end`, by the rows of the clock.
     #[inline(never)]
     fn first_by_clock(self, since: u64, end: u64) -> Option<u64>
         requires years { end ≤ end_second }
@@ -146,7 +152,7 @@ impl Pattern<'_> {
         None
     }
 
-    // The first start from `from` on in a part of time in which the clock has one row.
+    // Returns the first start at or after `from` in a stretch of time. In a stretch the clock has one row.
     fn first_in_stretch(self, stretch: Stretch, from: u64) -> Option<u64>
         requires row { is_bounded stretch.row ≡ true }
         requires begun { stretch.row.second ≤ from }
@@ -166,7 +172,7 @@ impl Pattern<'_> {
         Some(row.unshown(shown).max(from))
     }
 
-    // The first second that counts for a start at `from` or later in a row, as the clock shows it.
+    // Returns the first second, as the clock shows it, that counts for a start at or after `from` in a row.
     fn first_counted(self, row: Row, from: u64) -> u64
         requires row { is_bounded row ≡ true }
         requires begun { row.second ≤ from }
@@ -183,7 +189,8 @@ impl Pattern<'_> {
         row.due().max(shown)
     }
 
-    // A second up to `end` before which the pattern has no start from `from` on: whatever the clock shows there, nothing matches it.
+    // Returns a second, at most `end`, before which the pattern has no start at or after `from`: nothing that the
+    // clock can show until then matches.
     fn first_hope(self, from: u64, end: u64) -> u64
         requires part { from ≤ end }
         requires years { end ≤ end_second }

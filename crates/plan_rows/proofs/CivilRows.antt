@@ -1,9 +1,9 @@
--- Known seconds, as theorems of the definition of the civil fields.
+-- Known seconds, as theorems about the definition of civil fields.
 use Rattle.std.proofs.Common.{◌≡◌, ◌+◌, refl}
 use Rattle.plan_sets.specs.Limits.{end_second, last_year}
 use Rattle.plan_sets.specs.Civil.{civil_fields, month_and_day, year_and_day}
 
--- the first second is a Thursday's
+-- the first second is on a Thursday
 the_epoch : civil_fields 0 ≡ record { year = 1970; month = 1; day = 1; weekday = 3; hour = 0; minute = 0; second = 0 }
 unfolding civil_fields year_and_day month_and_day
 the_epoch = refl
@@ -23,7 +23,7 @@ after_february_2100 : civil_fields 4_107_542_400 ≡ record { year = 2100; month
 unfolding civil_fields year_and_day month_and_day
 after_february_2100 = refl
 
--- the second after the last year begins the next one
+-- the second after the last year is the first of the next one
 the_end : civil_fields end_second ≡ record { year = last_year + 1; month = 1; day = 1; weekday = 2; hour = 0; minute = 0; second = 0 }
 unfolding civil_fields year_and_day month_and_day
 the_end = refl

@@ -1,6 +1,6 @@
--- Worked rows of crontab(5), read by the definitions alone.
--- They answer no function, but try `cron_reading` and `rule_matches`. Each text is computed, with the definitions
--- unfolded; whether a day or a time matches needs `has_value-values_where` too.
+-- Worked rows of crontab(5), read only by the definitions.
+-- They answer no goal of a function, but test `cron_reading` and `rule_matches`. Each text is computed, with
+-- the definitions unfolded. Whether a day or a time matches needs `has_value-values_where` too.
 use Rattle.std.proofs.Common.{◌≡◌, ℕ, Bool, true, false, List, [], ◌∷◌, map, codes, Ok, Err, refl}
 use Rattle.plan_sets.specs.declared.item.Item.TheVariants.{One, Range}
 use Rattle.plan_sets.specs.declared.item.SetFault.TheVariants.{OutOfRange, Backwards, ZeroStep}
@@ -16,7 +16,7 @@ use Rattle.plan_grammar.specs.Cron.{cron_reading, rule_reading, five_fields, fie
 use Rattle.plan_match.specs.Match.{rule_matches}
 use Rattle.plan_rows.specs.Rows.{at_minute}
 
--- where the text has a meaning, whether it matches civil fields
+-- whether a text is a rule that matches civil fields
 abbrev match_reading : Reading Rule → Civil → Bool
 match_reading (Ok rule) civil = rule_matches rule civil
 match_reading (Err fault) civil = false
@@ -69,12 +69,12 @@ unfolding words cut_at number_of set_reading rule_reading five_fields field_read
     value_reading step_reading
 odd_days = refl
 
--- whether a text's rule is one with a wildcard
+-- whether the rule of a text is a wildcard
 abbrev has_wildcard : Reading Rule → Bool
 has_wildcard (Ok (Cron rule)) = rule.is_wildcard
 has_wildcard other = false
 
--- it is where the minutes or the hours begin with `*`
+-- it is one if the minutes or the hours begin with `*`
 wildcards : map (λ text. has_wildcard (cron_reading text))
     (codes "*,5 1 * * *"
     ∷ codes "*/5 1 * * *"
@@ -93,7 +93,7 @@ unfolding words cut_at number_of set_reading rule_reading five_fields field_read
     value_reading step_reading
 wildcards = refl
 
--- refused texts, each with its one fault
+-- invalid texts, each with its error
 refusals : map cron_reading
     (codes "60 * * * *"
     ∷ codes "5/15 * * * *"
@@ -125,8 +125,8 @@ unfolding words cut_at number_of set_reading rule_reading five_fields field_read
     value_reading step_reading
 refusals = refl
 
--- the order of the checks within an element: the first value, the second, the step, then whether a step may stand there;
--- and the forms of all elements before the values
+-- the order of the checks within an element: the first value, the second, the step, then whether a step is
+-- allowed there. The forms of all elements are checked before the values
 first_faults : map cron_reading
     (codes "a-b/c * * * *"
     ∷ codes "1-b/c * * * *"
@@ -161,7 +161,7 @@ unfolding words cut_at number_of set_reading rule_reading five_fields field_read
     value_reading step_reading week_days_of at_minute
 either_day_suffices = simp has_value-values_where
 
--- a star stands first, so both must match: Mondays the 1st and 15th, not Monday the 8th, not Wednesday the 3rd
+-- a star comes first, so both must match: Mondays the 1st and 15th, not Monday the 8th, not Wednesday the 3rd
 star_stands_first : at_midnight (codes "0 0 */2 * 1") ((1, 0) ∷ (3, 2) ∷ (8, 0) ∷ (15, 0) ∷ []) ≡ true ∷ false ∷ false ∷ true ∷ []
 unfolding words cut_at number_of set_reading rule_reading five_fields field_reading items_reading item_reading side_reading
     value_reading step_reading week_days_of at_minute at_midnight
@@ -173,7 +173,7 @@ unfolding words cut_at number_of set_reading rule_reading five_fields field_read
     value_reading step_reading week_days_of at_minute at_midnight
 seven_is_sunday = simp has_value-values_where
 
--- a step past the range's end leaves the first value alone
+-- a step past the range's end leaves only the first value
 step_past_the_end : at_midnight (codes "0 0 1-31/40 * *") ((1, 0) ∷ (2, 1) ∷ (31, 2) ∷ []) ≡ true ∷ false ∷ false ∷ []
 unfolding words cut_at number_of set_reading rule_reading five_fields field_reading items_reading item_reading side_reading
     value_reading step_reading week_days_of at_minute at_midnight
@@ -195,7 +195,7 @@ unfolding words cut_at number_of set_reading rule_reading five_fields field_read
     value_reading step_reading week_days_of at_minute
 named_months_and_days = simp has_value-values_where
 
--- names stand in fields 4 and 5 alone, never as a step, and a range of names may run backwards
+-- names are allowed only in fields 4 and 5, never as a step, and a range of names may be backwards
 refused_names : map cron_reading
     (codes "jan * * * *"
     ∷ codes "* * mon * *"

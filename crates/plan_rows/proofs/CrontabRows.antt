@@ -1,6 +1,6 @@
--- Worked rows of crontabs, read by the definitions alone. No proof uses them: they show what `crontab` is to mean.
--- A row is `refl` once the definitions that it names are unfolded. The row of a set's members needs a law of sets, and
--- that of a text that is too large takes the text's length as given.
+-- Worked rows of crontabs, read only by the definitions. No proof uses them: they show what `crontab` should mean.
+-- A row is `refl` once the definitions that it names are unfolded. The row of a set's members needs a law of
+-- sets, and the row of a text that is too large takes the text's length as given.
 use Rattle.std.proofs.Common.{◌≡◌, ℕ, Bool, true, false, List, [], ◌∷◌, length, map, codes, Ok, Err, refl}
 use Rattle.std.specs.Fmt.{digits}
 use Rattle.std.specs.Str.{chars, is_utf8}
@@ -21,15 +21,15 @@ use Rattle.plan_rules.specs.Job.{JobParts}
 use Rattle.plan_rules.specs.Crontab.{fields_in_front, at_word_in_front, what_reading, job_reading, line_reading, jobs_reading, crontab_reading}
 use Rattle.plan_rows.specs.Rows.{at_minute}
 
--- a fault of a line
+-- the error of a line
 on : ℕ → LineCause → TextReading (List JobParts)
 on number cause = Err (record { line = number; cause = cause })
 
--- a fault of a rule in a line
+-- the error of a rule in a line
 part : ℕ → RuleCause → LineCause
 part place cause = Rule (record { part = place; cause = cause })
 
--- the lines of some texts: what follows the last newline counts where it isn't empty, and a carriage return stays
+-- the lines of some texts: what follows the last newline is a line if it isn't empty, and a carriage return stays
 text_lines : map lines (codes "" ∷ codes "\n" ∷ codes "a" ∷ codes "a\n" ∷ codes "a\n\nb\r\n \n" ∷ [])
     ≡ []
     ∷ ([] ∷ [])
@@ -40,11 +40,11 @@ text_lines : map lines (codes "" ∷ codes "\n" ∷ codes "a" ∷ codes "a\n" �
 unfolding lines
 text_lines = refl
 
--- a comment and a setting give no job; a last line needs no newline
+-- a comment and a setting make no job; the last line needs no newline
 abbrev nightly : List ℕ
 nightly = codes "# nightly\nMAILTO=x\n@reboot a\n@daily b"
 
--- the name, what and rule of the jobs that a text means
+-- the names of the jobs of a text, and what they run
 abbrev parts_of : TextReading (List JobParts) → List (List ℕ × List ℕ)
 parts_of (Ok jobs) = map (λ job. (job.name, job.what)) jobs
 parts_of (Err fault) = []
@@ -76,7 +76,7 @@ unfolding is_utf8 chars lib.Utf8.encode digits lines cut_word words fields_in_fr
     week_days_of at_minute
 run_parts_hourly = simp has_value-values_where
 
--- what a user's job runs is kept as it is written, after the blanks in front of it
+-- what a user's job runs is kept as it is written, without the blanks before it
 kept_as_written : map (λ text. parts_of (crontab_reading (codes "cron") User text))
     (codes " \t# * * * * x\n \n@daily\t a # b % \n" ∷ codes "\"A\"=x\n@daily a\r" ∷ [])
     ≡ ((codes "cron:3", codes "a # b % ") ∷ [])
@@ -86,7 +86,7 @@ unfolding is_utf8 chars lib.Utf8.encode digits lines cut_word words at_word_in_f
     cut_at number_of set_reading rule_reading five_fields field_reading items_reading item_reading side_reading value_reading step_reading
 kept_as_written = refl
 
--- refused texts of a user, each with its one fault
+-- invalid texts of a user, each with its error
 user_refusals : map (crontab_reading (codes "cron") User)
     (codes "MAILTO x"
     ∷ codes "* * * * *"
@@ -130,7 +130,7 @@ unfolding on is_utf8 chars lib.Utf8.encode digits lines cut_word words fields_in
     value_reading step_reading
 user_alone = refl
 
--- a byte too many
+-- one byte too many
 too_large : (bytes : List ℕ) → length bytes ≡ 1048577 → crontab_reading (codes "cron") User bytes ≡ on 0 TooLarge
 unfolding on
 too_large bytes long = rw long refl

@@ -1,6 +1,6 @@
--- Worked rows of systemd.time(7), read by the definitions alone.
--- They answer no function, but try `event_reading` and `event_matches`. Each text is computed, with the definitions
--- unfolded; whether a day matches needs `has_value-values_where` too.
+-- Worked rows of systemd.time(7), read only by the definitions.
+-- They answer no goal of a function, but test `event_reading` and `event_matches`. Each text is computed, with
+-- the definitions unfolded. Whether a day matches needs `has_value-values_where` too.
 use Rattle.std.proofs.Common.{◌≡◌, ℕ, Bool, true, false, List, [], ◌∷◌, map, codes, Some, None, Ok, Err, refl}
 use Rattle.plan_sets.specs.declared.item.Item.TheVariants.{One, Onward, Range}
 use Rattle.plan_sets.specs.declared.item.SetFault.TheVariants.{OutOfRange, Backwards, ZeroStep}
@@ -73,7 +73,7 @@ unfolding words cut_at number_of set_reading date_reading time_reading dated sha
     weekday_items weekdays_reading event_of spelled_out zone_dropped expression_of zoneless words_reading
 third_last_of_february = refl
 
--- a word of the table in any case, before the zone
+-- a word of the table, in any case, also before the zone
 words_of_the_table : map event_reading (codes "weekly" ∷ codes "qUARTERLY utc" ∷ codes "Wed, 17:48 UTC" ∷ codes "Mon..mon" ∷ [])
     ≡ map event_reading (codes "Mon *-*-* 00:00:00" ∷ codes "*-01,04,07,10-01 UTC" ∷ codes "wednesday *-* 17:48:00 uTC" ∷ codes
     "monday..Monday" ∷ [])
@@ -82,12 +82,12 @@ unfolding words cut_at number_of set_reading date_reading time_reading dated sha
     weekday_items weekdays_reading event_of spelled_out zone_dropped expression_of zoneless words_reading
 words_of_the_table = refl
 
--- where a text has a meaning, whether its event names a zone
+-- whether a text is an event that names a zone
 abbrev zone_of : Reading Calendar → Bool
 zone_of (Ok event) = event.names_zone
 zone_of (Err fault) = false
 
--- it does where the last word of several is the zone
+-- it is one if there are several words and the last is the zone
 named_zones : map (λ text. zone_of (event_reading text))
     (codes "Mon 09:00 UTC" ∷ codes "daily utc" ∷ codes "Mon 09:00" ∷ codes "daily" ∷ []) ≡ true ∷ true ∷ false ∷ false ∷ []
 unfolding words cut_at number_of set_reading date_reading time_reading dated shape_reading component_number component_value
@@ -95,7 +95,7 @@ unfolding words cut_at number_of set_reading date_reading time_reading dated sha
     weekday_items weekdays_reading event_of spelled_out zone_dropped expression_of zoneless words_reading
 named_zones = refl
 
--- refused texts, each with its one fault
+-- invalid texts, each with its error
 refusals : map event_reading
     (codes "Mon 12:00:00.5"
     ∷ codes "daily Europe/Oslo"
@@ -144,7 +144,7 @@ unfolding words cut_at number_of set_reading date_reading time_reading dated sha
     weekday_items weekdays_reading event_of spelled_out zone_dropped expression_of zoneless words_reading
 refusals = refl
 
--- the order of reading: specifier, zone, shape, weekdays, and then the components from the year on
+-- the order in which a text is read: specifier, zone, shape, weekdays, and then the components from the year on
 first_faults : map event_reading
     (codes "Foo 1 2 3 Oslo %"
     ∷ codes "Foo 1 2 3 Oslo"
@@ -193,7 +193,7 @@ at_time year month day weekday hour minute second = record {
   second = second;
 }
 
--- where the text has a meaning, whether it matches civil fields
+-- whether a text is an event that matches civil fields
 abbrev match_reading : Reading Calendar → Civil → Bool
 match_reading (Ok event) civil = event_matches event civil
 match_reading (Err fault) civil = false
@@ -215,7 +215,7 @@ unfolding words cut_at number_of set_reading date_reading time_reading dated sha
     weekday_items weekdays_reading event_of spelled_out zone_dropped expression_of zoneless words_reading at_time
 last_monday_of_may = simp has_value-values_where
 
--- a range after `~` runs either way, and its steps go from the greater place down
+-- a range after `~` may be in either order, and its steps go down from the greater place
 either_way : map (match_reading (event_reading (codes "*-*~1..3/2 12:00")))
     (at_time 2024 2 27 1 12 0 0 ∷ at_time 2024 2 28 2 12 0 0 ∷ at_time 2024 2 29 3 12 0 0 ∷ []) ≡ true ∷ false ∷ true ∷ []
 unfolding words cut_at number_of set_reading date_reading time_reading dated shape_reading component_number component_value
@@ -223,7 +223,7 @@ unfolding words cut_at number_of set_reading date_reading time_reading dated sha
     weekday_items weekdays_reading event_of spelled_out zone_dropped expression_of zoneless words_reading at_time
 either_way = simp has_value-values_where
 
--- two digits stand for 1970 to 2069
+-- years of two digits are 1970 to 2069
 two_digits : map (λ (text : List ℕ). match_reading (event_reading text) (at_time 1999 2 3 2 4 5 0))
     (codes "99-2-3 4:5" ∷ codes "1999-2-3 4:5" ∷ codes "69-2-3 4:5" ∷ []) ≡ true ∷ true ∷ false ∷ []
 unfolding words cut_at number_of set_reading date_reading time_reading dated shape_reading component_number component_value

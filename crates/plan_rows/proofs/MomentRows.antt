@@ -1,6 +1,6 @@
--- Known moments, and texts that are none, as theorems of the definitions.
--- They answer no function, but try `moment_text_of` and `HasFault` themselves. The texts of seconds are computed; a
--- text is refused by its length, by one of its bytes, or by the date and time that it says.
+-- Known timestamps, and texts that are none, as theorems about the definitions.
+-- They answer no goal of a function, but test `moment_text_of` and `HasFault` themselves. The texts of seconds
+-- are computed. A text is rejected because of its length, one of its bytes, or its date and time.
 use Rattle.std.proofs.Common.{◌≡◌, ℕ, ◌<◌, List, ap, arith, get_or, inl, inr, length, refl, rules}
 use Rattle.std.specs.Prelude.{codes}
 use Rattle.jiff_core.proofs.SignedLemmas.{signed_arith}
@@ -22,7 +22,7 @@ the_end : moment_text_of end_second ≡ codes "3000-01-01T00:00:00Z"
 unfolding moment_text_of civil_fields year_and_day month_and_day
 the_end = refl
 
--- one digit for the month is no form of a moment
+-- a month of one digit doesn't have the form of a timestamp
 short_month : HasFault (codes "2024-1-1T00:00:00Z") BadForm
 short_month = λ w says. absurd (omega (arith, ap length says.text_is))
 
@@ -34,7 +34,7 @@ thirtieth_of_february =
     let w : Written = record { year = 2024; month = 2; day = 30; hour = 0; minute = 0; second = 0 } in
     (w, record { room = search rules; text_is = refl }, λ h. absurd (omega (arith, h.0.2.1)))
 
--- the year 0 has a leap day, and no thirtieth
+-- February of the year 0 has a leap day, but no 30th
 thirtieth_of_february_0 : HasFault (codes "0000-02-30T00:00:00Z") NoSuchDate
 thirtieth_of_february_0 =
     let w : Written = record { year = 0; month = 2; day = 30; hour = 0; minute = 0; second = 0 } in
@@ -45,7 +45,7 @@ hour_24 =
     let w : Written = record { year = 2024; month = 1; day = 1; hour = 24; minute = 0; second = 0 } in
     (w, record { room = search rules; text_is = refl }, λ h. absurd (omega (arith, h.1)))
 
--- whatever comes before 1970 is out of the planner's years
+-- a date before 1970 is out of the years
 before_the_years : (text : List ℕ) (w : Written) → Says text w → IsInCalendar w → w.year < first_year → HasFault text OutOfYears
 before_the_years text w says exists early =
     let before = days_from_civil-before_year w.year w.month w.day first_year exists.0 early in

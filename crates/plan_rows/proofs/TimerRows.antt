@@ -1,4 +1,4 @@
--- Worked rows of timer files, read by the definitions alone.
+-- Worked rows of timer files, read only by the definitions.
 use Rattle.std.proofs.Common.{◌≡◌, ℕ, Bool, true, false, List, [], ◌∷◌, ◌++◌, map, codes, Ok, Err, refl}
 use Rattle.std.specs.List.{enumerate_from}
 use Rattle.std.specs.Str.{chars, is_utf8}
@@ -20,8 +20,8 @@ use Rattle.plan_rules.specs.Job.{JobParts}
 use Rattle.plan_texts.specs.WholeLines.{whole_lines}
 use Rattle.plan_rules.specs.Timer.{is_timer_name, section_name, setting_of, key_of, timer_of_lines, timer_reading}
 
--- the whole lines of some files: comments inside joined lines, an even and an odd number of backslashes, a backslash before a
--- blank, carriage returns, a line of blanks, and the end of the file
+-- the whole lines of some files: comments inside merged lines, an even and an odd number of backslashes, a
+-- backslash before a blank, carriage returns, a line of blanks, and the end of the file
 joined_lines : map whole_lines
     (codes "a\n\n  b \\\n# c\\\n\td\n"
     ∷ codes "a\\"
@@ -55,7 +55,7 @@ unfolding is_utf8 chars lib.Utf8.encode lines whole_lines is_timer_name section_
     zone_dropped expression_of zoneless words_reading
 reset_empties = refl
 
--- a joined line with a comment inside, and a unit that is named
+-- a merged line with a comment inside, and a unit that is named
 comment_inside :
     timer_reading (codes "n.timer") (codes "[Unit]\nDescription=x\n[Timer]\nOnCalendar=Mon \\\n# note\n  12:00\nUnit=y.service\n") ≡
     job_of (codes "n.timer") (codes "y.service") (codes "Mon 12:00" ∷ [])
@@ -65,7 +65,7 @@ unfolding is_utf8 chars lib.Utf8.encode lines whole_lines is_timer_name section_
     zone_dropped expression_of zoneless words_reading
 comment_inside = refl
 
--- a joined line at the end of the input
+-- a merged line at the end of the input
 joined_at_the_end :
     timer_reading (codes "t.timer") (codes "[Timer]\nOnCalendar=Mon \\") ≡ job_of (codes "t.timer") (codes "t.service") (codes "Mon" ∷ [])
 unfolding is_utf8 chars lib.Utf8.encode lines whole_lines is_timer_name section_name setting_of key_of words cut_at number_of set_reading
@@ -74,7 +74,7 @@ unfolding is_utf8 chars lib.Utf8.encode lines whole_lines is_timer_name section_
     zone_dropped expression_of zoneless words_reading
 joined_at_the_end = refl
 
--- a `[Timer]` section alone
+-- only a `[Timer]` section
 no_events : timer_reading (codes "x.timer") (codes "[Timer]") ≡ job_of (codes "x.timer") (codes "x.service") []
 unfolding is_utf8 chars lib.Utf8.encode lines whole_lines is_timer_name section_name setting_of key_of words cut_at number_of set_reading
     date_reading time_reading dated shape_reading component_number component_value component_side component_item component_items
@@ -91,7 +91,7 @@ unfolding is_utf8 chars lib.Utf8.encode lines whole_lines is_timer_name section_
     zone_dropped expression_of zoneless words_reading
 monotonic_reset = refl
 
--- and one with a value is passed over
+-- and one with a value is ignored
 monotonic_value :
     timer_reading (codes "x.timer") (codes "[Timer]\nOnCalendar=daily\nOnBootSec=5min") ≡
     job_of (codes "x.timer") (codes "x.service") (codes "daily" ∷ [])
@@ -101,7 +101,7 @@ unfolding is_utf8 chars lib.Utf8.encode lines whole_lines is_timer_name section_
     zone_dropped expression_of zoneless words_reading
 monotonic_value = refl
 
--- a setting before any section, keys in another case, blanks round `=`, several sections, and the first unit
+-- a setting before any section, keys in another case, blanks around `=`, several sections, and the first unit
 other_lines :
     timer_reading (codes "x.timer")
     (codes "OnCalendar=weekly\n[Timer]\noncalendar=weekly\n OnCalendar = daily \n[Install]\nUnit=z\n[Timer]\nUnit=\nUnit=b\nUnit=c") ≡
@@ -112,7 +112,8 @@ unfolding is_utf8 chars lib.Utf8.encode lines whole_lines is_timer_name section_
     zone_dropped expression_of zoneless words_reading
 other_lines = refl
 
--- refused files, each with its one fault: a bad name, no section, and faults of events, also where a later line empties the list
+-- invalid files, each with its error: a bad name, no section, and errors of events, also if a later line
+-- empties the list
 refusals : map (λ (file : List ℕ × List ℕ). timer_reading file.0 file.1)
     ((codes "x.service", codes "[Timer]")
     ∷ (codes ".timer", codes "[Timer]")

@@ -1,5 +1,6 @@
 -- Worked rows of time zones: what a clock shows, and at which seconds rules start by it (cron(8), systemd.time(7)).
--- They answer no function, but try `row_at` and `is_start`. Whether a second's civil fields match needs `has_value-values_where` too.
+-- They answer no goal of a function, but test `row_at` and `is_start`. Whether a second's civil fields match
+-- needs `has_value-values_where` too.
 use Rattle.std.proofs.Common.{◌≡◌, ℕ, ◌≤◌, zero, suc, ◌+◌, ◌-◌, ℤ, pos, negsuc, Bool, true, false, ◌||◌, List, [], ◌∷◌, map, codes, Ok, Err, refl, ap, sym, ◌∙◌, arith}
 use Rattle.std.specs.List.{list_any, range_with_len}
 use Rattle.plan_clock.specs.declared.row.Change.{Change}
@@ -27,7 +28,8 @@ berlin =
     ∷ record { second = 1_761_440_400; offset = pos 3_600 }
     ∷ []
 
--- a row lasts from its change until the next; the first change has none before it, so the offset before it is its own
+-- a row lasts from its change until the next. The first change has no change before it, so the offset before it
+-- is its own
 rows_of_berlin : map (row_at berlin) (0 ∷ 1_743_296_399 ∷ 1_743_296_400 ∷ 1_761_440_399 ∷ 1_761_440_400 ∷ [])
     ≡ record { second = 0; before = pos 3_600; offset = pos 3_600 }
     ∷ record { second = 0; before = pos 3_600; offset = pos 3_600 }
@@ -73,14 +75,15 @@ over_the_fold : map shown_in_berlin (1_761_438_600 ∷ 1_761_440_399 ∷ 1_761_4
 unfolding row_at civil_fields year_and_day month_and_day
 over_the_fold = refl
 
--- for an hour from the change in October on the clock repeats what it showed; after the change in March it repeats nothing
+-- from the change in October on, the clock repeats for an hour what it showed; after the change in March it
+-- repeats nothing
 repeated : map (λ n. is_repeated (row_at berlin n) n)
     (1_743_296_399 ∷ 1_743_296_400 ∷ 1_761_440_399 ∷ 1_761_440_400 ∷ 1_761_442_200 ∷ 1_761_443_999 ∷ 1_761_444_000 ∷ [])
     ≡ false ∷ false ∷ false ∷ true ∷ true ∷ true ∷ false ∷ []
 unfolding row_at
 repeated = refl
 
--- where a text has a meaning, whether a second is a start of its rule by a clock
+-- whether a text is a rule that starts at a second by a clock
 abbrev starts_by : List Change → Reading Rule → ℕ → Bool
 starts_by clock (Ok rule) n = is_start (rule_in clock rule) n
 starts_by clock (Err fault) n = false
@@ -172,12 +175,12 @@ unfolding words cut_at number_of set_reading rule_reading five_fields field_read
     value_reading step_reading week_days_of row_at starts_in civil_fields year_and_day month_and_day
 three_hours_back = simp has_value-values_where
 
--- where a text has a meaning, whether its rule heeds a change of that size
+-- whether a text is a rule that heeds a change of that size
 abbrev heeds : Reading Rule → ℤ → Bool
 heeds (Ok (Cron rule)) change = cron_heeds rule (record { second = 0; before = pos 0; offset = change })
 heeds other change = false
 
--- a job at a particular time heeds folds of up to three hours, and gaps of less
+-- a job at a particular time heeds folds of at most three hours, and gaps of less
 heeded_sizes :
     map (heeds (cron_reading (codes "30 2 * * *")))
     (negsuc 10_800 ∷ negsuc 10_799 ∷ negsuc 0 ∷ pos 0 ∷ pos 1 ∷ pos 10_799 ∷ pos 10_800 ∷ []) ≡
@@ -196,8 +199,8 @@ unheeded_sizes = refl
 abbrev two_minutes : List Change
 two_minutes = record { second = 0; offset = pos 0 } ∷ record { second = 3_600; offset = pos 120 } ∷ []
 
--- then jobs at 01:00 and 01:01, which are skipped, start, and those at 01:02, which is shown, but none at 00:59 or 01:03; of wildcard rules
--- only one that matches 01:02 does
+-- then jobs at 01:00 and 01:01 start, since these are skipped, and jobs at 01:02, which is shown, but none at
+-- 00:59 or 01:03. Of wildcard rules only one that matches 01:02 starts
 at_the_gap : map (λ text. starts_by two_minutes (cron_reading text) 3_600)
     (codes "0 1 * * *"
     ∷ codes "1 1 * * *"
@@ -242,7 +245,7 @@ unfolding words cut_at number_of set_reading date_reading time_reading dated sha
     year_and_day month_and_day
 event_in_a_gap = simp has_value-values_where
 
--- an event that names its zone goes by that one: 02:30 in UTC
+-- an event that names its zone starts by that zone: 02:30 in UTC
 event_in_utc :
     map (starts_by berlin (event_rule_reading (codes "02:30 UTC"))) (1_761_438_600 ∷ 1_761_442_200 ∷ 1_761_445_800 ∷ []) ≡
     false ∷ false ∷ true ∷ []
@@ -252,7 +255,7 @@ unfolding words cut_at number_of set_reading date_reading time_reading dated sha
     year_and_day month_and_day
 event_in_utc = simp has_value-values_where
 
--- nothing starts while a clock shows a time before the first year: one that is an hour behind UTC
+-- nothing starts while a clock shows a time before the first year. This clock is an hour behind UTC
 before_the_years :
     map (starts_by (record { second = 0; offset = negsuc 3_599 } ∷ []) (cron_reading (codes "* * * * *"))) (0 ∷ 3_540 ∷ 3_600 ∷ []) ≡
     false ∷ false ∷ true ∷ []
@@ -260,7 +263,7 @@ unfolding words cut_at number_of set_reading rule_reading five_fields field_read
     value_reading step_reading week_days_of row_at starts_in civil_fields year_and_day month_and_day
 before_the_years = simp has_value-values_where
 
--- or after the last year: one that is an hour ahead
+-- nor while it shows a time after the last year. This clock is an hour ahead
 after_the_years :
     map (starts_by (record { second = 0; offset = pos 3_600 } ∷ []) (cron_reading (codes "* * * * *")))
     (32_503_676_340 ∷ 32_503_676_400 ∷ []) ≡ true ∷ false ∷ []

@@ -1,4 +1,4 @@
--- What worked rows are written with.
+-- Values that the worked rows use.
 use Rattle.std.specs.Prelude.{ℕ}
 use Rattle.plan_sets.specs.declared.civil.Civil.{Civil}
 

@@ -1,4 +1,7 @@
-//! Worked rows of what the definitions of plan_sets, plan_clock, plan_grammar, plan_rules and plan_next say: seconds and moments, cron
-//! rules and calendar events, crontabs and timer files, and starts in a time zone, each with values from a manual page or a calendar, and
-//! proved by computing. They answer no function, so they stand beside the crates of the program, and no build of it waits for them.
+//! Worked rows of the definitions of plan_sets, plan_clock, plan_grammar, plan_rules and plan_next, proved by
+//! computing.
+//!
+//! The rows are about known seconds and timestamps, cron rules, calendar events, crontabs, timer files, and
+//! starts in a time zone. Their values are from manual pages and calendars. No proof of a function uses them,
+//! so they are in a crate that the program doesn't depend on, and no build waits for them.
 #![tactic(auto)]

@@ -1,6 +1,6 @@
--- Which faults a crontab has: a want of memory is of line 0, and it never stands inside a rule's fault.
--- For all clauses of `crontab`, and in part for `timer`. `line` and `jobs` follow the definition: each step, choice and
--- element keeps that its faults are such. `answered` leads that to an answer, which may be a want of memory instead.
+-- Which errors a crontab has: a failed allocation has line 0, and never is inside a rule's error.
+-- For all clauses of `crontab`, and for some of `timer`. `line` and `jobs` follow the definition: each step, choice and element
+-- keeps this property of its errors. `answered` carries it over to an answer, which may be a failed allocation instead.
 use Rattle.std.proofs.Common.{◌≡◌, ◌≢◌, ℕ, ◌+◌, Bool, true, false, cond, eqb, List, [], ◌∷◌, length, Option, Some, None, Result, Ok, Err, IfErr, refl, ap, sym, inl, inr, subst}
 use Rattle.std.proofs.lemmas.Bool.{cases_eq}
 use Rattle.std.specs.List.{enumerate_from, list_any}
@@ -31,7 +31,7 @@ pub own_cause : (c : LineCause) → IsLineCause c → IsOwnCause c
 own_cause (Rule fault) own = own
 own_cause other own = tt
 
--- what is true of each fault
+-- what is true of each error
 abbrev pub IsOwnFault : LineFault → Type 0
 IsOwnFault fault = (fault.cause ≡ NoMemory → fault.line ≡ 0) × IsLineCause fault.cause
 
@@ -89,7 +89,7 @@ line : (label : List ℕ) (kind : Kind) (number : ℕ) (text : List ℕ) → IfE
 unfolding line_reading
 line label kind number text = entry label kind number (after_blanks text)
 
--- ---- the fault of a text
+-- ---- the error of a text
 
 fault_of : (number : ℕ) (c : LineCause) → IsLineCause c → IsOwnFault (fault_on_line number c)
 fault_of number NoMemory own = (λ is. refl, tt)
@@ -107,7 +107,7 @@ jobs label kind texts =
     (line label kind (text.0 + 1) text.1)) (enumerate_from 0 texts))
     (λ found. tt)
 
--- ---- so each fault that a call answers
+-- ---- so every error that a call returns
 
 unless_memory :
     (number : ℕ) (c : LineCause) →
@@ -131,7 +131,7 @@ answered view (Err fault) reading gives own =
     at_fault (Ok x) is own = absurd cc
     at_fault (Err e) is own = let same : e ≡ fault = cc in rw (sym same) own
 
--- a fault of the whole text is none of them
+-- an error of the whole text is none of these
 pub no_other :
     {A : Type 0} (answer : Result A LineFault) (fault : LineFault) → IfErr answer IsOwnFault → (IsLineCause fault.cause → ⊥) →
     answer ≢ Err fault

@@ -1,6 +1,6 @@
--- How the lines of a crontab are read in order, and which faults they have: for `jobs_of_lines`.
--- The definition reads `each` line with its place. So `at_place` first says which pair stands at a place. Then
--- the reading of the lines so far goes on by one line (`each-push`) or ends with its fault (`each-fault`).
+-- How the lines of a crontab are read in order, and which errors they have: for `jobs_of_lines`.
+-- The definition reads `each` line with its position. So `at_place` first gives the pair at a position. Then the reading of the
+-- lines so far continues with one more line (`each-push`) or ends with its error (`each-fault`).
 use Rattle.std.proofs.Common.{◌≡◌, ℕ, ◌+◌, ◌<◌, ◌≤◌, List, [], ◌∷◌, ◌++◌, length, take, get_or, map, Option, Some, None, Result, Ok, Err, ap, sym, ◌∙◌, arith, append-nil}
 use Rattle.std.proofs.lemmas.List.{take_more, take_all, get_or-map, length-map}
 use Rattle.std.proofs.lemmas.List.FromFn.{length-enumerate_from, get_or-enumerate_from}
@@ -9,7 +9,7 @@ use Rattle.std.specs.List.{enumerate_from, filter_map}
 use Rattle.plan_texts.specs.Steps.{each}
 use Rattle.plan_texts.specs.EachLaws.{each-push, each-fault}
 
--- the lines that are lent, each with its place
+-- the borrowed lines, each with its position
 abbrev pub placed : {A : Type 0} → (A → List ℕ) → List A → List (ℕ × List ℕ)
 placed v lines = enumerate_from 0 (map v lines)
 
@@ -26,7 +26,7 @@ at_place v lines place d e inside =
     get_or-enumerate_from 0 (map v lines) place e within ∙ ap (λ n. (n, get_or (map v lines) place (e.1))) from_zero
     ∙ ap (λ line. (place, line)) (get_or-map v lines place d (e.1) inside)
 
--- one line more was read
+-- one more line was read
 pub read_more :
     {A B E : Type 0} (f : ℕ × List ℕ → Result B E) (v : A → List ℕ) (lines : List A) (place : ℕ) (d : A) (found : List B) (here : B) →
     place < length lines → each f (take place (placed v lines)) ≡ Ok found → f (place, v (get_or lines place d)) ≡ Ok here →
@@ -38,7 +38,7 @@ read_more f v lines place d found here inside so_far is =
     ap (λ l. take place (placed v lines) ++ l ∷ []) (at_place v lines place d (place, v (get_or lines place d)) inside))
     ∙ each-push f (take place (placed v lines)) found (place, v (get_or lines place d)) here so_far is
 
--- a line is faulty, and so the whole is
+-- a bad line makes the whole text bad
 pub read_fault :
     {A B E : Type 0} (f : ℕ × List ℕ → Result B E) (v : A → List ℕ) (lines : List A) (place : ℕ) (d : A) (found : List B) (fault : E) →
     place < length lines → each f (take place (placed v lines)) ≡ Ok found → f (place, v (get_or lines place d)) ≡ Err fault →
@@ -57,7 +57,7 @@ read_all f v lines place found past so_far =
     let long = length-placed v lines in
     ap (each f) (sym (take_all place (placed v lines) (omega arith))) ∙ so_far
 
--- one job more
+-- one more job
 pub jobs_push :
     {A : Type 0} (found : List (Option A)) (job : A) → filter_map (λ j. j) (found ++ Some job ∷ []) ≡ filter_map (λ j. j) found ++ job ∷ []
 jobs_push found job = filter_map-append (λ j. j) found (Some job ∷ [])

@@ -1,5 +1,5 @@
--- The entries of lines, and what the lines mean together: for who reads them one after the other, and for the law of their entries.
--- A text whose lines are read one after the other, up to the first fault, means what its entries do (`each_by_entries`).
+-- The entries of lines, and what the lines mean together: for loops that read one line after the other, and for the law of entries.
+-- A text whose lines are read in order, up to the first error, means what its entries mean (`each_by_entries`).
 use Rattle.std.proofs.Common.{◌≡◌, ℕ, ◌+◌, ◌<◌, ◌≤◌, List, [], ◌∷◌, ◌++◌, length, take, get_or, Option, Some, None, Ok, Err, refl, ap, sym, ◌∙◌, arith}
 use Rattle.std.proofs.lemmas.List.{take_more, take_all}
 use Rattle.std.proofs.lemmas.List.Elements.{filter_map-append}
@@ -17,7 +17,7 @@ use Rattle.plan_rules.proofs.CrontabLemmas.{placed, at_place, length-placed}
 
 -- ---- the loop
 
--- one line more
+-- one more line
 entries_more :
     {A B : Type 0} (f : ℕ × List ℕ → Option B) (v : A → List ℕ) (lines : List A) (place : ℕ) (d : A) → place < length lines →
     filter_map f (take (place + 1) (placed v lines))
@@ -29,7 +29,7 @@ entries_more f v lines place d inside =
     ap (λ l. take place (placed v lines) ++ l ∷ []) (at_place v lines place d (place, v (get_or lines place d)) inside))
     ∙ filter_map-append f (take place (placed v lines)) ((place, v (get_or lines place d)) ∷ [])
 
--- and so the entries so far are one more, or none
+-- so there is one more entry, or none
 pub entries_push :
     {A B : Type 0} (f : ℕ × List ℕ → Option B) (v : A → List ℕ) (lines : List A) (place : ℕ) (d : A) (so_far next : List B) →
     place < length lines → so_far ≡ filter_map f (take place (placed v lines)) →
@@ -74,7 +74,7 @@ first_line number (Err cause) later entries is = refl
 first_line number (Ok None) later entries is = without_first later ∙ is
 first_line number (Ok (Some x)) later entries is = with_first x later (refusals entries) (given entries) is
 
--- lines that are read in order mean what their entries do
+-- lines that are read in order mean what their entries mean
 pub each_by_entries :
     {A B : Type 0} (n : A → ℕ) (f : A → LineReading (Option B)) (xs : List A) →
     (each (λ x. on_line (n x) (f x)) xs >>= λ found. Ok (filter_map (λ job. job) found))

@@ -1,6 +1,6 @@
--- What a file's bytes are, by its text: for `text_of`, and for `crontab` and `timer` at their last returns.
--- Where there is a text, the bytes are neither too large nor no UTF-8 (`sound`); and a call whose faults are of lines then has
--- neither of those faults, so both sides of the clauses `too_large` and `not_utf8` are false.
+-- What the text of a file says about its bytes: for `text_of`, and for `crontab` and `timer` at their last returns.
+-- If there is a text, the bytes are not too large and are valid UTF-8 (`sound`). Then a call whose errors are of lines has
+-- neither of these two errors, so both sides of the clauses `too_large` and `not_utf8` are false.
 use Rattle.std.proofs.Common.{◌≡◌, ◌↔◌, ℕ, Bool, true, false, cond, List, Result, Ok, Err, IfErr, IsTrue, refl, sym, ◌∙◌, true≢false}
 use Rattle.std.proofs.lemmas.Str.{IsUtf8-from_is_utf8, is_utf8-from_IsUtf8}
 use Rattle.std.specs.Str.{IsUtf8, is_utf8}
@@ -24,7 +24,7 @@ pub text_of_other :
     (bytes : List ℕ) → is_too_large bytes ≡ false → (IsUtf8 bytes → ⊥) → text_reading bytes ≡ Err (of_whole NotUtf8)
 text_of_other bytes small other = rw (small, no_utf8 (is_utf8 bytes) bytes refl other) refl
 
--- ---- and from the text to the bytes
+-- ---- from the text to the bytes
 
 sound :
     (large utf8 : Bool) (bytes text : List ℕ) →

@@ -1,6 +1,6 @@
 -- Jobs by their names: the entries of a map, whose keys are the names of its values.
--- For `distinct` of `Jobs::len`, for `number_of` and for `add`. `KeysAreNames` is the type's invariant: by it the place
--- of a key is that of a job, as a search in a mapped list stops at the same place (`position-map`).
+-- For `distinct` of `Jobs::len`, for `number_of` and for `add`. `KeysAreNames` is the type's invariant. By it the position of a
+-- key is that of a job, since a search in a mapped list stops at the same position (`position-map`).
 use Rattle.std.proofs.Common.{◌≡◌, ℕ, ◌+◌, Bool, false, cond, not, nat_lt, List, [], ◌∷◌, ◌++◌, map, Option, Some, None, is_some, String, Global, string_bytes, position, refl, ap, sym, ◌∙◌, true≢false, subst}
 use Rattle.std.proofs.lemmas.List.{map-append, length-map}
 use Rattle.std.specs.List.{prefix_len, IsDistinct, AllByRecursion}
@@ -27,7 +27,7 @@ position-map p f xs =
 abbrev pub KeysAreNames : List (String Global × JobParts) → Type 0
 KeysAreNames es = map (λ key. string_bytes key) (keys_of es) ≡ map (λ job. job.name) (values_of es)
 
--- so the place of a key is the number of a job
+-- so the position of a key is the number of a job
 pub number_of-keys :
     (name : List ℕ) (es : List (String Global × JobParts)) → KeysAreNames es →
     position (λ key. bytes_eq name (string_bytes key)) (keys_of es) ≡ number_of name (values_of es)
@@ -48,7 +48,7 @@ unfolding IsDistinct
 IsDistinct-map e f [] h = tt
 IsDistinct-map e f (x ∷ xs) h = (apart e f x xs h.0, IsDistinct-map e f xs h.1)
 
--- and the names are distinct, as the keys are
+-- the names are distinct, as the keys are
 pub HaveDistinctNames-keys :
     (es : List (String Global × JobParts)) → KeysAreNames es → IsDistinct string_eq (keys_of es) → HaveDistinctNames (values_of es)
 HaveDistinctNames-keys es same distinct =
@@ -59,7 +59,7 @@ none_there : {A : Type 0} (o : Option A) → is_some o ≡ false → o ≡ None
 none_there None h = refl
 none_there (Some x) h = absurd (true≢false h)
 
--- a job whose name no job has goes last
+-- a job with a new name is added last
 pub insert_entry-job :
     {S : Type 0} (m : IndexMap (String Global) JobParts S) (key : String Global) (job : JobParts) → KeysAreNames m.entries →
     string_bytes key ≡ job.name → is_some (number_of job.name (values_of m.entries)) ≡ false →
@@ -69,7 +69,7 @@ insert_entry-job m key job same named absent =
     (none_there _ (sym (some_index (string_eq key) m.entries) ∙ ap is_some (number_of-keys (string_bytes key) m.entries same)
     ∙ ap (λ name. is_some (number_of name (values_of m.entries))) named ∙ absent))
 
--- and then the keys still are the names
+-- afterwards the keys are still the names
 pub KeysAreNames-push :
     (es : List (String Global × JobParts)) (key : String Global) (job : JobParts) → KeysAreNames es → string_bytes key ≡ job.name →
     KeysAreNames (es ++ (key, job) ∷ [])

@@ -1,5 +1,5 @@
--- A crontab's fault is never that of a name: for `bad_name` of `tab`, at its last return.
--- By the definition: the text is looked at first, and then each fault is of a line.
+-- An error of a crontab is never that of a bad name: for `bad_name` of `tab`, at its last return.
+-- It follows from the definition: the bytes are checked first, and then each error is of a line.
 use Rattle.std.proofs.Common.{◌≡◌, ◌≢◌, ℕ, Bool, true, false, cond, List, Result, Ok, Err, IfErr, ap}
 use Rattle.std.proofs.lemmas.Result.{IfErr-weaker}
 use Rattle.std.specs.Str.{is_utf8}
@@ -14,7 +14,7 @@ use Rattle.plan_rules.specs.LineFaults.{TextReading, of_whole, on_line, want_of_
 use Rattle.plan_rules.specs.Crontab.{crontab_reading, jobs_reading}
 use Rattle.plan_rules.proofs.CrontabFaults.{IsLineCause, IsOwnFault, jobs, steps}
 
--- the fault is of no name
+-- the error is not that of a bad name
 abbrev IsOfNoName : LineFault → Type 0
 IsOfNoName fault = fault.cause ≢ BadTabName
 

@@ -1,5 +1,6 @@
--- The events of a timer file, read one after the other and each by itself: for `entries_of_lines` of timers and the law of a timer.
--- While no event was refused, the list holds as many as were counted (`events_by_entries`); so 64 are found there at the same event.
+-- The events of a timer file, read in order and each by itself: for `entries_of_lines` of timer_events and the law of a timer's
+-- entries.
+-- While no event is rejected, the list has as many events as were counted (`events_by_entries`). So both reach 64 at the same event.
 use Rattle.std.proofs.Common.{◌≡◌, ℕ, ◌+◌, ◌<◌, Bool, true, false, ◌||◌, cond, nat_lt, List, [], ◌∷◌, ◌++◌, length, drop, get_or, map, Option, Some, None, Ok, Err, refl, ap, sym, ◌∙◌, length-append, append_assoc}
 use Rattle.std.proofs.lemmas.List.{drop_more}
 use Rattle.std.specs.List.{cons_option}
@@ -32,7 +33,7 @@ event_read :
 event_read number held (Ok event) more later = later (held ++ event ∷ []) (length-append held (event ∷ []))
 event_read number held (Err cause) more later = refl
 
--- an event, where the list has room or not
+-- an event, whether the list is full or not
 event_held :
     (room : Bool) (number : ℕ) (held : List Calendar) (r : LineReading Calendar) (more : List (ℕ × Effect)) →
     ((next : List Calendar) → length next ≡ length held + 1 → events_from next more
@@ -75,7 +76,7 @@ timer_law name bytes =
 
 -- ---- the loop
 
--- what is left begins with the next line
+-- the remaining lines begin with the next one
 pub lines_more :
     {A : Type 0} (v : A → ℕ × List ℕ) (lines : List A) (place : ℕ) (line : A) → place < length lines → line ≡ get_or lines place line →
     map v (drop place lines) ≡ v line ∷ map v (drop (place + 1) lines)
@@ -86,7 +87,7 @@ cons_front : {A : Type 0} (o : Option A) (xs : List A) → cons_option o [] ++ x
 cons_front None xs = refl
 cons_front (Some x) xs = refl
 
--- the entries, once a line more was read
+-- the entries after one more line
 pub entries_step :
     (events next : List (Entry Calendar)) (count counted : EventCount) (sections after : Sections) (line : ℕ × List ℕ)
     (more : List (ℕ × List ℕ)) (whole : List (Entry Calendar)) →
@@ -120,7 +121,7 @@ section_step sections after line more whole after_is so_far =
     ∙ sym (or_assoc sections.found (inside_after false (section_name line.1)) (has_timer more))
     ∙ so_far
 
--- how many events the list holds
+-- the number of events in the list
 pub count_step :
     (count counted : EventCount) (sections after : Sections) (line : ℕ × List ℕ) (more : List (ℕ × List ℕ)) (whole : EventCount) →
     counted ≡ count_after count (line_effect sections.inside (section_name line.1) (setting_of line.1)) →
@@ -130,7 +131,7 @@ pub count_step :
 count_step count counted sections after line more whole count_is after_is so_far =
     (λ i. count_from (count_is i) (effects_from (after_is i).inside more)) ∙ so_far
 
--- what is known of a file, by its text and the whole lines of that
+-- the meaning of a file, by its text and the whole lines of that text
 pub parts_of_file :
     (bytes text : List ℕ) (lines : List (ℕ × List ℕ)) → Ok text ≡ text_reading bytes →
     lines ≡ map {B = ℕ × List ℕ} (λ line. (line.0, trimmed line.1)) (whole_lines text) → timer_entries bytes ≡ Ok (parts_of_lines lines)

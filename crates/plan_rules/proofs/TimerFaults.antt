@@ -1,5 +1,5 @@
--- Which faults a timer file has, and what its name and its lines are: for `timer` and `service_name`.
--- `lines_fault` follows the definition: each step keeps that its faults are of a line.
+-- Which errors a timer file has, and what is known of its name and its lines: for `timer` and `service_name`.
+-- `lines_fault` follows the definition: after each step all errors are of a line.
 use Rattle.std.proofs.Common.{◌≡◌, ℕ, ◌+◌, ◌-◌, ◌≤◌, Bool, true, false, ◌&&◌, nat_lt, nat_le, nat_eq, List, [], ◌∷◌, ◌++◌, length, drop, get_or, map, codes, Option, Ok, Err, IfErr, string_bytes, refl, ap, sym, ◌∙◌, true≢false, arith}
 use Rattle.std.proofs.lemmas.Bool.Decides.{nat_tests}
 use Rattle.std.proofs.lemmas.List.{get_or-drop}
@@ -37,7 +37,7 @@ pub name_long : (name : List ℕ) → is_timer_name name ≡ true → 7 ≤ leng
 unfolding is_timer_name
 name_long name is = from_nat_le 7 (length name) (and_first (nat_le 7 (length name)) _ is)
 
--- and may be cut there
+-- a timer's name may be cut there
 pub boundary_of_name : (name : List ℕ) → is_timer_name name ≡ true → IsCharBoundary name (length name - 6)
 unfolding is_timer_name
 boundary_of_name name is =
@@ -72,7 +72,7 @@ job_fault :
 job_fault true name unit events = tt
 job_fault false name unit events = on {A = JobParts} 0 (Err NoTimerSection) tt
 
--- each fault of a timer's lines
+-- every error of a timer's lines is of a line
 pub lines_fault : (name : List ℕ) (lines : List (ℕ × List ℕ)) → IfErr (timer_of_lines name lines) IsOwnFault
 lines_fault name lines =
     steps IsOwnFault (events_from [] (effects_from false lines)) _ (events_fault [] (effects_from false lines))
@@ -80,13 +80,13 @@ lines_fault name lines =
 
 -- ---- the bytes
 
--- what a file means whose name and text are as they should be
+-- the meaning of a file whose name and text are valid
 pub timer_of_text :
     (name bytes text : List ℕ) → is_timer_name name ≡ true → Ok text ≡ text_reading bytes →
     timer_reading name bytes ≡ timer_of_lines name (map (λ line. (line.0, trimmed line.1)) (whole_lines text))
 timer_of_text name bytes text named read = rw (named, sym read) refl
 
--- the whole lines that are held, without blanks at their ends
+-- the whole lines as the code keeps them, without blanks at their ends
 pub trimmed_lines :
     (lines : List WholeLine) →
     map {B = ℕ × List ℕ} (λ line. (line.number, trimmed (string_bytes line.text))) lines ≡

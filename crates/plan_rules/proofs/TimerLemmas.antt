@@ -1,6 +1,6 @@
--- A timer file read line by line: for the loop of `timer_of_lines`.
--- What is held and the lines that are left mean what the whole file does (`rest_reading`): before the first line, from one line to
--- the next, and past the last.
+-- A timer file that is read line by line: for the loop of `timer_of_lines`.
+-- The state and the remaining lines together mean what the whole file means (`rest_reading`): before the first line, from one
+-- line to the next, and after the last.
 use Rattle.std.proofs.Common.{◌≡◌, ℕ, ◌+◌, ◌<◌, ◌≤◌, Bool, true, false, ◌||◌, List, [], ◌∷◌, ◌++◌, length, drop, get_or, map, Option, Some, None, Result, Ok, Err, unwrap_or, refl, ap, sym, ◌∙◌}
 use Rattle.std.proofs.lemmas.List.{drop_more, drop_all}
 use Rattle.plan_match.specs.declared.event.Calendar.{Calendar}
@@ -12,12 +12,12 @@ use Rattle.plan_rules.specs.TimerSteps.{Draft, after_effect, after_section, afte
 
 -- ---- the unit
 
--- the first unit that is named, where one may be named already
+-- the first unit that is named, if one may be named already
 abbrev pub unit_from : Option (List ℕ) → List (ℕ × Effect) → Option (List ℕ)
 unit_from None effects = first_unit effects
 unit_from (Some unit) effects = Some unit
 
--- the unit that is named once a line's effect is done
+-- the unit that is named after what a line does
 abbrev unit_after : Option (List ℕ) → Effect → Option (List ℕ)
 unit_after unit (Starts named) = Some (unwrap_or unit named)
 unit_after unit other = unit
@@ -32,9 +32,9 @@ unit_step None number Nothing more = refl
 unit_step (Some unit) number (Starts named) more = refl
 unit_step (Some unit) number other more = refl
 
--- ---- the file, from the lines that are left
+-- ---- the file, from the remaining lines
 
--- the meaning of a file, from what is held and the lines that are left
+-- the meaning of a file, from the state and the remaining lines
 abbrev pub rest_reading : List ℕ → Draft → List (ℕ × List ℕ) → TextReading JobParts
 rest_reading name draft lines =
     events_from draft.events (effects_from draft.inside lines)
@@ -76,7 +76,7 @@ or_assoc : (a b c : Bool) → (a || (b || c)) ≡ ((a || b) || c)
 or_assoc true b c = refl
 or_assoc false b c = refl
 
--- one line more
+-- one more line
 pub rest_reading-line :
     (name : List ℕ) (draft : Draft) (line : ℕ × List ℕ) (more : List (ℕ × List ℕ)) →
     rest_reading name draft (line ∷ more) ≡ (on_line line.0 (after_line draft line.1) >>= λ next. rest_reading name next more)
@@ -89,7 +89,7 @@ rest_reading-line name draft line more =
     (λ i. (or_assoc draft.found (inside_after false section) (has_timer more) i, unit_step draft.unit line.0 effect left i))
     ∙ effect_step name line.0 effect (after_section draft section) more
 
--- the line at a place
+-- the line at a position
 pub rest_reading-more :
     {A : Type 0} (v : A → ℕ × List ℕ) (name : List ℕ) (draft : Draft) (lines : List A) (place : ℕ) (line : A) → place < length lines →
     line ≡ get_or lines place line →
@@ -108,7 +108,7 @@ unit_from-empty : (unit : Option (List ℕ)) → unit_from unit [] ≡ unit
 unit_from-empty None = refl
 unit_from-empty (Some unit) = refl
 
--- past the last line
+-- after the last line
 pub rest_reading-end :
     {A : Type 0} (v : A → ℕ × List ℕ) (name : List ℕ) (draft : Draft) (lines : List A) (place : ℕ) → length lines ≤ place →
     rest_reading name draft (map v (drop place lines)) ≡ job_with draft.found name draft.unit draft.events

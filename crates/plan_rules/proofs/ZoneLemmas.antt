@@ -1,5 +1,5 @@
--- Jobs that are put in a zone one after another: for `put_in_zone` and `in_zone` of `Jobs`. The entries of the map change at one place;
--- `same_names` says that the names stay, `first_more` that one job more is in the zone.
+-- Jobs that are put in a zone one after another: for `put_in_zone` and `in_zone` of `Jobs`. One entry of the map changes at a
+-- time: `same_names` says that the names are unchanged, `first_more` that one more job is in the zone.
 use Rattle.std.proofs.Common.{◌≡◌, ℕ, zero, suc, List, [], ◌∷◌, map, Some, Result, Ok, Err, OnOk, OnErr, refl, ap}
 use Rattle.std.specs.List.{slice_get}
 use Rattle.std.specs.Map.{values_of}
@@ -21,14 +21,14 @@ same_names [] i old new here same = refl
 same_names (e ∷ es) zero old new here same = cc
 same_names (e ∷ es) (suc i) old new here same = ap (λ (l : List (List ℕ)). e.1.name ∷ l) (same_names es i old new here same)
 
--- a job that is put in a zone keeps its name, and so does one that isn't
+-- each job keeps its name, whether it is put in a zone or not
 pub name_kept :
     (put : Result (Unit {0}) AllocError) (clock : List Change) (old new : JobParts) → OnOk put (new ≡ job_in clock old) →
     OnErr put (new ≡ old) → new.name ≡ old.name
 name_kept (Ok x) clock old new done kept = ap (λ (job : JobParts). job.name) done
 name_kept (Err e) clock old new done kept = ap (λ (job : JobParts). job.name) kept
 
--- one job more is in the zone
+-- one more job is in the zone
 pub first_more :
     {K : Type 0} (clock : List Change) (es : List (K × JobParts)) (jobs : List JobParts) (i : ℕ) (old : JobParts) →
     slice_get (values_of es) i ≡ Some old → values_of es ≡ first_in clock i jobs →
@@ -41,7 +41,7 @@ first_more clock (e ∷ es) (job ∷ jobs) (suc i) old here so_far =
     let rest : values_of es ≡ first_in clock i jobs = cc in
     let more = first_more clock es jobs i old here rest in cc
 
--- what a call did where it was done
+-- what a call did if it succeeded
 pub where_done : {E : Type 0} (put : Result (Unit {0}) E) (P Q : Type 0) → OnOk put P → (P → Q) → OnOk put Q
 where_done (Ok x) P Q done leads = leads done
 where_done (Err e) P Q done leads = tt

@@ -1,10 +1,10 @@
--- The names of causes, as `Display` and the lines of faults show them (own).
+-- The names of causes, as `Display` and error lines show them (agenda).
 use Rattle.std.specs.Prelude.{ℕ, List, codes}
 use Rattle.plan_grammar.specs.Causes.{rule_cause}
 use Rattle.plan_rules.specs.declared.line_fault.LineCause.{LineCause}
 use Rattle.plan_rules.specs.declared.line_fault.LineCause.TheVariants as line
 
--- of a line of a crontab or of a timer file
+-- the name of a cause of a line of a crontab or of a timer file; for a rule, the name of the rule's cause
 abbrev pub line_cause : LineCause → List ℕ
 line_cause line.NoMemory = codes "NoMemory"
 line_cause line.NotUtf8 = codes "NotUtf8"

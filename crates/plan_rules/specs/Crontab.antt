@@ -1,4 +1,4 @@
--- The meaning of a crontab (crontab(5)): the jobs of its lines, or its first fault with its line.
+-- The meaning of a crontab (crontab(5)): the jobs of its lines, or its first error with its line.
 use Rattle.std.specs.Prelude.{ℕ, ◌+◌, Bool, ◌||◌, ◌==◌, if◌then◌else◌, List, [], ◌∷◌, ◌++◌, length, codes, Option, Some, None, Ok, Err, ok_or}
 use Rattle.std.specs.Char.{is_ascii_alphabetic}
 use Rattle.std.specs.Fmt.{decimal}
@@ -20,13 +20,13 @@ use Rattle.plan_rules.specs.Entries.{entry_on, meant_by}
 use Rattle.plan_rules.specs.FileText.{text_reading}
 use Rattle.plan_rules.specs.Job.{JobParts}
 
--- ---- the rule in front of a line
+-- ---- the rule at the start of a line
 
--- the next word of a line and what follows it; without one the line has too few parts (crontab(5), fields)
+-- the next word of a line and what follows it; if there is none, the line has too few fields (crontab(5), fields)
 abbrev pub next_part : List ℕ → Reading (List ℕ × List ℕ)
 next_part text = ok_or (cut_word text) (record { part = 0; cause = WrongParts })
 
--- the rule of five fields and what follows them; there are five before the first is read (own)
+-- the rule of five fields and what follows them; all five must be present before the first is read (agenda)
 unfoldable pub fields_in_front : List ℕ → Reading (Rule × List ℕ)
 fields_in_front text = do
   minute ← next_part text
@@ -44,53 +44,52 @@ at_word_in_front text = do
   rule ← found_reading (at_word (word.0))
   Ok (rule, word.1)
 
--- the rule in front of a line without blanks in front, and what follows it
+-- the rule at the start of a line without leading blanks, and what follows it (crontab(5))
 abbrev pub rule_in_front : List ℕ → Reading (Rule × List ℕ)
 rule_in_front text =
     if begins_with (λ b. b == byte "@") text then at_word_in_front text else fields_in_front text
 
 -- ---- what a line's job runs
 
--- a command is kept as it is written; none is a fault (own)
+-- a command is kept as it is written; a missing command is an error (agenda)
 abbrev pub command_reading : List ℕ → LineReading (List ℕ)
 command_reading command = if length command == 0 then Err NoCommand else Ok command
 
--- a user, one space and the command; no user is no command (own)
+-- a user, one space and the command; a missing user is reported as a missing command (agenda)
 abbrev pub user_and_command : Option (List ℕ × List ℕ) → LineReading (List ℕ)
 user_and_command None = Err NoCommand
 user_and_command (Some cut) = do
   command ← command_reading (after_blanks (cut.1))
   Ok (cut.0 ++ byte " " ∷ command)
 
--- what the job of a line runs, by what follows its rule; in the system's crontab a user comes first (crontab(5), the note
--- on the system crontab)
+-- what the job of a line runs, from the text that follows its rule; in the system's crontab a user comes first (crontab(5), the
+-- note on the system crontab)
 unfoldable pub what_reading : Kind → List ℕ → LineReading (List ℕ)
 what_reading User text = command_reading (after_blanks text)
 what_reading System text = user_and_command (cut_word text)
 
 -- ---- a line
 
--- the name of a line's job: the crontab's label, a colon and the line's number in decimal (own)
+-- the name of a line's job: the crontab's label, a colon and the number of the line in decimal (agenda)
 abbrev pub job_name : List ℕ → ℕ → List ℕ
 job_name label number = label ++ (codes ":" ++ decimal number)
 
--- the job of a line without blanks in front: its rule is read first (own)
+-- the job of a line without leading blanks: its rule is read before its command (agenda)
 unfoldable pub job_reading : (label : List ℕ) → Kind → ℕ → List ℕ → LineReading JobParts
 job_reading label kind number text = do
   front ← in_line (rule_in_front text)
   what ← what_reading kind (front.1)
   Ok (record { name = job_name label number; what = what; rule = front.0 })
 
--- the first characters of a setting: a letter, `_`, or a quote (own)
+-- the first characters of a setting: a letter, `_`, or a quote (agenda)
 abbrev pub begins_setting : ℕ → Bool
 begins_setting b = is_ascii_alphabetic b || ((b == byte "_") || ((b == byte "\"") || (b == byte "'")))
 
--- a setting holds `=` and gives no job (crontab(5), environment settings)
+-- a setting must have an `=`, and makes no job (crontab(5), environment settings)
 abbrev pub setting_reading : List ℕ → LineReading (Option JobParts)
 setting_reading text = if list_any (λ b. b == byte "=") text then Ok None else Err BadSetting
 
--- a line without blanks in front, by its first character: it may be empty, a comment or a setting, and else it is a job
--- (crontab(5))
+-- a line without leading blanks: by its first character it is empty, a comment, a setting, or else a job (crontab(5))
 abbrev pub entry_reading : (label : List ℕ) → Kind → ℕ → List ℕ → LineReading (Option JobParts)
 entry_reading label kind number [] = Ok None
 entry_reading label kind number (first ∷ rest) =
@@ -100,23 +99,23 @@ entry_reading label kind number (first ∷ rest) =
       job ← job_reading label kind number (first ∷ rest)
       Ok (Some job)))
 
--- a line; blanks in front of it are ignored (crontab(5))
+-- a line; its leading blanks are ignored (crontab(5))
 unfoldable pub line_reading : (label : List ℕ) → Kind → ℕ → List ℕ → LineReading (Option JobParts)
 line_reading label kind number line = entry_reading label kind number (after_blanks line)
 
 -- ---- a crontab
 
--- the reading of the line at a place, from 0: its number counts from 1 (own)
+-- the meaning of the line at a position, from 0; its number counts from 1 (agenda)
 abbrev pub numbered_reading : (label : List ℕ) → Kind → ℕ × List ℕ → TextReading (Option JobParts)
 numbered_reading label kind line = on_line (line.0 + 1) (line_reading label kind (line.0 + 1) (line.1))
 
--- the jobs of the lines in order; the first faulty line decides
+-- the jobs of the lines in order, or the error of the first bad line (agenda)
 unfoldable pub jobs_reading : (label : List ℕ) → Kind → List (List ℕ) → TextReading (List JobParts)
 jobs_reading label kind lines = do
   found ← each (numbered_reading label kind) (enumerate_from 0 lines)
   Ok (filter_map (λ job. job) found)
 
--- the meaning of a crontab: its bytes are looked at first, then its lines (own)
+-- the meaning of a crontab: its bytes are checked first, then its lines are read (agenda)
 abbrev pub crontab_reading : (label : List ℕ) → Kind → List ℕ → TextReading (List JobParts)
 crontab_reading label kind bytes = do
   text ← text_reading bytes
@@ -124,21 +123,21 @@ crontab_reading label kind bytes = do
 
 -- ---- the lines of a crontab, each by itself
 
--- the entry of the line at a place, from 0
+-- the entry of the line at a position, from 0, if it has one (agenda)
 abbrev pub line_entry : (label : List ℕ) → Kind → ℕ × List ℕ → Option (Entry JobParts)
 line_entry label kind line = entry_on (line.0 + 1) (line_reading label kind (line.0 + 1) (line.1))
 
--- the entries of lines, in order; a line that is empty, a comment or a setting has none
+-- the entries of lines, in order; a line that is empty, a comment or a valid setting has none (agenda)
 unfoldable pub entries_of_lines : (label : List ℕ) → Kind → List (List ℕ) → List (Entry JobParts)
 entries_of_lines label kind lines = filter_map (line_entry label kind) (enumerate_from 0 lines)
 
--- the entries of a crontab: its bytes are looked at first (own)
+-- the entries of a crontab: its bytes are checked first (agenda)
 abbrev pub crontab_entries : (label : List ℕ) → Kind → List ℕ → TextReading (List (Entry JobParts))
 crontab_entries label kind bytes = do
   text ← text_reading bytes
   Ok (entries_of_lines label kind (lines text))
 
--- the meaning of a crontab by its entries
+-- the meaning of a crontab by its entries: their jobs, or the first error (agenda)
 abbrev pub crontab_by_entries : (label : List ℕ) → Kind → List ℕ → TextReading (List JobParts)
 crontab_by_entries label kind bytes = do
   entries ← crontab_entries label kind bytes

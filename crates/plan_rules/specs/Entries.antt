@@ -1,4 +1,5 @@
--- What the lines of a text say, each read by itself, and what they are together: the first that is refused decides. All of it is own.
+-- What the lines of a text say, each read by itself, and what they mean together: the first rejected line decides. All of it is
+-- our choice (agenda).
 use Rattle.std.specs.Prelude.{ℕ, List, [], ◌∷◌, Option, Some, None, Ok, Err}
 use Rattle.std.specs.List.{filter_map}
 use Rattle.std.specs.Result.{result_ok}
@@ -8,44 +9,44 @@ use Rattle.plan_rules.specs.LineFaults.{LineReading, TextReading, fault_on_line}
 
 -- ---- one line
 
--- the entry of a line that was read, or refused
+-- the entry of a line with this number, valid or rejected
 abbrev pub entry_at : {A : Type 0} → ℕ → LineReading A → Entry A
 entry_at number reading = record { line = number; read = reading }
 
--- the entry of the line with a number, if it says something or is refused
+-- the entry of the line with this number, if it says something or is rejected
 abbrev pub entry_on : {A : Type 0} → ℕ → LineReading (Option A) → Option (Entry A)
 entry_on number (Ok None) = None
 entry_on number (Ok (Some x)) = Some (entry_at number (Ok x))
 entry_on number (Err cause) = Some (entry_at number (Err cause))
 
--- the fault of a line's reading, if it is refused
+-- the error of a line with this number, if it is rejected
 abbrev pub refusal_on : {A : Type 0} → ℕ → LineReading A → Option LineFault
 refusal_on number (Ok x) = None
 refusal_on number (Err cause) = Some (fault_on_line number cause)
 
--- the fault of an entry, if its line is refused
+-- the error of an entry, if its line is rejected
 abbrev pub refusal_of : {A : Type 0} → Entry A → Option LineFault
 refusal_of entry = refusal_on entry.line entry.read
 
--- what an entry says, unless its line is refused
+-- what an entry says, unless its line is rejected
 abbrev pub given_of : {A : Type 0} → Entry A → Option A
 given_of entry = result_ok entry.read
 
 -- ---- all lines
 
--- the faults of all lines that are refused, in order
+-- the errors of all rejected lines, in order
 abbrev pub refusals : {A : Type 0} → List (Entry A) → List LineFault
 refusals entries = filter_map refusal_of entries
 
--- what the lines say that are right, in order
+-- what the valid lines say, in order
 abbrev pub given : {A : Type 0} → List (Entry A) → List A
 given entries = filter_map given_of entries
 
--- a text is refused with the first fault of its lines
+-- a text is rejected with the first error of its lines; without one it has this meaning
 abbrev pub unless_refused : {A : Type 0} → List LineFault → A → TextReading A
 unless_refused [] x = Ok x
 unless_refused (fault ∷ more) x = Err fault
 
--- what a text means by the entries of its lines
+-- the meaning of a text by the entries of its lines
 abbrev pub meant_by : {A : Type 0} → List (Entry A) → TextReading (List A)
 meant_by entries = unless_refused (refusals entries) (given entries)

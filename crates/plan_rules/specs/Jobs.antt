@@ -1,4 +1,4 @@
--- What contracts see of the list of jobs: the jobs in the order of their addition, of which no two have one name.
+-- What contracts say of the list of jobs: the jobs are in the order in which they were added, and no two have the same name.
 use Rattle.std.specs.Prelude.{ℕ, Bool, List, map, position, Option}
 use Rattle.std.specs.List.{IsDistinct}
 use Rattle.std.specs.Str.{bytes_eq}
@@ -10,15 +10,15 @@ use Rattle.plan_rules.specs.declared.jobs.AddFault.TheVariants.{NoMemory, SameNa
 abbrev pub is_named : List ℕ → JobParts → Bool
 is_named name job = bytes_eq name job.name
 
--- the number of the job with this name: its place in the list, from 0 (own)
+-- the number of the job with this name: its position in the list, from 0 (agenda)
 abbrev pub number_of : List ℕ → List JobParts → Option ℕ
 number_of name jobs = position (is_named name) jobs
 
--- no two jobs have one name
+-- no two jobs have the same name
 abbrev pub HaveDistinctNames : List JobParts → Type 0
 HaveDistinctNames jobs = IsDistinct bytes_eq (map (λ job. job.name) jobs)
 
--- the job that comes back with a fault
+-- the job that an error gives back
 abbrev pub job_of : AddFault → JobParts
 job_of (NoMemory job) = job
 job_of (SameName job) = job

@@ -1,4 +1,4 @@
--- What a line means or what is wrong with it.
+-- The meaning of a line, or what is wrong with it.
 use Rattle.std.specs.Prelude.{◌≢◌, ℕ, Result, Ok, Err}
 use Rattle.plan_grammar.specs.declared.fault.RuleFault.{RuleFault}
 use Rattle.plan_grammar.specs.declared.fault.RuleCause.{RuleCause}
@@ -9,53 +9,53 @@ use Rattle.plan_rules.specs.declared.line_fault.LineFault.{LineFault}
 use Rattle.plan_texts.specs.Steps.{GivesUnless}
 use Rattle.plan_grammar.specs.Readings.{Reading}
 
--- ---- faults of lines
+-- ---- errors of lines
 
 -- what a line means, or what is wrong with it
 abbrev pub LineReading : Type 0 → Type 0
 LineReading A = Result A LineCause
 
--- what a text of lines means, or its first fault
+-- what a text of lines means, or its first error
 abbrev pub TextReading : Type 0 → Type 0
 TextReading A = Result A LineFault
 
--- a rule's fault in a line, of which a cause is known
+-- the cause of a line whose rule has this error, by the cause of that error
 abbrev pub cause_by_cause : RuleCause → RuleFault → LineCause
 cause_by_cause cause.NoMemory fault = NoMemory
 cause_by_cause other fault = Rule fault
 
--- a rule's fault in a line: a want of memory inside it is a want of memory (own)
+-- the cause of a line whose rule has this error; a failed allocation stays a failed allocation (agenda)
 abbrev pub cause_of_rule : RuleFault → LineCause
 cause_of_rule fault = cause_by_cause fault.cause fault
 
--- a rule that stands in a line: its fault is the line's
+-- a rule in a line: its error is the line's
 abbrev pub in_line : {A : Type 0} → Reading A → LineReading A
 in_line (Ok x) = Ok x
 in_line (Err fault) = Err (cause_of_rule fault)
 
--- that memory was refused (own): a fault of no line
+-- the error of a failed allocation; it has no line (agenda)
 abbrev pub want_of_memory : LineFault
 want_of_memory = record { line = 0; cause = NoMemory }
 
--- the fault of a line with this number, from 1, or of the whole text, 0 (own)
+-- the error of the line with this number, from 1, or of the whole text, 0 (agenda)
 abbrev pub fault_on_line : ℕ → LineCause → LineFault
 fault_on_line number NoMemory = want_of_memory
 fault_on_line number cause = record { line = number; cause = cause }
 
--- the fault of a whole text, found before its lines (own)
+-- an error of the whole text, found before its lines are read (agenda)
 abbrev pub of_whole : LineCause → LineFault
 of_whole cause = fault_on_line 0 cause
 
--- the reading of such a line
+-- the meaning of the line with this number, as part of the text: its error has the number
 abbrev pub on_line : {A : Type 0} → ℕ → LineReading A → TextReading A
 on_line number (Ok x) = Ok x
 on_line number (Err cause) = Err (fault_on_line number cause)
 
--- a call's answer on a line is this reading, unless memory was refused
+-- the answer of a call for a line is this reading, unless an allocation failed
 abbrev pub GivesLine : {A : Type 0} → Result A LineCause → LineReading A → Type 0
 GivesLine answer reading = GivesUnless NoMemory (λ x. x) answer reading
 
--- a cause that isn't a want of memory inside a rule's fault
+-- a cause that doesn't hide a failed allocation in a rule's error
 abbrev pub IsOwnCause : LineCause → Type 0
 IsOwnCause (Rule fault) = fault.cause ≢ cause.NoMemory
 IsOwnCause other = Unit {0}

@@ -1,5 +1,5 @@
--- The meaning of a crontab whose jobs have its file's name: those that packages bring in /etc/cron.d, and those of users in the spool
--- folder (cron(8) of Debian).
+-- The meaning of a crontab whose file name matters: those of packages in /etc/cron.d, and those of users in the spool directory
+-- (cron(8) of Debian).
 use Rattle.std.specs.Prelude.{ℕ, Bool, false, ◌&&◌, ◌||◌, ◌==◌, if◌then◌else◌, List, [], ◌∷◌, Err}
 use Rattle.std.specs.Char.{is_ascii_alphabetic, is_ascii_digit}
 use Rattle.std.specs.List.{list_all}
@@ -15,28 +15,28 @@ use Rattle.plan_rules.specs.Crontab.{crontab_reading}
 
 -- ---- the name
 
--- the characters of a name in /etc/cron.d: letters, digits, `_` and `-`; other files there cron leaves out (cron(8) of Debian)
+-- the characters of a name in /etc/cron.d: letters, digits, `_` and `-`; cron ignores other files there (cron(8) of Debian)
 abbrev pub is_package_byte : ℕ → Bool
 is_package_byte b = is_ascii_alphabetic b || (is_ascii_digit b || ((b == byte "_") || (b == byte "-")))
 
--- those behind the first character of a name: a user's name may have `.` there too (own)
+-- the characters after the first of a name; a user's name may also have `.` there (agenda)
 abbrev pub is_tab_byte : TabFolder → ℕ → Bool
 is_tab_byte CronD b = is_package_byte b
 is_tab_byte Spool b = is_package_byte b || (b == byte ".")
 
--- a name has one character at least (own)
+-- a name has at least one character (agenda)
 unfoldable pub is_tab_name : TabFolder → List ℕ → Bool
 is_tab_name folder [] = false
 is_tab_name folder (first ∷ rest) = is_package_byte first && list_all (is_tab_byte folder) rest
 
 -- ---- the crontab
 
--- in /etc/cron.d a user stands before each command, as in the system's crontab; a user's file has none (crontab(5))
+-- in /etc/cron.d there is a user before each command, as in the system's crontab; a user's crontab has none (crontab(5))
 abbrev pub kind_in : TabFolder → Kind
 kind_in CronD = System
 kind_in Spool = User
 
--- its jobs are named by the file's name, which is looked at first (own)
+-- its jobs are named after the file's name, which is checked first (agenda)
 abbrev pub tab_reading : TabFolder → (name bytes : List ℕ) → TextReading (List JobParts)
 tab_reading folder name bytes =
     if is_tab_name folder name then crontab_reading name (kind_in folder) bytes else on_line 0 (Err BadTabName)

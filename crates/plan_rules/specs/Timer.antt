@@ -1,4 +1,4 @@
--- The meaning of a timer file (systemd.timer(5), systemd.syntax(7)): its job, or its first fault with its line.
+-- The meaning of a timer file (systemd.timer(5), systemd.syntax(7)): its job, or its first error with its line.
 use Rattle.std.specs.Prelude.{ℕ, ◌-◌, Bool, false, ◌&&◌, ◌||◌, ◌==◌, nat_le, nat_lt, nat_eq, if◌then◌else◌, List, [], ◌∷◌, ◌++◌, length, take, map, codes, Option, Some, None, Ok, Err, unwrap_or}
 use Rattle.std.specs.Char.{is_ascii_alphabetic, is_ascii_digit}
 use Rattle.std.specs.List.{list_any, list_all, slice_index, slice_range, ends_with, position_or_len, before_first, after_first}
@@ -20,37 +20,37 @@ use Rattle.plan_texts.specs.WholeLines.{whole_lines, trimmed}
 
 -- ---- the name
 
--- the characters of a timer's name: letters, digits and `:`, `-`, `_`, `.`, `\` (own)
+-- the characters of a timer's name: letters, digits and `:`, `-`, `_`, `.`, `\` (agenda)
 abbrev pub is_name_byte : ℕ → Bool
 is_name_byte b =
     is_ascii_alphabetic b
     || (is_ascii_digit b
     || ((b == byte ":") || ((b == byte "-") || ((b == byte "_") || ((b == byte ".") || (b == byte "\\"))))))
 
--- a timer's name has 7 to 255 bytes and ends in `.timer` (own)
+-- a timer's name has 7 to 255 bytes and ends in `.timer` (agenda)
 unfoldable pub is_timer_name : List ℕ → Bool
 is_timer_name name =
     nat_le least_name (length name)
     && (nat_le (length name) most_name && (ends_with nat_eq name (codes ".timer") && list_all is_name_byte name))
 
--- the service of a timer's name: its last `.timer` is replaced by `.service` (systemd.timer(5), `Unit=`)
+-- the service with the timer's name: its last `.timer` is replaced by `.service` (systemd.timer(5), `Unit=`)
 abbrev pub service_name : List ℕ → List ℕ
 service_name name = take (length name - 6) name ++ codes ".service"
 
 -- ---- a whole line, without blanks at its ends
 
--- the name of the section that a line begins, between `[` and `]` (systemd.syntax(7))
+-- the name between `[` and `]` of the section that a line begins (systemd.syntax(7))
 unfoldable pub section_name : List ℕ → Option (List ℕ)
 section_name text =
     if begins_with (λ b. b == byte "[") text && (slice_index text (length text - 1) == byte "]")
     then Some (slice_range text 1 (length text - 1))
     else None
 
--- names of sections are compared exactly (systemd.syntax(7))
+-- whether a section is `[Timer]`; names of sections are compared exactly (systemd.syntax(7))
 abbrev pub is_timer : List ℕ → Bool
 is_timer section = bytes_eq section (codes "Timer")
 
--- the key and the value of a setting, around the first `=`, without blanks at their ends (systemd.syntax(7))
+-- the key and the value of a setting, before and after the first `=`, without blanks at their ends (systemd.syntax(7))
 unfoldable pub setting_of : List ℕ → Option (List ℕ × List ℕ)
 setting_of text =
     let is_equals : ℕ → Bool = λ b. b == byte "=" in
@@ -66,22 +66,23 @@ monotonic_keys =
     codes "OnActiveSec" ∷ codes "OnBootSec" ∷ codes "OnStartupSec" ∷ codes "OnUnitActiveSec"
     ∷ codes "OnUnitInactiveSec" ∷ []
 
--- keys are compared exactly (systemd.syntax(7))
+-- the kind of a setting; keys are compared exactly (systemd.syntax(7))
 unfoldable pub key_of : List ℕ → Key
 key_of text =
     if bytes_eq text (codes "OnCalendar") then OnCalendar
     else (if list_any (bytes_eq text) monotonic_keys then Monotonic
     else (if bytes_eq text (codes "Unit") then UnitName else OtherKey))
 
--- a line empties the list of events, adds an event to it, names the unit that is started, or does nothing
+-- what a line does: it empties the list of events, adds an event to it, names the unit that is started, or does nothing
+-- (systemd.timer(5))
 pub data Effect : Type 0 where
   Reset : Effect
   Event : (text : List ℕ) → Effect
   Starts : (unit : List ℕ) → Effect
   Nothing : Effect
 
--- an empty value of a key of time empties the list, an empty unit counts for nothing, and monotonic times are passed over
--- (systemd.timer(5); own for the last two)
+-- what a setting does: an empty value of a time setting empties the list (systemd.timer(5)); an empty unit and the times of
+-- monotonic timers are ignored (agenda)
 abbrev pub effect_of : Key → List ℕ → Effect
 effect_of OnCalendar value = if length value == 0 then Reset else Event value
 effect_of Monotonic value = if length value == 0 then Reset else Nothing
@@ -90,17 +91,17 @@ effect_of OtherKey value = Nothing
 
 -- ---- what the lines do
 
--- whether the lines after a line stand in a `[Timer]` section; several of them count as one (systemd.syntax(7))
+-- whether the lines after a line are in a `[Timer]` section; several such sections count as one (systemd.syntax(7))
 abbrev pub inside_after : Bool → Option (List ℕ) → Bool
 inside_after inside section = option_map_or is_timer section inside
 
--- what a line does, by the section that it begins or its setting: only settings in a `[Timer]` section do anything
+-- what a line does, by its section or its setting: only settings in a `[Timer]` section have an effect (systemd.syntax(7))
 abbrev pub line_effect : Bool → Option (List ℕ) → Option (List ℕ × List ℕ) → Effect
 line_effect inside (Some section) setting = Nothing
 line_effect inside None None = Nothing
 line_effect inside None (Some setting) = if inside then effect_of (key_of (setting.0)) (setting.1) else Nothing
 
--- what the lines do in turn, each with its number
+-- what each line does, in order, with its number
 abbrev pub effects_from : Bool → List (ℕ × List ℕ) → List (ℕ × Effect)
 effects_from inside [] = []
 effects_from inside (line ∷ more) =
@@ -113,13 +114,13 @@ has_timer lines = list_any (λ line. inside_after false (section_name (line.1)))
 
 -- ---- the events, and the unit that is started
 
--- the event that a text adds to a list: where it holds 64 already, that is a fault before the text is read (own)
+-- the event that a text adds to a list; a list that already has 64 is an error, before the text is read (agenda)
 abbrev pub added_event : List Calendar → List ℕ → LineReading Calendar
 added_event held text =
     if nat_lt (length held) most_events then in_line (event_reading text) else Err TooManyLines
 
--- the events of a list that holds some already: those after the last reset (systemd.timer(5), `OnCalendar=`); the first
--- fault decides, even where a later line empties the list (own)
+-- the events that lines add to a list: those after the last reset (systemd.timer(5), `OnCalendar=`); the first error decides,
+-- even if a later line empties the list (agenda)
 abbrev pub events_from : List Calendar → List (ℕ × Effect) → TextReading (List Calendar)
 events_from held [] = Ok held
 events_from held ((number, Reset) ∷ more) = events_from [] more
@@ -129,7 +130,7 @@ events_from held ((number, Event text) ∷ more) = do
 events_from held ((number, Starts unit) ∷ more) = events_from held more
 events_from held ((number, Nothing) ∷ more) = events_from held more
 
--- the first unit that is named (own)
+-- the first unit that is named (agenda)
 abbrev pub first_unit : List (ℕ × Effect) → Option (List ℕ)
 first_unit [] = None
 first_unit ((number, Reset) ∷ more) = first_unit more
@@ -139,20 +140,20 @@ first_unit ((number, Nothing) ∷ more) = first_unit more
 
 -- ---- a timer file
 
--- the job of a timer with a `[Timer]` section, by its name, the unit that it names, and its events (systemd.timer(5))
+-- the job of a timer, from its name, the unit that it names, and its events; a `[Timer]` section is required (systemd.timer(5))
 abbrev pub job_with : Bool → List ℕ → Option (List ℕ) → List Calendar → TextReading JobParts
 job_with found name unit events =
     if found
     then Ok (record { name = name; what = unwrap_or unit (service_name name); rule = Events events })
     else on_line 0 (Err NoTimerSection)
 
--- the job of a timer's whole lines, without blanks at their ends; that a `[Timer]` section is missing comes last (own)
+-- the job of a timer's whole lines, without blanks at their ends; a missing `[Timer]` section is the last error to be found (agenda)
 abbrev pub timer_of_lines : List ℕ → List (ℕ × List ℕ) → TextReading JobParts
 timer_of_lines name lines = do
   events ← events_from [] (effects_from false lines)
   job_with (has_timer lines) name (first_unit (effects_from false lines)) events
 
--- the meaning of a timer file: its name is looked at first, then its bytes, then its lines (own)
+-- the meaning of a timer file: its name is checked first, then its bytes, then its lines are read (agenda)
 abbrev pub timer_reading : List ℕ → List ℕ → TextReading JobParts
 timer_reading name bytes =
     if is_timer_name name

@@ -23,28 +23,37 @@ use plan_texts::lines::{after_blanks, cut_word, lines};
 use std::alloc::{AllocError, Global};
 use std::sync::Arc;
 
-/// Whose crontab it is.
+/// Whose crontab it is, which decides what follows the rule of a line.
 #[derive(Clone, Copy, Debug, PartialEq, Eq)]
 pub enum Kind {
-    /// A user's: the command follows a line's rule.
+    /// A user's crontab: the command follows the rule.
     User,
-    /// The system's: the user who runs the command stands before it.
+    /// The system's crontab: the user who runs the command comes between the rule and the command.
     System,
 }
 
-/// The jobs of a crontab, in the order of their lines (crontab(5)).
+/// Returns the jobs of a crontab, in the order of their lines (crontab(5)).
 ///
-/// A line is empty, a comment that begins with `#`, a setting that begins with a letter, `_` or a quote, or a job: a word
-/// that begins with `@` or five fields, as `cron_rule` reads them, then in the system's crontab a user, then the command to
-/// the line's end. The job of line n, from 1, is named `LABEL:n`, by the label that is given.
+/// A line is one of these:
 ///
-/// Faults, the first that stands in the bytes: `TooLarge` for more than 1,048,576 bytes and `NotUtf8`, both of line 0, then
-/// those of the first bad line: `BadSetting` where a setting has no `=`; `Rule` for the fault of a job's rule; `NoCommand`
-/// where no command or, in the system's crontab, no user follows it. `NoMemory` is of line 0.
+/// - empty
+/// - a comment, which begins with `#`
+/// - a setting, which begins with a letter, `_` or a quote
+/// - a job: a word that begins with `@`, or five fields, as `cron_rule` reads them; then in the system's
+///   crontab a user; then the command, to the end of the line
+///
+/// The job of line n, from 1, is named `LABEL:n`, with the given label.
+///
+/// # Errors
+///
+/// `TooLarge` for more than 1,048,576 bytes, then `NotUtf8`, both with line 0; then the error of the first
+/// bad line: `BadSetting` if a setting has no `=`; `Rule` if a job's rule is invalid; `NoCommand` if no
+/// command or, in the system's crontab, no user follows the rule. `NoMemory`, with line 0, if an allocation
+/// fails.
 pub fn crontab(alloc: Global, label: &str, bytes: &[u8], kind: Kind) -> Result<Vec<Job>, LineFault>
     ensures meaning { GivesUnless want_of_memory (λ jobs. jobs.items) result
         (crontab_reading label.now kind bytes.now) }
-    // These two are found before any memory is asked for.
+    // These two are found before the first allocation.
     ensures too_large { (result ≡ Err (of_whole LineCause.TooLarge)) ↔ IsTrue (is_too_large bytes.now) }
     ensures not_utf8 { (result ≡ Err (of_whole LineCause.NotUtf8))
         ↔ ((is_too_large bytes.now ≡ false) × (is_utf8 bytes.now ≡ false)) }
@@ -56,9 +65,14 @@ pub fn crontab(alloc: Global, label: &str, bytes: &[u8], kind: Kind) -> Result<V
     jobs_of_lines(alloc, label, kind, lines.as_slice())
 }
 
-/// The entry of the line of a crontab with a number, from 1: the job that it makes, or the one fault that it is refused for; `None` where
-/// it is neither (crontab(5)). It is read as `crontab` reads it, whatever is wrong with other lines, and makes the same job. It fails
-/// where memory is refused.
+/// Returns the entry of one line of a crontab, whose number counts from 1 (crontab(5)): its job, or the error
+/// for which it is rejected. Returns `None` if the line is neither a job nor an error.
+///
+/// The line is read as by `crontab`, which makes the same job of it, no matter what is wrong with other lines.
+///
+/// # Errors
+///
+/// Fails if an allocation fails.
 pub fn crontab_entry(
     alloc: Global,
     label: &str,
@@ -77,16 +91,16 @@ pub fn crontab_entry(
     Ok(Some(Entry { line: number, read }))
 }
 
-/// The law of a crontab's entries: a crontab means the jobs of its entries where none is refused, and else it has the fault of the first
-/// that is.
+/// States the law of a crontab's entries: the jobs of a crontab are those of its entries if none is rejected.
+/// Otherwise the crontab has the error of its first rejected entry.
 ///
-/// The function does nothing: its contract is the law.
+/// The function does nothing; its contract is the law.
 pub fn crontab_is_its_entries()
     ensures { (label : List ℕ) (kind : Kind) (bytes : List ℕ) →
         crontab_reading label kind bytes ≡ crontab_by_entries label kind bytes }
 {}
 
-// The jobs of lines, in order.
+// Returns the jobs of lines, in order.
 fn jobs_of_lines(
     alloc: Global,
     label: &str,
@@ -106,7 +120,7 @@ fn jobs_of_lines(
     Ok(jobs)
 }
 
-// The job of the line with a number, if it has one.
+// Returns the job of the line with a number, if it has one.
 fn numbered_job(
     alloc: Global,
     label: &str,
@@ -123,7 +137,7 @@ fn numbered_job(
     }
 }
 
-// The job of a line, if it has one, by the line's first character.
+// Returns the job of a line, if it has one. The first character decides what the line is.
 #[tactic(auto, unfolding(crate::specs::Crontab::line_reading))]
 fn job_of_line(
     alloc: Global,
@@ -142,14 +156,14 @@ fn job_of_line(
     }
 }
 
-// Whether a line that begins with this byte is a setting.
+// Returns whether a line that begins with this byte is a setting.
 fn begins_setting(first: u8) -> bool
     ensures { result ≡ begins_setting first }
 {
     first.is_ascii_alphabetic() || matches!(first, b'_' | b'"' | b'\'')
 }
 
-// A setting has no effect, but has to hold `=`.
+// A setting has no effect, but must have an `=`.
 fn setting(line: &str) -> Result<Option<Job>, LineCause>
     ensures { result ≡ setting_reading line.now }
 {
@@ -159,7 +173,7 @@ fn setting(line: &str) -> Result<Option<Job>, LineCause>
     Ok(None)
 }
 
-// The job of a line without blanks in front.
+// Returns the job of a line without leading blanks.
 #[tactic(auto, unfolding(crate::specs::Crontab::job_reading))]
 fn job(alloc: Global, label: &str, kind: Kind, number: u32, line: &str) -> Result<Job, LineCause>
     ensures { GivesLine result (job_reading label.now kind number line.now) }
@@ -170,7 +184,7 @@ fn job(alloc: Global, label: &str, kind: Kind, number: u32, line: &str) -> Resul
     Ok(Job::new(alloc, name, what, Arc::new(alloc, rule)?)?)
 }
 
-// The rule in front of a line without blanks in front, and what follows it.
+// Returns the rule at the start of a line without leading blanks, and what follows it.
 fn rule_in_front(alloc: Global, line: &str) -> Result<(Rule, &str), RuleFault>
     ensures { GivesBy (λ front. (front.0, front.1.now)) result (rule_in_front line.now) }
 {
@@ -181,7 +195,7 @@ fn rule_in_front(alloc: Global, line: &str) -> Result<(Rule, &str), RuleFault>
     }
 }
 
-// The rule of the word in front of a line, which begins with `@`, and what follows it.
+// Returns the rule of the first word of a line, which begins with `@`, and what follows it.
 #[tactic(auto, unfolding(crate::specs::Crontab::at_word_in_front))]
 fn at_word_in_front(alloc: Global, line: &str) -> Result<(Rule, &str), RuleFault>
     ensures { GivesBy (λ front. (front.0, front.1.now)) result (at_word_in_front line.now) }
@@ -190,7 +204,7 @@ fn at_word_in_front(alloc: Global, line: &str) -> Result<(Rule, &str), RuleFault
     Ok((at_rule(alloc, word.as_bytes())?, rest))
 }
 
-// The rule of the five fields in front of a line, and what follows them.
+// Returns the rule of the first five fields of a line, and what follows them.
 #[tactic(auto, unfolding(crate::specs::Crontab::fields_in_front))]
 fn fields_in_front(alloc: Global, line: &str) -> Result<(Rule, &str), RuleFault>
     ensures { GivesBy (λ front. (front.0, front.1.now)) result (fields_in_front line.now) }
@@ -210,7 +224,7 @@ fn fields_in_front(alloc: Global, line: &str) -> Result<(Rule, &str), RuleFault>
     Ok((five_fields(alloc, &fields)?, rest))
 }
 
-// What the job of a line runs, by what follows its rule.
+// Returns what the job of a line runs, from the text that follows its rule.
 #[tactic(auto, unfolding(crate::specs::Crontab::what_reading))]
 fn what(alloc: Global, kind: Kind, text: &str) -> Result<String, LineCause>
     ensures { GivesUnless LineCause.NoMemory string_bytes result (what_reading kind text.now) }
@@ -225,7 +239,7 @@ fn what(alloc: Global, kind: Kind, text: &str) -> Result<String, LineCause>
     }
 }
 
-// The command, to the line's end, after the blanks in front of it.
+// Returns the command: the text without leading blanks, to the end of the line.
 fn command(text: &str) -> Result<&str, LineCause>
     ensures { result_map_both (λ command. command.now) (λ cause. cause) result
         ≡ command_reading (after_blanks text.now) }
@@ -237,7 +251,7 @@ fn command(text: &str) -> Result<&str, LineCause>
     Ok(command)
 }
 
-// The name of the job of a line.
+// Returns the name of the job of a line.
 fn name(alloc: Global, label: &str, number: u32) -> Result<String, AllocError>
     ensures { IfOk result (λ name. string_bytes name ≡ job_name label.now number) }
 {

@@ -1,12 +1,12 @@
-//! The entry of a line: what it says, read by itself, whatever is wrong with the other lines.
+//! The entry of a line: what the line says by itself, no matter what is wrong with other lines.
 
 use crate::line_fault::LineCause;
 
-/// What a line of a text says, or why it is refused, beside all other lines of the text.
+/// What a line of a text says, or why it is rejected, independent of all other lines.
 #[derive(Debug, Drop)]
 pub struct Entry<T> {
-    /// The line, from 1; of a joined line the first.
+    /// The number of the line, from 1. If the line is continued with a backslash, that of its first line.
     pub line: u32,
-    /// What it says, or what is wrong with it, which is never `NoMemory`.
+    /// What the line says, or what is wrong with it. The cause is never `NoMemory`.
     pub read: Result<T, LineCause>,
 }

@@ -1,4 +1,4 @@
-//! A job: what runs, and by which rule it starts.
+//! A job: its name, what it runs, and the rule by which it starts.
 
 ghost use Rattle.std.specs.Prelude.{◌≡◌, string_bytes, IfOk, OnErr, OnOk};
 ghost use Rattle.std.specs.Arc.{arc_value};
@@ -17,7 +17,7 @@ use std::sync::Arc;
 pub struct Job {
     name: String,
     what: String,
-    // What stands in each of its lines behind the moment: its name, a tab, what it runs, and a newline.
+    // The end of each of the job's lines, after the time and a tab: its name, a tab, what it runs, and a newline.
     end: String,
     rule: Arc<Rule>,
 }
@@ -41,7 +41,7 @@ impl Model for Job {
 }
 
 impl Job {
-    // A job of these parts. It fails where memory is refused.
+    // Makes a job of these parts. Fails if an allocation fails.
     pub(crate) fn new(
         alloc: Global,
         name: String,
@@ -61,7 +61,7 @@ impl Job {
         })
     }
 
-    // Puts the job in the zone of a clock. Where memory is refused it stays as it was.
+    // Puts the job in the zone of a clock. If an allocation fails, the job is unchanged.
     pub(crate) fn put_in_zone(&mut self, alloc: Global, clock: &Clock) -> Result<(), AllocError>
         ensures zone { OnOk result (self.new ≡ job_in clock.now self.old) }
         ensures unchanged { OnErr result (self.new ≡ self.old) }
@@ -71,37 +71,42 @@ impl Job {
         Ok(())
     }
 
-    /// The job's name, which tells it from other jobs: of line n of a crontab `LABEL:n`, by the crontab's label or its file's name; the
-    /// file's own name of a timer file.
+    /// Returns the job's name, which no other job of a plan has.
+    ///
+    /// The name of a job in a crontab is `LABEL:n` for line n, with the crontab's label or its file's name.
+    /// The name of a timer's job is the name of the timer file.
     pub fn name(&self) -> &str
         ensures { result.now ≡ self.now.name }
     {
         self.name.as_str()
     }
 
-    /// The job's name alone, kept.
+    /// Returns the job's name as an owned text, and drops the rest of the job.
     pub fn into_name(self) -> Text
         ensures { result ≡ self.name }
     {
         Text::new(self.name)
     }
 
-    /// What the job runs, as it was written: a command; of the system's crontab the user, a space and the command;
-    /// of a timer the unit that it starts.
+    /// Returns what the job runs, as it was written.
+    ///
+    /// This is a command; in the system's crontab the user, a space and the command; for a timer the unit
+    /// that it starts.
     pub fn what(&self) -> &str
         ensures { result.now ≡ self.now.what }
     {
         self.what.as_str()
     }
 
-    /// What stands in each line of an agenda behind the moment and its tab: the job's name, a tab, what it runs, and a newline.
+    /// Returns the end of each line that an agenda has for the job, after the time and its tab: the job's
+    /// name, a tab, what it runs, and a newline.
     pub fn line_end(&self) -> &str
         ensures { result.now ≡ line_end self.now.name self.now.what }
     {
         self.end.as_str()
     }
 
-    /// The rule by which the job starts.
+    /// Returns the rule by which the job starts.
     pub fn rule(&self) -> &Arc<Rule>
         ensures { arc_value result.now ≡ self.now.rule }
     {
@@ -109,7 +114,7 @@ impl Job {
     }
 }
 
-// What stands in each line of a job behind the moment.
+// Returns the end of each line of a job, after the time and its tab.
 fn end_of_lines(alloc: Global, name: &str, what: &str) -> Result<String, AllocError>
     ensures { IfOk result (λ text. string_bytes text ≡ line_end name.now what.now) }
 {

@@ -1,4 +1,4 @@
-//! The jobs of a plan, by their names and in the order of their addition.
+//! The jobs of a plan, by name and in the order in which they were added.
 
 ghost use Rattle.std.specs.Prelude.{◌≡◌, ◌↔◌, ◌≤◌, ◌<◌, ◌+◌, ◌++◌, List, [], ◌∷◌, length, slice_get, IsTrue, IsNone, IsSome, IfOk, IfErr, OnOk, OnErr};
 ghost use Rattle.std.specs.Option.{option_copied};
@@ -14,24 +14,24 @@ use std::alloc::{AllocError, AllocFailed, Global};
 use std::marker::Model;
 use thiserror::Error;
 
-/// How many jobs there are at most.
+/// The maximum number of jobs.
 pub const MOST_JOBS: usize = 1_000;
 
-/// Why a job was not added. The job comes back.
+/// Why a job was not added. Each variant gives the job back.
 #[derive(Debug, Drop, Error)]
 pub enum AddFault {
-    /// 1: memory was refused.
+    /// An allocation failed.
     #[error("NoMemory")]
     NoMemory(Job),
-    /// 2: a job with this name is there.
+    /// There already is a job with this name.
     #[error("SameName")]
     SameName(Job),
-    /// 3: 1,000 jobs are there.
+    /// There already are 1,000 jobs.
     #[error("Full")]
     Full(Job),
 }
 
-/// Jobs in the order of their addition, no two with the same name. A job's number is its place, from 0.
+/// Jobs in the order in which they were added. No two have the same name. A job's number is its position, from 0.
 #[derive(Drop)]
 pub struct Jobs {
     by_name: IndexMap<String, Job>,
@@ -57,7 +57,7 @@ impl Model for Jobs {
 }
 
 impl Jobs {
-    /// No jobs. This takes no memory; `add` takes what it needs from `alloc`.
+    /// Returns an empty list of jobs. This allocates nothing; `add` allocates from `alloc`.
     pub fn new(alloc: Global) -> Jobs
         ensures { result ≡ [] }
     {
@@ -66,7 +66,7 @@ impl Jobs {
         }
     }
 
-    /// How many jobs there are, at most 1,000.
+    /// Returns the number of jobs, at most 1,000.
     pub fn len(&self) -> usize
         ensures len { result ≡ length self.now }
         ensures few { length self.now ≤ most_jobs }
@@ -75,14 +75,14 @@ impl Jobs {
         self.by_name.len()
     }
 
-    /// Whether there are no jobs.
+    /// Returns whether there are no jobs.
     pub fn is_empty(&self) -> bool
         ensures { IsTrue result ↔ (self.now ≡ []) }
     {
         self.by_name.is_empty()
     }
 
-    /// The job with a number, from 0.
+    /// Returns the job with a number, from 0.
     pub fn get(&self, number: usize) -> Option<&Job>
         ensures { option_copied result ≡ slice_get self.now number }
     {
@@ -90,18 +90,18 @@ impl Jobs {
         Some(job)
     }
 
-    /// The number of the job with a name, from 0.
+    /// Returns the number of the job with a name, from 0.
     pub fn number_of(&self, name: &str) -> Option<usize>
         ensures { result ≡ number_of name.now self.now }
     {
         self.by_name.get_index_of(name)
     }
 
-    /// Returns the same jobs, the rule of each in the zone of a clock.
+    /// Returns the same jobs, with the rule of each in the zone of a clock.
     ///
     /// # Errors
     ///
-    /// Fails where memory is refused.
+    /// Fails if an allocation fails.
     pub fn in_zone(self, alloc: Global, clock: &Clock) -> Result<Jobs, AllocError>
         ensures { IfOk result (λ jobs. jobs ≡ jobs_in clock.now self) }
     {
@@ -124,10 +124,13 @@ impl Jobs {
         job.put_in_zone(alloc, clock)
     }
 
-    /// Adds a job behind the others, and answers its number.
+    /// Adds a job after the others, and returns its number.
     ///
-    /// Faults, in this order: `SameName` where a job with its name is there, `Full` where 1,000 jobs are, `NoMemory`. The
-    /// job then comes back, and the jobs stay as they were.
+    /// # Errors
+    ///
+    /// The first of these that applies: `SameName` if there already is a job with its name, `Full` if there
+    /// already are 1,000 jobs, `NoMemory` if an allocation fails. The error gives the job back, and the list
+    /// is unchanged.
     pub fn add(&mut self, job: Job) -> Result<usize, AddFault>
         ensures number { IfOk result (λ number. number ≡ length self.old) }
         ensures added { OnOk result (self.new ≡ self.old ++ job ∷ []) }

@@ -1,9 +1,11 @@
-//! The rules by which jobs start, and the jobs that have them: cron rules and crontabs (crontab(5)), calendar events
-//! (systemd.time(7)), timer files (systemd.timer(5), systemd.syntax(7)), and the list of jobs by their names.
+//! Crontabs and timer files, the jobs in them, and the rules by which these jobs start.
 //!
-//! It stands on the four crates below it, from plan_sets to plan_grammar, and passes their names on, so that those above it know this
-//! crate alone. Open `crontabs` first, then `tabs`, the crontabs that have names, and `timers`; all take the `file_text` and make a
-//! `job`, and `jobs` is the list.
+//! Open `crontabs` first (crontab(5)), then `tabs`, for crontabs with a file name, and `timers` (systemd.timer(5),
+//! systemd.syntax(7)). Each takes its text from `file_text` and makes a `job` of each rule. `jobs` is the list of
+//! all jobs, by their names. An `entry` is what one line says by itself. `timer_events` makes the entries of a timer,
+//! and `crontabs` those of a crontab, so that a caller can report all errors of a file.
+//!
+//! The crate also re-exports names of three crates below it: plan_texts, plan_match and plan_grammar.
 #![tactic(auto)]
 
 mod crontabs;

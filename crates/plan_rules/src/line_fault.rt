@@ -1,42 +1,42 @@
-//! Why a text of lines is refused: its first bad line, and what is wrong with it.
+//! Why a text of lines is rejected: its first bad line, and what is wrong with that line.
 
 use plan_grammar::{RuleCause, RuleFault};
 use std::alloc::{AllocError, AllocFailed};
 use thiserror::Error;
 
-/// What is wrong with a line.
+/// What is wrong with a line, or with the whole text. Errors of the whole text have line 0.
 #[derive(Clone, Copy, Debug, PartialEq, Eq, Error)]
 #[error("{}", self.name())]
 pub enum LineCause {
-    /// 1: memory was refused; its line is 0.
+    /// An allocation failed. The line is 0.
     NoMemory,
-    /// 2: the bytes are no UTF-8; its line is 0.
+    /// The bytes are not valid UTF-8. The line is 0.
     NotUtf8,
-    /// 3: there are more than 1,048,576 bytes; its line is 0.
+    /// The text has more than 1,048,576 bytes. The line is 0.
     TooLarge,
-    /// 4: a setting holds no `=`.
+    /// A setting has no `=`.
     BadSetting,
-    /// 5: a cron rule or a calendar event is refused, with its fault, whose cause is never `NoMemory`.
+    /// A cron rule or a calendar event is invalid. Its error is given, with a cause that is never `NoMemory`.
     Rule(RuleFault),
-    /// 6: a job has no command, or no user and command.
+    /// A job has no command or, in the system's crontab, no user.
     NoCommand,
-    /// 7: the file's name is no name of a timer; its line is 0.
+    /// The file's name is not a valid name of a timer. The line is 0.
     BadTimerName,
-    /// 8: a timer file has no `[Timer]` section; its line is 0.
+    /// A timer file has no `[Timer]` section. The line is 0.
     NoTimerSection,
-    /// 9: the list of a timer's events would hold more than 64.
+    /// The list of a timer's events would have more than 64 events.
     TooManyLines,
-    /// 10: the file's name is no name of a crontab in its folder; its line is 0.
+    /// The file's name is not a valid name of a crontab in its directory. The line is 0.
     BadTabName,
 }
 
-/// The first fault of a text of lines.
+/// The first error of a text of lines.
 #[derive(Clone, Copy, Debug, PartialEq, Eq, Error)]
 #[error("{cause}")]
 pub struct LineFault {
-    /// The line, from 1; 0 is the whole text.
+    /// The number of the line, from 1; 0 for the whole text.
     pub line: u32,
-    /// What is wrong with it.
+    /// What is wrong with this line.
     pub cause: LineCause,
 }
 
@@ -45,7 +45,7 @@ impl LineCause {
     ghost use Rattle.plan_rules.specs.LineFaults.{fault_on_line};
     ghost use Rattle.plan_rules.specs.Causes.{line_cause};
 
-    /// Its name, as fault lines show it; that of a rule is the name of what is wrong with it.
+    /// Returns the name of the cause, as error lines show it. For a rule it is the name of the rule's cause.
     pub fn name(&self) -> &'static str
         ensures { result.now ≡ line_cause self.now }
     {
@@ -63,7 +63,7 @@ impl LineCause {
         }
     }
 
-    // The fault of a line, from 1, or of the whole text, 0. A want of memory is the whole text's.
+    // Returns the error with its line: from 1, or 0 for the whole text. A failed allocation always has line 0.
     pub(crate) fn on_line(self, line: u32) -> LineFault
         ensures { result ≡ fault_on_line line self }
     {
@@ -99,7 +99,7 @@ impl<T: Drop> From<AllocFailed<T>> for LineCause {
     }
 }
 
-// A want of memory inside a rule's fault is a want of memory.
+// If an allocation failed while the rule was read, the cause is `NoMemory`, not the rule.
 impl From<RuleFault> for LineCause {
     ghost use Rattle.std.specs.Prelude.{◌≡◌};
     ghost use Rattle.plan_rules.specs.LineFaults.{cause_of_rule};

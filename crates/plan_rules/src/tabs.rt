@@ -1,4 +1,4 @@
-//! Crontabs that have names: those of packages, and those of users (cron(8) of Debian).
+//! Crontabs with a file name: those of packages and those of users (cron(8) of Debian).
 
 ghost use Rattle.std.specs.Prelude.{◌≡◌, ◌↔◌, Bool, false, Err, IfErr, IsTrue};
 ghost use Rattle.std.specs.List.{list_all};
@@ -13,21 +13,23 @@ use crate::job::Job;
 use crate::line_fault::{LineCause, LineFault};
 use std::alloc::Global;
 
-/// The folder in which a crontab that has a name stands.
+/// The directory of a crontab with a file name.
 #[derive(Clone, Copy, Debug, PartialEq, Eq)]
 pub enum TabFolder {
-    /// /etc/cron.d, with a file of each package: the user who runs the command stands before it.
+    /// /etc/cron.d, with a file for each package: each command follows the user who runs it.
     CronD,
-    /// The spool folder, with a file of each user: the command follows a line's rule.
+    /// The spool directory, with a file for each user: each command directly follows its rule.
     Spool,
 }
 
-/// The jobs of a crontab that has a name, in the order of their lines (cron(8) of Debian).
+/// Returns the jobs of a crontab with this file name, in the order of their lines (cron(8) of Debian).
 ///
-/// The job of line n, from 1, is named `NAME:n`; for all else it is read as `crontab` reads it.
+/// The job of line n, from 1, is named `NAME:n`. Apart from that, the crontab is read as by `crontab`.
 ///
-/// Faults, in this order: `BadTabName` where the name is empty or has another character than letters, digits, `_`, `-` and, in the
-/// spool folder and not as the first, `.`; then those of `crontab`. `BadTabName` is of line 0.
+/// # Errors
+///
+/// `BadTabName`, with line 0, if the name is invalid in this directory: see `is_tab_name`. Otherwise the
+/// errors of `crontab`.
 pub fn tab(
     alloc: Global,
     name: &str,
@@ -36,7 +38,7 @@ pub fn tab(
 ) -> Result<Vec<Job>, LineFault>
     ensures meaning { GivesUnless want_of_memory (λ jobs. jobs.items) result
         (tab_reading folder name.now bytes.now) }
-    // These three are found before any memory is asked for.
+    // These three are found before the first allocation.
     ensures bad_name { (result ≡ Err (of_whole LineCause.BadTabName)) ↔ (is_tab_name folder name.now ≡ false) }
     ensures too_large { (result ≡ Err (of_whole LineCause.TooLarge))
         ↔ (IsTrue (is_tab_name folder name.now) × IsTrue (is_too_large bytes.now)) }
@@ -51,7 +53,8 @@ pub fn tab(
     crontab(alloc, name, bytes, kind_in(folder))
 }
 
-/// Whose the crontabs of a folder are: in /etc/cron.d a user stands before each command, and in the spool folder none (crontab(5)).
+/// Returns the kind of the crontabs of a directory: in /etc/cron.d there is a user before each command, in
+/// the spool directory there is none (crontab(5)).
 pub fn kind_in(folder: TabFolder) -> Kind
     ensures { result ≡ kind_in folder }
 {
@@ -61,8 +64,10 @@ pub fn kind_in(folder: TabFolder) -> Kind
     }
 }
 
-/// Whether a crontab in the folder may have this name (cron(8) of Debian): it isn't empty and has letters, digits, `_` and `-` alone, and
-/// in the spool folder, but not first, `.`.
+/// Returns whether a crontab in the directory may have this name (cron(8) of Debian).
+///
+/// The name isn't empty, and has only letters, digits, `_` and `-`. In the spool directory it may also have
+/// `.`, but not as its first character.
 #[tactic(auto, unfolding(crate::specs::Tabs::is_tab_name))]
 pub fn is_tab_name(folder: TabFolder, name: &[u8]) -> bool
     ensures { result ≡ is_tab_name folder name.now }
@@ -73,14 +78,14 @@ pub fn is_tab_name(folder: TabFolder, name: &[u8]) -> bool
     }
 }
 
-// Whether all these bytes may stand behind the first of a name.
+// Returns whether all these bytes may come after the first of a name.
 fn are_tab_bytes(folder: TabFolder, bytes: &[u8]) -> bool
     ensures { result ≡ list_all (is_tab_byte folder) bytes.now }
 {
     bytes.iter().all(|byte| is_tab_byte(folder, *byte))
 }
 
-// Whether a byte may stand behind the first of a name.
+// Returns whether a byte may come after the first of a name.
 fn is_tab_byte(folder: TabFolder, byte: u8) -> bool
     ensures { result ≡ is_tab_byte folder byte }
 {
@@ -90,7 +95,7 @@ fn is_tab_byte(folder: TabFolder, byte: u8) -> bool
     }
 }
 
-// Whether a byte may stand in the name of a package's crontab.
+// Returns whether the name of a package's crontab may have this byte.
 fn is_package_byte(byte: u8) -> bool
     ensures { result ≡ is_package_byte byte }
 {

@@ -22,20 +22,25 @@ use std::alloc::{AllocError, Global};
 /// What the lines of a timer file say, each read by itself.
 #[derive(Debug, Drop)]
 pub struct TimerEntries {
-    /// The events that were read, or why they are refused, in the order of their lines.
+    /// The events, or why they are rejected, in the order of their lines.
     pub events: Vec<Entry<Calendar>>,
     /// Whether there is a `[Timer]` section.
     pub has_section: bool,
-    /// How many events the list holds at the end, at most 64. One that is refused counts as if it were right.
+    /// The number of events in the list after the last line, at most 64. A rejected event counts like a valid one.
     pub held: usize,
 }
 
-/// The entries of a timer file: each event of `OnCalendar=` in its `[Timer]` sections, with the number of its line, from 1, which for a
-/// joined line is that of its first (systemd.timer(5)).
+/// Returns the entries of a timer file: each event of `OnCalendar=` in its `[Timer]` sections, with the
+/// number of its line, from 1 (systemd.timer(5)). If the line is continued with a backslash, the number is that
+/// of its first line.
 ///
-/// An event that is refused counts in the list as if it were right. Where the list holds 64 events, no further one is read, and the
-/// first of the file that isn't has the entry `TooManyLines`. Faults are those of the whole file: `TooLarge` for more than 1,048,576
-/// bytes, then `NotUtf8`, then `NoMemory`; all are of line 0. That a `[Timer]` section is missing is none.
+/// A rejected event counts in the list like a valid one. While the list has 64 events, no further event is
+/// read. The first event of the file that isn't read gets the entry `TooManyLines`; the others get none.
+///
+/// # Errors
+///
+/// The errors of the whole file, with line 0: `TooLarge` for more than 1,048,576 bytes, then `NotUtf8`, then
+/// `NoMemory` if an allocation fails. A missing `[Timer]` section is not an error here: see `has_section`.
 pub fn timer_entries(alloc: Global, bytes: &[u8]) -> Result<TimerEntries, LineFault>
     ensures meaning { GivesUnless want_of_memory timer_parts result (timer_entries bytes.now) }
 {
@@ -44,15 +49,15 @@ pub fn timer_entries(alloc: Global, bytes: &[u8]) -> Result<TimerEntries, LineFa
     Ok(entries_of_lines(alloc, lines.as_slice())?)
 }
 
-/// The law of a timer's entries: the first event that is refused is the fault of the file, and where none is, the job's rule is the list
-/// of the events behind the last reset.
+/// States the law of a timer's entries: the first rejected event is the error of the file. If no event is
+/// rejected, the rule of the job is the list of the events after the last reset.
 ///
-/// The function does nothing: its contract is the law.
+/// The function does nothing; its contract is the law.
 pub fn timer_is_its_entries()
     ensures { (name bytes : List ℕ) → timer_reading name bytes ≡ timer_by_entries name bytes }
 {}
 
-// The entries of whole lines.
+// Returns the entries of whole lines.
 fn entries_of_lines(alloc: Global, lines: &[WholeLine]) -> Result<TimerEntries, AllocError>
     ensures { IfOk result (λ entries. timer_parts entries
         ≡ parts_of_lines (map (λ line. (line.number, trimmed (string_bytes line.text))) lines.now)) }
@@ -64,7 +69,7 @@ fn entries_of_lines(alloc: Global, lines: &[WholeLine]) -> Result<TimerEntries, 
     Ok(reader.end())
 }
 
-// The event of a text that stands in a line, or what is wrong with it.
+// Returns the event of a text in a line, or what is wrong with it. The outer error is a failed allocation.
 fn event_in_line(alloc: Global, text: &str) -> Result<Result<Calendar, LineCause>, AllocError>
     ensures { IfOk result (λ read. read ≡ in_line (event_reading text.now)) }
 {
@@ -77,14 +82,14 @@ fn event_in_line(alloc: Global, text: &str) -> Result<Result<Calendar, LineCause
     }
 }
 
-// What was read of the events of a timer file.
+// The events of a timer file that were read so far.
 #[derive(Drop)]
 struct EventReader {
     sections: Sections,
     events: Vec<Entry<Calendar>>,
-    // How many events the list holds.
+    // The number of events in the list.
     held: usize,
-    // Whether it was told that there are too many.
+    // Whether there already is an entry for too many events.
     told: bool,
 }
 
@@ -94,7 +99,7 @@ impl EventReader {
     ghost use Rattle.plan_rules.specs.TimerEntries.{after_event_text, count_after, entry_by, event_by, no_events, read_by};
     ghost use Rattle.plan_rules.specs.EventSteps.{count_of, effect_at, shown_line};
 
-    // Before the first line.
+    // Returns a reader that has read no line yet.
     fn new(alloc: Global) -> EventReader
         ensures sections { result.sections ≡ record { inside = false; found = false } }
         ensures events { result.events.items ≡ [] }
@@ -136,7 +141,7 @@ impl EventReader {
         self.held = 0;
     }
 
-    // Reads an event, unless the list holds as many as it may.
+    // Reads an event, unless the list is full.
     fn read_event(&mut self, alloc: Global, number: u32, text: &str) -> Result<(), AllocError>
         ensures sections { self.new.sections ≡ self.old.sections }
         ensures events { OnOk result (self.new.events.items ≡ self.old.events.items
@@ -160,7 +165,7 @@ impl EventReader {
         Ok(())
     }
 
-    // What was read, once all lines are.
+    // Returns the entries, once all lines are read.
     fn end(self) -> TimerEntries
         ensures { timer_parts result ≡ record { events = self.events.items; has_section = self.sections.found; held = self.held } }
     {

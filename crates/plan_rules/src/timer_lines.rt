@@ -8,43 +8,43 @@ ghost use Rattle.plan_rules.specs.TimerSteps.{effect_shown, sections_after};
 
 use plan_texts::whole_lines::trimmed;
 
-/// What a setting of the `[Timer]` section is about.
+/// The kinds of settings in the `[Timer]` section.
 #[derive(Clone, Copy)]
 pub enum Key {
     /// `OnCalendar`: a calendar event.
     OnCalendar,
-    /// `OnBootSec` and the like: a time after some other event.
+    /// `OnBootSec` and the like: a time span after another event.
     Monotonic,
     /// `Unit`: the unit that is started.
     UnitName,
-    /// Anything else.
+    /// Any other setting.
     OtherKey,
 }
 
-/// What a line does to the list of a timer's events, and to the unit that it starts.
+/// What a line does to the list of a timer's events, and to the unit that the timer starts.
 #[derive(Clone, Copy)]
 pub enum LineEffect<'a> {
-    /// It empties the list.
+    /// Empties the list.
     Reset,
-    /// It adds the event of this text to the list.
+    /// Adds the event with this text to the list.
     Event(&'a str),
-    /// It names the unit that is started.
+    /// Names the unit that is started.
     Starts(&'a str),
-    /// Nothing.
+    /// Does nothing.
     Nothing,
 }
 
 /// The sections of a timer file, up to some line.
 #[derive(Drop)]
 pub struct Sections {
-    /// Whether the next line stands in a `[Timer]` section.
+    /// Whether the next line is in a `[Timer]` section.
     pub inside: bool,
     /// Whether there was a `[Timer]` section.
     pub found: bool,
 }
 
 impl Sections {
-    // Before the first line.
+    // Returns the state before the first line.
     pub(crate) fn new() -> Sections
         ensures { result ≡ record { inside = false; found = false } }
     {
@@ -54,7 +54,7 @@ impl Sections {
         }
     }
 
-    // What the next whole line does, which has no blanks at its ends.
+    // Returns what the next whole line does. The line has no blanks at its ends.
     pub(crate) fn effect<'a>(&mut self, text: &'a str) -> LineEffect<'a>
         ensures effect { effect_shown result
             ≡ line_effect self.old.inside (section_name text.now) (setting_of text.now) }
@@ -73,7 +73,7 @@ impl Sections {
         }
     }
 
-    // Begins the section with a name.
+    // Enters the section with this name.
     fn begin(&mut self, section: &[u8])
         ensures { self.new ≡ sections_after self.old (Some section.now) }
     {
@@ -82,7 +82,7 @@ impl Sections {
     }
 }
 
-// What a setting of the `[Timer]` section does.
+// Returns what a setting of the `[Timer]` section does.
 fn effect_of<'a>(key: Key, value: &'a str) -> LineEffect<'a>
     ensures { effect_shown result ≡ effect_of key value.now }
 {
@@ -94,7 +94,7 @@ fn effect_of<'a>(key: Key, value: &'a str) -> LineEffect<'a>
     }
 }
 
-// The name of the section that a line begins.
+// Returns the name of the section, if the line begins one.
 #[tactic(auto, unfolding(crate::specs::Timer::section_name))]
 fn section_name(text: &[u8]) -> Option<&[u8]>
     ensures { option_map (λ name. name.now) result ≡ section_name text.now }
@@ -105,7 +105,7 @@ fn section_name(text: &[u8]) -> Option<&[u8]>
     }
 }
 
-// The key and the value of a setting.
+// Returns the key and the value of a setting.
 #[tactic(auto, unfolding(crate::specs::Timer::setting_of))]
 fn setting_of(text: &str) -> Option<(&str, &str)>
     ensures { option_map (λ setting. (setting.0.now, setting.1.now)) result ≡ setting_of text.now }
@@ -114,7 +114,7 @@ fn setting_of(text: &str) -> Option<(&str, &str)>
     Some((trimmed(key), trimmed(value)))
 }
 
-// What a setting with this key is about.
+// Returns which kind of setting has this key.
 #[tactic(auto, unfolding(crate::specs::Timer::key_of))]
 fn key_of(key: &str) -> Key
     ensures { result ≡ key_of key.now }

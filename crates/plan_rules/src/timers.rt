@@ -20,31 +20,40 @@ use plan_texts::whole_lines::{WholeLine, trimmed, whole_lines};
 use std::alloc::{AllocError, Global};
 use std::sync::Arc;
 
-/// What the name of a timer ends in.
+/// The end of the name of a timer.
 const ENDING: &str = ".timer";
 
-/// How many bytes the name of a timer has at least.
+/// The minimum length of the name of a timer, in bytes.
 const LEAST_NAME: usize = 7;
 
-/// How many bytes the name of a timer has at most.
+/// The maximum length of the name of a timer, in bytes.
 const MOST_NAME: usize = 255;
 
-/// How many events the list of a timer holds at most.
+/// The maximum number of events in the list of a timer.
 pub const MOST_EVENTS: usize = 64;
 
-/// The job of a timer file, which has the file's name (systemd.timer(5)).
+/// Returns the job of a timer file, whose name is the file's name (systemd.timer(5)).
 ///
-/// Its rule is the list of the events of `OnCalendar=` in its `[Timer]` sections, which each setting of time with an empty
-/// value empties; it starts the unit that `Unit=` names first, else the service of the timer's name.
+/// Its rule is the list of the events of `OnCalendar=` in its `[Timer]` sections. An empty value of a time
+/// setting, such as `OnCalendar=` or `OnBootSec=`, empties the list. The job starts the first unit that
+/// `Unit=` names or, without `Unit=`, the service with the timer's name.
 ///
-/// Faults, in this order: `BadTimerName` where the name hasn't 7 to 255 bytes, doesn't end in `.timer` or holds another
-/// character than letters, digits, `:`, `-`, `_`, `.` and `\`; `TooLarge` for more than 1,048,576 bytes; `NotUtf8`; then those
-/// of the first bad line, which for a joined line is the number of its first: `TooManyLines` where the list would hold more
-/// than 64 events, `Rule` for the fault of an event, even if a later line empties the list; last `NoTimerSection`. Those that
-/// are of no line are of line 0, and so is `NoMemory`.
+/// # Errors
+///
+/// The first of these that applies:
+///
+/// - `BadTimerName` if the name is invalid: see `is_timer_name`
+/// - `TooLarge` for more than 1,048,576 bytes
+/// - `NotUtf8`
+/// - the error of the first bad line, even if a later line empties the list: `TooManyLines` if the list would
+///   have more than 64 events, `Rule` if an event is invalid
+/// - `NoTimerSection`
+///
+/// If a line is continued with a backslash, its number is that of its first line. The errors that are not of
+/// a line have line 0, and so has `NoMemory`, if an allocation fails.
 pub fn timer(alloc: Global, name: &str, bytes: &[u8]) -> Result<Job, LineFault>
     ensures meaning { GivesUnless want_of_memory (λ job. job) result (timer_reading name.now bytes.now) }
-    // These three are found before any memory is asked for.
+    // These three are found before the first allocation.
     ensures bad_name { (result ≡ Err (of_whole LineCause.BadTimerName)) ↔ (is_timer_name name.now ≡ false) }
     ensures too_large { (result ≡ Err (of_whole LineCause.TooLarge))
         ↔ (IsTrue (is_timer_name name.now) × IsTrue (is_too_large bytes.now)) }
@@ -61,8 +70,8 @@ pub fn timer(alloc: Global, name: &str, bytes: &[u8]) -> Result<Job, LineFault>
     timer_of_lines(alloc, name, lines.as_slice())
 }
 
-/// Whether a file with this name is a timer file: it has 7 to 255 bytes, ends in `.timer` and holds letters, digits, `:`, `-`, `_`, `.` and
-/// `\\` alone.
+/// Returns whether a file with this name is a timer file: the name has 7 to 255 bytes, ends in `.timer`, and
+/// has only letters, digits, `:`, `-`, `_`, `.` and `\`.
 #[tactic(auto, unfolding(crate::specs::Timer::is_timer_name))]
 pub fn is_timer_name(name: &[u8]) -> bool
     ensures { result ≡ is_timer_name name.now }
@@ -73,14 +82,14 @@ pub fn is_timer_name(name: &[u8]) -> bool
     name.ends_with(ENDING.as_bytes()) && are_name_bytes(name)
 }
 
-// Whether all these bytes may stand in the name of a timer.
+// Returns whether the name of a timer may have all these bytes.
 fn are_name_bytes(name: &[u8]) -> bool
     ensures { result ≡ list_all is_name_byte name.now }
 {
     name.iter().all(|byte| is_name_byte(*byte))
 }
 
-// Whether a byte may stand in the name of a timer.
+// Returns whether the name of a timer may have this byte.
 fn is_name_byte(byte: u8) -> bool
     ensures { result ≡ is_name_byte byte }
 {
@@ -89,7 +98,7 @@ fn is_name_byte(byte: u8) -> bool
         || matches!(byte, b':' | b'-' | b'_' | b'.' | b'\\')
 }
 
-// The job of the whole lines of a timer file.
+// Returns the job of the whole lines of a timer file.
 fn timer_of_lines(alloc: Global, name: &str, lines: &[WholeLine]) -> Result<Job, LineFault>
     requires { is_timer_name name.now ≡ true }
     ensures { GivesUnless want_of_memory (λ job. job) result
@@ -104,7 +113,7 @@ fn timer_of_lines(alloc: Global, name: &str, lines: &[WholeLine]) -> Result<Job,
     settings.into_job(alloc, name)
 }
 
-// The name of the service that a timer starts if it names no unit.
+// Returns the name of the service that a timer starts if it names no unit.
 fn service_name(alloc: Global, name: &str) -> Result<String, AllocError>
     requires { is_timer_name name.now ≡ true }
     ensures { IfOk result (λ service. string_bytes service ≡ service_name name.now) }
@@ -113,19 +122,19 @@ fn service_name(alloc: Global, name: &str) -> Result<String, AllocError>
     format!(in alloc; "{stem}.service")
 }
 
-// What was read of the settings of a timer file.
+// The settings of a timer file that were read so far.
 #[derive(Drop)]
 struct Settings {
     sections: Sections,
     events: Events,
-    // The unit that was named first.
+    // The first unit that was named.
     unit: Option<String>,
 }
 
 impl Settings {
     ghost use Rattle.plan_rules.specs.TimerSteps.{draft_of, after_event, after_line, after_unit};
 
-    // Before the first line.
+    // Returns the settings before the first line.
     fn new(alloc: Global) -> Settings
         ensures { draft_of result ≡ record { inside = false; found = false; events = []; unit = None } }
     {
@@ -163,7 +172,7 @@ impl Settings {
         Ok(())
     }
 
-    // Keeps the unit, if it is the first that is named.
+    // Keeps the unit, if it is the first one.
     fn name_unit(&mut self, alloc: Global, unit: &str) -> Result<(), LineCause>
         ensures { GivesUnless LineCause.NoMemory (λ _. draft_of self.new) result (Ok (after_unit (draft_of self.old) unit.now)) }
     {
@@ -173,7 +182,7 @@ impl Settings {
         Ok(())
     }
 
-    // The job of the timer file with this name, once all its lines are read.
+    // Returns the job of the timer file with this name, once all its lines are read.
     fn into_job(self, alloc: Global, name: &str) -> Result<Job, LineFault>
         requires { is_timer_name name.now ≡ true }
         ensures { GivesUnless want_of_memory (λ job. job) result

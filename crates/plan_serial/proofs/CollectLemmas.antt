@@ -1,6 +1,6 @@
--- A job's pieces, collected one after the other: for the loop of `collect_job` and its `fails`.
--- `IsAt` says that of the collector only the second to which the job is covered has changed. In `piece_refused` the
--- first three tests of `refusal` are passed, so the one of room is left, and the fault is `TooMany` or `NoMemory`.
+-- A job's pieces, collected one after the other: for the loop of `collect_job` and its `fails`. `IsAt` says that in the
+-- collector only the second to which the job is covered has changed. In `piece_refused` the first three tests of
+-- `refusal` pass. So only the test of the limit remains, and the error is `TooMany` or `NoMemory`.
 use Rattle.std.proofs.Common.{◌≡◌, ℕ, zero, suc, ◌%◌, ◌<◌, ◌≤◌, Bool, true, false, cond, ◌&&◌, ◌==◌, List, [], ◌∷◌, length, None, Some, Result, Err, refl, ap, sym, subst, ◌∙◌, arith}
 use Rattle.std.specs.Prelude.{slice_get, slice_index, slice_set, unwrap_or, nat_lt, nat_le}
 use Rattle.std.proofs.lemmas.Bool.{and_from, eq-eqb, le-leb}
@@ -16,7 +16,7 @@ use Rattle.plan_collect.specs.Collecting.{Collected, is_rule_of, belongs, has_en
 use Rattle.plan_serial.specs.Planning.{PlanFails}
 use Rattle.plan_collect.specs.PlanFault.{of_collect}
 
--- of one job the pieces up to this second were collected
+-- the pieces of one job up to this second were collected
 pub record IsAt (old now : Collected) (job since : ℕ) : Type 0 where
   pub rules : now.rules ≡ old.rules
   pub span : now.span ≡ old.span
@@ -53,7 +53,7 @@ IsAt-more old now new job since end so_far is = record {
   here = ap (λ (c : Collected). slice_get c.covered job) is ∙ get_set now.covered job since end so_far.here;
 }
 
--- a refusal that comes after three tests were passed
+-- an error that comes after three tests passed
 last_refusal :
     (room : Bool) (fault : CollectFault) (P : Type 0) → Answers (Err fault) (cond room None (Some TooMany)) →
     (fault ≡ TooMany → P) → (fault ≡ NoMemory → P) → P
@@ -85,11 +85,11 @@ more_than old now so_far many =
     let limit = so_far.limit in
     omega arith
 
--- the answer to a note that is refused
+-- the answer to a message that is rejected
 abbrev pub refused_by : CollectFault → Result (Unit {0}) CollectFault
 refused_by fault = Err fault
 
--- a refused piece of a plan by one planner, where all but room was seen to
+-- a rejected piece of a plan by one planner, if all tests but that of the limit pass
 pub piece_refused :
     (old now : Collected) (job : ℕ) (rule : Rule) (piece : Part) (since upto : ℕ) (fault : CollectFault) → IsAt old now job since →
     old.ended ≡ false ∷ [] → old.span.upto ≡ upto → slice_get old.rules job ≡ Some rule → piece.rule ≡ rule → piece.since ≡ since →

@@ -1,6 +1,6 @@
--- A plan by one planner: for the loop of `plan_serial` and for its end. `if_err` is for `collect_job`.
--- `IsUpTo` says that the first jobs are covered to the span's end and the others to its begin, so `covered` is two runs
--- of one number each. With all jobs in the first run and the last note the collector is complete: `finished-all`.
+-- A plan by one planner: for the loop of `plan_serial` and for its end. `if_err` is for `collect_job`. `IsUpTo` says that
+-- the first jobs are covered to the end of the span and the others only to its start. So `covered` is two runs of one
+-- number each. With all jobs in the first run, and the last message, the collector is complete: `finished-all`.
 use Rattle.std.proofs.Common.{◌≡◌, ℕ, zero, suc, ◌+◌, ◌-◌, ◌<◌, Bool, true, false, cond, ◌&&◌, ◌==◌, List, [], ◌∷◌, ◌++◌, length, None, Result, Ok, Err, refl, ap, sym, subst, ◌∙◌, arith, append-nil}
 use Rattle.std.specs.Prelude.{slice_get, slice_set, replicate}
 use Rattle.std.specs.Prelude.{IsErrAnd, IfErr}
@@ -52,7 +52,7 @@ all_run a (suc n) = and_from (a == a) (list_all (λ upto. upto == a) (replicate 
 complete_finished : (complete : Bool) (made : Planned) → complete ≡ true → cond complete (Ok made) (Err collect.Missing) ≡ Ok made
 complete_finished complete made is = rw is refl
 
--- after it the collector is complete
+-- after the last message the collector is complete
 pub finished-all :
     (rules : List Rule) (span : Bounds) (limit done : ℕ) (c new : Collected) → IsUpTo rules span limit done c →
     done ≡ length rules → new ≡ after c 0 note.Last → finished new ≡ Ok (planned rules span)
@@ -73,12 +73,12 @@ finished-all rules span limit done c new so_far all is =
 pub err_not_ok : {T E : Type 0} (e : E) (x : T) → Err e ≡ Ok x → ⊥
 err_not_ok e x is = cc
 
--- what `?` hands on
+-- what `?` returns
 pub if_err : {T E : Type 0} (r : Result T E) (e : E) (P : E → Type 0) → IsErrAnd r (λ f. f ≡ e) → P e → IfErr r P
 if_err (Ok x) e P is h = tt
 if_err (Err f) e P is h = subst P (sym is) h
 
--- each number below the number of jobs has a job
+-- each number below the number of jobs is that of a job
 pub job_there : (jobs : List JobParts) (n : ℕ) → None ≡ slice_get jobs n → n < length jobs → ⊥
 job_there [] n none lt = omega arith
 job_there (job ∷ jobs) zero none lt = cc

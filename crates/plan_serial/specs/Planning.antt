@@ -1,4 +1,4 @@
--- What a plan answers (own).
+-- What a plan answers (agenda).
 use Rattle.std.specs.Prelude.{◌≡◌, ℕ, ◌<◌, ◌≤◌, true, false, List, length, Result, Ok, Err}
 use Rattle.plan_match.specs.declared.rule.Rule.{Rule}
 use Rattle.plan_collect.specs.declared.collector.CollectFault.TheVariants.{TooMany}
@@ -9,8 +9,8 @@ use Rattle.plan_collect.specs.Span.{Bounds}
 use Rattle.plan_collect.specs.Limits.{is_limit}
 use Rattle.plan_collect.specs.Agenda.{Planned, agenda, planned}
 
--- the answer to a plan for at most `limit` entries: the agenda where it has no more, TooMany where it has; a limit out of bounds is
--- refused first, and NoMemory may come in place of the others
+-- the answer of a plan with at most `limit` entries: the agenda if it has no more, else TooMany; a limit out of range is
+-- reported first, and NoMemory may come in place of the agenda or of TooMany
 abbrev pub Plans : Result Planned PlanFault → List Rule → Bounds → (limit : ℕ) → Type 0
 Plans (Ok made) rules span limit =
     (is_limit limit ≡ true) × (made ≡ planned rules span) × (length made.entries ≤ limit)
@@ -21,7 +21,7 @@ Plans (Err (Collect fault)) rules span limit =
 Plans (Err (NotSettled unsettled)) rules span limit = ⊥
 Plans (Err BadLimit) rules span limit = is_limit limit ≡ false
 
--- why a plan stops while it collects
+-- the errors with which a plan stops while it collects
 abbrev pub PlanFails : Collected → PlanFault → Type 0
 PlanFails c NoMemory = Unit {0}
 PlanFails c (Collect fault) = (fault ≡ TooMany) × (c.limit < length (agenda c.rules c.span))

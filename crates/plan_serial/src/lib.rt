@@ -1,5 +1,7 @@
-//! A plan by one planner, without threads: what plans by threads come to, and what `bin/bench` takes the time of. The program doesn't need
-//! it. It stands on plan_collect, for the collector, and on plan_next, whose pieces it hands over.
+//! A plan by one planner, without threads. It gives the same agenda as a plan by threads, and `bin/bench`
+//! measures it. The program doesn't use it.
+//!
+//! The crate uses plan_collect for the collector, and plan_next for the pieces.
 #![tactic(auto)]
 
 mod serial;

@@ -14,10 +14,13 @@ use plan_rules::Jobs;
 use std::alloc::Global;
 use std::sync::Arc;
 
-/// The agenda of jobs over a span, if it has at most `limit` entries: the work of one planner and a collector, without threads.
+/// Makes the agenda of jobs over a span, if it has at most `limit` entries. One planner and a collector do
+/// the work, without threads.
 ///
-/// Faults: `BadLimit` for a limit other than 1 to 1,000,000; else `Collect(TooMany)` where the agenda has more entries than
-/// that, or `NoMemory`.
+/// # Errors
+///
+/// `BadLimit` if the limit isn't 1 to 1,000,000; else `Collect(TooMany)` if the agenda has more entries than
+/// the limit, or `NoMemory` if an allocation failed.
 pub fn plan_serial(alloc: Global, jobs: &Jobs, span: Span, limit: u64) -> Result<Agenda, PlanFault>
     ensures planned { Plans result (rules_of jobs.now) span limit }
     ensures jobs { IfOk result (λ made. IsOfJobs (length jobs.now) made.entries) }
@@ -32,7 +35,7 @@ pub fn plan_serial(alloc: Global, jobs: &Jobs, span: Span, limit: u64) -> Result
     Ok(collector.finish()?)
 }
 
-// Collects all starts of a job: pieces that adjoin, each with at most 1,024 starts, at least one.
+// Collects all starts of a job, in pieces that adjoin: at least one piece, each with at most 1,024 starts.
 fn collect_job(
     alloc: Global,
     collector: &mut Collector,
@@ -58,12 +61,12 @@ fn collect_job(
     }
 }
 
-// The piece of a job's starts from a second on within the span, with at most 1,024 starts.
+// Returns the piece of a job's starts from a second on, within the span, with at most 1,024 starts.
 fn next_part(alloc: Global, rule: &Arc<Rule>, since: u64, span: Span) -> Result<Piece, NoMemory>
     requires { since ≤ span.upto }
     ensures piece { IfOk result (λ piece. piece ≡ piece_of (arc_value rule.now) since span.upto most_starts) }
 
-    // A caller that goes on from where the piece ends comes to the span's end.
+    // A caller that continues where the piece ends reaches the end of the span.
     ensures within { IfOk result (λ piece. piece.upto ≤ span.upto) }
     ensures moves { IfOk result (λ piece. since < span.upto → since < piece.upto) }
 {

@@ -1,6 +1,6 @@
--- What jiff gives is the civil fields, and their numbers fit where they are cast.
--- For `date_of_day`, `day_number`, `fields_of`, `second_of`, and the cast of `read_moment`. The day numbers of the
--- first and the last year bound those between, and a cast keeps a number that fits (`to_z-of_z`).
+-- What jiff returns are the civil fields, and their numbers fit where they are cast.
+-- For `date_of_day`, `day_number`, `fields_of`, `second_of`, and the cast of `read_moment`. The day numbers of the first and the
+-- last year bound those in between, and a cast keeps a number that fits (`to_z-of_z`).
 use Rattle.std.proofs.Common.{◌≡◌, ℕ, ◌+◌, ◌/◌, ◌%◌, ◌≤◌, refl, arith, FitsSigned, of_z, to_z, to_z-of_z, w64, ℤ, pos, negsuc, ◌<ℤ◌, ◌≤ℤ◌, unsigned_abs}
 use Rattle.std.proofs.lemmas.Int.{by_lt_z}
 use Rattle.jiff_core.specs.Calendar.{IsCivilDate, IsDate}
@@ -12,7 +12,7 @@ use Rattle.plan_sets.specs.Limits.{end_second, first_year, last_year, seconds_a_
 use Rattle.plan_sets.specs.Civil.{second_number, IsCivilOf, IsDateTime, IsDateTimeInYears}
 use Rattle.plan_sets.specs.CivilLaws.{days_from_civil-before_year, days_from_civil-end, days_from_civil-first, days_from_civil-from_year}
 
--- a date and time in the planner's years is one of its seconds
+-- a date and time in the supported years has the number of a second before the end
 pub second_number-bounds :
     (year month day hour minute second : ℕ) → IsDateTimeInYears year month day hour minute second →
     (pos 0 ≤ℤ second_number year month day hour minute second) × (second_number year month day hour minute second <ℤ pos end_second)
@@ -46,7 +46,7 @@ pos-unsigned_abs : (z : ℤ) → pos 0 ≤ℤ z → pos (unsigned_abs z) ≡ z
 pos-unsigned_abs (pos n) low = refl
 pos-unsigned_abs (negsuc n) low = absurd (omega (arith, signed_arith))
 
--- a signed number from 0 to the end is the second that it is cast to
+-- a cast from a signed number from 0 to the end keeps the number
 pub record IsCast (z : ℤ) (n : ℕ) : Type 0 where
   pub back : to_z w64 (of_z w64 z) ≡ z
   pub same : pos n ≡ z
@@ -86,13 +86,13 @@ IsCivilOf-date n d e =
 same_civil_date : (y y₂ : ℤ) (m m₂ d d₂ : ℕ) → y ≡ y₂ → m ≡ m₂ → d ≡ d₂ → IsCivilDate y m d → IsCivilDate y₂ m₂ d₂
 same_civil_date y y₂ m m₂ d d₂ year month day h = rw (← year, ← month, ← day) h
 
--- a date's year, month and day are ones that the calendar has
+-- the year, month and day of a date are in the calendar
 pub IsCivilDate-date : (date : Date) (year month day : ℕ) → IsYmd (pos year) (pos month) (pos day) date → IsCivilDate (pos year) month day
 IsCivilDate-date date year month day (same_year, same_month, same_day) =
     same_civil_date _ _ _ _ _ _ same_year (omega (arith, signed_arith)) (omega (arith, signed_arith))
     (date.year_in, date.month_in, date.day_in)
 
--- and what the calendar has, the constructor of dates takes
+-- the constructor of dates accepts what is in the calendar
 pub IsDate-civil :
     (y m d : ℤ) (year month day : ℕ) → y ≡ pos year → m ≡ pos month → d ≡ pos day → IsCivilDate (pos year) month day → IsDate y m d
 IsDate-civil y m d year month day same_year same_month same_day h =

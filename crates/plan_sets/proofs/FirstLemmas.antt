@@ -1,6 +1,6 @@
--- The first bit of a row of words that is 1 is the least member of a set.
--- For `first_from` and `first_of_later_words`. The bits that were passed over are those up to a place in a word; the first
--- bit of that word from there on, which its trailing zeros tell, is the least.
+-- The first bit that is 1 in a row of words is the smallest member of a set.
+-- For `first_from` and `first_of_later_words`. The skipped bits are those up to a position in a word. From there on, the trailing
+-- zeros of that word give its first bit, which is the smallest.
 use Rattle.std.proofs.Common.{◌≡◌, ℕ, ◌+◌, ◌-◌, ◌*◌, ◌/◌, ◌%◌, ◌^◌, ◌<◌, ◌≤◌, true, false, ◌==◌, List, get_or, Option, Some, None, ap, subst, ◌∙◌, arith, inl, inr}
 use Rattle.std.specs.Int.{bit_at, trailing_zeros, w128}
 use Rattle.std.proofs.lemmas.Bool.{cases_lt}
@@ -9,14 +9,14 @@ use Rattle.plan_sets.specs.Words.{is_marked, word_bits, word_count}
 use Rattle.plan_sets.proofs.ValuesLemmas.{has_value-distance, no_value_before}
 use Rattle.plan_sets.proofs.WordsLemmas.{IsFirstBit, IsFirstBit-trailing_zeros}
 
--- a bit, by its word and its place in it
+-- a bit, by its word and its position in that word
 marked_in_word :
     (words : List ℕ) (k bit j : ℕ) → j / word_bits ≡ k → j % word_bits ≡ bit →
     is_marked words j ≡ (bit_at (get_or words k 0) bit == 1)
 marked_in_word words k bit j word place = ap (λ w. bit_at (get_or words w 0) (j % word_bits) == 1) word ∙ ap
     (λ i. bit_at (get_or words k 0) i == 1) place
 
--- the first bit of a word from a place in it on, where no bit from v on up to that place is 1
+-- the first bit of a word from a position on, if no bit from v up to that position is 1
 pub least_of_word :
     (words : List ℕ) (lo : ℕ) (s : Values) (v k below bit : ℕ) → values_at lo (is_marked words) ≡ s → k < word_count →
     v ≤ lo + (k * word_bits + below) → IsFirstBit (get_or words k 0) below bit →
@@ -38,7 +38,7 @@ least_of_word words lo s v k below bit is room from first none =
           ]),
     )
 
--- where no member lies before a later number, the least from there on is the least of all
+-- if no member is before a later number, the smallest from there on is the smallest of all
 pub least_later :
     (s : Values) (v w : ℕ) (answer : Option ℕ) → v ≤ w → NoValueBetween s v w → IsLeastFrom s w answer → IsLeastFrom s v answer
 least_later s v w None le none least = λ u from.

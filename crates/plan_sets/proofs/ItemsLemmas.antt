@@ -1,6 +1,6 @@
--- Steps of a range, and what a list of items holds.
--- For the loop of `add_steps`, for `add_to` of a lone value, and for `set_of`, which takes a list item by item. By
--- induction over the list: an item more adds its values, and a fault stays the first. `set_reading` is unfolded.
+-- Steps of a range, and the values of a list of items.
+-- For the loop of `add_steps`, for `add_to` of a single value, and for `set_of`, which reads a list item by item. By induction
+-- over the list: one more item adds its values, and the first error stays the first. `set_reading` is unfolded.
 use Rattle.std.proofs.Common.{◌≡◌, ℕ, ◌+◌, ◌-◌, ◌*◌, ◌/◌, ◌%◌, ◌<◌, ◌≤◌, Bool, true, false, ◌&&◌, ◌||◌, ◌==◌, nat_le, nat_lt, nat_eq, refl, ap, sym, ◌∙◌, arith, inl, inr, List, [], ◌∷◌, ◌++◌, length, take, drop, take-append-drop, Option, Some, None, Ok, Err, ◌⊎◌}
 use Rattle.std.specs.List.{list_any}
 use Rattle.plan_sets.specs.declared.item.Item.{Item}
@@ -19,7 +19,7 @@ use Rattle.std.proofs.lemmas.Bool.Decides.{nat_tests}
 abbrev pub is_step_before : ℕ → ℕ → ℕ → ℕ → Bool
 is_step_before first count step v = nat_le first v && (nat_lt v (first + count) && ((v - first) % step == 0))
 
--- no number between a step and the next is one
+-- no number between a step and the next is a step
 no_step_between :
     (first value step v : ℕ) → first ≤ value → (value - first) % step ≡ 0 → value < v → v < value + step →
     ((v - first) % step == 0) ≡ false
@@ -30,7 +30,7 @@ no_step_between first value step v from is low high =
     (omega arith) in
     ne_eqb _ _ (λ none. omega (arith, rest, none))
 
--- with the next step all before the one after it
+-- with the next step: all steps before the one after it
 pub step_added :
     (first value step v : ℕ) (old : Bool) → 0 < step → first ≤ value → (value - first) % step ≡ 0 →
     (nat_eq v value || (old || is_step_before first (value - first) step v)) ≡ (old || is_step_before first (value + step - first) step v)
@@ -48,7 +48,7 @@ step_added first value step v old moves from is =
       ]
     ]
 
--- with the last step all up to the end
+-- with the last step: all steps up to the end
 pub last_step_added :
     (first value last step v : ℕ) (old : Bool) → 0 < step → first ≤ value → value ≤ last → last < value + step →
     (value - first) % step ≡ 0 →
@@ -84,7 +84,7 @@ among_within lo hi v b limits =
     let same : is_among lo (hi + 1 - lo) v ≡ is_within lo hi v = grind (arith, nat_tests) in
     ap (λ t. t && b) same
 
--- one value more, where the item is faultless
+-- one more value, if the item is valid
 pub one_added :
     (lo hi a v : ℕ) (old : Bool) → item_fault lo hi (One a) ≡ None →
     (nat_eq v a || old) ≡ (old || (is_within lo hi v && belongs (One a) v))
@@ -97,7 +97,7 @@ one_added lo hi a v old faultless =
       | inr outside ↦ let bad : Some OutOfRange ≡ None = rw outside at faultless in cc
     ]
 
--- what a list of items holds with one item more at its end
+-- the values of a list with one more item at its end
 pub any_belongs-push :
     (items : List Item) (item : Item) (v : ℕ) →
     list_any (λ i. belongs i v) (items ++ item ∷ []) ≡ (list_any (λ i. belongs i v) items || belongs item v)
@@ -111,7 +111,7 @@ pub is_held-push :
 is_held-push items item lo hi v = rw (any_belongs-push items item v)
     (both_within (is_within lo hi v) (list_any (λ i. belongs i v) items) (belongs item v))
 
--- the first fault of a list with one item more
+-- the first error of a list with one more item
 pub first_fault-push :
     (lo hi : ℕ) (items : List Item) (item : Item) → first_fault lo hi items ≡ None →
     first_fault lo hi (items ++ item ∷ []) ≡ item_fault lo hi item
@@ -124,7 +124,7 @@ first_fault-push lo hi (i ∷ items) item none =
       | inr there ↦ let bad : Some there.0 ≡ None = rw there.1 at none in cc
     ]
 
--- a fault stays the first, whatever follows
+-- the first error stays the first, whatever follows
 pub first_fault-append :
     (lo hi : ℕ) (items more : List Item) (fault : SetFault) → first_fault lo hi items ≡ Some fault →
     first_fault lo hi (items ++ more) ≡ Some fault
@@ -139,12 +139,12 @@ first_fault-append lo hi (i ∷ items) more fault is =
           rw there.1 same
     ]
 
--- a list that is not empty has the fault of its items
+-- a list that is not empty has the error of its items
 pub items_fault-filled : (lo hi : ℕ) (items : List Item) → 0 < length items → items_fault lo hi items ≡ first_fault lo hi items
 items_fault-filled lo hi [] filled = absurd (omega arith)
 items_fault-filled lo hi (i ∷ items) filled = refl
 
--- the reading of a list in which the items are faultless up to a faulty one
+-- the reading of a list with valid items before an invalid one
 pub set_reading-fault :
     (lo hi : ℕ) (items : List Item) (k : ℕ) (item : Item) (fault : SetFault) → k < length items →
     take (k + 1) items ≡ take k items ++ item ∷ [] → first_fault lo hi (take k items) ≡ None → item_fault lo hi item ≡ Some fault →
@@ -158,7 +158,7 @@ set_reading-fault lo hi items k item fault below more none is =
     (take (k + 1) items) (drop (k + 1) items) fault front in
     ap (values_or_fault (held_values items lo hi)) (items_fault-filled lo hi items (omega arith) ∙ all)
 
--- the reading of a list in which every item is faultless
+-- the reading of a list of valid items
 pub set_reading-values :
     (lo hi : ℕ) (items : List Item) (s : Values) → 0 < length items → lo ≤ hi → first_fault lo hi items ≡ None → s.base ≡ lo →
     ((v : ℕ) → has_value s v ≡ is_held items lo hi v) → set_reading items lo hi ≡ Ok s
@@ -176,6 +176,6 @@ unfolding set_reading
 set_reading-empty lo hi [] empty = refl
 set_reading-empty lo hi (i ∷ items) empty = absurd (omega arith)
 
--- no item holds nothing
+-- no items have no values
 pub nothing_held : (lo hi v : ℕ) → is_held [] lo hi v ≡ false
 nothing_held lo hi v = grind (arith, nat_tests)

@@ -1,6 +1,6 @@
--- What a text of a moment's form says, and that it says one thing alone.
--- For `read_moment`, clauses `ok` and `accepted`, and `Fields::read`, clause `some` (two digits as a number). The bytes
--- at known places give each number back; `moment_text_of` is unfolded to the text that the civil fields write.
+-- What a text with the form of a timestamp says, and that it says only one thing.
+-- For the clauses `ok` and `accepted` of `read_moment`, and the clause `some` of `Fields::read` (two digits as a number). The
+-- bytes at known positions give each number; `moment_text_of` is unfolded to the text of the civil fields.
 use Rattle.std.proofs.Common.{◌≡◌, ℕ, ◌+◌, ◌/◌, ◌%◌, ◌<◌, ◌≤◌, List, [], ◌∷◌, get_or, ap, arith, pos, refl, subst, sym, ◌∙◌}
 use Rattle.jiff_core.proofs.CalendarLemmas.{days_in_month_bounds}
 use Rattle.plan_sets.specs.Limits.{end_second}
@@ -33,7 +33,7 @@ same_written v w year month day hour minute second =
 same_number : (a b : ℕ) → 48 + a / 10 ≡ 48 + b / 10 → 48 + a % 10 ≡ 48 + b % 10 → a ≡ b
 same_number a b tens ones = omega arith
 
--- a text says one thing alone
+-- a text says only one thing
 pub Says-unique : (text : List ℕ) (v w : Written) → Says text v → Says text w → v ≡ w
 Says-unique text v w p q =
     let e : written_text v ≡ written_text w = sym p.text_is ∙ q.text_is in
@@ -53,7 +53,7 @@ Says-moment_text_of text n h e =
     let days = days_in_month_bounds (pos c.year) c.month in
     record { room = omega arith; text_is = e }
 
--- so a text of a second that says a date and time says one that exists, with that number
+-- so if the text of a second says a date and time, these exist and have the number of that second
 pub Says-second :
     (text : List ℕ) (n : ℕ) (w : Written) → n ≤ end_second → text ≡ moment_text_of n → Says text w →
     IsInCalendar w × (number_of w ≡ pos n)
@@ -63,7 +63,7 @@ Says-second text n w h e says =
     let P : Written → Type 0 = λ v. IsInCalendar v × (number_of v ≡ pos n) in
     subst P (sym same) ((is.date, is.time), second_number-civil n (civil_fields n) is)
 
--- and a text that says a date and time with the number of a second is its text
+-- a text that says a date and time with the number of a second is the text of that second
 pub moment_text_of-number :
     (text : List ℕ) (n : ℕ) (w : Written) → n ≤ end_second → Says text w → IsInCalendar w → pos n ≡ number_of w →
     text ≡ moment_text_of n

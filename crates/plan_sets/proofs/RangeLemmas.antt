@@ -1,6 +1,7 @@
 -- The bits of a range, word by word.
--- For `insert_range`: `has_bit-ones_between` tells the bits of a mask, and `IsMarkedBefore` what the loop has done before a word.
--- The cases of a step are a bit of that word, where the mask has the bits of the range, and one of another, which stays.
+-- For `insert_range`: `has_bit-ones_between` gives the bits of a mask, and `IsMarkedBefore` says what the loop has done before a
+-- word. A step has two cases: a bit of that word, for which the mask has the bits of the range, and a bit of another word, which
+-- is unchanged.
 use Rattle.std.proofs.Common.{◌≡◌, ℕ, ◌+◌, ◌-◌, ◌*◌, ◌/◌, ◌%◌, ◌^◌, ◌<◌, ◌≤◌, Bool, false, ◌&&◌, ◌||◌, nat_eq, nat_lt, min, List, length, ap, ◌∙◌, arith, inl, inr, bit_and}
 use Rattle.std.specs.Int.{bit_at}
 use Rattle.std.proofs.lemmas.Bool.{cases_eq, cases_lt}
@@ -10,7 +11,7 @@ use Rattle.plan_sets.specs.Items.{is_within}
 use Rattle.plan_sets.specs.Words.{has_bit, is_marked, word_bits}
 use Rattle.plan_sets.proofs.WordsLemmas.{joined, is_marked-joined}
 
--- of all ones moved up to a bit and all ones moved down to another the common ones are the bits from the first to the second
+-- all ones shifted up to a bit, and all ones shifted down to another, have the bits from the first to the second in common
 pub has_bit-ones_between :
     (low high i : ℕ) → low ≤ high → high < word_bits →
     has_bit (bit_and ((2 ^ word_bits - 1) * 2 ^ low % 2 ^ word_bits) ((2 ^ word_bits - 1) / 2 ^ (word_bits - 1 - high))) i
@@ -38,11 +39,11 @@ has_bit-ones_between low high i forwards within =
       ]
     ]
 
--- the bits of a row are those of an old row, and those of a range that lie before a word
+-- the bits of a row are those of an old row, and those of a range that are before a word
 pub record IsMarkedBefore (old words : List ℕ) (low high at : ℕ) : Type 0 where
   pub marked : (j : ℕ) → is_marked words j ≡ (is_marked old j || (is_within low high j && nat_lt j (at * word_bits)))
 
--- before the word in which the range begins it has none
+-- the row has no bits of the range before the word in which the range starts
 pub IsMarkedBefore-first : (old : List ℕ) (low high : ℕ) → IsMarkedBefore old old low high (low / word_bits)
 IsMarkedBefore-first old low high = record { marked = λ j. first j (is_marked old j) }
   where
@@ -51,7 +52,7 @@ IsMarkedBefore-first old low high = record { marked = λ j. first j (is_marked o
         let none : (is_within low high j && nat_lt j (low / word_bits * word_bits)) ≡ false = grind (arith, nat_tests) in
         grind (arith, nat_tests, none)
 
--- after the word in which it ends all of it
+-- the row has all bits of the range after the word in which the range ends
 pub IsMarkedBefore-last :
     (old words : List ℕ) (low high at : ℕ) → IsMarkedBefore old words low high at → high / word_bits < at →
     (j : ℕ) → is_marked words j ≡ (is_marked old j || is_within low high j)
@@ -59,11 +60,11 @@ IsMarkedBefore-last old words low high at before past j =
     let all : (is_within low high j && nat_lt j (at * word_bits)) ≡ is_within low high j = grind (arith, nat_tests) in
     before.marked j ∙ ap (λ b. is_marked old j || b) all
 
--- a mask has the bits of a range that lie in a word
+-- a mask has the bits of a range that are in a word
 pub record IsRangeInWord (low high at bits : ℕ) : Type 0 where
   pub has : (i : ℕ) → has_bit bits i ≡ is_within (low - at * word_bits) (min (high - at * word_bits) (word_bits - 1)) i
 
--- with that mask the row has those before the next word
+-- with that mask, the row has the bits of the range before the next word
 pub IsMarkedBefore-next :
     (old words : List ℕ) (low high at bits : ℕ) → at < length words → at * word_bits ≤ high → IsRangeInWord low high at bits →
     IsMarkedBefore old words low high at → IsMarkedBefore old (joined words at bits) low high (at + 1)

@@ -1,6 +1,6 @@
--- What a set holds whose members are the numbers of its span that pass a test on their distance from the base.
--- For the functions of `ValueSet` and its `==`, where the test is that a bit is 1. All rests on `has_value-values_at`:
--- a member lies in the span and passes. The cases are below the base, within the span, and past it.
+-- The members of a set of all numbers in its span that pass a test of their distance from the base.
+-- For the functions of `ValueSet` and its `==`, where the test is that a bit is 1. All of it follows from `has_value-values_at`:
+-- a member is in the span and passes. The cases are: below the base, within the span, and after it.
 use Rattle.std.proofs.Common.{◌≡◌, ℕ, ◌+◌, ◌-◌, ◌<◌, ◌≤◌, Bool, true, false, ◌&&◌, ◌||◌, nat_eq, refl, ap, sym, ◌∙◌, arith, inl, inr}
 use Rattle.std.specs.Ordering.{nat_cmp}
 use Rattle.std.specs.FinSet as set
@@ -25,14 +25,14 @@ module _ (lo : ℕ) (test : ℕ → Bool) (s : Values) (is : values_at lo test �
       let apart : is_among lo set_span v ≡ false = grind (arith, nat_tests) in
       has_value-values_at v ∙ and_left _ _ apart
 
-  -- a number at a distance from the base is a member where the distance passes the test
+  -- a number at a distance from the base is a member if the distance passes the test
   pub has_value-distance : (k : ℕ) → k < set_span → has_value s (lo + k) ≡ test k
   has_value-distance k room =
       let place : lo + k - lo ≡ k = omega arith in
       let among : is_among lo set_span (lo + k) ≡ true = grind (arith, nat_tests) in
       has_value-values_at (lo + k) ∙ ap (λ b. b && test (lo + k - lo)) among ∙ ap test place
 
-  -- so is any number from the base on, where nothing past the span passes
+  -- so is any number from the base on, if nothing after the span passes
   pub has_value-from : (v : ℕ) → lo ≤ v → ((k : ℕ) → set_span ≤ k → test k ≡ false) → has_value s v ≡ test (v - lo)
   has_value-from v from past =
       elim (cases_lt v (lo + set_span)) [
@@ -44,7 +44,7 @@ module _ (lo : ℕ) (test : ℕ → Bool) (s : Values) (is : values_at lo test �
             has_value-values_at v ∙ and_left _ _ apart ∙ sym (past (v - lo) (omega arith))
       ]
 
-  -- where no distance from v on up to an end passes, no member lies there
+  -- if no distance from v up to an end passes, there is no member between them
   pub no_value_before :
       (v end : ℕ) → ((k : ℕ) → v - lo ≤ k → k < end → test k ≡ false) → (u : ℕ) → v ≤ u → u < lo + end → has_value s u ≡ false
   no_value_before v end none u from to =
@@ -53,7 +53,7 @@ module _ (lo : ℕ) (test : ℕ → Bool) (s : Values) (is : values_at lo test �
         | inr above ↦ has_value-values_at u ∙ and_right _ _ (none (u - lo) (omega arith) (omega arith))
       ]
 
-  -- and where the whole span was looked at, none lies from v on
+  -- if no distance in the rest of the span passes, there is no member from v on
   pub no_value_from :
       (v end : ℕ) → set_span ≤ end → ((k : ℕ) → v - lo ≤ k → k < end → test k ≡ false) → (u : ℕ) → v ≤ u → has_value s u ≡ false
   no_value_from v end whole none u from =
@@ -64,18 +64,18 @@ module _ (lo : ℕ) (test : ℕ → Bool) (s : Values) (is : values_at lo test �
             has_value-values_at u ∙ and_left _ _ apart
       ]
 
-  -- where nothing passes, the set has no member
+  -- if nothing passes, the set has no member
   pub values_at-none : ((k : ℕ) → k < set_span → test k ≡ false) → s ≡ no_values s.base
   values_at-none none =
       same_values s (no_values s.base) refl
       (λ u. no_value_from 0 set_span (omega arith) (λ k _ room. none k room) u (omega arith) ∙ sym (has_value-no_values s.base u))
 
-  -- and where it has none, nothing passes
+  -- if the set has no member, nothing passes
   pub none-values_at : s.members ≡ set.empty → (k : ℕ) → k < set_span → test k ≡ false
   none-values_at empty k room =
       sym (has_value-distance k room) ∙ ap (λ m. set.contains m (lo + k)) empty ∙ set.contains-empty nat_cmp (lo + k)
 
-  -- a test that one distance more passes is for the set with that number more
+  -- a test that one more distance passes gives the set with that number added
   pub values_at-with_value :
       (v : ℕ) (more : ℕ → Bool) → lo ≤ v → v < lo + set_span → ((k : ℕ) → more k ≡ (nat_eq k (v - lo) || test k)) →
       values_at lo more ≡ with_value s v
@@ -96,7 +96,7 @@ module _ (lo : ℕ) (test : ℕ → Bool) (s : Values) (is : values_at lo test �
             | inr apart ↦ rw apart (grind (arith, nat_tests))
           ]
 
-  -- a test that the distances of a range more pass is for the set with the numbers of that range more
+  -- a test that the distances of a range also pass gives the set with the numbers of that range added
   pub has_value-range_more :
       (first last : ℕ) (more : ℕ → Bool) → lo ≤ first → first ≤ last → last < lo + set_span →
       ((k : ℕ) → more k ≡ (test k || is_within (first - lo) (last - lo) k)) →
@@ -121,7 +121,7 @@ module _ (lo : ℕ) (test : ℕ → Bool) (s : Values) (is : values_at lo test �
                 rw (apart, none) refl
           ]
 
--- two such sets with one base are the same where the same distances within the span pass their tests
+-- two such sets with the same base are equal if the same distances within the span pass their tests
 pub same_tests :
     (lo lo₂ : ℕ) (test test₂ : ℕ → Bool) (s t : Values) → values_at lo test ≡ s → values_at lo₂ test₂ ≡ t → lo ≡ lo₂ →
     ((k : ℕ) → k < set_span → test k ≡ test₂ k) → s ≡ t

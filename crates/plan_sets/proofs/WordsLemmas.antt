@@ -1,6 +1,6 @@
--- The bits of a row of words: some more in one word, the first from a place on, and that they tell the words apart.
--- For `ValueSet`: one bit more for `insert`, a mask's for `insert_range` (`joined`), the first for `first_from`, `Decides-words`
--- for `==` and `is_empty`. Bit k is bit k % word_bits of word k / word_bits; only that word has to be looked at.
+-- The bits of a row of words: more bits in one word, the first bit from a position on, and that equal bits mean equal words.
+-- For `ValueSet`: one more bit for `insert`, those of a mask for `insert_range` (`joined`), the first for `first_from`,
+-- `Decides-words` for `==` and `is_empty`. Bit k is bit k % word_bits of word k / word_bits; only that word matters.
 use Rattle.std.proofs.Common.{◌≡◌, ℕ, ◌+◌, ◌-◌, ◌*◌, ◌/◌, ◌%◌, ◌^◌, ◌<◌, ◌≤◌, Bool, Decides, true, false, ◌&&◌, ◌||◌, ◌==◌, ◌≢◌, nat_eq, List, length, get_or, ap, sym, ◌∙◌, arith, inl, inr, bit_or, replicate, get_or-set_same, get_or-set_other}
 use lib.ListN.{set as put}
 use Rattle.std.specs.Cmp.Lexicographic.{pointwise, bytes_decides}
@@ -14,17 +14,17 @@ use Rattle.std.proofs.lemmas.Nat.Bits.{bit_at_or, bit_at-lt, bit_at-pow_other, b
 use Rattle.plan_sets.specs.Limits.{set_span}
 use Rattle.plan_sets.specs.Words.{has_bit, is_marked, word_bits, word_count, AreUnused, AreWords}
 
--- past the words no bit is 1
+-- after the words no bit is 1
 pub is_marked-past : (words : List ℕ) (k : ℕ) → length words ≤ k / word_bits → is_marked words k ≡ false
 is_marked-past words k past =
     ap (λ w. bit_at w (k % word_bits) == 1) (get_or_past words (k / word_bits) 0 past) ∙ ap (λ b. b == 1) (bit_at-zero (k % word_bits))
 
--- in a word that is not used none is 1
+-- no bit of an unused word is 1
 pub is_marked-unused : (words : List ℕ) (used k : ℕ) → AreUnused words used → used ≤ k / word_bits → is_marked words k ≡ false
 is_marked-unused words used k unused past =
     ap (λ w. bit_at w (k % word_bits) == 1) (unused (k / word_bits) past) ∙ ap (λ b. b == 1) (bit_at-zero (k % word_bits))
 
--- the row where one word has the bits of a mask more
+-- the row after the bits of a mask were added to one word
 abbrev pub joined : List ℕ → ℕ → ℕ → List ℕ
 joined words at bits = put words at (bit_or (get_or words at 0) bits)
 
@@ -54,7 +54,7 @@ is_marked-joined words at bits j within =
     last : (a b c : Bool) → b ≡ false → a ≡ (a || (b && c))
     last a b c none = grind (arith, nat_tests)
 
--- with a mask's bits more they stay words
+-- with the bits of a mask they are still words
 pub AreWords-joined :
     (words : List ℕ) (at bits : ℕ) → at < length words → bits < 2 ^ word_bits → AreWords words → AreWords (joined words at bits)
 AreWords-joined words at bits within fits are w =
@@ -68,7 +68,7 @@ AreWords-joined words at bits within fits are w =
       | inr other ↦ omega (arith, get_or-set_other words at w more 0 other, are w)
     ]
 
--- nor is one used past those that were, where this one is among them
+-- no more words are used, if this one already was
 pub AreUnused-joined :
     (words : List ℕ) (used at bits : ℕ) → at < used → AreUnused words used → AreUnused (joined words at bits) used
 AreUnused-joined words used at bits below unused w past =
@@ -89,7 +89,7 @@ has_bit-one_bit k i within =
       | inr apart ↦ grind (arith, nat_tests, bit_at-pow_other k i apart)
     ]
 
--- the row with one bit more
+-- the row with one more bit
 abbrev pub marked_more : List ℕ → ℕ → List ℕ
 marked_more words k = joined words (k / word_bits) (one_bit (k % word_bits))
 
@@ -107,22 +107,22 @@ is_marked-more words k j within =
     or_turned : (a b : Bool) → (a || b) ≡ (b || a)
     or_turned a b = grind (arith, nat_tests)
 
--- one bit more leaves them words
+-- with one more bit they are still words
 pub AreWords-more : (words : List ℕ) (k : ℕ) → k / word_bits < length words → AreWords words → AreWords (marked_more words k)
 AreWords-more words k within are = AreWords-joined words (k / word_bits) (one_bit (k % word_bits)) within (omega arith) are
 
--- nor does it use a word past its own
+-- no word after the bit's word is used
 pub AreUnused-more :
     (words : List ℕ) (used more k : ℕ) → AreUnused words used → used ≤ more → k / word_bits < more →
     AreUnused (marked_more words k) more
 AreUnused-more words used more k unused no_less within =
     AreUnused-joined words more (k / word_bits) (one_bit (k % word_bits)) within (λ w past. unused w (omega (arith, past)))
 
--- the bits of a word that was shifted
+-- the bits of a shifted word
 bit_at-shr : (n below i : ℕ) → bit_at (n / 2 ^ below) i ≡ bit_at n (below + i)
 bit_at-shr n below i = ap (λ x. x % 2) (shr-shr n below i)
 
--- a word with nothing from a place on has no bit there
+-- a word that is 0 from a position on has no bit there
 pub none_in_word :
     (words : List ℕ) (k below j : ℕ) → get_or words k 0 / 2 ^ below ≡ 0 → j / word_bits ≡ k → below ≤ j % word_bits →
     is_marked words j ≡ false
@@ -133,7 +133,7 @@ none_in_word words k below j none same from =
     (bit_at-shr (get_or words k 0) below (i - below)) ∙ ap (λ w. bit_at w (i - below)) none ∙ bit_at-zero (i - below) in
     ap (λ a. bit_at (get_or words a 0) i == 1) same ∙ ap (λ b. b == 1) zero_there
 
--- the first bit of a word from a place on
+-- the first bit of a word from a position on
 pub record IsFirstBit (word below bit : ℕ) : Type 0 where
   pub within : bit < word_bits
   pub from : below ≤ bit
@@ -164,7 +164,7 @@ IsFirstBit-trailing_zeros word below fits some =
 same_bit : (a b i : ℕ) → (bit_at a i == 1) ≡ (bit_at b i == 1) → bit_at a i ≡ bit_at b i
 same_bit a b i same = grind (arith, nat_tests, bit_at-lt a i, bit_at-lt b i)
 
--- rows with the same bits are the same
+-- rows with the same bits are equal
 pub same_words :
     (xs ys : List ℕ) → length xs ≡ length ys → AreWords xs → AreWords ys →
     ((k : ℕ) → k < length xs * word_bits → is_marked xs k ≡ is_marked ys k) → xs ≡ ys
@@ -193,12 +193,12 @@ get_or-zeros n w =
 pub AreWords-zeros : (n : ℕ) → AreWords (zeros n)
 AreWords-zeros n w = omega (arith, get_or-zeros n w)
 
--- in them no bit is 1
+-- no bit of these is 1
 pub is_marked-zeros : (n k : ℕ) → is_marked (zeros n) k ≡ false
 is_marked-zeros n k =
     ap (λ w. bit_at w (k % word_bits) == 1) (get_or-zeros n (k / word_bits)) ∙ ap (λ b. b == 1) (bit_at-zero (k % word_bits))
 
--- the test of two rows of a set's words tells whether they have the same bits
+-- the test of two rows of a set's words decides whether they have the same bits
 pub record SameBits (xs ys : List ℕ) : Type 0 where
   pub each : (k : ℕ) → k < set_span → is_marked xs k ≡ is_marked ys k
 

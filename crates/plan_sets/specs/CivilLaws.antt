@@ -1,4 +1,4 @@
--- Laws of civil fields: the computed fields are those of the second and no others are, and what two seconds share.
+-- Laws of civil fields: the computed fields are those of the second, and the only ones; and which fields two seconds share.
 use Rattle.std.proofs.Common.{◌≡◌, ℕ, zero, suc, ◌+◌, ◌-◌, ◌/◌, ◌%◌, ◌<◌, ◌≤◌, Bool, true, false, nat_lt, ltb, inl, inr, refl, sym, ◌∙◌, arith, rules, ℤ, pos, ◌<ℤ◌, ◌≤ℤ◌}
 use Rattle.std.specs.Int.{IsInRange}
 use Rattle.std.proofs.lemmas.Bool.{cases_lt}
@@ -13,7 +13,7 @@ use Rattle.plan_sets.specs.declared.civil.Civil.{Civil}
 use Rattle.plan_sets.specs.Limits.{end_second, first_year, last_year, seconds_a_day}
 use Rattle.plan_sets.specs.Civil.{civil_fields, month_and_day, second_number, seconds_of_day, year_and_day, IsCivilOf, IsDateTime, IsTime, SameDate, Shows}
 
--- a year and a day in it are those of the day `day` days after 1 January of `year`
+-- a year and a day in it are those of the day that is `day` days after 1 January of `year`
 record IsInYear (year day : ℕ) (found : ℕ × ℕ) : Type 0 where
   from : year ≤ found.0
   within : found.1 < days_in_year (pos found.0)
@@ -31,7 +31,7 @@ IsInYear-later year day found le later = record {
   count = omega (arith, day_count-suc_year year);
 }
 
--- a year has at least one day, so that `day` years are enough
+-- a year has at least one day, so `day` years are enough
 year_and_day-is : (most year day : ℕ) → day ≤ most → IsInYear year day (year_and_day most year day)
 unfolding year_and_day
 year_and_day-is zero year day h = record {
@@ -50,7 +50,7 @@ year_and_day-is (suc most) year day h =
     ] in
     step (nat_lt day len) refl
 
--- a month and a day in it are those of the day of the year that is `day`, counted from 0
+-- a month and a day in it are those of day `day` of the year, counted from 0
 record IsInMonth (year : ℤ) (day : ℕ) (found : ℕ × ℕ) : Type 0 where
   month_in : IsInRange 1 12 found.0
   day_in : IsInRange 1 (days_in_month year found.0) found.1
@@ -100,7 +100,7 @@ first_of_later_year first year le =
       | inr ge ↦ let same : first ≡ year = omega arith in rw same (omega arith)
     ]
 
--- and one from a year on has none smaller
+-- a date of the year or of a later one has at least the day number of the year's first day
 pub days_from_civil-from_year :
     (first year month day : ℕ) → IsCivilDate (pos year) month day → first ≤ year →
     days_from_civil (pos first) 1 1 ≤ℤ days_from_civil (pos year) month day
@@ -114,7 +114,7 @@ days_from_civil-from_year first year month day date le =
           (pos year) month day date.2.0,
     )
 
--- the first and the last second begin years
+-- the first second and the end are the starts of years
 pub days_from_civil-first : days_from_civil (pos first_year) 1 1 ≡ pos 0
 days_from_civil-first = omega (arith, signed_arith, days_from_civil-day_count, day_count-epoch)
 
@@ -123,7 +123,7 @@ days_from_civil-end =
     let count = day_count-early (pos (last_year + 1)) (last_year + 10000) 1 1 refl (omega arith) (omega arith) (omega arith) in
     omega (arith, signed_arith, days_from_civil-day_count)
 
--- the planner's years hold the days of its seconds, and the end's day is in the next
+-- the days of all seconds before the end are in the supported years; the day of the end is in the next year
 days_before_end : (n : ℕ) → n ≤ end_second → n / seconds_a_day ≤ end_second / seconds_a_day
 days_before_end n h = omega arith
 
@@ -186,7 +186,7 @@ as_date year month day date = record {
   day_in = date.2;
 }
 
--- two dates with one day number are one date
+-- two dates with the same day number are the same date
 pub same_date :
     (y m d y₂ m₂ d₂ : ℕ) → IsCivilDate (pos y) m d → IsCivilDate (pos y₂) m₂ d₂ →
     days_from_civil (pos y) m d ≡ days_from_civil (pos y₂) m₂ d₂ → (y ≡ y₂) × (m ≡ m₂) × (d ≡ d₂)
@@ -208,7 +208,7 @@ IsCivilOf-unique n a b p q =
     b = rw (date.0, date.1, date.2, weekday, hour, minute, second) refl in
     same
 
--- each of the planner's seconds is in its years, but for the end
+-- each second before the end is in the supported years
 pub IsInRange-year :
     (n : ℕ) (c : Civil) → IsCivilOf n c → n ≤ end_second →
     IsInRange first_year (last_year + 1) c.year × (n < end_second → c.year ≤ last_year)
@@ -245,11 +245,11 @@ IsInRange-year n c h le =
     ] in
     ((low, high), before_end)
 
--- a second is the number of its fields
+-- the number of a second follows from its fields
 pub second_number-civil : (n : ℕ) (c : Civil) → IsCivilOf n c → second_number c.year c.month c.day c.hour c.minute c.second ≡ pos n
 second_number-civil n c h = rw h.day_number (omega (arith, signed_arith, h.time_of_day))
 
--- the fields of a second from the epoch to a date and time are these
+-- if second n has the number of a date and time, its fields are those of that date and time
 pub Shows-civil_fields :
     (n year month day hour minute second : ℕ) → n ≤ end_second → IsDateTime year month day hour minute second →
     pos n ≡ second_number year month day hour minute second → Shows (civil_fields n) year month day hour minute second
@@ -260,7 +260,7 @@ Shows-civil_fields n year month day hour minute second h is e =
     let time : seconds_of_day hour minute second ≡ n % seconds_a_day = omega (arith, signed_arith) in
     (date.0, date.1, date.2, omega arith, omega arith, omega arith)
 
--- two seconds of one day have one date
+-- two seconds of the same day have the same date
 pub SameDate-day : (n m : ℕ) → n / seconds_a_day ≡ m / seconds_a_day → SameDate (civil_fields n) (civil_fields m)
 unfolding civil_fields
 SameDate-day n m same = record {
@@ -270,7 +270,7 @@ SameDate-day n m same = record {
   weekday = rw same refl;
 }
 
--- the time of day is the second of its day, in hours, minutes and seconds
+-- the time of day is the second of the day, in hours, minutes and seconds
 pub IsTime-civil_fields : (n : ℕ) → IsTime n (civil_fields n)
 unfolding civil_fields
 IsTime-civil_fields n = record { hour = refl; minute = refl; second = refl }

@@ -1,4 +1,4 @@
--- Items of a field: which numbers belong to them, and what is wrong with a list of them.
+-- Items of a field: which numbers belong to them, and what is wrong with a list of items.
 use Rattle.std.specs.Prelude.{ℕ, ◌+◌, ◌-◌, ◌%◌, Bool, ◌&&◌, ◌==◌, nat_le, nat_lt, if◌then◌else◌, List, [], ◌∷◌, Option, Some, None, Result, Ok, Err}
 use Rattle.std.specs.List.{list_any}
 use Rattle.plan_sets.specs.declared.item.Item.{Item}
@@ -17,15 +17,15 @@ belongs (One a) v = v == a
 belongs (Onward a step) v = nat_le a v && ((v - a) % step == 0)
 belongs (Range a b step) v = is_step a b step v
 
--- v lies from lo to hi
+-- v is from lo to hi
 abbrev pub is_within : ℕ → ℕ → ℕ → Bool
 is_within lo hi v = nat_le lo v && nat_le v hi
 
--- v lies from lo to hi and belongs to one of the items
+-- v is from lo to hi and belongs to one of the items
 abbrev pub is_held : List Item → ℕ → ℕ → ℕ → Bool
 is_held items lo hi v = is_within lo hi v && list_any (λ item. belongs item v) items
 
--- what is wrong with one item (own): a number outside lo to hi, else a range that runs backwards, else a step of 0
+-- what is wrong with an item: a number is not from lo to hi, else the end of a range is before its start, else a step is 0 (agenda)
 abbrev pub item_fault : ℕ → ℕ → Item → Option SetFault
 item_fault lo hi (One a) = if is_within lo hi a then None else Some OutOfRange
 item_fault lo hi (Onward a step) =
@@ -35,17 +35,17 @@ item_fault lo hi (Range a b step) =
     then (if nat_lt b a then Some Backwards else (if step == 0 then Some ZeroStep else None))
     else Some OutOfRange
 
--- the first of two faults
+-- the first of two errors
 abbrev pub fault_or : Option SetFault → Option SetFault → Option SetFault
 fault_or None later = later
 fault_or (Some fault) later = Some fault
 
--- the fault of the first item that has one
+-- the error of the first invalid item
 abbrev pub first_fault : ℕ → ℕ → List Item → Option SetFault
 first_fault lo hi [] = None
 first_fault lo hi (item ∷ items) = fault_or (item_fault lo hi item) (first_fault lo hi items)
 
--- what is wrong with a list of items (own): that it is empty, or the first fault in it
+-- the error of a list of items: that it is empty, or the error of its first invalid item (agenda)
 abbrev pub items_fault : ℕ → ℕ → List Item → Option SetFault
 items_fault lo hi [] = Some NoItem
 items_fault lo hi (item ∷ items) = first_fault lo hi (item ∷ items)
@@ -54,11 +54,11 @@ items_fault lo hi (item ∷ items) = first_fault lo hi (item ∷ items)
 abbrev pub held_values : List Item → ℕ → ℕ → Values
 held_values items lo hi = values_where lo (hi + 1 - lo) (λ v. list_any (λ item. belongs item v) items)
 
--- those values, unless something is wrong
+-- these values, unless something is wrong
 abbrev pub values_or_fault : Values → Option SetFault → Result Values SetFault
 values_or_fault values None = Ok values
 values_or_fault values (Some fault) = Err fault
 
--- what a list of items means within lo to hi
+-- the meaning of a list of items in a field with values from lo to hi: their values, or the first error
 unfoldable pub set_reading : List Item → ℕ → ℕ → Result Values SetFault
 set_reading items lo hi = values_or_fault (held_values items lo hi) (items_fault lo hi items)

@@ -1,4 +1,4 @@
--- The text of a moment, and what is wrong with a text that is none.
+-- The text of a timestamp, and what is wrong with any other text.
 use Rattle.std.specs.Prelude.{◌≡◌, ℕ, ◌+◌, ◌/◌, ◌%◌, ◌<◌, List, [], ◌∷◌, ◌++◌, codes, ℤ, pos, ◌<ℤ◌, ◌⊎◌}
 use Rattle.plan_sets.specs.declared.civil.Civil.{Civil}
 use Rattle.plan_sets.specs.Limits.{end_second}
@@ -11,11 +11,11 @@ use Rattle.plan_sets.specs.Civil.{civil_fields, second_number, IsDateTime}
 abbrev pub two_digits : ℕ → List ℕ
 two_digits n = (48 + n / 10) ∷ (48 + n % 10) ∷ []
 
--- a number below 10,000 as four
+-- a number below 10,000 as four decimal digits
 abbrev pub four_digits : ℕ → List ℕ
 four_digits n = two_digits (n / 100) ++ two_digits (n % 100)
 
--- a date and a time of day as they are written, whether or not there is such a date
+-- a date and a time of day as they are written, whether they exist or not
 pub record Written : Type 0 where
   pub year : ℕ
   pub month : ℕ
@@ -24,7 +24,7 @@ pub record Written : Type 0 where
   pub minute : ℕ
   pub second : ℕ
 
--- each of the numbers has room in its digits
+-- each number fits in its digits
 abbrev pub HasRoom : Written → Type 0
 HasRoom w =
     (w.year < 10000) × (w.month < 100) × (w.day < 100)
@@ -37,7 +37,7 @@ written_text w =
     ++ codes "T" ++ two_digits w.hour ++ codes ":" ++ two_digits w.minute
     ++ codes ":" ++ two_digits w.second ++ codes "Z"
 
--- what is written of civil fields: all but the weekday
+-- the parts of civil fields that are written: all but the weekday
 abbrev pub written_of : Civil → Written
 written_of c = record {
   year = c.year;
@@ -48,16 +48,16 @@ written_of c = record {
   second = c.second;
 }
 
--- the text of the moment of second n: its civil fields, written
+-- the timestamp of second n: its civil fields as text
 unfoldable pub moment_text_of : ℕ → List ℕ
 moment_text_of n = written_text (written_of (civil_fields n))
 
--- the text has the form of a moment and says these numbers
+-- the text has the form of a timestamp and these numbers
 pub record Says (text : List ℕ) (w : Written) : Type 0 where
   pub room : HasRoom w
   pub text_is : text ≡ written_text w
 
--- what the reader's fields say (own)
+-- the numbers that the reader's fields have (agenda)
 abbrev pub written_fields : Fields → Written
 written_fields f = record {
   year = f.year;
@@ -68,19 +68,19 @@ written_fields f = record {
   second = f.second;
 }
 
--- the calendar has the date, and a day the time
+-- the calendar has this date, and a day has this time
 abbrev pub IsInCalendar : Written → Type 0
 IsInCalendar w = IsDateTime w.year w.month w.day w.hour w.minute w.second
 
--- the seconds from 1970-01-01T00:00:00Z, negative before it
+-- the seconds from 1970-01-01T00:00:00Z to this date and time, negative for earlier ones
 abbrev pub number_of : Written → ℤ
 number_of w = second_number w.year w.month w.day w.hour w.minute w.second
 
--- the date and time come before the first year, or after the end (own)
+-- the date and time are before the first supported year, or after the end (agenda)
 abbrev pub IsOutOfYears : Written → Type 0
 IsOutOfYears w = (number_of w <ℤ pos 0) ⊎ (pos end_second <ℤ number_of w)
 
--- what is first wrong with a text: its form, then its date or time, then its year (own)
+-- the first error of a text: in its form, then in its date or time, then in its year (agenda)
 abbrev pub HasFault : List ℕ → MomentFault → Type 0
 HasFault text BadForm = (w : Written) → ¬ (Says text w)
 HasFault text NoSuchDate = (w : Written) × Says text w × (¬ (IsInCalendar w))

@@ -1,5 +1,5 @@
--- Laws of months in a row: a day lies in a month or a later one exactly from the first day of that month on, and within a
--- month the days go by counting.
+-- Laws of months in a row: a day is in a month or a later one exactly from the first day of that month on, and within a month the
+-- days count up by one.
 use Rattle.std.proofs.Common.{◌≡◌, ℕ, ◌+◌, ◌-◌, ◌*◌, ◌/◌, ◌%◌, ◌<◌, ◌≤◌, inl, inr, refl, sym, ◌∙◌, arith, pos, ◌<ℤ◌, ◌≤ℤ◌}
 use Rattle.std.proofs.lemmas.Bool.{cases_lt}
 use Rattle.jiff_core.specs.Calendar.{days_from_civil, IsCivilDate}
@@ -19,7 +19,7 @@ IsCivilDate-first month h = (
   (omega arith, omega (arith, days_in_month_bounds (pos (month / 12)) (month % 12 + 1))),
 )
 
--- a date of an earlier month comes before the first day of a later one
+-- a date of an earlier month is before the first day of a later one
 before_first :
     (month y m d : ℕ) → IsCivilDate (pos y) m d → 12 * y + (m - 1) < month →
     days_from_civil (pos y) m d <ℤ days_from_civil (pos (month / 12)) (month % 12 + 1) 1
@@ -46,7 +46,7 @@ before_first month y m d date lt =
           ))
     ]
 
--- and one of that month or a later one does not
+-- a date of that month or a later one is not before the first day
 from_first :
     (month y m d : ℕ) → month < 120000 → IsCivilDate (pos y) m d → month ≤ 12 * y + (m - 1) →
     days_from_civil (pos (month / 12)) (month % 12 + 1) 1 ≤ℤ days_from_civil (pos y) m d
@@ -98,13 +98,13 @@ ComesBefore-first_day month first n known is h =
       from = λ le. omega (arith, signed_arith, fields.day_number, from_first month c.year c.month c.day known fields.date le);
     }
 
--- the first day of a month of the planner's years is a date of them
+-- the first day of a month in the supported years is a date in these years
 pub IsDateTimeInYears-first :
     (month : ℕ) → first_year * 12 ≤ month → month < (last_year + 1) * 12 → IsDateTimeInYears (month / 12) (month % 12 + 1) 1 0 0 0
 IsDateTimeInYears-first month low high =
     ((omega arith, omega arith), (IsCivilDate-first month (omega arith), (omega arith, omega arith, omega arith)))
 
--- its first second has its day number
+-- the first second of a month has the day number of its first day
 pub IsFirstDay-second : (month n : ℕ) → pos n ≡ second_number (month / 12) (month % 12 + 1) 1 0 0 0 → IsFirstDay month (n / seconds_a_day)
 IsFirstDay-second month n e = omega (arith, signed_arith)
 
@@ -112,7 +112,7 @@ IsFirstDay-second month n e = omega (arith, signed_arith)
 pub IsFirstDay-end : (month : ℕ) → month ≡ (last_year + 1) * 12 → IsFirstDay month (end_second / seconds_a_day)
 IsFirstDay-end month e = rw e days_from_civil-end
 
--- the months of later seconds are no earlier
+-- the month of a later second is not an earlier month
 pub month_number-mono : (n later : ℕ) → n ≤ later → later ≤ end_second → month_number (civil_fields n) ≤ month_number (civil_fields later)
 month_number-mono n later le h =
     let a = civil_fields n in
@@ -137,7 +137,7 @@ month_number-mono n later le h =
       | inr from ↦ from
     ]
 
--- the months of the planner's seconds
+-- the range of the months of all seconds before the end
 pub IsInRange-month_number :
     (n : ℕ) → n < end_second →
     (first_year * 12 ≤ month_number (civil_fields n)) × (month_number (civil_fields n) < (last_year + 1) * 12)
@@ -151,7 +151,7 @@ IsInRange-month_number n h =
     let high : c.month ≤ 12 = fields.date.1.1 in
     (omega arith, omega arith)
 
--- no month up to the one after the last year begins after the end
+-- no month up to the one after the last year starts after the end
 pub IsFirstDay-le_end : (month first : ℕ) → month ≤ (last_year + 1) * 12 → IsFirstDay month first → first ≤ end_second / seconds_a_day
 IsFirstDay-le_end month first known is =
     elim (cases_lt (month / 12) (last_year + 1)) [
@@ -168,7 +168,7 @@ IsFirstDay-le_end month first known is =
           omega (arith, signed_arith, IsFirstDay-end month at_end)
     ]
 
--- the month after begins where the days of a month end
+-- the next month starts where the days of a month end
 pub IsFirstDay-next : (month first : ℕ) → month < 120000 → IsFirstDay month first → IsFirstDay (month + 1) (first + days_of_month month)
 IsFirstDay-next month first known is =
     elim (cases_lt (month % 12) 11) [
@@ -199,7 +199,7 @@ IsFirstDay-next month first known is =
           ))
     ]
 
--- within a month the day follows from the day number by counting
+-- within a month, the day follows from the day number by counting
 pub day-of_month :
     (month first n : ℕ) → n ≤ end_second → IsFirstDay month first → month_number (civil_fields n) ≡ month →
     (civil_fields n).day + first ≡ n / seconds_a_day + 1
@@ -220,7 +220,7 @@ day-of_month month first n h is here =
           (pos c.year) c.month c.day 1 fields.date.2.0 (omega arith),
     )
 
--- the month of a second begins as many days before it as its day says
+-- `first` is the day number of the first day of the month of c, counted back from the day of second n
 pub record IsDayOf (n first : ℕ) (c : Civil) : Type 0 where
   pub from : c.day ≤ n / seconds_a_day + 1
   pub first_day : IsFirstDay (month_number c) first
@@ -244,7 +244,7 @@ IsDayOf-civil_fields n first h is =
       first_day = rw (year, of_year) (omega (arith, signed_arith, days_from_civil-day_count, days_from_civil-first, fields.day_number));
     }
 
--- and so the days of a month are known by their numbers
+-- so the days of a month are known by their numbers
 pub civil_fields-of_month :
     (month first day : ℕ) → month < 120000 → IsFirstDay month first → first ≤ day → day < first + days_of_month month →
     day * seconds_a_day ≤ end_second → civil_fields (day * seconds_a_day) ≡ day_of_month month first day
@@ -265,7 +265,7 @@ civil_fields-of_month month first day known is from to h =
     } in
     IsCivilOf-unique n (civil_fields n) (day_of_month month first day) (IsCivilOf-civil_fields n h) here
 
--- a day later within the month
+-- one day later within the month
 pub civil_fields-day_after :
     (n later : ℕ) → later ≡ n + seconds_a_day → later ≤ end_second →
     (civil_fields n).day < length_of_month (civil_fields n).year (civil_fields n).month →

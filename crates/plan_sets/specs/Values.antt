@@ -1,4 +1,4 @@
--- What contracts see of a value set: where it begins, and its members.
+-- What contracts say of a value set: its base and its members.
 use Rattle.std.specs.Prelude.{◌≡◌, ℕ, ◌+◌, ◌-◌, ◌<◌, ◌≤◌, Bool, true, false, ◌&&◌, nat_le, nat_lt, List, ◌∷◌, Option, Some, None, filter, refl}
 use Rattle.std.specs.List.{range_with_len}
 use Rattle.std.specs.Ordering.{nat_cmp}
@@ -11,7 +11,7 @@ pub record Values : Type 0 where
   pub base : ℕ
   pub members : set.FinSet nat_cmp
 
--- such a set is stored as the pair of its parts
+-- a set is encoded as the pair of its parts
 abbrev pub values_code : Coded Values
 values_code =
     code_by (ℕ × set.FinSet nat_cmp) (coded× coded_ℕ (set.code coded_ℕ)) (λ s. (s.base, s.members))
@@ -25,32 +25,32 @@ listing s = s.base ∷ set.items s.members
 abbrev pub has_value : Values → ℕ → Bool
 has_value s v = set.contains s.members v
 
--- the set with that base and no member
+-- the set with this base and no member
 abbrev pub no_values : ℕ → Values
 no_values lo = record { base = lo; members = set.empty }
 
--- the set with one value more
+-- the set with one more value
 abbrev pub with_value : Values → ℕ → Values
 with_value s v = record { base = s.base; members = set.insert s.members v }
 
--- v is one of the numbers from lo on, `count` of them
+-- v is one of the `count` numbers from lo on
 abbrev pub is_among : ℕ → ℕ → ℕ → Bool
 is_among lo count v = nat_le lo v && nat_lt v (lo + count)
 
--- the numbers from lo on, `count` of them, that pass a test
+-- the set of those of the `count` numbers from lo on that pass a test
 unfoldable pub values_where : ℕ → ℕ → (ℕ → Bool) → Values
 values_where lo count test =
     record { base = lo; members = set.from_list (filter test (range_with_len lo count)) }
 
--- the numbers that a set has room for from lo on, as far as their distance from lo passes a test
+-- the set of the numbers in the span of a set with the base lo whose distance from lo passes a test
 abbrev pub values_at : ℕ → (ℕ → Bool) → Values
 values_at lo test = values_where lo set_span (λ v. test (v - lo))
 
--- no member lies from v to w, w excluded
+-- no member is from v up to w, without w
 abbrev pub NoValueBetween : Values → ℕ → ℕ → Type 0
 NoValueBetween s v w = (u : ℕ) → v ≤ u → u < w → has_value s u ≡ false
 
--- the answer is the least member that is at least v, and None where no member is
+-- the answer is the smallest member that is at least v, or None if there is none
 abbrev pub IsLeastFrom : Values → ℕ → Option ℕ → Type 0
 IsLeastFrom s v None = (u : ℕ) → v ≤ u → has_value s u ≡ false
 IsLeastFrom s v (Some w) = (v ≤ w) × (has_value s w ≡ true) × NoValueBetween s v w

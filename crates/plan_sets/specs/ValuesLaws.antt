@@ -1,4 +1,4 @@
--- Laws of value sets: which numbers are members, and when two sets are one.
+-- Laws of value sets: which numbers are members, and when two sets are equal.
 use Rattle.std.proofs.Common.{◌≡◌, ℕ, ◌+◌, Bool, true, false, ◌&&◌, ◌||◌, ◌==◌, cond, Decides, List, ◌∷◌, zero, suc, nat_eq, filter, refl, ap, sym, ◌∙◌, arith, inl, inr}
 use Rattle.std.specs.List.{range_with_len, list_any}
 use Rattle.std.specs.Ordering.{nat_cmp, eq_by_cmp}
@@ -32,7 +32,7 @@ any_in_range test lo (suc n) v =
     ∙ ap (λ b. (test lo && nat_eq lo v) || b) (any_in_range test (lo + 1) n v)
     ∙ first_or_later test lo n v
 
--- a number is a member exactly if it lies in the span and passes the test
+-- a number is a member exactly if it is in the span and passes the test
 pub has_value-values_where : (lo n : ℕ) (test : ℕ → Bool) (v : ℕ) → has_value (values_where lo n test) v ≡ (is_among lo n v && test v)
 unfolding values_where
 has_value-values_where lo n test v =
@@ -42,20 +42,20 @@ pub base-values_where : (lo n : ℕ) (test : ℕ → Bool) → (values_where lo 
 unfolding values_where
 base-values_where lo n test = refl
 
--- two sets are the same where their bases are and they have the same members
+-- two sets are equal if they have the same base and the same members
 pub same_values : (s t : Values) → s.base ≡ t.base → ((v : ℕ) → has_value s v ≡ has_value t v) → s ≡ t
 same_values s t bases members =
     let same_members : s.members ≡ t.members = set.same_set nat_cmp_total set.nat_cmp-IsAntisymmetric s.members t.members members in
     λ i. record { base = bases i; members = same_members i }
 
--- one value more is that value, or what was a member
+-- the members of the set with one more value are that value and the old members
 pub has_value-with_value : (s : Values) (v u : ℕ) → has_value (with_value s v) u ≡ (nat_eq u v || has_value s u)
 has_value-with_value s v u = set.contains-insert nat_cmp_total s.members v u ∙ ap (λ b. b || has_value s u) (unsigned_tied u v)
 
 pub has_value-no_values : (lo u : ℕ) → has_value (no_values lo) u ≡ false
 has_value-no_values lo u = set.contains-empty nat_cmp u
 
--- the lists of two equal listings have the same heads and the same tails
+-- equal listings have the same heads and the same tails
 heads : (x y : ℕ) (xs ys : List ℕ) → x ∷ xs ≡ y ∷ ys → x ≡ y
 heads x y xs ys e = cc
 

@@ -1,4 +1,4 @@
-//! Civil fields: the date, weekday and time of day of a second.
+//! Civil fields: the date, the weekday and the time of day of a second.
 ghost use Rattle.std.specs.Prelude.{◌≡◌, ◌+◌, ◌/◌, ◌%◌, ◌<◌, ◌≤◌, ◌↔◌, pos, IsSome, IfSome};
 ghost use Rattle.std.specs.Int.{IsInRange};
 ghost use Rattle.jiff_core.specs.Calendar.{IsCivilDate, IsEpochDay, days_from_civil};
@@ -9,19 +9,19 @@ ghost use Rattle.plan_sets.specs.Civil.{civil_fields, second_number, seconds_of_
 use jiff::civil;
 use jiff_core::civil::{Date, days_in_month};
 
-/// The first year that the planner knows: second 0 is its first second.
+/// The first supported year. Its first second is second 0.
 pub const FIRST_YEAR: u16 = 1970;
 
-/// The last year that the planner knows.
+/// The last supported year.
 pub const LAST_YEAR: u16 = 2999;
 
-/// The second after `LAST_YEAR`, at midnight.
+/// The first second after `LAST_YEAR`, at midnight.
 pub const END_SECOND: u64 = 32_503_680_000;
 
-/// How many seconds a day has; no leap seconds are counted.
+/// The number of seconds in a day. Leap seconds are not counted.
 pub const SECONDS_A_DAY: u64 = 86_400;
 
-/// The civil fields of a second, in UTC.
+/// The date, the weekday and the time of day of a second, in UTC.
 #[derive(Clone, Copy, Debug, PartialEq, Eq)]
 pub struct Civil {
     /// The year, from `FIRST_YEAR` to `LAST_YEAR`.
@@ -40,13 +40,13 @@ pub struct Civil {
     pub second: u8,
 }
 
-/// The civil fields of a second before `END_SECOND`, counted from 1970-01-01T00:00:00Z.
+/// Returns the civil fields of a second before `END_SECOND`. Seconds count from 1970-01-01T00:00:00Z.
 pub fn civil_of(second: u64) -> Civil
     requires { second < end_second }
-    // The fields as one value, which computes.
+    // The fields as one value, computed.
     ensures fields { result ≡ civil_fields second }
 
-    // What they are: the date with the second's day number, its weekday, and the time of day.
+    // What the fields mean: the date with the second's day number, its weekday, and the time of day.
     ensures date { IsCivilDate (pos result.year) result.month result.day }
     ensures day_number { days_from_civil (pos result.year) result.month result.day
         ≡ pos (second / seconds_a_day) }
@@ -62,7 +62,7 @@ pub fn civil_of(second: u64) -> Civil
     fields_of(second)
 }
 
-/// The same, with `END_SECOND` itself, which is in the year after `LAST_YEAR`.
+/// Returns the civil fields of a second up to `END_SECOND`. That second itself is in the year after `LAST_YEAR`.
 pub(crate) fn fields_of(second: u64) -> Civil
     requires { second ≤ end_second }
     ensures fields { result ≡ civil_fields second }
@@ -83,7 +83,7 @@ pub(crate) fn fields_of(second: u64) -> Civil
     }
 }
 
-/// The date with that day number, which counts from 0 for 1970-01-01.
+/// Returns the date with a day number, which counts from 0 for 1970-01-01.
 fn date_of_day(day: u64) -> Date
     requires { day ≤ end_second / seconds_a_day }
     ensures { epoch_day result ≡ pos day }
@@ -92,8 +92,8 @@ fn date_of_day(day: u64) -> Date
     epoch.checked_add(day as i64).unwrap()
 }
 
-/// The second of a date and time of day: `None` where the calendar has no such date, a day no such
-/// time, or the year is outside `FIRST_YEAR` to `LAST_YEAR`.
+/// Returns the second of a date and a time of day, or `None` if there is no such date or time, or if the year
+/// is not from `FIRST_YEAR` to `LAST_YEAR`.
 pub fn second_of(year: u16, month: u8, day: u8, hour: u8, minute: u8, second: u8) -> Option<u64>
     ensures some { IsSome result ↔ IsDateTimeInYears year month day hour minute second }
     ensures range { IfSome result (λ n. n < end_second) }
@@ -108,8 +108,8 @@ pub fn second_of(year: u16, month: u8, day: u8, hour: u8, minute: u8, second: u8
     Some(number as u64)
 }
 
-/// The seconds from 1970-01-01T00:00:00Z to a date and time of any year up to 9999, negative before
-/// it: `None` where the calendar has no such date, or a day no such time.
+/// Returns the seconds from 1970-01-01T00:00:00Z to a date and time of any year up to 9999, negative for
+/// earlier dates. Returns `None` if there is no such date or time.
 pub(crate) fn second_from_epoch(
     year: u16,
     month: u8,
@@ -129,7 +129,7 @@ pub(crate) fn second_from_epoch(
     Some(i64::from(days) * SECONDS_A_DAY as i64 + i64::from(time))
 }
 
-/// The day number of a date of any year up to 9999: `None` where the calendar has no such date.
+/// Returns the day number of a date of any year up to 9999, or `None` if there is no such date.
 fn day_number(year: u16, month: u8, day: u8) -> Option<i32>
     ensures some { IsSome result ↔ IsCivilDate (pos year) month day }
     ensures number { IfSome result (λ n. n ≡ days_from_civil (pos year) month day) }
@@ -142,7 +142,7 @@ fn day_number(year: u16, month: u8, day: u8) -> Option<i32>
     Some(date.to_plain().to_unix_epoch_day())
 }
 
-/// How many days a month, from 1 to 12, of a year from `FIRST_YEAR` to `LAST_YEAR` has: 28 to 31.
+/// Returns the number of days, 28 to 31, in a month, from 1 to 12, of a year from `FIRST_YEAR` to `LAST_YEAR`.
 pub fn month_length(year: u16, month: u8) -> u8
     requires year { IsInRange first_year last_year year }
     requires month { IsInRange 1 12 month }

@@ -1,4 +1,4 @@
-//! Items of a field, and the set of the values that a list of them holds.
+//! Items of a field, and the set of all values in a list of items.
 
 ghost use Rattle.std.specs.Prelude.{◌≡◌, ℕ, ◌+◌, ◌^◌, ◌≤◌, ◌<◌, ◌&&◌, ◌||◌, None};
 ghost use Rattle.plan_sets.specs.Limits.{set_span};
@@ -8,26 +8,26 @@ ghost use Rattle.plan_sets.specs.Items.{belongs, is_step, item_fault, is_within,
 use crate::value_set::ValueSet;
 use thiserror::Error;
 
-/// One element of a field, by the numbers in it.
+/// One element of a field, with its numbers.
 #[derive(Clone, Copy, Debug, PartialEq, Eq)]
 pub enum Item {
-    /// That value alone.
+    /// A single value.
     One(u16),
-    /// Every value from the first number on, by steps of the second.
+    /// Every value from the first number on, in steps of the second.
     Onward(u16, u16),
-    /// Every value from the first number to the second, by steps of the third.
+    /// Every value from the first number to the second, in steps of the third.
     Range(u16, u16, u16),
 }
 
-/// Why a list of items is no set.
+/// Why a list of items gives no set.
 #[derive(Clone, Copy, Debug, PartialEq, Eq, Error)]
 #[error("{}", self.name())]
 pub enum SetFault {
     /// The list is empty.
     NoItem,
-    /// A value lies outside the limits of the field.
+    /// A value is outside the limits of the field.
     OutOfRange,
-    /// A range ends before it begins.
+    /// The end of a range is before its start.
     Backwards,
     /// A step is 0.
     ZeroStep,
@@ -37,7 +37,7 @@ impl SetFault {
     ghost use Rattle.std.specs.Prelude.{◌≡◌};
     ghost use Rattle.plan_sets.specs.Causes.{set_cause};
 
-    /// Its name, as fault lines show it.
+    /// Returns the name of the error, as error lines show it.
     pub fn name(&self) -> &'static str
         ensures { result.now ≡ set_cause self.now }
     {
@@ -51,7 +51,7 @@ impl SetFault {
 }
 
 impl Item {
-    // What is wrong with the item, where the field's values lie from `lo` to `hi`.
+    // Returns what is wrong with the item in a field whose values are from `lo` to `hi`.
     fn fault(self, lo: u16, hi: u16) -> Option<SetFault>
         ensures { result ≡ item_fault lo hi self }
     {
@@ -111,10 +111,13 @@ fn add_steps(values: &mut ValueSet, first: u16, last: u16, step: u16)
     }
 }
 
-/// The set of the values from `lo` to `hi` that belong to one of the items, with base `lo`.
+/// Returns the set of the values from `lo` to `hi` that belong to at least one item. Its base is `lo`.
 ///
-/// The first faulty item decides the fault: an empty list is `NoItem`; a number outside `lo` to `hi` is `OutOfRange`, else
-/// a range that ends before it begins is `Backwards`, else a step of 0 is `ZeroStep`.
+/// # Errors
+///
+/// `NoItem` if the list is empty. Otherwise the error of the first invalid item, which is the first of these
+/// that applies: `OutOfRange` if a number is not from `lo` to `hi`, `Backwards` if the end of a range is
+/// before its start, `ZeroStep` if a step is 0.
 pub fn set_of(items: &[Item], lo: u16, hi: u16) -> Result<ValueSet, SetFault>
     requires base { lo + set_span ≤ 2 ^ 16 }
     requires limits { lo ≤ hi }

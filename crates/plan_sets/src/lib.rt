@@ -1,8 +1,8 @@
-//! Value sets, civil fields and moments: what the rules of cron and of systemd timers are made of. No call of this crate
-//! takes memory.
+//! Sets of values, dates and times, and timestamps: the building blocks of the rules of cron and of systemd timers.
 //!
-//! The lowest crate: below it are the kit's `jiff`, for dates, and `thiserror`. Open `value_set` first, then `civil`; `item` makes
-//! sets of a field's elements, and `moment` reads and writes the texts of seconds.
+//! The crate uses no other crate of the project, only the kit's `jiff` and `jiff_core`, for dates, and `thiserror`.
+//! None of its functions allocates memory. Open `value_set` first, then `civil`. `item` makes sets from the elements
+//! of a field, and `moment` reads and writes timestamps.
 #![tactic(auto)]
 
 mod civil;

@@ -1,4 +1,4 @@
-//! Moments as text, as `2024-01-01T04:30:00Z`.
+//! Timestamps as text, such as `2024-01-01T04:30:00Z`.
 ghost use Rattle.std.specs.Prelude.{◌≡◌, ◌≢◌, ℕ, ◌<◌, ◌≤◌, ◌↔◌, ◌∷◌, [], IsSome, IfSome, IfNone, IfOk, IfErr, Ok};
 ghost use Rattle.plan_sets.specs.Limits.{end_second};
 ghost use Rattle.plan_sets.specs.Moment.{moment_text_of, number_of, two_digits, written_fields, HasFault, IsInCalendar, Says, Written};
@@ -6,15 +6,15 @@ ghost use Rattle.plan_sets.specs.Moment.{moment_text_of, number_of, two_digits, 
 use crate::civil::{END_SECOND, fields_of, second_from_epoch};
 use thiserror::Error;
 
-/// What is wrong with the text of a moment: the first of these that holds.
+/// What is wrong with the text of a timestamp: the first of these that applies.
 #[derive(Clone, Copy, Debug, PartialEq, Eq, Error)]
 #[error("{}", self.name())]
 pub enum MomentFault {
-    /// The text is not `YYYY-MM-DDTHH:MM:SSZ`, 20 bytes with decimal digits.
+    /// The text does not have the form `YYYY-MM-DDTHH:MM:SSZ`, which is 20 bytes with decimal digits.
     BadForm,
-    /// The calendar of the years 0000 to 9999 has no such date, or a day no such time.
+    /// The calendar of the years 0000 to 9999 has no such date, or a day has no such time.
     NoSuchDate,
-    /// The moment comes before `FIRST_YEAR`, or after `END_SECOND`.
+    /// The timestamp is before `FIRST_YEAR`, or after `END_SECOND`.
     OutOfYears,
 }
 
@@ -22,7 +22,7 @@ impl MomentFault {
     ghost use Rattle.std.specs.Prelude.{◌≡◌};
     ghost use Rattle.plan_sets.specs.Causes.{moment_cause};
 
-    /// Its name, as fault lines show it.
+    /// Returns the name of the error, as error lines show it.
     pub fn name(&self) -> &'static str
         ensures { result.now ≡ moment_cause self.now }
     {
@@ -34,7 +34,7 @@ impl MomentFault {
     }
 }
 
-/// The numbers that a text of a moment's form says.
+/// The numbers in a text with the form of a timestamp.
 #[derive(Clone, Copy)]
 struct Fields {
     year: u16,
@@ -46,12 +46,12 @@ struct Fields {
 }
 
 impl Fields {
-    /// The numbers of a text of the form `YYYY-MM-DDTHH:MM:SSZ`.
+    /// Returns the numbers of a text with the form `YYYY-MM-DDTHH:MM:SSZ`, or `None` for any other text.
     fn read(text: &[u8]) -> Option<Fields>
         ensures some { IfSome result (λ f. Says text.now (written_fields f)) }
         ensures none { IfNone result ((w : Written) → ¬ (Says text.now w)) }
     {
-        // Two bytes each of century, year, month and day, then of hour, minute and second.
+        // Two bytes each for the century, year, month and day, then for the hour, minute and second.
         let [c1, c2, y1, y2, b'-', m1, m2, b'-', d1, d2, time @ ..] = text else {
             return None;
         };
@@ -68,7 +68,7 @@ impl Fields {
         })
     }
 
-    /// The seconds from 1970-01-01T00:00:00Z, if there is such a date and time.
+    /// Returns the seconds since 1970-01-01T00:00:00Z, or `None` if there is no such date or time.
     fn second(self) -> Option<i64>
         ensures some { IsSome result ↔ IsInCalendar (written_fields self) }
         ensures number { IfSome result (λ n. n ≡ number_of (written_fields self)) }
@@ -84,7 +84,7 @@ impl Fields {
     }
 }
 
-/// The number that two decimal digits write.
+/// Returns the number with these two decimal digits, or `None` if a byte is not a digit.
 fn number(tens: u8, ones: u8) -> Option<u8>
     ensures value { IfSome result (λ n. (n < 100) × (tens ∷ ones ∷ [] ≡ two_digits n)) }
     ensures none { IfNone result ((n : ℕ) → n < 100 → tens ∷ ones ∷ [] ≢ two_digits n) }
@@ -96,7 +96,12 @@ fn number(tens: u8, ones: u8) -> Option<u8>
     }
 }
 
-/// The second of a moment up to `END_SECOND`, from its text.
+/// Returns the second of a timestamp up to `END_SECOND`, from its text.
+///
+/// # Errors
+///
+/// The first of these that applies: `BadForm` for another form of text, `NoSuchDate` if there is no such date
+/// or time, `OutOfYears` for a timestamp before `FIRST_YEAR` or after `END_SECOND`.
 pub fn read_moment(text: &str) -> Result<u64, MomentFault>
     ensures ok { IfOk result (λ n. (n ≤ end_second) × (text.now ≡ moment_text_of n)) }
     ensures accepted { (n : ℕ) → n ≤ end_second → text.now ≡ moment_text_of n → result ≡ Ok n }
@@ -110,7 +115,7 @@ pub fn read_moment(text: &str) -> Result<u64, MomentFault>
     Ok(number as u64)
 }
 
-/// The two decimal digits of a number below 100.
+/// Returns the two decimal digits of a number below 100.
 fn digits(number: u8) -> [u8; 2]
     requires { number < 100 }
     ensures { result ≡ two_digits number }
@@ -118,7 +123,7 @@ fn digits(number: u8) -> [u8; 2]
     [b'0' + number / 10, b'0' + number % 10]
 }
 
-/// The text of the moment of a second up to `END_SECOND`.
+/// Returns the timestamp of a second up to `END_SECOND`, as text.
 pub fn moment_text(second: u64) -> [u8; 20]
     requires { second ≤ end_second }
     ensures { result ≡ moment_text_of second }

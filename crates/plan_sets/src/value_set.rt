@@ -1,4 +1,4 @@
-//! Sets of small numbers, as the values that a field of a rule admits.
+//! Sets of small numbers, such as the values that a field of a rule matches.
 
 ghost use Rattle.std.specs.Prelude.{◌≡◌, ℕ, ◌+◌, ◌*◌, ◌-◌, ◌^◌, ◌<◌, ◌≤◌, ◌||◌, ◌↔◌, IsTrue};
 ghost use Rattle.std.specs.FinSet as set;
@@ -9,19 +9,19 @@ ghost use Rattle.plan_sets.specs.Words.{has_bit, word_bits, word_count};
 
 use std::marker::Model;
 
-/// How many words hold the members of a set.
+/// The number of words that a set is kept in.
 const WORDS: usize = 9;
 
-/// How many numbers a word is for, one a bit.
+/// The number of bits in a word. Each bit is for one number.
 const WORD_BITS: u16 = 128;
 
 /// A set of numbers from a base `lo` to `lo + 1,151`.
 #[derive(Debug, Drop)]
 pub struct ValueSet {
     base: u16,
-    /// A bit for each number from the base on, the lowest of the first word for the base itself: 1 for a member.
+    /// A bit for each number from the base on, 1 for a member. The lowest bit of the first word is for the base.
     words: [u128; WORDS],
-    /// How many of the words can have a member: the ones after them are 0, and no search looks at them.
+    /// The number of words that can have a member. All later words are 0, and no search reads them.
     used: u16,
 }
 
@@ -40,7 +40,7 @@ impl Model for ValueSet {
     ghost invariant = { λ s. (s.base + set_span ≤ 2 ^ 16) × AreWords s.words × (s.used ≤ word_count) × AreUnused s.words s.used };
 }
 
-// Equal are sets with the same base and the same members.
+// Two sets are equal if they have the same base and the same members.
 impl PartialEq for ValueSet {
     ghost use Rattle.std.specs.Prelude.{◌==◌};
     ghost use Rattle.std.specs.Ordering.{on};
@@ -66,7 +66,7 @@ impl Eq for ValueSet {
 }
 
 impl ValueSet {
-    /// The empty set whose base is `lo`.
+    /// Returns the empty set with the base `lo`.
     pub fn empty(lo: u16) -> Self
         requires { lo + set_span ≤ 2 ^ 16 }
         ensures { result ≡ no_values lo }
@@ -78,7 +78,7 @@ impl ValueSet {
         }
     }
 
-    /// Returns the same set.
+    /// Returns a copy of the set.
     pub fn copy(&self) -> ValueSet
         ensures { result ≡ self.now }
     {
@@ -89,7 +89,7 @@ impl ValueSet {
         }
     }
 
-    /// Adds a value, which lies within the span of the set.
+    /// Adds a value, which must be within the span of the set.
     pub fn insert(&mut self, v: u16)
         requires from { self.old.base ≤ v }
         requires to { v < self.old.base + set_span }
@@ -101,7 +101,7 @@ impl ValueSet {
         self.used = self.used.max(index + 1);
     }
 
-    /// Adds every value from `first` to `last`, which lie within the span of the set.
+    /// Adds every value from `first` to `last`, which must be within the span of the set.
     pub(crate) fn insert_range(&mut self, first: u16, last: u16)
         requires from { self.old.base ≤ first }
         requires forwards { first ≤ last }
@@ -120,7 +120,7 @@ impl ValueSet {
         self.used = self.used.max(end);
     }
 
-    /// Whether `v`, any number, is in the set.
+    /// Returns whether a number is in the set. Any number is allowed.
     pub fn contains(&self, v: u16) -> bool
         ensures { result ≡ has_value self.now v }
     {
@@ -133,7 +133,8 @@ impl ValueSet {
         (word >> (offset % WORD_BITS)) & 1 == 1
     }
 
-    /// The least value of the set that is at least `v`, any number; `None` where there is none.
+    /// Returns the smallest value of the set that is at least `v`, or `None` if there is none. `v` may be any
+    /// number.
     pub fn first_from(&self, v: u16) -> Option<u16>
         ensures { IsLeastFrom self.now v result }
     {
@@ -150,7 +151,7 @@ impl ValueSet {
         Some(self.base + start + rest.trailing_zeros() as u16)
     }
 
-    // The least value that a word after this one is for.
+    // Returns the smallest value of the words after this one.
     #[inline(never)]
     fn first_of_later_words(&self, index: u16) -> Option<u16>
         requires { index < word_count }
@@ -165,7 +166,7 @@ impl ValueSet {
         None
     }
 
-    /// Whether the set has no value.
+    /// Returns whether the set is empty.
     pub fn is_empty(&self) -> bool
         ensures { IsTrue result ↔ (self.now.members ≡ set.empty) }
     {
@@ -173,7 +174,7 @@ impl ValueSet {
     }
 }
 
-// The word whose bits from `low` to `high` are 1, and no other.
+// Returns the word with the bits from `low` to `high` set, and no others.
 fn bits_from_to(low: u16, high: u16) -> u128
     requires forwards { low ≤ high }
     requires within { high < word_bits }

@@ -1,5 +1,5 @@
--- A text that a writer takes in parts: for the loop of `write_bytes`. `IsPartWritten` tells how many bytes the writer took;
--- what was written and what is left are cut at that place, which moves on by what each write took.
+-- A text that a writer takes in parts: for the loop of `write_bytes`. `IsPartWritten` says how many bytes the writer
+-- took. What was written and what remains are cut at that place, which each write moves on by the bytes that it took.
 use Rattle.std.proofs.Common.{◌≡◌, ℕ, ◌+◌, ◌-◌, ◌<◌, ◌≤◌, List, [], ◌∷◌, ◌++◌, length, take, drop, get_or, Option, None, Some, Result, Ok, Err, OnErr, IsErr, Bool, is_ok, true, false, refl, ap, sym, subst, ◌∙◌, arith, append_assoc, append-nil, take_all, length-append, length-drop}
 use Rattle.std.specs.List.{flat_map}
 use Rattle.std.proofs.Math.Seq.{take-add, take-append-add}
@@ -10,7 +10,7 @@ use Rattle.std.proofs.KnownBytes.{Appends-trans, Appends-nil}
 use Rattle.std.specs.Io.KnownBytes.{Appends, Keeps}
 use Rattle.plan_streams.specs.Stream.{AppendsPrefix, AppendsAllBut, BreaksOff, Puts, PutsAllBut}
 
--- the first k bytes of the text were written, and the rest is left
+-- the first k bytes of the text were written, and the rest remains
 pub record IsWrittenTo (old new : Option (List ℕ)) (text rest : List ℕ) (k : ℕ) : Type 0 where
   pub within : k ≤ length text
   pub left : rest ≡ drop k text

@@ -1,6 +1,7 @@
-//! Streams: what takes the texts that the program writes. Each writer of std is one, which may fail.
+//! Streams, to which the program writes its texts. Each writer of std is a stream, which may fail.
 //!
-//! It stands on no crate of the project. All that writes stands on it: agendas, fault lines, and what commands answer. Open `stream`.
+//! The crate uses no other crate of the project. Everything that writes uses it: agendas, error lines, and
+//! the answers of commands. Read `stream`.
 #![tactic(auto)]
 
 mod stream;

@@ -1,4 +1,4 @@
-//! Streams: what takes the texts that the program writes.
+//! Streams, to which the program writes its texts.
 
 ghost use Rattle.std.specs.Prelude.{◌≡◌, OnOk, OnErr};
 ghost use Rattle.std.specs.Io.KnownBytes.{Appends};
@@ -10,28 +10,30 @@ use thiserror::Error;
 /// Why a text was not written.
 #[derive(Clone, Copy, Debug, PartialEq, Eq, Error)]
 pub enum WriteFault {
-    /// A write or the flush gave an error, or a write took none of its bytes.
+    /// A write or the flush returned an error, or a write took no bytes.
     #[error("Device")]
     Device,
 }
 
-/// What takes whole texts, as standard output does.
+/// A destination for whole texts, such as standard output.
 pub trait Stream {
     ghost use Rattle.std.specs.Prelude.{ℕ, Bool, List, Option};
 
-    /// The bytes that it holds, where they are known.
+    /// The bytes that it holds, if they are known.
     ghost holds: { Self → Option (List ℕ) };
 
     /// Whether it never fails.
     ghost takes_all: { Bool };
 
-    /// Writes a whole text, and flushes what it is written to. Takes no memory of its own.
+    /// Writes a whole text, and flushes it. Requests no memory itself.
     ///
-    /// `Device` where the stream fails; then only the first bytes of the text were written.
+    /// # Errors
+    ///
+    /// `Device` if the stream fails. Then only the first bytes of the text were written, perhaps none or all.
     fn put(&mut self, text: &[u8]) -> Result<(), WriteFault>
         ensures { Puts takes_all result (holds self.old) (holds self.new) text.now };
 
-    /// Writes a whole text that more is to follow, as `put` does, and doesn't flush.
+    /// Writes a whole text that is followed by more. Works like `put`, but doesn't flush.
     fn put_part(&mut self, text: &[u8]) -> Result<(), WriteFault>
         ensures { Puts takes_all result (holds self.old) (holds self.new) text.now };
 }

@@ -1,3 +1,5 @@
+//! Tests of `Collector`: which messages it accepts, and the agenda that it makes of them.
+
 use plan_collect::*;
 use plan_next::next_piece;
 use plan_rules::{Jobs, Kind, cron_rule, crontab};
@@ -6,7 +8,7 @@ use std::process::Abort;
 use std::sync::Arc;
 use std::test::Fail;
 
-// The jobs of a user's crontab.
+// Returns the jobs of a user's crontab.
 pub fn user_jobs(alloc: Global, text: &str) -> Result<Jobs, Fail> {
     let mut jobs = Jobs::new(alloc);
     for job in crontab(alloc, "cron", text.as_bytes(), Kind::User)? {
@@ -18,22 +20,22 @@ pub fn user_jobs(alloc: Global, text: &str) -> Result<Jobs, Fail> {
 // A crontab of one job that starts each minute.
 pub const EVERY_MINUTE: &str = "* * * * * x";
 
-// At this place of the agenda stands this entry, or none.
+// Checks that the agenda has this entry at this place, or none.
 pub fn assert_entry(rt: &impl Abort, agenda: &Agenda, place: usize, entry: Option<(u64, u32)>) {
     assert!(rt; agenda.entry(place) == entry);
 }
 
-// The rules that start each minute, and each other minute.
+// The rules that start every minute, and every other minute.
 const EVERY: &str = "* * * * *";
 
 const OTHER: &str = "*/2 * * * *";
 
-// The span between two seconds.
+// Returns the span between two seconds.
 pub fn span(since: u64, upto: u64) -> Result<Span, SpanFault> {
     Span::new(since, upto)
 }
 
-// A piece of a job, made by a cron rule between two seconds.
+// Returns a message with a piece of a job, made by a cron rule between two seconds.
 fn part(alloc: Global, job: u32, rule: &str, since: u64, upto: u64) -> Result<Note, Fail> {
     let rule = Arc::new(alloc, cron_rule(alloc, rule)?)?;
     let span = span(since, upto)?;
@@ -41,7 +43,7 @@ fn part(alloc: Global, job: u32, rule: &str, since: u64, upto: u64) -> Result<No
     Ok(Note::Part(job, piece))
 }
 
-// A collector of a crontab's jobs up to a second.
+// Returns a collector of a crontab's jobs from second 0 up to a second.
 fn collector(
     alloc: Global,
     crontab: &str,
@@ -53,12 +55,12 @@ fn collector(
     Ok(Collector::new(alloc, &jobs, span(0, upto)?, planners, limit))
 }
 
-// A collector of one job that starts each minute, over two of them.
+// Returns a collector of one job that starts each minute, over two minutes.
 fn two_minutes(alloc: Global, limit: u64) -> Result<Collector, Fail> {
     Ok(collector(alloc, EVERY_MINUTE, 120, 1, limit)??)
 }
 
-// The collector answers so to this note of a planner.
+// Checks what the collector answers to this message of a planner.
 fn assert_answer(
     rt: &impl Abort,
     collector: &mut Collector,
@@ -69,7 +71,8 @@ fn assert_answer(
     assert!(rt; collector.accept(planner, note) == wanted);
 }
 
-// The collector answers so to a piece of the first planner: of this job, by this rule and between these seconds.
+// Checks what the collector answers to a piece of the first planner: of this job, by this rule and between
+// these seconds.
 fn assert_part(
     rt: &(impl Abort + AllocGlobal),
     collector: &mut Collector,
@@ -84,7 +87,7 @@ fn assert_part(
     Ok(())
 }
 
-// A last note or a piece is missing.
+// Checks that the collector misses a last message or a piece.
 fn assert_missing(rt: &impl Abort, collector: Collector) {
     assert!(rt; collector.finish().err() == Some(CollectFault::Missing));
 }
@@ -93,7 +96,7 @@ fn assert_missing(rt: &impl Abort, collector: Collector) {
 fn strangers_and_gaps(rt: HostRuntime) -> Result<(), Fail> {
     let mut collector = two_minutes(rt.alloc(), 2)?;
     let (stranger, gap) = (Err(CollectFault::Stranger), Err(CollectFault::Gap));
-    // No such planner, no such job, another rule, a piece that begins late and one that ends late.
+    // No such planner, no such job, another rule, a piece that starts late, and one that ends late.
     assert_answer(&rt, &mut collector, 1, Note::Last, stranger);
     assert_part(&rt, &mut collector, 1, EVERY, 0, 120, stranger)?;
     assert_part(&rt, &mut collector, 0, OTHER, 0, 120, stranger)?;
@@ -106,7 +109,7 @@ fn a_collector_of_one_job(rt: HostRuntime) -> Result<(), Fail> {
     let mut collector = two_minutes(rt.alloc(), 2)?;
     let (gap, after_last) = (Err(CollectFault::Gap), Err(CollectFault::AfterLast));
     assert_part(&rt, &mut collector, 0, EVERY, 0, 120, Ok(()))?;
-    // It again.
+    // The same piece again.
     assert_part(&rt, &mut collector, 0, EVERY, 0, 120, gap)?;
     assert_answer(&rt, &mut collector, 0, Note::Last, Ok(()));
     assert_answer(&rt, &mut collector, 0, Note::Last, after_last);
@@ -140,12 +143,13 @@ fn a_last_note_or_a_piece_is_missing(rt: HostRuntime) -> Result<(), Fail> {
     Ok(())
 }
 
-// A collector of a job that starts each minute and one that starts each other minute, of two planners.
+// Returns a collector of two planners, with a job that starts every minute and one that starts every other minute.
 fn two_jobs(alloc: Global) -> Result<Collector, Fail> {
     Ok(collector(alloc, "* * * * * x\n*/2 * * * * y\n", 180, 2, 10)??)
 }
 
-// Both planners' notes: by its digit a planner's piece, and by its letter, a or b, its last note.
+// Returns a message by its sign: a digit is the piece of that planner, and the letters `a` and `b` are the last
+// messages of planners 0 and 1.
 fn note_of(alloc: Global, sign: u8) -> Result<(usize, Note), Fail> {
     Ok(match sign {
         b'0' => (0, part(alloc, 0, EVERY, 0, 180)?),
@@ -155,7 +159,7 @@ fn note_of(alloc: Global, sign: u8) -> Result<(usize, Note), Fail> {
     })
 }
 
-// The agenda of both, whose notes arrive in this order.
+// Returns the agenda of both planners if their messages arrive in this order.
 fn arrived(alloc: Global, order: &[u8]) -> Result<Agenda, Fail> {
     let mut collector = two_jobs(alloc)?;
     for sign in order {

@@ -1,3 +1,5 @@
+//! Tests of the ends of rings: `Outlet`, `Inlet` and `Receipt`, also in threads.
+
 ghost use Rattle.std.specs.Prelude.{◌≡◌, IfOk, Some, slice_get};
 ghost use Rattle.plan_mailbox.specs.Ends.{inlet_of, outlet_of, receipt_of};
 
@@ -10,7 +12,7 @@ use std::test::Fail;
 use std::thread;
 use std::thread::Promise;
 
-/// The two outlets and the inlet of new rings with this room.
+/// Returns the two outlets and the inlet of new rings with this capacity.
 fn ends_of_two(alloc: Global, room: usize) -> Result<(Outlet<u32>, Outlet<u32>, Inlet<u32>), Fail>
     ensures first { IfOk result (λ ends. slice_get (inlet_of ends.2).rings 0 ≡ Some (outlet_of ends.0).ring) }
     ensures second { IfOk result (λ ends. slice_get (inlet_of ends.2).rings 1 ≡ Some (outlet_of ends.1).ring) }
@@ -28,14 +30,14 @@ fn ends_of_two(alloc: Global, room: usize) -> Result<(Outlet<u32>, Outlet<u32>, 
     Ok((first, second, inlet))
 }
 
-/// Sends the messages, each with what is answered.
+/// Sends messages, and checks the answer to each.
 fn assert_sends(rt: &impl Abort, outlet: &mut Outlet<u32>, wanted: &[(u32, Result<(), u32>)]) {
     for (message, want) in wanted {
         assert_eq!(rt; outlet.try_send(*message), *want, "{message}");
     }
 }
 
-/// Takes so many times, and compares what is answered.
+/// Takes once for each wanted answer, and checks the answers.
 fn assert_takes(rt: &impl Abort, inlet: &mut Inlet<u32>, wanted: &[Option<(usize, u32)>]) {
     for want in wanted {
         assert_eq!(rt; inlet.try_take(), *want);
@@ -66,7 +68,7 @@ fn the_ends_know_their_senders(rt: HostRuntime) -> Result<(), Fail> {
     Ok(())
 }
 
-/// The receipt is that of this outlet's ring.
+/// The promise that the receipt is that of this outlet's ring.
 #[derive(Drop)]
 struct ReceiptOf(Snapshot<Outlet<u32>>);
 
@@ -74,7 +76,7 @@ impl Promise<Receipt<u32>> for ReceiptOf {
     ghost kept_by = { λ p r. (receipt_of r).ring ≡ (outlet_of p.0.value).ring };
 }
 
-/// Sends the numbers up to 9,999 through the outlet, and closes it.
+/// Sends the numbers from 0 to 9,999 through the outlet, and closes it.
 fn send_ten_thousand<R: Wait>(rt: &R, outlet: Outlet<u32>) -> Receipt<u32>
     ensures { (receipt_of result).ring ≡ (outlet_of outlet).ring }
 {
@@ -92,7 +94,7 @@ fn send_ten_thousand<R: Wait>(rt: &R, outlet: Outlet<u32>) -> Receipt<u32>
     outlet.close()
 }
 
-/// The message is the next of its sender.
+/// Checks that the message is the next of its sender, and counts it.
 fn count_in(rt: &impl Abort, counts: &mut [u32; 2], sender: usize, message: u32) {
     assert!(rt; sender < 2);
     assert_eq!(rt; message, counts[sender], "of sender {sender}");
@@ -100,7 +102,7 @@ fn count_in(rt: &impl Abort, counts: &mut [u32; 2], sender: usize, message: u32)
     counts[sender] += 1;
 }
 
-/// Takes until at most one message of each sender is left.
+/// Takes messages until at most one of each sender is left.
 fn take_most<R: Wait + Abort>(rt: &R, inlet: &mut Inlet<u32>, counts: &mut [u32; 2])
     ensures { (inlet_of inlet.new).rings ≡ (inlet_of inlet.old).rings }
 {
@@ -115,7 +117,7 @@ fn take_most<R: Wait + Abort>(rt: &R, inlet: &mut Inlet<u32>, counts: &mut [u32;
     }
 }
 
-/// Settles both receipts, and takes what still waits: all came then.
+/// Settles both receipts, takes what still waits, and checks that all messages arrived.
 fn settle_both(
     rt: &impl Abort,
     inlet: &mut Inlet<u32>,

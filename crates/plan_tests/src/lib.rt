@@ -1,6 +1,9 @@
-//! The tests of what the crates from plan_sets to plan_threads offer and no command of the program shows: the names of faults, names of
-//! timers, mailboxes, the ends of their rings, a mailbox behind a lock, and plans. They stand in a crate that has nothing else: with tests
-//! in it, the gate proves a crate once more. What the program shows stands in rows/, and what writers take of plans in its tests.
+//! Tests of what the crates from plan_sets to plan_threads offer and no command of the program shows.
+//!
+//! They are about the names of errors, names of timers, collectors, mailboxes, the ends of their rings, a
+//! mailbox behind a lock, and plans. They have a crate of their own, since the gate proves a crate again if it
+//! has tests. What the program shows is tested by the rows in rows/. What writers get of a plan is tested in
+//! the program's crate.
 #![tactic(auto)]
 
 #[cfg(test)]

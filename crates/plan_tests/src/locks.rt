@@ -1,3 +1,5 @@
+//! Tests of `Locked`, a mailbox behind a lock, also with threads that send and take at the same time.
+
 use crate::mailboxes::assert_reply;
 use plan_mailbox::{Locked, Reply};
 use std::process::Abort;
@@ -26,12 +28,12 @@ fn calls_of_senders_that_are_not_there(rt: HostRuntime) -> Result<(), Fail> {
     Ok(())
 }
 
-// The first message of a sender: each has a thousand numbers.
+// Returns the first message of a sender. Each sender has a thousand numbers.
 fn first_of(sender: usize) -> usize {
     sender.saturating_mul(1_000)
 }
 
-/// Sends a thousand numbers through a sender, and closes it.
+/// Sends the thousand numbers of a sender, and closes it.
 fn send_thousand<R: Wait + Abort>(rt: &R, locked: &Locked<usize>, sender: usize) {
     for message in 0..1_000 {
         let message = first_of(sender).saturating_add(message);
@@ -40,7 +42,7 @@ fn send_thousand<R: Wait + Abort>(rt: &R, locked: &Locked<usize>, sender: usize)
     assert_reply(rt, locked.close(rt, sender), Reply::Shut);
 }
 
-/// Takes all numbers of three senders, each sender's in order, until no more will come.
+/// Takes all numbers of three senders until no more will come, and checks that those of each sender are in order.
 fn take_thousands<R: Wait + Abort>(rt: &R, locked: &Locked<usize>) {
     let mut next = [first_of(0), first_of(1), first_of(2)];
     for _ in 0..3_000 {

@@ -1,3 +1,5 @@
+//! Tests of the two kinds of mailboxes, `Core` and `Rings`: both give the same replies to the same steps.
+
 use plan_mailbox::{
     Core, MOST_ROOM, MOST_SENDERS, Post, Reply, Rings, Step, run_steps, takes_what_outlets_sent,
     takes_what_was_sent,
@@ -11,7 +13,7 @@ use std::test::Fail;
 #[derive(Debug, PartialEq, Eq, Drop)]
 struct Parcel(u8);
 
-/// The mailbox replied what is wanted.
+/// Checks a reply of a mailbox.
 pub fn assert_reply<M: Debug + PartialEq + Drop>(
     rt: &impl Abort,
     reply: Reply<M>,
@@ -20,7 +22,7 @@ pub fn assert_reply<M: Debug + PartialEq + Drop>(
     assert_eq!(rt; reply, wanted);
 }
 
-/// What a new `Core` of these sizes replies to the steps.
+/// Returns the replies of a new `Core` of these sizes to the steps.
 fn replies_of_core(
     alloc: Global,
     senders: usize,
@@ -32,7 +34,7 @@ fn replies_of_core(
     Ok(replies)
 }
 
-/// What new `Rings` of these sizes reply to the steps.
+/// Returns the replies of new `Rings` of these sizes to the steps.
 fn replies_of_rings(
     alloc: Global,
     senders: usize,
@@ -44,7 +46,8 @@ fn replies_of_rings(
     Ok(replies)
 }
 
-/// Both mailboxes of two senders, with this room, reply what is wanted. The same steps stand here for each of them.
+/// Checks the replies of both mailboxes, each with two senders of this capacity. The same steps are given
+/// twice, once for each mailbox.
 fn assert_replies(
     rt: &(impl Abort + AllocGlobal),
     room: usize,
@@ -141,7 +144,7 @@ fn two_senders_with_room_for_two(rt: HostRuntime) -> Result<(), Fail> {
     )
 }
 
-/// Ten thousand sends, by the eight senders in turn.
+/// Returns ten thousand sends, by the eight senders in turn.
 fn many_sends(alloc: Global) -> Result<Vec<Step<char>>, Fail> {
     let mut steps = Vec::new(alloc);
     for i in 0..10_000 {
@@ -150,7 +153,8 @@ fn many_sends(alloc: Global) -> Result<Vec<Step<char>>, Fail> {
     Ok(steps)
 }
 
-/// With room for 1,024 messages of each of eight senders, the first 8,192 sends are taken in, and no later one.
+/// Checks that the first 8,192 messages are sent and no later one, since each of the eight senders has a
+/// capacity of 1,024.
 fn assert_first_sent(rt: &impl Abort, replies: &[Reply<char>]) {
     assert_eq!(rt; replies.len(), 10_000);
     assert!(rt;

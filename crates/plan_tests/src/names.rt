@@ -1,3 +1,5 @@
+//! Tests of the names that errors show.
+
 use plan_collect::{CollectFault, CollectorFault, PlanFault, SpanFault};
 use plan_grammar::{RuleCause, RuleFault};
 use plan_mailbox::NewFault;
@@ -9,7 +11,7 @@ use std::fmt::Display;
 use std::process::Abort;
 use std::test::Fail;
 
-// The fault shows this name.
+// Checks that the error shows this name.
 fn assert_name(
     rt: &(impl Abort + AllocGlobal),
     fault: &impl Display,
@@ -20,7 +22,7 @@ fn assert_name(
     Ok(())
 }
 
-// The cause shows this name, and so does a fault in a part that it is the cause of.
+// Checks that the cause shows this name, and that the error of a part with this cause shows it too.
 fn assert_rule_name(
     rt: &(impl Abort + AllocGlobal),
     cause: RuleCause,
@@ -46,7 +48,7 @@ fn names_of_the_faults_of_rules(rt: HostRuntime) -> Result<(), Fail> {
     assert_rule_name(&rt, RuleCause::Specifier, "Specifier")
 }
 
-// The cause of a fault in a line shows this name.
+// Checks that the error of a line with this cause shows this name.
 fn assert_line_name(
     rt: &(impl Abort + AllocGlobal),
     cause: LineCause,
@@ -55,7 +57,7 @@ fn assert_line_name(
     assert_name(rt, &LineFault { line: 3, cause }, name)
 }
 
-// A rule's fault in a line.
+// Returns the error of a rule, as the cause of the error of a line.
 fn rule_fault(part: u8, cause: RuleCause) -> LineCause {
     LineCause::Rule(RuleFault { part, cause })
 }
@@ -75,7 +77,7 @@ fn names_of_the_faults_of_lines(rt: HostRuntime) -> Result<(), Fail> {
     assert_line_name(&rt, LineCause::TooManyLines, "TooManyLines")
 }
 
-// A job without starts.
+// Returns a job without starts.
 fn job(alloc: Global) -> Result<Job, Fail> {
     Ok(timer(alloc, "a.timer", b"[Timer]\n")?)
 }

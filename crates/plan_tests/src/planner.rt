@@ -1,3 +1,5 @@
+//! A test of `run_planner`: the messages that a planner sends.
+
 ghost use Rattle.std.specs.Prelude.{◌≡◌, [], IfOk, Some, slice_get};
 ghost use Rattle.plan_mailbox.specs.Ends.{inlet_of, outlet_of};
 
@@ -9,7 +11,7 @@ use std::alloc::Global;
 use std::process::Abort;
 use std::test::Fail;
 
-// The outlet and the inlet of a ring with room for two notes.
+// Returns the outlet and the inlet of a ring with a capacity of two messages.
 fn ends_of_one(alloc: Global) -> Result<(Outlet<Note>, Inlet<Note>), Fail>
     ensures { IfOk result (λ ends. ((outlet_of ends.0).sender ≡ 0)
         × (slice_get (inlet_of ends.1).rings 0 ≡ Some (outlet_of ends.0).ring)
@@ -25,12 +27,12 @@ fn ends_of_one(alloc: Global) -> Result<(Outlet<Note>, Inlet<Note>), Fail>
     Ok((outlet, inlet))
 }
 
-// What comes next.
+// Takes the next message.
 fn take(inlet: &mut Inlet<Note>) -> Option<(usize, Note)> {
     inlet.try_take()
 }
 
-// The next note is a piece of two minutes of sender 0, of the first job.
+// Checks that the next message is a piece of two minutes, of sender 0 and the first job.
 fn assert_piece(rt: &impl Abort, inlet: &mut Inlet<Note>) -> Result<(), Fail> {
     let Some((0, Note::Part(0, piece))) = take(inlet) else {
         return Err(Fail::from("no piece"));

@@ -1,3 +1,5 @@
+//! Tests of `plan`: its planners run at the same time, and each one arrives at the gate once.
+
 use crate::collector::{span, user_jobs};
 use plan_collect::{CollectFault, PlanFault, Sizes};
 use plan_threads::{Gate, plan};
@@ -9,7 +11,7 @@ use std::test::Fail;
 use std::thread;
 use std::thread::Threads;
 
-// A gate at which each of two planners waits a while for the other.
+// A gate at which each of two planners waits for a while for the other.
 #[derive(Drop)]
 struct Meeting {
     arrived: [AtomicBool; 2],
@@ -32,12 +34,13 @@ impl Gate for Meeting {
     }
 }
 
-// Two flags that are down.
+// Returns two flags that are not set.
 fn two_flags() -> [AtomicBool; 2] {
     [AtomicBool::new(false), AtomicBool::new(false)]
 }
 
-// How many starts so many planners, who arrive at this gate, find in a night, or why they make no plan.
+// Plans a night with this many planners, which arrive at this gate. Returns the number of starts, or why there
+// is no plan.
 fn starts_of_a_night<R: Abort + AllocGlobal + Threads + Wait + Sync, G: Gate>(
     rt: &R,
     crontab: &str,
@@ -70,7 +73,7 @@ fn two_planners_run_at_the_same_time(rt: HostRuntime) -> Result<(), Fail> {
     Ok(())
 }
 
-// A gate that counts how often each of eight planners arrives, and any other.
+// A gate that counts how often each of eight planners arrives, and how often any other does.
 #[derive(Drop)]
 struct Counts {
     arrived: [AtomicU64; 8],
@@ -87,7 +90,7 @@ impl Gate for Counts {
     }
 }
 
-// A gate at which nobody arrived.
+// Returns a gate at which nobody has arrived.
 fn no_counts() -> Counts {
     Counts {
         arrived: [
@@ -104,7 +107,7 @@ fn no_counts() -> Counts {
     }
 }
 
-// So many planners, each with room for one note, make this of a crontab, and each arrives once.
+// Checks what this many planners, each with a capacity of one message, make of a crontab, and that each arrives once.
 fn assert_arrive(
     rt: &(impl Abort + AllocGlobal + Threads + Wait + Sync),
     crontab: &str,
@@ -131,7 +134,8 @@ fn assert_arrive(
 const TEN: &str =
     "@daily a\n@daily b\n@daily c\n@daily d\n@daily e\n@daily f\n@daily g\n@daily h\n@daily i\n@daily j\n";
 
-// Where the second note is one too many, those that are full are still heard to their end.
+// If a message has one start too many, the plan fails, but planners whose rings are full are still heard until
+// they end.
 #[test]
 fn each_planner_arrives_once_and_a_refusal_ends_the_plan(rt: HostRuntime) -> Result<(), Fail> {
     for planners in [1, 2, 8] {

@@ -1,8 +1,15 @@
-//! A mailbox behind a lock, with two and three senders, and threads that use it at once.
+//! Tests of a mailbox behind a lock, with two and three senders, also with threads that use it at the same time.
 //!
-//! What a thread does is a text of steps, with a space between them. A step is the digit of a sender, a sign, and the letter of a
-//! message: `1+a` sender 1 sends a; `1!a` the same, but a comes back, since the sender is shut; `1-a` a is taken of sender 1; `1.` sender 1
-//! is shut; `1:` it was shut before; `$` no message will come; `~2` two steps get done, by all threads, and no third within a while.
+//! What a thread does is a text of steps, with a space between them. A step is the digit of a sender, a sign,
+//! and the letter of a message:
+//!
+//! - `1+a`: sender 1 sends `a`.
+//! - `1!a`: the same, but `a` comes back, since the sender is closed.
+//! - `1-a`: a take gives `a` of sender 1.
+//! - `1.`: sender 1 is closed.
+//! - `1:`: sender 1 was closed before.
+//! - `$`: a take gives the answer that no message will come.
+//! - `~2`: two steps get done, by all threads together, and no third within a while.
 use plan_mailbox::{Locked, Reply};
 use std::process::Abort;
 use std::sync::Wait;
@@ -12,12 +19,12 @@ use std::test::Fail;
 use std::thread;
 use std::thread::Threads;
 
-// The number that a digit writes.
+// Returns the number of a digit.
 fn number(digit: u8) -> u8 {
     digit.wrapping_sub(b'0')
 }
 
-// What the mailbox replies to a step, and what it is to reply.
+// Does a step, and returns the mailbox's reply and the wanted reply.
 fn take_step<R: Wait>(rt: &R, locked: &Locked<u8>, step: &[u8]) -> (Reply<u8>, Reply<u8>) {
     let sender = match step.first() {
         Some(digit) => usize::from(number(*digit)),
@@ -33,7 +40,7 @@ fn take_step<R: Wait>(rt: &R, locked: &Locked<u8>, step: &[u8]) -> (Reply<u8>, R
     }
 }
 
-// So many steps get done, and no more within a while.
+// Waits until this many steps are done, and checks that no more get done within a while.
 fn assert_done(rt: &impl Abort, done: &AtomicU64, wanted: u64) {
     for _ in 0..10_000_000 {
         if done.load(SeqCst) >= wanted {
@@ -47,7 +54,7 @@ fn assert_done(rt: &impl Abort, done: &AtomicU64, wanted: u64) {
     }
 }
 
-// Takes the steps of a text, and counts them when they are done.
+// Does the steps of a text, and counts each one that is done.
 fn play<R: Wait + Abort>(rt: &R, locked: &Locked<u8>, done: &AtomicU64, steps: &str) {
     for step in steps.split(' ') {
         if let [b'~', wanted] = step.as_bytes() {
@@ -60,7 +67,7 @@ fn play<R: Wait + Abort>(rt: &R, locked: &Locked<u8>, done: &AtomicU64, steps: &
     }
 }
 
-// Three threads take the steps of these texts on a new mailbox, at once.
+// Does the steps of three texts on a new mailbox, in three threads at the same time.
 fn assert_at_once<R: Threads + Wait + Abort + AllocGlobal + Sync>(
     rt: &R,
     senders: usize,
@@ -84,7 +91,7 @@ fn assert_at_once<R: Threads + Wait + Abort + AllocGlobal + Sync>(
     Ok(())
 }
 
-// One thread takes the steps of a text on a new mailbox.
+// Does the steps of a text on a new mailbox, in one thread.
 fn assert_plays<R: Wait + Abort + AllocGlobal>(
     rt: &R,
     senders: usize,
@@ -96,7 +103,7 @@ fn assert_plays<R: Wait + Abort + AllocGlobal>(
     Ok(())
 }
 
-// By the rule of the turn: the sender after the one of whom a message was taken is the first that is looked at.
+// The rule of the turn: a take checks first the sender after the one that gave the last message.
 #[test]
 fn the_turn_goes_round_the_senders(rt: HostRuntime) -> Result<(), Fail> {
     assert_plays(&rt, 2, 2, "1+c 0+a 0+b 1+d 0-a 1-c 0-b 1-d 0. 1. $")?;
@@ -111,7 +118,7 @@ fn the_turn_goes_round_the_senders(rt: HostRuntime) -> Result<(), Fail> {
 
 #[test]
 fn room_and_marks_are_those_of_one_sender(rt: HostRuntime) -> Result<(), Fail> {
-    // The others are full, and then shut.
+    // The other senders are full, and then closed.
     assert_plays(&rt, 3, 2, "0+a 0+b 1+c 1+d 2+e 2+f 0-a 0+g 1-c 1+h 2-e 2+i")?;
     assert_plays(
         &rt,
@@ -124,16 +131,16 @@ fn room_and_marks_are_those_of_one_sender(rt: HostRuntime) -> Result<(), Fail> {
 
 #[test]
 fn who_waits_and_what_wakes(rt: HostRuntime) -> Result<(), Fail> {
-    // A take, until another sender that is open sends.
+    // A take waits until another sender, which is open, sends.
     assert_at_once(&rt, 2, 1, ["1-a", "0.", "~1 1+a"])?;
-    // Two takes, until the last sender is shut.
+    // Two takes wait until the last sender is closed.
     assert_at_once(&rt, 2, 1, ["$", "$", "~0 0. ~1 1."])?;
-    // A third message where there is room for two, until one of the same sender is taken.
+    // With a capacity of two, a third message waits until one of the same sender is taken.
     assert_at_once(&rt, 2, 2, ["1+a 1+b 1+c", "0+x", "~3 0-x ~4 1-a 1-b 1-c"])?;
-    // Two sends, each until its own message before is taken; one waits first, or the other.
+    // Two sends wait, each until its own earlier message is taken. Either of them may be the first to wait.
     let takes = "2. ~4 0-a ~6 1-c ~8 0-b 1-d";
     assert_at_once(&rt, 3, 1, ["0+a ~3 2!x 0+b", "1+c 1+d", takes])?;
     assert_at_once(&rt, 3, 1, ["0+a 0+b", "1+c ~3 2!x 1+d", takes])?;
-    // Two sends, each until its own sender is shut.
+    // Two sends wait, each until its own sender is closed.
     assert_at_once(&rt, 2, 1, ["0+a 0!b", "1+c 1!d", "~2 1. ~4 0. 0-a 1-c $"])
 }

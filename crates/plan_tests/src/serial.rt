@@ -1,3 +1,5 @@
+//! Tests of `plan_serial`, which plans without threads: sizes of agendas, and limits.
+
 use crate::collector::{EVERY_MINUTE, assert_entry, span, user_jobs};
 use plan_collect::{Agenda, CollectFault, PlanFault};
 use plan_rules::Jobs;
@@ -6,10 +8,10 @@ use std::alloc::Global;
 use std::process::Abort;
 use std::test::Fail;
 
-// The start of 2024.
+// The first second of 2024.
 const NEW_YEAR: u64 = 1_704_067_200;
 
-// What one planner makes of jobs over so many minutes from the start of 2024 on.
+// Plans jobs with one planner, over this many minutes from the start of 2024.
 fn planned(
     alloc: Global,
     jobs: &Jobs,
@@ -21,7 +23,7 @@ fn planned(
     Ok(plan_serial(alloc, jobs, span, limit))
 }
 
-// The agenda has a start in each minute from the start of 2024 on.
+// Checks that the agenda has one start in each minute from the start of 2024.
 fn assert_minutes(rt: &impl Abort, agenda: &Agenda) {
     assert!(rt; agenda.is_empty() == (agenda.len() == 0));
     let mut second = NEW_YEAR;
@@ -32,7 +34,7 @@ fn assert_minutes(rt: &impl Abort, agenda: &Agenda) {
     assert_entry(rt, agenda, agenda.len(), None);
 }
 
-// One planner makes an agenda of the first minutes, so many of them, or fails so.
+// Checks how many starts one planner finds in this many minutes, or why it makes no agenda.
 fn assert_planned(
     rt: &(impl Abort + AllocGlobal),
     crontab: &str,

@@ -1,9 +1,11 @@
+//! Tests of which names timers may have, as far as no file can have them.
+
 use plan_rules::{LineCause, LineFault, timer};
 use std::alloc::Global;
 use std::process::Abort;
 use std::test::Fail;
 
-// Whether this is a name of a timer.
+// Returns whether this is a name of a timer.
 fn is_name(rt: &impl AllocGlobal, name: &str) -> bool {
     let fault = timer(rt.alloc(), name, b"[Timer]").err();
     let bad = LineFault {
@@ -13,7 +15,7 @@ fn is_name(rt: &impl AllocGlobal, name: &str) -> bool {
     fault != Some(bad)
 }
 
-// A name of so many bytes, of which the last are `.timer`.
+// Returns a name of this many bytes that ends with `.timer`.
 fn long_name(alloc: Global, length: usize) -> Result<String, Fail> {
     let mut name = String::new(alloc);
     for _ in 6..length {
@@ -23,7 +25,7 @@ fn long_name(alloc: Global, length: usize) -> Result<String, Fail> {
     Ok(name)
 }
 
-// Names that no file has, but for that of 255 bytes.
+// No file can have these names, except the one of 255 bytes.
 #[test]
 fn refused_names(rt: HostRuntime) -> Result<(), Fail> {
     assert!(rt; !is_name(&rt, ""));

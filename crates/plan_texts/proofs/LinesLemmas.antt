@@ -1,6 +1,7 @@
--- Where a text may be cut at its blanks, and how its lines are found.
--- For `after_blanks`, `cut_word`, `word_len` and the clauses of `lines`. A blank is ASCII, so beside it a text may be
--- cut. The lines go by induction over the bytes; the hard part is the empty last piece that `without_empty_end` drops.
+-- At which blanks a text may be cut, and how its lines are found.
+-- For `after_blanks`, `cut_word`, `word_len` and the clauses of `lines`. A blank is ASCII, so a text may be cut before
+-- or after it. The proofs about lines are by induction over the bytes; the hard part is the empty last piece that
+-- `without_empty_end` drops.
 use Rattle.std.proofs.Common.{◌≡◌, ℕ, zero, suc, ◌+◌, ◌-◌, ◌<◌, ◌≤◌, Bool, true, false, not, cond, ◌==◌, eqb, List, [], ◌∷◌, length, take, get_or, map, Option, Some, None, unwrap_or, refl, ap, sym, ◌∙◌, arith, inl, inr, position}
 use Rattle.std.proofs.lemmas.Bool.{cases_lt, lt-ltb, le-ltb}
 use Rattle.std.proofs.lemmas.Bool.Decides.{nat_tests, Decides-eqb}
@@ -20,7 +21,7 @@ use Rattle.plan_texts.specs.Lines.{without_empty_end, lines, written, with_newli
 pub blank_ascii : (b : ℕ) → is_blank b ≡ true → b < 128
 blank_ascii b is = grind (arith, nat_tests)
 
--- past the blanks in front a text may be cut
+-- a text may be cut after its leading blanks
 pub boundary_after_blanks : (text : List ℕ) → IsUtf8 text → IsCharBoundary text (prefix_len is_blank text)
 boundary_after_blanks text utf8 =
     elim (cases_lt 0 (prefix_len is_blank text)) as (λ _. IsCharBoundary text (prefix_len is_blank text)) [
@@ -38,7 +39,7 @@ boundary_after_blanks text utf8 =
           rw zero_is (IsCharBoundary-start text utf8)
     ]
 
--- before the first blank a text may be cut
+-- a text may be cut before its first blank
 pub boundary_before_blank : (text : List ℕ) → IsUtf8 text → IsCharBoundary text (position_or_len is_blank text)
 boundary_before_blank text utf8 =
     elim (cases_lt (position_or_len is_blank text) (length text)) as (λ _. IsCharBoundary text (position_or_len is_blank text)) [
@@ -50,7 +51,7 @@ boundary_before_blank text utf8 =
           rw all (IsCharBoundary-end text)
     ]
 
--- the place of the first that passes, or the end
+-- the place of the first element that passes the test, or the end
 pub unwrap_or-position : (p : ℕ → Bool) (xs : List ℕ) → unwrap_or (position p xs) (length xs) ≡ position_or_len p xs
 unwrap_or-position p xs =
     elim (cases_lt (position_or_len p xs) (length xs)) as (λ _. unwrap_or (position p xs) (length xs) ≡ position_or_len p xs) [
@@ -67,7 +68,7 @@ ahead : (b : Bool) (y : List ℕ) (xs ys : List (List ℕ)) → y ∷ cond b xs 
 ahead true y xs ys = refl
 ahead false y xs ys = refl
 
--- without an empty last piece
+-- a list of pieces without its last piece, if that is empty
 without_empty_end-last :
     (ys : List (List ℕ)) (n : ℕ) (d : List ℕ) → length ys ≡ suc n →
     without_empty_end ys ≡ cond (eqb (length (get_or ys n d)) 0) (take n ys) ys
@@ -83,7 +84,7 @@ map-cond : {A : Type 0} (v : A → List ℕ) (b : Bool) (xs ys : List A) → map
 map-cond v true xs ys = refl
 map-cond v false xs ys = refl
 
--- the last piece is dropped where it is empty
+-- the last piece is dropped if it is empty
 pub dropped_where_empty :
     {A B : Type 0} (v : A → List ℕ) (w : B → A) (all : List A) (last : Option B) (empty : Bool) →
     option_map w last ≡ slice_get all (length all - 1) → MatchOption last (empty ≡ false) (λ x. empty ≡ eqb (length (v (w x))) 0) →
@@ -137,14 +138,14 @@ length-lines text = length-split (λ b. b == 10) text
 
 -- ---- a text and its lines
 
--- the pieces of a text that isn't empty: no piece alone is empty
+-- the pieces of a text that isn't empty: they are not just one empty piece
 abbrev AreSome : List (List ℕ) → Type 0
 AreSome [] = ⊥
 AreSome ([] ∷ []) = ⊥
 AreSome ((b ∷ bs) ∷ []) = Unit {0}
 AreSome (piece ∷ next ∷ more) = Unit {0}
 
--- there is a piece
+-- there is at least one piece
 abbrev IsPiece : List (List ℕ) → Type 0
 IsPiece [] = ⊥
 IsPiece (piece ∷ more) = Unit {0}
@@ -205,7 +206,7 @@ one_more :
 one_more x true pieces is some = written_behind pieces some ∙ ap (λ y. y ∷ written (without_empty_end pieces)) (sym (is refl))
 one_more x false pieces is some = written_onto x pieces some
 
--- the lines, each with a newline behind it, are the text with a newline at its end
+-- the lines, each with a newline after it, are the text with a newline at its end
 written-split : (text : List ℕ) → written (without_empty_end (slice_split (λ b. b == 10) text)) ≡ with_newline text
 written-split [] = refl
 written-split (x ∷ []) = one_byte x (x == 10) (Decides-eqb x 10).0
@@ -240,7 +241,7 @@ none_without_end (line ∷ next ∷ more) none =
     All-cons HasNoNewline line (without_empty_end (next ∷ more)) (All-head HasNoNewline line (next ∷ more) none)
     (none_without_end (next ∷ more) (All-tail HasNoNewline line (next ∷ more) none))
 
--- and no newline stands in a line
+-- no line contains a newline
 pub none_in_lines : (text : List ℕ) → All HasNoNewline (lines text)
 unfolding lines
 none_in_lines text = none_without_end (slice_split (λ b. b == 10) text) (none_in_split text)

@@ -1,5 +1,5 @@
--- What the decimal text of a number writes: `number_of-decimal` is for clause `written` of `number`. What std knows of
--- decimal texts holds for `digits_after` too, as that is a fold over the digits (`own`).
+-- The number that the decimal text of a number writes: `number_of-decimal` is for clause `written` of `number`. What
+-- std proves about decimal texts also holds for `digits_after`, since that is a fold over the digits (`own`).
 use Rattle.std.proofs.Common.{◌≡◌, ℕ, suc, ◌-◌, ◌<◌, ◌≤◌, ◌^◌, Bool, true, false, ◌&&◌, cond, nat_le, List, [], ◌∷◌, length, Option, Some, None, refl, ap, arith, rules, IfSome}
 use Rattle.std.specs.Char.{is_ascii_digit}
 use Rattle.std.specs.Fmt.{decimal}
@@ -10,14 +10,14 @@ use Rattle.std.proofs.lemmas.Fmt.{decimal_nonempty, length-decimal-le, digits_de
 use Rattle.std.proofs.lemmas.Str.Parse.{IsNumeralModel, numerals_by_fold}
 use Rattle.plan_texts.specs.Text.{digits_after, number_of}
 
--- decimal digits and their value, as the library knows them
+-- decimal digits and their value, as the library defines them
 own : IsNumeralModel (λ ds. list_all is_ascii_digit ds ≡ true) (digits_after 0)
 own = numerals_by_fold _ (search rules) digits_after (search rules)
 
 guarded : (a b c : Bool) (value n : ℕ) → a ≡ true → b ≡ true → c ≡ true → value ≡ n → cond (a && (b && c)) (Some value) None ≡ Some n
 guarded a b c value n p q r is = rw (p, q, r) (ap Some is)
 
--- the decimal text of a number below 10,000 is that number
+-- the decimal text of a number below 10,000 writes that number
 pub number_of-decimal : (n : ℕ) → n < 10000 → number_of (decimal n) ≡ Some n
 unfolding number_of
 number_of-decimal n small =

@@ -1,6 +1,6 @@
 -- How a cut is found from left to right.
 -- For the loop of `cut`: its start, a place that is passed, the place of the mark, and the end (`cut_none`, `cut_more`,
--- `cut_found`, `cut_all`). `cut_at` is unfolded at one byte; `after_text` puts the passed bytes in front.
+-- `cut_found`, `cut_all`). `cut_at` is unfolded at one byte; `after_text` puts the passed bytes before the cut.
 use Rattle.std.proofs.Common.{◌≡◌, ℕ, ◌+◌, ◌<◌, ◌≤◌, arith, true, false, nat_eq, List, [], ◌∷◌, ◌++◌, length, take, drop, get_or, Option, Some, None, refl, ap, sym, ◌∙◌, append_assoc, append-nil, take-append-drop}
 use Rattle.std.proofs.lemmas.Bool.Decides.{Decides-eqb}
 use Rattle.std.proofs.lemmas.List.{take_more, drop_more, drop_all}
@@ -33,11 +33,11 @@ cut_at-empty : (mark : List ℕ) → cut_at mark [] ≡ None
 unfolding cut_at
 cut_at-empty mark = refl
 
--- before the first byte nothing was passed
+-- at the start no byte was passed
 pub cut_none : (mark text : List ℕ) → cut_at mark text ≡ after_text (take 0 text) (cut_at mark (drop 0 text))
 cut_none mark text = sym (after_text-empty (cut_at mark text))
 
--- where the mark does not stand at a place, that place is passed
+-- a place is passed if the mark isn't there
 pub cut_more :
     (mark text : List ℕ) (at : ℕ) → at < length text → starts_with nat_eq (drop at text) mark ≡ false →
     cut_at mark text ≡ after_text (take at text) (cut_at mark (drop at text)) →
@@ -52,7 +52,7 @@ cut_more mark text at inside later so_far =
     ∙ after_text-after_text (take at text) (get_or text at 0 ∷ []) (cut_at mark rest)
     ∙ ap (λ front. after_text front (cut_at mark rest)) (sym (take_more text at 0 inside))
 
--- where it stands, the text is cut there
+-- if the mark is there, the text is cut there
 pub cut_found :
     (mark text : List ℕ) (at : ℕ) → at < length text → starts_with nat_eq (drop at text) mark ≡ true →
     cut_at mark text ≡ after_text (take at text) (cut_at mark (drop at text)) →
@@ -67,7 +67,7 @@ cut_found mark text at inside here so_far =
     ∙ ap (λ front. Some (front, drop (length mark) (get_or text at 0 ∷ rest))) (append-nil (take at text))
     ∙ ap (λ tail. Some (take at text, drop (length mark) tail)) (sym split)
 
--- past the last place the mark was not found
+-- after the last place: the mark was not found
 pub cut_all :
     (mark text : List ℕ) (at : ℕ) → length text ≤ at → cut_at mark text ≡ after_text (take at text) (cut_at mark (drop at text)) →
     cut_at mark text ≡ None
@@ -75,7 +75,7 @@ cut_all mark text at past so_far =
     so_far ∙ ap (λ tail. after_text (take at text) (cut_at mark tail)) (drop_all at text past)
     ∙ ap (after_text (take at text)) (cut_at-empty mark)
 
--- a text with a mark at a place: what stands before it, the mark, and what follows
+-- a text with a mark at a place: what comes before it, the mark, and what follows
 pub again :
     (mark text : List ℕ) (at : ℕ) → stands_at mark text at ≡ true →
     text ≡ take at text ++ (mark ++ drop (length mark) (drop at text))
@@ -83,6 +83,6 @@ again mark text at here =
     sym (take-append-drop at text)
     ∙ ap (λ rest. take at text ++ rest) ((starts_is Decides-eqb (drop at text) mark (starts_with nat_eq (drop at text) mark) refl).0 here)
 
--- a mark that stands nowhere before a place stands nowhere before an earlier one
+-- a mark that is nowhere before a place is nowhere before an earlier one
 pub nowhere_earlier : (mark text : List ℕ) (end at : ℕ) → end ≤ at → StandsNowhereBefore mark text at → StandsNowhereBefore mark text end
 nowhere_earlier mark text end at less nowhere = λ place below. nowhere place (omega arith)

@@ -1,6 +1,6 @@
--- Whole lines: where a text may be cut before what stands at its end, and how lines are joined one by one.
--- For `trimmed`, and for the loop of `joined`, whose invariant adds to the lines so far those from a place on
--- (`rest_from`). The text reversed gives the blanks at its end; one line more goes by whether it is a comment.
+-- Whole lines: where a text may be cut before its trailing blanks, and how lines are merged one by one.
+-- For `trimmed`, and for the loop of `joined`. Its invariant adds the lines from a place on (`rest_from`) to the lines
+-- so far. The reversed text gives the blanks at the end. One more line is a case split on whether it is a comment.
 use Rattle.std.proofs.Common.{◌≡◌, ℕ, ◌+◌, ◌-◌, ◌<◌, ◌≤◌, Bool, true, false, not, cond, List, [], ◌∷◌, length, drop, get_or, filter, map, reverse, refl, ap, sym, ◌∙◌, arith, inl, inr}
 use Rattle.std.proofs.lemmas.Bool.{cases_lt}
 use Rattle.std.proofs.lemmas.List.{drop_more, drop_all, drop-map, get_or-reverse}
@@ -13,7 +13,7 @@ use Rattle.plan_texts.specs.WholeLines.{line_text, is_comment, with_line, number
 use Rattle.plan_texts.specs.Joining.{with_raw_line}
 use Rattle.plan_texts.proofs.LinesLemmas.{blank_ascii}
 
--- the first of those at the end that pass
+-- the first of the elements at the end that pass the test
 suffix_first : (p : ℕ → Bool) (text : List ℕ) → 0 < suffix_len p text → p (get_or text (length text - suffix_len p text) 0) ≡ true
 suffix_first p text some =
     let n = suffix_len p text in
@@ -23,7 +23,7 @@ suffix_first p text some =
     let place : length text - 1 - (n - 1) ≡ length text - n = omega arith in
     sym (ap p (get_or-reverse text (n - 1) 0 inside ∙ ap (λ k. get_or text k 0) place)) ∙ prefix_len_passes p (reverse text) (n - 1) 0 last
 
--- before the blanks at its end a text may be cut
+-- a text may be cut before its trailing blanks
 pub boundary_before_blanks : (text : List ℕ) → IsUtf8 text → IsCharBoundary text (length text - suffix_len is_blank text)
 boundary_before_blanks text utf8 =
     let n = suffix_len is_blank text in
@@ -50,7 +50,7 @@ comment_or_line :
 comment_or_line true line more = refl
 comment_or_line false line more = refl
 
--- one line more
+-- one more line
 pub rest_more :
     {A : Type 0} (v : A → List ℕ) (lines : List A) (place : ℕ) (d : A) → place < length lines →
     rest_from place (map v lines) ≡ with_raw_line (place + 1) (v (get_or lines place d)) (rest_from (place + 1) (map v lines))
@@ -63,7 +63,7 @@ rest_more v lines place d inside =
     ∙ comment_or_line (is_comment (line_text line)) (place + 1, line_text line)
     (filter (λ l. not (is_comment l.1)) (enumerate_from (place + 1 + 1) (map line_text (drop (place + 1) (map v lines)))))
 
--- past the last line nothing follows
+-- after the last line nothing follows
 pub rest_all : {A : Type 0} (v : A → List ℕ) (lines : List A) (place : ℕ) → length lines ≤ place → rest_from place (map v lines) ≡ []
 rest_all v lines place past =
     ap (λ left. joined (filter (λ l. not (is_comment l.1)) (enumerate_from (place + 1) (map line_text left))))

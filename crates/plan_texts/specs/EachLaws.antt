@@ -1,4 +1,4 @@
--- How a list is read from left to right: laws of `each`, by which a loop over a list is the reading of the list.
+-- How a list is read from left to right: laws of `each`. With them, a loop over a list is proved to read the list.
 use Rattle.std.proofs.Common.{◌≡◌, ℕ, ◌+◌, ◌<◌, List, [], ◌∷◌, ◌++◌, length, take, drop, get_or, map, Option, Some, None, Ok, Err, refl, ap, sym, ◌∙◌, take-append-drop, Result}
 use Rattle.std.proofs.lemmas.List.{drop_more, map-append}
 use Rattle.std.specs.Iterator.{Yields}
@@ -32,7 +32,7 @@ pub each-append :
 each-append f [] ys = sym (then_ok (each f ys))
 each-append f (x ∷ xs) ys = each_cons f xs ys (f x) (each-append f xs ys)
 
--- one element more, read without a fault
+-- one more element, read without an error
 pub each-push :
     {A B E : Type 0} (f : A → Result B E) (xs : List A) (ys : List B) (x : A) (y : B) → each f xs ≡ Ok ys → f x ≡ Ok y →
     each f (xs ++ x ∷ []) ≡ Ok (ys ++ y ∷ [])
@@ -49,7 +49,7 @@ fault_first f xs rest ys x e so_far here =
     ∙ ap (λ r. r >>= λ front. each f (x ∷ rest) >>= λ back. Ok (front ++ back)) so_far
     ∙ ap (λ r. (r >>= λ z. each f rest >>= λ zs. Ok (z ∷ zs)) >>= λ back. Ok (ys ++ back)) here
 
--- the first faulty element decides
+-- the first element with an error decides
 pub each-fault :
     {A B E : Type 0} (f : A → Result B E) (all : List A) (k : ℕ) (ys : List B) (x : A) (e : E) → k < length all →
     x ≡ get_or all k x → each f (take k all) ≡ Ok ys → f x ≡ Err e → each f all ≡ Err e
@@ -59,7 +59,7 @@ each-fault f all k ys x e inside is so_far here =
     (λ y. take k all ++ y ∷ drop (k + 1) all) (sym is) in
     ap (each f) whole ∙ fault_first f (take k all) (drop (k + 1) all) ys x e so_far here
 
--- a loop over an iterator, which has read what was yielded so far: the next element is faulty, and so the whole list is
+-- a loop over an iterator: if the elements so far were read, and the next one has an error, then the whole list has that error
 pub each-turn :
     {S A B C E : Type 0} {steps : S → Option A → S → Type 0} {v : A → B} {s : S} {all : List B} (f : B → Result C E)
     (road : YieldsList steps v s all) (xs : List A) (t : S) (y : Yields steps s xs t) (r : Option A) (u : S) (x : A) →
@@ -77,7 +77,7 @@ each-end f road xs t y r u is step ys so_far =
     let done = YieldsList-end road xs t y r u is step in
     ap (each f) (sym done.0) ∙ so_far
 
--- one element more was read
+-- one more element was read
 pub each-step :
     {A B C E : Type 0} (f : B → Result C E) (v : A → B) (xs : List A) (x : A) (ys : List C) (y : C) → each f (map v xs) ≡ Ok ys →
     f (v x) ≡ Ok y → each f (map v (xs ++ x ∷ [])) ≡ Ok (ys ++ y ∷ [])

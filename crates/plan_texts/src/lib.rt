@@ -1,7 +1,7 @@
-//! Texts: their words, pieces and numbers, and their lines.
+//! Cuts texts into words, pieces and lines, and reads numbers.
 //!
-//! It stands on no crate of the project, and knows nothing of rules. Open `parts` first; `lines` and `whole_lines` are the two ways in
-//! which a file's text is cut, cron's and systemd's.
+//! This crate depends on no crate of the project, and knows nothing of rules. Read `parts` first. `lines` and
+//! `whole_lines` split the text of a file: crontabs have lines, and unit files of systemd have whole lines.
 #![tactic(auto)]
 
 pub mod lines;

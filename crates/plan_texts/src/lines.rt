@@ -1,4 +1,4 @@
-//! The lines of a text, and the words in front of a line.
+//! Splits a text into its lines, and a line into its first word and the rest.
 
 ghost use Rattle.std.specs.Prelude.{◌≡◌, ◌≤◌, IfOk, length, map};
 ghost use Rattle.std.specs.List.{All, prefix_len, position_or_len};
@@ -9,22 +9,29 @@ ghost use Rattle.plan_texts.specs.Lines.{is_too_large, lines, written, with_newl
 use crate::parts::is_blank;
 use std::alloc::{AllocError, Global};
 
-/// How many bytes a text of lines has at most.
+/// The maximum size of a text of lines, in bytes.
 pub const MOST_BYTES: usize = 1_048_576;
 
-/// Whether a text of lines is too large: it has more than 1,048,576 bytes.
+/// Returns whether a text of lines is too large: it has more than 1,048,576 bytes.
 pub fn is_too_large(text: &[u8]) -> bool
     ensures { result ≡ is_too_large text.now }
 {
     text.len() > MOST_BYTES
 }
 
-/// The lines of a text: each ends at a newline or at the end of the text, and what follows the last newline is a line only
-/// where it isn't empty. A carriage return is an ordinary character.
+/// Returns the lines of a text, without their newlines.
+///
+/// Each line ends at a newline or at the end of the text. What follows the last newline is a line only if it
+/// isn't empty. A carriage return is an ordinary character.
+///
+/// # Errors
+///
+/// `AllocError` if an allocation fails.
 #[tactic(auto, unfolding(crate::specs::Lines::lines))]
 pub fn lines(alloc: Global, text: &str) -> Result<Vec<&str>, AllocError>
     ensures value { IfOk result (λ found. map (λ line. line.now) found.items ≡ lines text.now) }
-    // Each with a newline behind it, the lines are the text again; where no newline ends the text, one is added.
+    // With a newline after each line, the lines are the text again. If the text doesn't end with a newline, one
+    // is added.
     ensures again { IfOk result (λ found.
         written (map (λ line. line.now) found.items) ≡ with_newline text.now) }
     ensures no_newline { IfOk result (λ found. All HasNoNewline (map (λ line. line.now) found.items)) }
@@ -37,14 +44,14 @@ pub fn lines(alloc: Global, text: &str) -> Result<Vec<&str>, AllocError>
     Ok(lines)
 }
 
-// How many blanks stand in front of a text.
+// Returns how many blanks a text begins with.
 fn blanks_in_front(text: &[u8]) -> usize
     ensures { result ≡ prefix_len is_blank text.now }
 {
     text.iter().take_while(|byte| is_blank(**byte)).count()
 }
 
-// How many bytes stand before the first blank of a text.
+// Returns how many bytes come before the first blank of a text.
 fn word_len(text: &[u8]) -> usize
     ensures { result ≡ position_or_len is_blank text.now }
 {
@@ -53,14 +60,14 @@ fn word_len(text: &[u8]) -> usize
         .unwrap_or(text.len())
 }
 
-/// A text without the blanks in front of it.
+/// Returns a text without its leading blanks.
 pub fn after_blanks(text: &str) -> &str
     ensures { result.now ≡ after_blanks text.now }
 {
     &text[blanks_in_front(text.as_bytes())..]
 }
 
-/// The first word of a text and what follows it, or `None` where there are blanks alone.
+/// Returns the first word of a text and what follows it, or `None` if the text has nothing but blanks.
 #[tactic(auto, unfolding(crate::specs::Lines::cut_word))]
 pub fn cut_word(text: &str) -> Option<(&str, &str)>
     ensures { option_map (λ parts. (parts.0.now, parts.1.now)) result ≡ cut_word text.now }

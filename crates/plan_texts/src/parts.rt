@@ -1,4 +1,4 @@
-//! The parts of a text: its words, what stands around a mark, and the number that it writes.
+//! Cuts a text into words, into pieces, or in two at a mark, and reads the number that it writes.
 
 ghost use Rattle.std.specs.Prelude.{◌≡◌, ◌==◌, ℕ, ◌<◌, ◌^◌, ◌++◌, IfOk, IfSome, IfNone, Some, length, map};
 ghost use Rattle.std.specs.Char.{is_ascii_alphabetic};
@@ -9,17 +9,21 @@ ghost use Rattle.plan_texts.specs.Text.{is_blank, words, pieces, begins_with, cu
 
 use std::alloc::{AllocError, Global};
 
-/// How many digits a number has at most.
+/// The maximum number of digits of a number.
 const MOST_DIGITS: usize = 4;
 
-/// Whether a byte is a space or a tab.
+/// Returns whether a byte is a space or a tab.
 pub fn is_blank(byte: u8) -> bool
     ensures { result ≡ is_blank byte }
 {
     byte == b' ' || byte == b'\t'
 }
 
-/// The words of a text: what stands between its blanks.
+/// Returns the words of a text: the parts between its blanks.
+///
+/// # Errors
+///
+/// `AllocError` if an allocation fails.
 pub fn words(alloc: Global, text: &[u8]) -> Result<Vec<&[u8]>, AllocError>
     ensures { IfOk result (λ found. map (λ word. word.now) found.items ≡ words text.now) }
 {
@@ -28,28 +32,34 @@ pub fn words(alloc: Global, text: &[u8]) -> Result<Vec<&[u8]>, AllocError>
         .collect(alloc)
 }
 
-/// Whether the first byte of a text is that byte.
+/// Returns whether the first byte of a text is `byte`.
 pub fn begins_with(text: &[u8], byte: u8) -> bool
     ensures { result ≡ begins_with (λ b. b == byte) text.now }
 {
     matches!(text, [first, ..] if *first == byte)
 }
 
-/// Whether a text begins with an ASCII letter.
+/// Returns whether a text begins with an ASCII letter.
 pub fn begins_with_letter(text: &[u8]) -> bool
     ensures { result ≡ begins_with is_ascii_alphabetic text.now }
 {
     matches!(text, [first, ..] if first.is_ascii_alphabetic())
 }
 
-/// The pieces of a text around a byte: n places of that byte give n + 1 pieces.
+/// Splits a text at each `mark`: n marks give n + 1 pieces, which may be empty.
+///
+/// # Errors
+///
+/// `AllocError` if an allocation fails.
 pub fn pieces(alloc: Global, text: &[u8], mark: u8) -> Result<Vec<&[u8]>, AllocError>
     ensures { IfOk result (λ found. map (λ piece. piece.now) found.items ≡ pieces mark text.now) }
 {
     text.split(|byte| *byte == mark).collect(alloc)
 }
 
-/// What stands before and after the first place of a mark, which isn't empty, or `None` where the mark isn't there.
+/// Returns what comes before and after the first `mark` in a text, or `None` if the text doesn't contain it.
+///
+/// The mark must not be empty.
 pub fn cut<'a>(text: &'a [u8], mark: &[u8]) -> Option<(&'a [u8], &'a [u8])>
     requires { 0 < length mark.now }
     ensures value { option_map (λ parts. (parts.0.now, parts.1.now)) result ≡ cut_at mark.now text.now }
@@ -66,12 +76,12 @@ pub fn cut<'a>(text: &'a [u8], mark: &[u8]) -> Option<(&'a [u8], &'a [u8])>
     None
 }
 
-/// The number that 1 to 4 decimal digits write, or `None` where the text is anything else.
+/// Returns the number that 1 to 4 decimal digits write, or `None` for any other text.
 #[tactic(auto, unfolding(crate::specs::Text::number_of))]
 pub fn number(text: &[u8]) -> Option<u16>
     ensures value { result ≡ number_of text.now }
     ensures small { IfSome result (λ n. n < 10 ^ most_digits) }
-    // Of the text of a number below 10,000 it is that number.
+    // The decimal text of a number below 10,000 gives that number.
     ensures written { (n : ℕ) → n < 10 ^ most_digits → text.now ≡ decimal n → result ≡ Some n }
 {
     if text.is_empty() || text.len() > MOST_DIGITS {

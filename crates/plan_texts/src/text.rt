@@ -1,9 +1,9 @@
-//! A text that is kept as it was handed in.
+//! A text that is kept as it was given, and can be borrowed.
 ghost use Rattle.std.specs.Prelude.{◌≡◌, string_bytes};
 
 use std::marker::Model;
 
-/// A text, in UTF-8, which is lent as it was handed in.
+/// A UTF-8 text, kept exactly as it was given.
 #[derive(Debug, Drop)]
 pub struct Text {
     kept: String,
@@ -25,7 +25,7 @@ impl Text {
         Text { kept: text }
     }
 
-    /// The text, lent.
+    /// Borrows the text.
     pub fn as_str(&self) -> &str
         ensures { result.now ≡ self.now }
     {

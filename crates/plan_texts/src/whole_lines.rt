@@ -1,4 +1,4 @@
-//! The whole lines of a unit file (systemd.syntax(7)).
+//! Merges the lines of a unit file into whole lines (systemd.syntax(7)).
 
 ghost use Rattle.std.specs.Prelude.{◌≡◌, ◌≤◌, ◌==◌, IfOk, OnOk, [], ℕ, List, length, map, take, ◌-◌, if◌then◌else◌, Some, None};
 ghost use Rattle.std.specs.List.{suffix_len};
@@ -11,18 +11,24 @@ use crate::lines::{after_blanks, lines};
 use crate::parts::is_blank;
 use std::alloc::{AllocError, Global};
 
-/// A whole line: a line of a unit file, or several that are joined.
+/// A whole line: a line of a unit file, or several lines that are merged.
 #[derive(Debug, Drop)]
 pub struct WholeLine {
     /// The number of its first line, from 1.
     pub number: u32,
-    /// What it says, with a space for each backslash that joined it.
+    /// Its text, with a space for each backslash that continued a line.
     pub text: String,
 }
 
-/// The whole lines of a text of at most 1,048,576 bytes. One carriage return at a line's end and the blanks in front of it
-/// aren't part of it; blanks at its end stay. Comments, which begin with `#` or `;`, are skipped, and a line that ends in an
-/// odd number of backslashes is joined with the next line that isn't skipped, its last backslash read as a space.
+/// Returns the whole lines of a text of at most 1,048,576 bytes.
+///
+/// One carriage return at the end of a line, and blanks at its start, aren't part of it; other blanks at its
+/// end are. Comments, which begin with `#` or `;`, are skipped. A line that ends in an odd number of
+/// backslashes is merged with the next line that isn't skipped, and its last backslash is replaced by a space.
+///
+/// # Errors
+///
+/// `AllocError` if an allocation fails.
 #[tactic(auto, unfolding(crate::specs::WholeLines::whole_lines))]
 pub fn whole_lines(alloc: Global, text: &str) -> Result<Vec<WholeLine>, AllocError>
     requires { length text.now ≤ most_bytes }
@@ -32,7 +38,7 @@ pub fn whole_lines(alloc: Global, text: &str) -> Result<Vec<WholeLine>, AllocErr
     joined(alloc, lines.as_slice())
 }
 
-// The whole lines of lines.
+// Merges lines into whole lines.
 fn joined(alloc: Global, lines: &[&str]) -> Result<Vec<WholeLine>, AllocError>
     requires { length lines.now ≤ most_bytes }
     ensures { IfOk result (λ whole. map whole_text whole.items
@@ -48,7 +54,7 @@ fn joined(alloc: Global, lines: &[&str]) -> Result<Vec<WholeLine>, AllocError>
     joiner.end()
 }
 
-/// A text without the blanks at both ends.
+/// Returns a text without the blanks at both ends.
 pub fn trimmed(text: &str) -> &str
     ensures { result.now ≡ trimmed text.now }
 {
@@ -56,7 +62,7 @@ pub fn trimmed(text: &str) -> &str
     &text[..text.len() - blanks_at_end(text.as_bytes())]
 }
 
-// How many blanks stand at the end of a text.
+// Returns how many blanks a text ends with.
 fn blanks_at_end(text: &[u8]) -> usize
     ensures { result ≡ suffix_len is_blank text.now }
 {
@@ -66,14 +72,14 @@ fn blanks_at_end(text: &[u8]) -> usize
         .count()
 }
 
-// How many backslashes stand at the end of a text.
+// Returns how many backslashes a text ends with.
 fn backslashes_at_end(text: &[u8]) -> usize
     ensures { result ≡ suffix_len (λ b. b == 92) text.now }
 {
     text.iter().rev().take_while(|byte| **byte == b'\\').count()
 }
 
-// The text of a line: without one carriage return at its end and without the blanks in front.
+// Returns the text of a line: without one carriage return at its end, and without its leading blanks.
 fn line_text(line: &str) -> &str
     ensures { result.now ≡ line_text line.now }
 {
@@ -84,14 +90,14 @@ fn line_text(line: &str) -> &str
     after_blanks(line)
 }
 
-// Whether a line is a comment.
+// Returns whether a line is a comment.
 fn is_comment(text: &str) -> bool
     ensures { result ≡ is_comment text.now }
 {
     matches!(text.as_bytes(), [b'#' | b';', ..])
 }
 
-// What stands before the last backslash of a line that is joined with the next; `None` for any other line.
+// Returns what comes before the last backslash of a line that the next line continues, or `None` for any other line.
 fn before_backslash(text: &str) -> Option<&str>
     ensures { option_map (λ front. front.now) result
         ≡ (if is_joined text.now then Some (take (length text.now - 1) text.now) else None) }
@@ -102,7 +108,7 @@ fn before_backslash(text: &str) -> Option<&str>
     Some(&text[..text.len() - 1])
 }
 
-// The whole lines so far, and the one that is still to be joined with the next line.
+// The whole lines so far, and the one that the next line continues.
 #[derive(Drop)]
 struct Joiner {
     whole: Vec<WholeLine>,
@@ -112,7 +118,7 @@ struct Joiner {
 impl Joiner {
     ghost use Rattle.plan_texts.specs.Joining.{whole_with, with_raw_line};
 
-    // Reads a line.
+    // Adds a line.
     fn add(&mut self, alloc: Global, number: u32, line: &str) -> Result<(), AllocError>
         ensures { OnOk result ((rest : List (ℕ × List ℕ))
             → whole_with self.new rest ≡ whole_with self.old (with_raw_line number line.now rest)) }
@@ -136,7 +142,7 @@ impl Joiner {
         Ok(())
     }
 
-    // The whole lines, once all lines are read.
+    // Returns the whole lines, after all lines were added.
     fn end(self) -> Result<Vec<WholeLine>, AllocError>
         ensures { IfOk result (λ whole. map whole_text whole.items ≡ whole_with self []) }
     {

@@ -1,6 +1,6 @@
--- What comes of the notes that are taken: for `gathers` of `Desk::take`, and for `Desk::collect`.
--- `IsGathering` has the notes in the order of arrival, as a history. `gathers_more` puts a note behind it: by induction
--- over the history, the answer to all is that to the note after the others (`answer_on`). A refusal stays the first.
+-- The result of the messages that are taken: for `gathers` of `Desk::take`, and for `Desk::collect`. `IsGathering` has
+-- the messages in the order of arrival, as a history. `gathers_more` appends a message: by induction over the history,
+-- the answer to all is that to the new message after the others (`answer_on`). The first error stays the first.
 use Rattle.std.proofs.Common.{◌≡◌, ℕ, zero, suc, ◌+◌, ◌<◌, ◌≤◌, ◌⊎◌, true, false, ◌==◌, List, [], ◌∷◌, ◌++◌, length, None, Some, Option, Result, Ok, Err, inl, inr, refl, ap, sym, ◌∙◌, subst, arith, append-nil}
 use Rattle.std.specs.Prelude.{slice_get, slice_set, slice_index_or, MatchResult, OnOk}
 use Rattle.std.specs.declared.thread.PromisedHandle.{PromisedHandle}
@@ -22,7 +22,7 @@ use Rattle.plan_mailbox.specs.Ends.{NothingKnown, Receiving, Ring, IsTake, taken
 use Rattle.plan_threads.specs.declared.promise.Sending.{Sending}
 use Rattle.plan_threads.specs.Gathering.{AreOf, ArePlanners, Stands, IsAccounted, IsGathering, Meets, Steps, IsWhole, Ends, all_notes}
 
--- ---- one more note
+-- ---- one more message
 
 are_more :
     (planners : ℕ) (history : List (ℕ × Note)) (sent : ℕ × Note) → AreOf planners history → sent.0 < planners →
@@ -58,7 +58,7 @@ notes_other k (first ∷ history) s m not =
       | inr other ↦ (let is : (first.0 == k) ≡ false = ne_eqb _ _ other in rw is (notes_other k history s m not))
     ]
 
--- ---- answers to one more note
+-- ---- answers to one more message
 
 abbrev pick : Option CollectFault → Result Collected CollectFault → Result Collected CollectFault
 pick None next = next
@@ -212,7 +212,7 @@ kin_step :
 kin_step c None k m new refused steps = kin_met c k m new refused steps
 kin_step c (Some fault) k m new refused steps = kin_same c new steps.0
 
--- only an agenda with too many entries is refused for that
+-- TooMany comes only if the agenda has too many entries
 many_met :
     (c : Collected) (k : ℕ) (m : Note) (new : Collected) (refused : Option CollectFault) → Meets c k m new refused →
     refused ≡ Some collect.TooMany → c.limit < length (agenda c.rules c.span)
@@ -240,7 +240,7 @@ many_step limit rules span c None k m new refused own whole most so_far steps is
     (many_met c k m new refused steps is)
 many_step limit rules span c (Some fault) k m new refused own whole most so_far steps is = so_far (sym steps.1 ∙ is)
 
--- a note is taken
+-- a message is taken
 pub gathers_more :
     (planners limit : ℕ) (rules : List Rule) (span : Bounds) (c : Collected) (b : Receiving Note) (before : Option CollectFault)
     (k : ℕ) (m : Note) (new : Collected) (b' : Receiving Note) (refused : Option CollectFault) →
@@ -329,7 +329,7 @@ whole_so c limit rules span answer (Some collect.Missing) own all most many stan
     (let is : collect.Missing ≡ collect.TooMany = subst
     (λ r. MatchResult r (λ x. is_complete x ≡ true) (λ fault. fault ≡ collect.TooMany)) stands accepted in absurd cc)
 
--- where all that the planners send was taken, all came
+-- if everything that the planners send was taken, everything has arrived
 pub gathers_all :
     (planners limit : ℕ) (rules : List Rule) (span : Bounds) (c : Collected) (b : Receiving Note) (refused : Option CollectFault) →
     AcceptsMergings → is_size planners ≡ true → span.since ≤ span.upto → IsGathering planners limit rules span c b refused →
@@ -345,7 +345,7 @@ gathers_all planners limit rules span c b refused accepts size part so_far all =
 
 -- ---- other collectors of the same plan
 
--- what a collector that gathers a plan is like to another
+-- what a collector has in common with another that gathers the same plan
 pub planners_kin :
     {T : Type 0} (c new : Collected) (rings rings' : List Ring) (k : ℕ) (threads : List (PromisedHandle T Sending)) →
     new.rules ≡ c.rules → new.span ≡ c.span → new.limit ≡ c.limit → length new.ended ≡ length c.ended → rings' ≡ rings →
@@ -374,11 +374,11 @@ pub ok_map : (r : Result (Unit {0}) PlanFault) (A B : Type 0) → (A → B) → 
 ok_map (Ok x) A B go a = go a
 ok_map (Err f) A B go a = tt
 
--- what was accounted for was taken, where nothing waits
+-- what was accounted for was taken, if nothing waits
 pub taken_all : (b : Receiving Note) (k : ℕ) (sent : List Note) → NothingKnown b → IsAccounted b k sent → taken_at b k ≡ sent
 taken_all b k sent none accounted = sym (append-nil (taken_at b k)) ∙ ap (λ notes. taken_at b k ++ notes) (sym (none k)) ∙ accounted.1
 
--- notes of the same plan
+-- messages of the same plan
 pub notes_kin :
     (c new : Collected) (k : ℕ) → new.rules ≡ c.rules → new.span ≡ c.span → new.limit ≡ c.limit →
     length new.ended ≡ length c.ended → all_notes new k ≡ all_notes c k

@@ -1,6 +1,7 @@
--- What a planner has sent, and what is left of its notes: for the loops and returns of `send_job` and `send_notes`.
--- Most lemmas are one equation: what was to be sent is what was sent, then `cut_rest` of what is left. `rest_first`
--- moves a note from the one to the other. From it come the steps by a piece, and from these the steps by a job.
+-- What a planner has sent, and what remains of its messages: for the loops and returns of `send_job` and `send_notes`.
+-- Most lemmas are one equation: what was to be sent is what was sent, followed by `cut_rest` of what remains.
+-- `rest_first` moves a message from the one to the other. The steps by a piece follow from it, and from these the steps
+-- by a job.
 use Rattle.std.proofs.Common.{◌≡◌, ℕ, zero, suc, ◌+◌, ◌%◌, ◌<◌, ◌≤◌, ◌⊎◌, true, false, nat_lt, List, [], ◌∷◌, ◌++◌, length, map, drop, None, Some, inl, inr, refl, ap, sym, ◌∙◌, arith, append_assoc, append-nil, subst}
 use Rattle.std.specs.Prelude.{slice_get, Result, Ok, Err, OnErr, IsErrAnd}
 use Rattle.std.proofs.lemmas.Bool.{cases_lt, lt-ltb, le-ltb}
@@ -19,7 +20,7 @@ use Rattle.plan_collect.specs.TilingLaws.{pieces_stop, pieces_go_on, parts_none,
 use Rattle.plan_mailbox.specs.History.{IsPrefix}
 use Rattle.plan_threads.specs.Sending.{cut_rest}
 
--- ---- what is left after a note
+-- ---- what remains after a message
 
 pub rest_over : (limit count : ℕ) (notes : List Note) → limit < count → cut_rest limit count notes ≡ []
 rest_over limit count notes over = let is : nat_lt limit count ≡ true = lt-ltb _ _ over in rw is refl
@@ -41,14 +42,14 @@ rest_first limit count first notes few =
 
 -- ---- the pieces of a job
 
--- what is sent of a job's pieces from a second on, and of other notes
+-- what is sent of a job's pieces from a second on, and of other messages
 abbrev pub left_of : (limit count job : ℕ) → Rule → (since upto : ℕ) → List Note → List Note
 left_of limit count job rule since upto rest = cut_rest limit count (map (note.Part job) (pieces rule since upto) ++ rest)
 
 abbrev pub first_of_job : (job : ℕ) → Rule → (since upto : ℕ) → Note
 first_of_job job rule since upto = note.Part job (piece_of rule since upto most_starts)
 
--- where the first piece ends early, the others are left
+-- if the first piece ends early, the other pieces remain
 pub left_more :
     (limit count job : ℕ) (rule : Rule) (since upto : ℕ) (rest : List Note) → since ≤ upto → count ≤ limit →
     piece_end rule since upto most_starts < upto →
@@ -59,7 +60,7 @@ left_more limit count job rule since upto rest part few more =
     ∙ rest_first limit count (first_of_job job rule since upto)
     (map (note.Part job) (pieces rule (piece_end rule since upto most_starts) upto) ++ rest) few
 
--- where it ends the part, the other notes are
+-- if it ends the part, the other messages remain
 pub left_last :
     (limit count job : ℕ) (rule : Rule) (since upto : ℕ) (rest : List Note) → since ≤ upto → count ≤ limit →
     upto ≤ piece_end rule since upto most_starts →
@@ -69,7 +70,7 @@ left_last limit count job rule since upto rest part few reached =
     ap (λ ps. cut_rest limit count (map (note.Part job) ps ++ rest)) (pieces_stop rule since upto part reached)
     ∙ rest_first limit count (first_of_job job rule since upto) rest few
 
--- where it brings more starts than the limit, nothing is left
+-- if it brings more starts than the limit, nothing remains
 pub left_over :
     (limit count job : ℕ) (rule : Rule) (since upto : ℕ) (rest : List Note) → since ≤ upto → count ≤ limit →
     limit < count + starts_in (first_of_job job rule since upto) →
@@ -85,12 +86,12 @@ left_over limit count job rule since upto rest part few over =
       | inr stop ↦ left_last limit count job rule since upto rest part few stop
     ]
 
--- what was to be sent of a job's pieces is what was sent and what is left from a second on, whatever notes come after
+-- what was to be sent of a job's pieces is what was sent and what remains from a second on, whatever messages come after
 abbrev pub IsSentTo : (limit count job : ℕ) → Rule → (from upto : ℕ) → (before sent : List Note) → (reached since : ℕ) → Type 0
 IsSentTo limit count job rule from upto before sent reached since =
     (rest : List Note) → before ++ left_of limit count job rule from upto rest ≡ sent ++ left_of limit reached job rule since upto rest
 
--- and all of it was sent
+-- all of it was sent
 abbrev pub IsSent : (limit count job : ℕ) → Rule → (from upto : ℕ) → (before sent : List Note) → (reached : ℕ) → Type 0
 IsSent limit count job rule from upto before sent reached =
     (rest : List Note) → before ++ left_of limit count job rule from upto rest ≡ sent ++ cut_rest limit reached rest
@@ -139,7 +140,7 @@ sent_all limit count job rule from upto before sent new reached since end brough
 
 -- ---- the pieces of all jobs
 
--- what is left of a planner's notes from a job on
+-- what remains of a planner's messages from a job on
 abbrev pub left_from : (limit count job planner planners : ℕ) → List Rule → Bounds → List Note
 left_from limit count job planner planners rules span = cut_rest limit count
     (parts_from job planner planners (drop job rules) span ++ note.Last ∷ [])
@@ -157,7 +158,7 @@ rule_at [] n inside = absurd (omega arith)
 rule_at (rule ∷ rules) zero inside = (rule, refl)
 rule_at (rule ∷ rules) (suc n) inside = rule_at rules n (omega arith)
 
--- a job of another planner leaves it so
+-- a job of another planner changes nothing
 pub left_other :
     (limit count job planner planners : ℕ) (rules : List Rule) (span : Bounds) (rule : Rule) → slice_get rules job ≡ Some rule →
     (job % planners ≡ planner → ⊥) →
@@ -166,7 +167,7 @@ left_other limit count job planner planners rules span rule is other =
     ap (λ rs. cut_rest limit count (parts_from job planner planners rs span ++ note.Last ∷ [])) (drop_here rules job rule is)
     ∙ ap (λ notes. cut_rest limit count (notes ++ note.Last ∷ [])) (parts_other job planner planners rule (drop (job + 1) rules) span other)
 
--- of a job of the planner the pieces come first
+-- for a job of the planner, its pieces come first
 pub left_own :
     (limit count job planner planners : ℕ) (rules : List Rule) (span : Bounds) (rule : Rule) → slice_get rules job ≡ Some rule →
     job % planners ≡ planner →
@@ -184,7 +185,7 @@ drop_past [] (suc n) past = refl
 drop_past (rule ∷ rules) zero past = absurd (omega arith)
 drop_past (rule ∷ rules) (suc n) past = drop_past rules n (omega arith)
 
--- after all jobs the last note is left
+-- after all jobs, the last message remains
 pub left_at_end :
     (limit count job planner planners : ℕ) (rules : List Rule) (span : Bounds) → length rules ≤ job → count ≤ limit →
     left_from limit count job planner planners rules span ≡ note.Last ∷ []
@@ -203,13 +204,13 @@ rule_there [] n job is = absurd cc
 rule_there (j ∷ jobs) zero job is = let here : j ≡ job = cc in ap (λ (x : JobParts). Some x.rule) here
 rule_there (j ∷ jobs) (suc n) job is = rule_there jobs n job is
 
--- each number below the number of jobs has a job
+-- each number below the number of jobs is that of a job
 pub job_there : (jobs : List JobParts) (n : ℕ) → None ≡ slice_get jobs n → n < length jobs → ⊥
 job_there [] n none lt = omega arith
 job_there (job ∷ jobs) zero none lt = cc
 job_there (job ∷ jobs) (suc n) none lt = job_there jobs n none (omega arith)
 
--- a job of a rule that is the job's
+-- the rule at a job's number is the rule of the job
 pub rule_of :
     (jobs : List JobParts) (n : ℕ) (job : JobParts) (rule : Rule) → Some job ≡ slice_get jobs n → rule ≡ job.rule →
     slice_get (rules_of jobs) n ≡ Some rule
@@ -219,9 +220,9 @@ rule_of jobs n job rule there is = rule_there jobs n job (sym there) ∙ ap Some
 pub as_many_rules : (jobs : List JobParts) → length (rules_of jobs) ≡ length jobs
 as_many_rules jobs = length-map jobs (λ job. job.rule)
 
--- ---- all notes
+-- ---- all messages
 
--- what was to be sent is what was sent and what is left from a job on
+-- what was to be sent is what was sent and what remains from a job on
 abbrev pub IsSentUpTo : (limit planner planners : ℕ) → List Rule → Bounds → (sent : List Note) → (count job : ℕ) → Type 0
 IsSentUpTo limit planner planners rules span sent count job =
     sent_by planner planners limit rules span ≡ sent ++ left_from limit count job planner planners rules span
@@ -234,7 +235,7 @@ upto_other limit planner planners rules span sent count job so_far inside other 
     let there = rule_at rules job inside in
     so_far ∙ ap (λ notes. sent ++ notes) (left_other limit count job planner planners rules span there.0 there.1 other)
 
--- what was to be sent, where a job of the planner is next
+-- what was to be sent, if a job of the planner is next
 own_whole :
     (limit planner planners : ℕ) (rules : List Rule) (span : Bounds) (sent : List Note) (count job : ℕ) (rule : Rule) →
     IsSentUpTo limit planner planners rules span sent count job → slice_get rules job ≡ Some rule → job % planners ≡ planner →
@@ -261,7 +262,7 @@ upto_own_part limit planner planners rules span sent new count job rule so_far t
     subst (IsPrefix new) (sym (own_whole limit planner planners rules span sent count job rule so_far there own))
     (part (parts_from (job + 1) planner planners (drop (job + 1) rules) span ++ note.Last ∷ []))
 
--- all was sent where there were more starts than the limit
+-- everything was sent if there were more starts than the limit
 pub upto_over :
     (limit planner planners : ℕ) (rules : List Rule) (span : Bounds) (sent : List Note) (count job : ℕ) →
     IsSentUpTo limit planner planners rules span sent count job → limit < count → sent ≡ sent_by planner planners limit rules span
@@ -269,7 +270,7 @@ upto_over limit planner planners rules span sent count job so_far over =
     sym (so_far ∙ ap (λ notes. sent ++ notes)
     (rest_over limit count (parts_from job planner planners (drop job rules) span ++ note.Last ∷ []) over) ∙ append-nil sent)
 
--- and with the last note after all jobs
+-- everything was sent after all jobs and the last message
 pub upto_end :
     (limit planner planners : ℕ) (rules : List Rule) (span : Bounds) (sent : List Note) (count job : ℕ) →
     IsSentUpTo limit planner planners rules span sent count job → length rules ≤ job → count ≤ limit →
@@ -277,7 +278,7 @@ pub upto_end :
 upto_end limit planner planners rules span sent count job so_far all few =
     sym (so_far ∙ ap (λ notes. sent ++ notes) (left_at_end limit count job planner planners rules span all few))
 
--- what is so of a refusal
+-- what holds if an allocation failed
 pub on_err : {T E : Type 0} (r : Result T E) (e : E) (P : Type 0) → IsErrAnd r (λ f. f ≡ e) → P → OnErr r P
 on_err (Ok x) e P is h = tt
 on_err (Err f) e P is h = h

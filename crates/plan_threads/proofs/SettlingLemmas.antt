@@ -1,6 +1,6 @@
--- What is known when planners are joined: for the loop of `Desk::settle_all`.
--- The receipt keeps the thread's promise (`Keeps`), and the promise is of the planner (`IsPlanner`): so are the ring
--- and the notes. `accounts_more` adds it to those before, and `and_ok`, `and_err` go by the cases of `Result::and`.
+-- What is known when planners are joined: for the loop of `Desk::settle_all`. The receipt keeps the thread's promise
+-- (`Keeps`), and the promise is that of the planner (`IsPlanner`): so are the ring and the messages. `accounts_more` adds
+-- it to those before, and `and_ok`, `and_err` go by the cases of `Result::and`.
 use Rattle.std.proofs.Common.{◌≡◌, ℕ, ◌+◌, ◌<◌, false, List, Some, Result, Ok, Err, inl, inr, ap, sym, ◌∙◌, subst, arith}
 use Rattle.std.specs.Prelude.{Bool, slice_get, IsOk, OnOk, IfErr}
 use Rattle.std.specs.Result.{result_and}

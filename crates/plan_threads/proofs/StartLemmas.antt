@@ -1,4 +1,4 @@
--- What is so where threads are started: for `outlets` and `gathers` of `set_up`, and for the loop of `run_threads`.
+-- What holds when threads are started: for `outlets` and `gathers` of `set_up`, and for the loop of `run_threads`.
 -- `fresh_from` goes by induction over the outlets and their rings, which are numbered alike. `planner_is` reads the
 -- fields of a thread's promise. Nothing was taken yet, so the history of `gathers_none` is empty.
 use Rattle.std.proofs.Common.{◌≡◌, ℕ, suc, ◌+◌, false, List, [], ◌∷◌, ◌++◌, length, map, Some, None, Ok, refl, ap, sym, ◌∙◌, subst, arith}
@@ -54,7 +54,7 @@ pub fresh_all : (outlets : List (Outlet Note)) (rings : List Ring) → map outle
 fresh_all outlets rings are = fresh_from 0 outlets rings rings are
     (λ i ring is. (let same : 0 + i ≡ i = omega arith in subst (λ n. slice_get rings n ≡ Some ring) (sym same) is))
 
--- nothing came yet
+-- nothing has arrived yet
 pub gathers_none :
     (planners limit : ℕ) (rules : List Rule) (span : Bounds) (c : Collected) (b : Receiving Note) (rings : List Ring) →
     c ≡ begun rules span planners limit → b ≡ new_inlet rings → length rings ≡ planners →

@@ -1,4 +1,4 @@
--- What the calling thread of a plan knows of the notes that it took (own).
+-- What the calling thread of a plan knows about the messages that it took (agenda).
 use Rattle.std.specs.Prelude.{◌≡◌, ℕ, ◌+◌, ◌<◌, ◌≤◌, true, List, [], ◌∷◌, length, Option, None, Some, slice_get, Result, Ok, Err}
 use Rattle.plan_match.specs.declared.rule.Rule.{Rule}
 use Rattle.plan_collect.specs.declared.note.Note.{Note}
@@ -17,19 +17,19 @@ use Rattle.plan_threads.specs.declared.promise.Sending.{Sending}
 use Rattle.plan_mailbox.specs.declared.outlet.Outlet.{Outlet}
 use Rattle.plan_mailbox.specs.Ends.{Receiving, Ring, Accounts, outlet_of, taken_at, is_settled_at}
 
--- all notes are of one of so many planners
+-- each message is from one of this many planners
 abbrev pub AreOf : (planners : ℕ) → List (ℕ × Note) → Type 0
 AreOf planners [] = Unit {0}
 AreOf planners (sent ∷ history) = (sent.0 < planners) × AreOf planners history
 
--- what came of notes that arrived: all were accepted by the collector, or this was the first refusal; nothing is said where
--- memory was refused
+-- the result of the messages that arrived: the collector accepted them all, or this was its first error; nothing is
+-- stated if an allocation failed
 abbrev pub Stands : Result Collected CollectFault → Collected → Option CollectFault → Type 0
 Stands answer c None = answer ≡ Ok c
 Stands answer c (Some collect.NoMemory) = Unit {0}
 Stands answer c (Some fault) = answer ≡ Err fault
 
--- the notes that were taken arrived in some order, and the collector and its first refusal are what comes of it
+-- the messages that were taken arrived in some order, and the collector and its first error are the result of that order
 pub record IsGathering (planners limit : ℕ) (rules : List Rule) (span : Bounds) (c : Collected) (b : Receiving Note)
     (refused : Option CollectFault) : Type 0 where
   pub rules_are : c.rules ≡ rules
@@ -48,11 +48,11 @@ pub record IsGathering (planners limit : ℕ) (rules : List Rule) (span : Bounds
 abbrev pub IsAccounted : Receiving Note → ℕ → List Note → Type 0
 IsAccounted b s sent = (is_settled_at b s ≡ true) × Accounts b s sent
 
--- all notes that planner k of this collector's plan sends
+-- all messages that planner k of this collector's plan sends
 abbrev pub all_notes : Collected → ℕ → List Note
 all_notes c k = sent_by k (length c.ended) c.limit c.rules c.span
 
--- a thread promises the notes of planner k of the collector's plan, through the ring of sender k
+-- a thread promises the messages of planner k of the collector's plan, through the ring of sender k
 pub record IsPlanner (c : Collected) (rings : List Ring) (k : ℕ) (promise : Sending) : Type 0 where
   pub sender : (outlet_of promise.outlet.value).sender ≡ k
   pub ring : slice_get rings k ≡ Some (outlet_of promise.outlet.value).ring
@@ -61,35 +61,35 @@ pub record IsPlanner (c : Collected) (rings : List Ring) (k : ℕ) (promise : Se
   pub rules : rules_of promise.jobs.value ≡ c.rules
   pub span : promise.span ≡ c.span
 
--- these threads are of the planners from k on, in order
+-- these threads are those of the planners from k on, in order
 abbrev pub ArePlanners : {T : Type 0} → Collected → List Ring → (k : ℕ) → List (PromisedHandle T Sending) → Type 0
 ArePlanners c rings k [] = Unit {0}
 ArePlanners c rings k (thread ∷ threads) = IsPlanner c rings k thread.promise × ArePlanners c rings (k + 1) threads
 
--- what a note does to a collector that refused nothing
+-- what a message does to a collector that has rejected none
 abbrev pub Meets : Collected → (planner : ℕ) → Note → Collected → Option CollectFault → Type 0
 Meets c planner note new None = (refusal c planner note ≡ None) × (new ≡ after c planner note)
 Meets c planner note new (Some collect.NoMemory) = new ≡ c
 Meets c planner note new (Some fault) =
     (refusal c planner note ≡ Some fault) × (new ≡ c) × (fault ≡ TooMany → c.limit < length (agenda c.rules c.span))
 
--- a note is accepted or refused, and dropped where one was refused before
+-- a message is accepted or rejected; it is dropped if one was rejected before
 abbrev pub Steps : Collected → Option CollectFault → (planner : ℕ) → Note → Collected → Option CollectFault → Type 0
 Steps c None planner note new refused = Meets c planner note new refused
 Steps c (Some fault) planner note new refused = (new ≡ c) × (refused ≡ Some fault)
 
--- all that was sent came: the collector is complete, or it has no more room, or memory was refused
+-- everything that was sent has arrived: the collector is complete, or there are more starts than its limit, or an allocation failed
 abbrev pub IsWhole : Collected → Option CollectFault → Type 0
 IsWhole c None = is_complete c ≡ true
 IsWhole c (Some collect.NoMemory) = Unit {0}
 IsWhole c (Some fault) = (fault ≡ TooMany) × (c.limit < length (agenda c.rules c.span))
 
--- why threads fail, their notes aside
+-- the errors of the threads, apart from those of their messages
 abbrev pub IsThreadFault : PlanFault → Type 0
 IsThreadFault plan.NoMemory = Unit {0}
 IsThreadFault fault = ⊥
 
--- the answer to a plan of good size and limit
+-- the answer of a plan with valid sizes and a valid limit
 abbrev pub Ends : Result Planned PlanFault → List Rule → Bounds → (limit : ℕ) → Type 0
 Ends (Ok made) rules span limit =
     (made ≡ planned rules span) × (length made.entries ≤ limit) × IsOfJobs (length rules) made.entries

@@ -1,4 +1,4 @@
--- What a plan by threads answers (own).
+-- What a plan by threads answers (agenda).
 use Rattle.std.specs.Prelude.{◌≡◌, ◌<◌, ◌≤◌, true, false, List, length, Result, Ok, Err}
 use Rattle.plan_match.specs.declared.rule.Rule.{Rule}
 use Rattle.plan_collect.specs.declared.collector.CollectFault.TheVariants.{TooMany}
@@ -10,8 +10,9 @@ use Rattle.plan_collect.specs.Limits.{is_limit}
 use Rattle.plan_collect.specs.Span.{Bounds}
 use Rattle.plan_mailbox.specs.Mailbox.{is_size}
 
--- the answer to a plan of these sizes: the agenda where it has no more entries than their limit, TooMany where it has; planners or
--- room out of their ranges are refused first, then such a limit; NoMemory may come in place of the others, and NotSettled never comes
+-- the answer of a plan with these sizes: the agenda if it has no more entries than their limit, else TooMany; a number of
+-- planners or a capacity out of range is reported first, then a limit out of range; NoMemory may come in place of the agenda
+-- or of TooMany, and NotSettled never comes
 abbrev pub PlansBy : Result Planned PlanFault → List Rule → Bounds → Sizes → Type 0
 PlansBy (Ok made) rules span sizes =
     (is_size sizes.planners sizes.room ≡ true) × (is_limit sizes.limit ≡ true) × (made ≡ planned rules span) × (length

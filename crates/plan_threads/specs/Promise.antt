@@ -1,4 +1,4 @@
--- What a planner's thread promises (own).
+-- What a planner's thread promises (agenda).
 use Rattle.std.specs.Prelude.{◌≡◌, Bool, false}
 use Rattle.plan_collect.specs.declared.note.Note.{Note}
 use Rattle.plan_collect.specs.Agenda.{rules_of}
@@ -7,7 +7,7 @@ use Rattle.plan_mailbox.specs.declared.outlet.Receipt.{Receipt}
 use Rattle.plan_mailbox.specs.Ends.{outlet_of, receipt_of}
 use Rattle.plan_threads.specs.declared.promise.Sending.{Sending}
 
--- the receipt is that of the outlet, and where memory was not refused it is of all that its sender is to send
+-- the receipt is that of the outlet, and unless an allocation failed, it is for everything that its sender has to send
 abbrev pub Keeps : Sending → Receipt Note × Bool → Type 0
 Keeps p r =
     ((receipt_of r.0).sender ≡ (outlet_of p.outlet.value).sender)

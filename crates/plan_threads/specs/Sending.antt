@@ -1,4 +1,4 @@
--- What comes of a planner's sending (own).
+-- The result of a planner's sending (agenda).
 use Rattle.std.specs.Prelude.{ℕ, nat_lt, if◌then◌else◌, List, [], ◌∷◌, ◌++◌}
 use Rattle.plan_collect.specs.declared.note.Note.{Note}
 use Rattle.plan_collect.specs.Tiling.{cut_after}
@@ -8,6 +8,6 @@ use Rattle.plan_mailbox.specs.Ends.{Sending}
 abbrev pub after_send : {M : Type 0} → Sending M → M → Sending M
 after_send before message = record before { sent = before.sent ++ message ∷ [] }
 
--- what is sent of these notes, where `count` starts were sent before: nothing where those are more than the limit
+-- what is sent of these messages after `count` starts were sent: nothing if `count` is more than the limit
 abbrev pub cut_rest : (limit count : ℕ) → List Note → List Note
 cut_rest limit count notes = if nat_lt limit count then [] else cut_after limit count notes

@@ -1,4 +1,5 @@
-//! The calling thread's desk: what it takes from, and what it accepts into.
+//! The calling thread's desk: the inlet that the planners' messages come from, and the collector that they go
+//! to.
 
 ghost use Rattle.std.specs.Prelude.{◌≡◌, ◌≢◌, ◌<◌, ◌≤◌, ℕ, List, true, false, length, Some, slice_get, IsOk, OnOk, IfErr, vec_len};
 ghost use Rattle.plan_match.specs.declared.rule.Rule.{Rule};
@@ -20,21 +21,24 @@ use std::thread::{PromisedHandle, Threads};
 /// The thread of a planner.
 pub(crate) type Planner = PromisedHandle<(Receipt<Note>, bool), Sending>;
 
-/// Where the planners' notes arrive.
+/// Where the planners' messages arrive.
 #[derive(Drop)]
 pub(crate) struct Desk {
     pub(crate) inlet: Inlet<Note>,
     pub(crate) collector: Collector,
 
-    /// Why a note was refused first. The notes that come after it are dropped.
+    /// The first error of the collector, if it rejected a message. The messages after that one are dropped.
     pub(crate) refused: Option<CollectFault>,
 }
 
 impl Desk {
-    /// Collects the notes of these planners, who raise these flags at their ends, and makes the agenda of them.
+    /// Collects the messages of these planners, and makes the agenda of them. Each planner raises its flag
+    /// when it ends.
     ///
-    /// `NoMemory` where memory was refused, or where there are fewer threads than planners; else `Collect(TooMany)` where the
-    /// agenda has more entries than the limit.
+    /// # Errors
+    ///
+    /// `NoMemory` if an allocation failed, or if there are fewer threads than planners; else
+    /// `Collect(TooMany)` if the agenda has more entries than the limit.
     pub(crate) fn collect<R: Threads + Wait>(
         self,
         rt: &R,
@@ -62,7 +66,7 @@ impl Desk {
         desk.finish(settled)
     }
 
-    // Takes notes until all these flags are up. While none waits it steps back.
+    // Takes messages until all these flags are raised. Backs off while no message waits.
     fn take_until<R: Wait>(&mut self, rt: &R, flags: &[AtomicBool])
         ensures gathers { (planners limit : ℕ) (rules : List Rule) (span : Bounds) →
             IsGathering planners limit rules span self.old.collector (inlet_of self.old.inlet) self.old.refused →
@@ -82,9 +86,9 @@ impl Desk {
         }
     }
 
-    // Joins the planners and settles their receipts.
+    // Joins the planners' threads and settles their receipts.
     //
-    // `NoMemory` where a planner's memory was refused.
+    // `NoMemory` if an allocation of a planner failed.
     fn settle_all<R: Threads>(&mut self, rt: &R, planners: Vec<Planner>) -> Result<(), PlanFault>
         requires { ArePlanners self.old.collector (inlet_of self.old.inlet).rings 0 planners.items }
         ensures collector { self.new.collector ≡ self.old.collector }
@@ -121,7 +125,7 @@ impl Desk {
         Ok(self.inlet.settle(receipt.sender(), receipt)?)
     }
 
-    // Takes all notes that wait.
+    // Takes all messages that wait.
     fn take_rest<R: Wait>(&mut self, rt: &R)
         ensures gathers { (planners limit : ℕ) (rules : List Rule) (span : Bounds) →
             IsGathering planners limit rules span self.old.collector (inlet_of self.old.inlet) self.old.refused →
@@ -138,7 +142,7 @@ impl Desk {
         }
     }
 
-    // What comes of the notes, where the receipts were settled so.
+    // Returns the agenda, or the first error. `settled` is the result of settling the receipts.
     fn finish(self, settled: Result<(), PlanFault>) -> Result<Agenda, PlanFault>
         requires fault { IfErr settled IsThreadFault }
         requires whole { OnOk settled (IsWhole self.collector self.refused) }
@@ -155,7 +159,7 @@ impl Desk {
         }
     }
 
-    // Takes a note, and tells whether one was there.
+    // Takes a message, and returns whether there was one.
     fn take(&mut self) -> bool
         ensures gathers { (planners limit : ℕ) (rules : List Rule) (span : Bounds) →
             IsGathering planners limit rules span self.old.collector (inlet_of self.old.inlet) self.old.refused →
@@ -173,7 +177,7 @@ impl Desk {
         true
     }
 
-    // Has the note accepted, unless one was refused before.
+    // Gives the message to the collector, unless that rejected one before.
     fn accept(&mut self, planner: usize, note: Note)
         ensures steps { Steps self.old.collector self.old.refused planner note self.new.collector self.new.refused }
         ensures inlet { self.new.inlet ≡ self.old.inlet }

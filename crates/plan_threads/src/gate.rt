@@ -1,12 +1,12 @@
-//! Where planners arrive before they send.
+//! The gate at which planners arrive before they send.
 
-/// Where each planner arrives once, with its number, before its first piece.
+/// A gate, at which each planner arrives once, with its number, before it sends its first piece.
 pub trait Gate: Sync {
     /// Returns when the planner may go on.
     fn arrive(&self, planner: usize);
 }
 
-/// The gate that lets every planner go on at once.
+/// A gate that lets every planner go on at once.
 #[derive(Clone, Copy, Debug)]
 pub struct NoGate;
 

@@ -1,7 +1,8 @@
-//! A plan by planner threads: each sends the pieces of its jobs through a ring of its own, and the calling thread collects them.
+//! A plan by planner threads: each planner sends the pieces of its jobs through a ring, and the calling
+//! thread collects them.
 //!
-//! It stands on plan_collect, for the collector, and on plan_mailbox, for the rings. Open `planning` first, then `planner`, which runs in
-//! each thread, and `desk`, where notes arrive.
+//! The crate uses plan_collect for the collector, and plan_mailbox for the rings. Read `planning` first, then
+//! `planner`, which runs in each thread, and `desk`, where messages arrive.
 #![tactic(auto)]
 
 mod desk;

@@ -1,17 +1,17 @@
-//! How a thread that finds nothing to do steps back.
+//! How a thread backs off while it has nothing to do.
 
 use crossbeam_utils::Backoff;
 use std::sync::Wait;
 use std::thread::Parker;
 use std::time::Duration;
 
-// The first sleep, and the longest, in microseconds.
+// The first and the longest sleep, in microseconds.
 const FIRST_SLEEP: u64 = 60;
 
 const LONGEST_SLEEP: u64 = 320;
 
-/// Steps back further each time, so that it takes no processor from those that it waits for: it spins a little, then yields, then
-/// sleeps for longer and longer.
+/// Backs off for longer each time, so that the thread takes no processor from the threads that it waits for:
+/// it spins a little, then yields, then sleeps for longer and longer.
 #[derive(Drop)]
 pub(crate) struct Pause {
     backoff: Backoff,
@@ -20,7 +20,7 @@ pub(crate) struct Pause {
 }
 
 impl Pause {
-    /// One that has not stepped back.
+    /// Makes a pause that hasn't backed off yet.
     pub(crate) fn new() -> Pause {
         Pause {
             backoff: Backoff::new(),
@@ -29,13 +29,13 @@ impl Pause {
         }
     }
 
-    /// There was something to do.
+    /// Starts anew, because there was something to do.
     pub(crate) fn end(&mut self) {
         self.backoff.reset();
         self.sleep = FIRST_SLEEP;
     }
 
-    /// There was nothing to do.
+    /// Backs off, because there was nothing to do.
     pub(crate) fn step_back<R: Wait>(&mut self, rt: &R) {
         if !self.backoff.is_completed() {
             self.backoff.snooze();

@@ -1,4 +1,4 @@
-//! A planner: it sends the pieces of its jobs.
+//! A planner, which sends the pieces of its jobs.
 
 ghost use Rattle.std.specs.Prelude.{◌≡◌, ◌<◌, ◌≤◌, ℕ, List, ◌++◌, [], ◌∷◌, map, length, true, false, OnOk, OnErr, IfOk};
 ghost use Rattle.std.specs.Arc.{arc_value};
@@ -20,12 +20,16 @@ use plan_rules::Jobs;
 use std::alloc::Global;
 use std::sync::{Arc, Wait};
 
-/// Sends the notes of the outlet's planner, and closes the outlet: for each of its jobs ascending, the pieces that adjoin
-/// over the span, each with at most 1,024 starts and at least one, and then its last note. Job j is that of planner j mod
-/// `planners`. After a piece with which more than `limit` starts were sent, it sends no more.
+/// Sends the messages of the outlet's planner, and closes the outlet.
 ///
-/// The receipt stands for what was sent. The other answer is true where memory was refused, which ends the sending early.
-/// A full outlet is tried again, so the function may wait for the receiver. It arrives at the gate first.
+/// Job j is sent by planner j mod `planners`. For each of its jobs, in ascending order, the planner sends at
+/// least one piece, each with at most 1,024 starts. The pieces follow each other without a gap and cover the
+/// span. Then it sends its last message. After a piece with which more than `limit` starts were sent, it
+/// sends nothing more.
+///
+/// The receipt accounts for what was sent. The returned flag is true if an allocation failed, which ends the
+/// sending early. The planner arrives at the gate before it sends. While the outlet is full, it tries again,
+/// so it may wait for the receiver.
 pub fn run_planner<R: Wait, G: Gate>(
     rt: &R,
     alloc: Global,
@@ -56,7 +60,7 @@ pub fn run_planner<R: Wait, G: Gate>(
     (outlet.close(), refused)
 }
 
-// Sends all notes of the outlet's planner.
+// Sends all messages of the outlet's planner.
 fn send_notes<R: Wait>(
     rt: &R,
     alloc: Global,
@@ -102,8 +106,8 @@ fn send_notes<R: Wait>(
     Ok(())
 }
 
-// Sends the pieces of a job, up to one with which more than `limit` starts were sent, where `count` were sent before. Answers
-// how many were sent then.
+// Sends the pieces of a job, after `count` starts were sent before. Stops after a piece with which more than
+// `limit` starts were sent. Returns how many were sent by then.
 fn send_job<R: Wait>(
     rt: &R,
     alloc: Global,
@@ -119,7 +123,7 @@ fn send_job<R: Wait>(
     ensures sender { (outlet_of outlet.new).sender ≡ (outlet_of outlet.old).sender }
     ensures ring { (outlet_of outlet.new).ring ≡ (outlet_of outlet.old).ring }
 
-    // Whatever notes come after the job's.
+    // For any messages that come after the job's.
     ensures all { IfOk result (λ reached. (rest : List Note) →
         (outlet_of outlet.old).sent ++ cut_rest limit count (map (Note.Part job) (pieces (arc_value rule.now) span.since span.upto) ++ rest)
         ≡ (outlet_of outlet.new).sent ++ cut_rest limit reached rest) }
@@ -139,7 +143,7 @@ fn send_job<R: Wait>(
     }
 }
 
-// Sends the note. While the outlet is full it steps back, and tries again.
+// Sends the message. While the outlet is full, backs off and tries again.
 fn send<R: Wait>(rt: &R, outlet: &mut Outlet<Note>, note: Note)
     ensures { outlet_of outlet.new ≡ after_send (outlet_of outlet.old) note }
 {

@@ -1,4 +1,4 @@
-//! A plan by several planners, each in a thread of its own.
+//! A plan by several planners, each in its own thread.
 
 ghost use Rattle.std.specs.Prelude.{◌≡◌, ◌<◌, ◌≤◌, true, false, [], length, IfOk, IfErr, vec_len};
 ghost use Rattle.plan_collect.specs.Agenda.{IsOfJobs, rules_of};
@@ -25,12 +25,14 @@ use std::sync::atomic::Ordering::SeqCst;
 use std::thread;
 use std::thread::Threads;
 
-/// The agenda of jobs over a span, if it has no more entries than the limit of `sizes`: the work of its planners, each in a thread
-/// of its own, each with its room for notes, and of the calling thread, which collects their notes. It waits for them.
+/// Makes the agenda of jobs over a span. Each of its planners works in its own thread, with a capacity of
+/// `sizes.room` messages. The calling thread collects the messages, and waits for the planners.
 ///
-/// Faults, the first of these: `BadSize` where the planners or the room are out of their ranges; `BadLimit` where the limit is;
-/// `NoMemory` where memory was refused or a thread could not be started; `Collect(TooMany)` where the agenda has
-/// more entries than the limit. `NotSettled` never comes.
+/// # Errors
+///
+/// The first that applies: `BadSize` if the number of planners or the capacity is out of its range;
+/// `BadLimit` if the limit is out of its range; `NoMemory` if an allocation failed or a thread could not be
+/// started; `Collect(TooMany)` if the agenda has more entries than the limit. `NotSettled` never comes.
 pub fn plan<R: Threads + Wait + Sync, G: Gate>(
     rt: &R,
     alloc: Global,
@@ -57,7 +59,7 @@ pub fn plan<R: Threads + Wait + Sync, G: Gate>(
     run_threads(rt, alloc, jobs, span, planners, limit, gate, outlets, desk)
 }
 
-// Runs the planners of these outlets, each in a thread of its own, and collects their notes at the desk.
+// Runs the planners of these outlets, each in its own thread, and collects their messages at the desk.
 fn run_threads<R: Threads + Wait + Sync, G: Gate>(
     rt: &R,
     alloc: Global,
@@ -124,7 +126,7 @@ fn run_threads<R: Threads + Wait + Sync, G: Gate>(
     )
 }
 
-// The outlets of the planners, and a desk that nothing came to.
+// Makes the outlets of the planners, and a desk at which nothing has arrived.
 fn set_up(
     alloc: Global,
     jobs: &Jobs,
@@ -158,7 +160,7 @@ fn set_up(
     ))
 }
 
-// The end flag of each planner, which is down.
+// Makes the end flags of the planners. None of them is raised.
 fn new_flags() -> [AtomicBool; MOST_PLANNERS] {
     [
         AtomicBool::new(false),

@@ -1,4 +1,4 @@
-//! What a planner's thread promises.
+//! The promise of a planner's thread.
 
 ghost use Rattle.std.specs.Prelude.{◌≡◌, false};
 
@@ -8,7 +8,8 @@ use plan_rules::Jobs;
 use std::snapshot::Snapshot;
 use std::thread::Promise;
 
-/// That the planner of this outlet sends its notes of the plan, unless memory is refused.
+/// The promise that the planner of this outlet sends all its messages of the plan, unless an allocation
+/// fails.
 #[derive(Drop)]
 pub(crate) struct Sending {
     pub(crate) outlet: Snapshot<Outlet<Note>>,

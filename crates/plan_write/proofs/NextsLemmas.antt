@@ -1,10 +1,10 @@
--- The next starts of jobs, one after the other: for the loop of `nexts_of`. What is left goes by induction over the list.
+-- The next starts of jobs, one after the other: for the loop of `nexts_of`. By induction over the jobs that are left.
 use Rattle.std.proofs.Common.{◌≡◌, ℕ, ◌+◌, List, [], ◌∷◌, ◌++◌, drop, Some, ap, sym, ◌∙◌, arith, suc, zero, append_assoc}
 use Rattle.std.specs.Prelude.{slice_get}
 use Rattle.plan_rules.specs.Job.{JobParts}
 use Rattle.plan_write.specs.Upcoming.{next_or_end, nexts_from}
 
--- what is left of jobs begins with the one at its place
+-- the jobs that are left start with the one at this place
 left_from :
     (jobs : List JobParts) (n after : ℕ) (job : JobParts) → Some job ≡ slice_get jobs n → (number : ℕ) →
     nexts_from number after (drop n jobs) ≡ (next_or_end job.rule after, number) ∷ nexts_from (number + 1) after (drop (suc n) jobs)

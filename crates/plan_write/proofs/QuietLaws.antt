@@ -1,5 +1,5 @@
--- In no gap of an agenda does a job start: by induction over the seconds of the span, and in each row over the rules.
--- Behind a mark there was no start so far; a start makes the next mark, behind which there is none either.
+-- No job starts within a gap of an agenda: by induction over the seconds of the span, and in each row over the rules.
+-- There was no start after a mark so far. A start makes the next mark, and there is none after it yet.
 use Rattle.std.proofs.Common.{◌≡◌, ℕ, zero, suc, ◌+◌, ◌-◌, ◌<◌, ◌≤◌, Bool, false, List, [], ◌∷◌, ◌++◌, map, filter, Some, inl, inr, ap, sym, subst, ◌∙◌, arith, append_assoc}
 use Rattle.std.specs.Prelude.{slice_get}
 use Rattle.std.specs.List.{range_with_len, flat_map}
@@ -33,7 +33,7 @@ none_starts (first ∷ rules) second zero rule (here, later) is =
     subst (λ r. is_start r second ≡ false) same here
 none_starts (first ∷ rules) second (suc job) rule (here, later) is = none_starts rules second job rule later is
 
--- a mark, or nothing, behind the seconds so far
+-- one more second: it makes a mark if a rule starts then, else nothing
 row_gaps :
     (all rules : List Rule) (job mark second : ℕ) (rest : List ℕ) → NoneWithin all (mark, second) →
     (NoneStarts rules second → NoneWithinAll all (pairs_from mark rest)) → NoneWithinAll all (pairs_from second rest) →
@@ -44,7 +44,7 @@ row_gaps all (rule ∷ rules) job mark second rest before without with = elim (c
   | inr not ↦ rw not (row_gaps all rules (job + 1) mark second rest before (λ none. without (not, none)) with)
 ]
 
--- behind a mark there was no start up to a second: nor is there one in the gaps of what follows
+-- if there was no start from a mark up to a second, there is none in the gaps that follow
 seconds_gaps :
     (rules : List Rule) (seconds second mark : ℕ) → NoneWithin rules (mark, second) →
     NoneWithinAll rules (pairs_from mark (marks (flat_map (row_from 0 rules) (range_with_len second seconds)) (second + seconds)))
@@ -66,7 +66,7 @@ seconds_gaps rules (suc seconds) second mark before =
     ∙ ap (λ xs. xs ++ (second + suc seconds) ∷ []) (sym (map-append (λ (entry : ℕ × ℕ). entry.0) (row_from 0 rules second) later)))
     row
 
--- so of the gaps that are wide
+-- so there is none in the gaps that are wide enough
 wide_gaps :
     (rules : List Rule) (test : ℕ × ℕ → Bool) (pairs : List (ℕ × ℕ)) → NoneWithinAll rules pairs →
     NoneWithinAll rules (filter test pairs)

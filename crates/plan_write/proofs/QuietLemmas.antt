@@ -7,7 +7,7 @@ use Rattle.plan_sets.specs.Limits.{end_second}
 use Rattle.plan_collect.specs.Agenda.{IsInYears}
 use Rattle.plan_write.specs.Quiet.{pairs_from, marks, is_wide, gap_line, wide_line}
 
--- the text of the gaps that are left, behind a mark
+-- the text of the gaps that are left after a mark
 abbrev pub text_left : (least mark : ℕ) → List (ℕ × ℕ) → (upto : ℕ) → List ℕ
 text_left least mark entries upto = flat_map gap_line (filter (is_wide least) (pairs_from mark (marks entries upto)))
 
@@ -34,7 +34,7 @@ rest_from [] i d lt = absurd (omega arith)
 rest_from (entry ∷ entries) zero d lt = refl
 rest_from (entry ∷ entries) (suc i) d lt = rest_from entries i d (omega arith)
 
--- what is left behind a mark begins with the gap before the next entry
+-- the rest after a mark starts with the gap before the next entry
 pub text_at :
     (least mark upto : ℕ) (entries : List (ℕ × ℕ)) (i : ℕ) (d : ℕ × ℕ) (second : ℕ) → i < length entries → second ≡ (get_or entries i d).0 →
     text_left least mark (drop i entries) upto ≡ wide_line least (mark, second) ++ text_left least second (drop (i + 1) entries) upto
@@ -51,13 +51,13 @@ none_left [] (suc i) few = refl
 none_left (entry ∷ entries) zero few = absurd (omega arith)
 none_left (entry ∷ entries) (suc i) few = none_left entries i (omega arith)
 
--- behind the last entry the last gap is left
+-- after the last entry, the last gap is left
 pub text_end :
     (least mark upto : ℕ) (entries : List (ℕ × ℕ)) (i : ℕ) → length entries ≤ i →
     text_left least mark (drop i entries) upto ≡ wide_line least (mark, upto) ++ []
 text_end least mark upto entries i few = ap (λ es. text_left least mark es upto) (none_left entries i few) ∙ text_last least mark upto
 
--- the second of an entry is one of the planner's years
+-- the second of an entry is within the years of a plan
 pub in_years_at :
     (entries : List (ℕ × ℕ)) (i : ℕ) (d : ℕ × ℕ) (second : ℕ) → IsInYears entries → i < length entries → second ≡ (get_or entries i d).0 →
     second ≤ end_second

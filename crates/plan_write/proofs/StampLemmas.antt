@@ -1,11 +1,11 @@
--- The text of a moment is that of its day and that of its time: for `change` of `Stamp`.
+-- The text of a time is that of its date and that of its time of day: for `change` of `Stamp`.
 use Rattle.std.proofs.Common.{◌≡◌, ℕ, ◌/◌, ◌%◌, List, ◌++◌, take, drop, pos, refl, ap, ◌∙◌, sym}
 use Rattle.plan_sets.specs.Limits.{first_year, seconds_a_day}
 use Rattle.plan_sets.specs.Civil.{civil_fields, year_and_day, month_and_day}
 use Rattle.plan_sets.specs.Moment.{moment_text_of, written_text}
 use Rattle.plan_write.specs.Stamp.{stamp_text, time_text_of}
 
--- the date of a day, by its number, and the `T` behind it
+-- the date of a day, by its number, and the `T` after it
 abbrev date_text : ℕ → List ℕ
 date_text days =
     let in_year = year_and_day days first_year days in
@@ -32,7 +32,7 @@ tab_last : (n m : ℕ) → drop 9 (drop 11 (stamp_text n)) ≡ drop 9 (drop 11 (
 unfolding moment_text_of civil_fields
 tab_last n m = refl
 
--- the text of a moment, with the time of another one of the same day, is that one's
+-- the text of a time becomes that of another one of the same day, if its time of day is replaced
 pub other_time :
     (n m : ℕ) (text : List ℕ) → text ≡ stamp_text n → n / seconds_a_day ≡ m / seconds_a_day →
     take 11 text ++ (time_text_of (m % seconds_a_day) ++ drop 9 (drop 11 text)) ≡ stamp_text m

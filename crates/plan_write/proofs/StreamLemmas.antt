@@ -1,6 +1,6 @@
 -- A text that is written piece by piece: for `put`, `put_all` and `write_agenda` of write.rt.
--- `AppendsAllBut` cuts a text into what was written and what waits. A lemma takes it a step further, or makes a prefix of
--- the whole text of it, for an error.
+-- `AppendsAllBut` cuts a text into what was written and what waits. A lemma takes it a step further, or, if
+-- there is an error, shows that a prefix of the whole text was written.
 use Rattle.std.proofs.Common.{◌≡◌, ℕ, ◌+◌, ◌<◌, List, [], ◌∷◌, ◌++◌, length, take, drop, get_or, Option, Result, Ok, Err, OnErr, IsErr, Bool, is_ok, true, false, ap, sym, subst, ◌∙◌, arith, append_assoc, append-nil, length-append}
 use Rattle.std.specs.List.{flat_map}
 use Rattle.std.proofs.Math.Seq.{take-append-add}
@@ -11,12 +11,12 @@ use Rattle.std.proofs.KnownBytes.{Appends-nil, Appends-trans}
 use Rattle.std.specs.Io.KnownBytes.{Appends}
 use Rattle.plan_streams.specs.Stream.{AppendsPrefix, AppendsAllBut, BreaksOff, Puts, PutsAllBut}
 
--- what is so of a refusal is so where the call was refused
+-- what holds for an error holds if the call failed
 pub refused : {T E : Type 0} (r : Result T E) (P : Type 0) → is_ok r ≡ false → OnErr r P → P
 refused (Ok x) P is h = absurd (true≢false is)
 refused (Err e) P is h = h
 
--- at an error the stream broke off
+-- if there is an error, the stream broke off
 pub all_but_err :
     {T E : Type 0} (takes_all : Bool) (r : Result T E) (old new : Option (List ℕ)) (text waiting : List ℕ) → IsErr r →
     BreaksOff takes_all old new text → PutsAllBut takes_all r old new text waiting
@@ -37,18 +37,18 @@ all_waits a text waiting is = record {
   written = Appends-nil a;
 }
 
--- two texts that wait one behind the other are one text behind what waited
+-- two texts that wait one after the other are one text after what waited
 pub line_waits : (waiting stamp end : List ℕ) → waiting ++ (stamp ++ end) ≡ (waiting ++ stamp) ++ end
 line_waits waiting stamp end = sym (append_assoc waiting stamp end)
 
--- what waited was written, and then some of a text
+-- what waited was written, and then a part of a text
 prefix_after :
     (a b c : Option (List ℕ)) (front text : List ℕ) → Appends a b front → AppendsPrefix b c text → AppendsPrefix a c (front ++ text)
 prefix_after a b c front text first (k, few, second) =
     let both : take (length front + k) (front ++ text) ≡ front ++ take k text = take-append-add front text k in
     (length front + k, omega (arith, length-append front text), rw both (Appends-trans a b c front (take k text) first second))
 
--- what waited was written, and then a text, if not all of it
+-- what waited was written, and then a text, or a part of it
 pub put_behind :
     {E : Type 0} (takes_all : Bool) (r : Result (Unit {0}) E) (a b c : Option (List ℕ)) (waiting text rest : List ℕ) →
     Appends a b waiting → Puts takes_all r b c text → rest ≡ [] → PutsAllBut takes_all r a c (waiting ++ text) rest
@@ -71,7 +71,7 @@ all_but_more a b c before text waiting after so_far more = record {
   written = Appends-trans a b c so_far.front more.front so_far.written more.written;
 }
 
--- one more text, of which only some was written
+-- one more text, but only a part of it was written
 pub prefix_more :
     (a b c : Option (List ℕ)) (before text waiting : List ℕ) → AppendsAllBut a b before waiting →
     AppendsPrefix b c (waiting ++ text) → AppendsPrefix a c (before ++ text)
@@ -80,7 +80,7 @@ prefix_more a b c before text waiting so_far more =
     (λ xs. xs ++ text) (sym so_far.all) in
     subst (AppendsPrefix a c) all (prefix_after a b c so_far.front (waiting ++ text) so_far.written more)
 
--- a prefix of a text is one of a longer text
+-- a prefix of a text is also one of a longer text
 pub prefix_longer : (a c : Option (List ℕ)) (text rest : List ℕ) → AppendsPrefix a c text → AppendsPrefix a c (text ++ rest)
 prefix_longer a c text rest (k, few, written) =
     (k, omega (arith, length-append text rest), rw (take-append-le k text rest few) written)
@@ -90,7 +90,7 @@ pub breaks_off_longer :
     BreaksOff takes_all a c (text ++ rest)
 breaks_off_longer takes_all a c text rest (fails, first) = (fails, prefix_longer a c text rest first)
 
--- what still waited was written, if not all of it
+-- what still waited was written, or a part of it
 pub puts_last :
     {E : Type 0} (takes_all : Bool) (r : Result (Unit {0}) E) (a b c : Option (List ℕ)) (text waiting : List ℕ) →
     AppendsAllBut a b text waiting → Puts takes_all r b c waiting → Puts takes_all r a c text
@@ -107,7 +107,7 @@ next_part f xs i d start lt =
     ∙ ap (λ ys. start ++ ys) (ap (λ ys. flat_map f (take i xs) ++ ys) (sym (append-nil (f (get_or xs i d)))) ∙ sym
     (flat_map-append f (take i xs) (get_or xs i d ∷ [])) ∙ ap (flat_map f) (sym (take_more xs i d lt)))
 
--- a loop over parts of a text comes one part further
+-- a loop over parts of a text goes one part further
 pub loop_more :
     {X : Type 0} (f : X → List ℕ) (xs : List X) (i : ℕ) (d : X) (a b c : Option (List ℕ)) (start waiting after : List ℕ) →
     AppendsAllBut a b (start ++ flat_map f (take i xs)) waiting → i < length xs →
@@ -116,7 +116,7 @@ loop_more f xs i d a b c start waiting after so_far lt more =
     let both = all_but_more a b c (start ++ flat_map f (take i xs)) (f (get_or xs i d)) waiting after so_far more in
     subst (λ text. AppendsAllBut a c text after) (next_part f xs i d start lt) both
 
--- and where the part could not be written, a prefix of the whole text was
+-- if the part could not be written, a prefix of the whole text was
 pub loop_prefix :
     {X : Type 0} (f : X → List ℕ) (xs : List X) (i : ℕ) (d : X) (a b c : Option (List ℕ)) (start waiting : List ℕ) →
     AppendsAllBut a b (start ++ flat_map f (take i xs)) waiting → i < length xs →
@@ -138,7 +138,7 @@ pub loop_breaks_off :
 loop_breaks_off f xs i d takes_all a b c start waiting so_far lt (fails, more) =
     (fails, loop_prefix f xs i d a b c start waiting so_far lt more)
 
--- of a whole text the stream took all but what still waits and what is left
+-- the stream took all of a whole text except what still waits and what is left
 pub record PutsAllBefore (old new : Option (List ℕ)) (whole waiting left : List ℕ) : Type 0 where
   pub so_far : List ℕ
   pub put : AppendsAllBut old new so_far waiting
@@ -152,7 +152,7 @@ before_first a whole waiting none = record {
   is = λ i. whole;
 }
 
--- one more text of those that are left
+-- one more of the texts that are left
 pub before_more :
     (a b c : Option (List ℕ)) (whole waiting after text left : List ℕ) → PutsAllBefore a b whole waiting (text ++ left) →
     AppendsAllBut b c (waiting ++ text) after → PutsAllBefore a c whole after left
@@ -162,7 +162,7 @@ before_more a b c whole waiting after text left so_far more = record {
   is = append_assoc so_far.so_far text left ∙ so_far.is;
 }
 
--- which could not be written
+-- this text could not be written
 pub before_off :
     (takes_all : Bool) (a b c : Option (List ℕ)) (whole waiting text left : List ℕ) → PutsAllBefore a b whole waiting (text ++ left) →
     BreaksOff takes_all b c (waiting ++ text) → BreaksOff takes_all a c whole
@@ -171,7 +171,7 @@ before_off takes_all a b c whole waiting text left so_far (fails, more) =
     (breaks_off_longer takes_all a c (so_far.so_far ++ text) left
     (fails, prefix_more a b c so_far.so_far text waiting so_far.put more))
 
--- where nothing is left, all of it was put
+-- if nothing is left, all of it was put
 pub before_all :
     (a b : Option (List ℕ)) (whole waiting : List ℕ) → PutsAllBefore a b whole waiting [] → AppendsAllBut a b whole waiting
 before_all a b whole waiting so_far =

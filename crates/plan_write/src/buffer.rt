@@ -1,13 +1,13 @@
-//! Bytes that wait until they are written together.
+//! A buffer of bytes that wait until they are written together.
 
 ghost use Rattle.std.specs.Prelude.{◌≡◌, ◌≤◌, ◌-◌, ◌++◌, [], length, nat_le};
 
 use std::marker::Model;
 
-/// How many bytes wait at most.
+/// The maximum number of waiting bytes.
 pub(crate) const MOST_WAITING: usize = 65_536;
 
-/// The bytes that wait, seen as their list.
+/// The waiting bytes. Contracts see this value as their list.
 #[derive(Drop)]
 pub(crate) struct Buffer {
     bytes: [u8; MOST_WAITING],
@@ -25,7 +25,7 @@ impl Model for Buffer {
 }
 
 impl Buffer {
-    /// A buffer in which nothing waits.
+    /// Returns an empty buffer.
     pub(crate) fn new() -> Buffer
         ensures { result ≡ [] }
     {
@@ -35,7 +35,7 @@ impl Buffer {
         }
     }
 
-    /// Whether there is room for so many more bytes.
+    /// Returns whether this many more bytes fit.
     #[inline(always)]
     pub(crate) fn has_room(&self, more: usize) -> bool
         ensures { result ≡ nat_le more (MOST_WAITING - length self.now) }
@@ -43,7 +43,7 @@ impl Buffer {
         more <= MOST_WAITING - self.len
     }
 
-    /// Adds a text behind what waits. There has to be room for it.
+    /// Appends a text to the waiting bytes. The text must fit.
     #[inline(always)]
     pub(crate) fn append(&mut self, text: &[u8])
         requires { length text.now ≤ MOST_WAITING - length self.old }
@@ -54,14 +54,14 @@ impl Buffer {
         self.len = end;
     }
 
-    /// The bytes.
+    /// Lends the waiting bytes.
     pub(crate) fn as_slice(&self) -> &[u8]
         ensures { result.now ≡ self.now }
     {
         &self.bytes[..self.len]
     }
 
-    /// Drops what waits.
+    /// Drops the waiting bytes.
     pub(crate) fn clear(&mut self)
         ensures { self.new ≡ [] }
     {

@@ -1,8 +1,9 @@
-//! The texts of an agenda: one line for each start, or one line for each gap in which nothing starts. It tells too when each job
-//! starts next.
+//! The texts that are made of an agenda and of jobs: one line for each start, one line for each gap in which
+//! nothing starts, and one line for each job with its next start.
 //!
-//! It stands on plan_collect, whose agendas are written, on plan_rules, for the jobs, and on plan_streams. Open `write` first;
-//! `quiet` makes the text of gaps, and `upcoming` that of next starts.
+//! The agendas come from plan_collect and the jobs from plan_rules. The texts go to the streams of
+//! plan_streams. Read `write` first, which writes agendas. `quiet` writes gaps, and `upcoming` writes next
+//! starts.
 #![tactic(auto)]
 
 mod buffer;

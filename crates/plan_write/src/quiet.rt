@@ -1,4 +1,4 @@
-//! When nothing starts: the gaps of an agenda.
+//! The text of the gaps of an agenda, in which nothing starts.
 
 ghost use Rattle.std.specs.Prelude.{◌≡◌, ◌≤◌, ◌++◌};
 ghost use Rattle.plan_sets.specs.Limits.{end_second};
@@ -12,11 +12,15 @@ use plan_collect::Agenda;
 use plan_sets::moment_text;
 use plan_streams::{Stream, WriteFault};
 
-/// Writes the gaps of an agenda that last `least` seconds or longer, a line for each, in order: the moment of the start, or of the
-/// span's begin, after which nothing starts, the moment at which something starts again or the span ends, and the seconds between
-/// them, in decimal. Between these stands a tab. Takes no memory of its own. The stream is flushed once, at the end.
+/// Writes the gaps of an agenda that last at least `least` seconds: one line for each, in order.
 ///
-/// `Device` where the stream fails; then only the first bytes of the text were written.
+/// A line has the time after which nothing starts, the time at which something starts again, and the seconds
+/// between them, in decimal, with tabs between the three. A gap may also start with the span, or end with it.
+/// This requests no memory. The stream is flushed once, at the end.
+///
+/// # Errors
+///
+/// `Device` if the stream fails. Then only the first bytes of the text were written.
 // Not inlined: its buffer of 64 KiB takes stack only while it runs.
 #[inline(never)]
 pub fn write_quiet<S: Stream>(agenda: &Agenda, least: u64, out: &mut S) -> Result<(), WriteFault>
@@ -35,7 +39,7 @@ pub fn write_quiet<S: Stream>(agenda: &Agenda, least: u64, out: &mut S) -> Resul
     out.put(waiting.as_slice())
 }
 
-// Puts the line of the gap between two marks behind what waits, if it is wide enough.
+// Appends the line of the gap between two marks to the waiting bytes, if the gap is wide enough.
 fn put_gap<S: Stream>(
     from: u64,
     to: u64,
@@ -59,8 +63,8 @@ fn put_gap<S: Stream>(
     put_all(&[&begin, b"\t", &end, b"\t", count, b"\n"], waiting, out)
 }
 
-/// The law of gaps: in none of the gaps of an agenda, whose lines `write_quiet` writes, does a job start. A gap's begin and its end
-/// are no part of it.
+/// States the law of gaps: no job starts within a gap of an agenda, as `write_quiet` writes them. The start and
+/// the end of a gap don't belong to it.
 ///
 /// The function does nothing: its contract is the law.
 pub fn nothing_starts_in_gaps()

@@ -1,4 +1,4 @@
-//! The text of a moment that many entries show.
+//! The text of a time, made once for all entries that show it.
 
 ghost use Rattle.std.specs.Prelude.{◌≡◌, ◌<◌, ◌≤◌};
 ghost use Rattle.plan_sets.specs.Limits.{end_second, seconds_a_day};
@@ -8,8 +8,8 @@ ghost use Rattle.plan_write.specs.Stamp.{stamp_text, time_text_of};
 use plan_sets::{SECONDS_A_DAY, moment_text};
 use std::marker::Model;
 
-/// A second up to `END_SECOND`, with the text of its moment and a tab behind it. The text is made once for all entries of the
-/// second, and its date once for all of the day.
+/// A second, at most `END_SECOND`, with its text and a tab. The text is made once for all entries of the
+/// second, and its date once for all entries of the day.
 #[derive(Drop)]
 pub(crate) struct Stamp {
     second: u64,
@@ -29,7 +29,7 @@ impl Model for Stamp {
 }
 
 impl Stamp {
-    /// The stamp of a second.
+    /// Returns the stamp of a second.
     pub(crate) fn new(second: u64) -> Stamp
         requires { second ≤ end_second }
         ensures { result ≡ second }
@@ -39,7 +39,7 @@ impl Stamp {
         Stamp { second, text }
     }
 
-    /// Shows a second.
+    /// Changes the stamp to that of a second.
     #[inline(always)]
     pub(crate) fn show(&mut self, second: u64)
         requires { second ≤ end_second }
@@ -50,7 +50,7 @@ impl Stamp {
         }
     }
 
-    // Shows another second: on the same day only the time changes.
+    // Changes the stamp to that of another second. On the same day only the time of day changes.
     #[inline(never)]
     fn change(&mut self, second: u64)
         requires { second ≤ end_second }
@@ -64,7 +64,7 @@ impl Stamp {
         }
     }
 
-    /// The text of the moment, and the tab.
+    /// Returns the text of the time, and the tab.
     #[inline(always)]
     pub(crate) fn text(&self) -> &[u8; 21]
         ensures { result.now ≡ stamp_text self.now }
@@ -73,7 +73,7 @@ impl Stamp {
     }
 }
 
-// The text of a time of day, in seconds.
+// Returns the text of a time of day, which is given in seconds.
 fn time_text(time: u64) -> [u8; 9]
     requires { time < seconds_a_day }
     ensures { result ≡ time_text_of time }
@@ -84,7 +84,7 @@ fn time_text(time: u64) -> [u8; 9]
     [h1, h2, b':', m1, m2, b':', s1, s2, b'Z']
 }
 
-// The two decimal digits of a number below 100.
+// Returns the two decimal digits of a number below 100.
 fn digits(number: u64) -> [u8; 2]
     requires { number < 100 }
     ensures { result ≡ two_digits number }

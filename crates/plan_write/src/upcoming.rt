@@ -1,4 +1,4 @@
-//! When each job starts next.
+//! The next start of each job, and the text of these starts.
 
 ghost use Rattle.std.specs.Prelude.{◌≡◌, ◌≤◌, ◌++◌, IfOk, slice_get};
 ghost use Rattle.plan_sets.specs.Limits.{end_second};
@@ -16,8 +16,8 @@ use plan_streams::{Stream, WriteFault};
 use std::alloc::{AllocError, Global};
 use std::marker::Model;
 
-/// The next start of each job, by time and then by job: a second and the job's number. Jobs without a further start stand last,
-/// with `END_SECOND`.
+/// The next start of each job, by time and then by job: a second and the job's number. Jobs without a further
+/// start come last, with `END_SECOND`.
 #[derive(Debug, Drop)]
 pub struct Upcoming {
     nexts: Vec<Entry>,
@@ -32,7 +32,11 @@ impl Model for Upcoming {
 }
 
 impl Upcoming {
-    /// The first start of each job later than `after`, in seconds since 1970-01-01T00:00:00Z. It fails where memory is refused.
+    /// Returns the first start of each job later than `after`, in seconds since 1970-01-01T00:00:00Z.
+    ///
+    /// # Errors
+    ///
+    /// `AllocError` if an allocation fails.
     pub fn new(alloc: Global, jobs: &Jobs, after: u64) -> Result<Upcoming, AllocError>
         ensures { IfOk result (λ nexts. AreUpcoming jobs.now after nexts) }
     {
@@ -41,7 +45,7 @@ impl Upcoming {
         Ok(Upcoming { nexts })
     }
 
-    // The next starts, in order.
+    // Lends the next starts, in order.
     fn nexts(&self) -> &[Entry]
         ensures { result.now ≡ self.now }
     {
@@ -49,7 +53,7 @@ impl Upcoming {
     }
 }
 
-// When each job starts next, in the order of jobs.
+// Returns the next start of each job, in the order of the jobs.
 fn nexts_of(alloc: Global, jobs: &Jobs, after: u64) -> Result<Vec<Entry>, AllocError>
     ensures { IfOk result (λ nexts. nexts.items ≡ nexts_from 0 after jobs.now) }
 {
@@ -62,7 +66,7 @@ fn nexts_of(alloc: Global, jobs: &Jobs, after: u64) -> Result<Vec<Entry>, AllocE
     Ok(nexts)
 }
 
-// The first start of a rule later than a second, or the end of all years where it has none.
+// Returns the first start of a rule later than a second, or `END_SECOND` if it has none.
 fn next_or_end(rule: &Rule, after: u64) -> u64
     ensures next { result ≡ next_or_end rule.now after }
     ensures years { result ≤ end_second }
@@ -73,10 +77,14 @@ fn next_or_end(rule: &Rule, after: u64) -> u64
     }
 }
 
-/// Writes when each of these jobs starts next, a line for each job: the moment, or `none` where it has no further start, the job's
-/// name, what it runs. Between these stands a tab. Takes no memory of its own. The stream is flushed once, at the end.
+/// Writes the next start of each of these jobs: one line for each.
 ///
-/// `Device` where the stream fails; then only the first bytes of the text were written.
+/// A line has the time, or `none` if the job has no further start, the job's name, and what it runs, with tabs
+/// between the three. This requests no memory. The stream is flushed once, at the end.
+///
+/// # Errors
+///
+/// `Device` if the stream fails. Then only the first bytes of the text were written.
 // Not inlined: its buffer of 64 KiB takes stack only while it runs.
 #[inline(never)]
 pub fn write_upcoming<S: Stream>(
@@ -95,7 +103,7 @@ pub fn write_upcoming<S: Stream>(
     out.put(waiting.as_slice())
 }
 
-// Puts the line of a job's next start behind what waits.
+// Appends the line of a job's next start to the waiting bytes.
 fn put_next<S: Stream>(
     next: Entry,
     jobs: &Jobs,

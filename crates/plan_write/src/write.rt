@@ -1,4 +1,4 @@
-//! The text of an agenda.
+//! The text of an agenda: its header, and a line for each entry.
 
 ghost use Rattle.std.specs.Prelude.{◌≡◌, ◌≤◌, ◌++◌, length, slice_get};
 ghost use Rattle.std.specs.List.{flat_map};
@@ -14,11 +14,15 @@ use plan_rules::Jobs;
 use plan_sets::{END_SECOND, moment_text};
 use plan_streams::{Stream, WriteFault};
 
-/// Writes the text of an agenda of these jobs. Its first line is `agenda 2`, the moments with which its span begins and before
-/// which it ends, and how many entries it has; then comes a line for each entry: the moment, the job's name, what it runs. Between
-/// the words of a line stands a tab. Takes no memory of its own. The stream is flushed once, at the end.
+/// Writes the text of an agenda of these jobs.
 ///
-/// `Device` where the stream fails; then only the first bytes of the text were written.
+/// The header has `agenda 2`, the start of the span, its end, and the number of entries. Then comes one line
+/// for each entry: the time, the job's name, and what it runs. The parts of a line have tabs between them. This
+/// requests no memory. The stream is flushed once, at the end.
+///
+/// # Errors
+///
+/// `Device` if the stream fails. Then only the first bytes of the text were written.
 // Not inlined: its buffer of 64 KiB takes stack only while it runs.
 #[inline(never)]
 pub fn write_agenda<S: Stream>(agenda: &Agenda, jobs: &Jobs, out: &mut S) -> Result<(), WriteFault>
@@ -35,7 +39,7 @@ pub fn write_agenda<S: Stream>(agenda: &Agenda, jobs: &Jobs, out: &mut S) -> Res
     out.put(waiting.as_slice())
 }
 
-// Puts the first line of an agenda behind what waits.
+// Appends the header of an agenda to the waiting bytes.
 fn put_header<S: Stream>(
     agenda: &Agenda,
     waiting: &mut Buffer,
@@ -55,7 +59,7 @@ fn put_header<S: Stream>(
     )
 }
 
-// Puts the line of an entry behind what waits.
+// Appends the line of an entry to the waiting bytes.
 #[inline(always)]
 pub(crate) fn put_line<S: Stream>(
     entry: Entry,
@@ -75,7 +79,8 @@ pub(crate) fn put_line<S: Stream>(
     put_parts(stamp.text(), job.line_end().as_bytes(), waiting, out)
 }
 
-// Puts the two parts of a line behind what waits, the first of them with its tab: with one question for room, where there is enough.
+// Appends the two parts of a line to the waiting bytes; the first part ends with a tab. If both fit, that is
+// checked only once.
 #[inline(always)]
 fn put_parts<S: Stream>(
     stamp: &[u8; 21],
@@ -94,7 +99,7 @@ fn put_parts<S: Stream>(
     Ok(())
 }
 
-// Puts texts behind what waits, one after the other.
+// Appends texts to the waiting bytes, one after the other.
 #[cold]
 pub(crate) fn put_all<S: Stream>(
     texts: &[&[u8]],
@@ -110,7 +115,7 @@ pub(crate) fn put_all<S: Stream>(
     Ok(())
 }
 
-// Puts a text behind what waits. Where there is no room for it, what waits is written first.
+// Appends a text to the waiting bytes. If it doesn't fit, the waiting bytes are written first.
 fn put<S: Stream>(text: &[u8], waiting: &mut Buffer, out: &mut S) -> Result<(), WriteFault>
     ensures { PutsAllBut S.takes_all result (S.holds out.old) (S.holds out.new)
         (waiting.old ++ text.now) waiting.new }

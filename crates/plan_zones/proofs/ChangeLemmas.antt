@@ -36,7 +36,7 @@ passed_stops changes n l =
 passed_bound : (changes : List Change) (n : ℕ) → passed_at changes n ≤ length changes
 passed_bound changes n = prefix_len-le-length _ changes
 
--- how many have passed, from the changes around
+-- the number of changes that have passed, from the changes around a second
 passed_by :
     (changes : List Change) (n k : ℕ) → k ≤ length changes → ((j : ℕ) → j < k → (change_at changes j).second ≤ n) →
     (k < length changes → n < (change_at changes k).second) → passed_at changes n ≡ k
@@ -44,7 +44,7 @@ passed_by changes n k bound passes stops = prefix_len_is (λ (change : Change). 
     (λ j l. let pass = passes j l in grind (arith, nat_tests))
     (λ l. let stop = stops l in grind (arith, nat_tests))
 
--- the offset where so many have passed, at least one
+-- the offset after so many passed changes, at least one
 offset_of-passed :
     (changes : List Change) (n k : ℕ) → passed_at changes n ≡ k → 0 < k → offset_of changes n ≡ (change_at changes (k - 1)).offset
 unfolding row_at
@@ -64,7 +64,7 @@ at_end changes change = get_or-append_seam changes change [] no_change
 length-push : (changes : List Change) (change : Change) → length (changes ++ change ∷ []) ≡ length changes + 1
 length-push changes change = grind (arith, common_steps)
 
--- what holds of each change, holds of each with one more for which it holds
+-- a property of all changes and of a new one is a property of all changes with the new one
 push_all :
     (P : Change → Type 0) (changes : List Change) (change : Change) →
     ((k : ℕ) → k < length changes → P (change_at changes k)) → P change →
@@ -78,7 +78,7 @@ push_all P changes change each last k l =
           subst (λ j. P (change_at (changes ++ change ∷ []) j)) same (subst P (sym (at_end changes change)) last)
     ]
 
--- the same of each change and the next
+-- the same for a property of each change and the next
 push_pairs :
     (P : Change → Change → Type 0) (changes : List Change) (change : Change) →
     ((k : ℕ) → k + 1 < length changes → P (change_at changes k) (change_at changes (k + 1))) →
@@ -161,7 +161,7 @@ offset_last :
 offset_last changes n some each =
     offset_of-passed changes n (length changes) (passed_by changes n (length changes) (omega arith) each (λ l. absurd (omega arith))) some
 
--- some change has passed at each second, where there is one at second 0
+-- at each second some change has passed, if there is one at second 0
 passed_some : (changes : List Change) (n : ℕ) → 0 < length changes → (change_at changes 0).second ≡ 0 → 0 < passed_at changes n
 passed_some changes n some first = elim (leb_tells 1 (passed_at changes n)) [
   | inl found ↦ omega arith
@@ -173,7 +173,7 @@ passed_some changes n some first = elim (leb_tells 1 (passed_at changes n)) [
       absurd (omega arith)
 ]
 
--- the changes of a zone up to a second, and up to a later one before which the offset stays as it is there
+-- the changes of a zone up to a second are extended up to a later one, if the offset is the same in between
 pub Covers-added :
     (z : Tzif) (changes : List Change) (s e : ℕ) (offset : ℤ) → Covers z changes s → IsOffsetSeconds offset → offset ≡ zone_offset z s →
     s < e →
@@ -237,7 +237,7 @@ Covers-added z changes s e offset covers within is later steady =
           }
     ] refl
 
--- no changes are the changes before second 0
+-- the changes before second 0 are none
 pub Covers-none : (z : Tzif) → Covers z [] 0
 Covers-none z = record {
   some = λ l. absurd (omega arith);
@@ -251,6 +251,6 @@ Covers-none z = record {
   same = λ n l. absurd (omega arith);
 }
 
--- an offset comes back from its bits
+-- an offset is restored from its bits
 pub offset-back : (a : ℤ) → IsOffsetSeconds a → to_z w32 (of_z w32 a) ≡ a
 offset-back a h = let fits : FitsSigned w32 a = omega (arith, signed_arith) in to_z-of_z fits

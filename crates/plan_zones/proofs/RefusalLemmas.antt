@@ -1,4 +1,4 @@
--- Bytes that are read as a zone are not rejected: what a rule gives depends on its text alone.
+-- Bytes that are read as a zone are not rejected: what a rule gives depends only on its text.
 use Rattle.std.proofs.Common.{◌≡◌, ℕ, ◌-◌, ℤ, Bool, true, false, cond, List, get_or, length, map, Option, None, Some, Ok, refl, sym, ap, subst, ◌∙◌, inl, inr}
 use Rattle.std.specs.Prelude.{option_map, IfSome}
 use Rattle.jiff_core.specs.declared.Offset.{Offset}
@@ -36,7 +36,7 @@ same_window y d e a b views std =
 abbrev said : OffsetInfo → ℤ × Rattle.jiff_tz.specs.declared.info.Dst.Dst × List ℕ
 said i = (i.offset.seconds, i.dst, abbreviation_text i.abbreviation)
 
--- two rules with one text give the same of every instant
+-- two rules with the same text give the same for every instant
 same_info_by :
     (a b : TimeZone) (n : ℤ) (o p : Option Dst) → option_map dst_view o ≡ option_map dst_view p →
     a.std_offset.seconds ≡ b.std_offset.seconds → abbreviation_text a.std_abbrev ≡ abbreviation_text b.std_abbrev
@@ -62,7 +62,7 @@ same_info_by a b n (Some d) (Some f) e std name =
 same_info : (a b : TimeZone) (n : ℤ) → tz_view a ≡ tz_view b → said (info_at a n) ≡ said (info_at b n)
 same_info a b n views = same_info_by a b n a.dst b.dst (ap (λ v. v.dst) views) (ap (λ v. v.std_seconds) views) (ap (λ v. v.std_name) views)
 
--- two rules with one text agree with the same tables
+-- two rules with the same text agree with the same tables
 agrees_with :
     (rows : List TransitionText) (o : Option TimeZone) (rule : TimeZone) → option_map tz_view o ≡ Some (tz_view rule) →
     IfSome o (λ tz. FooterAgrees rows tz) → FooterAgrees rows rule

@@ -1,4 +1,4 @@
--- Between an instant and the next transition after it, in one year, the offset of a zone stays as it is.
+-- Up to the next transition after an instant, and in the same year, the offset of a zone doesn't change.
 use Rattle.std.proofs.Common.{◌≡◌, ℕ, ◌-◌, ◌≤◌, ◌<◌, ℤ, pos, neg_ℤ, ◌≤ℤ◌, ◌<ℤ◌, true, false, cond, ◌==◌, ◌&&◌, int_le, int_lt, length, Option, None, Some, refl, sym, ap, subst, ◌∙◌, arith, vec_len}
 use Rattle.std.proofs.lemmas.Bool.Decides.{nat_tests}
 use Rattle.std.proofs.lemmas.List.Sums.{prefix_len_passes, prefix_len-le-length}
@@ -32,7 +32,7 @@ lt_no a b h = elim (int_lt a b) as (λ v. int_lt a b ≡ v → v ≡ false) [
   | false ↦ λ e. refl
 ] refl
 
--- two times, with no `a` between them, are at or after `a` both or neither
+-- two times without `a` between them are both before `a`, or both at or after it
 le_same : (a n m : ℤ) → n ≤ℤ m → (n <ℤ a → m <ℤ a) → int_le a m ≡ int_le a n
 le_same a n m up stays = elim (int_le a n) as (λ v. int_le a n ≡ v → int_le a m ≡ v) [
   | true ↦ λ e. let at = le-true a n e in le_yes a m (omega (arith, signed_arith))
@@ -45,12 +45,12 @@ lt_same a n m up stays = elim (int_lt n a) as (λ v. int_lt n a ≡ v → int_lt
   | false ↦ λ e. let over = lt-false n a e in lt_no m a (omega (arith, signed_arith))
 ] refl
 
--- two times with no end of a window between them are both inside it or both outside
+-- two times without an end of a window between them are both inside or both outside
 window_same : (w : ℤ × ℤ) (n m : ℤ) → n ≤ℤ m → (n <ℤ w.0 → m <ℤ w.0) → (n <ℤ w.1 → m <ℤ w.1) → in_window w m ≡ in_window w n
 window_same w n m up first second =
     rw (le_same w.0 n m up first, lt_same w.1 n m up second, le_same w.1 n m up second, lt_same w.0 n m up first) refl
 
--- the same, of the ends in order
+-- the same, for the ends in order
 window_steady :
     (w : ℤ × ℤ) (n m : ℤ) → n ≤ℤ m → (n <ℤ (ordered w).0 → m <ℤ (ordered w).0) → (n <ℤ (ordered w).1 → m <ℤ (ordered w).1) →
     in_window w m ≡ in_window w n
@@ -72,7 +72,7 @@ first_instant = neg_ℤ (pos 377_705_023_201_000_000_000)
 abbrev pub last_instant : ℤ
 last_instant = pos 253_402_207_200_999_999_999
 
--- an end of a window is a transition, unless it is past the last instant
+-- an end of a window is a transition, unless it is after the last instant
 moment_ahead :
     (tz : TimeZone) (d : Dst) (w : ℤ × ℤ) (x n m : ℤ) → first_instant ≤ℤ n → m ≤ℤ last_instant → n <ℤ x →
     IsBefore m (transition_of tz d w x) → m <ℤ x
@@ -135,15 +135,15 @@ rule_steady tz n m up low high year =
           ap (λ b. match_some (cond b (Some d) None) std (λ d. d.offset)) (moved ∙ same)
     ]
 
--- the second of an instant that begins a second
+-- the second of an instant at which a second starts
 floor_nanos : (s : ℕ) → floor_second (nanos_of_seconds (pos s)) ≡ pos s
 floor_nanos s = omega (arith, signed_arith)
 
--- the offset where that many rows of the table are at or before the instant
+-- the offset if that many rows of the table are at or before the instant
 abbrev offset_after : Tzif → ℕ → ℤ → Offset
 offset_after z c n = match_some (rule_after z c) (type_after z c).offset (λ tz. Posix.offset_at tz n)
 
--- the same offset where the same rows are, and no transition of the rule comes between
+-- the offset is the same if the rows are the same and no transition of the rule is in between
 after_steady : (z : Tzif) (c : ℕ) (n m : ℤ) → n ≤ℤ m → first_instant ≤ℤ n → m ≤ℤ last_instant → year_of_nanos m ≡ year_of_nanos n
     → (c == vec_len z.transitions ≡ true → IsBefore m (match_some z.posix_tz None (λ tz. Posix.next_at tz n))) →
     offset_after z c m ≡ offset_after z c n
@@ -194,7 +194,7 @@ zone_steady z s n up in_years year next =
     (Some (transition_view (transition_at z c))))) e before) in
     ap (λ o. o.seconds) (first ∙ steady ∙ sym last)
 
--- the same, by what a call returns for the instant at which the second starts
+-- the same, for what a call returns for the instant at which the second starts
 pub zone_steady-some :
     (z : Tzif) (s n : ℕ) (at : ℤ) (t : ℤ × OffsetInfo) → at ≡ nanos_of_seconds (pos s) → Some t ≡ Table.next_at z at → s ≤ n →
     n < end_second → year_at n ≡ year_at s → nanos_of_seconds (pos n) <ℤ t.0 → zone_offset z n ≡ zone_offset z s

@@ -29,7 +29,7 @@ days_begin year low = elim (leb_tells year first_year) [
       omega (arith, day_count-epoch)
 ]
 
--- the first year starts at second 0, and each year where the one before it ends
+-- the first year starts at second 0, and each later year at the end of the one before it
 pub year_start-first : year_start first_year ≡ 0
 year_start-first = omega (arith, day_count-epoch)
 
@@ -70,7 +70,7 @@ year_at-is year n low high in_years from upto =
     (omega (arith, signed_arith)) in
     ap year_of_day (day_of_nanos n ∙ sym number) ∙ of_date ∙ same
 
--- the planner's years end with the last of them
+-- the supported years end with the last of them
 pub year_start-within :
     (year : ℕ) → first_year ≤ year → year ≤ last_year → year_start year + days_in_year (pos year) * seconds_a_day ≤ end_second
 year_start-within year low high =

@@ -1,4 +1,4 @@
--- The changes of a zone up to a second, as they are found a year at a time.
+-- The changes of a zone up to a second, found one year at a time.
 use Rattle.std.specs.Prelude.{◌≡◌, ℕ, ◌-◌, ◌*◌, ◌<◌, ◌++◌, ◌∷◌, [], ◌==◌, ◌&&◌, not, Bool, ℤ, pos, List, get_or, length, if◌then◌else◌}
 use Rattle.std.specs.Ordering.{int_eq}
 use Rattle.jiff_core.specs.Calendar.{day_count}
@@ -14,7 +14,7 @@ use Rattle.plan_sets.specs.Limits.{seconds_a_day}
 abbrev pub zone_offset : Tzif → ℕ → ℤ
 zone_offset zone second = (offset_at zone (nanos_of_seconds (pos second))).seconds
 
--- the year in UTC of a second
+-- the year of a second, in UTC
 abbrev pub year_at : ℕ → ℤ
 year_at second = year_of_nanos (nanos_of_seconds (pos second))
 
@@ -22,15 +22,15 @@ year_at second = year_of_nanos (nanos_of_seconds (pos second))
 abbrev pub year_start : ℕ → ℕ
 year_start year = (day_count (pos year) 1 1 - 4_371_953) * seconds_a_day
 
--- the change at this place of the list
+-- the change at this position of the list
 abbrev pub change_at : List Change → ℕ → Change
 change_at changes place = get_or changes place no_change
 
--- whether the last change has this offset
+-- whether there is a last change, and it has this offset
 abbrev pub ends_with_offset : List Change → ℤ → Bool
 ends_with_offset changes offset = not (length changes == 0) && int_eq (change_at changes (length changes - 1)).offset offset
 
--- the changes with one more, unless the offset stays as it is
+-- the changes with one more, unless that one has the same offset as the last
 abbrev pub added : List Change → Change → List Change
 added changes change = if ends_with_offset changes change.offset then changes else changes ++ change ∷ []
 

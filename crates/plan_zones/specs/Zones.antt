@@ -1,4 +1,4 @@
--- What a zone's file means: a clock, or an error.
+-- The meaning of a zone's file: a clock, or an error.
 use Rattle.std.specs.Prelude.{◌≡◌, ◌⊎◌, ℕ, ◌<◌, List, codes, false, IsTrue, Result, Ok, Err}
 use Rattle.jiff_core.specs.declared.error.TzifFault.{TzifFault}
 use Rattle.jiff_tz.specs.declared.tzif.Tzif.{Tzif}
@@ -12,7 +12,7 @@ use Rattle.plan_zones.specs.declared.zone_fault.ZoneFault.{ZoneFault}
 use Rattle.plan_zones.specs.declared.zone_fault.ZoneFault.TheVariants.{NoMemory, BadZoneName, NoSuchZone, TooLarge, BadZone}
 use Rattle.plan_zones.specs.Changes.{zone_offset}
 
--- the name of an error
+-- the name of an error, as error lines show it (agenda)
 abbrev pub zone_fault_name : ZoneFault → List ℕ
 zone_fault_name NoMemory = codes "NoMemory"
 zone_fault_name BadZoneName = codes "BadZoneName"
@@ -25,17 +25,17 @@ pub record Reads (bytes : List ℕ) (zone : Tzif) : Type 0 where
   pub read : read_tzif bytes ≡ Ok (tzif_view zone)
   pub agrees : RuleAgrees zone
 
--- the clock has, at each second of the planner's years, the offset of the zone that the bytes are read as (RFC 9636)
+-- at each second in the supported years, the clock has the offset of the zone that jiff reads from the bytes (RFC 9636)
 abbrev pub IsClockOf : List ℕ → List Change → Type 0
 IsClockOf bytes clock =
     (zone : Tzif) × Reads bytes zone × ((second : ℕ) → second < end_second → offset_of clock second ≡ zone_offset zone second)
 
--- jiff rejects the bytes: their form, or a rule that disagrees with the last transition of the table (RFC 9636)
+-- jiff rejects the bytes: their form is invalid, or the rule disagrees with the last transition of the table (RFC 9636)
 abbrev pub IsBadZone : List ℕ → Type 0
 IsBadZone bytes = ((fault : TzifFault) × (read_tzif bytes ≡ Err fault)) ⊎ HasBadRule (read_tzif bytes)
 
--- what each error says of the bytes: TooLarge, that there are more than 1,048,576 (agenda); BadZone, that there are not and that jiff
--- rejects them; NoMemory, only that there are not too many; the errors of a zone's name never occur here
+-- what each error says of the bytes: TooLarge, that there are more than 1,048,576 (agenda); BadZone, that there are not, and that
+-- jiff rejects them; NoMemory, only that there are not too many; the errors of a zone's name never occur here
 abbrev pub Rejects : ZoneFault → List ℕ → Type 0
 Rejects NoMemory bytes = is_too_large bytes ≡ false
 Rejects BadZoneName bytes = ⊥
@@ -43,7 +43,7 @@ Rejects NoSuchZone bytes = ⊥
 Rejects TooLarge bytes = IsTrue (is_too_large bytes)
 Rejects BadZone bytes = (is_too_large bytes ≡ false) × IsBadZone bytes
 
--- bytes whose form jiff rejects give BadZone, however much memory there is
+-- bytes in a form that jiff rejects give BadZone, whether or not memory is available
 abbrev pub IsRejected : {A B : Type 0} → Result A TzifFault → Result B ZoneFault → Type 0
 IsRejected (Ok text) result = Unit {0}
 IsRejected (Err fault) result = result ≡ Err BadZone

@@ -1,4 +1,4 @@
-//! The changes of a zone: the seconds at which its offset changes, found a year at a time.
+//! The changes of a zone: the seconds at which its offset changes, found one year at a time.
 
 ghost use Rattle.std.specs.Prelude.{◌≡◌, ℕ, ◌+◌, ◌^◌, ◌<◌, ◌≤◌, ◌<ℤ◌, ◌≤ℤ◌, ◌↔◌, pos, neg_ℤ, IfOk};
 ghost use Rattle.jiff_core.specs.Timestamp.{nanos_of_seconds};
@@ -26,7 +26,7 @@ pub(crate) fn changes_of(alloc: Global, zone: &Tzif) -> Result<Vec<Change>, Allo
     Ok(changes)
 }
 
-// Adds the changes of a year, from its first second up to that of the next.
+// Adds the changes of a year, from its first second to the first second of the next year.
 fn add_year(changes: &mut Vec<Change>, zone: &Tzif, start: u64, end: u64) -> Result<(), AllocError>
     requires covered { Covers zone.now changes.old.items start }
     requires year { (n : ℕ) → start ≤ n → n < end → year_at n ≡ year_at start }
@@ -43,7 +43,7 @@ fn add_year(changes: &mut Vec<Change>, zone: &Tzif, start: u64, end: u64) -> Res
     Ok(())
 }
 
-// Adds the change, unless its offset is that of the change before it.
+// Adds the change, unless it has the same offset as the change before it.
 fn add_change(changes: &mut Vec<Change>, change: Change) -> Result<(), AllocError>
     ensures { IfOk result (λ _. changes.new.items ≡ added changes.old.items change) }
 {
@@ -56,7 +56,7 @@ fn add_change(changes: &mut Vec<Change>, change: Change) -> Result<(), AllocErro
     Ok(())
 }
 
-// Finds a later second, before which the offset stays as it is within the year.
+// Returns a later second. Before it, the offset doesn't change within the year.
 fn next_change(zone: &Tzif, second: u64) -> u64
     requires { second < end_second }
     ensures later { second < result }
@@ -69,7 +69,7 @@ fn next_change(zone: &Tzif, second: u64) -> u64
     }
 }
 
-// Returns the instant at which a second begins.
+// Returns the instant at which a second starts.
 fn instant_of(second: u64) -> Timestamp
     requires { second < end_second }
     ensures { result.nanosecond ≡ nanos_of_seconds (pos second) }
@@ -79,7 +79,7 @@ fn instant_of(second: u64) -> Timestamp
     }
 }
 
-// Returns the first second that begins no earlier than the instant.
+// Returns the first second that starts at or after the instant.
 fn first_second_from(instant: Timestamp) -> u64
     ensures steps { (n : ℕ) → n < result ↔ (nanos_of_seconds (pos n) <ℤ instant.nanosecond) }
     ensures fits { result < 2 ^ 63 }

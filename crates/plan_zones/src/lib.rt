@@ -1,7 +1,8 @@
-//! Time zones: the clock of a zone, read from its TZif file (RFC 9636), and the texts by which a zone is given.
+//! Time zones: the clock of a zone, read from its TZif file (RFC 9636), and the texts that give a zone.
 //!
-//! It stands on the kit's `jiff_tz`, which reads the file, and on plan_clock, whose clocks it makes. Open `read` first, then `changes`,
-//! which finds the seconds at which the offset changes; `zone_text` is about the texts.
+//! The crate uses the kit's `jiff_tz`, which reads the file, and plan_clock, for the clock. Open `read`
+//! first, then `changes`, which finds the seconds at which the offset changes. `zone_text` is about the
+//! texts.
 #![tactic(auto)]
 
 mod changes;

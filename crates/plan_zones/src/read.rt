@@ -1,4 +1,4 @@
-//! The clock of a zone's file.
+//! The clock of a zone, from the zone's file.
 
 ghost use Rattle.std.specs.Prelude.{◌≡◌, ◌↔◌, false, Err, IfErr, IfOk, IsTrue};
 ghost use Rattle.jiff_tz.specs.TzifReader.{read_tzif};
@@ -15,11 +15,11 @@ use std::alloc::Global;
 
 /// Reads the clock of a zone from the bytes of its TZif file (RFC 9636).
 ///
-/// At each second from 1970 through 2999 the clock has the offset of the zone; leap seconds are ignored.
+/// At each second from 1970 through 2999 the clock has the offset of the zone. Leap seconds are ignored.
 ///
 /// # Errors
 ///
-/// - `TooLarge`: there are more than 1,048,576 bytes (agenda). This is found before any memory is requested.
+/// - `TooLarge`: there are more than 1,048,576 bytes (agenda). This is found before the first allocation.
 /// - `BadZone`: the bytes are not a TZif file, or its rule disagrees with its table (RFC 9636).
 /// - `NoMemory`: an allocation failed.
 pub fn read_zone(alloc: Global, bytes: &[u8]) -> Result<Clock, ZoneFault>

@@ -1,10 +1,11 @@
+//! Tests: the offsets of a clock, the texts that give a zone, and the names of errors.
 ghost use Rattle.std.specs.Prelude.{◌<◌};
 
 use crate::{ZoneFault, ZoneSource, read_zone, zone_path, zone_source};
 use plan_clock::Clock;
 use std::test::Fail;
 
-// A table of version 2 with no row: central Europe's rule alone.
+// A TZif file of version 2 without transitions: the offsets come only from the rule of central Europe.
 const CENTRAL_EUROPE: &[u8; 136] =
     b"TZif2\0\0\0\0\0\0\0\0\0\0\0\0\0\0\0\0\0\0\0\0\0\0\0\0\0\0\0\0\0\0\0\0\0\0\x01\0\0\0\x04\
       \0\0\x0e\x10\0\0CET\0\
@@ -12,7 +13,7 @@ const CENTRAL_EUROPE: &[u8; 136] =
       \0\0\x0e\x10\0\0CET\0\
       \nCET-1CEST,M3.5.0,M10.5.0/3\n";
 
-// Returns the offset of a clock at a second, and the second before which it stays.
+// Returns the offset of a clock at a second, and the second up to which it is the same.
 fn offset_at(clock: &Clock, second: u64) -> (i32, u64)
     requires { second < 32_503_680_000 }
 {
@@ -23,7 +24,7 @@ fn offset_at(clock: &Clock, second: u64) -> (i32, u64)
 #[test]
 fn offsets_go_by_the_rule(rt: HostRuntime) -> Result<(), Fail> {
     let clock = read_zone(rt.alloc(), CENTRAL_EUROPE)?;
-    // The offset and the next change, as python's zoneinfo gives them.
+    // The offset and the next change, as given by Python's zoneinfo.
     assert_eq!(rt; offset_at(&clock, 0), (3600, 7_520_400));
     assert_eq!(rt; offset_at(&clock, 1_711_846_799), (3600, 1_711_846_800));
     assert_eq!(rt; offset_at(&clock, 1_711_846_800), (7200, 1_729_990_800));

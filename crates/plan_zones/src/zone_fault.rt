@@ -1,4 +1,4 @@
-//! Why a zone has no clock.
+//! Why a zone has no clock, and the names of these errors.
 
 ghost use Rattle.std.specs.Prelude.{◌≡◌};
 ghost use Rattle.plan_zones.specs.declared.zone_fault.ZoneFault.TheVariants.{NoMemory};
@@ -9,19 +9,19 @@ use thiserror::Error;
 /// Why a zone can't be used.
 #[derive(Clone, Copy, Debug, PartialEq, Eq, Error)]
 pub enum ZoneFault {
-    /// Memory ran out.
+    /// An allocation failed.
     #[error("NoMemory")]
     NoMemory,
-    /// The text is neither `UTC`, nor a path, nor of the form of a zone's name.
+    /// The text is neither `UTC`, nor a path, nor a valid name of a zone.
     #[error("BadZoneName")]
     BadZoneName,
-    /// The system has no file of this zone.
+    /// The system has no file for this zone.
     #[error("NoSuchZone")]
     NoSuchZone,
     /// The file has more than 1,048,576 bytes.
     #[error("TooLarge")]
     TooLarge,
-    /// The file is not a TZif file (RFC 9636).
+    /// The file is not a valid TZif file (RFC 9636).
     #[error("BadZone")]
     BadZone,
 }
@@ -29,7 +29,7 @@ pub enum ZoneFault {
 impl ZoneFault {
     ghost use Rattle.plan_zones.specs.Zones.{zone_fault_name};
 
-    /// Returns the name of the error, by which a message can be searched for.
+    /// Returns the name of the error, by which users can search for a message.
     pub fn name(self) -> &'static str
         ensures { result.now ≡ zone_fault_name self }
     {

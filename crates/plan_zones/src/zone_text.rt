@@ -1,4 +1,4 @@
-//! The texts by which a zone is given.
+//! The texts that give a zone: `UTC`, the path of a file, or a name such as `Europe/Oslo`.
 
 ghost use Rattle.std.specs.Prelude.{◌≡◌, IfOk};
 ghost use Rattle.std.specs.List.{list_all};
@@ -22,12 +22,14 @@ pub enum ZoneSource<'t> {
 // The directory of the system's zones, with a slash at its end (tzfile(5)).
 const ZONE_DIRECTORY: &str = "/usr/share/zoneinfo/";
 
-/// Returns the source that a text gives. `UTC` is UTC, and a text that begins with `/` or `.` is a path. Anything else is the name of a
-/// zone: one or more parts with `/` between them, each of one or more ASCII letters, digits, `_`, `-` and `+` (agenda).
+/// Returns the source that a text gives.
+///
+/// `UTC` is UTC, and a text that begins with `/` or `.` is a path. Anything else is the name of a zone: one
+/// or more parts with `/` between them, each of one or more ASCII letters, digits, `_`, `-` and `+` (agenda).
 ///
 /// # Errors
 ///
-/// `BadZoneName` where the text is none of these.
+/// `BadZoneName` if the text is none of these.
 #[tactic(auto, unfolding(crate::specs::ZoneTexts::source_of))]
 pub fn zone_source(text: &str) -> Result<ZoneSource<'_>, ZoneFault>
     ensures { result_shown result ≡ source_of text.now }
@@ -48,7 +50,7 @@ pub fn zone_source(text: &str) -> Result<ZoneSource<'_>, ZoneFault>
 ///
 /// # Errors
 ///
-/// `AllocError` where memory for the path runs out.
+/// Fails if an allocation fails.
 pub fn zone_path(alloc: Global, name: &str) -> Result<Text, AllocError>
     ensures { IfOk result (λ path. path ≡ zone_path name.now) }
 {
@@ -58,7 +60,7 @@ pub fn zone_path(alloc: Global, name: &str) -> Result<Text, AllocError>
     Ok(Text::new(path))
 }
 
-// Whether a text has the form of a zone's name.
+// Returns whether a text has the form of a zone's name.
 #[tactic(auto, unfolding(crate::specs::ZoneTexts::is_zone_name))]
 fn is_zone_name(text: &[u8]) -> bool
     ensures { result ≡ is_zone_name text.now }
@@ -67,21 +69,21 @@ fn is_zone_name(text: &[u8]) -> bool
         .all(|part| is_name_part(part))
 }
 
-// Whether a text may be a part of a zone's name.
+// Returns whether a text may be a part of a zone's name.
 fn is_name_part(part: &[u8]) -> bool
     ensures { result ≡ is_name_part part.now }
 {
     !part.is_empty() && are_name_bytes(part)
 }
 
-// Whether each of these bytes may be in the name of a zone.
+// Returns whether the name of a zone may have all these bytes.
 fn are_name_bytes(bytes: &[u8]) -> bool
     ensures { result ≡ list_all is_name_byte bytes.now }
 {
     bytes.iter().all(|byte| is_name_byte(*byte))
 }
 
-// Whether a byte may be in the name of a zone.
+// Returns whether the name of a zone may have this byte.
 fn is_name_byte(byte: u8) -> bool
     ensures { result ≡ is_name_byte byte }
 {

@@ -1,3 +1,5 @@
+//! Tests of seconds, timestamps and civil fields, which request no memory.
+
 use plan_sets::{
     Civil, END_SECOND, FIRST_YEAR, LAST_YEAR, SECONDS_A_DAY, civil_of, moment_text, month_length,
     read_moment, second_of,
@@ -10,24 +12,24 @@ fn the_planners_years(rt: HostRuntime) {
     assert!(rt; SECONDS_A_DAY == 86_400 && END_SECOND == 32_503_680_000);
 }
 
-// The civil fields of a second before `END_SECOND`.
+// Returns the civil fields of a second before `END_SECOND`.
 fn fields(rt: &impl Abort, second: u64) -> Civil {
     assert!(rt; second < END_SECOND);
     civil_of(second)
 }
 
-// The second of a moment's text.
+// Returns the second of a timestamp.
 fn second(rt: &impl Abort, text: &str) -> u64 {
     read_moment(text).expect(rt, "a moment")
 }
 
-// Whether a second has a moment's text.
+// Returns whether this is the timestamp of a second.
 fn is_written(rt: &impl Abort, second: u64, text: &str) -> bool {
     assert!(rt; second <= END_SECOND);
     moment_text(second).as_slice() == text.as_bytes()
 }
 
-// A second, its moment's text and its fields, each by the others.
+// Checks that a second, its timestamp and its fields give each other.
 fn assert_known(rt: &impl Abort, number: u64, text: &str, civil: Civil) {
     assert!(rt;
         second(rt, text) == number && is_written(rt, number, text),
@@ -37,7 +39,7 @@ fn assert_known(rt: &impl Abort, number: u64, text: &str, civil: Civil) {
     assert!(rt; second_of_fields(civil) == Some(number), "{text}");
 }
 
-// The second that has these civil fields.
+// Returns the second that has these civil fields.
 fn second_of_fields(civil: Civil) -> Option<u64> {
     second_of(
         civil.year,
@@ -49,7 +51,7 @@ fn second_of_fields(civil: Civil) -> Option<u64> {
     )
 }
 
-// Midnight of a day.
+// Returns midnight of a day.
 fn midnight(year: u16, month: u8, day: u8, weekday: u8) -> Civil {
     Civil {
         year,
@@ -128,7 +130,7 @@ fn the_end_of_the_years(rt: HostRuntime) {
     assert!(rt; second(&rt, text) == END_SECOND && is_written(&rt, END_SECOND, text));
 }
 
-// Whether no second has these fields.
+// Returns whether no second has these fields.
 fn is_none(year: u16, month: u8, day: u8, hour: u8, minute: u8, second: u8) -> bool {
     second_of(year, month, day, hour, minute, second).is_none()
 }
@@ -154,13 +156,13 @@ fn no_second_has_these_fields(rt: HostRuntime) {
     assert!(rt; is_none(2024, 1, 1, 23, 59, 60));
 }
 
-// The length of a month of the planner's years.
+// Returns the length of a month, in a year from 1970 to 2999.
 fn length(rt: &impl Abort, year: u16, month: u8) -> u8 {
     assert!(rt; FIRST_YEAR <= year && year <= LAST_YEAR && 1 <= month && month <= 12);
     month_length(year, month)
 }
 
-// The lengths of the months of a year.
+// Returns the lengths of the months of a year.
 fn lengths(rt: &impl Abort, year: u16) -> [u8; 12] {
     let mut lengths = [0; 12];
     for place in 0..12_u8 {

@@ -1,7 +1,9 @@
+//! Tests of sets of values, which request no memory.
+
 use plan_sets::{Item, SetFault, ValueSet, set_of};
 use std::process::Abort;
 
-// That a set has these members, which ascend, and no others.
+// Checks that a set has these members, in ascending order, and no others.
 fn assert_members(rt: &impl Abort, set: &ValueSet, members: &[u16]) {
     let mut from = 0;
     for member in members {
@@ -16,12 +18,12 @@ fn assert_members(rt: &impl Abort, set: &ValueSet, members: &[u16]) {
     assert!(rt; set.is_empty() == members.is_empty());
 }
 
-// The first member from a number on, or 9,999 where there is none.
+// Returns the first member from a number on, or 9,999 if there is none.
 fn first(set: &ValueSet, from: u16) -> u16 {
     set.first_from(from).unwrap_or(9_999)
 }
 
-// That a set has none of these members.
+// Checks that a set has none of these members.
 fn assert_others(rt: &impl Abort, set: &ValueSet, others: &[u16]) {
     for other in others {
         assert!(rt; !set.contains(*other), "{other}");
@@ -63,13 +65,13 @@ fn equal_sets(rt: HostRuntime) {
     assert!(rt; first == second);
 }
 
-// The set of items between limits.
+// Returns the set of items between limits.
 fn set(rt: &impl Abort, items: &[Item], lo: u16, hi: u16) -> Result<ValueSet, SetFault> {
     assert!(rt; lo <= hi && hi < 10_000 && hi - lo < 1_152);
     set_of(items, lo, hi)
 }
 
-// What is wrong with items between limits.
+// Returns what is wrong with items between limits.
 fn fault(rt: &impl Abort, items: &[Item], lo: u16, hi: u16) -> Option<SetFault> {
     set(rt, items, lo, hi).err()
 }

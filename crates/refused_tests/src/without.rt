@@ -1,4 +1,5 @@
-//! Calls that take no memory, after a request of so many bytes: bin/refuse-memory refuses that one, and all that follow it.
+//! Tests of calls that request no memory. Each test first makes a request of a certain size, the mark:
+//! bin/refuse-memory makes it fail, and all requests after it.
 
 ghost use Rattle.std.specs.Prelude.{◌≡◌, [], IfOk, Some, slice_get};
 ghost use Rattle.plan_mailbox.specs.Ends.{inlet_of, outlet_of};
@@ -17,15 +18,15 @@ use std::io::Write;
 use std::process::Abort;
 use std::test::Fail;
 
-// How many bytes the last request has that a test makes before the calls.
+// The size of the mark in bytes. bin/refuse-memory has the same number.
 const LAST_REQUEST: usize = 271_829;
 
-// Asks for them, and answers whether they were refused.
+// Requests the mark, and returns whether the request failed.
 fn ends(alloc: Global) -> bool {
     Vec::<u8>::with_capacity(alloc, LAST_REQUEST).is_err()
 }
 
-// Memory is still refused, if it was.
+// Checks that requests still fail if the mark failed.
 fn assert_ended(rt: &(impl Abort + AllocGlobal), ended: bool) {
     assert!(rt; Box::new(rt.alloc(), 0_u8).is_err() == ended);
 }
@@ -45,7 +46,7 @@ fn rules_match_and_start(rt: HostRuntime) -> Result<(), Fail> {
     Ok(())
 }
 
-// What a mailbox of two senders, with room for one message, replies.
+// Checks the replies of a mailbox of two senders with a capacity of one message.
 fn assert_replies<P: Post<char>>(rt: &impl Abort, post: &mut P) {
     assert!(rt; post.is_new() && post.senders() == 2 && post.room() == 1);
     assert!(rt; post.send(0, 'a') == Reply::Sent);
@@ -70,7 +71,7 @@ fn mailboxes_reply(rt: HostRuntime) -> Result<(), Fail> {
     Ok(())
 }
 
-// The outlet and the inlet of a ring with room for two messages.
+// Returns the outlet and the inlet of a ring with a capacity of two messages.
 fn ends_of_one(alloc: Global) -> Result<(Outlet<char>, Inlet<char>), Fail>
     ensures { IfOk result (λ ends. ((outlet_of ends.0).sender ≡ 0)
         × (slice_get (inlet_of ends.1).rings 0 ≡ Some (outlet_of ends.0).ring)
@@ -102,7 +103,7 @@ fn ends_send_and_settle(rt: HostRuntime) -> Result<(), Fail> {
     Ok(())
 }
 
-// A writer with room for a header and a line.
+// A writer with a capacity of 128 bytes, enough for a header and a line.
 #[derive(Drop)]
 struct Lines {
     bytes: [u8; 128],
@@ -123,7 +124,7 @@ impl Write for Lines {
     }
 }
 
-// A writer has these bytes.
+// Checks that a writer has these bytes.
 fn assert_lines(rt: &impl Abort, lines: &Lines, text: &str) {
     assert!(rt; lines.bytes.get(..lines.len) == Some(text.as_bytes()));
 }

@@ -1,4 +1,4 @@
-//! What words leave behind on both streams, and how often a file is opened, where files and streams fail.
+//! What arguments leave on both streams, and how often a file is opened, if files and streams fail.
 use crate::tests::files::FewFiles;
 use crate::tests::writers::{End, Limited};
 use agenda_answers::answer_words;
@@ -8,7 +8,7 @@ use std::sync::Wait;
 use std::test::Fail;
 use std::thread::Threads;
 
-// The words of a command line, with bars between them.
+// Returns the arguments of a command line, which are separated by bars.
 fn command_line(alloc: Global, words: &str) -> Result<Vec<String>, Fail> {
     let mut line = Vec::new(alloc);
     for word in words.split('|') {
@@ -17,7 +17,7 @@ fn command_line(alloc: Global, words: &str) -> Result<Vec<String>, Fail> {
     Ok(line)
 }
 
-// The status of words, over these files and streams.
+// Returns the exit status of arguments, over these files and streams.
 fn run(
     rt: &(impl Threads + Wait + Sync + AllocGlobal),
     words: &str,
@@ -29,7 +29,8 @@ fn run(
     Ok(answer_words(rt, rt.alloc(), line.as_slice(), files, out, err))
 }
 
-// That words end with this status, write these texts to the two streams, each by one write and one flush, and open so many files.
+// Asserts that arguments end with this status, write these texts to the two streams, each by at most one
+// write and one flush, and open this number of files.
 fn leaves(
     rt: &(impl Threads + Wait + Sync + Abort + AllocGlobal),
     words: &str,
@@ -77,7 +78,7 @@ fn a_file_that_is_missing_or_fails_in_the_middle(rt: HostRuntime) -> Result<(), 
     Ok(())
 }
 
-// Of UTC no file is opened, of another zone one, and where it is no zone's none after it.
+// No file is opened for UTC, and one for another zone. If it isn't a zone's file, none is opened after it.
 #[test]
 fn the_file_of_a_zone_is_opened_once(rt: HostRuntime) -> Result<(), Fail> {
     let held: [(&str, &[u8]); 1] = [("./a", b"no TZif")];
@@ -100,7 +101,7 @@ fn the_file_of_a_zone_is_opened_once(rt: HostRuntime) -> Result<(), Fail> {
     Ok(())
 }
 
-// What comes behind the first byte too many is a fault, which is never met.
+// After the first byte too many comes an error, which is never reached.
 #[test]
 fn a_script_that_is_too_large(rt: HostRuntime) -> Result<(), Fail> {
     let script = vec![in rt.alloc(); b'x'; 1_048_577]?;
@@ -110,8 +111,9 @@ fn a_script_that_is_too_large(rt: HostRuntime) -> Result<(), Fail> {
     leaves(&rt, "agenda|steps|a", files, 1, ("", line), 1)
 }
 
-// That words end with this status, over these files, where standard output is such a one: it then has the first bytes of
-// their text, as many as it has room for, and standard error has the line of a device that failed, if it did.
+// Asserts that arguments end with this status, over these files, with this standard output. Standard output
+// then has the first bytes of their text, as many as it accepts. Standard error has the line of a device that
+// failed, if it failed.
 fn writes_to(
     rt: &(impl Threads + Wait + Sync + Abort + AllocGlobal),
     words: &str,
@@ -130,8 +132,8 @@ fn writes_to(
     Ok(())
 }
 
-// That words end so where standard output fails at any byte of their text of this length, in each way, or at its flush alone; and
-// that it is enough where it takes one byte at a call.
+// Asserts the same for a standard output that fails at any byte of a text of this length, in each way, or
+// only at its flush; and that the whole text is written if it accepts one byte per call.
 fn fails_at_each_byte(
     rt: &(impl Threads + Wait + Sync + Abort + AllocGlobal),
     words: &str,
@@ -184,7 +186,7 @@ fn answers_of_upcoming_and_quiet_that_fail_at_each_byte(rt: HostRuntime) -> Resu
     fails_at_each_byte(&rt, words, &NIGHTLY, QUIET_TEXT.as_bytes(), 48)
 }
 
-// A crontab and a timer that are right, and of which all may not be meant.
+// A crontab and a timer without errors. `check` has a note on each line of the crontab, and on the timer.
 const UNMEANT: [(&str, &[u8]); 2] = [
     ("crontab", b"0 0 31 2 * a\n0 0 1 * 1 b\n"),
     ("n.timer", b"[Timer]\n"),
@@ -200,8 +202,8 @@ fn an_answer_of_check_that_fails_at_each_byte(rt: HostRuntime) -> Result<(), Fai
     fails_at_each_byte(&rt, words, &UNMEANT, UNMEANT_TEXT.as_bytes(), 80)
 }
 
-// That words write nothing to standard output, and end with this status where standard error fails at any byte of their
-// line.
+// Asserts that arguments write nothing to standard output, and end with this status if standard error fails
+// at any byte of their line.
 fn faults_at_each_byte(
     rt: &(impl Threads + Wait + Sync + Abort + AllocGlobal),
     words: &str,
@@ -237,13 +239,13 @@ fn standard_error_that_fails_at_each_byte(rt: HostRuntime) -> Result<(), Fail> {
     faults_at_each_byte(&rt, "agenda|steps|b", b"agenda: b: Device\n", 3)
 }
 
-// A crontab of which one job starts at midnight, and a timer that does.
+// A crontab with one job that starts at midnight, and a timer that does.
 const NIGHTLY: [(&str, &[u8]); 2] = [
     ("crontab", b"# nightly\nMAILTO=x\n@reboot a\n@daily b\n"),
     ("timers/rot.timer", b"[Timer]\nOnCalendar=daily\n"),
 ];
 
-// A header of 53 bytes, and lines of 30 and 43.
+// A header of 53 bytes, and lines of 30 and 43 bytes.
 const NIGHTLY_TEXT: &str = "agenda 2\t2024-01-01T00:00:00Z\t2024-01-02T00:00:00Z\t2\n\
     2024-01-01T00:00:00Z\tcron:4\tb\n2024-01-01T00:00:00Z\trot.timer\trot.service\n";
 
@@ -253,7 +255,7 @@ const UPCOMING_TEXT: &str = "2024-01-02T00:00:00Z\tcron:4\tb\n\
 
 const QUIET_TEXT: &str = "2024-01-01T00:00:00Z\t2024-01-02T00:00:00Z\t86400\n";
 
-// That a plan of the nightly jobs from the begin of 2024 leaves these texts behind, and opens so many files.
+// Asserts that a plan of the nightly jobs from the start of 2024 leaves these texts, and opens this number of files.
 fn plans(
     rt: &(impl Threads + Wait + Sync + Abort + AllocGlobal),
     upto_and_more: &str,
@@ -268,7 +270,8 @@ fn plans(
     leaves(rt, words.as_str(), files, status, texts, opened)
 }
 
-// The moments and the span come before any file, and each path is opened once, up to the first that fails.
+// The timestamps and the span are checked before any file is opened. Each path is opened once, up to the
+// first that fails.
 #[test]
 fn which_files_a_plan_opens(rt: HostRuntime) -> Result<(), Fail> {
     let nightly = "2024-01-02T00:00:00Z|--crontab|crontab|timers/rot.timer";
@@ -304,7 +307,8 @@ fn which_files_a_plan_opens(rt: HostRuntime) -> Result<(), Fail> {
     plans(&rt, missing, 3, ("", "agenda: a b: Device\n"), 2)
 }
 
-// Each source of `check` is opened once, up to the first that can't be read; what it refuses has a status, and no line of a fault.
+// Each source of `check` is opened once, up to the first that can't be read. An error that it finds has a
+// status, and no line on standard error.
 #[test]
 fn which_files_a_check_opens(rt: HostRuntime) -> Result<(), Fail> {
     let files = FewFiles::new(&NIGHTLY, 4_096, false);
@@ -320,7 +324,8 @@ fn which_files_a_check_opens(rt: HostRuntime) -> Result<(), Fail> {
     leaves(&rt, words, files, 3, ("", "agenda: a b: Device\n"), 2)
 }
 
-// The moment of `upcoming` comes before any file, and the least gap of `quiet` behind all files and before their texts.
+// The timestamp of `upcoming` is checked before any file is opened, and the minimum gap of `quiet` after all
+// files are read and before their texts are.
 #[test]
 fn which_files_upcoming_and_quiet_open(rt: HostRuntime) -> Result<(), Fail> {
     let files = FewFiles::new(&NIGHTLY, 4_096, false);

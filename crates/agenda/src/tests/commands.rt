@@ -1,3 +1,4 @@
+//! What commands answer to values that no argument can give.
 use crate::tests::writers::{End, Limited, took};
 use agenda_commands::run_next;
 use agenda_sources::Asked;
@@ -5,7 +6,7 @@ use plan_clock::Clock;
 use plan_rules::Text;
 use std::test::Fail;
 
-// After the last moment of all, which no words can say.
+// After the last time of all, which no argument can give.
 #[test]
 fn no_start_follows_the_last_moment_of_all(rt: HostRuntime) -> Result<(), Fail> {
     let asked = Asked::Cron(Text::new(String::from_str(rt.alloc(), "* * * * *")?));

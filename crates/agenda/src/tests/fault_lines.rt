@@ -1,3 +1,4 @@
+//! The lines of errors: those that no input causes, and streams that accept only a part of them.
 use crate::tests::writers::{End, Limited, took};
 use agenda_faults::{Failure, RunFault, fault_line};
 use agenda_script::{ScriptCause, ScriptFault};
@@ -14,8 +15,8 @@ fn script(line: u32, cause: ScriptCause) -> Failure {
     Failure::Run(RunFault::Script(ScriptFault { line, cause }))
 }
 
-// That a failure ends the program with this status, and writes this line, as far as there is room; a whole one by one write
-// and one flush.
+// Asserts that a failure ends the program with this status, and writes this line, up to the capacity of the
+// writer. A whole line takes one write and one flush.
 fn writes(rt: &impl Abort, failure: Failure, room: usize, line: &str, status: u8) {
     let mut out = Limited::new(room, 128, End::TakesNothing);
     let ended = fault_line(&failure, &[], &mut out);

@@ -1,18 +1,18 @@
-//! Files that give some bytes at a call, and fail where it is wanted.
+//! Files that give some bytes per call, and fail if a test requires it.
 use agenda_answers::{Files, read_file};
 use std::alloc::Global;
 use std::io::{self, ErrorKind, Read};
 use std::process::Abort;
 use std::test::Fail;
 
-/// A file that gives some bytes, some at a call, and then ends or fails.
+/// A file that gives some bytes per call, and then ends or fails.
 #[derive(Drop)]
 pub struct LimitedFile<'a> {
     /// What it gives.
     bytes: &'a [u8],
-    /// How many bytes it gives at a call.
+    /// How many bytes it gives per call.
     at_a_call: usize,
-    /// Whether it fails in place of ending.
+    /// Whether it fails instead of ending.
     fails: bool,
 }
 
@@ -31,18 +31,18 @@ impl Read for LimitedFile<'_> {
 /// Files by their paths.
 #[derive(Drop)]
 pub struct FewFiles<'a> {
-    /// Their paths, and what each gives.
+    /// Their paths, and what each file gives.
     pub files: &'a [(&'a str, &'a [u8])],
-    /// How many bytes they give at a call.
+    /// How many bytes they give per call.
     pub at_a_call: usize,
-    /// Whether they fail in place of ending.
+    /// Whether they fail instead of ending.
     pub fails: bool,
     /// How often a file was opened.
     pub opened: usize,
 }
 
 impl<'a> FewFiles<'a> {
-    /// Files that give so many bytes at a call.
+    /// Returns files that give `at_a_call` bytes per call, and then end or fail.
     pub fn new(files: &'a [(&'a str, &'a [u8])], at_a_call: usize, fails: bool) -> FewFiles<'a> {
         FewFiles {
             files,
@@ -75,7 +75,7 @@ impl<'a> Files for FewFiles<'a> {
     }
 }
 
-/// Files that all hold the same bytes, which contracts know.
+/// Files that all have the same bytes, which contracts know.
 #[derive(Drop)]
 struct KnownFiles<'a>(&'a [u8]);
 
@@ -98,7 +98,7 @@ fn bytes_that_contracts_know(rt: HostRuntime) -> Result<(), Fail> {
     Ok(())
 }
 
-// What is read of the file `a` with these bytes, if it can be read.
+// Reads the file `path`, where there is only a file `a` with these bytes.
 fn read_of(
     alloc: Global,
     bytes: &[u8],
@@ -126,7 +126,7 @@ fn a_file_that_fails_after_some_bytes(rt: HostRuntime) {
     assert!(rt; read_of(rt.alloc(), b"", 4_096, false, "b").is_err());
 }
 
-// That so many bytes are read of a file of so many newlines.
+// Asserts that `len` bytes are read from a file of `count` newlines.
 fn reads(
     rt: &(impl Abort + AllocGlobal),
     count: usize,
@@ -140,7 +140,7 @@ fn reads(
     Ok(())
 }
 
-// What comes behind the first three files' bytes is a fault, which is never met.
+// After the first three files' bytes comes an error, which is never reached.
 #[test]
 fn no_more_than_one_byte_past_the_limit_is_read(rt: HostRuntime) -> Result<(), Fail> {
     reads(&rt, 1_048_577, 4_096, true, 1_048_577)?;

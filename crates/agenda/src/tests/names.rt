@@ -1,3 +1,4 @@
+//! The names that errors print.
 use agenda_faults::RunFault;
 use agenda_script::{ScriptCause, ScriptFault};
 use agenda_sources::SourceFault;
@@ -8,14 +9,14 @@ use std::fmt::Display;
 use std::process::Abort;
 use std::test::Fail;
 
-// That a fault prints this name.
+// Asserts that an error prints this name.
 fn prints(rt: &(impl Abort + AllocGlobal), fault: &impl Display, name: &str) -> Result<(), Fail> {
     let text = format!(in rt.alloc(); "{fault}")?;
     assert!(rt; text.as_str() == name, "{name}");
     Ok(())
 }
 
-// The fault of a line.
+// Returns the error of a line.
 fn bad(line: u32, cause: LineCause) -> LineFault {
     LineFault { line, cause }
 }
@@ -62,7 +63,7 @@ fn names_of_faults_of_sources(rt: HostRuntime) -> Result<(), Fail> {
     prints(&rt, &SourceFault::Full, "Full")
 }
 
-// That a cause prints its name, and so does a fault of a script by it.
+// Asserts that a cause prints its name, and that the error of a script with this cause does.
 fn prints_script(
     rt: &(impl Abort + AllocGlobal),
     cause: ScriptCause,

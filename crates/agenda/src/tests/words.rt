@@ -1,9 +1,10 @@
+//! The names that errors of arguments print.
 use agenda_words::UsageFault;
 use plan_rules::Text;
 use std::process::Abort;
 use std::test::Fail;
 
-// That a fault prints this name.
+// Asserts that an error prints this name.
 fn prints(rt: &(impl Abort + AllocGlobal), fault: &UsageFault, name: &str) -> Result<(), Fail> {
     assert_eq!(rt; format!(in rt.alloc(); "{fault}")?.as_str(), name);
     Ok(())

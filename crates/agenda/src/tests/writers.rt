@@ -1,24 +1,25 @@
+//! A writer that accepts a limited number of bytes.
 use std::io::{self, Write};
 use std::process::Abort;
 
-/// A writer that takes a number of bytes, some at a call, and then fails.
+/// A writer that accepts a number of bytes, some of them per call, and then fails.
 #[derive(Drop)]
 pub struct Limited {
-    /// What was written, in the first `len` places.
+    /// What was written, in the first `len` bytes.
     pub taken: [u8; 128],
     /// How many bytes were written.
     pub len: usize,
-    /// How many bytes are taken in all.
+    /// How many bytes are accepted in total.
     pub room: usize,
-    /// How many bytes are taken at a call.
+    /// How many bytes are accepted per call.
     pub at_a_call: usize,
-    /// What comes once there is no more room.
+    /// How it fails after `room` bytes.
     pub end: End,
     /// Whether the flush fails.
     pub flush_fails: bool,
-    /// How many writes there were.
+    /// The number of writes.
     pub calls: usize,
-    /// How many flushes there were.
+    /// The number of flushes.
     pub flushes: usize,
 }
 
@@ -31,7 +32,7 @@ pub enum End {
 }
 
 impl Limited {
-    /// A writer that takes `room` bytes, at most `at_a_call` at once.
+    /// Returns a writer that accepts `room` bytes, at most `at_a_call` per call.
     pub fn new(room: usize, at_a_call: usize, end: End) -> Limited {
         Limited {
             taken: [0; 128],
@@ -45,12 +46,12 @@ impl Limited {
         }
     }
 
-    /// A writer with room for each text of these tests.
+    /// Returns a writer that accepts every text of these tests.
     pub fn ample() -> Limited {
         Limited::new(128, 128, End::Error)
     }
 
-    /// The bytes that were written.
+    /// Returns the bytes that were written.
     pub fn bytes(&self) -> &[u8] {
         let len = self.len.min(128);
         &self.taken[..len]
@@ -87,7 +88,7 @@ impl Write for Limited {
     }
 }
 
-/// That a writer took the first bytes of a text, for which it may have no room.
+/// Asserts that a writer accepted the first bytes of a text, up to its capacity.
 pub fn took(rt: &impl Abort, out: &Limited, text: &str) {
     let bytes = text.as_bytes();
     let first = bytes.get(..bytes.len().min(out.room));

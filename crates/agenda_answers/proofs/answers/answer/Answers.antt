@@ -1,5 +1,5 @@
--- Arm by arm: what was asked is what the arm says (`subst`), and it was done, or was not, and then its line was written
--- (`command_answers`). Refused words are a failure by themselves.
+-- Arm by arm: the request is that of the arm (`subst`), and it succeeded, or it failed and its line was
+-- written (`command_answers`). Rejected arguments are a failure by themselves.
 use Rattle.std.proofs.Common.{◌≡◌, [], Ok, Err, refl, ap, sym, subst, ◌∙◌}
 use Rattle.agenda_words.specs.declared.Ask.TheVariants.{Next, Plan, Upcoming, Quiet, Check, Steps}
 use Rattle.agenda_words.specs.declared.UsageFault.TheVariants as usage

@@ -1,4 +1,4 @@
--- A failure before the findings stops early (`stopped_early`); after that only memory may run out (`fails_check`).
+-- A failure before the findings stops early (`stopped_early`). After that only an allocation can fail (`fails_check`).
 use Rattle.std.proofs.Common.{◌≡◌, ℕ, inl, refl}
 use Rattle.agenda_commands.specs.Check.{IsTextOfCheck, RefusesCheck, check_text}
 use Rattle.agenda_sources.specs.Findings.{sources_findings}

@@ -1,4 +1,4 @@
--- A failure before the starts stops early (`stopped_early`); one of the starts is that of its fault (`fails_as`).
+-- A failure before the starts stops early (`stopped_early`). A failure of the starts is that of its error (`fails_as`).
 use Rattle.std.proofs.Common.{◌≡◌, ℕ, List, inl, inr, subst}
 use Rattle.plan_clock.specs.declared.row.Change.{Change}
 use Rattle.agenda_sources.specs.declared.Asked.{Asked}

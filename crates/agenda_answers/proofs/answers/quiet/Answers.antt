@@ -1,4 +1,4 @@
--- A failure before the plan stops early (`stopped_early`); one of the plan is that of its fault (`fails_as`).
+-- A failure before the plan stops early (`stopped_early`). A failure of the plan is that of its error (`fails_as`).
 use Rattle.std.proofs.Common.{inl, inr, subst}
 use Rattle.agenda_commands.specs.Quiet.{IsTextOfQuiet, RefusesQuiet}
 use Rattle.agenda_answers.specs.Answer.{FailsQuiet, GivesQuiet}

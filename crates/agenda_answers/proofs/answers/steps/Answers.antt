@@ -1,4 +1,5 @@
--- By the whole file, of which the first bytes were read (`gives_steps`, `fails_steps`): what is printed, and when it is refused.
+-- What is printed, and when the script is rejected, by the whole file, of which only the first bytes were
+-- read (`gives_steps`, `fails_steps`).
 use Rattle.agenda_commands.specs.Script.{IsTextOfRun, RefusesRun}
 use Rattle.agenda_answers.specs.Answer.{FailsSteps, GivesSteps}
 use Rattle.agenda_answers.proofs.AnswerLemmas.{fails_as, writes_as}

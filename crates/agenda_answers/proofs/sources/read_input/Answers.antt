@@ -1,4 +1,4 @@
--- What is known of files is the same once the zone is read.
+-- Reading the zone doesn't change what is known of the files.
 use Rattle.std.proofs.Common.{inl, inr, subst}
 use Rattle.agenda_answers.specs.Sources.{AreSourcesOf, IsGiven, IsUnreadIn, IsUnreadInput}
 use Rattle.agenda_answers.proofs.SourcesLemmas.{err_as}

@@ -1,5 +1,5 @@
--- Answers the clause of `read_sources` and the invariant of its loop: the lemmas of SourcesLemmas.antt put a source behind the others, and
--- lead a path that fails to those that were given.
+-- Answers the clause of `read_sources` and the invariant of its loop. The lemmas of SourcesLemmas.antt append
+-- a source to the others, and show that a path that fails is one of the given paths.
 use Rattle.std.proofs.Common.{◌≡◌, ◌<◌, length, ◌∙◌, refl, arith, subst}
 use Rattle.agenda_sources.specs.declared.SourcePath.{SourcePath}
 use Rattle.agenda_answers.specs.Sources.{IsGiven, IsSourceOf, IsUnreadIn}

@@ -1,6 +1,6 @@
--- For `starts_text`: each turn of its loop lists a start more, by the line of its moment (`listed_push`).
--- After as many turns as were asked for, these are the first starts (`lists_all`). Where `next_start` finds none they
--- are all of them, and the line `none` follows (`lists_fewer`).
+-- For `starts_text`: each turn of its loop lists one more start, with the line of its timestamp (`listed_push`).
+-- After as many turns as requested, these are the first starts (`lists_all`). If `next_start` finds none,
+-- they are all starts, and the line `none` follows (`lists_fewer`).
 use Rattle.std.proofs.Common.{◌≡◌, ◌∙◌, ◌++◌, ◌∷◌, [], ap, ◌+◌, refl, arith, append_assoc}
 use Rattle.std.proofs.lemmas.List.{length_push}
 use Rattle.plan_sets.specs.Moment.{moment_text_of}

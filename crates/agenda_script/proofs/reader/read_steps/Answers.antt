@@ -1,6 +1,6 @@
--- Answers the one clause of `read_steps`, where a line is faulty and at the end.
--- The loop's invariant: the lines so far were read as the steps so far, and the next has the number after them
--- (`AreRead`). A turn reads one line more; a faulty line is the fault of all lines (`fault_read`).
+-- Answers the one clause of `read_steps`, if a line is invalid and at the end.
+-- The loop's invariant: the lines so far were read as the steps so far, and the next line has the number after
+-- them (`AreRead`). A turn reads one more line. The error of a line is the error of all lines (`fault_read`).
 use Rattle.std.proofs.Common.{◌+◌, sym, subst, arith}
 use Rattle.std.proofs.lemmas.Result.{err_from_is_err_and}
 use Rattle.agenda_script.proofs.ScriptLemmas.{AreRead, texts, line_is, inside_texts, past_texts, one_more_read, fault_read, all_read}

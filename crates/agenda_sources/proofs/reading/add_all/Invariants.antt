@@ -4,7 +4,7 @@ use Rattle.plan_rules.specs.Limits.{most_jobs}
 use Rattle.agenda_sources.specs.Sources.{with_jobs}
 use Rattle.agenda_sources.proofs.reading.add_all.Given as goal
 
--- what is left, with the jobs so far, means what all mean
+-- the jobs so far, and the rest, mean what all mean
 abbrev pub invariant-loop-job : goal.invariant-loop-job
 invariant-loop-job l = record {
   few : length l.jobs ≤ most_jobs;

@@ -1,4 +1,4 @@
--- Answers a fault of a source, and the loop's invariant after a source that was read, by the lemmas on the fold.
+-- Answers the error of a source, and the loop's invariant after a source that was read, by the lemmas on the fold.
 use Rattle.std.proofs.Common.{Err}
 use Rattle.std.proofs.lemmas.Result.{err_from_is_err_and}
 use Rattle.agenda_sources.specs.Sources.{sources_reading}

@@ -4,7 +4,7 @@ use Rattle.agenda_sources.specs.AtOnce.{fault_at_once}
 use Rattle.agenda_sources.specs.Sources.{sources_from, sources_reading}
 use Rattle.agenda_sources.proofs.reading.read_jobs.Given as goal
 
--- what is left, with the jobs so far, means what all sources mean, and the first had no fault that is found at once
+-- the jobs so far, and the rest, mean what all sources mean, and the first had no error that is found at once
 abbrev pub invariant-loop-place : goal.invariant-loop-place
 invariant-loop-place l = record {
   few : length l.jobs ≤ most_jobs;

@@ -1,4 +1,4 @@
--- Each turn adds what gives the sources of the next kind.
+-- Each turn adds the argument for the next kind of source.
 use Rattle.std.proofs.Common.{◌≡◌, ◌<◌, ◌+◌, ◌∷◌, ◌∙◌, ℕ, List, ap, drop, map, refl, slice_index_or}
 use Rattle.std.proofs.lemmas.List.{drop_more}
 use Rattle.clap.specs.Words.{App, Rule, app_of, rule_of, with_rule}

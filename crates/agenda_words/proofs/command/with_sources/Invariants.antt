@@ -5,7 +5,7 @@ use Rattle.agenda_sources.specs.Kind.{kinds}
 use Rattle.agenda_words.specs.Command.{source_rule, with_each, with_sources}
 use Rattle.agenda_words.proofs.command.with_sources.Given as goal
 
--- the command so far, with what gives the sources of each kind that is left, is that with all of them
+-- the command so far, with the arguments for the remaining kinds added, is the command with those for all kinds
 abbrev pub invariant-loop-kind : goal.invariant-loop-kind
 invariant-loop-kind l = record {
   left : with_each (app_of l.command) (map source_rule (drop l.kind-index kinds)) ≡ with_sources (app_of l.fn.command);

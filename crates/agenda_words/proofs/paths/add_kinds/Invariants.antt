@@ -4,7 +4,7 @@ use Rattle.clap.specs.Words.{found_of, rows_of}
 use Rattle.agenda_words.specs.Words.{path_of, paths_in}
 use Rattle.agenda_words.proofs.paths.add_kinds.Given as goal
 
--- the paths of the kinds so far stand behind those that were there
+-- the paths of the kinds so far follow the paths from before the loop
 abbrev pub invariant-loop-kind : goal.invariant-loop-kind
 invariant-loop-kind l =
     l.paths

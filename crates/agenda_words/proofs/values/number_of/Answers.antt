@@ -1,6 +1,6 @@
--- Answers the one clause of `number_of`, where a number is given and where none is.
--- `get_one` reads the text by `parse` at 32 bits, the definition by clap's test of an unsigned number: both accept the
--- same texts and read the same number (`number_parsed`, `number_refused`).
+-- Answers the one clause of `number_of`, with and without a given number.
+-- `get_one` reads the text by `parse` at 32 bits, the definition by clap's test of an unsigned number. Both
+-- accept the same texts and read the same number (`number_parsed`, `number_refused`).
 use Rattle.std.proofs.Common.{◌≡◌, ◌∙◌, ap, sym, arith, refl, Bool, true, false, Option, Ok, Err, Result, Some, None, List, ℕ}
 use Rattle.std.specs.Str.Parse.{ExplainsUnsignedError, HasUnsignedDigitsIfOk, ParsesUnsigned}
 use Rattle.clap.proofs.ValueTestLemmas.{accepts-Accepts, Accepts-accepts}
@@ -20,7 +20,7 @@ number_parsed E text n read =
     Accepts-accepts false (parser.Unsigned 0 4294967295) text (read.0.0, omega (arith, read.0.1), omega arith, omega (arith, read.0.1)) in
     rw fits (ap Some (sym read.1))
 
--- and where it reads none there is none
+-- a text that `parse` rejects has no number
 number_refused : (E : Type 0) (text : List ℕ) (e : E) → ParsesUnsigned 32 10 text (Err e) → number_of text ≡ None
 number_refused E text e refused = go (accepts false (parser.Unsigned 0 4294967295) text) refl
   where

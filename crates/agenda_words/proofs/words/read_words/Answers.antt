@@ -1,6 +1,6 @@
--- Answers the one clause of `read_words`; `asked_by` is unfolded to clap's faults.
--- Where clap accepts, the list of faults is empty. Where it refuses, the hard case, its kind of error is a want of
--- memory or one of that list, and all kinds of the list are answered alike (`agenda_alike`).
+-- Answers the one clause of `read_words`; `asked_by` is unfolded to clap's errors.
+-- If clap accepts, the list of errors is empty. The hard case is that clap rejects. Then its kind of error is
+-- out of memory or one of that list, and all kinds of the list are answered in the same way (`agenda_alike`).
 use Rattle.std.proofs.Common.{◌≡◌, ◌∙◌, ◌⊎◌, inl, inr, [], ap, map, sym, subst, string_bytes}
 use Rattle.clap.specs.Faults.{fault_of}
 use Rattle.clap.specs.Kinds.{IsAmong}

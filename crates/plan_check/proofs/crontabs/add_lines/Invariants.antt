@@ -5,7 +5,7 @@ use Rattle.plan_rules.proofs.CrontabLemmas.{placed}
 use Rattle.plan_check.specs.Crontabs.{entries_findings, after_entries}
 use Rattle.plan_check.proofs.crontabs.add_lines.Given as goal
 
--- what was found, and the names, are those of the lines so far
+-- the findings, and the names, are those of the lines so far
 abbrev pub invariant-loop-place : goal.invariant-loop-place
 invariant-loop-place l = record {
   found : l.found.items ≡ l.fn.found.items

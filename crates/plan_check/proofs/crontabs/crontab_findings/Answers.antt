@@ -1,4 +1,5 @@
--- What is found is what the definition says; its first fault is the first of the entries, and so by the law of entries the crontab's.
+-- The findings are those of the definition. Their first error is the first of the entries, and so the
+-- crontab's, by the law of entries.
 use Rattle.std.proofs.Common.{◌≡◌, ◌++◌, ap, sym, ◌∙◌}
 use Rattle.std.specs.Result.{result_err}
 use Rattle.plan_check.specs.Crontabs.{crontab_findings}

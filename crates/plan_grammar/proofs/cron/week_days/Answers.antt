@@ -1,6 +1,6 @@
 -- Answers the one clause of `week_days`: the set is `week_days_of` the written days.
--- The loop's invariant: the set so far holds the days before the next one that were written. A turn adds its day or
--- passes it (`day_added`, `day_passed`), and the set of all seven is told by its members (`collected`).
+-- The loop's invariant: the set so far holds the written days before the next one. A turn adds its day or skips it
+-- (`day_added`, `day_passed`). At the end the set of all seven is determined by its members (`collected`).
 use Rattle.std.proofs.Common.{◌≡◌, ℕ, ◌&&◌, Bool, false, nat_lt, ap, sym, ◌∙◌, arith}
 use Rattle.std.proofs.lemmas.Bool.Decides.{nat_tests}
 use Rattle.plan_sets.specs.Values.{Values, has_value}

@@ -1,6 +1,6 @@
 -- Answers the one clause of `listed_places`: the set holds the places from 1 to 31 that are listed.
--- The loop's invariant: the set so far holds those before the next place. A turn adds a listed place or passes it
--- (`place_added`, `place_passed`), and the set of all 31 is told by its members (`places_collected`).
+-- The loop's invariant: the set so far holds the listed places before the next one. A turn adds a listed place or skips
+-- another (`place_added`, `place_passed`). At the end the set is determined by its members (`places_collected`).
 use Rattle.std.proofs.Common.{◌≡◌, ◌+◌, ◌-◌, ◌&&◌, ◌||◌, nat_eq, ap, sym, ◌∙◌, arith}
 use Rattle.plan_sets.specs.Values.{Values, has_value, is_among}
 use Rattle.plan_sets.specs.ValuesLaws.{has_value-no_values, has_value-with_value}

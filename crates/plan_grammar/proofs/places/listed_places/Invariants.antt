@@ -3,7 +3,7 @@ use Rattle.plan_sets.specs.Values.{has_value, is_among}
 use Rattle.plan_grammar.specs.Event.{is_listed_place}
 use Rattle.plan_grammar.proofs.places.listed_places.Given as goal
 
--- the places so far that are listed
+-- the set so far holds the listed places before this one
 abbrev pub invariant-loop-place : goal.invariant-loop-place
 invariant-loop-place l = record {
   base : l.places.base ≡ 1;

@@ -1,6 +1,6 @@
--- For the loop and `some` of `take_among`. A turn that finds nothing leaves all that is seen as it was
--- (`receiving-same`), and adds its sender to those of which nothing is known to wait. So a find can be told from the
--- ends as they were before the call: `some` is `IsTakeAmong-from`, led back over the invariant's `same`.
+-- For the loop and `some` of `take_among`. An iteration that finds nothing leaves all that is seen as it was
+-- (`receiving-same`), and its sender is then one without messages that are known to wait. So a message that is found can
+-- be described by the ends before the call: `some` is `IsTakeAmong-from`, rewritten along the invariant's `same`.
 use Rattle.std.proofs.Common.{◌≡◌, ◌<◌, ◌≤◌, [], length, set, subst, sym, ap, ◌∙◌, arith, below_more}
 use Rattle.plan_mailbox.specs.Ends.{IsTakeAmong, known_at, receiving}
 use Rattle.plan_mailbox.proofs.Receives.{IsTakeAmong-from, known-was, receiving-same}

@@ -4,7 +4,7 @@ use Rattle.plan_mailbox.specs.Mailbox.{senders_of}
 use Rattle.plan_mailbox.proofs.Runs.{IsRun}
 use Rattle.plan_mailbox.proofs.run.run_steps.Given as goal
 
--- the steps so far got these replies, and there is room for the replies to all
+-- the steps so far got these replies, and there is capacity for the replies to all steps
 abbrev pub invariant-loop-step : goal.invariant-loop-step
 invariant-loop-step g l =
     let before = g.P.Post.seen l.fn.post in

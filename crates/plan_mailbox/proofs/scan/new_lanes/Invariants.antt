@@ -1,7 +1,7 @@
 use Rattle.std.proofs.Common.{◌≡◌, ◌≤◌, All, [], false, length, vec_len, vec_capacity}
 use Rattle.plan_mailbox.proofs.scan.new_lanes.Given as goal
 
--- the lanes so far are empty, each with its room, and there is room for all of them
+-- the lanes so far are empty, each with its capacity, and there is capacity for all lanes
 abbrev pub invariant-loop : goal.invariant-loop
 invariant-loop g l = record {
   many : vec_len l.lanes ≡ l.counter;

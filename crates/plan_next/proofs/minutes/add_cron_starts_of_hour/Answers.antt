@@ -1,4 +1,4 @@
--- A step of the loop: the start's minute keeps the next one (`next_minute`), at which the rule starts next.
+-- A step of the loop: for the start's minute the next one is kept (`next_minute`), and the rule starts next then.
 use Rattle.std.proofs.Common.{◌≡◌, ◌+◌, ◌-◌, ◌*◌, ◌<◌, arith, ap}
 use Rattle.std.proofs.lemmas.List.{length_push}
 use Rattle.std.specs.Prelude.{slice_index}

@@ -3,7 +3,7 @@ use Rattle.plan_sets.specs.Values.{has_value}
 use Rattle.plan_next.specs.Next.{IsFirstOrEnd}
 use Rattle.plan_next.proofs.minutes.keep_next_minutes.Given as goal
 
--- the minutes before this one keep their next ones, and it is one of them or the hour's end
+-- the next minute is kept for each minute before this one, which is one of them or the hour's end
 abbrev pub invariant-loop-minute : goal.invariant-loop-minute
 invariant-loop-minute l = record {
   within : l.minute ≤ 60;

@@ -4,7 +4,7 @@ use Rattle.plan_next.specs.Starts.{is_start}
 use Rattle.plan_next.specs.StartsLaws.{passing-first}
 use Rattle.plan_next.proofs.next.next_start.Goals as goal
 
--- a moment that can't be counted further lies past the end
+-- the largest number of seconds, which can't be increased, is after the end
 pub returns-clause-least : goal.returns-clause-least
 returns-clause-least c = search rules
 

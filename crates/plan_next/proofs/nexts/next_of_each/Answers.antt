@@ -1,6 +1,6 @@
 -- Answers the loop of `next_of_each`, and its clause `kept`.
--- The invariant: events before place i keep their next start after `start`, those from i on still the one from `start`
--- on, and `earliest` is the least so far. A turn sets one place of `kept` and takes the lesser of two next starts.
+-- The invariant: for events before place i the next start after `start` is kept, and for the others still the one at or
+-- after `start`; `earliest` is the minimum so far. A turn sets one place of `kept` and takes the earlier of two next starts.
 use Rattle.std.proofs.Common.{◌+◌, ◌∙◌, ◌<◌, length, refl, sym, ap, arith}
 use Rattle.std.specs.Option.{option_copied}
 use Rattle.std.proofs.lemmas.Option.{slice_get_within}

@@ -1,4 +1,4 @@
--- Each event is looked at, and none of those that were passed over has a clock.
+-- Each event is checked, and none of those that were skipped has a clock.
 use Rattle.std.proofs.Common.{◌≡◌, ◌∙◌, ◌<◌, length, refl, sym, ap, arith, subst}
 use Rattle.std.specs.Option.{option_copied}
 use Rattle.plan_next.proofs.ClockLemmas.{NoneBelow, all_none, none_more}

@@ -1,6 +1,7 @@
--- Answers the clauses `end`, `all` and `first` of `first_starts`, and what `add_starts_of_hour` requires of what is kept.
--- The loop's invariant: all starts before `reached` were found, and the next one is known. It ends at a full piece with
--- a start left over (`full_piece`), or where no start is left (`whole_part`).
+-- Answers the clauses `end`, `all` and `first` of `first_starts`, and the requirements of `add_starts_of_hour` on
+-- `kept`.
+-- The loop's invariant: all starts before `reached` were found, and the next one is known. The loop ends when the piece
+-- is full and a start remains (`full_piece`), or when no start remains (`whole_part`).
 use Rattle.std.proofs.Common.{◌≡◌, ◌<◌, length, arith}
 use Rattle.plan_next.specs.Starts.{is_start}
 use Rattle.plan_next.proofs.KeptLemmas.{KeepsNexts-start}

@@ -4,7 +4,7 @@ use Rattle.plan_next.specs.Starts.{is_start}
 use Rattle.plan_next.specs.Piece.{AreFound}
 use Rattle.plan_next.proofs.piece.first_starts.Given as goal
 
--- what was found so far are all starts up to here, and the next one is known
+-- all starts up to here were found, and the next one is known
 abbrev pub invariant-loop-next : goal.invariant-loop-next
 invariant-loop-next l = record {
   found : AreFound l.rule l.since l.upto l.most l.found.items l.reached;

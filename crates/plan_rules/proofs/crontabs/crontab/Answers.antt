@@ -1,4 +1,4 @@
--- At the last return each fault is of a line: for the four clauses on faults.
+-- At the last return each error is of a line: for the four clauses about errors.
 use Rattle.std.proofs.Common.{◌≡◌, map}
 use Rattle.std.proofs.lemmas.Result.{IfErr-weaker}
 use Rattle.plan_rules.specs.declared.line_fault.LineCause.TheVariants.{NoMemory}

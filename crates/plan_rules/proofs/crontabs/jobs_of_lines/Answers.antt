@@ -1,6 +1,6 @@
--- For `jobs_of_lines`: its loop knows what the lines so far were read as, and the jobs are those among it.
--- A turn reads a line more, with a job (`jobs_push`) or without (`jobs_pass`). Only where the function returns is
--- `jobs_reading` unfolded: `each` over all lines, and then the jobs.
+-- For `jobs_of_lines`: the invariant of its loop gives the reading of the lines so far, and their jobs.
+-- Each iteration reads one more line, with a job (`jobs_push`) or without (`jobs_pass`). Only at the return is `jobs_reading`
+-- unfolded: `each` over all lines, and then the jobs.
 use Rattle.std.proofs.Common.{◌++◌, ◌∷◌, [], Ok, ap, sym, ◌∙◌}
 use Rattle.std.proofs.lemmas.Result.{err_from_is_err_and}
 use Rattle.std.specs.List.{filter_map}

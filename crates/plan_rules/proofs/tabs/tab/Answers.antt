@@ -1,4 +1,4 @@
--- At the last return the name is one of the folder: for the clauses on faults.
+-- At the last return the name is valid in the directory: for the clauses about errors.
 use Rattle.std.proofs.Common.{◌≡◌, true, rules, sym, ◌∙◌, true≢false}
 use Rattle.plan_rules.specs.Tabs.{is_tab_name}
 use Rattle.plan_rules.proofs.TabFaults.{no_name_fault, of_crontab}

@@ -1,4 +1,4 @@
--- Line by line: what was read so far, and what is read from there, is what all lines say.
+-- Line by line: what was read so far, with what the remaining lines add to it, is what all lines say.
 use Rattle.std.proofs.Common.{◌+◌, ◌++◌, ◌||◌, drop, map, ap, sym, ◌∙◌}
 use Rattle.plan_rules.specs.Timer.{effects_from, has_timer}
 use Rattle.plan_rules.specs.TimerEntries.{entries_from, count_from}

@@ -4,7 +4,7 @@ use Rattle.plan_rules.specs.TimerEntries.{no_events, entries_from, count_from}
 use Rattle.plan_rules.specs.EventSteps.{count_of, shown_line}
 use Rattle.plan_rules.proofs.timer_events.entries_of_lines.Given as goal
 
--- what was read, and what is left from there, are what all lines say
+-- what was read, with what the remaining lines add to it, is what all lines say
 abbrev pub invariant-loop-line : goal.invariant-loop-line
 invariant-loop-line l = record {
   events : l.reader.events.items

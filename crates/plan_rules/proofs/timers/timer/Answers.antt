@@ -1,4 +1,4 @@
--- At the last return the name is one of a timer, and each fault is of a line: for the clauses on faults. The meaning is that of the
+-- At the last return the name is valid, and each error is of a line: for the clauses about errors. The meaning is that of the
 -- whole lines, by `trimmed_lines`.
 use Rattle.std.proofs.Common.{◌≡◌, ℕ, List, map, true, string_bytes, ap, sym, ◌∙◌, rules, subst, true≢false}
 use Rattle.std.proofs.lemmas.Result.{IfErr-weaker}

@@ -1,4 +1,4 @@
--- Line by line: what is read so far, and what the rest answers from there, is what the whole text answers.
+-- Line by line: the lines that were read and the answer for the remaining lines give the answer for the whole text.
 use Rattle.std.proofs.Common.{◌≡◌, ◌+◌, drop, map, Ok, Err, string_bytes, subst, ap, sym, ◌∙◌}
 use Rattle.plan_texts.specs.Steps.{◌>>=◌, GivesUnless}
 use Rattle.plan_rules.specs.LineFaults.{TextReading, on_line, fault_on_line, want_of_memory}

@@ -1,4 +1,4 @@
--- A second before the end lies in the planner's years.
+-- A second before the end is in the supported years.
 use Rattle.std.proofs.Common.{arith}
 use Rattle.plan_sets.specs.CivilLaws.{IsInRange-year}
 use Rattle.plan_sets.proofs.civil.civil_of.Goals as goal

@@ -1,4 +1,4 @@
--- The epoch's day number is 0.
+-- The epoch has the day number 0.
 use Rattle.std.proofs.Common.{arith, pos, to_z, w64, ◌≡◌, ◌+ℤ◌}
 use Rattle.std.proofs.lemmas.Result.{IfOk-at_ok}
 use Rattle.jiff_core.specs.Date.{epoch_day}

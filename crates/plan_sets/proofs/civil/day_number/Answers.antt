@@ -1,6 +1,6 @@
--- The date that was made has the year, month and day that were given.
--- Answers clause `some` of `day_number`, where jiff refuses the date and where it made one. Each cast that succeeds
--- keeps its number, so jiff takes every date of the calendar, and what it made is one.
+-- The date that jiff makes has the given year, month and day.
+-- Answers the clause `some` of `day_number`, both if jiff rejects the date and if it makes one. A cast that succeeds keeps its
+-- number. So jiff accepts every date of the calendar, and every date that it makes is one.
 use Rattle.std.proofs.Common.{◌≡◌, Err, Ok, Result, Some, sym, ap, of_z, refl, to_z, to_z-of_z, w16, w8, ◌∙◌}
 use Rattle.std.specs.Option.{is_some}
 use Rattle.std.specs.Result.{result_ok}
@@ -11,7 +11,7 @@ use Rattle.jiff_core.specs.Date.{IsYmd}
 use Rattle.plan_sets.proofs.CivilLemmas.{IsCivilDate-date, IsDate-civil}
 use Rattle.plan_sets.proofs.civil.day_number.Goals as goal
 
--- what `ok` kept was the value of an `Ok`
+-- the value that `ok` kept was the value of an `Ok`
 Ok-from_result_ok : {T E : Type 0} → (r : Result T E) (x : T) → Some x ≡ result_ok r → r ≡ Ok x
 Ok-from_result_ok (Ok y) x e = ap (λ v. Ok v) (same_Some _ _ (sym e))
 Ok-from_result_ok (Err y) x e = absurd (none-some x (sym e))

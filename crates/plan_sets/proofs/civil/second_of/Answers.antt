@@ -1,6 +1,6 @@
--- The number of a date and time in the planner's years is one of its seconds.
--- Answers the clauses `range`, `number` and `fields` of `second_of`, and that its cast loses nothing. The number lies
--- from 0 up to the end, so the cast keeps it; that its civil fields are those given is `Shows-civil_fields`.
+-- A date and time in the supported years has the number of a second before the end.
+-- Answers the clauses `range`, `number` and `fields` of `second_of`, and that its cast loses nothing. The number is from 0 up to
+-- the end, so the cast keeps it. By `Shows-civil_fields` its civil fields are the given ones.
 use Rattle.std.proofs.Common.{◌∙◌, ◌<ℤ◌, ◌≤ℤ◌, arith, of_z, pos, refl, to_z, unsigned_abs, w64}
 use Rattle.jiff_core.proofs.SignedLemmas.{signed_arith}
 use Rattle.plan_sets.specs.Limits.{end_second}
@@ -13,12 +13,12 @@ use Rattle.plan_sets.proofs.civil.second_of.Goals.{In_ok-number}
 exists : (c : In_ok-number) → IsDateTime c.args.year c.args.month c.args.day c.args.hour c.args.minute c.args.second
 exists c = c.in_ok-number.ensures.some.0 refl
 
--- the number is not negative, and lies before the end
+-- the number is not negative, and before the end
 bounds : (c : In_ok-number) → (pos 0 ≤ℤ c.in_ok-number.number) × (c.in_ok-number.number <ℤ pos end_second)
 bounds c =
     rw c.in_ok-number.ensures.number (second_number-bounds _ _ _ _ _ _ ((omega arith, omega arith), exists c))
 
--- so that the cast keeps it
+-- so the cast keeps it
 cast : (c : In_ok-number) → IsCast c.in_ok-number.number (unsigned_abs (to_z w64 (of_z w64 c.in_ok-number.number)))
 cast c =
     let b = bounds c in

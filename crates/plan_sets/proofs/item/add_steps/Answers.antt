@@ -1,4 +1,4 @@
--- Step by step: the set has those up to the value, and no value between two of them is one.
+-- Step by step: the set has the steps up to the value, and no number between two steps is a step.
 use Rattle.std.proofs.Common.{◌≡◌, ◌+◌, ◌-◌, ◌%◌, ◌||◌, nat_eq, ap, ◌∙◌, arith}
 use Rattle.std.proofs.Math.Nat.{add-mod_right}
 use Rattle.plan_sets.specs.Values.{Values, has_value}

@@ -3,7 +3,7 @@ use Rattle.plan_sets.specs.Values.{has_value}
 use Rattle.plan_sets.proofs.ItemsLemmas.{is_step_before}
 use Rattle.plan_sets.proofs.item.add_steps.Given as goal
 
--- the base stays, and every step before this one was added
+-- the base is unchanged, and every step before this one was added
 abbrev pub invariant-loop-value : goal.invariant-loop-value
 invariant-loop-value l = record {
   base : l.values.base ≡ l.fn.values.base;

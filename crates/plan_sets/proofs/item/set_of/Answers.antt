@@ -1,6 +1,6 @@
 -- Answers the one clause of `set_of`: the answer is `set_reading` of the items.
--- The loop's invariant: the items so far have no fault, and the set holds their values. A faulty item ends it with the
--- first fault (`set_reading-fault`); past the last item the set is the reading (`set_reading-values`).
+-- By the loop's invariant the items so far are valid, and the set has their values. An invalid item ends the loop with the first
+-- error (`set_reading-fault`). After the last item, the set is the reading (`set_reading-values`).
 use Rattle.std.proofs.Common.{◌≡◌, ◌<◌, ◌||◌, ◌&&◌, length, ap, sym, ◌∙◌, arith, take, get_or, refl, take_all}
 use Rattle.std.proofs.lemmas.List.{take_more}
 use Rattle.std.proofs.lemmas.Bool.{eqb-true, eqb-false}

@@ -3,7 +3,7 @@ use Rattle.plan_sets.specs.Values.{has_value}
 use Rattle.plan_sets.specs.Items.{first_fault, is_held}
 use Rattle.plan_sets.proofs.item.set_of.Given as goal
 
--- the items so far are faultless, and their values are held
+-- the items so far are valid, and the set has their values
 abbrev pub invariant-loop-item : goal.invariant-loop-item
 invariant-loop-item l = record {
   base : l.values.base ≡ l.lo;

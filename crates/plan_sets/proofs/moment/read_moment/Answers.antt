@@ -1,6 +1,6 @@
--- A text says one date and time alone, so it is the text of a second exactly where that date and time has its number.
--- Answers the clauses `ok` and `accepted` of `read_moment`. Where the code refuses, `accepted` holds since the text of
--- a second has the form, a date of the calendar and a number from 0 to the end (`Says-second`).
+-- A text says only one date and time, so it is the text of a second exactly if that date and time has its number.
+-- Answers the clauses `ok` and `accepted` of `read_moment`. If the code rejects the text, `accepted` holds, since the text of a
+-- second has the form, a date of the calendar and a number from 0 to the end (`Says-second`).
 use Rattle.std.proofs.Common.{FitsSigned, ◌∙◌, ◌≡◌, Ok, ap, arith, pos, sym, w64}
 use Rattle.std.specs.Bool.{⊤}
 use Rattle.std.proofs.lemmas.Bool.{false≢true}

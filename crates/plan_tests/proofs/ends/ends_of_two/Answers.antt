@@ -1,4 +1,4 @@
--- Two outlets are taken from the end of the list: the last is the second, the one before it the first.
+-- Two outlets are removed from the end of the list: the last is the second, and the one before it the first.
 use Rattle.std.proofs.Common.{◌≡◌, ◌<◌, List, [], ◌∷◌, ◌++◌, length, map, Some, sym, ap, ◌∙◌, arith}
 use Rattle.std.specs.List.{slice_get}
 use Rattle.std.specs.Prelude.{option_map}

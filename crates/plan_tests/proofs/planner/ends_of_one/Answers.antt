@@ -1,5 +1,6 @@
--- For `ends_of_one`: a mailbox of one sender has one outlet, so the one that `pop` takes is all there are (`one_left`).
--- The outlets of a split are new, and the first new outlet is sender 0, has the first ring and sent nothing.
+-- For `ends_of_one`: a mailbox of one sender has one outlet, so the one that `pop` returns is the only one
+-- (`one_left`).
+-- The outlets of a split are new. The first new outlet is that of sender 0, has the first ring, and sent nothing.
 use Rattle.std.proofs.Common.{◌≡◌, List, [], ◌∷◌, ◌++◌, length, map, Some, sym, ap, ◌∙◌, arith}
 use Rattle.std.specs.List.{slice_get}
 use Rattle.std.specs.Prelude.{option_map}
@@ -15,12 +16,12 @@ one_left : {A : Type 0} (all middle : List A) (a : A) → length all ≡ 1 → a
 one_left all [] a n e = e
 one_left all (x ∷ middle) a n e = absurd (omega (arith, n, ap length e, length-append middle (a ∷ [])))
 
--- the first of a list, or another
+-- the first of a list, or another value
 first_or : {A : Type 0} → A → List A → A
 first_or other [] = other
 first_or other (x ∷ xs) = x
 
--- one new outlet is sender 0, has the first ring, and sent nothing
+-- the one new outlet is that of sender 0, has the first ring, and sent nothing
 one_new :
     {M : Type 0} (a : Outlet M) (rings : List Ring) → outlet_of a ∷ [] ≡ new_outlets rings →
     ((outlet_of a).sender ≡ 0) × (slice_get rings 0 ≡ Some (outlet_of a).ring) × ((outlet_of a).sent ≡ [])

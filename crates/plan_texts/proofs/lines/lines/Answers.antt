@@ -1,6 +1,6 @@
 -- Answers the clauses `value`, `again`, `no_newline` and `few` of `lines`; the last three follow from `value`.
--- For `value`: what the iterator collects is `slice_split` at newlines, and to drop an empty last piece, or to keep a
--- piece that isn't empty, is `without_empty_end` (`dropped_where_empty`).
+-- For `value`: the iterator collects `slice_split` at newlines. To drop an empty last piece, or to keep a piece that
+-- isn't empty, is `without_empty_end` (`dropped_where_empty`).
 use Rattle.std.proofs.Common.{rules, tests, lit<, ◌≡◌, ◌-◌, ◌==◌, length, map, take, cond, ap, sym, ◌∙◌, arith}
 use Rattle.std.proofs.lemmas.Iterator.Consumers.{map_from_collect}
 use Rattle.std.proofs.lemmas.Iterator.Splits.{YieldsList-from_str_split}

@@ -1,6 +1,6 @@
 -- Answers the clauses `value`, `again`, `first` and `nowhere` of `cut`.
--- The loop's invariant: the text is cut where the rest is, with the passed bytes in front, and the mark stands at no
--- place that was passed. `take_rest` turns the slices of the code into `drop`.
+-- The loop's invariant: the cut of the text is the cut of the rest, with the bytes that were passed put before it; and
+-- the mark is at no place that was passed. `take_rest` turns the slices of the code into `drop`.
 use Rattle.std.proofs.Common.{◌≡◌, ℕ, ◌-◌, ◌++◌, nat_eq, length, take, drop, Some, true, false, ap, sym, ◌∙◌, arith, below_more}
 use Rattle.std.proofs.lemmas.List.{take_rest, length-take}
 use Rattle.std.specs.List.{starts_with}

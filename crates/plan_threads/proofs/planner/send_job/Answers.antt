@@ -1,6 +1,6 @@
--- For the loop of `send_job` and its `all`. The piece that was sent is the first of those that were left (`IsNext`).
--- Where it ends before the span does, and the limit isn't passed, the others are left (`sent_on`). Else, whichever of
--- the two tests stopped the loop, nothing of the job is left (`sent_all`).
+-- For the loop of `send_job` and its `all`. The piece that was sent is the first of the remaining pieces (`IsNext`). If
+-- it ends before the span does, and the limit isn't exceeded, the others remain (`sent_on`). Otherwise nothing of the job
+-- remains, whichever of the two tests stopped the loop (`sent_all`).
 use Rattle.std.proofs.Common.{◌<◌, ◌≤◌, ◌+◌, ◌⊎◌, length, inl, inr, ap, ◌∙◌, arith}
 use Rattle.std.specs.Arc.{arc_value}
 use Rattle.plan_next.specs.Piece.{piece_of}

@@ -1,6 +1,7 @@
--- For the loop of `send_notes`, its `all` and its `prefix`. What was sent and what is left from a job on are all notes.
--- A job of another planner leaves it so (`upto_other`), and an own job moves its pieces over (`upto_own`), or a part of
--- them where memory was refused. Nothing is left past the limit (`upto_over`), and after all jobs only the last note.
+-- For the loop of `send_notes`, its `all` and its `prefix`. What was sent and what remains from a job on are all
+-- messages. A job of another planner changes nothing (`upto_other`). A job of this planner moves its pieces over
+-- (`upto_own`), or a part of them if an allocation failed. Past the limit nothing remains (`upto_over`), and after all
+-- jobs only the last message.
 use Rattle.std.proofs.Common.{◌<◌, ◌+◌, ◌++◌, length, sym, ap, subst, ◌∙◌, arith}
 use Rattle.std.specs.Arc.{arc_value}
 use Rattle.plan_collect.specs.declared.note.Note.{Note}

@@ -1,4 +1,4 @@
--- The gaps are put one after the other, by what is left of them behind a mark (`PutsAllBefore`).
+-- The gaps are put one after the other, with the rest after a mark as what is left (`PutsAllBefore`).
 use Rattle.std.proofs.Common.{ℕ, [], length, drop, ◌<◌, ◌≤◌, ◌+◌, ◌∙◌, ap, sym, subst, arith}
 use Rattle.plan_collect.specs.Agenda.{IsInYears}
 use Rattle.plan_write.specs.Quiet.{quiet_text, wide_line}

@@ -1,5 +1,5 @@
--- The lines of the next starts are put one after the other, as those of an agenda: what waits is told apart by `AppendsAllBut`, and is
--- put last.
+-- The lines of the next starts are put one after the other, like those of an agenda. `AppendsAllBut` separates
+-- what waits, which is put last.
 use Rattle.std.proofs.Common.{List, ℕ, [], length, take, ◌≡◌, ◌<◌, ◌∙◌, subst, arith, take_all}
 use Rattle.std.specs.Prelude.{slice_get}
 use Rattle.plan_streams.specs.Stream.{BreaksOff, AppendsAllBut}

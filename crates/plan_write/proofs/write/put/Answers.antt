@@ -1,4 +1,4 @@
--- What waits is written, then the text.
+-- What waits is written first, then the text.
 use Rattle.plan_write.proofs.StreamLemmas.{put_behind}
 use Rattle.plan_write.proofs.write.put.Goals as goal
 

@@ -1,6 +1,6 @@
--- The text is its first line and then the lines of the entries, which are put one after the other.
--- For the loop of `write_agenda` and each way out: what waits is told apart by `AppendsAllBut`, and is put last. Where
--- a line could not be put, the stream took a prefix of the text so far, which is one of the whole text.
+-- The text is its header and then the lines of the entries, which are put one after the other.
+-- For the loop of `write_agenda` and each way out: `AppendsAllBut` separates what waits, which is put last. If
+-- a line could not be put, the stream took a prefix of the text so far, which is also one of the whole text.
 use Rattle.std.proofs.Common.{List, ℕ, length, take, ◌≡◌, ◌<◌, ◌++◌, ◌∙◌, subst, arith, append-nil, take_all, sym}
 use Rattle.std.specs.Prelude.{slice_get}
 use Rattle.plan_streams.specs.Stream.{BreaksOff, AppendsAllBut}

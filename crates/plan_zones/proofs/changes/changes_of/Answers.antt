@@ -14,11 +14,11 @@ loop-year-init c = record {
       subst (λ changes. Covers c.args.zone.now changes 0) (sym c.new-changes.ensures.items) (Covers-none c.args.zone.now);
 }
 
--- how long a year is
+-- the length of a year
 length-of : (year days long : ℕ) → year < 3000 → days ≡ days_in_year (to_z w16 year) → long ≡ days → long ≡ days_in_year (pos year)
 length-of year days long h e same = same ∙ e ∙ ap days_in_year (to_z_pos w16 year (omega arith))
 
--- it lies within the planner's years
+-- the year is within the supported years
 pub overflow_add-end : goal.overflow_add-end
 overflow_add-end c =
     let long = length-of c.loop-year.year c.days_in_year.result c.from.result c.loop-year-test.true c.days_in_year.ensures c.from.ensures in

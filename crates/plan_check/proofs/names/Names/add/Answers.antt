@@ -1,4 +1,5 @@
--- No job has the name, so by `has` no key does, and the set puts the new key last (`insert_key-name`); the keys are few, as the names are.
+-- No job has the name, so by `has` no key has its bytes, and the set appends the new key (`insert_key-name`).
+-- There are as few keys as names.
 use Rattle.std.proofs.Common.{◌≡◌, ℕ, true, false, nat_lt, length, List, [], ◌∷◌, ◌++◌, map, string_bytes, ap, sym, ◌∙◌}
 use Rattle.std.proofs.lemmas.Bool.{lt-ltb}
 use Rattle.std.proofs.lemmas.List.{length-map}

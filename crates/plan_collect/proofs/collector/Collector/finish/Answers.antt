@@ -9,7 +9,7 @@ use Rattle.plan_collect.specs.contracts.collector.Collector.{the_view}
 use Rattle.plan_collect.proofs.HoldsLemmas.{agenda_sorted}
 use Rattle.plan_collect.proofs.collector.Collector.finish.Goals as goal
 
--- agendas are the same where their spans and their entries are
+-- agendas are equal if their spans and their entries are
 same_planned :
     (made : Planned) (rules : List Rule) (span : Bounds) → made.span ≡ span → made.entries ≡ agenda rules span →
     made ≡ planned rules span

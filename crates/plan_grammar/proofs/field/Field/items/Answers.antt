@@ -1,6 +1,6 @@
 -- Answers the one clause of `Field::items`: the items are `items_reading` of the text.
 -- The loop's invariant: the pieces so far, read by `item_reading`, are the items so far. The split yields the pieces
--- between commas; `each-step` adds an item, `each-turn` ends at a fault, and `each-end` at the last piece.
+-- between commas; `each-step` adds an item, `each-turn` ends at an error, and `each-end` at the last piece.
 use Rattle.std.proofs.Common.{rules, tests, ◌==◌, Ok, ap, sym, ◌∙◌}
 use Rattle.std.proofs.lemmas.Result.{err_from_is_err_and}
 use Rattle.std.proofs.lemmas.Iterator.Consumers.{YieldsList-at}

@@ -1,5 +1,5 @@
--- For `unused` and `new` of `Lanes::is_new`, where no message was sent. Then both are by whether any lane is marked.
--- For `new` nothing may wait either: what waits in a lane was sent (`waits_sent`), and by the type's `unused` none was.
+-- For `unused` and `new` of `Lanes::is_new`, if no message was sent. Then both depend on whether any lane is marked. For
+-- `new` nothing may wait either: what waits in a lane was sent (`waits_sent`), and by the type's `unused` nothing was.
 -- The turn is 0 by the type's `begins`.
 use Rattle.std.proofs.Common.{◌≡◌, true, false, not, [], length, get_or, replicate, refl, ap, sym, ◌∙◌, subst, arith}
 use Rattle.std.specs.List.{list_any, AllPass}

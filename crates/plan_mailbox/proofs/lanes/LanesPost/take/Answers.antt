@@ -1,6 +1,6 @@
--- For `reply` and `after` of `Lanes::take`. Where a sender was found, the oldest message of its lane is first in line.
--- `after` then rewrites the mailbox's lists by the one write to that lane, and reads the reply off `reply`.
--- Where none was found nothing is in line, and the reply is by whether all lanes are shut.
+-- For `reply` and `after` of `Lanes::take`. If a sender was found, the oldest message of its lane is first in line.
+-- `after` then rewrites the mailbox's lists by the one write to that lane, and uses `reply`. If none was found, nothing
+-- is in line, and the reply depends on whether all lanes are closed.
 use Rattle.std.proofs.Common.{◌≡◌, ◌<◌, [], length, subst, ap, sym, ◌∙◌, true, false}
 use Rattle.std.specs.List.{list_all}
 use Rattle.std.proofs.lemmas.List.{map-set, length-map}

@@ -1,4 +1,4 @@
--- For the loop of `Rings::split` and its `outlets`, `room` and `inlet`. Each turn appends the two ends of one lane.
+-- For the loop of `Rings::split` and its `outlets`, `room` and `inlet`. Each iteration appends the two ends of one lane.
 -- At the end all lanes were yielded. A new mailbox has sent nothing, so by its type no lane was used, and the ends of
 -- unused lanes are new ones by RingsApart.antt.
 use Rattle.std.proofs.Common.{◌≡◌, ◌+◌, ◌++◌, [], ◌∷◌, All, List, length, map, rules, sym, ap, ◌∙◌, append_assoc, zero-add, arith}
@@ -40,7 +40,7 @@ loop-lane-preserved g c =
       );
     }
 
--- every lane was taken apart
+-- every lane was split
 all_yielded : {A : Type 0} (yielded left all : List A) → yielded ++ left ≡ all → length left ≡ 0 → yielded ≡ all
 all_yielded yielded left all e none = sym (append-nil yielded) ∙ ap (λ rest. yielded ++ rest) (sym (nil_from_length left none)) ∙ e
 

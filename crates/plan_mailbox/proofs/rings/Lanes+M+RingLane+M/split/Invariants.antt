@@ -5,7 +5,7 @@ use Rattle.plan_mailbox.specs.Ends.{free_of, outlet_of}
 use Rattle.plan_mailbox.proofs.RingsApart.{end_from, free_in, outlet_from}
 use Rattle.plan_mailbox.proofs.rings.Lanes+M+RingLane+M.split.Given as goal
 
--- the ends of the lanes so far were made, and there is room for those of all
+-- the ends of the lanes so far were made, and there is capacity for the ends of all lanes
 abbrev pub invariant-loop-lane : goal.invariant-loop-lane
 invariant-loop-lane g l = record {
   can : (goal.iterator-loop-lane g).can_next l.lane-iterator;

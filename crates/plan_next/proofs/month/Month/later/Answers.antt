@@ -1,6 +1,6 @@
 -- Answers clause `month` of `later`, and that the end of the month does not overflow.
--- Both need that the day found is the first of month `number`. Of the next month it is this month's end
--- (`IsFirstDay-end_of`); of any other `first_day` says so.
+-- Both need that the day found is the first of month `number`. For the next month that day is the end of this one
+-- (`IsFirstDay-end_of`); for any other month `first_day` returns it.
 use Rattle.std.proofs.Common.{refl, sym, ◌∙◌, subst, arith}
 use Rattle.plan_sets.specs.Months.{IsFirstDay}
 use Rattle.plan_sets.specs.MonthsLaws.{IsFirstDay-le_end}

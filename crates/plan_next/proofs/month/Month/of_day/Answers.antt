@@ -1,6 +1,6 @@
 -- Answers the clauses of `of_day`, that no step of its arithmetic overflows, and what `month_length` requires.
--- All come from `IsDateOf-day`: the given fields are the date of the day, so its month begins as many days before as
--- the day of the month tells, and ends a month's length later.
+-- All of them follow from `IsDateOf-day`: the given fields are the date of the day. So its month begins as many days
+-- earlier as the day of the month says, and ends a month's length later.
 use Rattle.std.proofs.Common.{◌+◌, ◌-◌, ap, sym, ◌∙◌, arith}
 use Rattle.plan_next.proofs.MonthLemmas.{IsDateOf-day}
 use Rattle.plan_next.proofs.month.Month.of_day.Goals as goal

@@ -3,7 +3,7 @@ use Rattle.plan_next.specs.Search.{starts_by}
 use Rattle.plan_next.specs.Starts.{NoneIn}
 use Rattle.plan_next.proofs.search.Pattern.first_by_clock.Given as goal
 
--- no start was passed
+-- no start was skipped
 abbrev pub invariant-loop-from : goal.invariant-loop-from
 invariant-loop-from l = record {
   after : l.since ≤ l.from;

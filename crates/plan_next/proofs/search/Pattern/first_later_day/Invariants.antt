@@ -3,7 +3,7 @@ use Rattle.plan_next.specs.Search.{end_month}
 use Rattle.plan_next.proofs.SearchLemmas.{IsReached}
 use Rattle.plan_next.proofs.search.Pattern.first_later_day.Given as goal
 
--- no day up to here is admitted
+-- no day up to here matches
 abbrev pub invariant-loop-found : goal.invariant-loop-found
 invariant-loop-found l = IsReached l.self (l.day + 1) l.month l.from
 

@@ -1,6 +1,6 @@
 -- Answers the one clause of `first_open_day`, and that the next day's number does not overflow.
--- The loop's invariant: no day from `from` up to here is admitted. `IsOpen` adds what the search for a place in the
--- month found: the days passed over are not admitted (`not_open`), nor is any where it found none (`none_open`).
+-- The loop's invariant: no day from `from` up to here matches. `IsOpen` adds what the search for a place in the month
+-- found: the days that it skipped don't match (`not_open`), and if it found no place, no day does (`none_open`).
 use Rattle.std.proofs.Common.{◌≡◌, ◌+◌, Some, None, inl, inr, ap, sym, ◌∙◌, arith}
 use Rattle.std.proofs.lemmas.Bool.{cases_lt}
 use Rattle.plan_next.specs.Search.{admits_date, admits_day}

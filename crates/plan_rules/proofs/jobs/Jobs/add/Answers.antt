@@ -1,5 +1,5 @@
--- For `added` of `Jobs::add`, and for the type's invariant after it. No job has the name, so by the invariant no key is
--- it, and the map puts the new entry last (`insert_entry-job`). Its key is the job's name, and it is one entry more.
+-- For `added` of `Jobs::add`, and for the type's invariant after it. No job has the name, so by the invariant it is no key of the
+-- map, and the map puts the new entry last (`insert_entry-job`). The key is the job's name, and the map has one more entry.
 use Rattle.std.proofs.Common.{◌≡◌, ◌+◌, [], ◌∷◌, ◌++◌, length, false, is_some, string_bytes, subst, ap, sym, ◌∙◌, arith, length-append}
 use Rattle.std.proofs.lemmas.List.{map-append, length-map}
 use Rattle.std.specs.Map.{values_of}

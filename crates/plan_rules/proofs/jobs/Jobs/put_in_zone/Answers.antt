@@ -1,4 +1,4 @@
--- The entries of the map change at one place, by a job of the same name (`same_names`), which is in the zone (`first_more`).
+-- One entry of the map changes: its job keeps its name (`same_names`) and is now in the zone (`first_more`).
 use Rattle.std.proofs.Common.{◌≡◌, ℕ, ◌≤◌, List, Some, string_bytes, map, refl, ap, sym, subst, ◌∙◌, add-one}
 use Rattle.std.specs.List.{slice_get}
 use Rattle.std.specs.Map.{values_of}

@@ -1,4 +1,4 @@
--- Each pair of bytes is the digits of its number, and the separators were tested.
+-- Each pair of bytes is the digits of its number, and the separators were checked.
 use Rattle.std.proofs.Common.{◌≡◌, ℕ, arith, get_or, length}
 use Rattle.std.specs.List.{between}
 use Rattle.std.proofs.lemmas.List.Edits.{get_or-between}

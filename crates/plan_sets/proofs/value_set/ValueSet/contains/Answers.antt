@@ -1,6 +1,6 @@
--- A value is a member where the bit with its distance from the base is 1.
--- Answers the one clause of `contains`: below the base and past the words there is no member, and elsewhere the code's
--- shift and mask read that bit (`shr_and_one`).
+-- A value is a member if the bit with its distance from the base is 1.
+-- Answers the one clause of `contains`: below the base and after the words there is no member; in between, the shift and the mask
+-- of the code read that bit (`shr_and_one`).
 use Rattle.std.proofs.Common.{◌≡◌, ◌-◌, ◌/◌, ◌%◌, ◌≤◌, ℕ, false, ap, arith, get_or, length, sym, ◌∙◌, ◌==◌}
 use Rattle.std.proofs.lemmas.Nat.Bits.{shr_and_one}
 use Rattle.std.specs.Int.{bit_at}

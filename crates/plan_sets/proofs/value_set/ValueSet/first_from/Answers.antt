@@ -1,4 +1,4 @@
--- The first bit of the word from the start on is the least member, else the first of a later word.
+-- The smallest member is the first bit of the word from the start on, or else the first bit of a later word.
 use Rattle.std.proofs.Common.{◌≡◌, ℕ, ◌+◌, ◌*◌, ◌/◌, ◌%◌, ◌^◌, ◌<◌, ◌≤◌, false, subst, arith, get_or, Some}
 use Rattle.std.specs.Int.{trailing_zeros, w128}
 use Rattle.plan_sets.specs.Limits.{set_span}

@@ -1,4 +1,4 @@
--- Word by word: none before is used, and the first that is not 0 holds the least member.
+-- Word by word: all words so far are 0, and the first that is not 0 has the smallest member.
 use Rattle.std.proofs.Common.{◌≡◌, ◌+◌, ◌*◌, ◌<◌, ap, sym, subst, ◌∙◌, arith, get_or, Some, inl, inr}
 use Rattle.std.specs.Int.{trailing_zeros, w128}
 use Rattle.std.proofs.lemmas.Bool.{cases_lt}

@@ -1,6 +1,6 @@
--- The bit with the value's distance from the base is 1 now, and the others are what they were.
+-- The bit with the value's distance from the base is now 1, and all others are unchanged.
 -- Answers the one clause of `insert`, the type's invariant after it, and the bounds of the distance and of its word.
--- `is_marked-more` tells each bit of the new words; by `values_at-with_value` they are the set with the value added.
+-- `is_marked-more` gives each bit of the new words; by `values_at-with_value` they are the set with the new value.
 use Rattle.std.proofs.Common.{◌-◌, ◌/◌, ◌<◌, arith, length}
 use Rattle.plan_sets.specs.Words.{is_marked, word_bits}
 use Rattle.plan_sets.proofs.ValuesLemmas.{base-values_at, values_at-with_value}

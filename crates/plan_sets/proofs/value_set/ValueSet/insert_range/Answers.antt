@@ -1,6 +1,6 @@
--- Word by word: the bits of the range that lie in this word are 1 now, and the others are what they were.
+-- Word by word: the bits of the range that are in this word are now 1, and all others are unchanged.
 -- Answers both clauses of `insert_range`, the type's invariant after it, and the bounds of the distances and of each word.
--- `IsMarkedBefore-next` tells each bit after a word; after the last one `has_value-range_more` tells each member.
+-- `IsMarkedBefore-next` gives each bit after a word; after the last word `has_value-range_more` gives each member.
 use Rattle.std.proofs.Common.{refl, ◌≡◌, ◌-◌, ◌*◌, ◌<◌, ◌^◌, ap, sym, ◌∙◌, arith, length, min}
 use Rattle.plan_sets.specs.Items.{is_within}
 use Rattle.plan_sets.specs.Values.{has_value, values_at}

@@ -3,7 +3,7 @@ use Rattle.plan_sets.specs.Words.{AreUnused, AreWords}
 use Rattle.plan_sets.proofs.RangeLemmas.{IsMarkedBefore}
 use Rattle.plan_sets.proofs.value_set.ValueSet.insert_range.Given as goal
 
--- the words have the old bits, and those of the range that lie before this word
+-- the words have the old bits, and those of the range that are before this word
 abbrev pub invariant-loop-index : goal.invariant-loop-index
 invariant-loop-index l = record {
   base : l.self-inside.base ≡ l.initial.self-inside.base;

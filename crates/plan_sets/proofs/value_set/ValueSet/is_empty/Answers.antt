@@ -1,4 +1,4 @@
--- The set is empty where its words are 0.
+-- The set is empty if its words are 0.
 use Rattle.std.proofs.Common.{ap, refl, sym, ◌∙◌}
 use Rattle.plan_sets.specs.Values.{Values}
 use Rattle.plan_sets.specs.Words.{is_marked, word_count}

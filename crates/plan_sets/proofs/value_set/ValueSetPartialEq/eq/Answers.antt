@@ -1,6 +1,6 @@
--- Sets with the same base are equal where their words are.
--- Answers `==` of sets: it decides whether two are the same. With one base the words' test decides that of the bits
--- (`Decides-words`), and so whether the sets are (`same_tests`); with two bases the sets differ by their bases.
+-- Sets with the same base are equal if their words are equal.
+-- Answers `==` of sets: it decides whether two sets are equal. With the same base, the test of the words decides whether the bits
+-- are the same (`Decides-words`), and so whether the sets are (`same_tests`). Sets with different bases differ.
 use Rattle.std.proofs.Common.{◌≡◌, ◌+◌, Decides, ap, sym, ◌∙◌, ◌==◌}
 use Rattle.std.proofs.lemmas.Bool.{false_from_ne_true, ne_eqb}
 use Rattle.std.proofs.lemmas.Bool.Decides.{same_from_decides, Decides-at}

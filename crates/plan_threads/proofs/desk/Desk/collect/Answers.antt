@@ -1,6 +1,7 @@
--- For `Desk::collect`: `IsGathering` is handed on from `take_until` over `settle_all` and `take_rest` to `finish`.
--- The hard goal is that `finish` has the whole: the receipts account for all that was sent, and nothing waits, so all
--- was taken. Then the history is a merging, and `accepts_every_merging` tells what came of it (`gathers_all`).
+-- For `Desk::collect`: `IsGathering` is handed on from `take_until` over `settle_all` and `take_rest` to `finish`. The
+-- hard goal is that everything has arrived at `finish`: the receipts account for everything that was sent, and nothing
+-- waits, so everything was taken. Then the history is a merging, and `accepts_every_merging` states its result
+-- (`gathers_all`).
 use Rattle.std.proofs.Common.{◌<◌, ℕ, vec_len, sym, ap, ◌∙◌, arith}
 use Rattle.plan_collect.specs.Tiling.{sent_by}
 use Rattle.plan_mailbox.specs.Ends.{inlet_of}

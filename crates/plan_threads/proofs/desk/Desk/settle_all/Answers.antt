@@ -1,6 +1,6 @@
 -- For the call of `settle` and the loop of `Desk::settle_all`: with `done` planners joined, the threads from `done` on
--- are left. A thread keeps its promise, so its receipt is that of planner `done`, and is of all its notes where no
--- memory was refused. Where some was, the answer is an error, and nothing is said of receipts.
+-- remain. A thread keeps its promise, so its receipt is that of planner `done`, and is for all its messages unless an
+-- allocation failed. If one failed, the answer is an error, and nothing is stated about receipts.
 use Rattle.std.proofs.Common.{◌≡◌, ◌<◌, ◌+◌, ◌-◌, ◌∷◌, ℕ, length, vec_len, OnOk, IfErr, sym, ap, subst, ◌∙◌, arith}
 use Rattle.std.specs.Vec.Iter.{into_iter_items, into_iter_len}
 use Rattle.plan_mailbox.specs.Ends.{inlet_of, receipt_of}

@@ -5,7 +5,7 @@ use Rattle.plan_mailbox.specs.Ends.{inlet_of}
 use Rattle.plan_threads.specs.Gathering.{IsGathering}
 use Rattle.plan_threads.proofs.desk.Desk.take_until.Given as goal
 
--- what was known is still so
+-- what was known still holds
 abbrev pub invariant-loop : goal.invariant-loop
 invariant-loop g l = record {
   can : (goal.iterator-loop g).can_next l.iterator';

@@ -1,4 +1,4 @@
--- On the same day the time alone is made anew.
+-- On the same day only the time of day is replaced.
 use Rattle.std.proofs.Common.{sym}
 use Rattle.plan_write.proofs.StampLemmas.{other_time}
 use Rattle.plan_write.proofs.stamp.Stamp.change.Goals as goal

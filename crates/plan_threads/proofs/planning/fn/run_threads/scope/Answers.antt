@@ -1,6 +1,6 @@
--- For the loop of the scope in `run_threads`: each turn takes the first outlet that is left, and starts its thread.
--- The outlet's number is that of the threads so far, so the thread is that planner's: `planner_is` shows it field by
--- field, from the promise that `spawn_with` was given. The outlets behind it stay fresh.
+-- For the loop of the scope in `run_threads`: each iteration takes the first remaining outlet, and starts its thread. The
+-- outlet's number is the number of threads so far, so the thread is that planner's: `planner_is` shows it field by field,
+-- from the promise that `spawn_with` was given. The outlets after it stay fresh.
 use Rattle.std.proofs.Common.{◌≡◌, ◌≤◌, ◌+◌, ◌∷◌, length, vec_len, sym, ap, subst, ◌∙◌, arith}
 use Rattle.std.specs.Vec.Iter.{into_iter_items, into_iter_len}
 use Rattle.plan_mailbox.specs.Ends.{inlet_of}

@@ -4,7 +4,7 @@ use Rattle.plan_mailbox.specs.Ends.{inlet_of}
 use Rattle.plan_threads.specs.Gathering.{AreFresh, ArePlanners}
 use Rattle.plan_threads.proofs.planning.fn.run_threads.scope.Given as goal
 
--- the threads so far are of the first planners, and the outlets that are left of the others
+-- the threads so far belong to the first planners, and the remaining outlets to the others
 abbrev pub invariant-loop-outlet : goal.invariant-loop-outlet
 invariant-loop-outlet g l = record {
   can : (goal.iterator-loop-outlet g).can_next l.outlet-iterator;
