@@ -6,7 +6,7 @@ lint_page() {
   local page
   for page in man/*.1; do
     if ! command -v mandoc >/dev/null; then
-      echo "$page: passed over, since mandoc is not here"
+      echo "$page: skipped, because mandoc is missing"
       continue
     fi
     mandoc -T lint "$page" 2>&1 | grep -v -e 'outdated mandoc.db lacks' -e 'referenced manual not found' >"$work/lint"
