@@ -226,7 +226,7 @@ A time, as 2024-01-01T00:00:00Z, is read.|, as 2024-01-01T00:00:00Z,|'such as'
 It fails, as where the disk is full.|as where|'for example if'
 As of today.|As of|'for'
 Two rows, of which one fails.|of which|two sentences
-The range is this program's own.|program's own|'(agenda)' or 'our choice'
+The range is this program's own.|is this program's own|'(agenda)' or 'our choice'
 A mailbox with room for two.|room|'capacity'
 The notes of a planner wait.|notes of a planner|'message'
 It looks at the file.|looks at|'read' or 'check'
@@ -237,7 +237,7 @@ documents_words "words that may stay" <<'ROWS'
 At least an hour, and at most two. Most crontabs have an hour.
 Lines that begin with a letter. A gap begins at a start, and the file ends in a space.
 Three letters stand for a value. Names with a letter are standard.
-It has its own zone, and you see your own machine. Each word of the rule is a number.
+It has its own zone, and you see your own machine. The program's own threads wait. Each word of the rule is a number.
 Times are printed as they are given, as `plan` prints them. A time is written as `YYYY`, and a path as /dev/stdin.
 In the order, as docs/FORMATS.md has it. Such as `x`, and as well.
 There is no file, and there are no jobs. Is there a wildcard?
