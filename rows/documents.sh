@@ -182,7 +182,7 @@ documents_row "links to manual pages" report_dead_links man/agenda-machine.1 \
 .Pq see Xr agenda 5 .
 PAGE
 
-# A row of each form of each entry of the list.
+# At least one row for each entry of the list.
 documents_words "words that may not stay" <<'ROWS'
 If memory was refused, it ends.|memory was refused|'out of memory' or 'an allocation failed'
 The rule has a fault.|fault|'error'
@@ -223,7 +223,7 @@ See what stands below.|what stands|'what is present'
 A system's crontab, as `/etc/crontab`.|, as `/etc/crontab`.|'such as'
 A timer's file, as backup.timer|, as backup.timer|'such as'
 A time, as 2024-01-01T00:00:00Z, is read.|, as 2024-01-01T00:00:00Z,|'such as'
-It fails, as where the disk is full.|as where|'for example if'
+It fails, as where the disk is full.|, as where|'for example if'
 As of today.|As of|'for'
 Two rows, of which one fails.|of which|two sentences
 The range is this program's own.|is this program's own|'(agenda)' or 'our choice'
@@ -239,7 +239,7 @@ Lines that begin with a letter. A gap begins at a start, and the file ends in a 
 Three letters stand for a value. Names with a letter are standard.
 It has its own zone, and you see your own machine. The program's own threads wait. Each word of the rule is a number.
 Times are printed as they are given, as `plan` prints them. A time is written as `YYYY`, and a path as /dev/stdin.
-In the order, as docs/FORMATS.md has it. Such as `x`, and as well.
+In the order, as docs/FORMATS.md has it. Such as `x`, such as by hand, and as well.
 There is no file, and there are no jobs. Is there a wildcard?
 A note of `check`. A message of a planner may wait.
 Look for it there. Ask the machine. It starts behind-the-scenes, drop-in-joined and all-timers-of-folder.
