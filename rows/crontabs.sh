@@ -129,13 +129,13 @@ crontabs_numbers() {
   yes '* * * * * x' | head -n 87381 >"$file"
   crontabs_user_refused "87,381 jobs of one crontab" "jobs: Full"
   { yes '* * * * * x' | head -n 87380 && printf '* * * * * '; } >"$file"
-  crontabs_user_refused "a line without a command behind 87,380 jobs" "crontab: line 87381: NoCommand"
+  crontabs_user_refused "a line without a command after 87,380 jobs" "crontab: line 87381: NoCommand"
   { yes '# # # # # #' | head -n 87380 && echo '@daily x'; } >"$file"
   crontabs_run user "$since" 2024-01-02T00:00:00Z 999
-  compare_lines "a job behind 87,380 comments" "$since${tab}cron:87381${tab}x"$'\n'
+  compare_lines "a job after 87,380 comments" "$since${tab}cron:87381${tab}x"$'\n'
   { yes '' | head -n 1048568 && printf '@daily x'; } >"$file"
   crontabs_run user "$since" 2024-01-02T00:00:00Z 999
-  compare_lines "a job behind 1,048,568 newlines" "$since${tab}cron:1048569${tab}x"$'\n'
+  compare_lines "a job after 1,048,568 newlines" "$since${tab}cron:1048569${tab}x"$'\n'
 }
 
 mkdir "$crontabs_folder"

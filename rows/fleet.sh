@@ -194,7 +194,7 @@ LINES
 fleet_locked() {
   local machine_by=() fleet_bin=$machine_folder/fleet-stub
   if ! machine_as_nobody; then
-    echo "fleet: passed over a folder without rights, since setpriv can't take those of root away here"
+    echo "fleet: skipped a directory without rights, since setpriv can't drop those of root here"
     return
   fi
   fleet_make locked 'etc/crontab=@daily\x20root\x20a\n'
@@ -369,6 +369,6 @@ if ! passed_over "fleet by GNU parallel" parallel; then
     fleet_note parallel "$machine_folder/fleet-parallel"
     fleet_all parallel
   else
-    echo "fleet by GNU parallel: passed over, since parallel is another program here"
+    echo "fleet by GNU parallel: skipped, since parallel is another program here"
   fi
 fi

@@ -126,7 +126,7 @@ largest_checks() {
   { seq -f 'checked:%.0f: note: EitherDay' 87380 | sed '1001i checked:1001: Full' && echo 'checked:87381: part 1: OutOfRange'; } \
     >"$work/findings.wanted"
   largest_run checked 0 check --crontab checked
-  compare "check of 87,380 notes, and a fault behind them" "$work/findings.wanted" /dev/null 1
+  compare "check of 87,380 notes, and an error after them" "$work/findings.wanted" /dev/null 1
   { echo '[Timer]' && yes 'OnCalendar=x'; } | largest_file events.timer 1048562
   { seq -f 'events.timer:%.0f: part 0: UnknownWord' 2 65 && echo 'events.timer:66: TooManyLines'; } >"$work/findings.wanted"
   largest_run events.timer 0 check events.timer

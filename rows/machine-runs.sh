@@ -58,7 +58,7 @@ machine_signals() {
 machine_alone() {
   local path folder=$machine_folder/programs
   if ! dpkg -L bash coreutils findutils >"$work/programs" 2>/dev/null; then
-    echo "agenda-machine: passed over its programs, since dpkg can't name those of coreutils here"
+    echo "agenda-machine: skipped its programs, since dpkg can't name those of coreutils here"
     return
   fi
   mkdir "$folder"
@@ -169,7 +169,7 @@ C/a S/b|etc/cron.d|S/b|etc/cron.d not readable
 etc/crontab>/opt/x opt/x C/a|opt|C/a|etc/crontab not readable
 ROWS
 else
-  echo "agenda-machine: passed over the rows without rights, since setpriv can't take those of root away here"
+  echo "agenda-machine: skipped the rows without rights, since setpriv can't drop those of root here"
 fi
 machine_by=()
 machine_signals

@@ -269,7 +269,7 @@ upcoming|--after=2024-10-06 12:00|--zone=Australia/Lord_Howe>upcoming|--after=20
 upcoming|--zone|/usr/share/zoneinfo/Europe/Oslo|--after|2024-01-01 12:00>upcoming|--zone|/usr/share/zoneinfo/Europe/Oslo|--after|2024-01-01T11:00:00Z
 ROWS
 else
-  echo "agenda-machine: passed over the zones of this machine, since it has no tz database"
+  echo "agenda-machine: skipped the zones of this machine, since it has no tz database"
 fi
 
 zone_folders <<'ROWS'
@@ -291,7 +291,7 @@ etc/localtime=CET|etc|?|etc/crontab not readable,etc/cron.d not readable,etc/sys
 etc/x|etc|?|etc/crontab not readable,etc/cron.d not readable,etc/systemd/system not readable
 ROWS
 else
-  echo "agenda-machine: passed over the zones without rights, since setpriv can't take those of root away here"
+  echo "agenda-machine: skipped the zones without rights, since setpriv can't drop those of root here"
 fi
 machine_by=()
 

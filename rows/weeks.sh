@@ -164,10 +164,10 @@ weeks_differ() {
 # A picture without the last start differs from that of the agenda that was drawn last in the cell $1, and only there.
 weeks_wrong() {
   sed -i '$d' "$weeks_folder/week.agenda"
-  weeks_draw "a week that lacks a start"
+  weeks_draw "a week with a missing start"
   weeks_differ cells svg "$1"
   weeks_differ colours png "$1"
-  count "the cells of a picture that lacks a start"
+  count "the cells of a picture with a missing start"
 }
 
 # A plan that is rejected gives no picture, and the status isn't 0.

@@ -577,7 +577,7 @@ words_ask_for_replies() {
   done
 }
 
-# The words $1 ask for the agenda whose lines behind the header standard input has, with `|` for tabs.
+# The words $1 ask for the agenda whose lines after the header are on standard input, with `|` for tabs.
 words_ask_for_agenda() {
   tr '|' '\t' >"$work/words/agenda"
   words_run "$1"

@@ -45,7 +45,7 @@ function field_as_read(field, all, first, kept, element) {
     if (substr(field, 1, 1) != ",") break
     field = substr(field, 2)
   }
-  if (field != "") note("text behind an element", "BadNumber BadName")
+  if (field != "") note("text after an element", "BadNumber BadName")
   if (first != "*") sub(/^[*]/, all, kept)
   return kept
 }

@@ -45,7 +45,7 @@ function value(word) {
 function range_of_systemd(a, b, r, last) {
   if (r == "" || value(a) > value(b) || r !~ /^[0-9]*[1-9][0-9]*$/) return a ".." b (r == "" ? "" : "/" r)
   last = value(b) - (value(b) - value(a)) % r
-  if (value(b) > high && last <= high) note("ranges whose end is passed over", "OutOfRange")
+  if (value(b) > high && last <= high) note("ranges whose end is not reached", "OutOfRange")
   else if (!tilde || last == value(b)) return a ".." b "/" r
   else note("ranges of days after ~ with a step", "")
   return a ".." last "/" r
@@ -55,7 +55,7 @@ function range_of_systemd(a, b, r, last) {
 function close_step(a, r, last) {
   if (r == "" || a !~ /^[0-9]+$/ || r !~ /^[0-9]+$/ || r + 0 == 0 || part == "year" || part == "month") return a (r == "" ? "" : "/" r)
   if (tilde ? a - r < 1 : a + r > high) return a "/" r
-  closed = "starts passed over behind a step"
+  closed = "starts skipped after a step"
   if (tilde) return a - int((a - 1) / r) * r ".." a "/" r
   return a ".." high - (high - a) % r "/" r
 }
@@ -223,7 +223,7 @@ function word_as_read(word) {
 }
 
 function seconds_as_read(word) {
-  note("seconds behind @", "WrongParts")
+  note("seconds after @", "WrongParts")
   return moment_of(substr(word, 2))
 }
 

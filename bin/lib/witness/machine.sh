@@ -46,7 +46,7 @@ compare_machine() {
   local machine=$work/machine path wishes templates
   unpack_machine
   if [ -z "$(find "$machine" -type f -print -quit)" ]; then
-    echo "the packages as one machine: passed over, since they can't be fetched here"
+    echo "the packages as one machine: skipped, since they can't be fetched here"
     return
   fi
   enable_timers
