@@ -345,12 +345,12 @@ fleet_all() {
   fleet_forty
   fleet_moments
   fleet_refused <<'ROWS'
->2>Usage: fleet.sh [--limit COUNT] SINCE UPTO FOLDER ..
-DAY>2>Usage: fleet.sh [--limit COUNT] SINCE UPTO FOLDER ..
-DAY|DAY>2>Usage: fleet.sh [--limit COUNT] SINCE UPTO FOLDER ..
---limit|5|DAY|DAY>2>Usage: fleet.sh [--limit COUNT] SINCE UPTO FOLDER ..
---limit>2>Usage: fleet.sh [--limit COUNT] SINCE UPTO FOLDER ..
---help|DAY|DAY|one>2>Usage: fleet.sh [--limit COUNT] SINCE UPTO FOLDER ..
+>2>Usage: fleet.sh [--limit COUNT] SINCE UPTO DIRECTORY ..
+DAY>2>Usage: fleet.sh [--limit COUNT] SINCE UPTO DIRECTORY ..
+DAY|DAY>2>Usage: fleet.sh [--limit COUNT] SINCE UPTO DIRECTORY ..
+--limit|5|DAY|DAY>2>Usage: fleet.sh [--limit COUNT] SINCE UPTO DIRECTORY ..
+--limit>2>Usage: fleet.sh [--limit COUNT] SINCE UPTO DIRECTORY ..
+--help|DAY|DAY|one>2>Usage: fleet.sh [--limit COUNT] SINCE UPTO DIRECTORY ..
 frob|DAY|one|sub/one>2>agenda-machine: --since: no moment: 'frob'
 DAY|2023-12-31T00:00:00Z|one|sub/one>1>agenda: span: Backwards
 ROWS

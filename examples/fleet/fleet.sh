@@ -1,27 +1,28 @@
 #!/usr/bin/env bash
-# One agenda of many machines: plans a span on each folder that has a machine's files, side by side, and merges the answers by moment.
+# Makes one agenda of many machines: plans a span for each directory with a machine's files, several in parallel, and merges the answers
+# by time.
 #
-# Usage: fleet.sh [--limit COUNT] SINCE UPTO FOLDER ..
+# Usage: fleet.sh [--limit COUNT] SINCE UPTO DIRECTORY ..
 #
-# The moments are as agenda-machine takes them, and COUNT is the most starts that a machine may have. Texts of moments are read in UTC, and
-# rules in the time zone of their machine. A line has the moment, the machine, the job and what it runs, with tabs between; no header stands
-# before them. A machine is named as its folder. Of one moment the lines of an earlier FOLDER come first, and those of one machine stay in
-# its order.
+# SINCE and UPTO are times as agenda-machine reads them. COUNT is the maximum number of starts of a machine. Texts of times are read in UTC,
+# and rules in the time zone of their machine. A line has the time, the machine, the job and what it runs, separated by tabs. There is no
+# header. A machine has the name of its directory. Lines with the same time are in the order of the directories, and lines of one machine
+# stay in its order.
 #
-# What is said of a machine goes to standard error, each line with its name in front. One that fails has one line that says why, and none in
-# the agenda. The status is 1 where a machine has failed, 2 where the words are no use of the script, and 3 where the answers can't be kept
-# or merged; a fault of the span or of the limit ends it with the status of agenda-machine.
+# Messages about a machine go to standard error, each line after the machine's name. A machine that fails has one line that says why, and
+# no line in the agenda. The status is 1 if a machine failed, 2 for a usage error, and 3 if the answers can't be kept or merged. An error of
+# the span or of the limit ends the script with the status of agenda-machine.
 set -uf -o pipefail
 export LC_ALL=C
 
 self=$(readlink -f -- "$0") || exit 3
 limit=10000
-# The folder that the script works in, what runs side by side, and the signals at which both end with it.
+# The temporary directory, the process group that plans or merges, and the signals that end both with the script.
 work=
 child=
 signals=(HUP INT QUIT PIPE TERM)
 
-# Sets `name` to that of the machine whose files are below the folder $1. Status 1: that is none that could stand in a line.
+# Sets `name` to the name of the machine in the directory $1. Status 1: the name can't be part of a line.
 find_name() {
   name=${1%"${1##*[!/]}"}
   name=${name##*/}
@@ -30,14 +31,14 @@ find_name() {
   return 1
 }
 
-# Writes the agenda of the machine below the folder $1, with its name in each line and without the header.
+# Writes the agenda of the machine in the directory $1, with its name in each line and without the header.
 write_lines() {
   agenda-machine --root "$1" plan --limit "$limit" --since "$since" --upto "$upto" |
     NAME=$name awk 'NR > 1 { print substr($0, 1, 21) ENVIRON["NAME"] substr($0, 21) }'
 }
 
-# Writes what was said of a machine that ended with status $1, and that standard input has: each line of what was left out, and the fault as
-# one line.
+# Writes the messages about a machine whose plan ended with status $1, from standard input: a line for each source that was left out, and
+# one line for the error.
 write_said() {
   local line fault=
   while IFS= read -r line; do
@@ -49,8 +50,8 @@ write_said() {
   [[ $1 = 0 && -z $fault ]] || printf '%s: %s\n' "$name" "${fault:-status $1}"
 }
 
-# Plans the machine number $5, whose files are below the folder $6: its lines go to the file lines of its own folder below $1, and what is
-# said of it to the file said. There is a file done where it didn't fail. The span is $2 to $3, and the limit $4.
+# Plans machine number $5, whose files are in the directory $6. Its lines go to $1/$5/lines, and the messages about it to $1/$5/said. If it
+# didn't fail, there is a file $1/$5/done. The span is $2 to $3, and the limit is $4.
 plan_machine() {
   local own=$1/$5 folder=$6 name fault='' status=1
   since=$2 upto=$3 limit=$4
@@ -67,23 +68,23 @@ plan_machine() {
   [[ $status != 0 ]] || : >"$own/done"
 }
 
-# Ends the script with its usage.
+# Reports a usage error, and ends the script.
 refuse_words() {
-  echo "Usage: fleet.sh [--limit COUNT] SINCE UPTO FOLDER .." >&2
+  echo "Usage: fleet.sh [--limit COUNT] SINCE UPTO DIRECTORY .." >&2
   exit 2
 }
 
 # shellcheck disable=SC2317
 clean() {
   local try=0
-  # what was ended by a signal may be at its last file
+  # a process that got a signal may still write its last file
   until [[ -z $work ]] || rm -rf -- "$work" 2>/dev/null || ((++try > 20)); do
     sleep 0.1
   done
   work=
 }
 
-# Ends the script by the signal $1, after all that runs for it.
+# Ends the script by the signal $1, after the processes that run for it.
 # shellcheck disable=SC2317
 die_by() {
   trap '' "${signals[@]}"
@@ -97,7 +98,7 @@ die_by() {
   exit $((128 + $(kill -l "$1")))
 }
 
-# Makes the folder to work in, which goes away when the script ends, also by a signal. All temporary files are made in it.
+# Makes the temporary directory, for all temporary files. It is removed when the script ends, also by a signal.
 make_work() {
   local signal
   trap clean EXIT
@@ -111,7 +112,7 @@ make_work() {
   export TMPDIR=$work/temporary
 }
 
-# Runs the words beside the script, so that it obeys a signal at once, in a group of processes that the signal ends whole.
+# Runs a command in a process group of its own, so that the script obeys a signal at once and can end the whole group.
 run() {
   set -m
   "$@" &
@@ -122,14 +123,14 @@ run() {
   return "$status"
 }
 
-# Sets `since` and `upto` to the moments of the span, which are the same for all machines: those in the agenda of a machine without files.
+# Sets `since` and `upto` to the timestamps of the span, the same for all machines. They are those in the agenda of a machine without files.
 settle_span() {
   local header
   header=$(agenda-machine --root "$work/none" plan --limit "$limit" --since "$since" --upto "$upto") || exit
   IFS=$'\t' read -r _ since upto _ <<<"$header"
 }
 
-# Plans the machines $@, as many at a time as there are processors.
+# Plans the machines in the directories $@, as many at a time as there are processors.
 plan_machines() {
   local by=(xargs) number=0 folder
   [[ $(parallel --version 2>/dev/null) != 'GNU parallel'* ]] || by=(parallel --plain -q -u)
@@ -139,7 +140,7 @@ plan_machines() {
   run "${by[@]}" -0 -n 2 -P "$(nproc)" bash "$self" --machine "$work" "$since" "$upto" "$limit" <"$work/machines"
 }
 
-# Lists the answers of the machines $@, and the files of what is said of them. Sets `failed`.
+# Lists the files with the lines of the machines $@, and those with the messages about them. Sets `failed`.
 list_answers() {
   local number=0 folder own name
   for folder in "$@"; do
@@ -149,7 +150,7 @@ list_answers() {
     else
       failed=yes
       if [[ ! -s $own/said ]]; then
-        # what planned it was ended
+        # its process was ended
         find_name "$folder"
         mkdir -p -- "$own" && printf '%s: no answer\n' "$name" >"$own/said"
       fi
@@ -158,7 +159,7 @@ list_answers() {
   done 3>"$work/answers" 4>"$work/said"
 }
 
-# Says what is said of the machines, and merges their answers. Of these sort holds no more than 16 open.
+# Prints the messages about the machines, and merges their lines. sort opens at most 16 files at once.
 merge_answers() {
   xargs -0 -r cat -- <"$work/said" >&2
   [[ ! -s $work/answers ]] || run sort -m -s -t $'\t' -k 1,1 --batch-size=16 --files0-from="$work/answers"

@@ -1,6 +1,6 @@
 #!/usr/bin/env bash
-# Makes the machines of this example in the folder $1: copies of roots/, with the links that are on such machines. The links stand in the
-# table below, since rt takes no project that has links.
+# Makes the machines of this example in the directory $1: copies of roots/, with the links that such machines have. The links are in the
+# table below, since rt accepts no project that has links.
 set -eu
 export LC_ALL=C
 
