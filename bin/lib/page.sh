@@ -9,7 +9,9 @@ lint_page() {
       echo "$page: skipped, because mandoc is missing"
       continue
     fi
-    mandoc -T lint "$page" 2>&1 | grep -v -e 'outdated mandoc.db lacks' -e 'referenced manual not found' >"$work/lint"
+    # `.Os` names the program and its version, and no system
+    mandoc -T lint "$page" 2>&1 | grep -v -e 'outdated mandoc.db lacks' -e 'referenced manual not found' \
+      -e 'operating system explicitly specified: Os agenda ' >"$work/lint"
     if [ -s "$work/lint" ]; then
       cat "$work/lint"
       echo "$page: mandoc has something to say"
