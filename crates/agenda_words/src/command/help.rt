@@ -131,7 +131,8 @@ Example:
 
 pub(super) const STEPS: &str = "Runs a script of steps on a mailbox, for testing";
 
-pub(super) const FILE: &str = "The script: a line that makes the mailbox, then a line for each step";
+pub(super) const FILE: &str =
+    "The script: a line that makes the mailbox, then a line for each step";
 
 pub(super) const AFTER_STEPS: &str = "\
 Prints the mailbox's reply to each step, one per line. The first line of the script is
