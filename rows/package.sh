@@ -334,8 +334,8 @@ package_changelog() {
     $'\n -- Yigpander maintainers <maintainers@users.noreply.yigpander.example>  Tue, 14 Nov 2023 22:13:20 +0000\n' < <(tail -n 2 "$work/changelog")
   awk -v version="## $package_version" '
     /^## / { is_read = /^## Unreleased$/ || index($0 " ", version " ") == 1; next }
-    is_read && (/^- / || /^ /) { sub("^- ", "* "); print }' "$top/CHANGELOG.md" | xargs -d '\n' printf '%s ' | tr -s ' ' '\n' >"$work/words"
-  package_shows "the items of the changelog" "$(<"$work/words")"$'\n' < <(sed '1,2d; /^ --/d; /^$/d' "$work/changelog" | tr -s ' ' '\n' | sed '/^$/d')
+    is_read && (/^- / || /^ /) { sub("^- ", "* "); print }' "$top/CHANGELOG.md" | xargs -d '\n' printf '%s ' | tr -s ' ' '\n' >"$work/items"
+  package_shows "the items of the changelog" "$(<"$work/items")"$'\n' < <(sed '1,2d; /^ --/d; /^$/d' "$work/changelog" | tr -s ' ' '\n' | sed '/^$/d')
   sed '1,2d; /^ --/d; /^$/d' "$work/changelog" | grep -nvE '^(  \* |    )[^ ].{0,75}$' >"$work/told"
   count "the lines of the changelog"
   passed_over "dpkg-parsechangelog of the changelog" dpkg-parsechangelog && return
