@@ -22,7 +22,7 @@ take_processor() {
   took=
   for ((run = 0; run < runs; run++)); do
     used=$({ time "$@" >answer 2>/dev/null; } 2>&1) || stop "this fails: $*"
-    used=$(awk '{ print ($1 + $2) * 1e6 }' <<<"$used")
+    used=$(awk '{ printf "%.0f", ($1 + $2) * 1e6 }' <<<"$used")
     if [ -z "$took" ] || [ "$used" -lt "$took" ]; then
       took=$used
     fi
