@@ -47,13 +47,13 @@ BEGIN {
 inside { next }
 /^\.Bl/ { is_diag[++depth] = / -diag/ }
 /^\.El/ { depth-- }
-/^\.(Pp|Sh|Ss|It|Bl|El|Bd|Ed|D1|Dl|Nd)/ { print "" }
+/^\.(Pp|Sh|Ss|It|Bl|El|Bd|Ed|D[1l]|Nd)/ { print "" }
 /^\.(Pp|Bl|El|Bd|Ed|Dd|Dt|Os)/ || (/^\.It/ && is_diag[depth]) { next }
 
 /^\./ {
   count = split_words(substr($0, 2), words)
   put(text_of(words, words[1] in literals ? 1 : 2, count))
-  if (/^\.(Sh|Ss|It|D1|Dl|Nd)/) print ""
+  if (/^\.(Sh|Ss|It|D[1l]|Nd)/) print ""
   next
 }
 
