@@ -1,7 +1,7 @@
 //! The program `agenda`: shows when jobs start, and what a mailbox replies, as its arguments request.
 #![tactic(auto)]
 
-use agenda_answers::{Files, OpenFile, answer, answer_words, unread_words};
+use agenda_answers::{Files, OpenFile, answer, answer_arguments, unread_arguments};
 use std::alloc::Global;
 use std::fs::File;
 use std::process::ExitCode;
@@ -42,8 +42,8 @@ impl Files for HostFiles<'_> {
 
 fn main(rt: HostRuntime) -> ExitCode {
     let (mut files, mut out, mut err) = (HostFiles(&rt), rt.stdout(), rt.stderr());
-    let status = match given_words(&rt) {
-        Ok(words) => answer_words(
+    let status = match given_arguments(&rt) {
+        Ok(words) => answer_arguments(
             &rt,
             rt.alloc(),
             words.as_slice(),
@@ -52,7 +52,7 @@ fn main(rt: HostRuntime) -> ExitCode {
             &mut err,
         ),
         Err(fault) => {
-            let asked = Err(unread_words(rt.alloc(), fault.kind()));
+            let asked = Err(unread_arguments(rt.alloc(), fault.kind()));
             answer(&rt, rt.alloc(), asked, &mut files, &mut out, &mut err)
         }
     };
@@ -60,7 +60,7 @@ fn main(rt: HostRuntime) -> ExitCode {
 }
 
 // Returns the arguments of the command line, with the program's name first.
-fn given_words(rt: &HostRuntime) -> io::Result<Vec<String>> {
+fn given_arguments(rt: &HostRuntime) -> io::Result<Vec<String>> {
     let words = env::args(rt)?.collect(rt.alloc())?;
     Ok(words)
 }

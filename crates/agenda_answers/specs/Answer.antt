@@ -9,7 +9,7 @@ use Rattle.agenda_words.specs.declared.Ask.TheVariants.{Next, Plan, Upcoming, Qu
 use Rattle.agenda_sources.specs.declared.Asked.{Asked}
 use Rattle.agenda_words.specs.declared.UsageFault.{UsageFault}
 use Rattle.agenda_words.specs.declared.UsageFault.TheVariants as usage
-use Rattle.agenda_words.specs.Words.{Gives, asked_by}
+use Rattle.agenda_words.specs.Arguments.{Gives, asked_by}
 use Rattle.agenda_faults.specs.declared.faults.RunFault.{RunFault}
 use Rattle.agenda_faults.specs.declared.faults.RunFault.TheVariants as run
 use Rattle.agenda_faults.specs.declared.faults.Failure.{Failure}
@@ -230,6 +230,6 @@ Answers held asked status out err =
     × (status ≡ status_of failure) × PutsOrBreaksOff err.takes_all err.old err.new (fault_text (sources_of asked) failure))
 
 -- the same, by the arguments of the command line
-abbrev pub AnswersWords : Held → List (List ℕ) → ℕ → (out err : Stream) → Type 0
-AnswersWords held words status out err =
+abbrev pub AnswersArguments : Held → List (List ℕ) → ℕ → (out err : Stream) → Type 0
+AnswersArguments held words status out err =
     (asked : Result Ask UsageFault) × Gives asked (asked_by words) × Answers held asked status out err

@@ -4,7 +4,7 @@ ghost use Rattle.std.specs.Prelude.{◌≡◌, ◌≢◌, ℕ, IfErr, IfOk, Ok, 
 ghost use Rattle.std.specs.Io.KnownBytes.{Keeps};
 ghost use Rattle.agenda_faults.specs.FaultLines.{fault_text};
 ghost use Rattle.agenda_faults.specs.Faults.{status_of as failure_status};
-ghost use Rattle.agenda_answers.specs.Answer.{Answers, AnswersWords, asked_plan, asked_quiet, asked_upcoming};
+ghost use Rattle.agenda_answers.specs.Answer.{Answers, AnswersArguments, asked_plan, asked_quiet, asked_upcoming};
 ghost use Rattle.agenda_answers.specs.Answer.{FailsCheck, FailsNext, FailsPlan, FailsQuiet, FailsSteps, FailsUpcoming};
 ghost use Rattle.agenda_answers.specs.Answer.{GivesCheck, GivesNext, GivesNoSpan, GivesPlan, GivesQuiet, GivesSteps, GivesUpcoming};
 ghost use Rattle.agenda_answers.specs.Answer.{GivesNoMoment, IsMoment, IsSpan, SaysNotUtf8, Stops, asked_check, status_on};
@@ -55,7 +55,7 @@ const NOT_UTF8: &str = "a word of the command line is not UTF-8\n";
 /// an error; 2 if the arguments are invalid; 3 if an allocation, a device or a file failed.
 ///
 /// The answer goes to `out`. The line of an error, or the text of usage, goes to `err`.
-pub fn answer_words<R: Threads + Wait + Sync, F: Files, O: Stream, E: Stream>(
+pub fn answer_arguments<R: Threads + Wait + Sync, F: Files, O: Stream, E: Stream>(
     rt: &R,
     alloc: Global,
     words: &[String],
@@ -63,14 +63,14 @@ pub fn answer_words<R: Threads + Wait + Sync, F: Files, O: Stream, E: Stream>(
     out: &mut O,
     err: &mut E,
 ) -> u8
-    ensures { AnswersWords (F.held files.old) (map string_bytes words.now) result
+    ensures { AnswersArguments (F.held files.old) (map string_bytes words.now) result
         (record { takes_all = O.takes_all; old = O.holds out.old; new = O.holds out.new })
         (record { takes_all = E.takes_all; old = E.holds err.old; new = E.holds err.new }) }
 {
     answer(rt, alloc, read_words(alloc, words), files, out, err)
 }
 
-/// Does what is requested, like `answer_words`.
+/// Does what is requested, like `answer_arguments`.
 pub fn answer<R: Threads + Wait + Sync, F: Files, O: Stream, E: Stream>(
     rt: &R,
     alloc: Global,
@@ -151,7 +151,7 @@ pub fn answer<R: Threads + Wait + Sync, F: Files, O: Stream, E: Stream>(
 
 /// Returns the error for arguments that could not be read: a usage error if one isn't UTF-8, and out of
 /// memory for any other `kind`.
-pub fn unread_words(alloc: Global, kind: ErrorKind) -> UsageFault
+pub fn unread_arguments(alloc: Global, kind: ErrorKind) -> UsageFault
     ensures not_utf8 { kind ≡ ErrorKind.InvalidData → SaysNotUtf8 result }
     ensures memory { kind ≢ ErrorKind.InvalidData → result ≡ UsageFault.NoMemory }
 {

@@ -9,6 +9,6 @@ mod files;
 mod sources;
 mod zone;
 
-pub use answers::{answer, answer_words, unread_words};
+pub use answers::{answer, answer_arguments, unread_arguments};
 pub use files::{Files, OpenFile, read_file};
 pub use sources::{Input, read_input};

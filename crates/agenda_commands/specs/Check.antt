@@ -6,10 +6,10 @@ use Rattle.plan_rules.specs.Causes.{line_cause}
 use Rattle.plan_rules.specs.declared.LineCause.{LineCause}
 use Rattle.plan_rules.specs.declared.LineCause.TheVariants.{Rule}
 use Rattle.plan_clock.specs.declared.row.Change.{Change}
-use Rattle.plan_check.specs.Finding.{note_name}
+use Rattle.plan_check.specs.Finding.{warning_name}
 use Rattle.plan_check.specs.declared.Finding.{Finding}
 use Rattle.plan_check.specs.declared.What.{What}
-use Rattle.plan_check.specs.declared.What.TheVariants.{Refused, SameName, Full, Noted}
+use Rattle.plan_check.specs.declared.What.TheVariants.{Refused, SameName, Full, Warned}
 use Rattle.agenda_sources.specs.Findings.{sources_findings}
 use Rattle.agenda_sources.specs.Sources.{sources_reading}
 use Rattle.agenda_sources.specs.declared.Found.{Found}
@@ -36,7 +36,7 @@ abbrev pub what_text : What → List ℕ
 what_text (Refused cause) = cause_text cause
 what_text SameName = codes "SameName"
 what_text Full = codes "Full"
-what_text (Noted note) = codes "note: " ++ note_name note
+what_text (Warned note) = codes "note: " ++ warning_name note
 
 -- the line of a finding: the path, the line's number, what is found
 abbrev pub finding_line : List ℕ → Finding → List ℕ

@@ -2,7 +2,7 @@
 
 ghost use Rattle.std.specs.Prelude.{◌≡◌, ◌++◌, IfErr, IfOk, OnOk};
 ghost use Rattle.std.specs.List.{list_all};
-ghost use Rattle.plan_check.specs.Finding.{is_note};
+ghost use Rattle.plan_check.specs.Finding.{is_warning};
 ghost use Rattle.agenda_sources.specs.Findings.{is_all_clean, sources_findings};
 ghost use Rattle.agenda_commands.specs.Command.{Fails, Writes};
 ghost use Rattle.agenda_commands.specs.Check.{IsTextOfCheck, RefusesCheck, cause_text, check_text, finding_line, line_mark, path_at, verdict_of, what_text};
@@ -65,16 +65,16 @@ fn verdict_on(found: &[Found]) -> Verdict
 
 // Returns whether all findings are notes.
 fn are_notes(found: &[Found]) -> bool
-    ensures { result ≡ list_all (λ one. is_note one.finding.what) found.now }
+    ensures { result ≡ list_all (λ one. is_warning one.finding.what) found.now }
 {
-    found.iter().all(|one| is_note(one.finding.what))
+    found.iter().all(|one| is_warning(one.finding.what))
 }
 
 // Returns whether a finding is a note, which is no error.
-fn is_note(what: What) -> bool
-    ensures { result ≡ is_note what }
+fn is_warning(what: What) -> bool
+    ensures { result ≡ is_warning what }
 {
-    matches!(what, What::Noted(_))
+    matches!(what, What::Warned(_))
 }
 
 // Returns the text of findings.
@@ -131,7 +131,7 @@ fn add_what(text: &mut Vec<u8>, what: What) -> Result<(), AllocError>
         What::Refused(cause) => add_cause(text, cause),
         What::SameName => add(text, b"SameName"),
         What::Full => add(text, b"Full"),
-        What::Noted(note) => {
+        What::Warned(note) => {
             text.extend_from_slice(b"note: ")?;
             add(text, note.name().as_bytes())
         }

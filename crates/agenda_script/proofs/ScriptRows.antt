@@ -7,13 +7,13 @@ use Rattle.std.specs.Str.{chars, is_utf8}
 use Rattle.plan_mailbox.specs.declared.replies.Step.TheVariants.{Send, Take, Close}
 use Rattle.plan_mailbox.specs.declared.replies.Reply.TheVariants.{Sent, Full, Closed, NoSender, Nothing, Ended, Shut, AlreadyShut, Unknown}
 use Rattle.plan_texts.specs.Lines.{lines}
-use Rattle.plan_texts.specs.Text.{cut_at, number_of}
+use Rattle.plan_texts.specs.Text.{cut_at, decimal_number}
 use Rattle.agenda_script.specs.declared.fault.ScriptCause.TheVariants.{NotUtf8, BadLine, BadSize, TooManySteps}
 use Rattle.agenda_script.specs.Script.{fault_on, lines_reading, mailbox_line, replies_text, reply_line, script_reading, send_of, size_reading, sizes_of, step_of, step_on}
 
 two_steps : script_reading (codes "mailbox 2 16\nsend 1  a\nclose 0") ≡ Ok
     (record { senders = 2; room = 16; steps = Send 1 (codes " a") ∷ Close 0 ∷ [] })
-unfolding script_reading lines_reading lines size_reading mailbox_line sizes_of step_on step_of send_of cut_at number_of is_utf8
+unfolding script_reading lines_reading lines size_reading mailbox_line sizes_of step_on step_of send_of cut_at decimal_number is_utf8
     chars encode
 two_steps = refl
 
@@ -22,22 +22,22 @@ unfolding script_reading lines_reading lines size_reading is_utf8 chars
 no_bytes = refl
 
 nine_senders : script_reading (codes "mailbox 9 1") ≡ fault_on 1 BadSize
-unfolding script_reading lines_reading lines size_reading mailbox_line sizes_of step_on step_of send_of cut_at number_of is_utf8
+unfolding script_reading lines_reading lines size_reading mailbox_line sizes_of step_on step_of send_of cut_at decimal_number is_utf8
     chars encode
 nine_senders = refl
 
 a_size_before_a_step : script_reading (codes "mailbox 9 1\nsend 0\n") ≡ fault_on 1 BadSize
-unfolding script_reading lines_reading lines size_reading mailbox_line sizes_of step_on step_of send_of cut_at number_of is_utf8
+unfolding script_reading lines_reading lines size_reading mailbox_line sizes_of step_on step_of send_of cut_at decimal_number is_utf8
     chars encode
 a_size_before_a_step = refl
 
 a_send_without_a_text : script_reading (codes "mailbox 1 1\nsend 0\n") ≡ fault_on 2 BadLine
-unfolding script_reading lines_reading lines size_reading mailbox_line sizes_of step_on step_of send_of cut_at number_of is_utf8
+unfolding script_reading lines_reading lines size_reading mailbox_line sizes_of step_on step_of send_of cut_at decimal_number is_utf8
     chars encode
 a_send_without_a_text = refl
 
 a_carriage_return : script_reading (codes "mailbox 1 1\ntake\r\n") ≡ fault_on 2 BadLine
-unfolding script_reading lines_reading lines size_reading mailbox_line sizes_of step_on step_of send_of cut_at number_of is_utf8
+unfolding script_reading lines_reading lines size_reading mailbox_line sizes_of step_on step_of send_of cut_at decimal_number is_utf8
     chars encode
 a_carriage_return = refl
 

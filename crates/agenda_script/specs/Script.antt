@@ -13,7 +13,7 @@ use Rattle.plan_mailbox.specs.Mailbox.{Mailbox, is_size, senders_of}
 use Rattle.plan_mailbox.specs.Lanes.{mailbox_of}
 use Rattle.plan_texts.specs.Lines.{is_too_large, lines}
 use Rattle.plan_texts.specs.Steps.{◌>>=◌, each}
-use Rattle.plan_texts.specs.Text.{cut_at, number_of}
+use Rattle.plan_texts.specs.Text.{cut_at, decimal_number}
 use Rattle.agenda_script.specs.declared.fault.ScriptCause.{ScriptCause}
 use Rattle.agenda_script.specs.declared.fault.ScriptCause.TheVariants.{NoMemory, NotUtf8, TooLarge, BadLine, BadSize, TooManySteps}
 use Rattle.agenda_script.specs.declared.fault.ScriptFault.{ScriptFault}
@@ -55,7 +55,7 @@ both first second = None
 
 -- `SENDERS ROOM`, with one space between them
 unfoldable pub sizes_of : List ℕ → Option (ℕ × ℕ)
-sizes_of text = option_and_then (λ parts. both (number_of parts.0) (number_of parts.1)) (around_space text)
+sizes_of text = option_and_then (λ parts. both (decimal_number parts.0) (decimal_number parts.1)) (around_space text)
 
 -- `mailbox SENDERS ROOM`
 unfoldable pub mailbox_line : List ℕ → Option (ℕ × ℕ)
@@ -68,13 +68,13 @@ sending sender text = if length text == 0 then None else option_map (λ s. Send 
 
 -- `S TEXT`: the text is everything after the one space
 unfoldable pub send_of : List ℕ → Option (Step (List ℕ))
-send_of text = option_and_then (λ parts. sending (number_of parts.0) parts.1) (around_space text)
+send_of text = option_and_then (λ parts. sending (decimal_number parts.0) parts.1) (around_space text)
 
 -- `send S TEXT` or `close S`, by the word before the first space
 abbrev pub step_by_word : List ℕ → List ℕ → Option (Step (List ℕ))
 step_by_word word rest =
     if bytes_eq word (codes "send") then send_of rest
-    else (if bytes_eq word (codes "close") then option_map (λ s. Close s) (number_of rest) else None)
+    else (if bytes_eq word (codes "close") then option_map (λ s. Close s) (decimal_number rest) else None)
 
 -- `take`, or a step of several words
 unfoldable pub step_of : List ℕ → Option (Step (List ℕ))

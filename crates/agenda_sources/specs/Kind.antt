@@ -10,10 +10,10 @@ use Rattle.plan_rules.specs.declared.line_fault.LineCause.TheVariants as cause
 use Rattle.plan_rules.specs.LineFaults.{TextReading}
 use Rattle.plan_rules.specs.Job.{JobParts}
 use Rattle.plan_rules.specs.Crontab.{crontab_reading}
-use Rattle.plan_rules.specs.Tabs.{is_tab_name, tab_reading}
+use Rattle.plan_rules.specs.NamedCrontabs.{is_crontab_name, named_crontab_reading}
 use Rattle.plan_rules.specs.Timer.{is_timer_name, timer_reading}
-use Rattle.plan_rules.specs.declared.tabs.TabFolder.{TabFolder}
-use Rattle.plan_rules.specs.declared.tabs.TabFolder.TheVariants as folder
+use Rattle.plan_rules.specs.declared.named_crontabs.CrontabDirectory.{CrontabDirectory}
+use Rattle.plan_rules.specs.declared.named_crontabs.CrontabDirectory.TheVariants as directory
 use Rattle.plan_check.specs.Files.{File}
 use Rattle.plan_check.specs.Files as file
 use Rattle.agenda_sources.specs.declared.kind.SourceKind.{SourceKind}
@@ -61,16 +61,16 @@ alone reading = do
 abbrev pub reading_of : SourceKind → (name bytes : List ℕ) → TextReading (List JobParts)
 reading_of Crontab name bytes = crontab_reading (codes "cron") whose.User bytes
 reading_of System name bytes = crontab_reading (codes "system") whose.System bytes
-reading_of CronD name bytes = tab_reading folder.CronD name bytes
-reading_of Spool name bytes = tab_reading folder.Spool name bytes
+reading_of CronD name bytes = named_crontab_reading directory.CronD name bytes
+reading_of Spool name bytes = named_crontab_reading directory.Spool name bytes
 reading_of Timer name bytes = alone (timer_reading name bytes)
 
 -- the same source as a file of plan_check, for its findings
 abbrev pub file_of : SourceKind → (name bytes : List ℕ) → File
 file_of Crontab name bytes = file.Crontab (codes "cron") whose.User bytes
 file_of System name bytes = file.Crontab (codes "system") whose.System bytes
-file_of CronD name bytes = file.Tab folder.CronD name bytes
-file_of Spool name bytes = file.Tab folder.Spool name bytes
+file_of CronD name bytes = file.Named directory.CronD name bytes
+file_of Spool name bytes = file.Named directory.Spool name bytes
 file_of Timer name bytes = file.Timer name bytes
 
 -- what is wrong with a source's bytes, found before any memory is requested: their number is checked first
@@ -79,8 +79,8 @@ bytes_cause bytes =
     if is_too_large bytes then Some cause.TooLarge else (if is_utf8 bytes then None else Some cause.NotUtf8)
 
 -- the same for a crontab that has a name: the name is checked first
-abbrev pub tab_cause : TabFolder → (name bytes : List ℕ) → Option LineCause
-tab_cause folder name bytes = if is_tab_name folder name then bytes_cause bytes else Some cause.BadTabName
+abbrev pub named_crontab_cause : CrontabDirectory → (name bytes : List ℕ) → Option LineCause
+named_crontab_cause directory name bytes = if is_crontab_name directory name then bytes_cause bytes else Some cause.BadTabName
 
 -- the same for a timer: its name is checked first
 abbrev pub timer_cause : (name bytes : List ℕ) → Option LineCause
@@ -90,6 +90,6 @@ timer_cause name bytes = if is_timer_name name then bytes_cause bytes else Some 
 abbrev pub cause_at_once : SourceKind → (name bytes : List ℕ) → Option LineCause
 cause_at_once Crontab name bytes = bytes_cause bytes
 cause_at_once System name bytes = bytes_cause bytes
-cause_at_once CronD name bytes = tab_cause folder.CronD name bytes
-cause_at_once Spool name bytes = tab_cause folder.Spool name bytes
+cause_at_once CronD name bytes = named_crontab_cause directory.CronD name bytes
+cause_at_once Spool name bytes = named_crontab_cause directory.Spool name bytes
 cause_at_once Timer name bytes = timer_cause name bytes

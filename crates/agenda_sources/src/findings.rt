@@ -21,8 +21,8 @@ pub struct Found {
 
 /// Returns all findings of the sources, in the order of the sources.
 ///
-/// The findings of a source are those of `crontab_findings`, `tab_findings` or `timer_findings` of plan_check:
-/// first those of the whole file, then those of its lines. Rules start by the clock of a zone.
+/// The findings of a source are those of `crontab_findings`, `named_crontab_findings` or `timer_findings` of
+/// plan_check: first those of the whole file, then those of its lines. Rules start by the clock of a zone.
 ///
 /// # Errors
 ///

@@ -7,8 +7,8 @@ ghost use Rattle.plan_rules.specs.Timer.{timer_reading};
 ghost use Rattle.plan_check.specs.Files.{after_file, file_findings};
 ghost use Rattle.agenda_sources.specs.Kind.{alone, cause_at_once, file_of, is_many, kinds, label_of, option_of, reading_of, timer_cause};
 
-use plan_check::{Finding, Names, crontab_findings, tab_findings, timer_findings};
-use plan_rules::{Job, Kind, LineFault, TabFolder, crontab, tab, timer};
+use plan_check::{Finding, Names, crontab_findings, named_crontab_findings, timer_findings};
+use plan_rules::{CrontabDirectory, Job, Kind, LineFault, crontab, named_crontab, timer};
 use std::alloc::{AllocError, Global};
 
 /// A kind of source. A plan reads its sources in the order of their kinds.
@@ -84,8 +84,8 @@ impl SourceKind {
         match self {
             SourceKind::Crontab => crontab(alloc, "cron", bytes, Kind::User),
             SourceKind::System => crontab(alloc, "system", bytes, Kind::System),
-            SourceKind::CronD => tab(alloc, name, bytes, TabFolder::CronD),
-            SourceKind::Spool => tab(alloc, name, bytes, TabFolder::Spool),
+            SourceKind::CronD => named_crontab(alloc, name, bytes, CrontabDirectory::CronD),
+            SourceKind::Spool => named_crontab(alloc, name, bytes, CrontabDirectory::Spool),
             SourceKind::Timer => timer_alone(alloc, name, bytes),
         }
     }
@@ -105,8 +105,20 @@ impl SourceKind {
         match self {
             SourceKind::Crontab => crontab_findings(alloc, names, "cron", bytes, Kind::User),
             SourceKind::System => crontab_findings(alloc, names, "system", bytes, Kind::System),
-            SourceKind::CronD => tab_findings(alloc, names, name, bytes, TabFolder::CronD),
-            SourceKind::Spool => tab_findings(alloc, names, name, bytes, TabFolder::Spool),
+            SourceKind::CronD => named_crontab_findings(
+                alloc,
+                names,
+                name,
+                bytes,
+                CrontabDirectory::CronD,
+            ),
+            SourceKind::Spool => named_crontab_findings(
+                alloc,
+                names,
+                name,
+                bytes,
+                CrontabDirectory::Spool,
+            ),
             SourceKind::Timer => timer_findings(alloc, names, name, bytes),
         }
     }

@@ -22,7 +22,7 @@ use std::alloc::Global;
 ///
 /// The first error is returned:
 ///
-/// - `InSource`: a source is invalid. This is its first error, as `crontab`, `tab` or `timer` finds it.
+/// - `InSource`: a source is invalid. This is its first error, as `crontab`, `named_crontab` or `timer` finds it.
 /// - `SameName`: two jobs have the same name.
 /// - `Full`: there are more than 1,000 jobs.
 /// - `NoMemory`: an allocation failed, also while a source was read. It never replaces an error of the first

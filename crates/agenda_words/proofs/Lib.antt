@@ -1,3 +1,3 @@
 pub mod OnLiterals
 pub mod RefusalLemmas
-mod WordsRows
+mod ArgumentsRows

@@ -1,7 +1,7 @@
 -- What a proof unfolds to compute with the command line of `agenda`, in addition to clap's `clap_on_literals`.
 use Rattle.std.specs.Prelude.{⊤}
 use Rattle.agenda_words.specs.Command.{agenda, check, next, plan, quiet, steps, upcoming, with_sizes, with_sources}
-use Rattle.agenda_words.specs.Words.{asked_by_quiet}
+use Rattle.agenda_words.specs.Arguments.{asked_by_quiet}
 
 unfoldable pub agenda_on_literals : ⊤
 unfolding agenda next plan upcoming quiet check steps with_sources with_sizes asked_by_quiet

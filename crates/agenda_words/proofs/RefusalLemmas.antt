@@ -27,7 +27,7 @@ use Rattle.agenda_words.specs.declared.ask.Ask.{Ask}
 use Rattle.agenda_words.specs.declared.ask.UsageFault.{UsageFault}
 use Rattle.agenda_words.specs.declared.ask.UsageFault.TheVariants.{NoMemory}
 use Rattle.agenda_words.specs.Command.{agenda}
-use Rattle.agenda_words.specs.Words.{Gives, IsAnswerTo, Refusal, asked_unless, is_usage, refusal_of}
+use Rattle.agenda_words.specs.Arguments.{Gives, IsAnswerTo, Refusal, asked_unless, is_usage, refusal_of}
 use Rattle.agenda_words.proofs.OnLiterals.{agenda_on_literals}
 
 -- all of these kinds are answered by the same refusal

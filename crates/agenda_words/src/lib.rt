@@ -5,11 +5,11 @@
 //! with the texts in its `help`.
 #![tactic(auto)]
 
+mod arguments;
 mod ask;
 mod command;
 mod paths;
 mod values;
-mod words;
 
+pub use arguments::read_words;
 pub use ask::{Ask, UsageFault};
-pub use words::read_words;

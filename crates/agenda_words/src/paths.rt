@@ -3,7 +3,7 @@ ghost use Rattle.std.specs.Prelude.{◌≡◌, ◌++◌, ◌∷◌, [], IfOk, On
 ghost use Rattle.std.specs.List.{flat_map};
 ghost use Rattle.clap.specs.Words.{all_of, first_of, found_of, rows_of};
 ghost use Rattle.agenda_sources.specs.Kind.{option_of};
-ghost use Rattle.agenda_words.specs.Words.{all_given, path_of, paths_in, sources_in};
+ghost use Rattle.agenda_words.specs.Arguments.{all_given, path_of, paths_in, sources_in};
 
 use crate::values::text;
 use agenda_sources::{SourceKind, SourcePath, SourcePaths};

@@ -1,7 +1,7 @@
 //! The values of a subcommand's options and arguments.
 ghost use Rattle.std.specs.Prelude.{◌≡◌, IfOk};
 ghost use Rattle.clap.specs.Words.{first_of, found_of, one_of, rows_of};
-ghost use Rattle.agenda_words.specs.Words.{Gives, number_in, wanted};
+ghost use Rattle.agenda_words.specs.Arguments.{Gives, number_in, wanted};
 
 use crate::ask::UsageFault;
 use clap::ArgMatches;
@@ -51,7 +51,7 @@ pub(crate) fn text_of(
 /// # Errors
 ///
 /// `Usage` if the value is missing; `NoMemory` if an allocation failed.
-pub(crate) fn number_of(
+pub(crate) fn number_argument(
     alloc: Global,
     given: &ArgMatches<'_>,
     option: &str,

@@ -1,4 +1,4 @@
--- Files have no finding but notes exactly if jobs can be made of them: for `clean_where_jobs_are`.
+-- Files have no finding but warnings exactly if jobs can be made of them: for `clean_where_jobs_are`.
 -- `Agrees` says so of one file, or of its lines, with the names that follow; the rest is induction over the lists.
 use Rattle.std.proofs.Common.{◌≡◌, ℕ, Bool, true, false, not, ◌&&◌, eqb, nat_lt, cond, List, [], ◌∷◌, ◌++◌, length, map, Option, Some, None, is_some, option_map, Ok, Err, refl, ap, sym, ◌∙◌, subst}
 use Rattle.std.specs.List.{cons_option, flat_map}
@@ -19,18 +19,18 @@ use Rattle.plan_rules.specs.FileText.{text_reading}
 use Rattle.plan_rules.specs.Job.{JobParts}
 use Rattle.plan_rules.specs.Limits.{most_jobs}
 use Rattle.plan_rules.specs.LineFaults.{LineReading, TextReading, on_line}
-use Rattle.plan_rules.specs.Tabs.{is_tab_name, kind_in}
+use Rattle.plan_rules.specs.NamedCrontabs.{is_crontab_name, kind_in}
 use Rattle.plan_rules.specs.Timer.{effects_from, first_unit, has_timer, is_timer_name, job_with, timer_reading}
 use Rattle.plan_rules.specs.TimerEntries.{count_from, entries_from, events_after, lines_by_entries, no_events, parts_of_lines, timer_by_entries}
 use Rattle.plan_check.specs.declared.finding.Finding.{Finding}
-use Rattle.plan_check.specs.declared.finding.Note.{Note}
-use Rattle.plan_check.specs.declared.finding.Note.TheVariants.{NeverStarts, EitherDay, NoEvents}
+use Rattle.plan_check.specs.declared.finding.Warning.{Warning}
+use Rattle.plan_check.specs.declared.finding.Warning.TheVariants.{NeverStarts, EitherDay, NoEvents}
 use Rattle.plan_check.specs.declared.finding.What.TheVariants.{SameName, Full}
 use Rattle.plan_check.specs.Crontabs.{line_findings, after_line, entries_findings, after_entries, text_findings, after_text}
-use Rattle.plan_check.specs.Finding.{is_clean, is_note, finding_at, noted_if, refused_if}
-use Rattle.plan_check.specs.Files.{File, Crontab, Tab, Timer, file_findings, after_file, files_findings, file_reading, files_names, names_by, names_with, names_then}
+use Rattle.plan_check.specs.Finding.{is_clean, is_warning, finding_at, warned_if, refused_if}
+use Rattle.plan_check.specs.Files.{File, Crontab, Named, Timer, file_findings, after_file, files_findings, file_reading, files_names, names_by, names_with, names_then}
 use Rattle.plan_check.specs.Names.{KnownNames, is_added, after_where, no_names}
-use Rattle.plan_check.specs.Notes.{rule_notes, never_starts, is_reboot, is_either_day}
+use Rattle.plan_check.specs.Warnings.{rule_warnings, never_starts, is_reboot, is_either_day}
 use Rattle.plan_check.specs.Timers as timers
 
 -- the names that are known as long as Full was not reported
@@ -42,7 +42,7 @@ abbrev Agrees : List Change → Option (List (List ℕ)) → List Finding → Kn
 Agrees clock None found after = is_clean found ≡ false
 Agrees clock (Some next) found after = (is_clean found ≡ true) × (after ≡ known_by clock next)
 
--- ---- notes don't count
+-- ---- warnings don't count
 
 and_assoc : (a b c : Bool) → (a && (b && c)) ≡ ((a && b) && c)
 and_assoc true b c = refl
@@ -51,22 +51,22 @@ and_assoc false b c = refl
 clean_append : (xs ys : List Finding) → is_clean (xs ++ ys) ≡ (is_clean xs && is_clean ys)
 clean_append [] ys = refl
 clean_append (x ∷ xs) ys =
-    ap (λ (b : Bool). is_note x.what && b) (clean_append xs ys) ∙ and_assoc (is_note x.what) (is_clean xs) (is_clean ys)
+    ap (λ (b : Bool). is_warning x.what && b) (clean_append xs ys) ∙ and_assoc (is_warning x.what) (is_clean xs) (is_clean ys)
 
-noted_clean : (is_so : Bool) (line : ℕ) (note : Note) (more : List Finding) → is_clean (noted_if is_so line note ++ more) ≡ is_clean more
-noted_clean true line note more = refl
-noted_clean false line note more = refl
+warned_clean : (is_so : Bool) (line : ℕ) (warning : Warning) (more : List Finding) → is_clean (warned_if is_so line warning ++ more) ≡ is_clean more
+warned_clean true line warning more = refl
+warned_clean false line warning more = refl
 
 two_clean :
-    (p q : Bool) (line : ℕ) (first second : Note) (more : List Finding) →
-    is_clean ((noted_if p line first ++ noted_if q line second) ++ more) ≡ is_clean more
+    (p q : Bool) (line : ℕ) (first second : Warning) (more : List Finding) →
+    is_clean ((warned_if p line first ++ warned_if q line second) ++ more) ≡ is_clean more
 two_clean true true line first second more = refl
 two_clean true false line first second more = refl
 two_clean false true line first second more = refl
 two_clean false false line first second more = refl
 
 notes_clean : (clock : List Change) (line : ℕ) (rule : Rule) (more : List Finding) →
-    is_clean (rule_notes clock line rule ++ more) ≡ is_clean more
+    is_clean (rule_warnings clock line rule ++ more) ≡ is_clean more
 notes_clean clock line rule more =
     two_clean (not (is_reboot rule) && never_starts (rule_in clock rule)) (is_either_day rule) line NeverStarts EitherDay more
 
@@ -94,11 +94,11 @@ job_right :
     (G : KnownNames → KnownNames) →
     ((next : List (List ℕ)) → Agrees clock (names_with next jobs) (F (known_by clock next)) (G (known_by clock next))) →
     Agrees clock (cond a None (cond b (names_with (added ++ job.name ∷ []) jobs) None))
-    ((named_findings line a b ++ rule_notes clock line job.rule) ++ F (named_after clock a b added job.name)) (G (named_after clock a b
+    ((named_findings line a b ++ rule_warnings clock line job.rule) ++ F (named_after clock a b added job.name)) (G (named_after clock a b
     added job.name))
 job_right clock true b added line job jobs F G later = refl
 job_right clock false true added line job jobs F G later =
-    agrees_by clock (names_with (added ++ job.name ∷ []) jobs) (rule_notes clock line job.rule ++ F (known_by clock (added ++ job.name
+    agrees_by clock (names_with (added ++ job.name ∷ []) jobs) (rule_warnings clock line job.rule ++ F (known_by clock (added ++ job.name
     ∷ [])))
     (F (known_by clock (added ++ job.name ∷ []))) (G (known_by clock (added ++ job.name ∷ [])))
     (notes_clean clock line job.rule (F (known_by clock (added ++ job.name ∷ [])))) (later (added ++ job.name ∷ []))
@@ -107,7 +107,7 @@ job_right clock false false added line job jobs F G later = refl
 job_before_fault :
     (clock : List Change) (a b : Bool) (added : List (List ℕ)) (line : ℕ) (job : JobParts) (F : KnownNames → List Finding) →
     ((next : List (List ℕ)) → is_clean (F (known_by clock next)) ≡ false) →
-    is_clean ((named_findings line a b ++ rule_notes clock line job.rule) ++ F (named_after clock a b added job.name)) ≡ false
+    is_clean ((named_findings line a b ++ rule_warnings clock line job.rule) ++ F (named_after clock a b added job.name)) ≡ false
 job_before_fault clock true b added line job F later = refl
 job_before_fault clock false true added line job F later =
     notes_clean clock line job.rule (F (known_by clock (added ++ job.name ∷ []))) ∙ later (added ++ job.name ∷ [])
@@ -120,7 +120,7 @@ job_agrees :
     ((next : List (List ℕ)) → Agrees clock (names_by next (unless_refused faults jobs)) (F (known_by clock next)) (G (known_by clock
     next))) →
     Agrees clock (names_by added (unless_refused faults (job ∷ jobs)))
-    ((named_findings line (is_added job.name added) (nat_lt (length added) most_jobs) ++ rule_notes clock line job.rule)
+    ((named_findings line (is_added job.name added) (nat_lt (length added) most_jobs) ++ rule_warnings clock line job.rule)
     ++ F (named_after clock (is_added job.name added) (nat_lt (length added) most_jobs) added job.name))
     (G (named_after clock (is_added job.name added) (nat_lt (length added) most_jobs) added job.name))
 job_agrees clock [] added line job jobs F G later =
@@ -156,15 +156,15 @@ text_agrees :
 text_agrees clock added (Ok entries) = entries_agree clock added entries
 text_agrees clock added (Err fault) = refl
 
-tab_agrees :
+named_agrees :
     (clock : List Change) (is_named : Bool) (added : List (List ℕ)) (reading : TextReading (List JobParts)) (text : TextReading (List
     (Entry JobParts))) →
     Agrees clock (names_by added reading) (text_findings true (known_by clock added) text) (after_text true (known_by clock added) text) →
     Agrees clock (names_by added (cond is_named reading (on_line 0 (Err BadTabName))))
     (refused_if (not is_named) 0 BadTabName ++ text_findings is_named (known_by clock added) text) (after_text is_named (known_by clock
     added) text)
-tab_agrees clock true added reading text agrees = agrees
-tab_agrees clock false added reading text agrees = refl
+named_agrees clock true added reading text agrees = agrees
+named_agrees clock false added reading text agrees = refl
 
 -- ---- a timer
 
@@ -177,7 +177,7 @@ event_clean :
     is_clean found ≡ is_none_of more →
     is_clean (timers.read_findings clock line read ++ found) ≡ is_none_of (cons_option (refusal_on line read) more)
 event_clean clock line (Ok event) found more is =
-    noted_clean (never_starts (rule_in clock (Events (event ∷ [])))) line NeverStarts found ∙ is
+    warned_clean (never_starts (rule_in clock (Events (event ∷ [])))) line NeverStarts found ∙ is
 event_clean clock line (Err cause) found more is = refl
 
 events_clean : (clock : List Change) (events : List (Entry Calendar)) →
@@ -189,17 +189,17 @@ events_clean clock (event ∷ more) =
 timer_right :
     (clock : List Change) (a b is_so : Bool) (added : List (List ℕ)) (name : List ℕ) (found : List Finding) → is_clean found ≡ true →
     Agrees clock (cond a None (cond b (Some (added ++ name ∷ [])) None))
-    (named_findings 0 a b ++ (noted_if is_so 0 NoEvents ++ found)) (named_after clock a b added name)
+    (named_findings 0 a b ++ (warned_if is_so 0 NoEvents ++ found)) (named_after clock a b added name)
 timer_right clock true b is_so added name found clean = refl
-timer_right clock false true is_so added name found clean = (noted_clean is_so 0 NoEvents found ∙ clean, refl)
+timer_right clock false true is_so added name found clean = (warned_clean is_so 0 NoEvents found ∙ clean, refl)
 timer_right clock false false is_so added name found clean = refl
 
 timer_wrong :
     (has a b is_so : Bool) (found : List Finding) → is_clean found ≡ false →
-    is_clean (refused_if (not has) 0 NoTimerSection ++ (named_findings 0 a b ++ (noted_if is_so 0 NoEvents ++ found))) ≡ false
+    is_clean (refused_if (not has) 0 NoTimerSection ++ (named_findings 0 a b ++ (warned_if is_so 0 NoEvents ++ found))) ≡ false
 timer_wrong false a b is_so found faulty = refl
 timer_wrong true true b is_so found faulty = refl
-timer_wrong true false true is_so found faulty = noted_clean is_so 0 NoEvents found ∙ faulty
+timer_wrong true false true is_so found faulty = warned_clean is_so 0 NoEvents found ∙ faulty
 timer_wrong true false false is_so found faulty = refl
 
 timer_agrees :
@@ -209,7 +209,7 @@ timer_agrees :
     is_clean found ≡ is_none_of faults →
     Agrees clock (names_by added ((unless_refused faults events >>= λ held. job_with has name unit held) >>= λ job. Ok (job ∷ [])))
     (refused_if (not has) 0 NoTimerSection
-    ++ (named_findings 0 (is_added name added) (nat_lt (length added) most_jobs) ++ (noted_if is_so 0 NoEvents ++ found)))
+    ++ (named_findings 0 (is_added name added) (nat_lt (length added) most_jobs) ++ (warned_if is_so 0 NoEvents ++ found)))
     (named_after clock (is_added name added) (nat_lt (length added) most_jobs) added name)
 timer_agrees clock [] true is_so added name unit events found clean =
     timer_right clock (is_added name added) (nat_lt (length added) most_jobs) is_so added name found clean
@@ -257,10 +257,10 @@ file_agrees :
     (clock : List Change) → CrontabLaw → TimerLaw → (added : List (List ℕ)) (file : File) →
     Agrees clock (names_by added (file_reading file)) (file_findings (known_by clock added) file) (after_file (known_by clock added) file)
 file_agrees clock crontab timer added (Crontab label kind bytes) = crontab_agrees clock crontab added label kind bytes
-file_agrees clock crontab timer added (Tab folder name bytes) =
-    tab_agrees clock (is_tab_name folder name) added (crontab_reading name (kind_in folder) bytes) (crontab_entries name (kind_in
-    folder) bytes)
-    (crontab_agrees clock crontab added name (kind_in folder) bytes)
+file_agrees clock crontab timer added (Named directory name bytes) =
+    named_agrees clock (is_crontab_name directory name) added (crontab_reading name (kind_in directory) bytes) (crontab_entries name (kind_in
+    directory) bytes)
+    (crontab_agrees clock crontab added name (kind_in directory) bytes)
 file_agrees clock crontab timer added (Timer name bytes) =
     let P : TextReading JobParts → Type 0 = λ reading. Agrees clock (names_by added (reading >>= λ job. Ok (job ∷ [])))
     (file_findings (known_by clock added) (Timer name bytes)) (after_file (known_by clock added) (Timer name bytes)) in

@@ -20,25 +20,25 @@ use Rattle.plan_rules.specs.Entries.{refusals, refusal_on, given, unless_refused
 use Rattle.plan_rules.specs.Job.{JobParts}
 use Rattle.plan_rules.specs.Limits.{most_jobs}
 use Rattle.plan_rules.specs.LineFaults.{LineReading, on_line}
-use Rattle.plan_check.specs.declared.finding.Note.{Note}
-use Rattle.plan_check.specs.declared.finding.Note.TheVariants.{NeverStarts, EitherDay}
+use Rattle.plan_check.specs.declared.finding.Warning.{Warning}
+use Rattle.plan_check.specs.declared.finding.Warning.TheVariants.{NeverStarts, EitherDay}
 use Rattle.plan_check.specs.declared.finding.What.TheVariants.{SameName, Full}
 use Rattle.plan_check.specs.Crontabs.{line_findings, after_line, entries_findings, text_findings, crontab_findings}
-use Rattle.plan_check.specs.Finding.{fault_of, finding_at, first_of, first_fault, noted_if}
+use Rattle.plan_check.specs.Finding.{fault_of, finding_at, first_of, first_fault, warned_if}
 use Rattle.plan_check.specs.Names.{KnownNames, is_added, fault_where}
-use Rattle.plan_check.specs.Notes.{rule_notes, never_starts, is_reboot, is_either_day}
+use Rattle.plan_check.specs.Warnings.{rule_warnings, never_starts, is_reboot, is_either_day}
 
 -- ---- lines
 
 no_fault_noted :
-    (p q : Bool) (line : ℕ) (first second : Note) → filter_map fault_of (noted_if p line first ++ noted_if q line second) ≡ []
+    (p q : Bool) (line : ℕ) (first second : Warning) → filter_map fault_of (warned_if p line first ++ warned_if q line second) ≡ []
 no_fault_noted true true line first second = refl
 no_fault_noted true false line first second = refl
 no_fault_noted false true line first second = refl
 no_fault_noted false false line first second = refl
 
-no_fault_in_notes : (clock : List Change) (line : ℕ) (rule : Rule) → filter_map fault_of (rule_notes clock line rule) ≡ []
-no_fault_in_notes clock line rule =
+no_fault_in_warnings : (clock : List Change) (line : ℕ) (rule : Rule) → filter_map fault_of (rule_warnings clock line rule) ≡ []
+no_fault_in_warnings clock line rule =
     no_fault_noted (not (is_reboot rule) && never_starts (rule_in clock rule)) (is_either_day rule) line NeverStarts EitherDay
 
 -- the same for the finding about a name
@@ -62,8 +62,8 @@ faults_of_line :
     filter_map fault_of (line_findings is_named known line read) ≡ cons_option (refusal_on line read) []
 faults_of_line is_named known line (Ok job) =
     filter_map-append fault_of (cons_option (option_map (λ what. finding_at line what) (fault_where is_named known job.name)) [])
-    (rule_notes known.clock line job.rule)
-    ∙ (λ i. no_fault_of_job is_named known line job.name i ++ no_fault_in_notes known.clock line job.rule i)
+    (rule_warnings known.clock line job.rule)
+    ∙ (λ i. no_fault_of_job is_named known line job.name i ++ no_fault_in_warnings known.clock line job.rule i)
 faults_of_line is_named known line (Err cause) = refl
 
 cons_front : {A : Type 0} (o : Option A) (xs : List A) → cons_option o [] ++ xs ≡ cons_option o xs

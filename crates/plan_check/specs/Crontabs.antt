@@ -4,23 +4,23 @@ use Rattle.std.specs.List.{cons_option}
 use Rattle.plan_rules.specs.declared.crontabs.Kind.{Kind}
 use Rattle.plan_rules.specs.declared.entry.Entry.{Entry}
 use Rattle.plan_rules.specs.declared.line_fault.LineCause.TheVariants.{BadTabName}
-use Rattle.plan_rules.specs.declared.tabs.TabFolder.{TabFolder}
+use Rattle.plan_rules.specs.declared.named_crontabs.CrontabDirectory.{CrontabDirectory}
 use Rattle.plan_rules.specs.Crontab.{crontab_entries}
 use Rattle.plan_rules.specs.Job.{JobParts}
 use Rattle.plan_rules.specs.LineFaults.{LineReading, TextReading}
-use Rattle.plan_rules.specs.Tabs.{is_tab_name, kind_in}
+use Rattle.plan_rules.specs.NamedCrontabs.{is_crontab_name, kind_in}
 use Rattle.plan_check.specs.declared.finding.Finding.{Finding}
 use Rattle.plan_check.specs.Finding.{finding_at, refused_at, refused_if}
 use Rattle.plan_check.specs.Names.{KnownNames, fault_where, after_where}
-use Rattle.plan_check.specs.Notes.{rule_notes}
+use Rattle.plan_check.specs.Warnings.{rule_warnings}
 
 -- ---- one line
 
--- the findings of a line: its one error, or what is wrong with its job's name, and then the notes. `is_named` says
+-- the findings of a line: its one error, or what is wrong with its job's name, and then the warnings. `is_named` says
 -- whether the file's name is good
 abbrev pub line_findings : Bool → KnownNames → ℕ → LineReading JobParts → List Finding
 line_findings is_named known line (Ok job) =
-    cons_option (option_map (λ what. finding_at line what) (fault_where is_named known job.name)) [] ++ rule_notes known.clock line job.rule
+    cons_option (option_map (λ what. finding_at line what) (fault_where is_named known job.name)) [] ++ rule_warnings known.clock line job.rule
 line_findings is_named known line (Err cause) = refused_at line cause ∷ []
 
 -- the names after a line: a line that isn't rejected makes a job, whatever else is rejected
@@ -63,11 +63,11 @@ after_crontab known label kind bytes = after_text true known (crontab_entries la
 
 -- the findings of a crontab whose jobs have its file's name: the name is checked first, and then the rest, even if
 -- the name is bad
-abbrev pub tab_findings : KnownNames → TabFolder → (name bytes : List ℕ) → List Finding
-tab_findings known folder name bytes =
-    refused_if (not (is_tab_name folder name)) 0 BadTabName
-    ++ text_findings (is_tab_name folder name) known (crontab_entries name (kind_in folder) bytes)
+abbrev pub named_crontab_findings : KnownNames → CrontabDirectory → (name bytes : List ℕ) → List Finding
+named_crontab_findings known directory name bytes =
+    refused_if (not (is_crontab_name directory name)) 0 BadTabName
+    ++ text_findings (is_crontab_name directory name) known (crontab_entries name (kind_in directory) bytes)
 
 -- the names after it: a file whose name is bad makes no jobs
-abbrev pub after_tab : KnownNames → TabFolder → (name bytes : List ℕ) → KnownNames
-after_tab known folder name bytes = after_text (is_tab_name folder name) known (crontab_entries name (kind_in folder) bytes)
+abbrev pub after_named_crontab : KnownNames → CrontabDirectory → (name bytes : List ℕ) → KnownNames
+after_named_crontab known directory name bytes = after_text (is_crontab_name directory name) known (crontab_entries name (kind_in directory) bytes)

@@ -1,23 +1,23 @@
 -- The findings of several files, and whether jobs can be made of them (agenda).
 use Rattle.std.specs.Prelude.{ℕ, nat_lt, if◌then◌else◌, List, [], ◌∷◌, ◌++◌, length, Option, Some, None, Ok, Err}
 use Rattle.plan_rules.specs.declared.crontabs.Kind.{Kind}
-use Rattle.plan_rules.specs.declared.tabs.TabFolder.{TabFolder}
+use Rattle.plan_rules.specs.declared.named_crontabs.CrontabDirectory.{CrontabDirectory}
 use Rattle.plan_texts.specs.Steps.{◌>>=◌}
 use Rattle.plan_rules.specs.Crontab.{crontab_reading}
 use Rattle.plan_rules.specs.Job.{JobParts}
 use Rattle.plan_rules.specs.Limits.{most_jobs}
 use Rattle.plan_rules.specs.LineFaults.{TextReading}
-use Rattle.plan_rules.specs.Tabs.{tab_reading}
+use Rattle.plan_rules.specs.NamedCrontabs.{named_crontab_reading}
 use Rattle.plan_rules.specs.Timer.{timer_reading}
 use Rattle.plan_check.specs.declared.finding.Finding.{Finding}
-use Rattle.plan_check.specs.Crontabs.{crontab_findings, after_crontab, tab_findings, after_tab}
+use Rattle.plan_check.specs.Crontabs.{crontab_findings, after_crontab, named_crontab_findings, after_named_crontab}
 use Rattle.plan_check.specs.Names.{KnownNames, is_added}
 use Rattle.plan_check.specs.Timers.{timer_findings, after_timer}
 
 -- a file: a crontab whose jobs have a label, one whose jobs have its own name, or a timer
 pub data File : Type 0 where
   Crontab : (label : List ℕ) (kind : Kind) (bytes : List ℕ) → File
-  Tab : (folder : TabFolder) (name bytes : List ℕ) → File
+  Named : (directory : CrontabDirectory) (name bytes : List ℕ) → File
   Timer : (name bytes : List ℕ) → File
 
 -- ---- findings
@@ -25,13 +25,13 @@ pub data File : Type 0 where
 -- the findings of a file
 abbrev pub file_findings : KnownNames → File → List Finding
 file_findings known (Crontab label kind bytes) = crontab_findings known label kind bytes
-file_findings known (Tab folder name bytes) = tab_findings known folder name bytes
+file_findings known (Named directory name bytes) = named_crontab_findings known directory name bytes
 file_findings known (Timer name bytes) = timer_findings known name bytes
 
 -- the names of jobs after a file
 abbrev pub after_file : KnownNames → File → KnownNames
 after_file known (Crontab label kind bytes) = after_crontab known label kind bytes
-after_file known (Tab folder name bytes) = after_tab known folder name bytes
+after_file known (Named directory name bytes) = after_named_crontab known directory name bytes
 after_file known (Timer name bytes) = after_timer known name
 
 -- the findings of files, in order
@@ -44,7 +44,7 @@ files_findings known (file ∷ more) = file_findings known file ++ files_finding
 -- the jobs of a file, or its first error
 abbrev pub file_reading : File → TextReading (List JobParts)
 file_reading (Crontab label kind bytes) = crontab_reading label kind bytes
-file_reading (Tab folder name bytes) = tab_reading folder name bytes
+file_reading (Named directory name bytes) = named_crontab_reading directory name bytes
 file_reading (Timer name bytes) = do
   job ← timer_reading name bytes
   Ok (job ∷ [])

@@ -5,18 +5,18 @@ use Rattle.plan_rules.specs.declared.line_fault.LineCause.{LineCause}
 use Rattle.plan_rules.specs.declared.line_fault.LineFault.{LineFault}
 use Rattle.plan_rules.specs.LineFaults.{fault_on_line}
 use Rattle.plan_check.specs.declared.finding.Finding.{Finding}
-use Rattle.plan_check.specs.declared.finding.Note.{Note}
-use Rattle.plan_check.specs.declared.finding.Note.TheVariants as note
+use Rattle.plan_check.specs.declared.finding.Warning.{Warning}
+use Rattle.plan_check.specs.declared.finding.Warning.TheVariants as warning
 use Rattle.plan_check.specs.declared.finding.What.{What}
-use Rattle.plan_check.specs.declared.finding.What.TheVariants.{Refused, SameName, Full, Noted}
+use Rattle.plan_check.specs.declared.finding.What.TheVariants.{Refused, SameName, Full, Warned}
 
 -- ---- names
 
--- the name of a note
-abbrev pub note_name : Note → List ℕ
-note_name note.NeverStarts = codes "NeverStarts"
-note_name note.EitherDay = codes "EitherDay"
-note_name note.NoEvents = codes "NoEvents"
+-- the name of a warning
+abbrev pub warning_name : Warning → List ℕ
+warning_name warning.NeverStarts = codes "NeverStarts"
+warning_name warning.EitherDay = codes "EitherDay"
+warning_name warning.NoEvents = codes "NoEvents"
 
 -- ---- one finding
 
@@ -33,10 +33,10 @@ abbrev pub refused_if : Bool → ℕ → LineCause → List Finding
 refused_if true line cause = refused_at line cause ∷ []
 refused_if false line cause = []
 
--- a note, if this is true
-abbrev pub noted_if : Bool → ℕ → Note → List Finding
-noted_if true line note = finding_at line (Noted note) ∷ []
-noted_if false line note = []
+-- a warning, if this is true
+abbrev pub warned_if : Bool → ℕ → Warning → List Finding
+warned_if true line warning = finding_at line (Warned warning) ∷ []
+warned_if false line warning = []
 
 -- ---- errors
 
@@ -45,7 +45,7 @@ abbrev pub fault_by : ℕ → What → Option LineFault
 fault_by line (Refused cause) = Some (fault_on_line line cause)
 fault_by line SameName = None
 fault_by line Full = None
-fault_by line (Noted note) = None
+fault_by line (Warned warning) = None
 
 -- the same for a finding with its line
 abbrev pub fault_of : Finding → Option LineFault
@@ -60,13 +60,13 @@ first_of (x ∷ xs) = Some x
 abbrev pub first_fault : List Finding → Option LineFault
 first_fault found = first_of (filter_map fault_of found)
 
--- whether a finding is a note, so that nothing is rejected
-abbrev pub is_note : What → Bool
-is_note (Refused cause) = false
-is_note SameName = false
-is_note Full = false
-is_note (Noted note) = true
+-- whether a finding is a warning, so that nothing is rejected
+abbrev pub is_warning : What → Bool
+is_warning (Refused cause) = false
+is_warning SameName = false
+is_warning Full = false
+is_warning (Warned warning) = true
 
 -- whether nothing is rejected
 abbrev pub is_clean : List Finding → Bool
-is_clean found = list_all (λ finding. is_note finding.what) found
+is_clean found = list_all (λ finding. is_warning finding.what) found

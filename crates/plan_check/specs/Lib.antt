@@ -1,6 +1,6 @@
 pub mod Finding
 pub mod Names
-pub mod Notes
+pub mod Warnings
 pub mod Crontabs
 pub mod Timers
 pub mod Files

@@ -11,16 +11,16 @@ use Rattle.plan_rules.specs.LineFaults.{LineReading, TextReading}
 use Rattle.plan_rules.specs.Timer.{is_timer_name}
 use Rattle.plan_rules.specs.TimerEntries.{TimerParts, timer_entries}
 use Rattle.plan_check.specs.declared.finding.Finding.{Finding}
-use Rattle.plan_check.specs.declared.finding.Note.TheVariants.{NeverStarts, NoEvents}
-use Rattle.plan_check.specs.Finding.{finding_at, noted_if, refused_at, refused_if}
+use Rattle.plan_check.specs.declared.finding.Warning.TheVariants.{NeverStarts, NoEvents}
+use Rattle.plan_check.specs.Finding.{finding_at, warned_if, refused_at, refused_if}
 use Rattle.plan_check.specs.Names.{KnownNames, fault_where, after_where}
-use Rattle.plan_check.specs.Notes.{never_starts}
+use Rattle.plan_check.specs.Warnings.{never_starts}
 
 -- ---- one event
 
 -- the finding of an event: its error, or that a job with only this event never starts, by the clock of a zone
 abbrev pub read_findings : List Change → ℕ → LineReading Calendar → List Finding
-read_findings clock line (Ok event) = noted_if (never_starts (rule_in clock (Events (event ∷ [])))) line NeverStarts
+read_findings clock line (Ok event) = warned_if (never_starts (rule_in clock (Events (event ∷ [])))) line NeverStarts
 read_findings clock line (Err cause) = refused_at line cause ∷ []
 
 -- the same for an event with its line
@@ -40,7 +40,7 @@ abbrev pub text_findings : Bool → KnownNames → List ℕ → TextReading Time
 text_findings is_named known name (Ok parts) =
     refused_if (not parts.has_section) 0 NoTimerSection
     ++ (job_findings is_named known name
-    ++ (noted_if (parts.has_section && (parts.held == 0)) 0 NoEvents ++ flat_map (event_findings known.clock) parts.events))
+    ++ (warned_if (parts.has_section && (parts.held == 0)) 0 NoEvents ++ flat_map (event_findings known.clock) parts.events))
 text_findings is_named known name (Err fault) = refused_at fault.line fault.cause ∷ job_findings is_named known name
 
 -- the findings of a timer file: its name is checked first, and then the rest, even if the name is bad

@@ -7,16 +7,16 @@ ghost use Rattle.plan_texts.specs.Limits.{most_bytes};
 ghost use Rattle.plan_rules.specs.Crontab.{crontab_entries, crontab_reading, entries_of_lines, line_reading};
 ghost use Rattle.plan_rules.specs.Entries.{entry_on};
 ghost use Rattle.plan_check.specs.Finding.{first_fault};
-ghost use Rattle.plan_check.specs.Crontabs.{after_crontab, after_entries, after_line, after_tab, after_text, crontab_findings, entries_findings, line_findings, tab_findings, text_findings};
+ghost use Rattle.plan_check.specs.Crontabs.{after_crontab, after_entries, after_line, after_named_crontab, after_text, crontab_findings, entries_findings, line_findings, named_crontab_findings, text_findings};
 
 use crate::finding::Finding;
 use crate::names::Names;
-use crate::notes::add_notes;
 use crate::report::{add_job, refuse, refuse_if};
+use crate::warnings::add_warnings;
 use plan_rules::lines::lines;
 use plan_rules::{
-    Entry, Job, Kind, LineCause, LineFault, TabFolder, crontab_entry, crontab_is_its_entries,
-    is_tab_name, kind_in, text_of,
+    CrontabDirectory, Entry, Job, Kind, LineCause, LineFault, crontab_entry,
+    crontab_is_its_entries, is_crontab_name, kind_in, text_of,
 };
 use std::alloc::{AllocError, Global};
 
@@ -30,7 +30,7 @@ use std::alloc::{AllocError, Global};
 /// - Any other line that isn't empty, a comment or a setting makes a job, named `LABEL:n`. If another job has
 ///   this name, the error is `SameName`. Else, if there are 1,000 jobs, it is `Full`, which is reported once
 ///   for all files. In both cases the job isn't added.
-/// - The notes on the job's rule come last: `NeverStarts`, unless it is `@reboot`, and then `EitherDay`.
+/// - The warnings on the job's rule come last: `NeverStarts`, unless it is `@reboot`, and then `EitherDay`.
 ///
 /// # Errors
 ///
@@ -64,20 +64,20 @@ pub fn crontab_findings(
 /// # Errors
 ///
 /// `AllocError` if an allocation fails. The contract doesn't say what `names` has then.
-pub fn tab_findings(
+pub fn named_crontab_findings(
     alloc: Global,
     names: &mut Names,
     name: &str,
     bytes: &[u8],
-    folder: TabFolder,
+    directory: CrontabDirectory,
 ) -> Result<Vec<Finding>, AllocError>
-    ensures found { IfOk result (λ found. found.items ≡ tab_findings names.old folder name.now bytes.now) }
-    ensures names { OnOk result (names.new ≡ after_tab names.old folder name.now bytes.now) }
+    ensures found { IfOk result (λ found. found.items ≡ named_crontab_findings names.old directory name.now bytes.now) }
+    ensures names { OnOk result (names.new ≡ after_named_crontab names.old directory name.now bytes.now) }
 {
     let mut found = Vec::new(alloc);
-    let is_named = is_tab_name(folder, name.as_bytes());
+    let is_named = is_crontab_name(directory, name.as_bytes());
     refuse_if(&mut found, !is_named, LineCause::BadTabName)?;
-    let kind = kind_in(folder);
+    let kind = kind_in(directory);
     add_text(alloc, names, &mut found, is_named, name, bytes, kind)?;
     Ok(found)
 }
@@ -175,7 +175,7 @@ fn add_entry(
         Ok(job) => {
             let clock = names.clock()?;
             add_job(alloc, names, found, is_named, entry.line, job.name())?;
-            add_notes(alloc, found, &clock, entry.line, job.rule())
+            add_warnings(alloc, found, &clock, entry.line, job.rule())
         }
         Err(cause) => refuse(found, entry.line, *cause),
     }

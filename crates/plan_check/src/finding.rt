@@ -1,13 +1,13 @@
-//! A finding: an error or a note, of a line or of a whole file.
+//! A finding: an error or a warning, of a line or of a whole file.
 
 ghost use Rattle.std.specs.Prelude.{◌≡◌};
-ghost use Rattle.plan_check.specs.Finding.{note_name};
+ghost use Rattle.plan_check.specs.Finding.{warning_name};
 
 use plan_rules::LineCause;
 
-/// A note: something valid that may not be what was meant.
+/// A warning: something valid that may not be what was meant.
 #[derive(Clone, Copy, Debug, PartialEq, Eq)]
-pub enum Note {
+pub enum Warning {
     /// A rule of a crontab, or an event of a timer, has no start from 1970 to 2999.
     NeverStarts,
     /// Both day fields of a rule are restricted, so either is enough (crontab(5)).
@@ -16,7 +16,7 @@ pub enum Note {
     NoEvents,
 }
 
-/// The error or the note of a finding.
+/// The error or the warning of a finding.
 #[derive(Clone, Copy, Debug, PartialEq, Eq)]
 pub enum What {
     /// The line, or the whole file, is rejected. The cause is never `NoMemory`.
@@ -26,7 +26,7 @@ pub enum What {
     /// There are 1,000 jobs already, so the job isn't added.
     Full,
     /// The text is valid, and may not be what was meant.
-    Noted(Note),
+    Warned(Warning),
 }
 
 /// A finding of a line, or of a whole file.
@@ -34,19 +34,19 @@ pub enum What {
 pub struct Finding {
     /// The line, from 1. The whole file is 0.
     pub line: u32,
-    /// The error or the note.
+    /// The error or the warning.
     pub what: What,
 }
 
-impl Note {
-    /// Returns the note's name, which the line of the finding shows.
+impl Warning {
+    /// Returns the warning's name, which the line of the finding shows.
     pub fn name(&self) -> &'static str
-        ensures { result.now ≡ note_name self.now }
+        ensures { result.now ≡ warning_name self.now }
     {
         match self {
-            Note::NeverStarts => "NeverStarts",
-            Note::EitherDay => "EitherDay",
-            Note::NoEvents => "NoEvents",
+            Warning::NeverStarts => "NeverStarts",
+            Warning::EitherDay => "EitherDay",
+            Warning::NoEvents => "NoEvents",
         }
     }
 }

@@ -8,7 +8,7 @@ ghost use Rattle.plan_check.specs.Files.{File, files_findings, files_names};
 
 use plan_rules::{crontab_is_its_entries, timer_is_its_entries};
 
-/// States the law of findings: files in order have no finding but notes exactly if jobs can be made of all of
+/// States the law of findings: files in order have no finding but warnings exactly if jobs can be made of all of
 /// them. That means that each file is read without an error, no two jobs have the same name, and there are at
 /// most 1,000 jobs.
 ///

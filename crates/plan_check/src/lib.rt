@@ -1,4 +1,4 @@
-//! The findings of `check`: all errors and notes of a crontab or a timer file, line by line.
+//! The findings of `check`: all errors and warnings of a crontab or a timer file, line by line.
 //!
 //! plan_rules reads each line by itself, and plan_next says whether a rule has a start. Read `finding` first,
 //! then `crontab_findings` in `crontabs` and `timer_findings` in `timers`. `names` is what is passed from file
@@ -9,12 +9,12 @@ mod crontabs;
 mod finding;
 mod laws;
 mod names;
-mod notes;
 mod report;
 mod timers;
+mod warnings;
 
-pub use crontabs::{crontab_findings, tab_findings};
-pub use finding::{Finding, Note, What};
+pub use crontabs::{crontab_findings, named_crontab_findings};
+pub use finding::{Finding, Warning, What};
 pub use laws::clean_where_jobs_are;
 pub use names::Names;
 pub use timers::timer_findings;

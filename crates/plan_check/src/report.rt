@@ -2,25 +2,25 @@
 
 ghost use Rattle.std.specs.Prelude.{◌≡◌, ◌++◌, ◌∷◌, [], OnOk, option_map};
 ghost use Rattle.std.specs.List.{cons_option};
-ghost use Rattle.plan_check.specs.Finding.{finding_at, noted_if, refused_at, refused_if};
+ghost use Rattle.plan_check.specs.Finding.{finding_at, warned_if, refused_at, refused_if};
 ghost use Rattle.plan_check.specs.Names.{after_where, fault_where};
 
-use crate::finding::{Finding, Note, What};
+use crate::finding::{Finding, Warning, What};
 use crate::names::Names;
 use plan_rules::LineCause;
 use std::alloc::{AllocError, Global};
 
-// Adds a note on a line if `is_so`.
-pub(crate) fn note_if(
+// Adds a warning on a line if `is_so`.
+pub(crate) fn warn_if(
     found: &mut Vec<Finding>,
     is_so: bool,
     line: u32,
-    note: Note,
+    warning: Warning,
 ) -> Result<(), AllocError>
-    ensures { OnOk result (found.new.items ≡ found.old.items ++ noted_if is_so line note) }
+    ensures { OnOk result (found.new.items ≡ found.old.items ++ warned_if is_so line warning) }
 {
     if is_so {
-        let what = What::Noted(note);
+        let what = What::Warned(warning);
         found.push(Finding { line, what })?;
     }
     Ok(())

@@ -7,10 +7,10 @@ ghost use Rattle.plan_check.specs.Finding.{refused_at};
 ghost use Rattle.plan_check.specs.Names.{after_where};
 ghost use Rattle.plan_check.specs.Timers.{after_timer, event_findings, job_findings, read_findings, text_findings, timer_findings};
 
-use crate::finding::{Finding, Note};
+use crate::finding::{Finding, Warning};
 use crate::names::Names;
-use crate::notes::never_starts;
-use crate::report::{add_job, note_if, refuse, refuse_if};
+use crate::report::{add_job, refuse, refuse_if, warn_if};
+use crate::warnings::never_starts;
 use plan_clock::Clock;
 use plan_rules::{
     Calendar, Entry, Events, LineCause, LineFault, Rule, TimerEntries, is_timer_name, timer_entries,
@@ -26,9 +26,9 @@ use std::alloc::{AllocError, Global};
 /// - `TooLarge` for more than 1,048,576 bytes, else `NotUtf8`.
 /// - `NoTimerSection`, unless one of these two is found.
 /// - `SameName` if another job has the file's name. Else `Full` if there are 1,000 jobs, once for all files.
-/// - The note `NoEvents` if there is a `[Timer]` section and the list of events is empty at the end.
+/// - The warning `NoEvents` if there is a `[Timer]` section and the list of events is empty at the end.
 ///
-/// Then each event has its error, or the note `NeverStarts`, as `timer_entries` of plan_rules reads it.
+/// Then each event has its error, or the warning `NeverStarts`, as `timer_entries` of plan_rules reads it.
 ///
 /// # Errors
 ///
@@ -98,7 +98,7 @@ fn add_entries(
     let clock = names.clock()?;
     refuse_if(found, !has_section, LineCause::NoTimerSection)?;
     add_job(alloc, names, found, is_named, 0, name)?;
-    note_if(found, has_section && held == 0, 0, Note::NoEvents)?;
+    warn_if(found, has_section && held == 0, 0, Warning::NoEvents)?;
     add_events(alloc, found, &clock, events)
 }
 
@@ -132,7 +132,7 @@ fn add_event(
         Ok(event) => {
             let rule = Rule::Events(Events::one(alloc, event)?);
             let never_starts = never_starts(alloc, clock, &rule)?;
-            note_if(found, never_starts, line, Note::NeverStarts)
+            warn_if(found, never_starts, line, Warning::NeverStarts)
         }
         Err(cause) => refuse(found, line, cause),
     }

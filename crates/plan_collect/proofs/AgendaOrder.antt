@@ -7,7 +7,7 @@ use Rattle.plan_match.specs.declared.rule.Rule.{Rule}
 use Rattle.plan_next.specs.Starts.{is_start}
 use Rattle.plan_collect.specs.Span.{Bounds}
 use Rattle.plan_collect.specs.Agenda.{row_from, agenda}
-use Rattle.plan_collect.proofs.EntriesLemmas.{before_false, is_before, NoneBefore, Ascends}
+use Rattle.plan_collect.proofs.StartsLemmas.{before_false, is_before, NoneBefore, Ascends}
 
 NoneBefore-append : (x : ℕ × ℕ) (xs ys : List (ℕ × ℕ)) → NoneBefore x xs → NoneBefore x ys → NoneBefore x (xs ++ ys)
 NoneBefore-append x [] ys none others = others

@@ -11,7 +11,7 @@ use Rattle.plan_next.specs.Starts.{is_start, starts, passing}
 use Rattle.plan_collect.specs.Span.{Bounds}
 use Rattle.plan_collect.specs.Agenda.{row_from}
 use Rattle.plan_collect.specs.Collecting.{held_from, weigh}
-use Rattle.plan_collect.proofs.EntriesLemmas.{weigh-append}
+use Rattle.plan_collect.proofs.StartsLemmas.{weigh-append}
 
 -- a range is cut in two
 range-append : (a m n : ℕ) → range_with_len a (m + n) ≡ range_with_len a m ++ range_with_len (a + m) n

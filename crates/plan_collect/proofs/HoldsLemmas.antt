@@ -19,8 +19,8 @@ use Rattle.plan_rules.specs.Limits.{most_jobs}
 use Rattle.plan_collect.specs.Span.{Bounds}
 use Rattle.plan_collect.specs.Limits.{is_limit, is_size}
 use Rattle.plan_collect.specs.Agenda.{agenda}
-use Rattle.plan_collect.specs.Collecting.{Collected, held_from, held, is_rule_of, belongs, adjoins, has_room, is_complete, weigh, SameEntries, Holds}
-use Rattle.plan_collect.proofs.EntriesLemmas.{weigh-append, weigh-length, SameEntries-length, SameEntries-permutation, Ascends-sorted, Ascends-unique}
+use Rattle.plan_collect.specs.Collecting.{Collected, held_from, held, is_rule_of, belongs, adjoins, has_room, is_complete, weigh, SameStarts, Holds}
+use Rattle.plan_collect.proofs.StartsLemmas.{weigh-append, weigh-length, SameStarts-length, SameStarts-permutation, Ascends-sorted, Ascends-unique}
 use Rattle.plan_collect.proofs.HeldLemmas.{entries_of, length-entries_of, AreWithin, AreWithin-each, held-le, held-complete, held-more}
 use Rattle.plan_collect.proofs.AgendaOrder.{Ascends-agenda}
 
@@ -137,7 +137,7 @@ Holds-more c entries new job piece holds belongs adjoins room forward is =
           (with_piece weight c entries job piece holds fit forward);
       few = (
           let fewer : length (held c) + length added ≤ c.limit = leb-true (length (held c) + length added) c.limit room in
-          let same : length entries ≡ length (held c) = SameEntries-length entries (held c) holds.same in
+          let same : length entries ≡ length (held c) = SameStarts-length entries (held c) holds.same in
           let all : length new ≡ length (entries ++ entries_of job added) = ap length is in
           omega (arith, all, length-append entries (entries_of job added), length-entries_of job added));
       limit = holds.limit;
@@ -175,7 +175,7 @@ too_many c entries job piece holds belongs adjoins room =
     let fit = fits c entries job piece holds belongs adjoins in
     let added = starts piece.rule piece.since piece.upto in
     let more : c.limit < length (held c) + length added = leb-false (length (held c) + length added) c.limit room in
-    let same : length entries ≡ length (held c) = SameEntries-length entries (held c) holds.same in
+    let same : length entries ≡ length (held c) = SameStarts-length entries (held c) holds.same in
     let few = holds.few in
     elim (cases_lt piece.upto piece.since) [
       | inl backward ↦ (let none : length added ≡ 0 = ap length (no_starts piece.rule piece.since piece.upto (omega arith)) in
@@ -223,9 +223,9 @@ pub agenda_held :
 unfolding agenda
 agenda_held c entries sorted holds complete moved up =
     let both = and_parts (list_all (λ upto. upto == c.span.upto) c.covered) (list_all (λ has_sent_last. has_sent_last) c.ended) complete in
-    let all : SameEntries entries (agenda c.rules c.span) = λ weight. holds.same weight
+    let all : SameStarts entries (agenda c.rules c.span) = λ weight. holds.same weight
     ∙ held-complete weight 0 c.span c.rules c.covered holds.jobs both.0 in
-    Ascends-unique sorted (agenda c.rules c.span) (SameEntries-permutation entries sorted (agenda c.rules c.span) moved all)
+    Ascends-unique sorted (agenda c.rules c.span) (SameStarts-permutation entries sorted (agenda c.rules c.span) moved all)
     (Ascends-sorted sorted up) (Ascends-agenda c.rules c.span)
 
 -- the same for the value that contracts see, which is that of the fields
@@ -249,7 +249,7 @@ pub room_is :
     Holds view entries → found ≡ starts piece.rule piece.since piece.upto → many ≡ length entries →
     nat_le (length found) (view.limit - many) ≡ has_room c (note.Part job piece)
 room_is view c entries job piece found many e holds all is =
-    let same : length entries ≡ length (held view) = SameEntries-length entries (held view) holds.same in
+    let same : length entries ≡ length (held view) = SameStarts-length entries (held view) holds.same in
     let few = holds.few in
     let long : length found ≡ length (starts piece.rule piece.since piece.upto) = ap length all in
     let by_view : nat_le (length found) (view.limit - many) ≡ has_room view (note.Part job piece) =

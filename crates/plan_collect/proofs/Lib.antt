@@ -1,9 +1,9 @@
 pub mod AgendaOrder
-pub mod EntriesLemmas
+pub mod StartsLemmas
 pub mod HeldLemmas
 pub mod HoldsLemmas
 pub mod JobsLemmas
 pub mod PiecesLemmas
 pub mod MergingLemmas
 pub mod TilingLemmas
-pub mod EntryLemmas
+pub mod StartLemmas

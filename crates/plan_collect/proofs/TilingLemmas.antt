@@ -18,7 +18,7 @@ use Rattle.plan_collect.specs.Span.{Bounds}
 use Rattle.plan_collect.specs.Limits.{most_planners, most_starts}
 use Rattle.plan_collect.specs.Collecting.{Collected, begun, held_from, has_ended, after}
 use Rattle.plan_collect.specs.Tiling.{pieces_within, pieces, parts_from, tiling, starts_in, cut_after, sent_by}
-use Rattle.plan_collect.specs.TilingLaws.{Ends, piece_ends, piece_of_nothing, pieces_last, pieces_more, pieces_one, parts_none, parts_own, parts_other, cut_here, cut_later, cut_none}
+use Rattle.plan_collect.specs.TilingLaws.{EndsPiece, piece_ends, piece_of_nothing, pieces_last, pieces_more, pieces_one, parts_none, parts_own, parts_other, cut_here, cut_later, cut_none}
 use Rattle.plan_collect.specs.Merging.{AcceptsMergings}
 use Rattle.plan_collect.proofs.MergingLemmas.{Fits, Ready, Over, Sends, IsSound, AllOf, merged}
 
@@ -71,7 +71,7 @@ ready_pieces zero k job rule c from rest here reached part few ready =
     (subst (λ upto. Ready k c (note.Part job (record { rule = rule; since = from; upto = upto }) ∷ rest)) (sym end) all)
 ready_pieces (suc seconds) k job rule c from rest here reached part few ready =
     let end = piece_end rule from c.span.upto most_starts in
-    let ends : Ends from c.span.upto end = piece_ends rule from c.span.upto most_starts (omega arith) part in
+    let ends : EndsPiece from c.span.upto end = piece_ends rule from c.span.upto most_starts (omega arith) part in
     let fits : Fits k c (note.Part job (piece_of rule from c.span.upto most_starts)) =
     fits_next k job rule c from end here reached ends.from ends.to in
     elim (cases_lt end c.span.upto) [

@@ -122,12 +122,12 @@ weigh weight [] = 0
 weigh weight (entry ∷ entries) = weight entry + weigh weight entries
 
 -- two lists have the same entries, each as often: with any weights of entries, they have the same sum
-abbrev pub SameEntries : List (ℕ × ℕ) → List (ℕ × ℕ) → Type 0
-SameEntries xs ys = (weight : ℕ × ℕ → ℕ) → weigh weight xs ≡ weigh weight ys
+abbrev pub SameStarts : List (ℕ × ℕ) → List (ℕ × ℕ) → Type 0
+SameStarts xs ys = (weight : ℕ × ℕ → ℕ) → weigh weight xs ≡ weigh weight ys
 
 -- these entries, in any order, are what a collector holds, and its parts fit together
 pub record Holds (c : Collected) (entries : List (ℕ × ℕ)) : Type 0 where
-  pub same : SameEntries entries (held c)
+  pub same : SameStarts entries (held c)
   pub few : length entries ≤ c.limit
   pub limit : is_limit c.limit ≡ true
   pub size : is_size (length c.ended) ≡ true

@@ -13,4 +13,4 @@ pub mod TilingLaws
 pub mod Merging
 pub mod PlanFault
 pub mod Causes
-pub mod Entry
+pub mod Start

@@ -44,7 +44,7 @@ in_range test (suc n) a end is i lt =
     ]
 
 -- a piece ends within its part, and not before it starts; in a part that isn't empty it ends later than it starts
-pub record Ends (since upto end : ℕ) : Type 0 where
+pub record EndsPiece (since upto end : ℕ) : Type 0 where
   pub from : since ≤ end
   pub to : end ≤ upto
   pub moves : since < upto → since < end
@@ -52,12 +52,12 @@ pub record Ends (since upto end : ℕ) : Type 0 where
 ends_at :
     (xs : List ℕ) (since upto most : ℕ) → 1 ≤ most → since ≤ upto →
     ((i : ℕ) → i < length xs → IsWithin since upto (get_or xs i 0)) → most < length xs →
-    Ends since upto (get_or xs (most - 1) 0 + 1)
+    EndsPiece since upto (get_or xs (most - 1) 0 + 1)
 ends_at xs since upto most some part within more =
     let last : IsWithin since upto (get_or xs (most - 1) 0) = within (most - 1) (omega arith) in
     record { from = omega (arith, last.from); to = omega (arith, last.to); moves = λ before. omega (arith, last.from) }
 
-pub piece_ends : (rule : Rule) (since upto most : ℕ) → 1 ≤ most → since ≤ upto → Ends since upto (piece_end rule since upto most)
+pub piece_ends : (rule : Rule) (since upto most : ℕ) → 1 ≤ most → since ≤ upto → EndsPiece since upto (piece_end rule since upto most)
 unfolding passing
 piece_ends rule since upto most some part =
     let all = starts rule since upto in
@@ -115,7 +115,7 @@ pieces_enough (suc m) zero rule since upto part few enough =
     pieces_last m rule since upto (le-ltb _ _ (omega arith)) ∙ sym (pieces_one rule since upto)
 pieces_enough (suc m) (suc n) rule since upto part few enough =
     let end = piece_end rule since upto most_starts in
-    let ends : Ends since upto end = piece_ends rule since upto most_starts (omega arith) part in
+    let ends : EndsPiece since upto end = piece_ends rule since upto most_starts (omega arith) part in
     elim (cases_lt end upto) [
       | inl more ↦ (
           let go_on : nat_lt end upto ≡ true = lt-ltb _ _ more in
@@ -143,7 +143,7 @@ pub pieces_go_on :
     pieces rule since upto ≡ piece_of rule since upto most_starts ∷ pieces rule (piece_end rule since upto most_starts) upto
 pieces_go_on rule since upto part more =
     let end = piece_end rule since upto most_starts in
-    let ends : Ends since upto end = piece_ends rule since upto most_starts (omega arith) part in
+    let ends : EndsPiece since upto end = piece_ends rule since upto most_starts (omega arith) part in
     let from = ends.from in
     pieces_enough (upto - since) (suc (upto - since)) rule since upto part (omega arith) (omega arith)
     ∙ pieces_more (upto - since) rule since upto (lt-ltb _ _ more)

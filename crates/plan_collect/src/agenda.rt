@@ -3,8 +3,8 @@
 ghost use Rattle.std.specs.Prelude.{◌≡◌, ◌≤◌, ◌↔◌, [], length, slice_get, IsTrue};
 ghost use Rattle.plan_collect.specs.Agenda.{IsInYears};
 
-use crate::entry::Entry;
 use crate::span::Span;
+use crate::start::Start;
 use plan_sets::END_SECOND;
 use std::marker::Model;
 
@@ -12,7 +12,7 @@ use std::marker::Model;
 #[derive(Debug, Drop)]
 pub struct Agenda {
     span: Span,
-    entries: Vec<Entry>,
+    entries: Vec<Start>,
 }
 
 impl Model for Agenda {
@@ -29,7 +29,7 @@ impl Model for Agenda {
 
 impl Agenda {
     // Makes the agenda of these entries, over a span.
-    pub(crate) fn new(span: Span, entries: Vec<Entry>) -> Agenda
+    pub(crate) fn new(span: Span, entries: Vec<Start>) -> Agenda
         requires { IsInYears entries.items }
         ensures { result ≡ record { span = span; entries = entries.items } }
     {
@@ -77,7 +77,7 @@ impl Agenda {
     }
 
     /// Returns the entries, in order.
-    pub fn entries(&self) -> &[Entry]
+    pub fn entries(&self) -> &[Start]
         ensures entries { result.now ≡ self.now.entries }
         ensures years { IsInYears self.now.entries }
     {

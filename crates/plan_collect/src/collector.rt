@@ -6,16 +6,16 @@ ghost use Rattle.std.specs.List.{list_all};
 ghost use Rattle.plan_sets.specs.Limits.{end_second};
 ghost use Rattle.plan_next.specs.Starts.{starts};
 ghost use Rattle.plan_rules.specs.Limits.{most_jobs};
-ghost use Rattle.plan_collect.specs.Entry.{job_numbers};
+ghost use Rattle.plan_collect.specs.Start.{job_numbers};
 ghost use Rattle.plan_collect.specs.Agenda.{agenda, rules_of, IsOfJobs};
 ghost use Rattle.plan_collect.specs.Limits.{is_limit, is_size};
 ghost use Rattle.plan_collect.specs.Collecting.{begun, is_rule_of, belongs, has_ended, adjoins, has_room, refusal, AddsNothing, Answers, after, finished, is_complete};
 
 use crate::agenda::Agenda;
-use crate::entry::Entry;
 use crate::note::Note;
-use crate::sorting::sort_entries;
+use crate::sorting::sort_starts;
 use crate::span::Span;
+use crate::start::Start;
 use plan_match::Rule;
 use plan_next::Piece;
 use plan_rules::Jobs;
@@ -117,7 +117,7 @@ pub struct Collector {
     limit: u64,
     covered: Vec<u64>,
     ended: Vec<bool>,
-    entries: Vec<Entry>,
+    entries: Vec<Start>,
 }
 
 impl Model for Collector {
@@ -242,7 +242,7 @@ impl Collector {
         }
         let span = self.span;
         let mut entries = self.entries;
-        sort_entries(&mut entries);
+        sort_starts(&mut entries);
         Ok(Agenda::new(span, entries))
     }
 
@@ -370,7 +370,7 @@ fn rules_in(alloc: Global, jobs: &Jobs) -> Result<Vec<Arc<Rule>>, AllocError>
 }
 
 // Appends an entry for each start of a job. Memory is allocated first; if that fails, nothing is appended.
-fn append(entries: &mut Vec<Entry>, job: u32, starts: &[u64]) -> Result<(), AllocError>
+fn append(entries: &mut Vec<Start>, job: u32, starts: &[u64]) -> Result<(), AllocError>
     requires job { job < job_numbers }
     requires years { IsTrue (list_all (λ second. nat_lt second end_second) starts.now) }
     ensures all { OnOk result (entries.new.items ≡ entries.old.items ++ map (λ second. (second, job)) starts.now) }
@@ -379,7 +379,7 @@ fn append(entries: &mut Vec<Entry>, job: u32, starts: &[u64]) -> Result<(), Allo
 {
     entries.reserve(starts.len())?;
     for start in starts {
-        let Ok(()) = entries.push(Entry::new(*start, job)) else {
+        let Ok(()) = entries.push(Start::new(*start, job)) else {
             unreachable!()
         };
     }

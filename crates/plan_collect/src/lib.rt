@@ -7,19 +7,19 @@
 
 mod agenda;
 mod collector;
-mod entry;
 mod merging;
 mod note;
 mod plan_fault;
 mod sizes;
 mod sorting;
 mod span;
+mod start;
 
 pub use agenda::Agenda;
 pub use collector::{CollectFault, Collector, CollectorFault, MOST_ENTRIES, MOST_PLANNERS};
-pub use entry::Entry;
 pub use merging::accepts_every_merging;
 pub use note::{Note, PIECE_STARTS};
 pub use plan_fault::PlanFault;
 pub use sizes::Sizes;
 pub use span::{Span, SpanFault};
+pub use start::Start;

@@ -15,7 +15,7 @@ use Rattle.plan_grammar.specs.declared.field.Field.{Field}
 use Rattle.plan_grammar.specs.declared.field.Field.TheVariants.{Minute, Hour, MonthDay, Month, WeekDay}
 use Rattle.plan_grammar.specs.declared.element.Side.{Side}
 use Rattle.plan_grammar.specs.declared.element.Side.TheVariants.{Star, Value, Between}
-use Rattle.plan_texts.specs.Text.{words, begins_with, cut_at, number_of, pieces}
+use Rattle.plan_texts.specs.Text.{words, begins_with, cut_at, decimal_number, pieces}
 use Rattle.plan_texts.specs.Steps.{◌>>=◌, each}
 use Rattle.plan_grammar.specs.Readings.{Reading, Gives}
 use Rattle.plan_grammar.specs.Cron.{part_of, named_value, value_reading, step_reading, side_reading, item_of, item_reading, items_reading, field_reading, five_fields, at_reading, rule_reading, cron_reading, at_word, found_reading}
@@ -53,7 +53,7 @@ or_fault (Some x) fault other = tt
 
 -- a number
 pub number : (part : ℕ) (text : List ℕ) → IsTextFault (number_reading part text)
-number part text = choice (eqb (length text) 0) _ _ tt (or_fault (number_of text) _ tt)
+number part text = choice (eqb (length text) 0) _ _ tt (or_fault (decimal_number text) _ tt)
 
 span :
     (value : List ℕ → Reading ℕ) → ((t : List ℕ) → IsTextFault (value t)) → (text : List ℕ) (cut : Option (List ℕ × List ℕ)) →
@@ -94,7 +94,7 @@ unfolding value_reading
 value field text =
     choice (eqb (length text) 0) _ _ tt
     (choice (begins_with is_ascii_alphabetic text) _ _
-    (or_fault (named_value field text) (record { part = part_of field; cause = BadName }) tt) (or_fault (number_of text) _ tt))
+    (or_fault (named_value field text) (record { part = part_of field; cause = BadName }) tt) (or_fault (decimal_number text) _ tt))
 
 step : (field : Field) (text : List ℕ) → IsTextFault (step_reading field text)
 unfolding step_reading

@@ -14,7 +14,7 @@ use Rattle.plan_grammar.specs.declared.element.Side.{Side}
 use Rattle.plan_grammar.specs.declared.element.Side.TheVariants.{Star, Value, Between}
 use Rattle.plan_match.specs.declared.rule.Rule.{Rule}
 use Rattle.plan_match.specs.declared.rule.Rule.TheVariants.{Cron, Never}
-use Rattle.plan_texts.specs.Text.{words, pieces, begins_with, cut_at, number_of}
+use Rattle.plan_texts.specs.Text.{words, pieces, begins_with, cut_at, decimal_number}
 use Rattle.plan_texts.specs.Steps.{◌>>=◌, each}
 use Rattle.plan_grammar.specs.Readings.{Reading, refused}
 use Rattle.plan_grammar.specs.Elements.{number_reading, side_by, cut_item_by, values_by}
@@ -63,7 +63,7 @@ value_reading field text =
     if length text == 0 then refused (part_of field) WrongParts
     else (if begins_with is_ascii_alphabetic text
     then ok_or (named_value field text) (record { part = part_of field; cause = BadName })
-    else ok_or (number_of text) (record { part = part_of field; cause = BadNumber }))
+    else ok_or (decimal_number text) (record { part = part_of field; cause = BadNumber }))
 
 -- a step, the number after `/` (crontab(5), steps)
 unfoldable pub step_reading : Field → List ℕ → Reading ℕ

@@ -8,7 +8,7 @@ use Rattle.plan_sets.specs.Values.{Values as SetOfValues}
 use Rattle.plan_grammar.specs.declared.fault.RuleCause.TheVariants.{WrongParts, BadNumber, Values}
 use Rattle.plan_grammar.specs.declared.element.Side.{Side}
 use Rattle.plan_grammar.specs.declared.element.Side.TheVariants.{Star, Value, Between}
-use Rattle.plan_texts.specs.Text.{cut_at, number_of}
+use Rattle.plan_texts.specs.Text.{cut_at, decimal_number}
 use Rattle.plan_texts.specs.Steps.{◌>>=◌}
 use Rattle.plan_grammar.specs.Readings.{Reading, refused}
 
@@ -16,7 +16,7 @@ use Rattle.plan_grammar.specs.Readings.{Reading, refused}
 abbrev pub number_reading : ℕ → List ℕ → Reading ℕ
 number_reading part text =
     if length text == 0 then refused part WrongParts
-    else ok_or (number_of text) (record { part = part; cause = BadNumber })
+    else ok_or (decimal_number text) (record { part = part; cause = BadNumber })
 
 -- one value, or the two values around the range mark: an error in the first comes before one in the second (agenda)
 abbrev pub span_by : (List ℕ → Reading ℕ) → List ℕ → Option (List ℕ × List ℕ) → Reading Side

@@ -8,40 +8,40 @@ use Rattle.std.proofs.lemmas.List.{append-nil, length-map, get_or-set_same, get_
 use Rattle.std.proofs.lemmas.Option.{slice_get_within}
 use Rattle.std.proofs.Math.Seq.{drop-append_seam}
 use Rattle.plan_mailbox.specs.declared.inlet.Inlet.{Inlet}
-use Rattle.plan_mailbox.specs.Ends.{Receiving, Accounts, IsTake, after_take, inlet_of, is_settled_at, known_at, taken_at}
+use Rattle.plan_mailbox.specs.Ends.{ReceivingEnd, Accounts, IsTake, after_take, inlet_of, is_settled_at, known_at, taken_at}
 use Rattle.plan_mailbox.specs.History.{IsPrefix}
 use Rattle.plan_mailbox.proofs.Places.{slice_get_before}
 
 module _ {M : Type 0} where
-  pub known-left : (b : Receiving M) (s : ℕ) (sent : List M) → Accounts b s sent → known_at b s ≡ drop (length (taken_at b s)) sent
+  pub known-left : (b : ReceivingEnd M) (s : ℕ) (sent : List M) → Accounts b s sent → known_at b s ≡ drop (length (taken_at b s)) sent
   known-left b s sent e = sym (drop-append_seam (taken_at b s) (known_at b s)) ∙ ap (drop (length (taken_at b s))) e
 
-  pub taken-prefix : (b : Receiving M) (s : ℕ) (sent : List M) → Accounts b s sent → IsPrefix (taken_at b s) sent
+  pub taken-prefix : (b : ReceivingEnd M) (s : ℕ) (sent : List M) → Accounts b s sent → IsPrefix (taken_at b s) sent
   taken-prefix b s sent e = sym e ∙ ap (λ rest. taken_at b s ++ rest) (known-left b s sent e)
 
   pub taken-in_order :
-      (b : Receiving M) (s : ℕ) (sent : List M) → Accounts b s sent → (k : ℕ) (m : M) → slice_get (taken_at b s) k ≡ Some m →
+      (b : ReceivingEnd M) (s : ℕ) (sent : List M) → Accounts b s sent → (k : ℕ) (m : M) → slice_get (taken_at b s) k ≡ Some m →
       slice_get sent k ≡ Some m
   taken-in_order b s sent e k m at_k =
       ap (λ xs. slice_get xs k) (sym e) ∙ slice_get_before (taken_at b s) (known_at b s) k (slice_get_within (taken_at b s) k m at_k) ∙ at_k
 
-  pub taken-all : (b : Receiving M) (s : ℕ) (sent : List M) → Accounts b s sent → known_at b s ≡ [] → taken_at b s ≡ sent
+  pub taken-all : (b : ReceivingEnd M) (s : ℕ) (sent : List M) → Accounts b s sent → known_at b s ≡ [] → taken_at b s ≡ sent
   taken-all b s sent e none = sym (append-nil (taken_at b s)) ∙ ap (λ rest. taken_at b s ++ rest) (sym none) ∙ e
 
   -- what a take leaves as it was
   taken-other :
-      (before : Receiving M) (t s : ℕ) (m : M) (rest : List M) → (s ≡ t → ⊥) →
+      (before : ReceivingEnd M) (t s : ℕ) (m : M) (rest : List M) → (s ≡ t → ⊥) →
       taken_at (after_take before t m rest) s ≡ taken_at before s
   taken-other before t s m rest other = get_or-set_other before.taken t s (taken_at before t ++ m ∷ []) [] other
 
   known-other :
-      (before : Receiving M) (t s : ℕ) (m : M) (rest : List M) → (s ≡ t → ⊥) →
+      (before : ReceivingEnd M) (t s : ℕ) (m : M) (rest : List M) → (s ≡ t → ⊥) →
       known_at (after_take before t m rest) s ≡ known_at before s
   known-other before t s m rest other = get_or-set_other before.known t s rest [] other
 
   -- a take from another sender
   stays-other :
-      (b a : Receiving M) (t s : ℕ) (m : M) → (s ≡ t → ⊥) → IsTake b t m a → (sent : List M) → Accounts b s sent → Accounts a s sent
+      (b a : ReceivingEnd M) (t s : ℕ) (m : M) → (s ≡ t → ⊥) → IsTake b t m a → (sent : List M) → Accounts b s sent → Accounts a s sent
   stays-other b a t s m other take sent e =
       ap (λ x. taken_at x s ++ known_at x s) take.taken ∙ ap (λ xs. xs ++ known_at (after_take b t m (known_at a t)) s)
       (taken-other b t s m (known_at a t) other)
@@ -49,7 +49,7 @@ module _ {M : Type 0} where
 
   -- a take from the sender itself
   stays-same :
-      (b a : Receiving M) (t : ℕ) (m : M) → t < length b.taken → IsTake b t m a → (sent : List M) → is_settled_at b t ≡ true →
+      (b a : ReceivingEnd M) (t : ℕ) (m : M) → t < length b.taken → IsTake b t m a → (sent : List M) → is_settled_at b t ≡ true →
       Accounts b t sent → Accounts a t sent
   stays-same b a t m within take sent settled e =
       ap (λ xs. xs ++ known_at a t) (ap (λ x. taken_at x t) take.taken ∙ get_or-set_same b.taken t (taken_at b t ++ m ∷ []) [] within)

@@ -7,7 +7,7 @@ use Rattle.std.proofs.lemmas.List.{length-map, length-replicate}
 use Rattle.std.proofs.lemmas.Bool.{cond-true, cond-false, lt-ltb, ne_eqb, or_parts, not-true}
 use Rattle.std.proofs.lemmas.List.Elements.{All-head, All-tail}
 use Rattle.plan_mailbox.specs.declared.replies.Reply.TheVariants.{Sent, Full, Closed, NoSender, Took}
-use Rattle.plan_mailbox.specs.Mailbox.{Mailbox, senders_of, waiting_at, is_shut_at, send_reply, next_of, take_reply, IsNew, new_mailbox}
+use Rattle.plan_mailbox.specs.Mailbox.{Mailbox, senders_of, waiting_at, is_closed_at, send_reply, next_of, take_reply, IsNew, new_mailbox}
 use Rattle.plan_mailbox.specs.Places.{waiting_in}
 use Rattle.plan_mailbox.specs.Turn.{in_turn, line_of}
 use Rattle.plan_mailbox.specs.Reply.{taking}
@@ -15,30 +15,30 @@ use Rattle.plan_mailbox.proofs.Lines.{next-found, next-none}
 
 -- a message is sent if nothing rejects it
 pub send_reply-sent :
-    {M : Type 0} (b : Mailbox M) (s : ℕ) (m : M) → s < senders_of b → is_shut_at b s ≡ false →
+    {M : Type 0} (b : Mailbox M) (s : ℕ) (m : M) → s < senders_of b → is_closed_at b s ≡ false →
     (length (waiting_at b s) ≡ b.room → ⊥) → send_reply b s m ≡ Sent
 send_reply-sent b s m known open' fits =
     let room = cond (eqb (length (waiting_at b s)) b.room) (Full m) Sent in
-    cond-true (ltb s (senders_of b)) (cond (is_shut_at b s) (Closed m) room) (NoSender m) (lt-ltb s (senders_of b) known)
-    ∙ cond-false (is_shut_at b s) (Closed m) room open' ∙ cond-false (eqb (length (waiting_at b s)) b.room) (Full m) Sent
+    cond-true (ltb s (senders_of b)) (cond (is_closed_at b s) (Closed m) room) (NoSender m) (lt-ltb s (senders_of b) known)
+    ∙ cond-false (is_closed_at b s) (Closed m) room open' ∙ cond-false (eqb (length (waiting_at b s)) b.room) (Full m) Sent
     (ne_eqb (length (waiting_at b s)) b.room fits)
 
 -- if no mark is set, all marks are false
-pub none_marked : (marks : List Bool) → list_any (λ x. x) marks ≡ false → marks ≡ replicate (length marks) false
-none_marked [] none = refl
-none_marked (x ∷ marks) none =
+pub none_closed : (marks : List Bool) → list_any (λ x. x) marks ≡ false → marks ≡ replicate (length marks) false
+none_closed [] none = refl
+none_closed (x ∷ marks) none =
     let parts = or_parts x (list_any (λ y. y) marks) none in
-    ap (λ y. y ∷ marks) parts.0 ∙ ap (λ ys. false ∷ ys) (none_marked marks parts.1)
+    ap (λ y. y ∷ marks) parts.0 ∙ ap (λ ys. false ∷ ys) (none_closed marks parts.1)
 
-pub none_marked-replicate : (n : ℕ) → list_any (λ x. x) (replicate n false) ≡ false
-none_marked-replicate zero = refl
-none_marked-replicate (suc n) = none_marked-replicate n
+pub none_closed-replicate : (n : ℕ) → list_any (λ x. x) (replicate n false) ≡ false
+none_closed-replicate zero = refl
+none_closed-replicate (suc n) = none_closed-replicate n
 
-pub none_marked-pass : (marks : List Bool) → AllPass not marks → list_any (λ x. x) marks ≡ false
-none_marked-pass [] pass = refl
-none_marked-pass (x ∷ marks) pass =
+pub none_closed-pass : (marks : List Bool) → AllPass not marks → list_any (λ x. x) marks ≡ false
+none_closed-pass [] pass = refl
+none_closed-pass (x ∷ marks) pass =
     let here = not-true x (All-head (λ y. not y ≡ true) x marks pass) in
-    ap (λ y. y || list_any (λ z. z) marks) here ∙ none_marked-pass marks (All-tail (λ y. not y ≡ true) x marks pass)
+    ap (λ y. y || list_any (λ z. z) marks) here ∙ none_closed-pass marks (All-tail (λ y. not y ≡ true) x marks pass)
 
 -- the next sender in line, by a search through the lanes
 pub next-found-in :
@@ -61,11 +61,11 @@ next-none-in waiting lanes seen turn same e =
 
 -- if no message waits, the reply depends on whether all senders are closed
 pub take_reply-none :
-    {M : Type 0} (b : Mailbox M) (all : Bool) → next_of b ≡ None → list_all (λ x. x) b.shut ≡ all → take_reply b ≡ taking None all
-take_reply-none b all none shut = ap (λ next. taking next (list_all (λ x. x) b.shut)) none ∙ ap (taking None) shut
+    {M : Type 0} (b : Mailbox M) (all : Bool) → next_of b ≡ None → list_all (λ x. x) b.closed ≡ all → take_reply b ≡ taking None all
+take_reply-none b all none closed = ap (λ next. taking next (list_all (λ x. x) b.closed)) none ∙ ap (taking None) closed
 
 pub take_reply-found : {M : Type 0} (b : Mailbox M) (s : ℕ) (m : M) → next_of b ≡ Some (s, m) → take_reply b ≡ Took s m
-take_reply-found b s m found = ap (λ next. taking next (list_all (λ x. x) b.shut)) found
+take_reply-found b s m found = ap (λ next. taking next (list_all (λ x. x) b.closed)) found
 
 -- whether a mark is set, for marks that a function gives
 pub list_any-map : {A : Type 0} (f : A → Bool) (xs : List A) → list_any (λ x. x) (map f xs) ≡ list_any f xs
@@ -74,13 +74,13 @@ list_any-map f (x ∷ xs) = ap (λ b. f x || b) (list_any-map f xs)
 
 -- a mailbox with the parts of a new one
 pub IsNew-from :
-    {M : Type 0} (b : Mailbox M) → b.waiting ≡ replicate (senders_of b) [] → b.shut ≡ replicate (senders_of b) false → b.turn ≡ 0 →
+    {M : Type 0} (b : Mailbox M) → b.waiting ≡ replicate (senders_of b) [] → b.closed ≡ replicate (senders_of b) false → b.turn ≡ 0 →
     b.has_sent ≡ false → IsNew b
-IsNew-from b waiting shut turn sent =
+IsNew-from b waiting closed turn sent =
     let n = senders_of b in
-    ap (λ ws. record b { waiting = ws }) waiting ∙ ap (λ marks. record b { waiting = replicate n []; shut = marks }) shut
-    ∙ ap (λ t. record b { waiting = replicate n []; shut = replicate n false; turn = t }) turn
-    ∙ ap (λ s. record b { waiting = replicate n []; shut = replicate n false; turn = 0; has_sent = s }) sent
+    ap (λ ws. record b { waiting = ws }) waiting ∙ ap (λ marks. record b { waiting = replicate n []; closed = marks }) closed
+    ∙ ap (λ t. record b { waiting = replicate n []; closed = replicate n false; turn = t }) turn
+    ∙ ap (λ s. record b { waiting = replicate n []; closed = replicate n false; turn = 0; has_sent = s }) sent
 
 -- a new mailbox is new
 pub IsNew-at : {M : Type 0} (b : Mailbox M) (senders room : ℕ) → b ≡ new_mailbox senders room → IsNew b

@@ -12,7 +12,7 @@ use Rattle.std.proofs.lemmas.List.Sums.{sum_by-append, sum_by-cons}
 use Rattle.std.proofs.lemmas.List.Elements.{All-append, All-cons, All-nil}
 use Rattle.std.proofs.lemmas.List.Prefix.{front_rest}
 use Rattle.std.proofs.lemmas.Bool.{cases_lt, cases_Bool, or_left, or_parts, eq-eqb, cond_both}
-use Rattle.plan_mailbox.specs.History.{Event, Sends, Takes, Shuts, sent_by, taken_by, shuts, is_send, giver_of, sender_of, sent_of, taken_of, waiting_of, was_shut, turn_of, turn_after, IsPrefix, IsLawful}
+use Rattle.plan_mailbox.specs.History.{Event, Sends, Takes, Closes, sent_by, taken_by, closes, is_send, giver_of, sender_of, sent_of, taken_of, waiting_of, was_closed, turn_of, turn_after, IsPrefix, IsLawful}
 use Rattle.plan_mailbox.proofs.Places.{last_or_push}
 
 -- a list that is mapped and flattened, with one more element
@@ -24,8 +24,8 @@ or_false true = refl
 or_false false = refl
 
 -- what a history with one more event says about a sender
-pub was_shut-push : {M : Type 0} (h : List (Event M)) (e : Event M) (s : ℕ) → was_shut (h ++ e ∷ []) s ≡ (was_shut h s || shuts s e)
-was_shut-push h e s = list_any-append (shuts s) h (e ∷ []) ∙ ap (λ b. was_shut h s || b) (or_false (shuts s e))
+pub was_closed-push : {M : Type 0} (h : List (Event M)) (e : Event M) (s : ℕ) → was_closed (h ++ e ∷ []) s ≡ (was_closed h s || closes s e)
+was_closed-push h e s = list_any-append (closes s) h (e ∷ []) ∙ ap (λ b. was_closed h s || b) (or_false (closes s e))
 
 pub any_send-push : {M : Type 0} (h : List (Event M)) (e : Event M) → list_any is_send (h ++ e ∷ []) ≡ (list_any is_send h || is_send e)
 any_send-push h e = list_any-append is_send h (e ∷ []) ∙ ap (λ b. list_any is_send h || b) (or_false (is_send e))
@@ -78,25 +78,25 @@ Leaves-takes h s m rest w p = Leaves-push h (Takes s m) s _
     (append-nil (sent_of h s) ∙ p ∙ ap (λ r. taken_of h s ++ r) w ∙ sym (append_assoc (taken_of h s) (m ∷ []) rest)
     ∙ ap (λ b. taken_of h s ++ cond b (m ∷ []) [] ++ rest) (sym (eq-eqb s s refl)))
 
-pub Leaves-shuts :
+pub Leaves-closes :
     {M : Type 0} (h : List (Event M)) (t s : ℕ) → IsPrefix (taken_of h s) (sent_of h s) →
-    Leaves (h ++ Shuts t ∷ []) s (waiting_of h s)
-Leaves-shuts h t s p = Leaves-push h (Shuts t) s _
+    Leaves (h ++ Closes t ∷ []) s (waiting_of h s)
+Leaves-closes h t s p = Leaves-push h (Closes t) s _
     (append-nil (sent_of h s) ∙ p ∙ ap (λ r. r ++ waiting_of h s) (sym (append-nil (taken_of h s))))
 
 -- a sender that was not closed was closed zero times
-count_of_none : {M : Type 0} (h : List (Event M)) (s : ℕ) → was_shut h s ≡ false → count_by (shuts s) h ≡ 0
+count_of_none : {M : Type 0} (h : List (Event M)) (s : ℕ) → was_closed h s ≡ false → count_by (closes s) h ≡ 0
 count_of_none [] s none = refl
 count_of_none (e ∷ h) s none =
-    let parts = or_parts (shuts s e) (was_shut h s) none in
-    sum_by-cons (λ x. cond (shuts s x) 1 0) e h ∙ ap (λ b. cond b 1 0 + count_by (shuts s) h) parts.0 ∙ zero-add
-    (count_by (shuts s) h) ∙ count_of_none h s parts.1
+    let parts = or_parts (closes s e) (was_closed h s) none in
+    sum_by-cons (λ x. cond (closes s x) 1 0) e h ∙ ap (λ b. cond b 1 0 + count_by (closes s) h) parts.0 ∙ zero-add
+    (count_by (closes s) h) ∙ count_of_none h s parts.1
 
 count_by-push :
     {M : Type 0} (h : List (Event M)) (e : Event M) (s : ℕ) →
-    count_by (shuts s) (h ++ e ∷ []) ≡ count_by (shuts s) h + cond (shuts s e) 1 0
-count_by-push h e s = sum_by-append (λ x. cond (shuts s x) 1 0) h (e ∷ []) ∙ ap (λ n. count_by (shuts s) h + n)
-    (sum_by-cons (λ x. cond (shuts s x) 1 0) e [] ∙ add-zero (cond (shuts s e) 1 0))
+    count_by (closes s) (h ++ e ∷ []) ≡ count_by (closes s) h + cond (closes s e) 1 0
+count_by-push h e s = sum_by-append (λ x. cond (closes s x) 1 0) h (e ∷ []) ∙ ap (λ n. count_by (closes s) h + n)
+    (sum_by-cons (λ x. cond (closes s x) 1 0) e [] ∙ add-zero (cond (closes s e) 1 0))
 
 -- the history with one more event, at any time, is the history without it at that time, or the whole
 moment_before :
@@ -111,24 +111,24 @@ moment_before h e P before whole k =
 pub record IsAllowed {M : Type 0} (senders room : ℕ) (h : List (Event M)) (e : Event M) : Type 0 where
   pub in_order : (s : ℕ) → IsPrefix (taken_of (h ++ e ∷ []) s) (sent_of (h ++ e ∷ []) s)
   pub roomy : (s : ℕ) → length (waiting_of (h ++ e ∷ []) s) ≤ room
-  pub shut_once : (s : ℕ) → was_shut h s ≡ true → shuts s e ≡ false
-  pub closed : (s : ℕ) → was_shut h s ≡ true → sent_by s e ≡ []
+  pub closed_once : (s : ℕ) → was_closed h s ≡ true → closes s e ≡ false
+  pub closed : (s : ℕ) → was_closed h s ≡ true → sent_by s e ≡ []
   pub known : sender_of e < senders
 
 pub IsLawful-nil : {M : Type 0} (senders room : ℕ) → IsLawful {M = M} senders room []
 IsLawful-nil senders room = record {
   in_order = λ k s. simp take-nil;
   roomy = λ k s. simp take-nil (omega arith);
-  shut_once = λ s. omega arith;
-  closed = λ k s shut. simp drop-nil;
+  closed_once = λ s. omega arith;
+  closed = λ k s closed. simp drop-nil;
   known = All-nil (λ x. sender_of x < senders);
 }
 
 -- a sender that was closed at some time was closed
-was_shut-take : {M : Type 0} (h : List (Event M)) (k s : ℕ) → was_shut (take k h) s ≡ true → was_shut h s ≡ true
-was_shut-take h k s shut =
-    ap (λ p. was_shut p s) (sym (take-append-drop k h)) ∙ list_any-append (shuts s) (take k h) (drop k h) ∙ or_left
-    (was_shut (take k h) s) (was_shut (drop k h) s) shut
+was_closed-take : {M : Type 0} (h : List (Event M)) (k s : ℕ) → was_closed (take k h) s ≡ true → was_closed h s ≡ true
+was_closed-take h k s closed =
+    ap (λ p. was_closed p s) (sym (take-append-drop k h)) ∙ list_any-append (closes s) (take k h) (drop k h) ∙ or_left
+    (was_closed (take k h) s) (was_closed (drop k h) s) closed
 
 pub IsLawful-push :
     {M : Type 0} (senders room : ℕ) (h : List (Event M)) (e : Event M) → IsLawful senders room h → IsAllowed senders room h e →
@@ -136,19 +136,19 @@ pub IsLawful-push :
 IsLawful-push senders room h e l a = record {
   in_order = λ k s. moment_before h e (λ p. IsPrefix (taken_of p s) (sent_of p s)) (λ j. l.in_order j s) (a.in_order s) k;
   roomy = λ k s. moment_before h e (λ p. length (waiting_of p s) ≤ room) (λ j. l.roomy j s) (a.roomy s) k;
-  shut_once = λ s. rw (count_by-push h e s) (
-      elim (cases_Bool (was_shut h s)) [
-        | inl shut ↦ let e0 = ap (λ b. cond {A = ℕ} b 1 0) (a.shut_once s shut) in omega (arith, l.shut_once s)
-        | inr open' ↦ let none = count_of_none h s open' in cond_both (shuts s e) 1 0 (λ n. count_by (shuts s) h + n ≤ 1)
+  closed_once = λ s. rw (count_by-push h e s) (
+      elim (cases_Bool (was_closed h s)) [
+        | inl closed ↦ let e0 = ap (λ b. cond {A = ℕ} b 1 0) (a.closed_once s closed) in omega (arith, l.closed_once s)
+        | inr open' ↦ let none = count_of_none h s open' in cond_both (closes s e) 1 0 (λ n. count_by (closes s) h + n ≤ 1)
             (λ _. omega arith) (λ _. omega arith)
       ]);
   closed = λ k s.
-      ⊎_elim (λ (lt : k < length h + 1). λ shut.
+      ⊎_elim (λ (lt : k < length h + 1). λ closed.
       let le : k ≤ length h = omega arith in
-      let before : was_shut (take k h) s ≡ true = ap (λ p. was_shut p s) (sym (take-append-le k h (e ∷ []) le)) ∙ shut in
+      let before : was_closed (take k h) s ≡ true = ap (λ p. was_closed p s) (sym (take-append-le k h (e ∷ []) le)) ∙ closed in
       ap (λ p. sent_of p s) (drop-append-le k h (e ∷ []) le) ∙ sent_of-push (drop k h) e s ∙ ap (λ r. r ++ sent_by s e)
-      (l.closed k s before) ∙ a.closed s (was_shut-take h k s before))
-      (λ (ge : length h + 1 ≤ k). λ shut. ap (λ p. sent_of p s) (drop_all k (h ++ e ∷ []) (omega (arith, length-append h (e ∷ [])))))
+      (l.closed k s before) ∙ a.closed s (was_closed-take h k s before))
+      (λ (ge : length h + 1 ≤ k). λ closed. ap (λ p. sent_of p s) (drop_all k (h ++ e ∷ []) (omega (arith, length-append h (e ∷ [])))))
       (cases_lt k (length h + 1));
   known = All-append (λ x. sender_of x < senders) h (e ∷ []) l.known
       (All-cons (λ x. sender_of x < senders) e [] a.known (All-nil (λ x. sender_of x < senders)));

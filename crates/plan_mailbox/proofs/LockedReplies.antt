@@ -36,6 +36,6 @@ pub take-replies :
     {M : Type 0} (b : Mailbox M) (reply : Reply M) → senders_of b ≤ most_senders → reply ≡ take_reply b → (reply ≡ Nothing → ⊥) →
     IsTakeReply reply × (Some reply ≡ answer_to_take (take_reply b))
 take-replies b reply few e goes_on =
-    let both = taking-replies (next_of b) (list_all (λ is_shut. is_shut) b.shut)
+    let both = taking-replies (next_of b) (list_all (λ is_closed. is_closed) b.closed)
     (λ next found. let known = next-known b next found in omega arith) (λ none. goes_on (e ∙ none)) in
     (subst (λ r. IsTakeReply r) (sym e) both.0, ap Some e ∙ both.1)

@@ -7,7 +7,7 @@ use Rattle.std.specs.List.{list_any, slice_get}
 use Rattle.std.proofs.lemmas.List.Folds.{list_any_more}
 use Rattle.std.proofs.lemmas.Option.{same_Some, none-some, slice_get_within, get_or_from_slice_get}
 use Rattle.std.proofs.lemmas.Bool.{cases_lt, cases_eq, or_right, eq-eqb}
-use Rattle.plan_mailbox.specs.History.{Event, Sends, Shuts, sent_by, shuts, sent_of, taken_of, was_shut, IsInOrder, SendsBeforeClose, IsLawful}
+use Rattle.plan_mailbox.specs.History.{Event, Sends, Closes, sent_by, closes, sent_of, taken_of, was_closed, IsInOrder, SendsBeforeClose, IsLawful}
 use Rattle.plan_mailbox.proofs.Places.{slice_get_before, slice_get-drop}
 use Rattle.plan_mailbox.proofs.Histories.{in_order-whole}
 
@@ -40,20 +40,20 @@ IsInOrder-lawful senders room h l s k m e =
 -- in a lawful history, nothing is sent after a close
 not_after :
     {M : Type 0} (senders room : ℕ) (h : List (Event M)) → IsLawful senders room h → (s i j : ℕ) (m : M) →
-    slice_get h i ≡ Some (Shuts s) → slice_get h j ≡ Some (Sends s m) → i < j → ⊥
+    slice_get h i ≡ Some (Closes s) → slice_get h j ≡ Some (Sends s m) → i < j → ⊥
 not_after senders room h l s i j m close send later =
-    let shut : was_shut (take (i + 1) h) s ≡ true = met (shuts s) h i (Shuts s) close (eq-eqb s s refl) in
+    let closed : was_closed (take (i + 1) h) s ≡ true = met (closes s) h i (Closes s) close (eq-eqb s s refl) in
     let at_rest : slice_get (drop (i + 1) h) (j - (i + 1)) ≡ Some (Sends s m) = slice_get-drop (i + 1) h (j - (i + 1)) ∙ ap
     (slice_get h) (omega arith) ∙ send in
     let none : cond (eqb s s) (m ∷ []) [] ≡ [] = empty_part (sent_by s) (drop (i + 1) h) (j - (i + 1)) (Sends s m) at_rest
-    (l.closed (i + 1) s shut) in
+    (l.closed (i + 1) s closed) in
     let some : cond (eqb s s) (m ∷ []) [] ≡ m ∷ [] = ap (λ b. cond b (m ∷ []) []) (eq-eqb s s refl) in
     cc
 
 pub SendsBeforeClose-lawful : {M : Type 0} (senders room : ℕ) (h : List (Event M)) → IsLawful senders room h → SendsBeforeClose h
 SendsBeforeClose-lawful senders room h l s i j m close send =
     ⊎_elim (λ (lt : j < i). lt) (λ (ge : i ≤ j).
-    ⊎_elim (λ (same : i ≡ j). let one : Some (Shuts s) ≡ Some (Sends s m) = sym close ∙ ap (slice_get h) same ∙ send in cc)
+    ⊎_elim (λ (same : i ≡ j). let one : Some (Closes s) ≡ Some (Sends s m) = sym close ∙ ap (slice_get h) same ∙ send in cc)
     (λ (apart : i ≡ j → ⊥). absurd (not_after senders room h l s i j m close send (omega arith)))
     (cases_eq i j))
     (cases_lt j i)

@@ -9,7 +9,7 @@ use Rattle.rtrb.specs.Ring.{sent, received, known_free, known_items, producer_ca
 use Rattle.plan_mailbox.specs.declared.rings.RingLane.{RingLane}
 use Rattle.plan_mailbox.specs.declared.outlet.Outlet.{Outlet}
 use Rattle.plan_mailbox.specs.declared.ring_end.RingEnd.{RingEnd}
-use Rattle.plan_mailbox.specs.Ends.{Ring, Sending, consumer_ring, free_of, producer_ring, receiving, new_inlet, new_outlets}
+use Rattle.plan_mailbox.specs.Ends.{Ring, SendingEnd, consumer_ring, free_of, producer_ring, receiving, new_inlet, new_outlets}
 
 -- the numbers of a list with one more element
 pub enumerate_from-push :
@@ -29,7 +29,7 @@ module _ {M : Type 0} where
   IsUnused lane = length (sent lane.producer) ≡ 0
 
   -- the outlet of a lane, with its number
-  abbrev pub outlet_from : ℕ × RingLane M → Sending M
+  abbrev pub outlet_from : ℕ × RingLane M → SendingEnd M
   outlet_from p = record { sender = p.0; ring = ring_in p.1; sent = sent p.1.producer }
 
   -- the receiving end of a lane

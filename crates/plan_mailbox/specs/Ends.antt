@@ -26,7 +26,7 @@ abbrev pub consumer_ring : {M P : Type 0} → Consumer M Global P → Ring
 consumer_ring c = (c.end.words, c.end.slots, c.end.names, c.end.heap)
 
 -- an outlet, or the receipt of a closed one
-pub record Sending (M : Type 0) : Type 0 where
+pub record SendingEnd (M : Type 0) : Type 0 where
   -- the number of the sender
   pub sender : ℕ
   -- its ring
@@ -35,7 +35,7 @@ pub record Sending (M : Type 0) : Type 0 where
   pub sent : List M
 
 -- an outlet, as callers see it
-abbrev pub outlet_of : {M : Type 0} → Outlet M → Sending M
+abbrev pub outlet_of : {M : Type 0} → Outlet M → SendingEnd M
 outlet_of outlet = record { sender = outlet.sender; ring = producer_ring outlet.producer; sent = sent outlet.producer }
 
 -- how many places of its ring an outlet knows to be free
@@ -43,11 +43,11 @@ abbrev pub free_of : {M : Type 0} → Outlet M → ℕ
 free_of outlet = known_free outlet.producer
 
 -- a receipt, as callers see it
-abbrev pub receipt_of : {M : Type 0} → Receipt M → Sending M
+abbrev pub receipt_of : {M : Type 0} → Receipt M → SendingEnd M
 receipt_of receipt = outlet_of receipt.outlet
 
 -- the receiving end of all rings
-pub record Receiving (M : Type 0) : Type 0 where
+pub record ReceivingEnd (M : Type 0) : Type 0 where
   -- the sender that a take checks first
   pub turn : ℕ
   -- for each sender, its ring
@@ -60,7 +60,7 @@ pub record Receiving (M : Type 0) : Type 0 where
   pub settled : List Bool
 
 -- the receiving ends of these rings, with this turn
-abbrev pub receiving : {M : Type 0} → ℕ → List (RingEnd M) → Receiving M
+abbrev pub receiving : {M : Type 0} → ℕ → List (RingEnd M) → ReceivingEnd M
 receiving turn ends = record {
   turn = turn;
   rings = map (λ e. consumer_ring e.consumer) ends;
@@ -70,27 +70,27 @@ receiving turn ends = record {
 }
 
 -- an inlet, as callers see it
-abbrev pub inlet_of : {M : Type 0} → Inlet M → Receiving M
+abbrev pub inlet_of : {M : Type 0} → Inlet M → ReceivingEnd M
 inlet_of inlet = receiving inlet.turn inlet.ends.items
 
 -- the messages that were taken from sender s
-abbrev pub taken_at : {M : Type 0} → Receiving M → ℕ → List M
+abbrev pub taken_at : {M : Type 0} → ReceivingEnd M → ℕ → List M
 taken_at b s = slice_index_or b.taken s []
 
 -- the messages of sender s that are known to wait
-abbrev pub known_at : {M : Type 0} → Receiving M → ℕ → List M
+abbrev pub known_at : {M : Type 0} → ReceivingEnd M → ℕ → List M
 known_at b s = slice_index_or b.known s []
 
 -- whether the receipt of sender s was settled
-abbrev pub is_settled_at : {M : Type 0} → Receiving M → ℕ → Bool
+abbrev pub is_settled_at : {M : Type 0} → ReceivingEnd M → ℕ → Bool
 is_settled_at b s = slice_index_or b.settled s false
 
 -- new outlets, one for each of these rings: nothing was sent
-abbrev pub new_outlets : {M : Type 0} → List Ring → List (Sending M)
+abbrev pub new_outlets : {M : Type 0} → List Ring → List (SendingEnd M)
 new_outlets rings = map (λ p. record { sender = p.0; ring = p.1; sent = [] }) (enumerate_from 0 rings)
 
 -- a new inlet of these rings: the first sender has the turn, nothing was taken, nothing is known to wait, and no receipt is settled
-abbrev pub new_inlet : {M : Type 0} → List Ring → Receiving M
+abbrev pub new_inlet : {M : Type 0} → List Ring → ReceivingEnd M
 new_inlet rings = record {
   turn = 0;
   rings = rings;
@@ -100,7 +100,7 @@ new_inlet rings = record {
 }
 
 -- the inlet after message m was taken from sender s: then the messages `rest` of s are known to wait
-abbrev pub after_take : {M : Type 0} → Receiving M → ℕ → M → List M → Receiving M
+abbrev pub after_take : {M : Type 0} → ReceivingEnd M → ℕ → M → List M → ReceivingEnd M
 after_take b s m rest = record b {
   turn = (s + 1) % length b.rings;
   taken = slice_set b.taken s (taken_at b s ++ m ∷ []);
@@ -112,7 +112,7 @@ abbrev pub IsBefore : ℕ → ℕ → ℕ → Type 0
 IsBefore turn k s = ((turn ≤ k) × (k < s)) ⊎ ((s < turn) × ((turn ≤ k) ⊎ (k < s)))
 
 -- message m was taken from sender s
-pub record IsTake {M : Type 0} (before : Receiving M) (s : ℕ) (m : M) (after : Receiving M) : Type 0 where
+pub record IsTake {M : Type 0} (before : ReceivingEnd M) (s : ℕ) (m : M) (after : ReceivingEnd M) : Type 0 where
   -- s is a sender of the mailbox
   pub known_sender : s < length before.rings
   -- m is added to what was taken from s, no other sender changes, and the sender after s has the turn
@@ -125,19 +125,19 @@ pub record IsTake {M : Type 0} (before : Receiving M) (s : ℕ) (m : M) (after :
   pub passed : (k : ℕ) → IsBefore before.turn k s → known_at before k ≡ []
 
 -- no messages are known to wait, of any sender
-abbrev pub NothingKnown : {M : Type 0} → Receiving M → Type 0
+abbrev pub NothingKnown : {M : Type 0} → ReceivingEnd M → Type 0
 NothingKnown b = (s : ℕ) → known_at b s ≡ []
 
 -- `sent` is what was taken from sender s, followed by what is known to wait
-abbrev pub Accounts : {M : Type 0} → Receiving M → ℕ → List M → Type 0
+abbrev pub Accounts : {M : Type 0} → ReceivingEnd M → ℕ → List M → Type 0
 Accounts b s sent = taken_at b s ++ known_at b s ≡ sent
 
 -- the inlet after the receipt of sender s was settled: then the messages `rest` of s are known to wait
-abbrev pub after_settle : {M : Type 0} → Receiving M → ℕ → List M → Receiving M
+abbrev pub after_settle : {M : Type 0} → ReceivingEnd M → ℕ → List M → ReceivingEnd M
 after_settle b s rest = record b { known = slice_set b.known s rest; settled = slice_set b.settled s true }
 
 -- message m was taken from sender s, when the senders from `from` to before `upto` were checked; the turn doesn't matter
-pub record IsTakeAmong {M : Type 0} (from upto : ℕ) (before : Receiving M) (s : ℕ) (m : M) (after : Receiving M) : Type 0 where
+pub record IsTakeAmong {M : Type 0} (from upto : ℕ) (before : ReceivingEnd M) (s : ℕ) (m : M) (after : ReceivingEnd M) : Type 0 where
   pub known_sender : (from ≤ s) × (s < upto)
   pub taken : after ≡ record before
       { taken = slice_set before.taken s (taken_at before s ++ m ∷ []); known = slice_set before.known s (known_at after s) }

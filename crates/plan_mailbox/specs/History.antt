@@ -10,43 +10,43 @@ use Rattle.plan_mailbox.specs.declared.replies.Reply.TheVariants.{Sent, Took, Sh
 pub data Event (M : Type 0) : Type 0 where
   Sends : ℕ → M → Event M
   Takes : ℕ → M → Event M
-  Shuts : ℕ → Event M
+  Closes : ℕ → Event M
 
 -- the sender of an event
 abbrev pub sender_of : {M : Type 0} → Event M → ℕ
 sender_of (Sends s m) = s
 sender_of (Takes s m) = s
-sender_of (Shuts s) = s
+sender_of (Closes s) = s
 
 -- the messages that sender s sends by an event
 abbrev pub sent_by : {M : Type 0} → ℕ → Event M → List M
 sent_by s (Sends t m) = if t == s then m ∷ [] else []
 sent_by s (Takes t m) = []
-sent_by s (Shuts t) = []
+sent_by s (Closes t) = []
 
 -- the messages that are taken from sender s by an event
 abbrev pub taken_by : {M : Type 0} → ℕ → Event M → List M
 taken_by s (Sends t m) = []
 taken_by s (Takes t m) = if t == s then m ∷ [] else []
-taken_by s (Shuts t) = []
+taken_by s (Closes t) = []
 
 -- whether an event closes sender s
-abbrev pub shuts : {M : Type 0} → ℕ → Event M → Bool
-shuts s (Sends t m) = false
-shuts s (Takes t m) = false
-shuts s (Shuts t) = t == s
+abbrev pub closes : {M : Type 0} → ℕ → Event M → Bool
+closes s (Sends t m) = false
+closes s (Takes t m) = false
+closes s (Closes t) = t == s
 
 -- whether an event is a send
 abbrev pub is_send : {M : Type 0} → Event M → Bool
 is_send (Sends s m) = true
 is_send (Takes s m) = false
-is_send (Shuts s) = false
+is_send (Closes s) = false
 
 -- the senders from which a message is taken by an event
 abbrev pub giver_of : {M : Type 0} → Event M → List ℕ
 giver_of (Sends s m) = []
 giver_of (Takes s m) = s ∷ []
-giver_of (Shuts s) = []
+giver_of (Closes s) = []
 
 -- the messages that sender s sent, in order
 abbrev pub sent_of : {M : Type 0} → List (Event M) → ℕ → List M
@@ -61,8 +61,8 @@ abbrev pub waiting_of : {M : Type 0} → List (Event M) → ℕ → List M
 waiting_of h s = drop (length (taken_of h s)) (sent_of h s)
 
 -- whether sender s was closed
-abbrev pub was_shut : {M : Type 0} → List (Event M) → ℕ → Bool
-was_shut h s = list_any (shuts s) h
+abbrev pub was_closed : {M : Type 0} → List (Event M) → ℕ → Bool
+was_closed h s = list_any (closes s) h
 
 -- the sender after the one from which a message was taken, and after the last sender the first; the first if none was taken
 abbrev pub turn_after : ℕ → Option ℕ → ℕ
@@ -85,9 +85,9 @@ pub record IsLawful {M : Type 0} (senders room : ℕ) (h : List (Event M)) : Typ
   -- at any time, no more messages of a sender wait than its capacity
   pub roomy : (k s : ℕ) → length (waiting_of (take k h) s) ≤ room
   -- a sender is closed at most once
-  pub shut_once : (s : ℕ) → count_by (shuts s) h ≤ 1
+  pub closed_once : (s : ℕ) → count_by (closes s) h ≤ 1
   -- a sender sends nothing after it was closed
-  pub closed : (k s : ℕ) → was_shut (take k h) s ≡ true → sent_of (drop k h) s ≡ []
+  pub closed : (k s : ℕ) → was_closed (take k h) s ≡ true → sent_of (drop k h) s ≡ []
   -- each event has a sender of the mailbox
   pub known : All (λ e. sender_of e < senders) h
 
@@ -97,13 +97,13 @@ IsInOrder {M} h = (s k : ℕ) (m : M) → slice_get (taken_of h s) k ≡ Some m 
 
 -- each send of a sender comes before its close
 abbrev pub SendsBeforeClose : {M : Type 0} → List (Event M) → Type 0
-SendsBeforeClose {M} h = (s i j : ℕ) (m : M) → slice_get h i ≡ Some (Shuts s) → slice_get h j ≡ Some (Sends s m) → j < i
+SendsBeforeClose {M} h = (s i j : ℕ) (m : M) → slice_get h i ≡ Some (Closes s) → slice_get h j ≡ Some (Sends s m) → j < i
 
 -- the event that a step makes, if its reply says that it took effect
 abbrev pub event_of : {M : Type 0} → Step M → Reply M → List (Event M)
 event_of (Send s m) Sent = Sends s m ∷ []
 event_of Take (Took s m) = Takes s m ∷ []
-event_of (Close s) Shut = Shuts s ∷ []
+event_of (Close s) Shut = Closes s ∷ []
 event_of step reply = []
 
 -- the history that a list of steps records, with a reply to each

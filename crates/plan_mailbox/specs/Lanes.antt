@@ -9,7 +9,7 @@ abbrev pub mailbox_of : {M L : Type 0} {lane : declared.Ghosts L M} → Lanes M 
 mailbox_of {M} {L} {lane} lanes = record {
   room = lanes.room;
   waiting = map lane.waiting lanes.lanes.items;
-  shut = map lane.marked lanes.lanes.items;
+  closed = map lane.closed lanes.lanes.items;
   turn = lanes.turn;
   has_sent = lanes.has_sent;
 }

@@ -10,7 +10,7 @@ pub trait Lane<M>: Drop {
     ghost waiting: { Self → List M };
 
     /// Whether the sender is closed.
-    ghost marked: { Self → Bool };
+    ghost closed: { Self → Bool };
 
     /// The capacity of the lane, in messages.
     ghost places: { Self → ℕ };
@@ -22,7 +22,7 @@ pub trait Lane<M>: Drop {
     fn new(alloc: Global, room: usize) -> Result<Self, AllocError>
         ensures places { IfOk result (λ lane. places lane ≡ room) }
         ensures empty { IfOk result (λ lane. waiting lane ≡ []) }
-        ensures open { IfOk result (λ lane. marked lane ≡ false) }
+        ensures open { IfOk result (λ lane. closed lane ≡ false) }
         ensures unused { IfOk result (λ lane. length (sent lane) ≡ 0) };
 
     /// Returns how many messages wait.
@@ -30,26 +30,26 @@ pub trait Lane<M>: Drop {
         ensures { result ≡ length (waiting self.now) };
 
     /// Returns whether the sender is closed.
-    fn is_shut(&self) -> bool
-        ensures { result ≡ marked self.now };
+    fn is_closed(&self) -> bool
+        ensures { result ≡ closed self.now };
 
     /// Appends a message to those that wait. The lane must have a free place.
     fn push(&mut self, message: M)
         requires { length (waiting self.old) ≢ places self.old }
         ensures waits { waiting self.new ≡ waiting self.old ++ message ∷ [] }
-        ensures mark_stays { marked self.new ≡ marked self.old }
+        ensures closed_stays { closed self.new ≡ closed self.old }
         ensures places_stay { places self.new ≡ places self.old };
 
     /// Takes the oldest message. At least one message must wait.
     fn pop(&mut self) -> M
         requires { 0 < length (waiting self.old) }
         ensures oldest { waiting self.old ≡ result ∷ waiting self.new }
-        ensures mark_stays { marked self.new ≡ marked self.old }
+        ensures closed_stays { closed self.new ≡ closed self.old }
         ensures places_stay { places self.new ≡ places self.old };
 
     /// Closes the sender. Its waiting messages stay.
-    fn shut(&mut self)
-        ensures marked { marked self.new ≡ true }
+    fn close(&mut self)
+        ensures closed { closed self.new ≡ true }
         ensures waiting_stays { waiting self.new ≡ waiting self.old }
         ensures places_stay { places self.new ≡ places self.old }
         ensures sent_stays { sent self.new ≡ sent self.old };

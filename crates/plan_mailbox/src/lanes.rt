@@ -7,7 +7,7 @@ use crate::faults::NewFault;
 use crate::lane::Lane;
 use crate::mailbox::Post;
 use crate::replies::Reply;
-use crate::scan::{all_shut, any_shut, first_waiting, new_lanes};
+use crate::scan::{all_closed, any_closed, first_waiting, new_lanes};
 use crate::sizes::{MOST_ROOM, MOST_SENDERS};
 use std::alloc::Global;
 use std::marker::PhantomData;
@@ -89,7 +89,7 @@ impl<M: Drop, L: Lane<M>> Post<M> for Lanes<M, L> {
         let Some(lane) = self.lanes.get_mut(sender) else {
             return Reply::NoSender(message);
         };
-        if lane.is_shut() {
+        if lane.is_closed() {
             return Reply::Closed(message);
         }
         if lane.len() == self.room {
@@ -108,7 +108,7 @@ impl<M: Drop, L: Lane<M>> Post<M> for Lanes<M, L> {
                 Reply::Took(sender, message)
             }
             None => {
-                if all_shut(&self.lanes) {
+                if all_closed(&self.lanes) {
                     Reply::Ended
                 } else {
                     Reply::Nothing
@@ -121,15 +121,15 @@ impl<M: Drop, L: Lane<M>> Post<M> for Lanes<M, L> {
         let Some(lane) = self.lanes.get_mut(sender) else {
             return Reply::Unknown;
         };
-        if lane.is_shut() {
+        if lane.is_closed() {
             return Reply::AlreadyShut;
         }
-        lane.shut();
+        lane.close();
         Reply::Shut
     }
 
     fn is_new(&self) -> bool {
-        !self.has_sent && !any_shut(&self.lanes)
+        !self.has_sent && !any_closed(&self.lanes)
     }
 
     fn senders(&self) -> usize {

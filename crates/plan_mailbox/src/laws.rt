@@ -1,7 +1,7 @@
 //! Laws of mailboxes, as functions that do nothing: the contract of each function is the law.
 
 ghost use Rattle.std.specs.Prelude.{◌≡◌, ℕ, List, [], Some, drop, length, slice_get, true};
-ghost use Rattle.plan_mailbox.specs.Ends.{Accounts, IsTake, Receiving, inlet_of, is_settled_at, known_at, taken_at};
+ghost use Rattle.plan_mailbox.specs.Ends.{Accounts, IsTake, ReceivingEnd, inlet_of, is_settled_at, known_at, taken_at};
 ghost use Rattle.plan_mailbox.specs.History.{Event, IsInOrder, IsLawful, IsPrefix, SendsBeforeClose, sent_of, taken_of};
 ghost use Rattle.plan_mailbox.specs.declared.inlet.Inlet.{Inlet};
 
@@ -22,12 +22,12 @@ pub fn takes_what_was_sent<M>()
 ///
 /// `Inlet::settle` establishes this for the sender that it settles, and every take keeps it.
 pub fn takes_what_outlets_sent<M>()
-    ensures prefix { (b : Receiving M) (s : ℕ) (sent : List M) → Accounts b s sent → IsPrefix (taken_at b s) sent }
-    ensures in_order { (b : Receiving M) (s : ℕ) (sent : List M) → Accounts b s sent →
+    ensures prefix { (b : ReceivingEnd M) (s : ℕ) (sent : List M) → Accounts b s sent → IsPrefix (taken_at b s) sent }
+    ensures in_order { (b : ReceivingEnd M) (s : ℕ) (sent : List M) → Accounts b s sent →
         (k : ℕ) (m : M) → slice_get (taken_at b s) k ≡ Some m → slice_get sent k ≡ Some m }
-    ensures left { (b : Receiving M) (s : ℕ) (sent : List M) → Accounts b s sent →
+    ensures left { (b : ReceivingEnd M) (s : ℕ) (sent : List M) → Accounts b s sent →
         known_at b s ≡ drop (length (taken_at b s)) sent }
-    ensures all { (b : Receiving M) (s : ℕ) (sent : List M) → Accounts b s sent →
+    ensures all { (b : ReceivingEnd M) (s : ℕ) (sent : List M) → Accounts b s sent →
         known_at b s ≡ [] → taken_at b s ≡ sent }
 
     // A take from this sender or another keeps what is accounted for.

@@ -100,7 +100,7 @@ impl<M: Drop> Locked<M> {
         if sender >= self.senders {
             return Reply::Unknown;
         }
-        let reply = shut(&mut self.core.lock(rt), sender);
+        let reply = close_sender(&mut self.core.lock(rt), sender);
         self.sent.notify_all();
         self.freed.notify_all();
         reply
@@ -133,7 +133,7 @@ fn next<M: Drop>(core: &mut Core<M>) -> Option<Reply<M>>
 }
 
 // Closes a sender.
-fn shut<M: Drop>(core: &mut Core<M>, sender: usize) -> Reply<M>
+fn close_sender<M: Drop>(core: &mut Core<M>, sender: usize) -> Reply<M>
     ensures reply { IsCloseReply result }
     ensures answer { result ≡ answer_to_close (close_reply (mailbox_of core.old) sender) }
     ensures after { mailbox_of core.new ≡ after_close (mailbox_of core.old) sender }

@@ -16,7 +16,7 @@ pub type Core<M> = Lanes<M, QueueLane<M>>;
 pub struct QueueLane<M> {
     queue: VecDeque<M>,
     room: usize,
-    is_shut: bool,
+    is_closed: bool,
     ghost fits: { deque_len queue ≤ room },
     ghost reserved: { room ≤ deque_capacity queue },
 }
@@ -26,7 +26,7 @@ impl<M: Drop> Lane<M> for QueueLane<M> {
 
     ghost waiting = { λ lane. lane.queue.items };
 
-    ghost marked = { λ lane. lane.is_shut };
+    ghost closed = { λ lane. lane.is_closed };
 
     ghost places = { λ lane. lane.room };
 
@@ -36,7 +36,7 @@ impl<M: Drop> Lane<M> for QueueLane<M> {
         Ok(QueueLane {
             queue: VecDeque::with_capacity(alloc, room)?,
             room,
-            is_shut: false,
+            is_closed: false,
         })
     }
 
@@ -44,8 +44,8 @@ impl<M: Drop> Lane<M> for QueueLane<M> {
         self.queue.len()
     }
 
-    fn is_shut(&self) -> bool {
-        self.is_shut
+    fn is_closed(&self) -> bool {
+        self.is_closed
     }
 
     fn push(&mut self, message: M) {
@@ -56,8 +56,8 @@ impl<M: Drop> Lane<M> for QueueLane<M> {
         self.queue.pop_front().unwrap()
     }
 
-    fn shut(&mut self) {
-        self.is_shut = true;
+    fn close(&mut self) {
+        self.is_closed = true;
     }
 
     ghost waits_sent = { λ lane. le_refl (length lane.queue.items) };

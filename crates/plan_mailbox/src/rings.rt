@@ -19,7 +19,7 @@ pub type Rings<M> = Lanes<M, RingLane<M>>;
 pub struct RingLane<M> {
     producer: Producer<M>,
     consumer: Consumer<M>,
-    is_shut: bool,
+    is_closed: bool,
     ghost pair: { IsPair producer consumer },
     ghost fifo: { received consumer ++ known_items consumer ≡ sent producer },
     ghost all_free: { sent producer ≡ [] → known_free producer ≡ producer_capacity producer },
@@ -30,7 +30,7 @@ impl<M: Drop> Lane<M> for RingLane<M> {
 
     ghost waiting = { λ lane. known_items lane.consumer };
 
-    ghost marked = { λ lane. lane.is_shut };
+    ghost closed = { λ lane. lane.is_closed };
 
     ghost places = { λ lane. producer_capacity lane.producer };
 
@@ -41,7 +41,7 @@ impl<M: Drop> Lane<M> for RingLane<M> {
         Ok(RingLane {
             producer,
             consumer,
-            is_shut: false,
+            is_closed: false,
         })
     }
 
@@ -49,8 +49,8 @@ impl<M: Drop> Lane<M> for RingLane<M> {
         self.consumer.cached_slots()
     }
 
-    fn is_shut(&self) -> bool {
-        self.is_shut
+    fn is_closed(&self) -> bool {
+        self.is_closed
     }
 
     fn push(&mut self, message: M) {
@@ -63,8 +63,8 @@ impl<M: Drop> Lane<M> for RingLane<M> {
         self.consumer.pop_known()
     }
 
-    fn shut(&mut self) {
-        self.is_shut = true;
+    fn close(&mut self) {
+        self.is_closed = true;
     }
 
     ghost waits_sent = { λ lane. length_left (received lane.consumer) (known_items lane.consumer) (sent lane.producer) lane.fifo };
@@ -116,7 +116,7 @@ impl<M> RingLane<M> {
         let RingLane {
             producer,
             consumer,
-            is_shut: _,
+            is_closed: _,
         } = self;
         (producer, consumer)
     }

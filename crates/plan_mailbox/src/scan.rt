@@ -22,17 +22,17 @@ pub(crate) fn first_waiting<M, L: Lane<M>>(lanes: &[L], turn: usize) -> Option<u
 }
 
 /// Returns whether all senders are closed.
-pub(crate) fn all_shut<M, L: Lane<M>>(lanes: &[L]) -> bool
-    ensures { result ≡ list_all L.marked lanes.now }
+pub(crate) fn all_closed<M, L: Lane<M>>(lanes: &[L]) -> bool
+    ensures { result ≡ list_all L.closed lanes.now }
 {
-    lanes.iter().all(|lane| lane.is_shut())
+    lanes.iter().all(|lane| lane.is_closed())
 }
 
 /// Returns whether any sender is closed.
-pub(crate) fn any_shut<M, L: Lane<M>>(lanes: &[L]) -> bool
-    ensures { result ≡ list_any L.marked lanes.now }
+pub(crate) fn any_closed<M, L: Lane<M>>(lanes: &[L]) -> bool
+    ensures { result ≡ list_any L.closed lanes.now }
 {
-    lanes.iter().any(|lane| lane.is_shut())
+    lanes.iter().any(|lane| lane.is_closed())
 }
 
 /// Returns whether a message of the sender waits.
@@ -51,7 +51,7 @@ pub(crate) fn new_lanes<M, L: Lane<M>>(
     ensures many { IfOk result (λ lanes. vec_len lanes ≡ senders) }
     ensures reserved { IfOk result (λ lanes. All (λ lane. L.places lane ≡ room) lanes.items) }
     ensures empty { IfOk result (λ lanes. All (λ lane. L.waiting lane ≡ []) lanes.items) }
-    ensures not_shut { IfOk result (λ lanes. All (λ lane. L.marked lane ≡ false) lanes.items) }
+    ensures not_closed { IfOk result (λ lanes. All (λ lane. L.closed lane ≡ false) lanes.items) }
     ensures unused { IfOk result (λ lanes. All (λ lane. length (L.sent lane) ≡ 0) lanes.items) }
 {
     let mut lanes = Vec::with_capacity(alloc, senders)?;

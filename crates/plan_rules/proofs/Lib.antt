@@ -1,7 +1,7 @@
 pub mod CrontabLemmas
 pub mod CrontabFaults
 pub mod FileFaults
-pub mod TabFaults
+pub mod NamedCrontabFaults
 pub mod EntryLemmas
 pub mod JobsLemmas
 pub mod TimerLemmas

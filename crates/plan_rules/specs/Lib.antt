@@ -15,7 +15,7 @@ pub mod FileText
 pub mod Entries
 pub mod Job
 pub mod Crontab
-pub mod Tabs
+pub mod NamedCrontabs
 pub mod Jobs
 pub mod Zone
 pub mod Timer

@@ -1,8 +1,8 @@
 //! Crontabs and timer files, the jobs in them, and the rules by which these jobs start.
 //!
-//! Open `crontabs` first (crontab(5)), then `tabs`, for crontabs with a file name, and `timers` (systemd.timer(5),
-//! systemd.syntax(7)). Each takes its text from `file_text` and makes a `job` of each rule. `jobs` is the list of
-//! all jobs, by their names. An `entry` is what one line says by itself. `timer_events` makes the entries of a timer,
+//! Open `crontabs` first (crontab(5)), then `named_crontabs`, for crontabs with a file name, and `timers`
+//! (systemd.timer(5), systemd.syntax(7)). Each takes its text from `file_text` and makes a `job` of each rule. `jobs`
+//! is the list of all jobs, by their names. An `entry` is what one line says by itself. `timer_events` makes the entries of a timer,
 //! and `crontabs` those of a crontab, so that a caller can report all errors of a file.
 //!
 //! The crate also re-exports names of three crates below it: plan_texts, plan_match and plan_grammar.
@@ -14,7 +14,7 @@ mod file_text;
 mod job;
 mod jobs;
 mod line_fault;
-mod tabs;
+mod named_crontabs;
 mod timer_events;
 mod timer_lines;
 mod timers;
@@ -25,9 +25,9 @@ pub use file_text::text_of;
 pub use job::Job;
 pub use jobs::{AddFault, Jobs, MOST_JOBS};
 pub use line_fault::{LineCause, LineFault};
+pub use named_crontabs::{CrontabDirectory, is_crontab_name, kind_in, named_crontab};
 pub use plan_grammar::{RuleCause, RuleFault, calendar_event, calendar_rule, cron_rule};
 pub use plan_match::{Calendar, CronRule, DayCount, Events, Rule};
 pub use plan_texts::{Text, cut, lines, number};
-pub use tabs::{TabFolder, is_tab_name, kind_in, tab};
 pub use timer_events::{TimerEntries, timer_entries, timer_is_its_entries};
 pub use timers::{MOST_EVENTS, is_timer_name, timer};

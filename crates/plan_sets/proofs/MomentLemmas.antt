@@ -5,7 +5,7 @@ use Rattle.std.proofs.Common.{◌≡◌, ℕ, ◌+◌, ◌/◌, ◌%◌, ◌<◌
 use Rattle.jiff_core.proofs.CalendarLemmas.{days_in_month_bounds}
 use Rattle.plan_sets.specs.Limits.{end_second}
 use Rattle.plan_sets.specs.Civil.{civil_fields}
-use Rattle.plan_sets.specs.Moment.{moment_text_of, number_of, two_digits, written_of, written_text, IsInCalendar, Says, Written}
+use Rattle.plan_sets.specs.Moment.{moment_text_of, written_second, two_digits, written_of, written_text, IsInCalendar, Says, Written}
 use Rattle.plan_sets.specs.CivilLaws.{second_number-civil, IsCivilOf-civil_fields, IsInRange-year, Shows-civil_fields}
 
 -- two bytes that are the digits of a number
@@ -56,16 +56,16 @@ Says-moment_text_of text n h e =
 -- so if the text of a second says a date and time, these exist and have the number of that second
 pub Says-second :
     (text : List ℕ) (n : ℕ) (w : Written) → n ≤ end_second → text ≡ moment_text_of n → Says text w →
-    IsInCalendar w × (number_of w ≡ pos n)
+    IsInCalendar w × (written_second w ≡ pos n)
 Says-second text n w h e says =
     let is = IsCivilOf-civil_fields n h in
     let same : w ≡ written_of (civil_fields n) = Says-unique text w (written_of (civil_fields n)) says (Says-moment_text_of text n h e) in
-    let P : Written → Type 0 = λ v. IsInCalendar v × (number_of v ≡ pos n) in
+    let P : Written → Type 0 = λ v. IsInCalendar v × (written_second v ≡ pos n) in
     subst P (sym same) ((is.date, is.time), second_number-civil n (civil_fields n) is)
 
 -- a text that says a date and time with the number of a second is the text of that second
 pub moment_text_of-number :
-    (text : List ℕ) (n : ℕ) (w : Written) → n ≤ end_second → Says text w → IsInCalendar w → pos n ≡ number_of w →
+    (text : List ℕ) (n : ℕ) (w : Written) → n ≤ end_second → Says text w → IsInCalendar w → pos n ≡ written_second w →
     text ≡ moment_text_of n
 unfolding moment_text_of
 moment_text_of-number text n w h says exists e =

@@ -73,12 +73,12 @@ abbrev pub IsInCalendar : Written → Type 0
 IsInCalendar w = IsDateTime w.year w.month w.day w.hour w.minute w.second
 
 -- the seconds from 1970-01-01T00:00:00Z to this date and time, negative for earlier ones
-abbrev pub number_of : Written → ℤ
-number_of w = second_number w.year w.month w.day w.hour w.minute w.second
+abbrev pub written_second : Written → ℤ
+written_second w = second_number w.year w.month w.day w.hour w.minute w.second
 
 -- the date and time are before the first supported year, or after the end (agenda)
 abbrev pub IsOutOfYears : Written → Type 0
-IsOutOfYears w = (number_of w <ℤ pos 0) ⊎ (pos end_second <ℤ number_of w)
+IsOutOfYears w = (written_second w <ℤ pos 0) ⊎ (pos end_second <ℤ written_second w)
 
 -- the first error of a text: in its form, then in its date or time, then in its year (agenda)
 abbrev pub HasFault : List ℕ → MomentFault → Type 0

@@ -1,7 +1,7 @@
 //! Timestamps as text, such as `2024-01-01T04:30:00Z`.
 ghost use Rattle.std.specs.Prelude.{◌≡◌, ◌≢◌, ℕ, ◌<◌, ◌≤◌, ◌↔◌, ◌∷◌, [], IsSome, IfSome, IfNone, IfOk, IfErr, Ok};
 ghost use Rattle.plan_sets.specs.Limits.{end_second};
-ghost use Rattle.plan_sets.specs.Moment.{moment_text_of, number_of, two_digits, written_fields, HasFault, IsInCalendar, Says, Written};
+ghost use Rattle.plan_sets.specs.Moment.{moment_text_of, written_second, two_digits, written_fields, HasFault, IsInCalendar, Says, Written};
 
 use crate::civil::{END_SECOND, fields_of, second_from_epoch};
 use thiserror::Error;
@@ -71,7 +71,7 @@ impl Fields {
     /// Returns the seconds since 1970-01-01T00:00:00Z, or `None` if there is no such date or time.
     fn second(self) -> Option<i64>
         ensures some { IsSome result ↔ IsInCalendar (written_fields self) }
-        ensures number { IfSome result (λ n. n ≡ number_of (written_fields self)) }
+        ensures number { IfSome result (λ n. n ≡ written_second (written_fields self)) }
     {
         second_from_epoch(
             self.year,

@@ -48,8 +48,8 @@ abbrev pub digits_after : ℕ → List ℕ → ℕ
 digits_after before digits = fold (λ n digit. n * 10 + (digit - byte "0")) before digits
 
 -- a number is 1 to 4 decimal digits (agenda)
-unfoldable pub number_of : List ℕ → Option ℕ
-number_of text =
+unfoldable pub decimal_number : List ℕ → Option ℕ
+decimal_number text =
     if nat_le 1 (length text) && (nat_le (length text) most_digits && list_all is_ascii_digit text)
     then Some (digits_after 0 text)
     else None

@@ -5,7 +5,7 @@ ghost use Rattle.std.specs.Char.{is_ascii_alphabetic};
 ghost use Rattle.std.specs.Fmt.{decimal};
 ghost use Rattle.std.specs.Option.{option_map};
 ghost use Rattle.plan_texts.specs.Limits.{most_digits};
-ghost use Rattle.plan_texts.specs.Text.{is_blank, words, pieces, begins_with, cut_at, StandsNowhereBefore, number_of};
+ghost use Rattle.plan_texts.specs.Text.{is_blank, words, pieces, begins_with, cut_at, StandsNowhereBefore, decimal_number};
 
 use std::alloc::{AllocError, Global};
 
@@ -77,9 +77,9 @@ pub fn cut<'a>(text: &'a [u8], mark: &[u8]) -> Option<(&'a [u8], &'a [u8])>
 }
 
 /// Returns the number that 1 to 4 decimal digits write, or `None` for any other text.
-#[tactic(auto, unfolding(crate::specs::Text::number_of))]
+#[tactic(auto, unfolding(crate::specs::Text::decimal_number))]
 pub fn number(text: &[u8]) -> Option<u16>
-    ensures value { result ≡ number_of text.now }
+    ensures value { result ≡ decimal_number text.now }
     ensures small { IfSome result (λ n. n < 10 ^ most_digits) }
     // The decimal text of a number below 10,000 gives that number.
     ensures written { (n : ℕ) → n < 10 ^ most_digits → text.now ≡ decimal n → result ≡ Some n }

@@ -18,9 +18,9 @@ use Rattle.plan_collect.specs.Limits.{is_size}
 use Rattle.plan_collect.specs.Collecting.{Collected, begun, refusal, after, is_complete}
 use Rattle.plan_collect.specs.Merging.{answer_to, AcceptsMergings}
 use Rattle.plan_collect.specs.Tiling.{notes_of, sent_by, IsMerging}
-use Rattle.plan_mailbox.specs.Ends.{NothingKnown, Receiving, Ring, IsTake, taken_at}
-use Rattle.plan_threads.specs.declared.promise.Sending.{Sending}
-use Rattle.plan_threads.specs.Gathering.{AreOf, ArePlanners, Stands, IsAccounted, IsGathering, Meets, Steps, IsWhole, Ends, all_notes}
+use Rattle.plan_mailbox.specs.Ends.{NothingKnown, ReceivingEnd, Ring, IsTake, taken_at}
+use Rattle.plan_threads.specs.declared.promise.PlannerPromise.{PlannerPromise}
+use Rattle.plan_threads.specs.Gathering.{AreOf, ArePlanners, Stands, IsAccounted, IsGathering, Meets, Steps, IsWhole, EndsAs, all_notes}
 
 -- ---- one more message
 
@@ -242,8 +242,8 @@ many_step limit rules span c (Some fault) k m new refused own whole most so_far 
 
 -- a message is taken
 pub gathers_more :
-    (planners limit : ℕ) (rules : List Rule) (span : Bounds) (c : Collected) (b : Receiving Note) (before : Option CollectFault)
-    (k : ℕ) (m : Note) (new : Collected) (b' : Receiving Note) (refused : Option CollectFault) →
+    (planners limit : ℕ) (rules : List Rule) (span : Bounds) (c : Collected) (b : ReceivingEnd Note) (before : Option CollectFault)
+    (k : ℕ) (m : Note) (new : Collected) (b' : ReceivingEnd Note) (refused : Option CollectFault) →
     IsGathering planners limit rules span c b before → IsTake b k m b' → Steps c before k m new refused →
     IsGathering planners limit rules span new b' refused
 gathers_more planners limit rules span c b before k m new b' refused so_far take steps =
@@ -253,8 +253,8 @@ gathers_more planners limit rules span c b before k m new b' refused so_far take
     let wide = so_far.rings in
     let among = take.known_sender in
     let size' = kin.size in
-    let taken : b'.taken ≡ slice_set b.taken k (taken_at b k ++ m ∷ []) = ap (λ (x : Receiving Note). x.taken) take.taken in
-    let same : b'.rings ≡ b.rings = ap (λ (x : Receiving Note). x.rings) take.taken in
+    let taken : b'.taken ≡ slice_set b.taken k (taken_at b k ++ m ∷ []) = ap (λ (x : ReceivingEnd Note). x.taken) take.taken in
+    let same : b'.rings ≡ b.rings = ap (λ (x : ReceivingEnd Note). x.rings) take.taken in
     let count = length-set b.taken k (taken_at b k ++ m ∷ []) in
     record {
       rules_are = kin.rules ∙ so_far.rules_are;
@@ -283,8 +283,8 @@ gathers_more planners limit rules span c b before k m new b' refused so_far take
 
 -- nothing was taken
 pub gathers_same :
-    (planners limit : ℕ) (rules : List Rule) (span : Bounds) (c : Collected) (b : Receiving Note) (before : Option CollectFault)
-    (new : Collected) (b' : Receiving Note) (refused : Option CollectFault) →
+    (planners limit : ℕ) (rules : List Rule) (span : Bounds) (c : Collected) (b : ReceivingEnd Note) (before : Option CollectFault)
+    (new : Collected) (b' : ReceivingEnd Note) (refused : Option CollectFault) →
     IsGathering planners limit rules span c b before → new ≡ c → b'.taken ≡ b.taken → b'.rings ≡ b.rings → refused ≡ before →
     IsGathering planners limit rules span new b' refused
 gathers_same planners limit rules span c b before new b' refused so_far same taken rings still = record {
@@ -331,7 +331,7 @@ whole_so c limit rules span answer (Some collect.Missing) own all most many stan
 
 -- if everything that the planners send was taken, everything has arrived
 pub gathers_all :
-    (planners limit : ℕ) (rules : List Rule) (span : Bounds) (c : Collected) (b : Receiving Note) (refused : Option CollectFault) →
+    (planners limit : ℕ) (rules : List Rule) (span : Bounds) (c : Collected) (b : ReceivingEnd Note) (refused : Option CollectFault) →
     AcceptsMergings → is_size planners ≡ true → span.since ≤ span.upto → IsGathering planners limit rules span c b refused →
     ((k : ℕ) → k < planners → taken_at b k ≡ sent_by k planners limit rules span) → IsWhole c refused
 gathers_all planners limit rules span c b refused accepts size part so_far all =
@@ -347,7 +347,7 @@ gathers_all planners limit rules span c b refused accepts size part so_far all =
 
 -- what a collector has in common with another that gathers the same plan
 pub planners_kin :
-    {T : Type 0} (c new : Collected) (rings rings' : List Ring) (k : ℕ) (threads : List (PromisedHandle T Sending)) →
+    {T : Type 0} (c new : Collected) (rings rings' : List Ring) (k : ℕ) (threads : List (PromisedHandle T PlannerPromise)) →
     new.rules ≡ c.rules → new.span ≡ c.span → new.limit ≡ c.limit → length new.ended ≡ length c.ended → rings' ≡ rings →
     ArePlanners c rings k threads → ArePlanners new rings' k threads
 planners_kin c new rings rings' k [] own whole most size same are = tt
@@ -365,17 +365,17 @@ planners_kin c new rings rings' k (thread ∷ threads) own whole most size same 
 
 pub ends_kin :
     (c new : Collected) (r : Result Planned PlanFault) → new.rules ≡ c.rules → new.span ≡ c.span → new.limit ≡ c.limit →
-    Ends r new.rules new.span new.limit → Ends r c.rules c.span c.limit
-ends_kin c new r own whole most ends = subst (λ (limit : ℕ). Ends r c.rules c.span limit) most
-    (subst (λ (span : Bounds). Ends r c.rules span new.limit) whole
-    (subst (λ (rules : List Rule). Ends r rules new.span new.limit) own ends))
+    EndsAs r new.rules new.span new.limit → EndsAs r c.rules c.span c.limit
+ends_kin c new r own whole most ends = subst (λ (limit : ℕ). EndsAs r c.rules c.span limit) most
+    (subst (λ (span : Bounds). EndsAs r c.rules span new.limit) whole
+    (subst (λ (rules : List Rule). EndsAs r rules new.span new.limit) own ends))
 
 pub ok_map : (r : Result (Unit {0}) PlanFault) (A B : Type 0) → (A → B) → OnOk r A → OnOk r B
 ok_map (Ok x) A B go a = go a
 ok_map (Err f) A B go a = tt
 
 -- what was accounted for was taken, if nothing waits
-pub taken_all : (b : Receiving Note) (k : ℕ) (sent : List Note) → NothingKnown b → IsAccounted b k sent → taken_at b k ≡ sent
+pub taken_all : (b : ReceivingEnd Note) (k : ℕ) (sent : List Note) → NothingKnown b → IsAccounted b k sent → taken_at b k ≡ sent
 taken_all b k sent none accounted = sym (append-nil (taken_at b k)) ∙ ap (λ notes. taken_at b k ++ notes) (sym (none k)) ∙ accounted.1
 
 -- messages of the same plan

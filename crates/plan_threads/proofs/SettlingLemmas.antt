@@ -10,25 +10,25 @@ use Rattle.plan_collect.specs.declared.plan_fault.PlanFault.{PlanFault}
 use Rattle.plan_collect.specs.Collecting.{Collected}
 use Rattle.plan_collect.specs.Tiling.{sent_by}
 use Rattle.plan_mailbox.specs.declared.outlet.Receipt.{Receipt}
-use Rattle.plan_mailbox.specs.Ends.{Receiving, Ring, receipt_of}
-use Rattle.plan_threads.specs.declared.promise.Sending.{Sending}
+use Rattle.plan_mailbox.specs.Ends.{ReceivingEnd, Ring, receipt_of}
+use Rattle.plan_threads.specs.declared.promise.PlannerPromise.{PlannerPromise}
 use Rattle.plan_threads.specs.Promise.{Keeps}
 use Rattle.plan_threads.specs.Gathering.{IsAccounted, IsPlanner, IsThreadFault, all_notes}
 
 pub planner_ring :
-    (c : Collected) (rings : List Ring) (k : ℕ) (p : Sending) (r : Receipt Note × Bool) → IsPlanner c rings k p → Keeps p r →
+    (c : Collected) (rings : List Ring) (k : ℕ) (p : PlannerPromise) (r : Receipt Note × Bool) → IsPlanner c rings k p → Keeps p r →
     slice_get rings (receipt_of r.0).sender ≡ Some (receipt_of r.0).ring
 planner_ring c rings k p r is keeps = ap (slice_get rings) (keeps.0 ∙ is.sender) ∙ is.ring ∙ ap Some (sym keeps.1)
 
 pub planner_sent :
-    (c : Collected) (rings : List Ring) (k : ℕ) (p : Sending) (r : Receipt Note × Bool) → IsPlanner c rings k p → Keeps p r →
+    (c : Collected) (rings : List Ring) (k : ℕ) (p : PlannerPromise) (r : Receipt Note × Bool) → IsPlanner c rings k p → Keeps p r →
     r.1 ≡ false → (receipt_of r.0).sent ≡ all_notes c k
 planner_sent c rings k p r is keeps granted = keeps.2 granted ∙
     (λ i. sent_by (is.sender i) (is.planners i) (is.limit i) (is.rules i) (is.span i))
 
 -- the receipt of one more sender was settled
 pub accounts_more :
-    (all : ℕ → List Note) (b b' : Receiving Note) (done s : ℕ) (sent : List Note) → s ≡ done → sent ≡ all done →
+    (all : ℕ → List Note) (b b' : ReceivingEnd Note) (done s : ℕ) (sent : List Note) → s ≡ done → sent ≡ all done →
     IsAccounted b' s sent → ((k : ℕ) (x : List Note) → (k ≡ s → ⊥) → IsAccounted b k x → IsAccounted b' k x) →
     ((k : ℕ) → k < done → IsAccounted b k (all k)) → (k : ℕ) → k < done + 1 → IsAccounted b' k (all k)
 accounts_more all b b' done s sent own is here others before k lt =

@@ -13,14 +13,14 @@ use Rattle.plan_collect.specs.Agenda.{rules_of}
 use Rattle.plan_collect.specs.Span.{Bounds}
 use Rattle.plan_collect.specs.Collecting.{Collected, begun}
 use Rattle.plan_mailbox.specs.declared.outlet.Outlet.{Outlet}
-use Rattle.plan_mailbox.specs.Ends.{Receiving, Ring, Sending, new_inlet, new_outlets, outlet_of, taken_at}
-use Rattle.plan_threads.specs.declared.promise.Sending as promise
+use Rattle.plan_mailbox.specs.Ends.{ReceivingEnd, Ring, SendingEnd, new_inlet, new_outlets, outlet_of, taken_at}
+use Rattle.plan_threads.specs.declared.promise.PlannerPromise as promise
 use Rattle.plan_threads.specs.Gathering.{AreFresh, ArePlanners, IsGathering, IsPlanner}
 
 -- one more thread
 pub planners_more :
-    {T : Type 0} (c : Collected) (rings : List Ring) (k : ℕ) (threads : List (PromisedHandle T promise.Sending))
-    (thread : PromisedHandle T promise.Sending) →
+    {T : Type 0} (c : Collected) (rings : List Ring) (k : ℕ) (threads : List (PromisedHandle T promise.PlannerPromise))
+    (thread : PromisedHandle T promise.PlannerPromise) →
     ArePlanners c rings k threads → IsPlanner c rings (k + length threads) thread.promise →
     ArePlanners c rings k (threads ++ thread ∷ [])
 planners_more c rings k [] thread are is =
@@ -29,7 +29,7 @@ planners_more c rings k (first ∷ threads) thread are is =
     let later : k + length (first ∷ threads) ≡ (k + 1) + length threads = omega arith in
     (are.0, planners_more c rings (k + 1) threads thread are.1 (subst (λ n. IsPlanner c rings n thread.promise) later is))
 
-abbrev sending_at : ℕ × Ring → Sending Note
+abbrev sending_at : ℕ × Ring → SendingEnd Note
 sending_at p = record { sender = p.0; ring = p.1; sent = [] }
 
 -- new outlets are fresh
@@ -43,9 +43,9 @@ fresh_from k (outlet ∷ outlets) (ring ∷ rings) all are place =
     let here : outlet_of outlet ≡ record { sender = k; ring = ring; sent = [] } = cc in
     let later : map outlet_of outlets ≡ map sending_at (enumerate_from (k + 1) rings) = cc in
     let zeroth : k + 0 ≡ k = omega arith in (
-      ap (λ (s : Sending Note). s.sender) here,
-      subst (λ n. slice_get all n ≡ Some ring) zeroth (place 0 ring refl) ∙ ap (λ (s : Sending Note). Some s.ring) (sym here),
-      ap (λ (s : Sending Note). s.sent) here,
+      ap (λ (s : SendingEnd Note). s.sender) here,
+      subst (λ n. slice_get all n ≡ Some ring) zeroth (place 0 ring refl) ∙ ap (λ (s : SendingEnd Note). Some s.ring) (sym here),
+      ap (λ (s : SendingEnd Note). s.sent) here,
       fresh_from (k + 1) outlets rings all later
           (λ i r is. (let next : k + suc i ≡ (k + 1) + i = omega arith in subst (λ n. slice_get all n ≡ Some r) next (place (suc i) r is))),
     )
@@ -56,7 +56,7 @@ fresh_all outlets rings are = fresh_from 0 outlets rings rings are
 
 -- nothing has arrived yet
 pub gathers_none :
-    (planners limit : ℕ) (rules : List Rule) (span : Bounds) (c : Collected) (b : Receiving Note) (rings : List Ring) →
+    (planners limit : ℕ) (rules : List Rule) (span : Bounds) (c : Collected) (b : ReceivingEnd Note) (rings : List Ring) →
     c ≡ begun rules span planners limit → b ≡ new_inlet rings → length rings ≡ planners →
     IsGathering planners limit rules span c b None
 gathers_none planners limit rules span c b rings is new wide =
@@ -66,19 +66,19 @@ gathers_none planners limit rules span c b rings is new wide =
       span_is = ap (λ (x : Collected). x.span) is;
       limit_is = ap (λ (x : Collected). x.limit) is;
       size_is = ap (λ (x : Collected). length x.ended) is ∙ size;
-      lanes = ap (λ (x : Receiving Note). length x.taken) new ∙ length-replicate (length rings) [] ∙ wide;
-      rings = ap (λ (x : Receiving Note). length x.rings) new ∙ wide;
+      lanes = ap (λ (x : ReceivingEnd Note). length x.taken) new ∙ length-replicate (length rings) [] ∙ wide;
+      rings = ap (λ (x : ReceivingEnd Note). length x.rings) new ∙ wide;
       too_many = λ e. absurd cc;
       history = [];
       known = tt;
-      each = λ k few. sym (ap (λ (x : Receiving Note). taken_at x k) new ∙ get_or-replicate (length rings) k [] [] (omega arith));
+      each = λ k few. sym (ap (λ (x : ReceivingEnd Note). taken_at x k) new ∙ get_or-replicate (length rings) k [] [] (omega arith));
       stands = ap Ok (sym is);
     }
 
 -- the thread of this outlet's planner is that of planner n
 pub planner_is :
     (c : Collected) (rings : List Ring) (k n : ℕ) (outlet : Outlet Note) (jobs : List JobParts) (span : Bounds) (limit planners : ℕ)
-    (p : promise.Sending) →
+    (p : promise.PlannerPromise) →
     k ≡ n → p.outlet.value ≡ outlet → p.jobs.value ≡ jobs → p.span ≡ span → p.limit ≡ limit → p.planners ≡ planners →
     c ≡ begun (rules_of jobs) span planners limit → (outlet_of outlet).sender ≡ k →
     slice_get rings k ≡ Some (outlet_of outlet).ring → IsPlanner c rings n p

@@ -13,9 +13,9 @@ use Rattle.plan_collect.specs.Collecting.{Collected, begun, refusal, after, is_c
 use Rattle.plan_collect.specs.Merging.{answer_to}
 use Rattle.plan_collect.specs.Tiling.{notes_of, sent_by}
 use Rattle.std.specs.declared.thread.PromisedHandle.{PromisedHandle}
-use Rattle.plan_threads.specs.declared.promise.Sending.{Sending}
+use Rattle.plan_threads.specs.declared.promise.PlannerPromise.{PlannerPromise}
 use Rattle.plan_mailbox.specs.declared.outlet.Outlet.{Outlet}
-use Rattle.plan_mailbox.specs.Ends.{Receiving, Ring, Accounts, outlet_of, taken_at, is_settled_at}
+use Rattle.plan_mailbox.specs.Ends.{ReceivingEnd, Ring, Accounts, outlet_of, taken_at, is_settled_at}
 
 -- each message is from one of this many planners
 abbrev pub AreOf : (planners : ℕ) → List (ℕ × Note) → Type 0
@@ -30,7 +30,7 @@ Stands answer c (Some collect.NoMemory) = Unit {0}
 Stands answer c (Some fault) = answer ≡ Err fault
 
 -- the messages that were taken arrived in some order, and the collector and its first error are the result of that order
-pub record IsGathering (planners limit : ℕ) (rules : List Rule) (span : Bounds) (c : Collected) (b : Receiving Note)
+pub record IsGathering (planners limit : ℕ) (rules : List Rule) (span : Bounds) (c : Collected) (b : ReceivingEnd Note)
     (refused : Option CollectFault) : Type 0 where
   pub rules_are : c.rules ≡ rules
   pub span_is : c.span ≡ span
@@ -45,7 +45,7 @@ pub record IsGathering (planners limit : ℕ) (rules : List Rule) (span : Bounds
   pub stands : Stands (answer_to (begun rules span planners limit) history) c refused
 
 -- the receipt of sender s was settled, and these messages are what it sent
-abbrev pub IsAccounted : Receiving Note → ℕ → List Note → Type 0
+abbrev pub IsAccounted : ReceivingEnd Note → ℕ → List Note → Type 0
 IsAccounted b s sent = (is_settled_at b s ≡ true) × Accounts b s sent
 
 -- all messages that planner k of this collector's plan sends
@@ -53,7 +53,7 @@ abbrev pub all_notes : Collected → ℕ → List Note
 all_notes c k = sent_by k (length c.ended) c.limit c.rules c.span
 
 -- a thread promises the messages of planner k of the collector's plan, through the ring of sender k
-pub record IsPlanner (c : Collected) (rings : List Ring) (k : ℕ) (promise : Sending) : Type 0 where
+pub record IsPlanner (c : Collected) (rings : List Ring) (k : ℕ) (promise : PlannerPromise) : Type 0 where
   pub sender : (outlet_of promise.outlet.value).sender ≡ k
   pub ring : slice_get rings k ≡ Some (outlet_of promise.outlet.value).ring
   pub planners : promise.planners ≡ length c.ended
@@ -62,7 +62,7 @@ pub record IsPlanner (c : Collected) (rings : List Ring) (k : ℕ) (promise : Se
   pub span : promise.span ≡ c.span
 
 -- these threads are those of the planners from k on, in order
-abbrev pub ArePlanners : {T : Type 0} → Collected → List Ring → (k : ℕ) → List (PromisedHandle T Sending) → Type 0
+abbrev pub ArePlanners : {T : Type 0} → Collected → List Ring → (k : ℕ) → List (PromisedHandle T PlannerPromise) → Type 0
 ArePlanners c rings k [] = Unit {0}
 ArePlanners c rings k (thread ∷ threads) = IsPlanner c rings k thread.promise × ArePlanners c rings (k + 1) threads
 
@@ -90,11 +90,11 @@ IsThreadFault plan.NoMemory = Unit {0}
 IsThreadFault fault = ⊥
 
 -- the answer of a plan with valid sizes and a valid limit
-abbrev pub Ends : Result Planned PlanFault → List Rule → Bounds → (limit : ℕ) → Type 0
-Ends (Ok made) rules span limit =
+abbrev pub EndsAs : Result Planned PlanFault → List Rule → Bounds → (limit : ℕ) → Type 0
+EndsAs (Ok made) rules span limit =
     (made ≡ planned rules span) × (length made.entries ≤ limit) × IsOfJobs (length rules) made.entries
-Ends (Err (plan.Collect fault)) rules span limit = (fault ≡ TooMany) × (limit < length (agenda rules span))
-Ends (Err fault) rules span limit = IsThreadFault fault
+EndsAs (Err (plan.Collect fault)) rules span limit = (fault ≡ TooMany) × (limit < length (agenda rules span))
+EndsAs (Err fault) rules span limit = IsThreadFault fault
 
 -- these outlets are those of the senders from k on, in order, and nothing was sent
 abbrev pub AreFresh : List Ring → (k : ℕ) → List (Outlet Note) → Type 0

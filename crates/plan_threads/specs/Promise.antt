@@ -5,10 +5,10 @@ use Rattle.plan_collect.specs.Agenda.{rules_of}
 use Rattle.plan_collect.specs.Tiling.{sent_by}
 use Rattle.plan_mailbox.specs.declared.outlet.Receipt.{Receipt}
 use Rattle.plan_mailbox.specs.Ends.{outlet_of, receipt_of}
-use Rattle.plan_threads.specs.declared.promise.Sending.{Sending}
+use Rattle.plan_threads.specs.declared.promise.PlannerPromise.{PlannerPromise}
 
 -- the receipt is that of the outlet, and unless an allocation failed, it is for everything that its sender has to send
-abbrev pub Keeps : Sending → Receipt Note × Bool → Type 0
+abbrev pub Keeps : PlannerPromise → Receipt Note × Bool → Type 0
 Keeps p r =
     ((receipt_of r.0).sender ≡ (outlet_of p.outlet.value).sender)
     × ((receipt_of r.0).ring ≡ (outlet_of p.outlet.value).ring)

@@ -2,10 +2,10 @@
 use Rattle.std.specs.Prelude.{ℕ, nat_lt, if◌then◌else◌, List, [], ◌∷◌, ◌++◌}
 use Rattle.plan_collect.specs.declared.note.Note.{Note}
 use Rattle.plan_collect.specs.Tiling.{cut_after}
-use Rattle.plan_mailbox.specs.Ends.{Sending}
+use Rattle.plan_mailbox.specs.Ends.{SendingEnd}
 
 -- an outlet after a message was sent
-abbrev pub after_send : {M : Type 0} → Sending M → M → Sending M
+abbrev pub after_send : {M : Type 0} → SendingEnd M → M → SendingEnd M
 after_send before message = record before { sent = before.sent ++ message ∷ [] }
 
 -- what is sent of these messages after `count` starts were sent: nothing if `count` is more than the limit

@@ -7,10 +7,10 @@ ghost use Rattle.plan_collect.specs.declared.note.Note.{Note};
 ghost use Rattle.plan_collect.specs.Limits.{is_size};
 ghost use Rattle.plan_collect.specs.Span.{Bounds};
 ghost use Rattle.plan_mailbox.specs.Ends.{inlet_of, receipt_of, NothingKnown};
-ghost use Rattle.plan_threads.specs.Gathering.{ArePlanners, Ends, IsAccounted, IsGathering, IsThreadFault, IsWhole, Steps, all_notes};
+ghost use Rattle.plan_threads.specs.Gathering.{ArePlanners, EndsAs, IsAccounted, IsGathering, IsThreadFault, IsWhole, Steps, all_notes};
 
 use crate::pause::Pause;
-use crate::promise::Sending;
+use crate::promise::PlannerPromise;
 use plan_collect::{Agenda, CollectFault, Collector, Note, PlanFault, accepts_every_merging};
 use plan_mailbox::{Inlet, Receipt, takes_what_outlets_sent};
 use std::sync::Wait;
@@ -19,7 +19,7 @@ use std::sync::atomic::Ordering::SeqCst;
 use std::thread::{PromisedHandle, Threads};
 
 /// The thread of a planner.
-pub(crate) type Planner = PromisedHandle<(Receipt<Note>, bool), Sending>;
+pub(crate) type Planner = PromisedHandle<(Receipt<Note>, bool), PlannerPromise>;
 
 /// Where the planners' messages arrive.
 #[derive(Drop)]
@@ -52,7 +52,7 @@ impl Desk {
         requires gathers { IsGathering planners self.collector.limit self.collector.rules self.collector.span
             self.collector (inlet_of self.inlet) self.refused }
         requires threads { ArePlanners self.collector (inlet_of self.inlet).rings 0 threads.items }
-        ensures { Ends result self.collector.rules self.collector.span self.collector.limit }
+        ensures { EndsAs result self.collector.rules self.collector.span self.collector.limit }
     {
         accepts_every_merging();
         let mut desk = self;
@@ -146,7 +146,7 @@ impl Desk {
     fn finish(self, settled: Result<(), PlanFault>) -> Result<Agenda, PlanFault>
         requires fault { IfErr settled IsThreadFault }
         requires whole { OnOk settled (IsWhole self.collector self.refused) }
-        ensures { Ends result self.collector.rules self.collector.span self.collector.limit }
+        ensures { EndsAs result self.collector.rules self.collector.span self.collector.limit }
     {
         let refused = self.refused;
         if refused == Some(CollectFault::NoMemory) {

@@ -7,13 +7,13 @@ ghost use Rattle.plan_collect.specs.Limits.{is_limit, is_size};
 ghost use Rattle.plan_collect.specs.Tiling.{sent_by};
 ghost use Rattle.plan_mailbox.specs.Ends.{inlet_of, outlet_of, receipt_of};
 ghost use Rattle.plan_mailbox.specs.Mailbox.{is_size as is_mailbox_size};
-ghost use Rattle.plan_threads.specs.Gathering.{AreFresh, Ends, IsGathering};
+ghost use Rattle.plan_threads.specs.Gathering.{AreFresh, EndsAs, IsGathering};
 ghost use Rattle.plan_threads.specs.Planning.{PlansBy};
 
 use crate::desk::Desk;
 use crate::gate::Gate;
 use crate::planner::run_planner;
-use crate::promise::Sending;
+use crate::promise::PlannerPromise;
 use plan_collect::{Agenda, Collector, MOST_ENTRIES, MOST_PLANNERS, Note, PlanFault, Sizes, Span};
 use plan_mailbox::{MOST_ROOM, Outlet, Receipt, Rings};
 use plan_rules::Jobs;
@@ -77,7 +77,7 @@ fn run_threads<R: Threads + Wait + Sync, G: Gate>(
     requires as_many { vec_len outlets ≡ planners }
     requires begun { desk.collector ≡ begun (rules_of jobs.now) span planners limit }
     requires gathers { IsGathering planners limit (rules_of jobs.now) span desk.collector (inlet_of desk.inlet) desk.refused }
-    ensures { Ends result (rules_of jobs.now) span limit }
+    ensures { EndsAs result (rules_of jobs.now) span limit }
 {
     let flags = new_flags();
     let flags = &flags;
@@ -91,14 +91,14 @@ fn run_threads<R: Threads + Wait + Sync, G: Gate>(
             requires as_many { vec_len outlets ≡ planners }
             requires begun { desk.collector ≡ begun (rules_of jobs.now) span planners limit }
             requires gathers { IsGathering planners limit (rules_of jobs.now) span desk.collector (inlet_of desk.inlet) desk.refused }
-            ensures { Ends result (rules_of jobs.entry.now) span limit }
+            ensures { EndsAs result (rules_of jobs.entry.now) span limit }
         {
             let Ok(mut threads) = Vec::with_capacity(alloc, planners) else {
                 return Err(PlanFault::NoMemory);
             };
             for outlet in outlets {
                 let flag = &flags[threads.len()];
-                let promise = Sending {
+                let promise = PlannerPromise {
                     outlet: Snapshot::of(&outlet),
                     jobs: Snapshot::of(jobs),
                     span,

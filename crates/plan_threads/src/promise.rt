@@ -11,7 +11,7 @@ use std::thread::Promise;
 /// The promise that the planner of this outlet sends all its messages of the plan, unless an allocation
 /// fails.
 #[derive(Drop)]
-pub(crate) struct Sending {
+pub(crate) struct PlannerPromise {
     pub(crate) outlet: Snapshot<Outlet<Note>>,
     pub(crate) jobs: Snapshot<Jobs>,
     pub(crate) span: Span,
@@ -19,7 +19,7 @@ pub(crate) struct Sending {
     pub(crate) limit: u64,
 }
 
-impl Promise<(Receipt<Note>, bool)> for Sending {
+impl Promise<(Receipt<Note>, bool)> for PlannerPromise {
     ghost use Rattle.plan_threads.specs.Promise.{Keeps};
 
     ghost kept_by = { Keeps };

@@ -8,7 +8,7 @@ ghost use Rattle.plan_streams.specs.Stream.{Puts, PutsAllBut};
 use crate::buffer::Buffer;
 use crate::stamp::Stamp;
 use crate::write::{put_all, put_line};
-use plan_collect::Entry;
+use plan_collect::Start;
 use plan_next::next_start;
 use plan_rules::{Jobs, Rule};
 use plan_sets::END_SECOND;
@@ -20,7 +20,7 @@ use std::marker::Model;
 /// start come last, with `END_SECOND`.
 #[derive(Debug, Drop)]
 pub struct Upcoming {
-    nexts: Vec<Entry>,
+    nexts: Vec<Start>,
 }
 
 impl Model for Upcoming {
@@ -46,7 +46,7 @@ impl Upcoming {
     }
 
     // Lends the next starts, in order.
-    fn nexts(&self) -> &[Entry]
+    fn nexts(&self) -> &[Start]
         ensures { result.now ≡ self.now }
     {
         &self.nexts
@@ -54,13 +54,13 @@ impl Upcoming {
 }
 
 // Returns the next start of each job, in the order of the jobs.
-fn nexts_of(alloc: Global, jobs: &Jobs, after: u64) -> Result<Vec<Entry>, AllocError>
+fn nexts_of(alloc: Global, jobs: &Jobs, after: u64) -> Result<Vec<Start>, AllocError>
     ensures { IfOk result (λ nexts. nexts.items ≡ nexts_from 0 after jobs.now) }
 {
     let mut nexts = Vec::with_capacity(alloc, jobs.len())?;
     for number in 0..jobs.len() {
         if let Some(job) = jobs.get(number) {
-            nexts.push(Entry::new(next_or_end(job.rule(), after), number as u32))?;
+            nexts.push(Start::new(next_or_end(job.rule(), after), number as u32))?;
         }
     }
     Ok(nexts)
@@ -105,7 +105,7 @@ pub fn write_upcoming<S: Stream>(
 
 // Appends the line of a job's next start to the waiting bytes.
 fn put_next<S: Stream>(
-    next: Entry,
+    next: Start,
     jobs: &Jobs,
     stamp: &mut Stamp,
     waiting: &mut Buffer,

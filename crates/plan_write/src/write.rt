@@ -9,7 +9,7 @@ ghost use Rattle.plan_write.specs.Texts.{agenda_text, header_of, line_of};
 use crate::buffer::Buffer;
 use crate::stamp::Stamp;
 use itoa::Buffer as Digits;
-use plan_collect::{Agenda, Entry};
+use plan_collect::{Agenda, Start};
 use plan_rules::Jobs;
 use plan_sets::{END_SECOND, moment_text};
 use plan_streams::{Stream, WriteFault};
@@ -62,7 +62,7 @@ fn put_header<S: Stream>(
 // Appends the line of an entry to the waiting bytes.
 #[inline(always)]
 pub(crate) fn put_line<S: Stream>(
-    entry: Entry,
+    entry: Start,
     jobs: &Jobs,
     stamp: &mut Stamp,
     waiting: &mut Buffer,

@@ -1,7 +1,7 @@
 //! What arguments leave on both streams, and how often a file is opened, if files and streams fail.
 use crate::tests::files::FewFiles;
 use crate::tests::writers::{End, Limited};
-use agenda_answers::answer_words;
+use agenda_answers::answer_arguments;
 use std::alloc::Global;
 use std::process::Abort;
 use std::sync::Wait;
@@ -26,7 +26,7 @@ fn run(
     err: &mut Limited,
 ) -> Result<u8, Fail> {
     let line = command_line(rt.alloc(), words)?;
-    Ok(answer_words(rt, rt.alloc(), line.as_slice(), files, out, err))
+    Ok(answer_arguments(rt, rt.alloc(), line.as_slice(), files, out, err))
 }
 
 // Asserts that arguments end with this status, write these texts to the two streams, each by at most one

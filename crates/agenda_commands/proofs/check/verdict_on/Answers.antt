@@ -1,7 +1,7 @@
 use Rattle.std.proofs.Common.{◌≡◌, Bool, true, false, map, ap, sym, ◌∙◌}
 use Rattle.std.proofs.lemmas.List.Folds.{list_all-map}
 use Rattle.plan_check.specs.declared.Finding.{Finding}
-use Rattle.plan_check.specs.Finding.{is_note}
+use Rattle.plan_check.specs.Finding.{is_warning}
 use Rattle.agenda_sources.specs.declared.Found.{Found}
 use Rattle.agenda_sources.specs.Findings.{is_all_clean}
 use Rattle.agenda_commands.specs.Check.{verdict_of}
@@ -10,13 +10,13 @@ use Rattle.agenda_commands.proofs.check.verdict_on.Goals as goal
 pub returns-then-are_notes : goal.returns-then-are_notes
 returns-then-are_notes c =
     let all : is_all_clean c.args.found.now ≡ true =
-    list_all-map (λ (finding : Finding). is_note finding.what) (λ (one : Found). one.finding) c.args.found.now
+    list_all-map (λ (finding : Finding). is_warning finding.what) (λ (one : Found). one.finding) c.args.found.now
     ∙ sym c.are_notes.ensures ∙ c.if-are_notes.true in
     ap verdict_of (sym all)
 
 pub returns-else-are_notes : goal.returns-else-are_notes
 returns-else-are_notes c =
     let some : is_all_clean c.args.found.now ≡ false =
-    list_all-map (λ (finding : Finding). is_note finding.what) (λ (one : Found). one.finding) c.args.found.now
+    list_all-map (λ (finding : Finding). is_warning finding.what) (λ (one : Found). one.finding) c.args.found.now
     ∙ sym c.are_notes.ensures ∙ c.if-are_notes.false in
     ap verdict_of (sym some)

@@ -1,5 +1,5 @@
 use Rattle.std.proofs.Common.{◌≡◌, ◌++◌, map, take}
-use Rattle.agenda_words.specs.Words.{path_of}
+use Rattle.agenda_words.specs.Arguments.{path_of}
 use Rattle.agenda_words.proofs.paths.add_all.Given as goal
 
 -- the paths so far follow the paths from before the loop

@@ -1,7 +1,7 @@
 use Rattle.std.proofs.Common.{◌≡◌, ◌++◌, map, take}
 use Rattle.std.specs.List.{flat_map}
 use Rattle.clap.specs.Words.{found_of, rows_of}
-use Rattle.agenda_words.specs.Words.{path_of, paths_in}
+use Rattle.agenda_words.specs.Arguments.{path_of, paths_in}
 use Rattle.agenda_words.proofs.paths.add_kinds.Given as goal
 
 -- the paths of the kinds so far follow the paths from before the loop

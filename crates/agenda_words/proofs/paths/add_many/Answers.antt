@@ -3,7 +3,7 @@ use Rattle.std.specs.Prelude.{unwrap_or}
 use Rattle.clap.proofs.WalkLemmas.{raw_values-rows}
 use Rattle.clap.specs.Words.{all_of, found_of, rows_of}
 use Rattle.agenda_sources.specs.Kind.{option_of}
-use Rattle.agenda_words.specs.Words.{path_of}
+use Rattle.agenda_words.specs.Arguments.{path_of}
 use Rattle.agenda_words.proofs.paths.add_many.Goals as goal
 
 abbrev or_none : Option (List (List ℕ)) → List (List ℕ)

@@ -8,6 +8,6 @@ invariant-loop g l = record {
   room : l.senders ≤ vec_capacity l.lanes;
   reserved : All (λ lane. g.L.Lane.places lane ≡ l.room) l.lanes.items;
   empty : All (λ lane. g.L.Lane.waiting lane ≡ []) l.lanes.items;
-  not_shut : All (λ lane. g.L.Lane.marked lane ≡ false) l.lanes.items;
+  not_closed : All (λ lane. g.L.Lane.closed lane ≡ false) l.lanes.items;
   unused : All (λ lane. length (g.L.Lane.sent lane) ≡ 0) l.lanes.items;
 }

@@ -7,7 +7,7 @@ use Rattle.std.proofs.lemmas.Bool.{false≢true}
 use Rattle.std.proofs.lemmas.Option.{MatchOption-at_none, MatchOption-at_some}
 use Rattle.jiff_core.proofs.SignedLemmas.{signed_arith}
 use Rattle.plan_sets.specs.Civil.{civil_fields}
-use Rattle.plan_sets.specs.Moment.{number_of, written_fields, written_of, Says, Written}
+use Rattle.plan_sets.specs.Moment.{written_second, written_fields, written_of, Says, Written}
 use Rattle.plan_sets.proofs.CivilLemmas.{second_number-fits, IsCast-second}
 use Rattle.plan_sets.proofs.MomentLemmas.{moment_text_of-number, Says-moment_text_of, Says-second}
 use Rattle.plan_sets.proofs.moment.read_moment.Goals as goal
@@ -34,7 +34,7 @@ returns-then-number-lt0-clause-accepted c = λ n h e.
     let says = MatchOption-at_some ⊤ (λ f. Says text (written_fields f)) c.in_ok-fields.fields c.in_ok-fields.ensures.ok_part
     c.read.ensures.some in
     let found = Says-second text n w h (c.as_bytes.ensures.value ∙ e) says in
-    let number = MatchOption-at_some ⊤ (λ z. z ≡ number_of w) c.in_ok-number.number c.in_ok-number.ensures.ok_part
+    let number = MatchOption-at_some ⊤ (λ z. z ≡ written_second w) c.in_ok-number.number c.in_ok-number.ensures.ok_part
     c.second.ensures.number in
     let same : c.in_ok-number.number ≡ pos n = number ∙ found.1 in
     elim c.then-number-lt0.branch [
@@ -48,7 +48,7 @@ returns-clause-ok c =
     let w = written_fields c.in_ok-fields.fields in
     let says = MatchOption-at_some ⊤ (λ f. Says text (written_fields f)) c.in_ok-fields.fields c.in_ok-fields.ensures.ok_part
     c.read.ensures.some in
-    let number = MatchOption-at_some ⊤ (λ z. z ≡ number_of w) c.in_ok-number.number c.in_ok-number.ensures.ok_part
+    let number = MatchOption-at_some ⊤ (λ z. z ≡ written_second w) c.in_ok-number.number c.in_ok-number.ensures.ok_part
     c.second.ensures.number in
     let exists = c.second.ensures.some.0 (sym c.in_ok-number.ensures.variant) in
     let fits : FitsSigned w64 c.in_ok-number.number = rw number (second_number-fits _ _ _ _ _ _ exists) in
@@ -62,7 +62,7 @@ returns-clause-accepted c = λ n h e.
     let says = MatchOption-at_some ⊤ (λ f. Says text (written_fields f)) c.in_ok-fields.fields c.in_ok-fields.ensures.ok_part
     c.read.ensures.some in
     let found = Says-second text n w h (c.as_bytes.ensures.value ∙ e) says in
-    let number = MatchOption-at_some ⊤ (λ z. z ≡ number_of w) c.in_ok-number.number c.in_ok-number.ensures.ok_part
+    let number = MatchOption-at_some ⊤ (λ z. z ≡ written_second w) c.in_ok-number.number c.in_ok-number.ensures.ok_part
     c.second.ensures.number in
     let fits : FitsSigned w64 c.in_ok-number.number = rw number (second_number-fits _ _ _ _ _ _ found.0) in
     let k = IsCast-second c.in_ok-number.number (omega (arith, signed_arith)) (omega (arith, signed_arith)) in

@@ -6,7 +6,7 @@ use Rattle.std.specs.Arc.{arc_value}
 use Rattle.plan_next.specs.Piece.{piece_of}
 use Rattle.plan_collect.specs.declared.note.Note.{Note}
 use Rattle.plan_collect.specs.Limits.{most_starts}
-use Rattle.plan_mailbox.specs.Ends.{Sending, outlet_of}
+use Rattle.plan_mailbox.specs.Ends.{SendingEnd, outlet_of}
 use Rattle.plan_threads.proofs.SendingLemmas.{IsNext, sent_all, sent_on}
 use Rattle.plan_threads.proofs.planner.send_job.Goals as goal
 use Rattle.plan_threads.proofs.planner.send_job.Goals.{then-reached-limit-via-then-reached-limit, then-reached-limit-via-else-reached-limit+then-since-upto}
@@ -18,7 +18,7 @@ returns-then-reached-limit-clause-all g c =
     let new = (outlet_of c.send.new.outlet).sent in
     let next : IsNext c.args.job rule c.loop-piece.since c.args.span.upto sent new c.in_ok-piece.piece c.upto-since.result
     (length c.starts.result.now) = record {
-      new_is = ap (λ (s : Sending Note). s.sent) c.send.ensures;
+      new_is = ap (λ (s : SendingEnd Note). s.sent) c.send.ensures;
       piece_is = c.in_ok-piece.ensures.piece ∙ ap (λ upto. piece_of rule c.loop-piece.since upto most_starts) c.upto.ensures.value;
       end_is = c.upto-since.ensures.value;
       brought_is = ap length c.starts.ensures;
@@ -41,7 +41,7 @@ loop-piece-preserved g c =
     let new = (outlet_of c.send.new.outlet).sent in
     let next : IsNext c.args.job rule c.loop-piece.since c.args.span.upto sent new c.in_ok-piece.piece c.upto-since.result
     (length c.starts.result.now) = record {
-      new_is = ap (λ (s : Sending Note). s.sent) c.send.ensures;
+      new_is = ap (λ (s : SendingEnd Note). s.sent) c.send.ensures;
       piece_is = c.in_ok-piece.ensures.piece ∙ ap (λ upto. piece_of rule c.loop-piece.since upto most_starts) c.upto.ensures.value;
       end_is = c.upto-since.ensures.value;
       brought_is = ap length c.starts.ensures;
@@ -49,8 +49,8 @@ loop-piece-preserved g c =
     let more : c.upto-since.result < c.args.span.upto = omega (arith, c.upto-else-reached-limit.ensures.value, c.if-since-upto.false) in (
       omega arith,
       c.if-reached-limit.false,
-      ap (λ (s : Sending Note). s.sender) c.send.ensures ∙ c.loop-piece.invariant.2,
-      ap (λ (s : Sending Note). s.ring) c.send.ensures ∙ c.loop-piece.invariant.3,
+      ap (λ (s : SendingEnd Note). s.sender) c.send.ensures ∙ c.loop-piece.invariant.2,
+      ap (λ (s : SendingEnd Note). s.ring) c.send.ensures ∙ c.loop-piece.invariant.3,
       sent_on c.args.limit c.args.count c.args.job rule c.args.span.since c.args.span.upto
           (outlet_of c.args.outlet.now).sent sent new c.loop-piece.reached c.loop-piece.since c.upto-since.result
           (length c.starts.result.now) c.in_ok-piece.piece

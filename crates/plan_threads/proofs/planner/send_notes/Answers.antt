@@ -7,7 +7,7 @@ use Rattle.std.specs.Arc.{arc_value}
 use Rattle.plan_collect.specs.declared.note.Note.{Note}
 use Rattle.plan_collect.specs.Agenda.{rules_of}
 use Rattle.plan_collect.specs.Tiling.{sent_by}
-use Rattle.plan_mailbox.specs.Ends.{Sending, outlet_of}
+use Rattle.plan_mailbox.specs.Ends.{SendingEnd, outlet_of}
 use Rattle.plan_mailbox.specs.History.{IsPrefix}
 use Rattle.plan_threads.proofs.SendingLemmas.{IsSentUpTo, left_from, upto_other, upto_own, upto_own_part, upto_over, upto_end, rule_of, as_many_rules, job_there, on_err}
 use Rattle.plan_threads.proofs.planner.send_notes.Goals as goal
@@ -90,7 +90,7 @@ loop-number-preserved g c =
 pub returns-clause-all : goal.returns-clause-all
 returns-clause-all g c =
     let rules = rules_of c.args.jobs.now in
-    ap (λ (s : Sending Note). s.sent) c.send.ensures
+    ap (λ (s : SendingEnd Note). s.sent) c.send.ensures
     ∙ upto_end c.args.limit c.sender-planner.result c.args.planners rules c.args.span
     (outlet_of c.loop-number.outlet).sent c.loop-number.count c.loop-number.number
     c.loop-number.invariant.3 (omega (arith, as_many_rules c.args.jobs.now, c.len-number-end.ensures.len)) c.loop-number.invariant.0

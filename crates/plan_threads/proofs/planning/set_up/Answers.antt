@@ -2,7 +2,7 @@ use Rattle.std.proofs.Common.{◌≡◌, [], length, sym, ap, subst, ◌∙◌}
 use Rattle.std.proofs.lemmas.List.{length-map, length-replicate}
 use Rattle.plan_collect.specs.declared.note.Note.{Note}
 use Rattle.plan_collect.specs.Agenda.{rules_of}
-use Rattle.plan_mailbox.specs.Ends.{Receiving, inlet_of}
+use Rattle.plan_mailbox.specs.Ends.{ReceivingEnd, inlet_of}
 use Rattle.plan_mailbox.specs.Mailbox.{senders_of}
 use Rattle.plan_mailbox.specs.Splits.{rings_of}
 use Rattle.plan_threads.specs.Gathering.{AreFresh}
@@ -12,7 +12,7 @@ use Rattle.plan_threads.proofs.planning.set_up.Goals as goal
 pub returns-clause-outlets : goal.returns-clause-outlets
 returns-clause-outlets c =
     let rings = rings_of c.in-Ok-new.rings in
-    subst (λ rs. AreFresh rs 0 c.in-Ok-split.outlets.items) (sym (ap (λ (b : Receiving Note). b.rings) c.in-Ok-split.ensures.inlet))
+    subst (λ rs. AreFresh rs 0 c.in-Ok-split.outlets.items) (sym (ap (λ (b : ReceivingEnd Note). b.rings) c.in-Ok-split.ensures.inlet))
     (fresh_all c.in-Ok-split.outlets.items rings c.in-Ok-split.ensures.outlets)
 
 pub returns-clause-gathers : goal.returns-clause-gathers

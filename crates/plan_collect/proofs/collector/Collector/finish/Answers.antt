@@ -17,25 +17,25 @@ same_planned made rules span spans entries = λ i. record { span = spans i; entr
 
 pub new-requires : goal.new-requires
 new-requires c =
-    let is = agenda_sorted (the_view c.self.inside) c.args.self c.self.inside.entries.items c.sort_entries.new.entries.items
+    let is = agenda_sorted (the_view c.self.inside) c.args.self c.self.inside.entries.items c.sort_starts.new.starts.items
     c.is_complete.result c.self.view_is c.self.invariant c.is_complete.ensures c.if-not-is_complete.false
-    c.sort_entries.ensures.permutation c.sort_entries.ensures.sorted in
+    c.sort_starts.ensures.permutation c.sort_starts.ensures.sorted in
     subst IsInYears (sym is) (agenda-in_years c.args.self.rules c.args.self.span)
 
 pub returns-clause-agenda : goal.returns-clause-agenda
 returns-clause-agenda c =
-    let is = agenda_sorted (the_view c.self.inside) c.args.self c.self.inside.entries.items c.sort_entries.new.entries.items
+    let is = agenda_sorted (the_view c.self.inside) c.args.self c.self.inside.entries.items c.sort_starts.new.starts.items
     c.is_complete.result c.self.view_is c.self.invariant c.is_complete.ensures c.if-not-is_complete.false
-    c.sort_entries.ensures.permutation c.sort_entries.ensures.sorted in
+    c.sort_starts.ensures.permutation c.sort_starts.ensures.sorted in
     let complete = sym c.is_complete.ensures ∙ c.if-not-is_complete.false in
     rw complete (ap Ok (c.new.ensures ∙ same_planned _ c.args.self.rules c.args.self.span
     (ap (λ (s : Collected). s.span) c.self.view_is) is))
 
 pub returns-clause-jobs : goal.returns-clause-jobs
 returns-clause-jobs c =
-    let is = agenda_sorted (the_view c.self.inside) c.args.self c.self.inside.entries.items c.sort_entries.new.entries.items
+    let is = agenda_sorted (the_view c.self.inside) c.args.self c.self.inside.entries.items c.sort_starts.new.starts.items
     c.is_complete.result c.self.view_is c.self.invariant c.is_complete.ensures c.if-not-is_complete.false
-    c.sort_entries.ensures.permutation c.sort_entries.ensures.sorted in
+    c.sort_starts.ensures.permutation c.sort_starts.ensures.sorted in
     subst (λ (made : Planned). IsOfJobs (length c.args.self.rules) made.entries)
     (sym (c.new.ensures ∙ same_planned _ c.args.self.rules c.args.self.span (ap (λ (s : Collected). s.span) c.self.view_is) is))
     (agenda-of_rules c.args.self.rules c.args.self.span)

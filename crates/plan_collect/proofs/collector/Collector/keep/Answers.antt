@@ -1,6 +1,6 @@
 use Rattle.std.proofs.Common.{arith}
 use Rattle.plan_collect.specs.contracts.collector.Collector.{the_view}
-use Rattle.plan_collect.proofs.EntryLemmas.{starts-in_years}
+use Rattle.plan_collect.proofs.StartLemmas.{starts-in_years}
 use Rattle.plan_collect.proofs.HoldsLemmas.{Holds-kept, job_covered}
 use Rattle.plan_collect.proofs.collector.Collector.keep.Goals as goal
 

@@ -8,8 +8,8 @@ returns-clause-made g c =
     let lanes = c.in_ok-new_lanes.field-0 in
     let many : length lanes.items ≡ c.args.senders = omega (arith, lanes.ok, c.in_ok-new_lanes.ensures.many) in
     let nothing_waits = map_replicate g.L.Lane.waiting [] lanes.items c.args.senders many c.in_ok-new_lanes.ensures.empty in
-    let none_shut = map_replicate g.L.Lane.marked false lanes.items c.args.senders many c.in_ok-new_lanes.ensures.not_shut in
-    rw (nothing_waits, none_shut)
+    let none_closed = map_replicate g.L.Lane.closed false lanes.items c.args.senders many c.in_ok-new_lanes.ensures.not_closed in
+    rw (nothing_waits, none_closed)
 
 pub returns-clause-is_new : goal.returns-clause-is_new
 returns-clause-is_new g c = IsNew-at _ c.args.senders c.args.room (returns-clause-made g c)

@@ -17,11 +17,11 @@ returns-clause-after g c =
     let was : waiting_at before c.args.sender ≡ g.L.Lane.waiting lane =
     map_read g.L.Lane.waiting lanes.items c.args.sender lane [] known c.in-Some.ensures.value in
     let waits = map-set g.L.Lane.waiting lanes.items c.args.sender pushed in
-    let marks_stay = map_set_same g.L.Lane.marked lanes.items c.args.sender pushed lane known c.in-Some.ensures.value
-    c.push.ensures.mark_stays in
+    let marks_stay = map_set_same g.L.Lane.closed lanes.items c.args.sender pushed lane known c.in-Some.ensures.value
+    c.push.ensures.closed_stays in
     let sent : send_reply before c.args.sender c.args.message ≡ Sent = send_reply-sent before c.args.sender c.args.message
     (rw length-map known)
-    (map_read g.L.Lane.marked lanes.items c.args.sender lane false known c.in-Some.ensures.value ∙ sym c.is_shut.ensures
-    ∙ c.if-is_shut.false)
+    (map_read g.L.Lane.closed lanes.items c.args.sender lane false known c.in-Some.ensures.value ∙ sym c.is_closed.ensures
+    ∙ c.if-is_closed.false)
     (λ e. c.if-len-self.false (c.len.ensures ∙ sym (ap length was) ∙ e)) in
     rw (waits, marks_stay, c.push.ensures.waits, ← was) (sym (ap (sending before c.args.sender c.args.message) sent))

@@ -34,32 +34,32 @@ returns-in-Some-clause-after g c =
     c.in-Some.ensures.known in
     let was = map_read g.L.Lane.waiting lanes.items c.in-Some.sender lane [] known c.index_mut.ensures.value in
     let waits = map-set g.L.Lane.waiting lanes.items c.in-Some.sender left in
-    let marks_stay = map_set_same g.L.Lane.marked lanes.items c.in-Some.sender left lane known c.index_mut.ensures.value
-    c.pop-message.ensures.mark_stays in
+    let marks_stay = map_set_same g.L.Lane.closed lanes.items c.in-Some.sender left lane known c.index_mut.ensures.value
+    c.pop-message.ensures.closed_stays in
     let many : c.len.result ≡ senders_of before = c.len.ensures ∙ lanes.ok.0 ∙ sym (length-map lanes.items g.L.Lane.waiting) in
     rw (waits, marks_stay, many) (rw (was ∙ c.pop-message.ensures.oldest) at
     (sym (ap (taking_from before) (sym (returns-in-Some-clause-reply g c)))))
 
-pub returns-then-all_shut-clause-reply : goal.returns-then-all_shut-clause-reply
-returns-then-all_shut-clause-reply g c =
+pub returns-then-all_closed-clause-reply : goal.returns-then-all_closed-clause-reply
+returns-then-all_closed-clause-reply g c =
     let lanes = c.args.self.now.lanes in
-    let shut = list_all-map (λ b. b) g.L.Lane.marked lanes.items ∙ ap (list_all g.L.Lane.marked) (sym c.deref-in-None.ensures.value)
-    ∙ sym c.all_shut.ensures ∙ c.if-all_shut.true in
+    let closed = list_all-map (λ b. b) g.L.Lane.closed lanes.items ∙ ap (list_all g.L.Lane.closed) (sym c.deref-in-None.ensures.value)
+    ∙ sym c.all_closed.ensures ∙ c.if-all_closed.true in
     sym (take_reply-none (mailbox_of c.args.self.now) true
     (next-none-in g.L.Lane.waiting lanes.items c.deref.result.now c.args.self.now.turn c.deref.ensures.value
-    c.in-None.ensures.first) shut)
+    c.in-None.ensures.first) closed)
 
-pub returns-then-all_shut-clause-after : goal.returns-then-all_shut-clause-after
-returns-then-all_shut-clause-after g c = ap (taking_from (mailbox_of c.args.self.now)) (returns-then-all_shut-clause-reply g c)
+pub returns-then-all_closed-clause-after : goal.returns-then-all_closed-clause-after
+returns-then-all_closed-clause-after g c = ap (taking_from (mailbox_of c.args.self.now)) (returns-then-all_closed-clause-reply g c)
 
-pub returns-else-all_shut-clause-reply : goal.returns-else-all_shut-clause-reply
-returns-else-all_shut-clause-reply g c =
+pub returns-else-all_closed-clause-reply : goal.returns-else-all_closed-clause-reply
+returns-else-all_closed-clause-reply g c =
     let lanes = c.args.self.now.lanes in
-    let shut = list_all-map (λ b. b) g.L.Lane.marked lanes.items ∙ ap (list_all g.L.Lane.marked) (sym c.deref-in-None.ensures.value)
-    ∙ sym c.all_shut.ensures ∙ c.if-all_shut.false in
+    let closed = list_all-map (λ b. b) g.L.Lane.closed lanes.items ∙ ap (list_all g.L.Lane.closed) (sym c.deref-in-None.ensures.value)
+    ∙ sym c.all_closed.ensures ∙ c.if-all_closed.false in
     sym (take_reply-none (mailbox_of c.args.self.now) false
     (next-none-in g.L.Lane.waiting lanes.items c.deref.result.now c.args.self.now.turn c.deref.ensures.value
-    c.in-None.ensures.first) shut)
+    c.in-None.ensures.first) closed)
 
-pub returns-else-all_shut-clause-after : goal.returns-else-all_shut-clause-after
-returns-else-all_shut-clause-after g c = ap (taking_from (mailbox_of c.args.self.now)) (returns-else-all_shut-clause-reply g c)
+pub returns-else-all_closed-clause-after : goal.returns-else-all_closed-clause-after
+returns-else-all_closed-clause-after g c = ap (taking_from (mailbox_of c.args.self.now)) (returns-else-all_closed-clause-reply g c)

@@ -4,7 +4,7 @@
 use Rattle.std.proofs.Common.{◌≡◌, ◌≤◌, ◌+◌, ◌∷◌, length, vec_len, sym, ap, subst, ◌∙◌, arith}
 use Rattle.std.specs.Vec.Iter.{into_iter_items, into_iter_len}
 use Rattle.plan_mailbox.specs.Ends.{inlet_of}
-use Rattle.plan_threads.specs.declared.promise.Sending as promise
+use Rattle.plan_threads.specs.declared.promise.PlannerPromise as promise
 use Rattle.plan_threads.specs.Gathering.{AreFresh, ArePlanners, IsPlanner}
 use Rattle.plan_threads.proofs.StartLemmas.{planner_is, planners_more}
 use Rattle.plan_threads.proofs.planning.fn.run_threads.scope.Goals as goal
@@ -27,11 +27,11 @@ loop-outlet-preserved g c =
     planner_is desk.collector rings number (0 + length c.loop-outlet.threads.items) c.in-Some.outlet c.captures.jobs.now
     c.captures.span c.captures.limit c.captures.planners thread.promise
     (omega (arith, c.loop-outlet.threads.ok))
-    (ap (λ (p : promise.Sending). p.outlet.value) ok ∙ c.of.ensures)
-    (ap (λ (p : promise.Sending). p.jobs.value) ok ∙ c.of-in-loop-outlet.ensures)
-    (ap (λ (p : promise.Sending). p.span) ok)
-    (ap (λ (p : promise.Sending). p.limit) ok)
-    (ap (λ (p : promise.Sending). p.planners) ok)
+    (ap (λ (p : promise.PlannerPromise). p.outlet.value) ok ∙ c.of.ensures)
+    (ap (λ (p : promise.PlannerPromise). p.jobs.value) ok ∙ c.of-in-loop-outlet.ensures)
+    (ap (λ (p : promise.PlannerPromise). p.span) ok)
+    (ap (λ (p : promise.PlannerPromise). p.limit) ok)
+    (ap (λ (p : promise.PlannerPromise). p.planners) ok)
     c.requires.begun fresh.0 fresh.1 in
     record {
       can = tt;

@@ -1,0 +1,222 @@
+-- Worked rows of the command line: what the arguments request, by the definition.
+-- They answer the goals of no function, but test `asked_by`, which is unfolded with clap's definitions and
+-- computed. One row holds for any two plain words (`any_moment_and_rule`). It depends on how clap reads them.
+use Rattle.std.proofs.Common.{◌≡◌, List, ℕ, [], ◌∷◌, false, None, Some, Ok, Err, codes, refl}
+use Rattle.std.specs.Str.{bytes_eq}
+use Rattle.clap.specs.Lexer.{long_of, short_of}
+use Rattle.clap.proofs.OnLiterals.{clap_on_literals}
+use Rattle.plan_collect.specs.declared.Sizes.{Sizes}
+use Rattle.agenda_words.specs.declared.ask.Ask.TheVariants.{Next, Plan, Upcoming, Quiet, Steps}
+use Rattle.agenda_sources.specs.declared.Asked.TheVariants.{Cron, Event}
+use Rattle.agenda_sources.specs.declared.SourceKind.TheVariants.{Crontab, System, CronD, Spool, Timer}
+use Rattle.agenda_words.specs.Arguments.{asked_by, is_usage, path_of, wants_help}
+use Rattle.agenda_words.proofs.OnLiterals.{agenda_on_literals}
+
+abbrev moment : List ℕ
+moment = codes "2024-01-01T00:00:00Z"
+
+abbrev rule : List ℕ
+rule = codes "30 4 1,15 * 5"
+
+abbrev next_with : List (List ℕ) → List (List ℕ)
+next_with words = codes "agenda" ∷ codes "next" ∷ codes "--after" ∷ moment ∷ words
+
+-- both values and the number
+four_starts : asked_by (next_with (codes "--count" ∷ codes "4" ∷ codes "--cron" ∷ rule ∷ [])) ≡ Ok (Next moment None 4 (Cron rule))
+unfolding asked_by clap_on_literals agenda_on_literals
+four_starts = refl
+
+-- a zone
+a_zone_is_given :
+    asked_by (next_with (codes "--zone" ∷ codes "Europe/Oslo" ∷ codes "--cron" ∷ rule ∷ []))
+    ≡ Ok (Next moment (Some (codes "Europe/Oslo")) 1 (Cron rule))
+unfolding asked_by clap_on_literals agenda_on_literals
+a_zone_is_given = refl
+
+-- two zones
+two_zones_are_given :
+    asked_by (next_with (codes "--zone" ∷ codes "UTC" ∷ codes "--zone" ∷ codes "UTC" ∷ codes "--cron" ∷ rule ∷ [])) ≡ Err is_usage
+unfolding asked_by clap_on_literals agenda_on_literals
+two_zones_are_given = refl
+
+-- one start without `--count`
+one_start_by_default : asked_by (next_with (codes "--cron" ∷ rule ∷ [])) ≡ Ok (Next moment None 1 (Cron rule))
+unfolding asked_by clap_on_literals agenda_on_literals
+one_start_by_default = refl
+
+-- a count of 0 is accepted here
+no_start : asked_by (next_with (codes "--count" ∷ codes "0" ∷ codes "--cron" ∷ rule ∷ [])) ≡ Ok (Next moment None 0 (Cron rule))
+unfolding asked_by clap_on_literals agenda_on_literals
+no_start = refl
+
+-- the largest number of 32 bits
+most_starts : asked_by (next_with (codes "--count=4294967295" ∷ codes "--cron" ∷ rule ∷ [])) ≡ Ok (Next moment None 4294967295 (Cron rule))
+unfolding asked_by clap_on_literals agenda_on_literals
+most_starts = refl
+
+-- a count that is too large for 32 bits
+one_start_too_many : asked_by (next_with (codes "--count=4294967296" ∷ codes "--cron" ∷ rule ∷ [])) ≡ Err is_usage
+unfolding asked_by clap_on_literals agenda_on_literals
+one_start_too_many = refl
+
+-- a count that isn't a number
+count_is_no_number : asked_by (next_with (codes "--count" ∷ codes "x" ∷ codes "--cron" ∷ rule ∷ [])) ≡ Err is_usage
+unfolding asked_by clap_on_literals agenda_on_literals
+count_is_no_number = refl
+
+-- no `--cron`, which clap accepts
+no_rule_is_given : asked_by (next_with []) ≡ Err is_usage
+unfolding asked_by clap_on_literals agenda_on_literals
+no_rule_is_given = refl
+
+-- no `--after`, which clap rejects
+no_moment_is_given : asked_by (codes "agenda" ∷ codes "next" ∷ codes "--cron" ∷ rule ∷ []) ≡ Err is_usage
+unfolding asked_by clap_on_literals agenda_on_literals
+no_moment_is_given = refl
+
+-- only the program's name
+no_subcommand_is_given : asked_by (codes "agenda" ∷ []) ≡ Err is_usage
+unfolding asked_by clap_on_literals agenda_on_literals
+no_subcommand_is_given = refl
+
+-- help comes before missing options
+help_is_wanted : asked_by (codes "agenda" ∷ codes "next" ∷ codes "--help" ∷ []) ≡ Err wants_help
+unfolding asked_by clap_on_literals agenda_on_literals
+help_is_wanted = refl
+
+-- a word that clap doesn't read as a flag
+record IsPlainWord (word : List ℕ) : Type 0 where
+  long : long_of word ≡ None
+  short : short_of word ≡ None
+  trailing : bytes_eq word (codes "--") ≡ false
+
+-- any two plain words are accepted
+any_moment_and_rule : (name after cron : List ℕ) → IsPlainWord after → IsPlainWord cron
+    → asked_by (name ∷ codes "next" ∷ codes "--after" ∷ after ∷ codes "--cron" ∷ cron ∷ []) ≡ Ok (Next after None 1 (Cron cron))
+unfolding asked_by clap_on_literals agenda_on_literals
+any_moment_and_rule name after cron a c =
+    rw (a.trailing, a.long, a.short, c.trailing, c.long, c.short) (refl {a = Ok (Next after None 1 (Cron cron))})
+
+-- a calendar event
+an_event_is_given : asked_by (next_with (codes "--calendar" ∷ codes "daily" ∷ [])) ≡ Ok (Next moment None 1 (Event (codes "daily")))
+unfolding asked_by clap_on_literals agenda_on_literals
+an_event_is_given = refl
+
+-- a calendar event and a cron rule
+two_rules_are_given : asked_by (next_with (codes "--calendar" ∷ codes "daily" ∷ codes "--cron" ∷ rule ∷ [])) ≡ Err is_usage
+unfolding asked_by clap_on_literals agenda_on_literals
+two_rules_are_given = refl
+
+-- a script's path
+a_script_is_given : asked_by (codes "agenda" ∷ codes "steps" ∷ codes "a/b c" ∷ []) ≡ Ok (Steps (codes "a/b c"))
+unfolding asked_by clap_on_literals agenda_on_literals
+a_script_is_given = refl
+
+-- no path
+no_script_is_given : asked_by (codes "agenda" ∷ codes "steps" ∷ []) ≡ Err is_usage
+unfolding asked_by clap_on_literals agenda_on_literals
+no_script_is_given = refl
+
+-- two paths
+two_scripts_are_given : asked_by (codes "agenda" ∷ codes "steps" ∷ codes "a" ∷ codes "b" ∷ []) ≡ Err is_usage
+unfolding asked_by clap_on_literals agenda_on_literals
+two_scripts_are_given = refl
+
+-- another subcommand
+plans_is_no_subcommand : asked_by (codes "agenda" ∷ codes "plans" ∷ []) ≡ Err is_usage
+unfolding asked_by clap_on_literals agenda_on_literals
+plans_is_no_subcommand = refl
+
+abbrev plan_with : List (List ℕ) → List (List ℕ)
+plan_with words = codes "agenda" ∷ codes "plan" ∷ codes "--since" ∷ moment ∷ codes "--upto" ∷ codes "u" ∷ words
+
+abbrev sized : (planners room limit : ℕ) → Sizes
+sized planners room limit = record { planners = planners; room = room; limit = limit }
+
+-- only a span: no crontab, no timer, and the default of each number
+a_span_is_given : asked_by (plan_with []) ≡ Ok (Plan moment (codes "u") None [] (sized 2 16 10000))
+unfolding asked_by clap_on_literals agenda_on_literals
+a_span_is_given = refl
+
+-- every option
+all_is_given : asked_by (plan_with (codes "--crontab" ∷ codes "c" ∷ codes "--system-crontab" ∷ codes "s" ∷ codes "--planners" ∷ codes "3"
+    ∷ codes "--room" ∷ codes "4" ∷ codes "--limit" ∷ codes "5" ∷ []))
+    ≡ Ok (Plan moment (codes "u") None (path_of Crontab (codes "c") ∷ path_of System (codes "s") ∷ []) (sized 3 4 5))
+unfolding asked_by clap_on_literals agenda_on_literals
+all_is_given = refl
+
+-- timers, also between options, in the order of the arguments
+timers_are_given : asked_by (plan_with (codes "b.timer" ∷ codes "--room=1" ∷ codes "a.timer" ∷ codes "--" ∷ codes "-c" ∷ []))
+    ≡ Ok (Plan moment (codes "u") None (path_of Timer (codes "b.timer") ∷ path_of Timer (codes "a.timer") ∷ path_of Timer (codes "-c") ∷ [])
+    (sized 2 1 10000))
+unfolding asked_by clap_on_literals agenda_on_literals
+timers_are_given = refl
+
+-- no `--since`
+no_beginning_is_given : asked_by (codes "agenda" ∷ codes "plan" ∷ codes "--upto" ∷ moment ∷ []) ≡ Err is_usage
+unfolding asked_by clap_on_literals agenda_on_literals
+no_beginning_is_given = refl
+
+-- no `--upto`
+no_end_is_given : asked_by (codes "agenda" ∷ codes "plan" ∷ codes "--since" ∷ moment ∷ []) ≡ Err is_usage
+unfolding asked_by clap_on_literals agenda_on_literals
+no_end_is_given = refl
+
+-- a timer before the options of crontabs: the sources are in the order of their kinds
+sources_in_order : asked_by (plan_with (codes "t.timer" ∷ codes "--system-crontab" ∷ codes "s" ∷ codes "--crontab" ∷ codes "c" ∷ []))
+    ≡ Ok (Plan moment (codes "u") None (path_of Crontab (codes "c") ∷ path_of System (codes "s") ∷ path_of Timer (codes "t.timer") ∷ [])
+    (sized 2 16 10000))
+unfolding asked_by clap_on_literals agenda_on_literals
+sources_in_order = refl
+
+-- crontabs that have names, any number of them; those of one kind are in the order of the arguments
+named_crontabs :
+    asked_by (plan_with (codes "--spool=u" ∷ codes "--cron-d" ∷ codes "b" ∷ codes "--cron-d=a" ∷ codes "--spool" ∷ codes "-" ∷ []))
+    ≡ Ok (Plan moment (codes "u") None (path_of CronD (codes "b") ∷ path_of CronD (codes "a") ∷ path_of Spool (codes "u")
+    ∷ path_of Spool (codes "-") ∷ []) (sized 2 16 10000))
+unfolding asked_by clap_on_literals agenda_on_literals
+named_crontabs = refl
+
+-- two user crontabs, which clap rejects
+two_crontabs_are_given : asked_by (plan_with (codes "--crontab" ∷ codes "c" ∷ codes "--crontab=d" ∷ [])) ≡ Err is_usage
+unfolding asked_by clap_on_literals agenda_on_literals
+two_crontabs_are_given = refl
+
+-- a number of planners that isn't a number
+planners_are_no_number : asked_by (plan_with (codes "--planners" ∷ codes "x" ∷ [])) ≡ Err is_usage
+unfolding asked_by clap_on_literals agenda_on_literals
+planners_are_no_number = refl
+
+-- a limit of more than 32 bits
+limit_is_too_large : asked_by (plan_with (codes "--limit=4294967296" ∷ [])) ≡ Err is_usage
+unfolding asked_by clap_on_literals agenda_on_literals
+limit_is_too_large = refl
+
+-- `--version` without a subcommand
+version_is_wanted : asked_by (codes "agenda" ∷ codes "--version" ∷ []) ≡ Err wants_help
+unfolding asked_by clap_on_literals agenda_on_literals
+version_is_wanted = refl
+
+no_version_of_next : asked_by (next_with (codes "--version" ∷ [])) ≡ Err is_usage
+unfolding asked_by clap_on_literals agenda_on_literals
+no_version_of_next = refl
+
+-- `upcoming` with a crontab and a timer
+upcoming_of_two :
+    asked_by (codes "agenda" ∷ codes "upcoming" ∷ codes "a.timer" ∷ codes "--crontab" ∷ codes "c" ∷ codes "--after" ∷ moment ∷ [])
+    ≡ Ok (Upcoming moment None (path_of Crontab (codes "c") ∷ path_of Timer (codes "a.timer") ∷ []))
+unfolding asked_by clap_on_literals agenda_on_literals
+upcoming_of_two = refl
+
+-- `quiet` with all defaults: gaps of half an hour, and a limit of 1,000,000
+quiet_by_default : asked_by (codes "agenda" ∷ codes "quiet" ∷ codes "--since" ∷ moment ∷ codes "--upto" ∷ codes "z" ∷ [])
+    ≡ Ok (Quiet moment (codes "z") None [] (record { planners = 2; room = 16; limit = 1000000 }) 1800)
+unfolding asked_by clap_on_literals agenda_on_literals
+quiet_by_default = refl
+
+-- a negative gap
+quiet_of_less :
+    asked_by (codes "agenda" ∷ codes "quiet" ∷ codes "--since" ∷ moment ∷ codes "--upto" ∷ moment ∷ codes "--least" ∷ codes "-1" ∷ [])
+    ≡ Err is_usage
+unfolding asked_by clap_on_literals agenda_on_literals
+quiet_of_less = refl

@@ -1,0 +1,166 @@
+-- What the arguments of the command line request.
+use Rattle.std.specs.Prelude.{◌≡◌, ⊤, ℕ, false, List, [], ◌∷◌, Option, Some, None, Result, Ok, Err}
+use Rattle.std.specs.Prelude.{codes, if◌then◌else◌, map, option_and_then, unwrap_or}
+use Rattle.std.specs.List.{flat_map}
+use Rattle.std.specs.Str.{bytes_eq}
+use Rattle.std.specs.Str.Parse.{digits_value, without_leading_plus}
+use Rattle.clap.specs.ValueTests.{accepts}
+use Rattle.clap.specs.Words.{Kinds, Row, all_of, fault_of, first_of, one_of, subcommand_of}
+use Rattle.clap.specs.declared.builder.value_parser.ValueParser.TheVariants as parser
+use Rattle.clap.specs.declared.error.kind.ErrorKind.{ErrorKind}
+use Rattle.clap.specs.declared.error.kind.ErrorKind.TheVariants.{DisplayHelp, DisplayVersion, OutOfMemory}
+use Rattle.plan_collect.specs.declared.Sizes.{Sizes}
+use Rattle.agenda_words.specs.declared.ask.Ask.{Ask}
+use Rattle.agenda_words.specs.declared.ask.Ask.TheVariants.{Next, Plan, Upcoming, Quiet, Check, Steps}
+use Rattle.agenda_sources.specs.declared.Asked.{Asked}
+use Rattle.agenda_sources.specs.declared.Asked.TheVariants.{Cron, Event}
+use Rattle.agenda_words.specs.declared.ask.UsageFault.{UsageFault}
+use Rattle.agenda_words.specs.declared.ask.UsageFault.TheVariants.{NoMemory, Usage, Help}
+use Rattle.agenda_sources.specs.declared.SourceKind.{SourceKind}
+use Rattle.agenda_sources.specs.declared.SourcePath.{SourcePath}
+use Rattle.agenda_sources.specs.Kind.{is_many, kinds, option_of}
+use Rattle.agenda_words.specs.Command.{agenda}
+
+-- why arguments request no command: they request help or the version, or they are invalid (agenda)
+pub data Refusal : Type 0 where
+  wants_help : Refusal
+  is_usage : Refusal
+
+infixl 10 ◌>>=◌
+-- one step after another: the first refusal is the result (agenda)
+abbrev pub ◌>>=◌ : {X Y : Type 0} → Result X Refusal → (X → Result Y Refusal) → Result Y Refusal
+(Ok x) >>= f = f x
+(Err e) >>= f = Err e
+
+-- the value of a required option (agenda)
+abbrev pub wanted : {X : Type 0} → Option X → Result X Refusal
+wanted None = Err is_usage
+wanted (Some x) = Ok x
+
+-- the number that a text gives in decimal digits, if it has at most 32 bits (agenda)
+abbrev pub number_in_text : List ℕ → Option ℕ
+number_in_text text = if accepts false (parser.Unsigned 0 4294967295) text
+    then Some (digits_value 10 (without_leading_plus text)) else None
+
+-- the number in an optional text (agenda)
+abbrev pub number_in : Option (List ℕ) → Option ℕ
+number_in text = option_and_then number_in_text text
+
+-- exactly one of a cron rule and a calendar event is required (agenda)
+abbrev pub one_rule : Option (List ℕ) → Option (List ℕ) → Result Asked Refusal
+one_rule (Some cron) None = Ok (Cron cron)
+one_rule None (Some calendar) = Ok (Event calendar)
+one_rule (Some cron) (Some calendar) = Err is_usage
+one_rule None None = Err is_usage
+
+-- the text of the zone, which is optional (agenda)
+abbrev pub zone_in : List Row → Option (List ℕ)
+zone_in rows = first_of (codes "zone") rows
+
+-- what `next` requests, by its values (agenda)
+abbrev pub asked_by_next : List Row → Result Ask Refusal
+asked_by_next rows = do
+  after ← wanted (first_of (codes "after") rows)
+  count ← wanted (number_in (one_of (codes "count") rows))
+  rule ← one_rule (first_of (codes "cron") rows) (first_of (codes "calendar") rows)
+  Ok (Next after (zone_in rows) count rule)
+
+-- the sizes of a plan, in the order in which they are checked (agenda)
+abbrev pub sizes_in : List Row → Result Sizes Refusal
+sizes_in rows = do
+  planners ← wanted (number_in (one_of (codes "planners") rows))
+  room ← wanted (number_in (one_of (codes "room") rows))
+  limit ← wanted (number_in (one_of (codes "limit") rows))
+  Ok (record { planners = planners; room = room; limit = limit })
+
+-- a path with the kind of its source (agenda)
+abbrev pub path_of : SourceKind → List ℕ → SourcePath
+path_of kind path = record { kind = kind; path = path }
+
+-- an optional text, as a list (agenda)
+abbrev pub all_given : Option (List ℕ) → List (List ℕ)
+all_given None = []
+all_given (Some text) = text ∷ []
+
+-- the paths of the sources of a kind: all of them, in the order of the arguments, or at most one for a kind
+-- with a single source (agenda)
+abbrev pub paths_in : SourceKind → List Row → List (List ℕ)
+paths_in kind rows =
+    if is_many kind then unwrap_or (all_of (option_of kind) rows) [] else all_given (first_of (option_of kind) rows)
+
+-- the paths of all sources, in the order of their kinds (agenda)
+abbrev pub sources_in : List Row → List SourcePath
+sources_in rows = flat_map (λ kind. map (path_of kind) (paths_in kind rows)) kinds
+
+-- what `plan` requests, by its values; there may be no source (agenda)
+abbrev pub asked_by_plan : List Row → Result Ask Refusal
+asked_by_plan rows = do
+  since ← wanted (first_of (codes "since") rows)
+  upto ← wanted (first_of (codes "upto") rows)
+  sizes ← sizes_in rows
+  Ok (Plan since upto (zone_in rows) (sources_in rows) sizes)
+
+-- what `upcoming` requests, by its values; there may be no source (agenda)
+abbrev pub asked_by_upcoming : List Row → Result Ask Refusal
+asked_by_upcoming rows = do
+  after ← wanted (first_of (codes "after") rows)
+  Ok (Upcoming after (zone_in rows) (sources_in rows))
+
+-- what `quiet` requests, by its values; there may be no source (agenda)
+unfoldable pub asked_by_quiet : List Row → Result Ask Refusal
+asked_by_quiet rows = do
+  since ← wanted (first_of (codes "since") rows)
+  upto ← wanted (first_of (codes "upto") rows)
+  least ← wanted (number_in (one_of (codes "least") rows))
+  sizes ← sizes_in rows
+  Ok (Quiet since upto (zone_in rows) (sources_in rows) sizes least)
+
+-- what `check` requests, by its values; there may be no source (agenda)
+abbrev pub asked_by_check : List Row → Result Ask Refusal
+asked_by_check rows = Ok (Check (zone_in rows) (sources_in rows))
+
+-- what `steps` requests, by its values (agenda)
+abbrev pub asked_by_steps : List Row → Result Ask Refusal
+asked_by_steps rows = do
+  file ← wanted (first_of (codes "file") rows)
+  Ok (Steps file)
+
+-- what the given subcommand requests, by its name and its values (agenda)
+abbrev pub asked_by_subcommand : Option (List ℕ × List Row) → Result Ask Refusal
+asked_by_subcommand None = Err is_usage
+asked_by_subcommand (Some met) =
+    if bytes_eq met.0 (codes "next") then asked_by_next met.1
+    else (if bytes_eq met.0 (codes "plan") then asked_by_plan met.1
+    else (if bytes_eq met.0 (codes "upcoming") then asked_by_upcoming met.1
+    else (if bytes_eq met.0 (codes "quiet") then asked_by_quiet met.1
+    else (if bytes_eq met.0 (codes "check") then asked_by_check met.1
+    else (if bytes_eq met.0 (codes "steps") then asked_by_steps met.1 else Err is_usage)))))
+
+-- how an error of clap is answered: help and the version are printed, and all other errors are usage errors (agenda)
+abbrev pub refusal_of : ErrorKind → Refusal
+refusal_of DisplayHelp = wants_help
+refusal_of DisplayVersion = wants_help
+refusal_of _ = is_usage
+
+-- arguments that clap rejects request nothing; the first error decides (agenda)
+abbrev pub asked_unless : Kinds → Result Ask Refusal → Result Ask Refusal
+asked_unless [] read = read
+asked_unless (kind ∷ _) read = Err (refusal_of kind)
+
+-- what the arguments request (agenda)
+unfoldable pub asked_by : List (List ℕ) → Result Ask Refusal
+asked_by words = asked_unless (fault_of agenda words) (asked_by_subcommand (subcommand_of agenda words))
+
+-- the result is what the definition says, or an allocation failed (agenda)
+abbrev pub Gives : {X : Type 0} → Result X UsageFault → Result X Refusal → Type 0
+Gives (Ok x) read = read ≡ Ok x
+Gives (Err NoMemory) read = ⊤
+Gives (Err (Usage text)) read = read ≡ Err is_usage
+Gives (Err (Help text)) read = read ≡ Err wants_help
+
+-- the error that is returned for a kind of clap's errors (agenda)
+abbrev pub IsAnswerTo : ErrorKind → UsageFault → Type 0
+IsAnswerTo OutOfMemory fault = fault ≡ NoMemory
+IsAnswerTo DisplayHelp fault = (text : List ℕ) × (fault ≡ Help text)
+IsAnswerTo DisplayVersion fault = (text : List ℕ) × (fault ≡ Help text)
+IsAnswerTo _ fault = (text : List ℕ) × (fault ≡ Usage text)

@@ -1,0 +1,175 @@
+//! Reads the arguments of the command line.
+ghost use Rattle.std.specs.Prelude.{IfOk, map, string_bytes};
+ghost use Rattle.clap.specs.Words.{found_of, kind_of, rows_of, subcommand_rows_of};
+ghost use Rattle.agenda_words.specs.Arguments.{Gives, IsAnswerTo, asked_by, asked_by_check, asked_by_next};
+ghost use Rattle.agenda_words.specs.Arguments.{asked_by_plan, asked_by_quiet, asked_by_steps, asked_by_subcommand};
+ghost use Rattle.agenda_words.specs.Arguments.{asked_by_upcoming, sizes_in};
+
+use crate::ask::{Ask, UsageFault};
+use crate::command::agenda_command;
+use crate::paths::sources_of;
+use crate::values::{number_argument, text, text_if_given, text_of};
+use agenda_sources::Asked;
+use clap::ArgMatches;
+use clap::error::ErrorKind;
+use plan_collect::Sizes;
+use plan_texts::Text;
+use std::alloc::{AllocError, Global};
+
+const ONE_RULE: &str = "exactly one of --cron and --calendar\n";
+
+const NO_SUBCOMMAND: &str =
+    "error: a subcommand is missing\n\nFor more information, try '--help'.\n";
+
+/// Returns what the arguments of the command line request. The first of `words` is the name of the program.
+///
+/// # Errors
+///
+/// `Help` with the text of help or of the version, if that is requested; `Usage` with the text of usage, if
+/// the arguments are invalid; `NoMemory` if an allocation failed.
+pub fn read_words(alloc: Global, words: &[String]) -> Result<Ask, UsageFault>
+    ensures { Gives result (asked_by (map string_bytes words.now)) }
+{
+    let command = agenda_command(alloc)?;
+    match command.try_get_matches_from(words) {
+        Ok(matches) => asked_by_subcommand(alloc, &matches),
+        Err(error) => Err(refusal(alloc, &error)?),
+    }
+}
+
+// Returns what the given subcommand requests.
+fn asked_by_subcommand(alloc: Global, matches: &ArgMatches<'_>) -> Result<Ask, UsageFault>
+    ensures { Gives result (asked_by_subcommand (subcommand_rows_of matches.now)) }
+{
+    if let Some(given) = matches.subcommand_matches("next") {
+        return asked_by_next(alloc, given);
+    }
+    if let Some(given) = matches.subcommand_matches("plan") {
+        return asked_by_plan(alloc, given);
+    }
+    if let Some(given) = matches.subcommand_matches("upcoming") {
+        return asked_by_upcoming(alloc, given);
+    }
+    if let Some(given) = matches.subcommand_matches("quiet") {
+        return asked_by_quiet(alloc, given);
+    }
+    if let Some(given) = matches.subcommand_matches("check") {
+        return asked_by_check(alloc, given);
+    }
+    match matches.subcommand_matches("steps") {
+        Some(given) => asked_by_steps(alloc, given),
+        None => Err(UsageFault::Usage(text(alloc, NO_SUBCOMMAND)?)),
+    }
+}
+
+fn asked_by_next(alloc: Global, given: &ArgMatches<'_>) -> Result<Ask, UsageFault>
+    ensures { Gives result (asked_by_next (rows_of (found_of given.now))) }
+{
+    let after = text_of(alloc, given, "after")?;
+    let zone = text_if_given(alloc, given, "zone")?;
+    let count = number_argument(alloc, given, "count")?;
+    let cron = text_if_given(alloc, given, "cron")?;
+    let calendar = text_if_given(alloc, given, "calendar")?;
+    let rule = match (cron, calendar) {
+        (Some(cron), None) => Asked::Cron(cron),
+        (None, Some(calendar)) => Asked::Event(calendar),
+        _ => return Err(UsageFault::Usage(text(alloc, ONE_RULE)?)),
+    };
+    Ok(Ask::Next {
+        after,
+        zone,
+        count,
+        rule,
+    })
+}
+
+fn asked_by_plan(alloc: Global, given: &ArgMatches<'_>) -> Result<Ask, UsageFault>
+    ensures { Gives result (asked_by_plan (rows_of (found_of given.now))) }
+{
+    let since = text_of(alloc, given, "since")?;
+    let upto = text_of(alloc, given, "upto")?;
+    let zone = text_if_given(alloc, given, "zone")?;
+    let sizes = sizes_of(alloc, given)?;
+    let sources = sources_of(alloc, given)?;
+    Ok(Ask::Plan {
+        since,
+        upto,
+        zone,
+        sources,
+        sizes,
+    })
+}
+
+fn asked_by_upcoming(alloc: Global, given: &ArgMatches<'_>) -> Result<Ask, UsageFault>
+    ensures { Gives result (asked_by_upcoming (rows_of (found_of given.now))) }
+{
+    let after = text_of(alloc, given, "after")?;
+    let zone = text_if_given(alloc, given, "zone")?;
+    let sources = sources_of(alloc, given)?;
+    Ok(Ask::Upcoming {
+        after,
+        zone,
+        sources,
+    })
+}
+
+#[tactic(auto, unfolding(crate::specs::Words::asked_by_quiet))]
+fn asked_by_quiet(alloc: Global, given: &ArgMatches<'_>) -> Result<Ask, UsageFault>
+    ensures { Gives result (asked_by_quiet (rows_of (found_of given.now))) }
+{
+    let since = text_of(alloc, given, "since")?;
+    let upto = text_of(alloc, given, "upto")?;
+    let zone = text_if_given(alloc, given, "zone")?;
+    let least = number_argument(alloc, given, "least")?;
+    let sizes = sizes_of(alloc, given)?;
+    let sources = sources_of(alloc, given)?;
+    Ok(Ask::Quiet {
+        since,
+        upto,
+        zone,
+        sources,
+        sizes,
+        least,
+    })
+}
+
+// Returns the sizes of a plan. The numbers in the arguments have 32 bits. Here they get the types that a plan uses.
+fn sizes_of(alloc: Global, given: &ArgMatches<'_>) -> Result<Sizes, UsageFault>
+    ensures { Gives result (sizes_in (rows_of (found_of given.now))) }
+{
+    let planners = number_argument(alloc, given, "planners")?;
+    let room = number_argument(alloc, given, "room")?;
+    let limit = number_argument(alloc, given, "limit")?;
+    Ok(Sizes {
+        planners: planners as usize,
+        room: room as usize,
+        limit: u64::from(limit),
+    })
+}
+
+fn asked_by_check(alloc: Global, given: &ArgMatches<'_>) -> Result<Ask, UsageFault>
+    ensures { Gives result (asked_by_check (rows_of (found_of given.now))) }
+{
+    let zone = text_if_given(alloc, given, "zone")?;
+    let sources = sources_of(alloc, given)?;
+    Ok(Ask::Check { zone, sources })
+}
+
+fn asked_by_steps(alloc: Global, given: &ArgMatches<'_>) -> Result<Ask, UsageFault>
+    ensures { Gives result (asked_by_steps (rows_of (found_of given.now))) }
+{
+    let file = text_of(alloc, given, "file")?;
+    Ok(Ask::Steps { file })
+}
+
+// Returns the error for an error of `clap`, with its text.
+fn refusal(alloc: Global, error: &clap::Error) -> Result<UsageFault, AllocError>
+    ensures { IfOk result (IsAnswerTo (kind_of error.now)) }
+{
+    let text = Text::new(error.to_string(alloc)?);
+    Ok(match error.kind() {
+        ErrorKind::OutOfMemory => UsageFault::NoMemory,
+        ErrorKind::DisplayHelp | ErrorKind::DisplayVersion => UsageFault::Help(text),
+        _ => UsageFault::Usage(text),
+    })
+}

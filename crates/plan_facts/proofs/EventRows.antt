@@ -1,0 +1,232 @@
+-- Worked rows of systemd.time(7), read only by the definitions.
+-- They answer no goal of a function, but test `event_reading` and `event_matches`. Each text is computed, with
+-- the definitions unfolded. Whether a day matches needs `has_value-values_where` too.
+use Rattle.std.proofs.Common.{◌≡◌, ℕ, Bool, true, false, List, [], ◌∷◌, map, codes, Some, None, Ok, Err, refl}
+use Rattle.plan_sets.specs.declared.item.Item.TheVariants.{One, Onward, Range}
+use Rattle.plan_sets.specs.declared.item.SetFault.TheVariants.{OutOfRange, Backwards, ZeroStep}
+use Rattle.plan_sets.specs.declared.civil.Civil.{Civil}
+use Rattle.plan_sets.specs.Limits.{first_year, last_year}
+use Rattle.plan_sets.specs.Values.{values_where}
+use Rattle.plan_sets.specs.Items.{set_reading, held_values}
+use Rattle.plan_sets.specs.ValuesLaws.{has_value-values_where}
+use Rattle.plan_grammar.specs.declared.fault.RuleCause.TheVariants.{WrongParts, BadNumber, BadName, Values, Fraction, Zone, UnknownWord, Specifier}
+use Rattle.plan_match.specs.declared.event.DayCount.TheVariants.{FromStart, FromEnd}
+use Rattle.plan_match.specs.declared.event.Calendar.{Calendar}
+use Rattle.plan_match.specs.declared.rule.Rule.TheVariants.{Events}
+use Rattle.plan_texts.specs.Text.{words, cut_at, decimal_number}
+use Rattle.plan_grammar.specs.Readings.{Reading, refused}
+use Rattle.plan_grammar.specs.Shape.{date_reading, time_reading, dated, shape_reading}
+use Rattle.plan_grammar.specs.Event.{component_number, component_value, component_side, component_item, component_items, places_reading, is_listed_place, component_reading, weekday_of, weekday_reading, weekday_item, weekday_items, weekdays_reading, event_of, spelled_out, zone_dropped, expression_of, zoneless, words_reading, event_reading, event_rule_reading}
+use Rattle.plan_match.specs.EventMatch.{event_matches}
+
+-- every second of every day
+every_second : event_reading (codes "*:*:*") ≡ Ok (record {
+  years = held_values (Range first_year last_year 1 ∷ []) first_year last_year;
+  months = held_values (Range 1 12 1 ∷ []) 1 12;
+  days = held_values (Range 1 31 1 ∷ []) 1 31;
+  day_count = FromStart;
+  hours = held_values (Range 0 23 1 ∷ []) 0 23;
+  minutes = held_values (Range 0 59 1 ∷ []) 0 59;
+  seconds = held_values (Range 0 59 1 ∷ []) 0 59;
+  weekdays = None;
+  names_zone = false;
+  clock = [];
+})
+unfolding words cut_at decimal_number set_reading date_reading time_reading dated shape_reading component_number component_value
+    component_side component_item component_items places_reading component_reading weekday_of weekday_reading weekday_item
+    weekday_items weekdays_reading event_of spelled_out zone_dropped expression_of zoneless words_reading
+every_second = refl
+
+-- weekdays, lists, ranges and steps; missing years are all of them
+lists_ranges_and_steps : event_reading (codes "Sat,Mon..Tue 10-1..7/3 8..9:0/30:15") ≡ Ok (record {
+  years = held_values (Range first_year last_year 1 ∷ []) first_year last_year;
+  months = held_values (One 10 ∷ []) 1 12;
+  days = held_values (Range 1 7 3 ∷ []) 1 31;
+  day_count = FromStart;
+  hours = held_values (Range 8 9 1 ∷ []) 0 23;
+  minutes = held_values (Onward 0 30 ∷ []) 0 59;
+  seconds = held_values (One 15 ∷ []) 0 59;
+  weekdays = Some (held_values (One 5 ∷ Range 0 1 1 ∷ []) 0 6);
+  names_zone = false;
+  clock = [];
+})
+unfolding words cut_at decimal_number set_reading date_reading time_reading dated shape_reading component_number component_value
+    component_side component_item component_items places_reading component_reading weekday_of weekday_reading weekday_item
+    weekday_items weekdays_reading event_of spelled_out zone_dropped expression_of zoneless words_reading
+lists_ranges_and_steps = refl
+
+-- days from the month's end
+third_last_of_february : event_rule_reading (codes "*-02~03") ≡ Ok (Events (record {
+  years = held_values (Range first_year last_year 1 ∷ []) first_year last_year;
+  months = held_values (One 2 ∷ []) 1 12;
+  days = values_where 1 31 (is_listed_place (One 3 ∷ []));
+  day_count = FromEnd;
+  hours = held_values (One 0 ∷ []) 0 23;
+  minutes = held_values (One 0 ∷ []) 0 59;
+  seconds = held_values (One 0 ∷ []) 0 59;
+  weekdays = None;
+  names_zone = false;
+  clock = [];
+} ∷ []))
+unfolding words cut_at decimal_number set_reading date_reading time_reading dated shape_reading component_number component_value
+    component_side component_item component_items places_reading component_reading weekday_of weekday_reading weekday_item
+    weekday_items weekdays_reading event_of spelled_out zone_dropped expression_of zoneless words_reading
+third_last_of_february = refl
+
+-- a word of the table, in any case, also before the zone
+words_of_the_table : map event_reading (codes "weekly" ∷ codes "qUARTERLY utc" ∷ codes "Wed, 17:48 UTC" ∷ codes "Mon..mon" ∷ [])
+    ≡ map event_reading (codes "Mon *-*-* 00:00:00" ∷ codes "*-01,04,07,10-01 UTC" ∷ codes "wednesday *-* 17:48:00 uTC" ∷ codes
+    "monday..Monday" ∷ [])
+unfolding words cut_at decimal_number set_reading date_reading time_reading dated shape_reading component_number component_value
+    component_side component_item component_items places_reading component_reading weekday_of weekday_reading weekday_item
+    weekday_items weekdays_reading event_of spelled_out zone_dropped expression_of zoneless words_reading
+words_of_the_table = refl
+
+-- whether a text is an event that names a zone
+abbrev zone_of : Reading Calendar → Bool
+zone_of (Ok event) = event.names_zone
+zone_of (Err fault) = false
+
+-- it is one if there are several words and the last is the zone
+named_zones : map (λ text. zone_of (event_reading text))
+    (codes "Mon 09:00 UTC" ∷ codes "daily utc" ∷ codes "Mon 09:00" ∷ codes "daily" ∷ []) ≡ true ∷ true ∷ false ∷ false ∷ []
+unfolding words cut_at decimal_number set_reading date_reading time_reading dated shape_reading component_number component_value
+    component_side component_item component_items places_reading component_reading weekday_of weekday_reading weekday_item
+    weekday_items weekdays_reading event_of spelled_out zone_dropped expression_of zoneless words_reading
+named_zones = refl
+
+-- invalid texts, each with its error
+refusals : map event_reading
+    (codes "Mon 12:00:00.5"
+    ∷ codes "daily Europe/Oslo"
+    ∷ codes "*-*-9..3"
+    ∷ codes "fortnightly"
+    ∷ codes "*-*-%i"
+    ∷ codes " "
+    ∷ codes "UTC"
+    ∷ codes "Sat..Mon"
+    ∷ codes "Mon,,"
+    ∷ codes "Mond 12:00"
+    ∷ codes "*-*~*/2"
+    ∷ codes "*-*~0"
+    ∷ codes "*-*~32/0"
+    ∷ codes "*-*~3..5/0"
+    ∷ codes "~3"
+    ∷ codes "1969-1-1"
+    ∷ codes "12024-1-1"
+    ∷ codes "12:00:00:00"
+    ∷ codes "12:00 1-1"
+    ∷ codes "2024-1"
+    ∷ [])
+    ≡ refused 7 Fraction
+    ∷ refused 8 Zone
+    ∷ refused 4 (Values Backwards)
+    ∷ refused 0 UnknownWord
+    ∷ refused 0 Specifier
+    ∷ refused 0 WrongParts
+    ∷ refused 0 UnknownWord
+    ∷ refused 1 (Values Backwards)
+    ∷ refused 1 WrongParts
+    ∷ refused 1 BadName
+    ∷ refused 4 WrongParts
+    ∷ refused 4 (Values OutOfRange)
+    ∷ refused 4 (Values OutOfRange)
+    ∷ refused 4 (Values ZeroStep)
+    ∷ refused 3 WrongParts
+    ∷ refused 2 (Values OutOfRange)
+    ∷ refused 2 BadNumber
+    ∷ refused 0 WrongParts
+    ∷ refused 0 WrongParts
+    ∷ refused 3 (Values OutOfRange)
+    ∷ []
+unfolding words cut_at decimal_number set_reading date_reading time_reading dated shape_reading component_number component_value
+    component_side component_item component_items places_reading component_reading weekday_of weekday_reading weekday_item
+    weekday_items weekdays_reading event_of spelled_out zone_dropped expression_of zoneless words_reading
+refusals = refl
+
+-- the order in which a text is read: specifier, zone, shape, weekdays, and then the components from the year on
+first_faults : map event_reading
+    (codes "Foo 1 2 3 Oslo %"
+    ∷ codes "Foo 1 2 3 Oslo"
+    ∷ codes "Foo 1 2 3"
+    ∷ codes "Tue..Mon,Foo +-1-1"
+    ∷ codes "Tue..Mon +-1-1"
+    ∷ codes "+-x-z +:b:c"
+    ∷ codes "1-x-z +:b:c"
+    ∷ codes "1-1-z +:b:c"
+    ∷ codes "1-1-1 +:b:c"
+    ∷ codes "1-1-1 9:b:.5"
+    ∷ codes "1-1-1 9:9:.5"
+    ∷ codes "*-*-32,x"
+    ∷ codes "*-*~x../+"
+    ∷ codes "*-*~*/+"
+    ∷ [])
+    ≡ refused 0 Specifier
+    ∷ refused 8 Zone
+    ∷ refused 0 WrongParts
+    ∷ refused 1 BadName
+    ∷ refused 1 (Values Backwards)
+    ∷ refused 2 BadNumber
+    ∷ refused 3 BadNumber
+    ∷ refused 4 BadNumber
+    ∷ refused 5 BadNumber
+    ∷ refused 6 BadNumber
+    ∷ refused 7 Fraction
+    ∷ refused 4 BadNumber
+    ∷ refused 4 BadNumber
+    ∷ refused 4 BadNumber
+    ∷ []
+unfolding words cut_at decimal_number set_reading date_reading time_reading dated shape_reading component_number component_value
+    component_side component_item component_items places_reading component_reading weekday_of weekday_reading weekday_item
+    weekday_items weekdays_reading event_of spelled_out zone_dropped expression_of zoneless words_reading
+first_faults = refl
+
+-- civil fields of a second
+at_time : ℕ → ℕ → ℕ → ℕ → ℕ → ℕ → ℕ → Civil
+at_time year month day weekday hour minute second = record {
+  year = year;
+  month = month;
+  day = day;
+  weekday = weekday;
+  hour = hour;
+  minute = minute;
+  second = second;
+}
+
+-- whether a text is an event that matches civil fields
+abbrev match_reading : Reading Calendar → Civil → Bool
+match_reading (Ok event) civil = event_matches event civil
+match_reading (Err fault) civil = false
+
+-- the third last day of February is the 27th in 2024 and the 26th in 2025
+from_the_end : map (match_reading (event_reading (codes "*-02~03")))
+    (at_time 2024 2 27 1 0 0 0 ∷ at_time 2025 2 26 2 0 0 0 ∷ at_time 2024 2 26 0 0 0 0 ∷ at_time 2024 3 29 4 0 0 0 ∷ at_time 2024 2
+    27 1 0 0 1 ∷ []) ≡ true ∷ true ∷ false ∷ false ∷ false ∷ []
+unfolding words cut_at decimal_number set_reading date_reading time_reading dated shape_reading component_number component_value
+    component_side component_item component_items places_reading component_reading weekday_of weekday_reading weekday_item
+    weekday_items weekdays_reading event_of spelled_out zone_dropped expression_of zoneless words_reading at_time
+from_the_end = simp has_value-values_where
+
+-- the last Monday of May is among the last seven days
+last_monday_of_may : map (match_reading (event_reading (codes "Mon *-05~07/1")))
+    (at_time 2024 5 27 0 0 0 0 ∷ at_time 2024 5 20 0 0 0 0 ∷ at_time 2024 5 28 1 0 0 0 ∷ []) ≡ true ∷ false ∷ false ∷ []
+unfolding words cut_at decimal_number set_reading date_reading time_reading dated shape_reading component_number component_value
+    component_side component_item component_items places_reading component_reading weekday_of weekday_reading weekday_item
+    weekday_items weekdays_reading event_of spelled_out zone_dropped expression_of zoneless words_reading at_time
+last_monday_of_may = simp has_value-values_where
+
+-- a range after `~` may be in either order, and its steps go down from the greater place
+either_way : map (match_reading (event_reading (codes "*-*~1..3/2 12:00")))
+    (at_time 2024 2 27 1 12 0 0 ∷ at_time 2024 2 28 2 12 0 0 ∷ at_time 2024 2 29 3 12 0 0 ∷ []) ≡ true ∷ false ∷ true ∷ []
+unfolding words cut_at decimal_number set_reading date_reading time_reading dated shape_reading component_number component_value
+    component_side component_item component_items places_reading component_reading weekday_of weekday_reading weekday_item
+    weekday_items weekdays_reading event_of spelled_out zone_dropped expression_of zoneless words_reading at_time
+either_way = simp has_value-values_where
+
+-- years of two digits are 1970 to 2069
+two_digits : map (λ (text : List ℕ). match_reading (event_reading text) (at_time 1999 2 3 2 4 5 0))
+    (codes "99-2-3 4:5" ∷ codes "1999-2-3 4:5" ∷ codes "69-2-3 4:5" ∷ []) ≡ true ∷ true ∷ false ∷ []
+unfolding words cut_at decimal_number set_reading date_reading time_reading dated shape_reading component_number component_value
+    component_side component_item component_items places_reading component_reading weekday_of weekday_reading weekday_item
+    weekday_items weekdays_reading event_of spelled_out zone_dropped expression_of zoneless words_reading at_time
+two_digits = simp has_value-values_where
