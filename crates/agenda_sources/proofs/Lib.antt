@@ -1,8 +1,5 @@
 mod AtOnceLemmas
-mod CrontabLaws
-mod CrontabNames
 mod FoldLemmas
-mod NameLemmas
 mod SlashLemmas
 mod SourceFaults
 mod FindingLemmas

@@ -1,5 +1,4 @@
 pub mod AtOnce
-pub mod Crontabs
 pub mod Faults
 pub mod Findings
 pub mod Kind
