@@ -8,9 +8,6 @@ use Rattle.plan_texts.specs.Text.{stands_at}
 use Rattle.plan_texts.proofs.TextLemmas.{cut_none, cut_more, cut_found, cut_all, again, nowhere_earlier}
 use Rattle.plan_texts.proofs.parts.cut.Goals as goal
 
-pub loop-at-init : goal.loop-at-init
-loop-at-init c = record { so_far = cut_none c.args.mark.now c.args.text.now; nowhere = λ place below. absurd (omega arith) }
-
 pub loop-at-preserved : goal.loop-at-preserved
 loop-at-preserved c =
     let text = c.args.text.now in
@@ -47,14 +44,5 @@ returns-then-starts_with-clause-again c =
     ∙ ap (λ tail. take at text ++ (mark ++ tail))
     (sym (take_rest (take (length text - at) (drop at text)) (length mark) ∙ ap (drop (length mark)) whole))
 
-pub returns-then-starts_with-clause-first : goal.returns-then-starts_with-clause-first
-returns-then-starts_with-clause-first c =
-    nowhere_earlier c.args.mark.now c.args.text.now (length (take c.loop-at.at c.args.text.now)) c.loop-at.at
-    (omega (arith, length-take {A = ℕ})) c.loop-at.invariant.nowhere
-
 pub returns-clause-value : goal.returns-clause-value
 returns-clause-value c = sym (cut_all c.args.mark.now c.args.text.now c.loop-at.at c.loop-at-test.false c.loop-at.invariant.so_far)
-
-pub returns-clause-nowhere : goal.returns-clause-nowhere
-returns-clause-nowhere c =
-    nowhere_earlier c.args.mark.now c.args.text.now (length c.args.text.now) c.loop-at.at (omega arith) c.loop-at.invariant.nowhere

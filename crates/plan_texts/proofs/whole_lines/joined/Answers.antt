@@ -10,11 +10,3 @@ loop-place-preserved c =
     c.in_ok-add.ensures (rest_from (c.loop-place.place + 1) (map (λ line. line.now) c.args.lines.now))
     ∙ ap (whole_with c.loop-place.joiner) (sym (rest_more (λ line. line.now) c.args.lines.now c.loop-place.place _ c.loop-place-test.true))
     ∙ c.loop-place.invariant
-
-pub returns : goal.returns
-returns c =
-    IfOk-weaker c.end.result (λ whole. map whole_text whole.items ≡ whole_with c.loop-place.joiner [])
-    (λ whole. map whole_text whole.items ≡ joined (numbered_texts (map (λ line. line.now) c.args.lines.now)))
-    (λ whole is. is ∙ ap (whole_with c.loop-place.joiner)
-    (sym (rest_all (λ line. line.now) c.args.lines.now c.loop-place.place c.loop-place-test.false)) ∙ c.loop-place.invariant)
-    c.end.ensures
