@@ -7,6 +7,7 @@ use Rattle.std.proofs.Common.{◌≡◌, ◌≢◌, ℕ, ◌+◌, Bool, true, fa
 use Rattle.plan_rules.specs.declared.line_fault.LineCause.{LineCause}
 use Rattle.plan_rules.specs.declared.line_fault.LineCause.TheVariants as cause
 use Rattle.plan_rules.specs.declared.line_fault.LineFault.{LineFault}
+use Rattle.plan_texts.specs.EachLaws.{err_steps, err_choice}
 use Rattle.plan_texts.specs.Steps.{◌>>=◌, GivesUnless}
 use Rattle.plan_rules.specs.LineFaults.{TextReading}
 use Rattle.plan_rules.specs.Limits.{most_jobs}
@@ -18,16 +19,6 @@ use Rattle.agenda_sources.specs.declared.sources.Source.{Source}
 use Rattle.agenda_sources.specs.Faults.{SourceReading, fault_at, fault_by_cause, in_source, IsOwnFault}
 use Rattle.agenda_sources.specs.Kind.{reading_of}
 use Rattle.agenda_sources.specs.Sources.{sources_from, sources_reading, with_job, with_jobs, with_source}
-
-steps :
-    {A B E : Type 0} (P : E → Type 0) (r : Result A E) (next : A → Result B E) → IfErr r P → ((x : A) → IfErr (next x) P) →
-    IfErr (r >>= next) P
-steps P (Ok x) next first later = later x
-steps P (Err fault) next first later = first
-
-choice : {A E : Type 0} (P : E → Type 0) (b : Bool) (x y : Result A E) → IfErr x P → IfErr y P → IfErr (cond b x y) P
-choice P true x y first second = first
-choice P false x y first second = second
 
 by_cause : (c : LineCause) (fault : SourceFault) → (c ≢ cause.NoMemory → IsOwnFault fault) → IsOwnFault (fault_by_cause c fault)
 by_cause cause.NoMemory fault own = tt
@@ -42,23 +33,23 @@ of_source place (Err fault) = at_place place fault
 
 job : (jobs : List JobParts) (more : JobParts) → IfErr (with_job jobs more) IsOwnFault
 job jobs more =
-    choice IsOwnFault (is_some (number_of more.name jobs)) (Err (SameName more.name)) _ tt
-    (choice IsOwnFault (nat_lt (length jobs) most_jobs) (Ok (jobs ++ more ∷ [])) (Err Full) tt tt)
+    err_choice IsOwnFault (is_some (number_of more.name jobs)) (Err (SameName more.name)) _ tt
+    (err_choice IsOwnFault (nat_lt (length jobs) most_jobs) (Ok (jobs ++ more ∷ [])) (Err Full) tt tt)
 
 jobs_behind : (jobs more : List JobParts) → IfErr (with_jobs jobs more) IsOwnFault
 jobs_behind jobs [] = tt
 jobs_behind jobs (first ∷ more) =
-    steps IsOwnFault (with_job jobs first) _ (job jobs first) (λ next. jobs_behind next more)
+    err_steps IsOwnFault (with_job jobs first) _ (job jobs first) (λ next. jobs_behind next more)
 
 of_one : (place : ℕ) (jobs : List JobParts) (source : Source) → IfErr (with_source place jobs source) IsOwnFault
 of_one place jobs source =
     let read = reading_of source.kind source.name source.bytes in
-    steps IsOwnFault (in_source place read) _ (of_source place read) (jobs_behind jobs)
+    err_steps IsOwnFault (in_source place read) _ (of_source place read) (jobs_behind jobs)
 
 all : (place : ℕ) (jobs : List JobParts) (sources : List Source) → IfErr (sources_from place jobs sources) IsOwnFault
 all place jobs [] = tt
 all place jobs (source ∷ more) =
-    steps IsOwnFault (with_source place jobs source) _ (of_one place jobs source) (λ next. all (place + 1) next more)
+    err_steps IsOwnFault (with_source place jobs source) _ (of_one place jobs source) (λ next. all (place + 1) next more)
 
 -- ---- so for each error that a call returns
 

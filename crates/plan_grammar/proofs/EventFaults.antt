@@ -12,7 +12,8 @@ use Rattle.plan_grammar.specs.declared.component.Component.TheVariants.{Year, Mo
 use Rattle.plan_texts.specs.Text.{words, pieces, cut_at}
 use Rattle.plan_grammar.specs.Shape.{ShapeText, date_from_start, date_from_end, cut_date, date_reading, time_of_pieces, time_reading, is_time, one_word, two_words, dated, shape_reading}
 use Rattle.plan_grammar.specs.Event.{holds_byte, component_part, component_number, component_value, component_side, component_item_of, component_item, component_items, component_set, component_reading, weekday_of, weekday_reading, weekday_span, weekday_item, without_comma, weekday_items, weekdays_reading, weekdays_if_given, day_component, event_of, spelled_out, has_zone, last_word, zone_dropped, expression_of, is_unknown_word, lone_word, zoneless, words_reading}
-use Rattle.plan_grammar.proofs.TextFaults.{IsTextFault, steps, elements, choice, or_fault, number, side_of, cut_item, list_values}
+use Rattle.plan_texts.specs.EachLaws.{err_steps, err_each, err_choice}
+use Rattle.plan_grammar.proofs.TextFaults.{IsTextFault, or_fault, number, side_of, cut_item, list_values}
 
 -- a component's number
 digits : (component : Component) (text : List ℕ) → IsTextFault (component_number component text)
@@ -23,11 +24,11 @@ digits Day text = number 4 text
 digits Place text = number 4 text
 digits Hour text = number 5 text
 digits Minute text = number 6 text
-digits Second text = choice (holds_byte 46 text) _ _ tt (number 7 text)
+digits Second text = err_choice _ (holds_byte 46 text) _ _ tt (number 7 text)
 
 value : (component : Component) (text : List ℕ) → IsTextFault (component_value component text)
 unfolding component_value
-value Year text = steps (component_number Year text) _ (digits Year text) (λ n. tt)
+value Year text = err_steps _ (component_number Year text) _ (digits Year text) (λ n. tt)
 value Month text = digits Month text
 value Day text = digits Day text
 value Place text = digits Place text
@@ -59,7 +60,7 @@ item component text =
 
 items : (component : Component) (text : List ℕ) → IsTextFault (component_items component text)
 unfolding component_items
-items component text = elements (component_item component) (item component) (pieces 44 text)
+items component text = err_each _ (component_item component) (item component) (pieces 44 text)
 
 values : (component : Component) (text : List ℕ) → IsTextFault (component_reading component text)
 unfolding component_reading
@@ -68,12 +69,12 @@ values component text = list_values (component_part component) (component_set co
 
 weekday : (name : List ℕ) → IsTextFault (weekday_reading name)
 unfolding weekday_reading
-weekday name = choice (eqb (length name) 0) _ _ tt (or_fault (weekday_of name) (record { part = 1; cause = BadName }) tt)
+weekday name = err_choice _ (eqb (length name) 0) _ _ tt (or_fault (weekday_of name) (record { part = 1; cause = BadName }) tt)
 
 weekday_form : (text : List ℕ) (cut : Option (List ℕ × List ℕ)) → IsTextFault (weekday_span text cut)
-weekday_form text None = steps (weekday_reading text) _ (weekday text) (λ a. tt)
+weekday_form text None = err_steps _ (weekday_reading text) _ (weekday text) (λ a. tt)
 weekday_form text (Some ends) =
-    steps (weekday_reading ends.0) _ (weekday ends.0) (λ a. steps (weekday_reading ends.1) _ (weekday ends.1) (λ b. tt))
+    err_steps _ (weekday_reading ends.0) _ (weekday ends.0) (λ a. err_steps _ (weekday_reading ends.1) _ (weekday ends.1) (λ b. tt))
 
 weekday_element : (text : List ℕ) → IsTextFault (weekday_item text)
 unfolding weekday_item
@@ -81,7 +82,7 @@ weekday_element text = weekday_form text (cut_at (codes "..") text)
 
 weekday_list : (text : List ℕ) → IsTextFault (weekday_items text)
 unfolding weekday_items
-weekday_list text = elements weekday_item weekday_element (pieces 44 (without_comma text))
+weekday_list text = err_each _ weekday_item weekday_element (pieces 44 (without_comma text))
 
 weekdays : (text : List ℕ) → IsTextFault (weekdays_reading text)
 unfolding weekdays_reading
@@ -89,7 +90,7 @@ weekdays text = list_values 1 _ (weekday_items text) (weekday_list text)
 
 maybe_weekdays : (text : Option (List ℕ)) → IsTextFault (weekdays_if_given text)
 maybe_weekdays None = tt
-maybe_weekdays (Some text) = steps (weekdays_reading text) _ (weekdays text) (λ days. tt)
+maybe_weekdays (Some text) = err_steps _ (weekdays_reading text) _ (weekdays text) (λ days. tt)
 
 from_start : (texts : List (List ℕ)) → IsTextFault (date_from_start texts)
 from_start [] = tt
@@ -125,12 +126,12 @@ time text = time_pieces (pieces 58 text)
 
 one : (given : Option (List ℕ)) (word : List ℕ) → IsTextFault (one_word given word)
 one given word =
-    choice (is_time word) _ _ (steps (time_reading word) _ (time word) (λ t. tt)) (steps (date_reading word) _ (date word) (λ d. tt))
+    err_choice _ (is_time word) _ _ (err_steps _ (time_reading word) _ (time word) (λ t. tt)) (err_steps _ (date_reading word) _ (date word) (λ d. tt))
 
 two : (given : Option (List ℕ)) (first second : List ℕ) → IsTextFault (two_words given first second)
 two given first second =
-    choice (is_time first || not (is_time second)) _ _ tt
-    (steps (date_reading first) _ (date first) (λ d. steps (time_reading second) _ (time second) (λ t. tt)))
+    err_choice _ (is_time first || not (is_time second)) _ _ tt
+    (err_steps _ (date_reading first) _ (date first) (λ d. err_steps _ (time_reading second) _ (time second) (λ t. tt)))
 
 after_weekdays : (given : Option (List ℕ)) (texts : List (List ℕ)) → IsTextFault (dated given texts)
 unfolding dated
@@ -142,31 +143,31 @@ after_weekdays given (a ∷ b ∷ c ∷ more) = tt
 shape : (texts : List (List ℕ)) → IsTextFault (shape_reading texts)
 unfolding shape_reading
 shape [] = tt
-shape (first ∷ others) = choice _ _ _ (after_weekdays (Some first) others) (after_weekdays None (first ∷ others))
+shape (first ∷ others) = err_choice _ (begins_with is_ascii_alphabetic first) _ _ (after_weekdays (Some first) others) (after_weekdays None (first ∷ others))
 
 parts : (form : ShapeText) → IsTextFault (event_of form)
 unfolding event_of
 parts form =
-    steps (weekdays_if_given form.weekdays) _ (maybe_weekdays form.weekdays)
-    (λ a. steps (component_reading Year form.date.year) _ (values Year form.date.year)
-    (λ b. steps (component_reading Month form.date.month) _ (values Month form.date.month)
-    (λ c. steps (component_reading (day_component form.date.count) form.date.day) _ (values (day_component form.date.count) form.date.day)
-    (λ d. steps (component_reading Hour form.time.hour) _ (values Hour form.time.hour)
-    (λ e. steps (component_reading Minute form.time.minute) _ (values Minute form.time.minute)
-    (λ f. steps (component_reading Second form.time.second) _ (values Second form.time.second) (λ g. tt)))))))
+    err_steps _ (weekdays_if_given form.weekdays) _ (maybe_weekdays form.weekdays)
+    (λ a. err_steps _ (component_reading Year form.date.year) _ (values Year form.date.year)
+    (λ b. err_steps _ (component_reading Month form.date.month) _ (values Month form.date.month)
+    (λ c. err_steps _ (component_reading (day_component form.date.count) form.date.day) _ (values (day_component form.date.count) form.date.day)
+    (λ d. err_steps _ (component_reading Hour form.time.hour) _ (values Hour form.time.hour)
+    (λ e. err_steps _ (component_reading Minute form.time.minute) _ (values Minute form.time.minute)
+    (λ f. err_steps _ (component_reading Second form.time.second) _ (values Second form.time.second) (λ g. tt)))))))
 
 spelled : (texts : List (List ℕ)) → IsTextFault (spelled_out texts)
 unfolding spelled_out
-spelled texts = steps (shape_reading texts) _ (shape texts) parts
+spelled texts = err_steps _ (shape_reading texts) _ (shape texts) parts
 
 zone : (texts : List (List ℕ)) → IsTextFault (zone_dropped texts)
 unfolding zone_dropped
 zone texts =
-    choice (has_zone texts) _ _ (choice (str_eq_ignore_ascii_case (last_word texts) (codes "utc")) _ _ tt tt) tt
+    err_choice _ (has_zone texts) _ _ (err_choice _ (str_eq_ignore_ascii_case (last_word texts) (codes "utc")) _ _ tt tt) tt
 
 lone : (word : List ℕ) (expression : Option (List ℕ)) → IsTextFault (lone_word word expression)
 lone word (Some expression) = spelled (words expression)
-lone word None = choice (is_unknown_word word) _ _ tt (spelled (word ∷ []))
+lone word None = err_choice _ (is_unknown_word word) _ _ tt (spelled (word ∷ []))
 
 no_zone : (texts : List (List ℕ)) → IsTextFault (zoneless texts)
 unfolding zoneless
@@ -177,4 +178,4 @@ no_zone (first ∷ second ∷ others) = spelled (first ∷ second ∷ others)
 -- the error of an event's words has a cause that words may have
 pub all_words : (texts : List (List ℕ)) → IsTextFault (words_reading texts)
 unfolding words_reading
-all_words texts = steps (zone_dropped texts) _ (zone texts) (λ left. steps (zoneless left) _ (no_zone left) (λ event. tt))
+all_words texts = err_steps _ (zone_dropped texts) _ (zone texts) (λ left. err_steps _ (zoneless left) _ (no_zone left) (λ event. tt))

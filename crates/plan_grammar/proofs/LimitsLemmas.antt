@@ -1,6 +1,6 @@
 -- The sets of a rule that was read are within the limits of their fields.
 -- For clause `within` of `cron_rule` and `calendar_event`. A set has those values of its span that pass a test
--- (`span`), so it is within the span; `steps` carries that through each definition of a reading.
+-- (`span`), so it is within the span; `ok_steps` carries that through each definition of a reading.
 use Rattle.std.proofs.Common.{◌≡◌, ℕ, ◌+◌, ◌-◌, ◌&&◌, Bool, true, false, cond, List, [], ◌∷◌, Option, Some, None, Result, Ok, Err, IfOk, IfSome, refl, arith, subst, sym, ◌∙◌}
 use Rattle.std.proofs.lemmas.Bool.Decides.{nat_tests}
 use Rattle.std.specs.Int.{IsInRange}
@@ -12,6 +12,7 @@ use Rattle.plan_sets.specs.Limits.{first_year, last_year}
 use Rattle.plan_sets.specs.Values.{Values as SetOfValues, is_among, values_where}
 use Rattle.plan_sets.specs.ValuesLaws.{has_value-values_where}
 use Rattle.plan_grammar.specs.declared.fault.RuleFault.{RuleFault}
+use Rattle.plan_texts.specs.EachLaws.{ok_steps, ok_choice}
 use Rattle.plan_texts.specs.Steps.{◌>>=◌}
 use Rattle.plan_grammar.specs.Readings.{Reading, Gives}
 use Rattle.plan_grammar.specs.Elements.{set_in_part, values_by}
@@ -33,18 +34,8 @@ any_value : {A : Type 0} (r : Reading A) → IfOk r (λ x. Unit {0})
 any_value (Ok x) = tt
 any_value (Err fault) = tt
 
-steps :
-    {A B : Type 0} (Q : A → Type 0) (P : B → Type 0) (r : Reading A) (next : A → Reading B) → IfOk r Q →
-    ((x : A) → Q x → IfOk (next x) P) → IfOk (r >>= next) P
-steps Q P (Ok x) next first later = later x first
-steps Q P (Err fault) next first later = tt
-
 then : {A B : Type 0} (P : B → Type 0) (r : Reading A) (next : A → Reading B) → ((x : A) → IfOk (next x) P) → IfOk (r >>= next) P
-then P r next later = steps (λ x. Unit {0}) P r next (any_value r) (λ x any. later x)
-
-choice : {A : Type 0} (P : A → Type 0) (b : Bool) (x y : Reading A) → IfOk x P → IfOk y P → IfOk (cond b x y) P
-choice P true x y first second = first
-choice P false x y first second = second
+then P r next later = ok_steps (λ x. Unit {0}) P r next (any_value r) (λ x any. later x)
 
 -- if a call's result is this reading, what holds for the reading holds for the result
 pub answered :
@@ -118,10 +109,10 @@ fields (a ∷ b ∷ []) = tt
 fields (a ∷ b ∷ c ∷ []) = tt
 fields (a ∷ b ∷ c ∷ d ∷ []) = tt
 fields (a ∷ b ∷ c ∷ d ∷ e ∷ []) =
-    steps (LieWithin 0 59) RuleIsWithinLimits (field_reading Minute a) _ (field_within Minute a)
-    (λ minutes in_minutes. steps (LieWithin 0 23) RuleIsWithinLimits (field_reading Hour b) _ (field_within Hour b)
-    (λ hours in_hours. steps (LieWithin 1 31) RuleIsWithinLimits (field_reading MonthDay c) _ (field_within MonthDay c)
-    (λ month_days in_month_days. steps (LieWithin 1 12) RuleIsWithinLimits (field_reading Month d) _ (field_within Month d)
+    ok_steps (LieWithin 0 59) RuleIsWithinLimits (field_reading Minute a) _ (field_within Minute a)
+    (λ minutes in_minutes. ok_steps (LieWithin 0 23) RuleIsWithinLimits (field_reading Hour b) _ (field_within Hour b)
+    (λ hours in_hours. ok_steps (LieWithin 1 31) RuleIsWithinLimits (field_reading MonthDay c) _ (field_within MonthDay c)
+    (λ month_days in_month_days. ok_steps (LieWithin 1 12) RuleIsWithinLimits (field_reading Month d) _ (field_within Month d)
     (λ months in_months. then RuleIsWithinLimits (field_reading WeekDay e) _
     (λ week_days. record {
       minutes = in_minutes;
@@ -145,7 +136,7 @@ at_words (word ∷ more ∷ others) = tt
 rule : (texts : List (List ℕ)) → IfOk (rule_reading texts) RuleIsWithinLimits
 unfolding rule_reading
 rule [] = tt
-rule (first ∷ others) = choice RuleIsWithinLimits _ _ _ (at_words (first ∷ others)) (fields (first ∷ others))
+rule (first ∷ others) = ok_choice RuleIsWithinLimits _ _ _ (at_words (first ∷ others)) (fields (first ∷ others))
 
 -- the sets of a cron rule that was read are within the limits of their fields
 pub cron : (text : List ℕ) → IfOk (cron_reading text) RuleIsWithinLimits
@@ -196,24 +187,24 @@ weekday_list text = list_within _ 1 (λ items. set_reading items 0 6) (weekday_i
 
 weekdays_within : (text : Option (List ℕ)) → IfOk (weekdays_if_given text) (λ weekdays. IfSome weekdays (LieWithin 0 6))
 weekdays_within None = tt
-weekdays_within (Some text) = steps (LieWithin 0 6) _ (weekdays_reading text) _ (weekday_list text) (λ weekdays own. own)
+weekdays_within (Some text) = ok_steps (LieWithin 0 6) _ (weekdays_reading text) _ (weekday_list text) (λ weekdays own. own)
 
 parts : (form : ShapeText) → IfOk (event_of form) EventIsWithinLimits
 unfolding event_of
 parts form =
-    steps (λ weekdays. IfSome weekdays (LieWithin 0 6)) EventIsWithinLimits (weekdays_if_given form.weekdays) _
+    ok_steps (λ weekdays. IfSome weekdays (LieWithin 0 6)) EventIsWithinLimits (weekdays_if_given form.weekdays) _
     (weekdays_within form.weekdays)
-    (λ weekdays in_weekdays. steps (LieWithin first_year last_year) EventIsWithinLimits
+    (λ weekdays in_weekdays. ok_steps (LieWithin first_year last_year) EventIsWithinLimits
     (component_reading component.Year form.date.year) _ (year_within form.date.year)
-    (λ years in_years. steps (LieWithin 1 12) EventIsWithinLimits (component_reading component.Month form.date.month) _
+    (λ years in_years. ok_steps (LieWithin 1 12) EventIsWithinLimits (component_reading component.Month form.date.month) _
     (month_within form.date.month)
-    (λ months in_months. steps (LieWithin 1 31) EventIsWithinLimits
+    (λ months in_months. ok_steps (LieWithin 1 31) EventIsWithinLimits
     (component_reading (day_component form.date.count) form.date.day) _ (day_within form.date.count form.date.day)
-    (λ days in_days. steps (LieWithin 0 23) EventIsWithinLimits (component_reading component.Hour form.time.hour) _
+    (λ days in_days. ok_steps (LieWithin 0 23) EventIsWithinLimits (component_reading component.Hour form.time.hour) _
     (hour_within form.time.hour)
-    (λ hours in_hours. steps (LieWithin 0 59) EventIsWithinLimits (component_reading component.Minute form.time.minute) _
+    (λ hours in_hours. ok_steps (LieWithin 0 59) EventIsWithinLimits (component_reading component.Minute form.time.minute) _
     (minute_within form.time.minute)
-    (λ minutes in_minutes. steps (LieWithin 0 59) EventIsWithinLimits (component_reading component.Second form.time.second) _
+    (λ minutes in_minutes. ok_steps (LieWithin 0 59) EventIsWithinLimits (component_reading component.Second form.time.second) _
     (second_within form.time.second)
     (λ seconds in_seconds. record {
       years = in_years;
@@ -231,7 +222,7 @@ spelled texts = then EventIsWithinLimits (shape_reading texts) _ parts
 
 lone : (word : List ℕ) (expression : Option (List ℕ)) → IfOk (lone_word word expression) EventIsWithinLimits
 lone word (Some expression) = spelled (words expression)
-lone word None = choice EventIsWithinLimits (is_unknown_word word) _ _ tt (spelled (word ∷ []))
+lone word None = ok_choice EventIsWithinLimits (is_unknown_word word) _ _ tt (spelled (word ∷ []))
 
 no_zone : (texts : List (List ℕ)) → IfOk (zoneless texts) EventIsWithinLimits
 unfolding zoneless
@@ -253,8 +244,8 @@ named names_zone event own = record {
 all_words : (texts : List (List ℕ)) → IfOk (words_reading texts) EventIsWithinLimits
 unfolding words_reading
 all_words texts = then EventIsWithinLimits (zone_dropped texts) _
-    (λ left. steps EventIsWithinLimits EventIsWithinLimits (zoneless left) _ (no_zone left) (named (has_zone texts)))
+    (λ left. ok_steps EventIsWithinLimits EventIsWithinLimits (zoneless left) _ (no_zone left) (named (has_zone texts)))
 
 -- the sets of a calendar event that was read are within the limits of their components
 pub event : (text : List ℕ) → IfOk (event_reading text) EventIsWithinLimits
-event text = choice EventIsWithinLimits (has_specifier text) _ _ tt (all_words (words text))
+event text = ok_choice EventIsWithinLimits (has_specifier text) _ _ tt (all_words (words text))

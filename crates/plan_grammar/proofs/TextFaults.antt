@@ -1,7 +1,7 @@
 -- No reading of a text has the error that an allocation failed, nor, after its words are cut, that it has a specifier:
 -- no definition gives such an error.
 -- For clause `memory` of `cron_rule`, and for `memory` and `specifier` of `calendar_event`. There is one lemma for each
--- definition in the reading of a cron text, which it unfolds; `steps`, `elements` and `choice` put the parts together.
+-- definition in the reading of a cron text, which it unfolds; `err_steps`, `err_each` and `err_choice` put the parts together.
 use Rattle.std.proofs.Common.{◌≡◌, ◌≢◌, ℕ, Bool, true, false, cond, List, [], ◌∷◌, codes, length, eqb, Option, Some, None, Result, Ok, Err, ok_or, IfErr, ap, subst, inl, inr}
 use Rattle.std.proofs.lemmas.Bool.{cases_eq}
 use Rattle.std.specs.Str.{bytes_eq}
@@ -16,6 +16,7 @@ use Rattle.plan_grammar.specs.declared.field.Field.TheVariants.{Minute, Hour, Mo
 use Rattle.plan_grammar.specs.declared.element.Side.{Side}
 use Rattle.plan_grammar.specs.declared.element.Side.TheVariants.{Star, Value, Between}
 use Rattle.plan_texts.specs.Text.{words, begins_with, cut_at, decimal_number, pieces}
+use Rattle.plan_texts.specs.EachLaws.{err_steps, err_each, err_choice}
 use Rattle.plan_texts.specs.Steps.{◌>>=◌, each}
 use Rattle.plan_grammar.specs.Readings.{Reading, Gives}
 use Rattle.plan_grammar.specs.Cron.{part_of, named_value, value_reading, step_reading, side_reading, item_of, item_reading, items_reading, field_reading, five_fields, at_reading, rule_reading, cron_reading, at_word, found_reading}
@@ -30,22 +31,7 @@ IsTextCause other = Unit {0}
 
 -- the error of a reading, if it has one, has such a cause
 abbrev pub IsTextFault : {A : Type 0} → Reading A → Type 0
-IsTextFault (Ok x) = Unit {0}
-IsTextFault (Err fault) = IsTextCause fault.cause
-
-pub steps :
-    {A B : Type 0} (r : Reading A) (next : A → Reading B) → IsTextFault r → ((x : A) → IsTextFault (next x)) →
-    IsTextFault (r >>= next)
-steps (Ok x) next first later = later x
-steps (Err fault) next first later = first
-
-pub elements : {A B : Type 0} (f : A → Reading B) → ((x : A) → IsTextFault (f x)) → (xs : List A) → IsTextFault (each f xs)
-elements f one [] = tt
-elements f one (x ∷ xs) = steps (f x) _ (one x) (λ y. steps (each f xs) _ (elements f one xs) (λ ys. tt))
-
-pub choice : {A : Type 0} (b : Bool) (x y : Reading A) → IsTextFault x → IsTextFault y → IsTextFault (cond b x y)
-choice true x y first second = first
-choice false x y first second = second
+IsTextFault reading = IfErr reading (λ fault. IsTextCause fault.cause)
 
 pub or_fault : {A : Type 0} (o : Option A) (fault : RuleFault) → IsTextCause fault.cause → IsTextFault (ok_or o fault)
 or_fault None fault other = other
@@ -53,20 +39,20 @@ or_fault (Some x) fault other = tt
 
 -- a number
 pub number : (part : ℕ) (text : List ℕ) → IsTextFault (number_reading part text)
-number part text = choice (eqb (length text) 0) _ _ tt (or_fault (decimal_number text) _ tt)
+number part text = err_choice _ (eqb (length text) 0) _ _ tt (or_fault (decimal_number text) _ tt)
 
 span :
     (value : List ℕ → Reading ℕ) → ((t : List ℕ) → IsTextFault (value t)) → (text : List ℕ) (cut : Option (List ℕ × List ℕ)) →
     IsTextFault (span_by value text cut)
-span value own text None = steps (value text) _ (own text) (λ a. tt)
+span value own text None = err_steps _ (value text) _ (own text) (λ a. tt)
 span value own text (Some ends) =
-    steps (value ends.0) _ (own ends.0) (λ a. steps (value ends.1) _ (own ends.1) (λ b. tt))
+    err_steps _ (value ends.0) _ (own ends.0) (λ a. err_steps _ (value ends.1) _ (own ends.1) (λ b. tt))
 
 -- what comes before a step, given how a value is read
 pub side_of :
     (value : List ℕ → Reading ℕ) → ((t : List ℕ) → IsTextFault (value t)) → (mark text : List ℕ) →
     IsTextFault (side_by value mark text)
-side_of value own mark text = choice (bytes_eq text (codes "*")) _ _ tt (span value own text (cut_at mark text))
+side_of value own mark text = err_choice _ (bytes_eq text (codes "*")) _ _ tt (span value own text (cut_at mark text))
 
 -- an element, given how its two sides are read and what they mean
 pub cut_item :
@@ -74,10 +60,10 @@ pub cut_item :
     ((t : List ℕ) → IsTextFault (side t)) → ((t : List ℕ) → IsTextFault (step t)) →
     ((s : Side) (n : Option ℕ) → IsTextFault (meaning s n)) → (text : List ℕ) (cut : Option (List ℕ × List ℕ)) →
     IsTextFault (cut_item_by side step meaning text cut)
-cut_item side step meaning own_side own_step own text None = steps (side text) _ (own_side text) (λ left. own left None)
+cut_item side step meaning own_side own_step own text None = err_steps _ (side text) _ (own_side text) (λ left. own left None)
 cut_item side step meaning own_side own_step own text (Some cut) =
-    steps (side cut.0) _ (own_side cut.0)
-    (λ left. steps (step cut.1) _ (own_step cut.1) (λ n. own left (Some n)))
+    err_steps _ (side cut.0) _ (own_side cut.0)
+    (λ left. err_steps _ (step cut.1) _ (own_step cut.1) (λ n. own left (Some n)))
 
 set_form : (part : ℕ) (r : Result SetOfValues SetFault) → IsTextFault (set_in_part part r)
 set_form part (Ok s) = tt
@@ -87,13 +73,13 @@ set_form part (Err fault) = tt
 pub list_values :
     (part : ℕ) (set : List Item → Result SetOfValues SetFault) (forms : Reading (List Item)) → IsTextFault forms →
     IsTextFault (values_by part set forms)
-list_values part set forms own = steps forms _ own (λ xs. set_form part (set xs))
+list_values part set forms own = err_steps _ forms _ own (λ xs. set_form part (set xs))
 
 value : (field : Field) (text : List ℕ) → IsTextFault (value_reading field text)
 unfolding value_reading
 value field text =
-    choice (eqb (length text) 0) _ _ tt
-    (choice (begins_with is_ascii_alphabetic text) _ _
+    err_choice _ (eqb (length text) 0) _ _ tt
+    (err_choice _ (begins_with is_ascii_alphabetic text) _ _
     (or_fault (named_value field text) (record { part = part_of field; cause = BadName }) tt) (or_fault (decimal_number text) _ tt))
 
 step : (field : Field) (text : List ℕ) → IsTextFault (step_reading field text)
@@ -120,7 +106,7 @@ item field text =
 
 items : (field : Field) (text : List ℕ) → IsTextFault (items_reading field text)
 unfolding items_reading
-items field text = elements (item_reading field) (item field) (pieces 44 text)
+items field text = err_each _ (item_reading field) (item field) (pieces 44 text)
 
 field_values : (field : Field) (text : List ℕ) → IsTextFault (field_reading field text)
 unfolding field_reading
@@ -134,11 +120,11 @@ fields (a ∷ b ∷ []) = tt
 fields (a ∷ b ∷ c ∷ []) = tt
 fields (a ∷ b ∷ c ∷ d ∷ []) = tt
 fields (a ∷ b ∷ c ∷ d ∷ e ∷ []) =
-    steps (field_reading Minute a) _ (field_values Minute a)
-    (λ minutes. steps (field_reading Hour b) _ (field_values Hour b)
-    (λ hours. steps (field_reading MonthDay c) _ (field_values MonthDay c)
-    (λ month_days. steps (field_reading Month d) _ (field_values Month d)
-    (λ months. steps (field_reading WeekDay e) _ (field_values WeekDay e) (λ week_days. tt)))))
+    err_steps _ (field_reading Minute a) _ (field_values Minute a)
+    (λ minutes. err_steps _ (field_reading Hour b) _ (field_values Hour b)
+    (λ hours. err_steps _ (field_reading MonthDay c) _ (field_values MonthDay c)
+    (λ month_days. err_steps _ (field_reading Month d) _ (field_values Month d)
+    (λ months. err_steps _ (field_reading WeekDay e) _ (field_values WeekDay e) (λ week_days. tt)))))
 fields (a ∷ b ∷ c ∷ d ∷ e ∷ f ∷ more) = tt
 
 found : (word : Option (Option (List ℕ))) → IsTextFault (found_reading word)
@@ -155,7 +141,7 @@ rule : (texts : List (List ℕ)) → IsTextFault (rule_reading texts)
 unfolding rule_reading
 rule [] = tt
 rule (first ∷ others) =
-    choice (begins_with (λ b. eqb b 64) first) _ _ (at_words (first ∷ others)) (fields (first ∷ others))
+    err_choice _ (begins_with (λ b. eqb b 64) first) _ _ (at_words (first ∷ others)) (fields (first ∷ others))
 
 -- the error of a cron text has such a cause
 pub cron : (text : List ℕ) → IsTextFault (cron_reading text)

@@ -12,6 +12,7 @@ use Rattle.plan_grammar.specs.declared.fault.RuleCause.TheVariants as cause
 use Rattle.plan_rules.specs.declared.line_fault.LineCause.{LineCause}
 use Rattle.plan_rules.specs.declared.line_fault.LineCause.TheVariants.{NoMemory, NotUtf8, TooLarge, Rule, BadSetting, BadTimerName, BadTabName}
 use Rattle.plan_rules.specs.declared.line_fault.LineFault.{LineFault}
+use Rattle.plan_texts.specs.EachLaws.{err_steps, err_each, err_choice}
 use Rattle.plan_texts.specs.Steps.{◌>>=◌, each, GivesUnless}
 use Rattle.plan_grammar.specs.Readings.{Reading}
 use Rattle.plan_texts.specs.Lines.{after_blanks, cut_word}
@@ -35,20 +36,6 @@ own_cause other own = tt
 abbrev pub IsOwnFault : LineFault → Type 0
 IsOwnFault fault = (fault.cause ≡ NoMemory → fault.line ≡ 0) × IsLineCause fault.cause
 
-pub steps :
-    {A B E : Type 0} (P : E → Type 0) (r : Result A E) (next : A → Result B E) → IfErr r P → ((x : A) → IfErr (next x) P) →
-    IfErr (r >>= next) P
-steps P (Ok x) next first later = later x
-steps P (Err fault) next first later = first
-
-pub elements : {A B E : Type 0} (P : E → Type 0) (f : A → Result B E) → ((x : A) → IfErr (f x) P) → (xs : List A) → IfErr (each f xs) P
-elements P f one [] = tt
-elements P f one (x ∷ xs) = steps P (f x) _ (one x) (λ y. steps P (each f xs) _ (elements P f one xs) (λ ys. tt))
-
-pub choice : {A E : Type 0} (P : E → Type 0) (b : Bool) (x y : Result A E) → IfErr x P → IfErr y P → IfErr (cond b x y) P
-choice P true x y first second = first
-choice P false x y first second = second
-
 -- ---- the cause of a line
 
 rule_cause : (c : RuleCause) (fault : RuleFault) → fault.cause ≡ c → IsLineCause (cause_by_cause c fault)
@@ -60,11 +47,11 @@ rule_in (Ok x) = tt
 rule_in (Err fault) = rule_cause fault.cause fault refl
 
 command : (text : List ℕ) → IfErr (command_reading text) IsLineCause
-command text = choice IsLineCause (eqb (length text) 0) _ _ tt tt
+command text = err_choice IsLineCause (eqb (length text) 0) _ _ tt tt
 
 user : (cut : Option (List ℕ × List ℕ)) → IfErr (user_and_command cut) IsLineCause
 user None = tt
-user (Some cut) = steps IsLineCause (command_reading (after_blanks cut.1)) _ (command (after_blanks cut.1)) (λ c. tt)
+user (Some cut) = err_steps IsLineCause (command_reading (after_blanks cut.1)) _ (command (after_blanks cut.1)) (λ c. tt)
 
 what : (kind : Kind) (text : List ℕ) → IfErr (what_reading kind text) IsLineCause
 unfolding what_reading
@@ -74,16 +61,16 @@ what System text = user (cut_word text)
 job : (label : List ℕ) (kind : Kind) (number : ℕ) (text : List ℕ) → IfErr (job_reading label kind number text) IsLineCause
 unfolding job_reading
 job label kind number text =
-    steps IsLineCause (in_line (rule_in_front text)) _ (rule_in (rule_in_front text))
-    (λ front. steps IsLineCause (what_reading kind front.1) _ (what kind front.1) (λ c. tt))
+    err_steps IsLineCause (in_line (rule_in_front text)) _ (rule_in (rule_in_front text))
+    (λ front. err_steps IsLineCause (what_reading kind front.1) _ (what kind front.1) (λ c. tt))
 
 entry : (label : List ℕ) (kind : Kind) (number : ℕ) (text : List ℕ) → IfErr (entry_reading label kind number text) IsLineCause
 entry label kind number [] = tt
 entry label kind number (first ∷ rest) =
-    choice IsLineCause (eqb first 35) _ _ tt
-    (choice IsLineCause (begins_setting first) _ _
-    (choice IsLineCause (list_any (λ b. eqb b 61) (first ∷ rest)) (Ok None) (Err BadSetting) tt tt)
-    (steps IsLineCause (job_reading label kind number (first ∷ rest)) _ (job label kind number (first ∷ rest)) (λ j. tt)))
+    err_choice IsLineCause (eqb first 35) _ _ tt
+    (err_choice IsLineCause (begins_setting first) _ _
+    (err_choice IsLineCause (list_any (λ b. eqb b 61) (first ∷ rest)) (Ok None) (Err BadSetting) tt tt)
+    (err_steps IsLineCause (job_reading label kind number (first ∷ rest)) _ (job label kind number (first ∷ rest)) (λ j. tt)))
 
 line : (label : List ℕ) (kind : Kind) (number : ℕ) (text : List ℕ) → IfErr (line_reading label kind number text) IsLineCause
 unfolding line_reading
@@ -102,8 +89,8 @@ on number (Err c) own = fault_of number c own
 pub jobs : (label : List ℕ) (kind : Kind) (texts : List (List ℕ)) → IfErr (jobs_reading label kind texts) IsOwnFault
 unfolding jobs_reading
 jobs label kind texts =
-    steps IsOwnFault (each (numbered_reading label kind) (enumerate_from 0 texts)) _
-    (elements IsOwnFault (numbered_reading label kind) (λ text. on (text.0 + 1) (line_reading label kind (text.0 + 1) text.1)
+    err_steps IsOwnFault (each (numbered_reading label kind) (enumerate_from 0 texts)) _
+    (err_each IsOwnFault (numbered_reading label kind) (λ text. on (text.0 + 1) (line_reading label kind (text.0 + 1) text.1)
     (line label kind (text.0 + 1) text.1)) (enumerate_from 0 texts))
     (λ found. tt)
 

@@ -12,7 +12,8 @@ use Rattle.plan_texts.specs.Steps.{GivesUnless}
 use Rattle.plan_rules.specs.FileText.{text_reading}
 use Rattle.plan_rules.specs.LineFaults.{TextReading, of_whole, on_line, want_of_memory}
 use Rattle.plan_rules.specs.Crontab.{crontab_reading, jobs_reading}
-use Rattle.plan_rules.proofs.CrontabFaults.{IsLineCause, IsOwnFault, jobs, steps}
+use Rattle.plan_texts.specs.EachLaws.{err_steps, err_choice}
+use Rattle.plan_rules.proofs.CrontabFaults.{IsLineCause, IsOwnFault, jobs}
 
 -- the error is not that of a bad name
 abbrev IsOfNoName : LineFault → Type 0
@@ -30,7 +31,7 @@ of_text false false bytes = λ same. cc
 
 pub of_crontab : (label : List ℕ) (kind : Kind) (bytes : List ℕ) → IfErr (crontab_reading label kind bytes) IsOfNoName
 of_crontab label kind bytes =
-    steps IsOfNoName (text_reading bytes) _ (of_text (is_too_large bytes) (is_utf8 bytes) bytes)
+    err_steps IsOfNoName (text_reading bytes) _ (of_text (is_too_large bytes) (is_utf8 bytes) bytes)
     (λ text. IfErr-weaker (jobs_reading label kind (lines text)) IsOwnFault IsOfNoName (λ fault own. of_line fault.cause own.1)
     (jobs label kind (lines text)))
 

@@ -17,7 +17,8 @@ use Rattle.plan_rules.specs.FileText.{text_reading}
 use Rattle.plan_rules.specs.Job.{JobParts}
 use Rattle.plan_texts.specs.WholeLines.{whole_lines, whole_text, trimmed}
 use Rattle.plan_rules.specs.Timer.{Effect, Reset, Event, Starts, Nothing, is_timer_name, effects_from, has_timer, added_event, events_from, first_unit, job_with, timer_of_lines, timer_reading}
-use Rattle.plan_rules.proofs.CrontabFaults.{IsLineCause, IsOwnFault, steps, choice, rule_in, on}
+use Rattle.plan_texts.specs.EachLaws.{err_steps, err_choice}
+use Rattle.plan_rules.proofs.CrontabFaults.{IsLineCause, IsOwnFault, rule_in, on}
 
 -- ---- the name
 
@@ -55,14 +56,14 @@ boundary_of_name name is =
 
 event_fault : (held : List Calendar) (text : List ℕ) → IfErr (added_event held text) IsLineCause
 event_fault held text =
-    choice IsLineCause (nat_lt (length held) most_events) (in_line (event_reading text)) (Err TooManyLines)
+    err_choice IsLineCause (nat_lt (length held) most_events) (in_line (event_reading text)) (Err TooManyLines)
     (rule_in (event_reading text)) tt
 
 events_fault : (held : List Calendar) (effects : List (ℕ × Effect)) → IfErr (events_from held effects) IsOwnFault
 events_fault held [] = tt
 events_fault held ((number, Reset) ∷ more) = events_fault [] more
 events_fault held ((number, Event text) ∷ more) =
-    steps IsOwnFault (on_line number (added_event held text)) _ (on number (added_event held text) (event_fault held text))
+    err_steps IsOwnFault (on_line number (added_event held text)) _ (on number (added_event held text) (event_fault held text))
     (λ event. events_fault (held ++ event ∷ []) more)
 events_fault held ((number, Starts unit) ∷ more) = events_fault held more
 events_fault held ((number, Nothing) ∷ more) = events_fault held more
@@ -75,7 +76,7 @@ job_fault false name unit events = on {A = JobParts} 0 (Err NoTimerSection) tt
 -- every error of a timer's lines is of a line
 pub lines_fault : (name : List ℕ) (lines : List (ℕ × List ℕ)) → IfErr (timer_of_lines name lines) IsOwnFault
 lines_fault name lines =
-    steps IsOwnFault (events_from [] (effects_from false lines)) _ (events_fault [] (effects_from false lines))
+    err_steps IsOwnFault (events_from [] (effects_from false lines)) _ (events_fault [] (effects_from false lines))
     (λ events. job_fault (has_timer lines) name (first_unit (effects_from false lines)) events)
 
 -- ---- the bytes

@@ -33,15 +33,3 @@ day_of_month month first day = record {
   minute = 0;
   second = 0;
 }
-
--- the same time one day later, within the month
-abbrev pub day_after : Civil → Civil
-day_after c = record {
-  year = c.year;
-  month = c.month;
-  day = c.day + 1;
-  weekday = (c.weekday + 1) % 7;
-  hour = c.hour;
-  minute = c.minute;
-  second = c.second;
-}

@@ -1,14 +1,14 @@
 -- Laws of months in a row: a day is in a month or a later one exactly from the first day of that month on, and within a month the
 -- days count up by one.
-use Rattle.std.proofs.Common.{◌≡◌, ℕ, ◌+◌, ◌-◌, ◌*◌, ◌/◌, ◌%◌, ◌<◌, ◌≤◌, inl, inr, refl, sym, ◌∙◌, arith, pos, ◌<ℤ◌, ◌≤ℤ◌}
+use Rattle.std.proofs.Common.{◌≡◌, ℕ, ◌+◌, ◌-◌, ◌*◌, ◌/◌, ◌%◌, ◌<◌, ◌≤◌, inl, inr, refl, sym, arith, pos, ◌<ℤ◌, ◌≤ℤ◌}
 use Rattle.std.proofs.lemmas.Bool.{cases_lt}
 use Rattle.jiff_core.specs.Calendar.{days_from_civil, IsCivilDate}
 use Rattle.jiff_core.proofs.SignedLemmas.{signed_arith}
 use Rattle.jiff_core.proofs.CalendarLemmas.{day_count-day, day_count-last_of_year, day_count-lt_month, day_count-lt_year, day_count-next_month, day_count-next_year, days_from_civil-day_count, days_in_month_bounds}
 use Rattle.plan_sets.specs.declared.civil.Civil.{Civil}
 use Rattle.plan_sets.specs.Limits.{end_second, first_year, last_year, seconds_a_day}
-use Rattle.plan_sets.specs.Civil.{civil_fields, length_of_month, second_number, IsCivilOf, IsDateTimeInYears}
-use Rattle.plan_sets.specs.Months.{day_after, day_of_month, days_of_month, month_number, ComesBefore, IsFirstDay}
+use Rattle.plan_sets.specs.Civil.{civil_fields, IsCivilOf}
+use Rattle.plan_sets.specs.Months.{day_of_month, days_of_month, month_number, ComesBefore, IsFirstDay}
 use Rattle.plan_sets.specs.CivilLaws.{days_from_civil-before_year, days_from_civil-end, days_from_civil-first, days_from_civil-from_year, IsCivilOf-civil_fields, IsCivilOf-unique, IsInRange-year}
 
 -- the month's first day is a date
@@ -98,44 +98,9 @@ ComesBefore-first_day month first n known is h =
       from = λ le. omega (arith, signed_arith, fields.day_number, from_first month c.year c.month c.day known fields.date le);
     }
 
--- the first day of a month in the supported years is a date in these years
-pub IsDateTimeInYears-first :
-    (month : ℕ) → first_year * 12 ≤ month → month < (last_year + 1) * 12 → IsDateTimeInYears (month / 12) (month % 12 + 1) 1 0 0 0
-IsDateTimeInYears-first month low high =
-    ((omega arith, omega arith), (IsCivilDate-first month (omega arith), (omega arith, omega arith, omega arith)))
-
--- the first second of a month has the day number of its first day
-pub IsFirstDay-second : (month n : ℕ) → pos n ≡ second_number (month / 12) (month % 12 + 1) 1 0 0 0 → IsFirstDay month (n / seconds_a_day)
-IsFirstDay-second month n e = omega (arith, signed_arith)
-
 -- the end is the first day of a month
 pub IsFirstDay-end : (month : ℕ) → month ≡ (last_year + 1) * 12 → IsFirstDay month (end_second / seconds_a_day)
 IsFirstDay-end month e = rw e days_from_civil-end
-
--- the month of a later second is not an earlier month
-pub month_number-mono : (n later : ℕ) → n ≤ later → later ≤ end_second → month_number (civil_fields n) ≤ month_number (civil_fields later)
-month_number-mono n later le h =
-    let a = civil_fields n in
-    let b = civil_fields later in
-    let fields = IsCivilOf-civil_fields n (omega arith) in
-    let fields_later = IsCivilOf-civil_fields later h in
-    let known : a.year ≤ 9999 = omega (arith, signed_arith, fields.date.0) in
-    let low : 1 ≤ a.month = fields.date.1.0 in
-    let high : a.month ≤ 12 = fields.date.1.1 in
-    elim (cases_lt (month_number b) (month_number a)) [
-      | inl before ↦
-          absurd (omega (
-            arith,
-            signed_arith,
-            fields.day_number,
-            fields_later.day_number,
-            before_first
-                (month_number a) b.year b.month b.day fields_later.date before,
-            from_first (month_number a) a.year a.month a.day
-                (omega arith) fields.date (omega arith),
-          ))
-      | inr from ↦ from
-    ]
 
 -- the range of the months of all seconds before the end
 pub IsInRange-month_number :
@@ -199,27 +164,6 @@ IsFirstDay-next month first known is =
           ))
     ]
 
--- within a month, the day follows from the day number by counting
-pub day-of_month :
-    (month first n : ℕ) → n ≤ end_second → IsFirstDay month first → month_number (civil_fields n) ≡ month →
-    (civil_fields n).day + first ≡ n / seconds_a_day + 1
-day-of_month month first n h is here =
-    let c = civil_fields n in
-    let fields = IsCivilOf-civil_fields n h in
-    let low : 1 ≤ c.month = fields.date.1.0 in
-    let high : c.month ≤ 12 = fields.date.1.1 in
-    let year : month / 12 ≡ c.year = omega arith in
-    let of_year : month % 12 + 1 ≡ c.month = omega arith in
-    let begun = rw (year, of_year) at is in
-    omega (
-      arith,
-      signed_arith,
-      days_from_civil-day_count,
-      fields.day_number,
-      day_count-day
-          (pos c.year) c.month c.day 1 fields.date.2.0 (omega arith),
-    )
-
 -- `first` is the day number of the first day of the month of c, counted back from the day of second n
 pub record IsDayOf (n first : ℕ) (c : Civil) : Type 0 where
   pub from : c.day ≤ n / seconds_a_day + 1
@@ -264,29 +208,3 @@ civil_fields-of_month month first day known is from to h =
       time_of_day = sym midnight;
     } in
     IsCivilOf-unique n (civil_fields n) (day_of_month month first day) (IsCivilOf-civil_fields n h) here
-
--- one day later within the month
-pub civil_fields-day_after :
-    (n later : ℕ) → later ≡ n + seconds_a_day → later ≤ end_second →
-    (civil_fields n).day < length_of_month (civil_fields n).year (civil_fields n).month →
-    civil_fields later ≡ day_after (civil_fields n)
-civil_fields-day_after n later is h room =
-    let c = civil_fields n in
-    let fields = IsCivilOf-civil_fields n (omega arith) in
-    let day_is : later / seconds_a_day ≡ n / seconds_a_day + 1 = omega arith in
-    let same_time : later % seconds_a_day ≡ n % seconds_a_day = omega arith in
-    let here : IsCivilOf later (day_after c) = record {
-      date = (fields.date.0, fields.date.1, (omega arith, omega arith));
-      day_number = rw day_is (omega (
-        arith,
-        signed_arith,
-        days_from_civil-day_count,
-        fields.day_number,
-        day_count-day
-            (pos c.year) c.month (c.day + 1) c.day (omega arith) fields.date.2.0,
-      ));
-      weekday = rw day_is (omega (arith, fields.weekday));
-      time = fields.time;
-      time_of_day = fields.time_of_day ∙ sym same_time;
-    } in
-    IsCivilOf-unique later (civil_fields later) (day_after c) (IsCivilOf-civil_fields later h) here

@@ -1,16 +1,12 @@
 -- How a cut is found from left to right.
--- For the loop of `cut`: its start, a place that is passed, the place of the mark, and the end (`cut_none`, `cut_more`,
+-- For the loop of `cut`: a place that is passed, the place of the mark, and the end (`cut_more`,
 -- `cut_found`, `cut_all`). `cut_at` is unfolded at one byte; `after_text` puts the passed bytes before the cut.
-use Rattle.std.proofs.Common.{◌≡◌, ℕ, ◌+◌, ◌<◌, ◌≤◌, arith, true, false, nat_eq, List, [], ◌∷◌, ◌++◌, length, take, drop, get_or, Option, Some, None, refl, ap, sym, ◌∙◌, append_assoc, append-nil, take-append-drop}
+use Rattle.std.proofs.Common.{◌≡◌, ℕ, ◌+◌, ◌<◌, ◌≤◌, true, false, nat_eq, List, [], ◌∷◌, ◌++◌, length, take, drop, get_or, Option, Some, None, refl, ap, sym, ◌∙◌, append_assoc, append-nil, take-append-drop}
 use Rattle.std.proofs.lemmas.Bool.Decides.{Decides-eqb}
 use Rattle.std.proofs.lemmas.List.{take_more, drop_more, drop_all}
 use Rattle.std.proofs.lemmas.Slice.Eq.{starts_is}
 use Rattle.std.specs.List.{starts_with}
-use Rattle.plan_texts.specs.Text.{cut_at, after_text, stands_at, StandsNowhereBefore}
-
-after_text-empty : (cut : Option (List ℕ × List ℕ)) → after_text [] cut ≡ cut
-after_text-empty None = refl
-after_text-empty (Some parts) = refl
+use Rattle.plan_texts.specs.Text.{cut_at, after_text, stands_at}
 
 after_text-after_text :
     (front more : List ℕ) (cut : Option (List ℕ × List ℕ)) → after_text front (after_text more cut) ≡ after_text (front ++ more) cut
@@ -32,10 +28,6 @@ cut_at-later mark b bs later = rw later refl
 cut_at-empty : (mark : List ℕ) → cut_at mark [] ≡ None
 unfolding cut_at
 cut_at-empty mark = refl
-
--- at the start no byte was passed
-pub cut_none : (mark text : List ℕ) → cut_at mark text ≡ after_text (take 0 text) (cut_at mark (drop 0 text))
-cut_none mark text = sym (after_text-empty (cut_at mark text))
 
 -- a place is passed if the mark isn't there
 pub cut_more :
@@ -82,7 +74,3 @@ pub again :
 again mark text at here =
     sym (take-append-drop at text)
     ∙ ap (λ rest. take at text ++ rest) ((starts_is Decides-eqb (drop at text) mark (starts_with nat_eq (drop at text) mark) refl).0 here)
-
--- a mark that is nowhere before a place is nowhere before an earlier one
-pub nowhere_earlier : (mark text : List ℕ) (end at : ℕ) → end ≤ at → StandsNowhereBefore mark text at → StandsNowhereBefore mark text end
-nowhere_earlier mark text end at less nowhere = λ place below. nowhere place (omega arith)

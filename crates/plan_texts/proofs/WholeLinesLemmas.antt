@@ -1,15 +1,15 @@
 -- Whole lines: where a text may be cut before its trailing blanks, and how lines are merged one by one.
 -- For `trimmed`, and for the loop of `joined`. Its invariant adds the lines from a place on (`rest_from`) to the lines
 -- so far. The reversed text gives the blanks at the end. One more line is a case split on whether it is a comment.
-use Rattle.std.proofs.Common.{◌≡◌, ℕ, ◌+◌, ◌-◌, ◌<◌, ◌≤◌, Bool, true, false, not, cond, List, [], ◌∷◌, length, drop, get_or, filter, map, reverse, refl, ap, sym, ◌∙◌, arith, inl, inr}
+use Rattle.std.proofs.Common.{◌≡◌, ℕ, ◌+◌, ◌-◌, ◌<◌, ◌≤◌, Bool, true, false, not, cond, List, ◌∷◌, length, drop, get_or, filter, map, reverse, refl, ap, sym, ◌∙◌, arith, inl, inr}
 use Rattle.std.proofs.lemmas.Bool.{cases_lt}
-use Rattle.std.proofs.lemmas.List.{drop_more, drop_all, drop-map, get_or-reverse}
+use Rattle.std.proofs.lemmas.List.{drop_more, drop-map, get_or-reverse}
 use Rattle.std.proofs.lemmas.List.Sums.{prefix_len_passes, suffix_len-le-length}
 use Rattle.std.proofs.lemmas.Str.{IsCharBoundary-end, IsCharBoundary-before_ascii}
 use Rattle.std.specs.List.{suffix_len, enumerate_from}
 use Rattle.std.specs.Str.{IsUtf8, IsCharBoundary}
 use Rattle.plan_texts.specs.Text.{is_blank}
-use Rattle.plan_texts.specs.WholeLines.{line_text, is_comment, with_line, numbered_texts, joined}
+use Rattle.plan_texts.specs.WholeLines.{line_text, is_comment, with_line, joined}
 use Rattle.plan_texts.specs.Joining.{with_raw_line}
 use Rattle.plan_texts.proofs.LinesLemmas.{blank_ascii}
 
@@ -62,9 +62,3 @@ rest_more v lines place d inside =
     ap (λ left. joined (filter (λ l. not (is_comment l.1)) (enumerate_from (place + 1) (map line_text left)))) split
     ∙ comment_or_line (is_comment (line_text line)) (place + 1, line_text line)
     (filter (λ l. not (is_comment l.1)) (enumerate_from (place + 1 + 1) (map line_text (drop (place + 1) (map v lines)))))
-
--- after the last line nothing follows
-pub rest_all : {A : Type 0} (v : A → List ℕ) (lines : List A) (place : ℕ) → length lines ≤ place → rest_from place (map v lines) ≡ []
-rest_all v lines place past =
-    ap (λ left. joined (filter (λ l. not (is_comment l.1)) (enumerate_from (place + 1) (map line_text left))))
-    (drop-map v place lines ∙ ap (map v) (drop_all place lines past))

@@ -1,5 +1,6 @@
 -- How a list is read from left to right: laws of `each`. With them, a loop over a list is proved to read the list.
-use Rattle.std.proofs.Common.{◌≡◌, ℕ, ◌+◌, ◌<◌, List, [], ◌∷◌, ◌++◌, length, take, drop, get_or, map, Option, Some, None, Ok, Err, refl, ap, sym, ◌∙◌, take-append-drop, Result}
+-- What holds of each part of a reading holds of the whole: of its value (`ok_`), or of its error (`err_`).
+use Rattle.std.proofs.Common.{◌≡◌, ℕ, ◌+◌, ◌<◌, Bool, true, false, cond, IfOk, IfErr, List, [], ◌∷◌, ◌++◌, length, take, drop, get_or, map, Option, Some, None, Ok, Err, refl, ap, sym, ◌∙◌, take-append-drop, Result}
 use Rattle.std.proofs.lemmas.List.{drop_more, map-append}
 use Rattle.std.specs.Iterator.{Yields}
 use Rattle.std.proofs.lemmas.Iterator.{YieldsList}
@@ -83,3 +84,29 @@ pub each-step :
     f (v x) ≡ Ok y → each f (map v (xs ++ x ∷ [])) ≡ Ok (ys ++ y ∷ [])
 each-step f v xs x ys y so_far here =
     ap (each f) (map-append v xs (x ∷ [])) ∙ each-push f (map v xs) ys (v x) y so_far here
+
+-- ---- what holds of each part holds of the whole
+
+pub ok_steps :
+    {A B E : Type 0} (Q : A → Type 0) (P : B → Type 0) (r : Result A E) (next : A → Result B E) → IfOk r Q →
+    ((x : A) → Q x → IfOk (next x) P) → IfOk (r >>= next) P
+ok_steps Q P (Ok x) next first later = later x first
+ok_steps Q P (Err fault) next first later = tt
+
+pub err_steps :
+    {A B E : Type 0} (P : E → Type 0) (r : Result A E) (next : A → Result B E) → IfErr r P → ((x : A) → IfErr (next x) P) →
+    IfErr (r >>= next) P
+err_steps P (Ok x) next first later = later x
+err_steps P (Err fault) next first later = first
+
+pub err_each : {A B E : Type 0} (P : E → Type 0) (f : A → Result B E) → ((x : A) → IfErr (f x) P) → (xs : List A) → IfErr (each f xs) P
+err_each P f one [] = tt
+err_each P f one (x ∷ xs) = err_steps P (f x) _ (one x) (λ y. err_steps P (each f xs) _ (err_each P f one xs) (λ ys. tt))
+
+pub ok_choice : {A E : Type 0} (P : A → Type 0) (b : Bool) (x y : Result A E) → IfOk x P → IfOk y P → IfOk (cond b x y) P
+ok_choice P true x y first second = first
+ok_choice P false x y first second = second
+
+pub err_choice : {A E : Type 0} (P : E → Type 0) (b : Bool) (x y : Result A E) → IfErr x P → IfErr y P → IfErr (cond b x y) P
+err_choice P true x y first second = first
+err_choice P false x y first second = second

@@ -1,11 +1,11 @@
 -- Answers the clauses `value`, `again`, `first` and `nowhere` of `cut`.
 -- The loop's invariant: the cut of the text is the cut of the rest, with the bytes that were passed put before it; and
 -- the mark is at no place that was passed. `take_rest` turns the slices of the code into `drop`.
-use Rattle.std.proofs.Common.{◌≡◌, ℕ, ◌-◌, ◌++◌, nat_eq, length, take, drop, Some, true, false, ap, sym, ◌∙◌, arith, below_more}
-use Rattle.std.proofs.lemmas.List.{take_rest, length-take}
+use Rattle.std.proofs.Common.{◌≡◌, ◌-◌, ◌++◌, nat_eq, length, take, drop, Some, true, false, ap, sym, ◌∙◌, below_more}
+use Rattle.std.proofs.lemmas.List.{take_rest}
 use Rattle.std.specs.List.{starts_with}
 use Rattle.plan_texts.specs.Text.{stands_at}
-use Rattle.plan_texts.proofs.TextLemmas.{cut_none, cut_more, cut_found, cut_all, again, nowhere_earlier}
+use Rattle.plan_texts.proofs.TextLemmas.{cut_more, cut_found, cut_all, again}
 use Rattle.plan_texts.proofs.parts.cut.Goals as goal
 
 pub loop-at-preserved : goal.loop-at-preserved

@@ -1,8 +1,6 @@
-use Rattle.std.proofs.Common.{◌≡◌, ◌+◌, [], map, ap, sym, ◌∙◌}
-use Rattle.std.proofs.lemmas.Result.{IfOk-weaker}
-use Rattle.plan_texts.specs.WholeLines.{whole_text, numbered_texts, joined}
+use Rattle.std.proofs.Common.{◌+◌, map, ap, sym, ◌∙◌}
 use Rattle.plan_texts.specs.Joining.{whole_with}
-use Rattle.plan_texts.proofs.WholeLinesLemmas.{rest_from, rest_more, rest_all}
+use Rattle.plan_texts.proofs.WholeLinesLemmas.{rest_from, rest_more}
 use Rattle.plan_texts.proofs.whole_lines.joined.Goals as goal
 
 pub loop-place-preserved : goal.loop-place-preserved
