@@ -1,5 +1,5 @@
 -- The row of a second.
--- For `passed` and `Clock::stretch`.
+-- For `passed` and `Clock::stretch_near`.
 use Rattle.std.proofs.Common.{◌≡◌, ℕ, ◌+◌, ◌-◌, ◌<◌, ◌≤◌, zero, suc, Bool, true, false, ◌&&◌, List, length, get_or, nat_le, ◌==◌, refl, ap, arith, inl, inr}
 use Rattle.std.specs.List.{prefix_len}
 use Rattle.std.proofs.lemmas.Bool.{le-leb, lt-leb}

@@ -133,12 +133,8 @@ impl Clock {
         ensures same { (n : ℕ) → second ≤ n → n < result.upto → row_at self.now n ≡ row_at self.now second }
         ensures bounded { (n : ℕ) → is_bounded (row_at self.now n) ≡ true }
     {
-        let changes = self.changes();
-        let passed = passed(changes, second);
-        Stretch {
-            row: row_after(changes, passed),
-            upto: end_after(changes, passed, end),
-        }
+        let mut guess = 0;
+        self.stretch_near(second, end, &mut guess)
     }
 
     /// Does the same as `stretch`, with a guess that can save the search.

@@ -4,7 +4,7 @@ use Rattle.std.specs.Bool.{Decides, beq}
 use Rattle.std.specs.Cmp.{IsEquivalence, IsPartialEquivalence, partial_equiv_from_equiv, decided, booleans_Decides}
 use Rattle.std.specs.Cmp.Lexicographic.{pointwise, pointwise_decides}
 use Rattle.std.specs.Option.{option_eq}
-use Rattle.std.proofs.Common.{ap}
+use Rattle.std.proofs.Common.{ap, subst}
 use Rattle.std.proofs.lemmas.Bool.Decides.{Decides-and, Decides-like}
 use Rattle.plan_sets.specs.Values.{Values, listing}
 use Rattle.plan_sets.specs.ValuesLaws.{Decides-listing}
@@ -89,28 +89,7 @@ cron_from_parts a b same = λ i. record {
 }
 
 parts_from_cron : (a b : CronRule) → a ≡ b → PartsAre a b
-parts_from_cron a b same = (
-  ap (λ (r : CronRule). r.minutes) same,
-  (
-    ap (λ (r : CronRule). r.hours) same,
-    (
-      ap (λ (r : CronRule). r.month_days) same,
-      (
-        ap (λ (r : CronRule). r.months) same,
-        (
-          ap (λ (r : CronRule). r.week_days) same,
-          (
-            ap (λ (r : CronRule). r.month_days_restricted) same,
-            (
-              ap (λ (r : CronRule). r.week_days_restricted) same,
-              (ap (λ (r : CronRule). r.is_wildcard) same, ap (λ (r : CronRule). r.clock) same),
-            ),
-          ),
-        ),
-      ),
-    ),
-  ),
-)
+parts_from_cron a b same = subst (PartsAre a) same (refl, (refl, (refl, (refl, (refl, (refl, (refl, (refl, refl))))))))
 
 -- the test of two cron rules decides whether they are equal
 pub same_cron-Decides : (a b : CronRule) → Decides (same_cron a b) (a ≡ b)
@@ -165,31 +144,7 @@ calendar_from_parts a b same = λ i. record {
 }
 
 parts_from_calendar : (a b : Calendar) → a ≡ b → CalendarPartsAre a b
-parts_from_calendar a b same = (
-  ap (λ (e : Calendar). e.years) same,
-  (
-    ap (λ (e : Calendar). e.months) same,
-    (
-      ap (λ (e : Calendar). e.days) same,
-      (
-        ap (λ (e : Calendar). e.day_count) same,
-        (
-          ap (λ (e : Calendar). e.hours) same,
-          (
-            ap (λ (e : Calendar). e.minutes) same,
-            (
-              ap (λ (e : Calendar). e.seconds) same,
-              (
-                ap (λ (e : Calendar). e.weekdays) same,
-                (ap (λ (e : Calendar). e.names_zone) same, ap (λ (e : Calendar). e.clock) same),
-              ),
-            ),
-          ),
-        ),
-      ),
-    ),
-  ),
-)
+parts_from_calendar a b same = subst (CalendarPartsAre a) same (refl, (refl, (refl, (refl, (refl, (refl, (refl, (refl, (refl, refl)))))))))
 
 -- the test of two calendar events decides whether they are equal
 pub same_calendar-Decides : (a b : Calendar) → Decides (same_calendar a b) (a ≡ b)

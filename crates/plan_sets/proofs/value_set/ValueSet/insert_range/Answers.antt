@@ -6,7 +6,7 @@ use Rattle.plan_sets.specs.Items.{is_within}
 use Rattle.plan_sets.specs.Values.{has_value, values_at}
 use Rattle.plan_sets.specs.Words.{is_marked, word_bits}
 use Rattle.plan_sets.proofs.ValuesLemmas.{base-values_at, has_value-range_more}
-use Rattle.plan_sets.proofs.RangeLemmas.{IsMarkedBefore-first, IsMarkedBefore-last, IsMarkedBefore-next, IsRangeInWord}
+use Rattle.plan_sets.proofs.RangeLemmas.{IsMarkedBefore-last, IsMarkedBefore-next, IsRangeInWord}
 use Rattle.plan_sets.proofs.WordsLemmas.{AreUnused-joined, AreWords-joined}
 use Rattle.plan_sets.proofs.value_set.ValueSet.insert_range.Goals as goal
 
@@ -17,17 +17,6 @@ overflow_sub-low c =
 pub overflow_sub-high : goal.overflow_sub-high
 overflow_sub-high c =
     omega (arith, base-values_at c.self.inside.base (is_marked c.self.inside.words) c.args.self.now c.self.view_is)
-
-pub loop-index-init : goal.loop-index-init
-loop-index-init c =
-    let fields = c.self.inside in
-    record {
-      base = refl;
-      used = refl;
-      are_words = c.self.invariant.1;
-      are_unused = λ k past. c.self.invariant.3 k (omega arith);
-      before = IsMarkedBefore-first fields.words (c.args.first - fields.base) (c.args.last - fields.base);
-    }
 
 pub bounds-self-inside-from : goal.bounds-self-inside-from
 bounds-self-inside-from c =
