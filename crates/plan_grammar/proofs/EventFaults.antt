@@ -9,7 +9,8 @@ use Rattle.plan_grammar.specs.declared.element.Side.{Side}
 use Rattle.plan_grammar.specs.declared.element.Side.TheVariants.{Star, Value, Between}
 use Rattle.plan_grammar.specs.declared.component.Component.{Component}
 use Rattle.plan_grammar.specs.declared.component.Component.TheVariants.{Year, Month, Day, Place, Hour, Minute, Second}
-use Rattle.plan_texts.specs.Text.{words, pieces, cut_at}
+use Rattle.std.specs.Char.{is_ascii_alphabetic}
+use Rattle.plan_texts.specs.Text.{begins_with, words, pieces, cut_at}
 use Rattle.plan_grammar.specs.Shape.{ShapeText, date_from_start, date_from_end, cut_date, date_reading, time_of_pieces, time_reading, is_time, one_word, two_words, dated, shape_reading}
 use Rattle.plan_grammar.specs.Event.{holds_byte, component_part, component_number, component_value, component_side, component_item_of, component_item, component_items, component_set, component_reading, weekday_of, weekday_reading, weekday_span, weekday_item, without_comma, weekday_items, weekdays_reading, weekdays_if_given, day_component, event_of, spelled_out, has_zone, last_word, zone_dropped, expression_of, is_unknown_word, lone_word, zoneless, words_reading}
 use Rattle.plan_texts.specs.EachLaws.{err_steps, err_each, err_choice}

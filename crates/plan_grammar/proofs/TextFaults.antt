@@ -2,7 +2,7 @@
 -- no definition gives such an error.
 -- For clause `memory` of `cron_rule`, and for `memory` and `specifier` of `calendar_event`. There is one lemma for each
 -- definition in the reading of a cron text, which it unfolds; `err_steps`, `err_each` and `err_choice` put the parts together.
-use Rattle.std.proofs.Common.{◌≡◌, ◌≢◌, ℕ, Bool, true, false, cond, List, [], ◌∷◌, codes, length, eqb, Option, Some, None, Result, Ok, Err, ok_or, IfErr, ap, subst, inl, inr}
+use Rattle.std.proofs.Common.{◌≡◌, ◌≢◌, ℕ, List, [], ◌∷◌, codes, length, eqb, Option, Some, None, Result, Ok, Err, ok_or, IfErr, ap, subst, inl, inr}
 use Rattle.std.proofs.lemmas.Bool.{cases_eq}
 use Rattle.std.specs.Str.{bytes_eq}
 use Rattle.std.specs.Char.{is_ascii_alphabetic}
@@ -17,7 +17,6 @@ use Rattle.plan_grammar.specs.declared.element.Side.{Side}
 use Rattle.plan_grammar.specs.declared.element.Side.TheVariants.{Star, Value, Between}
 use Rattle.plan_texts.specs.Text.{words, begins_with, cut_at, decimal_number, pieces}
 use Rattle.plan_texts.specs.EachLaws.{err_steps, err_each, err_choice}
-use Rattle.plan_texts.specs.Steps.{◌>>=◌, each}
 use Rattle.plan_grammar.specs.Readings.{Reading, Gives}
 use Rattle.plan_grammar.specs.Cron.{part_of, named_value, value_reading, step_reading, side_reading, item_of, item_reading, items_reading, field_reading, five_fields, at_reading, rule_reading, cron_reading, at_word, found_reading}
 use Rattle.plan_grammar.specs.Elements.{number_reading, span_by, side_by, cut_item_by, set_in_part, values_by}
