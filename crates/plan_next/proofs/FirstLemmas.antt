@@ -29,11 +29,3 @@ IsFirstIn-later test a b c (Some m) le none (low, high, is, first) = (
     | inr after ↦ first n after to
   ],
 )
-
--- the same, if the tests agree in the range
-pub IsFirstIn-within :
-    (test other : ℕ → Bool) (a b : ℕ) (answer : Option ℕ) → ((n : ℕ) → a ≤ n → n < b → test n ≡ other n) → IsFirstIn test a b answer →
-    IsFirstIn other a b answer
-IsFirstIn-within test other a b None same none = λ n low high. sym (same n low high) ∙ none n low high
-IsFirstIn-within test other a b (Some n) same (low, high, is, none) =
-    (low, high, sym (same n low high) ∙ is, λ k from to. sym (same k from (omega arith)) ∙ none k from to)

@@ -1,27 +1,17 @@
 -- The next starts that are kept for the events of a list.
 -- For the loops of `first_of_each` and `next_of_each`, and for `first_starts`, `next_of_event` and `next_of_cron`.
 -- `KeepsNexts-start` is hard: an event that started before the list's next start would itself be a start (`not_before`).
-use Rattle.std.proofs.Common.{◌≡◌, ◌≢◌, ℕ, ◌+◌, ◌<◌, ◌≤◌, true, List, [], length, get_or, set, get_or-set_other, get_or-set_same, Some, inl, inr, Bor, sym, ap, ◌∙◌, subst, arith}
+use Rattle.std.proofs.Common.{◌≡◌, ◌≢◌, ℕ, ◌+◌, ◌<◌, ◌≤◌, true, List, length, get_or, set, get_or-set_other, get_or-set_same, Some, inl, inr, sym, ap, ◌∙◌, subst, arith}
 use Rattle.std.specs.Prelude.{nat_lt, slice_get, slice_index}
 use Rattle.std.proofs.lemmas.Bool.{cases_lt, lt-ltb, true≢false}
 use Rattle.plan_sets.specs.Limits.{end_second}
-use Rattle.plan_match.specs.declared.cron.CronRule.{CronRule}
 use Rattle.plan_match.specs.declared.event.Calendar.{Calendar}
 use Rattle.plan_match.specs.declared.rule.Rule.{Rule}
 use Rattle.plan_match.specs.declared.rule.Rule.TheVariants as rule
-use Rattle.plan_next.specs.declared.search.Pattern.TheVariants.{Cron}
 use Rattle.plan_next.specs.Next.{IsFirstOrEnd, KeepsNexts}
-use Rattle.plan_next.specs.Search.{admits_moment}
 use Rattle.plan_next.specs.Starts.{event_starts, is_start}
 use Rattle.plan_next.proofs.EventsLemmas.{is_start-event}
 use Rattle.plan_next.proofs.NextsLemmas.{IsFirstOrEnd-later}
-use Rattle.plan_next.proofs.StartsLemmas.{is_start-cron}
-
--- the pattern of a cron rule without a clock matches the rule's starts
-pub admits_moment-cron :
-    (cron : Bor CronRule) (start : ℕ) → cron.now.clock ≡ [] → start < end_second → is_start (rule.Cron cron.now) start ≡ true →
-    admits_moment (Cron cron) start ≡ true
-admits_moment-cron cron start none before h = is_start-cron cron start none before ∙ h
 
 -- no event's next start comes before the list's
 not_before :

@@ -84,9 +84,6 @@ some_between-holds test a b m low high is =
     let whole = natural-is (b +ℤ pos 1) (omega (arith, ints)) in
     range_yes test (natural a) (natural (b +ℤ pos 1) - natural a) m le (omega (arith, ints)) is
 
-lt_is : (a b : ℤ) → int_lt a b ≡ true → a <ℤ b
-lt_is a b h = grind (arith, ints)
-
 lt_not : (a b : ℤ) → int_lt a b ≡ false → b ≤ℤ a
 lt_not a b h = grind (arith, ints)
 

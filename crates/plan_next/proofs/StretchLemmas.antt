@@ -69,32 +69,6 @@ hope_some pattern from end earliest found hope bounded part low is none = record
   none = λ n after before. far_start pattern n bounded (λ m down up within. none m (omega arith) (omega arith));
 }
 
--- a start in the part that was searched last is the first start of all parts
-pub first_later :
-    (test : ℕ → Bool) (since from upto end n : ℕ) → since ≤ from → upto ≤ end → NoneIn test since from → IsLeastIn test from upto n →
-    IsLeastIn test since end n
-first_later test since from upto end n after part before (low, high, is, none) = (
-  omega arith,
-  omega arith,
-  is,
-  λ k low high. elim (cases_lt k from) [
-    | inl earlier ↦ before k low earlier
-    | inr later ↦ none k later high
-  ],
-)
-
--- consecutive parts without a start
-pub none_upto : (test : ℕ → Bool) (since from upto hope : ℕ) → NoneIn test since from → NoneIn test from upto → NoneIn test upto hope →
-    NoneIn test since hope
-none_upto test since from upto hope first second third = λ n low high.
-    elim (cases_lt n from) [
-      | inl early ↦ first n low early
-      | inr later ↦ elim (cases_lt n upto) [
-        | inl within ↦ second n later within
-        | inr past ↦ third n past high
-      ]
-    ]
-
 -- what matches is in the planner's years
 matches_shown-within : (pattern : Pattern) (m : ℕ) → matches_shown pattern m ≡ true → m < end_second
 matches_shown-within pattern m matches =
