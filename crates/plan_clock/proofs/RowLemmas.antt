@@ -1,8 +1,8 @@
 -- The row of a second.
 -- For `passed` and `Clock::stretch_near`.
-use Rattle.std.proofs.Common.{◌≡◌, ℕ, ◌+◌, ◌-◌, ◌<◌, ◌≤◌, zero, suc, Bool, true, false, ◌&&◌, List, length, get_or, nat_le, ◌==◌, refl, ap, arith, inl, inr}
+use Rattle.std.proofs.Common.{◌≡◌, ℕ, ◌+◌, ◌-◌, ◌<◌, ◌≤◌, zero, suc, true, false, List, length, get_or, nat_le, ◌==◌, refl, ap, arith, inl, inr}
 use Rattle.std.specs.List.{prefix_len}
-use Rattle.std.proofs.lemmas.Bool.{le-leb, lt-leb}
+use Rattle.std.proofs.lemmas.Bool.{le-leb, lt-leb, and_from}
 use Rattle.std.specs.List.Sorted.{IsNonDecreasingBy}
 use Rattle.std.proofs.lemmas.Bool.Decides.{nat_tests, leb_tells}
 use Rattle.std.proofs.lemmas.List.{get_or_default}
@@ -54,14 +54,11 @@ HavePassed-later changes n m passed have le next = record {
   next = next;
 }
 
-both_near : (a b : Bool) → a ≡ true → b ≡ true → (a && b) ≡ true
-both_near a b h k = rw (h, k) refl
-
 bounded_after : (changes : List Change) (passed : ℕ) → AreChanges changes → is_bounded (row_after changes passed) ≡ true
 bounded_after changes zero are = refl
 bounded_after changes (suc k) are =
     let some : (suc k == 0) ≡ false = grind (arith, nat_tests) in
-    rw some (both_near _ _ (are.bounded (suc k - 1 - 1)) (are.bounded (suc k - 1)))
+    rw some (and_from _ _ (are.bounded (suc k - 1 - 1)) (are.bounded (suc k - 1)))
 
 pub bounded_at : (changes : List Change) (n : ℕ) → AreChanges changes → is_bounded (row_at changes n) ≡ true
 unfolding row_at

@@ -1,10 +1,11 @@
 -- The sets of a rule that was read are within the limits of their fields.
 -- For clause `within` of `cron_rule` and `calendar_event`. A set has those values of its span that pass a test
 -- (`span`), so it is within the span; `ok_steps` carries that through each definition of a reading.
-use Rattle.std.proofs.Common.{◌≡◌, ℕ, ◌+◌, ◌-◌, ◌&&◌, Bool, true, false, List, [], ◌∷◌, Option, Some, None, Result, Ok, Err, IfOk, IfSome, refl, arith, subst, sym, ◌∙◌}
+use Rattle.std.proofs.Common.{◌≡◌, ℕ, ◌+◌, ◌-◌, Bool, true, List, [], ◌∷◌, Option, Some, None, Result, Ok, Err, IfOk, IfSome, refl, arith, subst, sym, ◌∙◌}
 use Rattle.std.proofs.lemmas.Bool.Decides.{nat_tests}
 use Rattle.std.specs.Int.{IsInRange}
 use Rattle.std.specs.List.{list_any}
+use Rattle.std.proofs.lemmas.Bool.{and_parts}
 use Rattle.plan_sets.specs.declared.item.Item.{Item}
 use Rattle.plan_sets.specs.declared.item.SetFault.{SetFault}
 use Rattle.plan_sets.specs.Items.{belongs, items_fault, held_values, values_or_fault, set_reading}
@@ -46,17 +47,13 @@ answered P (Err fault) reading gives own = tt
 
 -- ---- sets
 
-both : (x y : Bool) → (x && y) ≡ true → x ≡ true
-both true y is = refl
-both false y is = is
-
 among : (first count last v : ℕ) → last + 1 ≡ first + count → is_among first count v ≡ true → IsInRange first last v
 among first count last v ends is = (grind (arith, nat_tests), grind (arith, nat_tests))
 
 -- the values that pass a test are within their span
 span : (first count last : ℕ) (test : ℕ → Bool) → last + 1 ≡ first + count → LieWithin first last (values_where first count test)
 span first count last test ends = λ v has.
-    among first count last v ends (both (is_among first count v) (test v) (sym (has_value-values_where first count test v) ∙ has))
+    among first count last v ends (and_parts (is_among first count v) (test v) (sym (has_value-values_where first count test v) ∙ has)).0
 
 unless_fault :
     (P : SetOfValues → Type 0) (values : SetOfValues) (fault : Option SetFault) → P values → IfOk (values_or_fault values fault) P

@@ -2,7 +2,7 @@
 -- For `first_of_either`: within a month the fields of a day follow from its number, and the first day of either field
 -- is the earlier of the two fields' first days.
 use Rattle.std.proofs.Common.{◌≡◌, ℕ, ◌+◌, ◌%◌, ◌<◌, ◌≤◌, Bool, true, false, ◌&&◌, ◌||◌, inl, inr, refl, ap, ◌∙◌, arith}
-use Rattle.std.proofs.lemmas.Bool.{cases_lt}
+use Rattle.std.proofs.lemmas.Bool.{cases_lt, or_right}
 use Rattle.plan_sets.specs.declared.civil.Civil.{Civil}
 use Rattle.plan_sets.specs.MonthsLaws.{civil_fields-of_month}
 use Rattle.plan_sets.specs.Values.{has_value}
@@ -43,10 +43,6 @@ pub none_of_either :
     has_value rule.months (month.number % 12 + 1) ≡ false → month.first ≤ day → day < month.end → cron_admits_day rule day ≡ false
 none_of_either rule month day both is none from to = admits-either rule month day both is from to ∙ rw none refl
 
-either_true : (a b : Bool) → b ≡ true → (a || b) ≡ true
-either_true true b h = refl
-either_true false b h = h
-
 -- the first day that the day of the week matches, before the first that the day of the month matches, or else that one
 pub first_of_either :
     (rule : CronRule) (month : Month) (from until place day : ℕ) → HasBoth rule → IsMonth month →
@@ -65,7 +61,7 @@ first_of_either rule month from until place day both is admitted low high by_mon
           let no_week_day = by_week.none n start before in
           admits-either rule month n both is (omega arith) (omega arith) ∙ rw (admitted, no_month_day, no_week_day) refl;
       is = λ within. admits-either rule month day both is (omega arith) (omega arith) ∙ rw admitted (elim (cases_lt day place) [
-        | inl earlier ↦ either_true (has_month_day rule.month_days month.first day) _ (by_week.is earlier)
+        | inl earlier ↦ or_right (has_month_day rule.month_days month.first day) _ (by_week.is earlier)
         | inr here ↦
             let same : day ≡ place = omega arith in
             rw (same, by_month.is (omega arith)) refl

@@ -5,7 +5,7 @@ use Rattle.std.proofs.Common.{◌≡◌, ℕ, ◌+◌, zero, suc, length, ◌≤
 use Rattle.std.specs.Prelude.{min, slice_get, unwrap_or}
 use Rattle.std.specs.List.{list_any}
 use Rattle.std.specs.Option.{option_or}
-use Rattle.std.proofs.lemmas.Bool.{cases_lt}
+use Rattle.std.proofs.lemmas.Bool.{cases_lt, or_from, or_left, or_right}
 use Rattle.std.proofs.lemmas.List.{take_more}
 use Rattle.std.proofs.lemmas.List.Folds.{list_any-append}
 use Rattle.std.proofs.lemmas.Option.{slice_get_within, get_or_from_slice_get}
@@ -17,27 +17,17 @@ use Rattle.plan_next.specs.Starts.{event_starts, IsFirstIn}
 use Rattle.plan_next.proofs.FirstLemmas.{IsFirstIn-same}
 use Rattle.plan_next.proofs.NextsLemmas.{IsFirstOrEnd-same}
 
-or_false : (a b : Bool) → a ≡ false → b ≡ false → (a || b) ≡ false
-or_false a b h k = rw (h, k) refl
-
-or_left : (a b : Bool) → a ≡ true → (a || b) ≡ true
-or_left a b h = rw h refl
-
-or_right : (a b : Bool) → b ≡ true → (a || b) ≡ true
-or_right true b h = refl
-or_right false b h = h
-
 -- if the second test is searched only up to the first answer, its answer is the first of both; if it has none, the first answer is
 IsFirstIn-narrowed :
     (p q : ℕ → Bool) (a b : ℕ) (first second : Option ℕ) → IsFirstIn p a b first → IsFirstIn q a (unwrap_or first b) second →
     IsFirstIn (λ n. p n || q n) a b (option_or second first)
-IsFirstIn-narrowed p q a b None None h k = λ n low high. or_false (p n) (q n) (h n low high) (k n low high)
+IsFirstIn-narrowed p q a b None None h k = λ n low high. or_from (p n) (q n) (h n low high) (k n low high)
 IsFirstIn-narrowed p q a b None (Some m) h (low, high, is, none) =
-    (low, high, or_right (p m) (q m) is, λ n from to. or_false (p n) (q n) (h n from (omega arith)) (none n from to))
+    (low, high, or_right (p m) (q m) is, λ n from to. or_from (p n) (q n) (h n from (omega arith)) (none n from to))
 IsFirstIn-narrowed p q a b (Some m) None (low, high, is, none) k =
-    (low, high, or_left (p m) (q m) is, λ n from to. or_false (p n) (q n) (none n from to) (k n from to))
+    (low, high, or_left (p m) (q m) is, λ n from to. or_from (p n) (q n) (none n from to) (k n from to))
 IsFirstIn-narrowed p q a b (Some m) (Some k) (low, high, is, none) (low₂, high₂, is₂, none₂) =
-    (low₂, omega arith, or_right (p k) (q k) is₂, λ n from to. or_false (p n) (q n) (none n from (omega arith)) (none₂ n from to))
+    (low₂, omega arith, or_right (p k) (q k) is₂, λ n from to. or_from (p n) (q n) (none n from (omega arith)) (none₂ n from to))
 
 -- the smaller of two next numbers is the next of both tests
 IsFirstOrEnd-min :
@@ -49,7 +39,7 @@ IsFirstOrEnd-min p q a b n m first second =
     record {
       from = omega arith;
       to = omega arith;
-      none = λ k low high. or_false (p k) (q k) (first.none k low (omega arith)) (second.none k low (omega arith));
+      none = λ k low high. or_from (p k) (q k) (first.none k low (omega arith)) (second.none k low (omega arith));
       is = λ lt. elim (cases_lt n m) [
         | inl before ↦ let here : min n m ≡ n = omega arith in rw here (or_left (p n) (q n) (first.is (omega arith)))
         | inr after ↦ let here : min n m ≡ m = omega arith in rw here (or_right (p m) (q m) (second.is (omega arith)))

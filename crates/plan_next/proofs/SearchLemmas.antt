@@ -1,10 +1,10 @@
 -- A search month by month is a search of the whole.
 -- For `first_open_day` and `first_later_day`, and for `date` and `later` of `Month`. Days and months are compared by
 -- the first day of a month (`ComesBefore-day`). `none_later` is hard: it is about the months that were skipped.
-use Rattle.std.proofs.Common.{◌≡◌, ℕ, ◌+◌, ◌-◌, ◌*◌, ◌/◌, ◌%◌, ◌<◌, ◌≤◌, Bool, true, false, ◌&&◌, Option, Some, None, inl, inr, refl, ap, sym, ◌∙◌, subst, arith}
+use Rattle.std.proofs.Common.{◌≡◌, ℕ, ◌+◌, ◌-◌, ◌*◌, ◌/◌, ◌%◌, ◌<◌, ◌≤◌, true, false, Option, Some, None, inl, inr, refl, ap, sym, ◌∙◌, subst, arith}
 use Rattle.std.specs.Prelude.{min}
 use Rattle.std.specs.Int.{IsInRange}
-use Rattle.std.proofs.lemmas.Bool.{cases_lt, cases_Bool, true≢false, false≢true}
+use Rattle.std.proofs.lemmas.Bool.{cases_lt, cases_Bool, true≢false, and_parts}
 use Rattle.plan_sets.specs.declared.civil.Civil.{Civil}
 use Rattle.plan_sets.specs.Limits.{seconds_a_day}
 use Rattle.plan_sets.specs.Civil.{civil_fields}
@@ -24,14 +24,6 @@ month_of_day day = month_number (civil_fields (day * seconds_a_day))
 
 -- ---- laws of each kind of pattern
 
-both_true : (a b : Bool) → (a && b) ≡ true → a ≡ true
-both_true true b h = refl
-both_true false b h = h
-
-later_true : (a b : Bool) → (a && b) ≡ true → b ≡ true
-later_true true b h = h
-later_true false b h = absurd (false≢true h)
-
 -- if the date matches, so do its year and its month
 record HasMonth (pattern : Pattern) (civil : Civil) : Type 0 where
   year : admits_year pattern civil.year ≡ true
@@ -40,11 +32,11 @@ record HasMonth (pattern : Pattern) (civil : Civil) : Type 0 where
 HasMonth-date : (pattern : Pattern) (civil : Civil) → admits_date pattern civil ≡ true → HasMonth pattern civil
 HasMonth-date (Cron rule) civil h = record {
   year = refl;
-  month = both_true _ _ h;
+  month = (and_parts _ _ h).0;
 }
 HasMonth-date (Event event) civil h = record {
-  year = both_true _ _ h;
-  month = both_true (has_value event.now.months civil.month) _ (later_true (has_value event.now.years civil.year) _ h);
+  year = (and_parts _ _ h).0;
+  month = (and_parts (has_value event.now.months civil.month) _ (and_parts (has_value event.now.years civil.year) _ h).1).0;
 }
 
 -- ---- days and months
