@@ -1,7 +1,7 @@
 -- Which errors a crontab has: a failed allocation has line 0, and never is inside a rule's error.
 -- For all clauses of `crontab`, and for some of `timer`. `line` and `jobs` follow the definition: each step, choice and element
 -- keeps this property of its errors. `answered` carries it over to an answer, which may be a failed allocation instead.
-use Rattle.std.proofs.Common.{◌≡◌, ◌≢◌, ℕ, ◌+◌, Bool, true, false, cond, eqb, List, [], ◌∷◌, length, Option, Some, None, Result, Ok, Err, IfErr, refl, ap, sym, inl, inr, subst}
+use Rattle.std.proofs.Common.{◌≡◌, ◌≢◌, ℕ, ◌+◌, eqb, List, [], ◌∷◌, length, Option, Some, None, Result, Ok, Err, IfErr, refl, ap, sym, inl, inr, subst}
 use Rattle.std.proofs.lemmas.Bool.{cases_eq}
 use Rattle.std.specs.List.{enumerate_from, list_any}
 use Rattle.plan_rules.specs.declared.crontabs.Kind.{Kind}
@@ -13,7 +13,7 @@ use Rattle.plan_rules.specs.declared.line_fault.LineCause.{LineCause}
 use Rattle.plan_rules.specs.declared.line_fault.LineCause.TheVariants.{NoMemory, NotUtf8, TooLarge, Rule, BadSetting, BadTimerName, BadTabName}
 use Rattle.plan_rules.specs.declared.line_fault.LineFault.{LineFault}
 use Rattle.plan_texts.specs.EachLaws.{err_steps, err_each, err_choice}
-use Rattle.plan_texts.specs.Steps.{◌>>=◌, each, GivesUnless}
+use Rattle.plan_texts.specs.Steps.{each, GivesUnless}
 use Rattle.plan_grammar.specs.Readings.{Reading}
 use Rattle.plan_texts.specs.Lines.{after_blanks, cut_word}
 use Rattle.plan_rules.specs.LineFaults.{LineReading, TextReading, IsOwnCause, cause_by_cause, in_line, on_line, fault_on_line, want_of_memory}

@@ -12,7 +12,7 @@ use Rattle.plan_texts.specs.Steps.{GivesUnless}
 use Rattle.plan_rules.specs.FileText.{text_reading}
 use Rattle.plan_rules.specs.LineFaults.{TextReading, of_whole, on_line, want_of_memory}
 use Rattle.plan_rules.specs.Crontab.{crontab_reading, jobs_reading}
-use Rattle.plan_texts.specs.EachLaws.{err_steps, err_choice}
+use Rattle.plan_texts.specs.EachLaws.{err_steps}
 use Rattle.plan_rules.proofs.CrontabFaults.{IsLineCause, IsOwnFault, jobs}
 
 -- the error is not that of a bad name

@@ -7,7 +7,7 @@ use Rattle.std.specs.declared.alloc.AllocError.{AllocError}
 use Rattle.indexmap.specs.IndexMap.{set_value_at}
 use Rattle.plan_clock.specs.declared.row.Change.{Change}
 use Rattle.plan_rules.specs.Job.{JobParts}
-use Rattle.plan_rules.specs.Zone.{first_in, job_in, jobs_in}
+use Rattle.plan_rules.specs.Zone.{first_in, job_in}
 
 -- the names of the jobs of entries
 abbrev pub names : {K : Type 0} → List (K × JobParts) → List (List ℕ)

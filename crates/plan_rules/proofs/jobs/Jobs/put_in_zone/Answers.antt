@@ -1,5 +1,5 @@
 -- One entry of the map changes: its job keeps its name (`same_names`) and is now in the zone (`first_more`).
-use Rattle.std.proofs.Common.{◌≡◌, ℕ, ◌≤◌, List, Some, string_bytes, map, refl, ap, sym, subst, ◌∙◌, add-one}
+use Rattle.std.proofs.Common.{◌≡◌, ℕ, ◌≤◌, Some, string_bytes, map, ap, sym, subst, ◌∙◌, add-one}
 use Rattle.std.specs.List.{slice_get}
 use Rattle.std.specs.Map.{values_of}
 use Rattle.std.specs.Option.{option_copied_mut}
@@ -7,7 +7,7 @@ use Rattle.indexmap.proofs.CallerLemmas.{index_map_len-with_value_at, keys-with_
 use Rattle.indexmap.specs.IndexMap.{set_value_at}
 use Rattle.plan_rules.specs.Limits.{most_jobs}
 use Rattle.plan_rules.specs.Job.{JobParts}
-use Rattle.plan_rules.specs.Zone.{first_in, job_in}
+use Rattle.plan_rules.specs.Zone.{first_in}
 use Rattle.plan_rules.proofs.ZoneLemmas.{first_more, name_kept, same_names, where_done}
 use Rattle.plan_rules.proofs.jobs.Jobs.put_in_zone.Goals as goal
 
