@@ -1,8 +1,8 @@
 -- The row of a second.
 -- For `passed` and `Clock::stretch_near`.
-use Rattle.std.proofs.Common.{◌≡◌, ℕ, ◌+◌, ◌-◌, ◌<◌, ◌≤◌, zero, suc, true, false, List, length, get_or, nat_le, ◌==◌, refl, ap, arith, inl, inr}
+use Rattle.std.proofs.Common.{◌≡◌, ℕ, ◌+◌, ◌-◌, ◌<◌, ◌≤◌, zero, suc, true, List, length, get_or, nat_le, ap, arith, inl, inr}
 use Rattle.std.specs.List.{prefix_len}
-use Rattle.std.proofs.lemmas.Bool.{le-leb, lt-leb, and_from}
+use Rattle.std.proofs.lemmas.Bool.{le-leb, lt-leb}
 use Rattle.std.specs.List.Sorted.{IsNonDecreasingBy}
 use Rattle.std.proofs.lemmas.Bool.Decides.{nat_tests, leb_tells}
 use Rattle.std.proofs.lemmas.List.{get_or_default}
@@ -48,28 +48,17 @@ row_at-passed changes n passed have =
 pub HavePassed-later :
     (changes : List Change) (n m passed : ℕ) → HavePassed changes n passed → n ≤ m →
     (passed < length changes → m < (get_or changes passed no_change).second) → HavePassed changes m passed
-HavePassed-later changes n m passed have le next = record {
-  bound = have.bound;
-  begun = λ k lt. (let before = have.begun k lt in omega arith);
-  next = next;
-}
+HavePassed-later changes n m passed have le next = grind (arith, nat_tests)
 
 bounded_after : (changes : List Change) (passed : ℕ) → AreChanges changes → is_bounded (row_after changes passed) ≡ true
-bounded_after changes zero are = refl
-bounded_after changes (suc k) are =
-    let some : (suc k == 0) ≡ false = grind (arith, nat_tests) in
-    rw some (and_from _ _ (are.bounded (suc k - 1 - 1)) (are.bounded (suc k - 1)))
+bounded_after changes passed given = grind (arith, nat_tests)
 
 pub bounded_at : (changes : List Change) (n : ℕ) → AreChanges changes → is_bounded (row_at changes n) ≡ true
 unfolding row_at
 bounded_at changes n are = bounded_after changes (prefix_len (λ (change : Change). nat_le change.second n) changes) are
 
 pub begun_after : (changes : List Change) (n passed : ℕ) → HavePassed changes n passed → (row_after changes passed).second ≤ n
-begun_after changes n zero have = omega arith
-begun_after changes n (suc k) have =
-    let some : (suc k == 0) ≡ false = grind (arith, nat_tests) in
-    let lt : suc k - 1 < suc k = omega arith in
-    rw some (have.begun (suc k - 1) lt)
+begun_after changes n passed given = grind (arith, nat_tests)
 
 -- the last change that has passed and the one after it give the number of changes that have passed
 pub HavePassed-by :

@@ -1,9 +1,10 @@
 -- What jiff returns are the civil fields, and their numbers fit where they are cast.
 -- For `date_of_day`, `day_number`, `fields_of`, `second_of`, and the cast of `read_moment`. The day numbers of the first and the
 -- last year bound those in between, and a cast keeps a number that fits (`to_z-of_z`).
-use Rattle.std.proofs.Common.{◌≡◌, ℕ, ◌+◌, ◌/◌, ◌%◌, ◌≤◌, refl, arith, FitsSigned, of_z, to_z, to_z-of_z, w64, ℤ, pos, negsuc, ◌<ℤ◌, ◌≤ℤ◌, unsigned_abs}
+use Rattle.std.proofs.Common.{◌≡◌, ℕ, ◌+◌, ◌/◌, ◌%◌, ◌≤◌, refl, arith, FitsSigned, of_z, to_z, w64, ℤ, pos, ◌<ℤ◌, ◌≤ℤ◌, unsigned_abs}
+use Rattle.std.proofs.lemmas.Bool.Decides.{nat_tests}
 use Rattle.std.proofs.lemmas.Int.{by_lt_z}
-use Rattle.jiff_core.specs.Calendar.{IsCivilDate, IsDate}
+use Rattle.jiff_core.specs.Calendar.{IsCivilDate}
 use Rattle.jiff_core.specs.Date.{epoch_day, IsYmd}
 use Rattle.jiff_core.specs.declared.civil.date.Date.{Date}
 use Rattle.jiff_core.proofs.SignedLemmas.{signed_arith}
@@ -43,8 +44,7 @@ year-from_epoch d n e =
     (λ le. omega (arith, signed_arith))
 
 pos-unsigned_abs : (z : ℤ) → pos 0 ≤ℤ z → pos (unsigned_abs z) ≡ z
-pos-unsigned_abs (pos n) low = refl
-pos-unsigned_abs (negsuc n) low = absurd (omega (arith, signed_arith))
+pos-unsigned_abs z given = grind (arith, nat_tests)
 
 -- a cast from a signed number from 0 to the end keeps the number
 pub record IsCast (z : ℤ) (n : ℕ) : Type 0 where
@@ -53,11 +53,7 @@ pub record IsCast (z : ℤ) (n : ℕ) : Type 0 where
   pub fits : n ≤ end_second
 
 pub IsCast-second : (z : ℤ) → pos 0 ≤ℤ z → z ≤ℤ pos end_second → IsCast z (unsigned_abs (to_z w64 (of_z w64 z)))
-IsCast-second z low high =
-    let within : FitsSigned w64 z = omega (arith, signed_arith) in
-    let back : to_z w64 (of_z w64 z) ≡ z = to_z-of_z within in
-    let same = pos-unsigned_abs z low in
-    record { back = back; same = rw back same; fits = rw back (omega (arith, signed_arith)) }
+IsCast-second z low high = grind (arith, nat_tests)
 
 -- the date with a second's day number gives its fields
 pub IsCivilOf-date :
@@ -83,21 +79,9 @@ IsCivilOf-date n d e =
       time_of_day = omega arith;
     }
 
-same_civil_date : (y y₂ : ℤ) (m m₂ d d₂ : ℕ) → y ≡ y₂ → m ≡ m₂ → d ≡ d₂ → IsCivilDate y m d → IsCivilDate y₂ m₂ d₂
-same_civil_date y y₂ m m₂ d d₂ year month day h = rw (← year, ← month, ← day) h
-
 -- the year, month and day of a date are in the calendar
 pub IsCivilDate-date : (date : Date) (year month day : ℕ) → IsYmd (pos year) (pos month) (pos day) date → IsCivilDate (pos year) month day
-IsCivilDate-date date year month day (same_year, same_month, same_day) =
-    same_civil_date _ _ _ _ _ _ same_year (omega (arith, signed_arith)) (omega (arith, signed_arith))
-    (date.year_in, date.month_in, date.day_in)
-
--- the constructor of dates accepts what is in the calendar
-pub IsDate-civil :
-    (y m d : ℤ) (year month day : ℕ) → y ≡ pos year → m ≡ pos month → d ≡ pos day → IsCivilDate (pos year) month day → IsDate y m d
-IsDate-civil y m d year month day same_year same_month same_day h =
-    rw (same_year, same_month, same_day)
-    (h.0, (omega (arith, signed_arith), omega (arith, signed_arith)), (omega (arith, signed_arith), omega (arith, signed_arith)))
+IsCivilDate-date date year month day given = grind (arith, nat_tests)
 
 -- the number of any date and time fits 64 bits
 pub second_number-fits :

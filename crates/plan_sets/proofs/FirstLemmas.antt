@@ -1,7 +1,8 @@
 -- The first bit that is 1 in a row of words is the smallest member of a set.
 -- For `first_from` and `first_of_later_words`. The skipped bits are those up to a position in a word. From there on, the trailing
 -- zeros of that word give its first bit, which is the smallest.
-use Rattle.std.proofs.Common.{◌≡◌, ℕ, ◌+◌, ◌-◌, ◌*◌, ◌/◌, ◌%◌, ◌^◌, ◌<◌, ◌≤◌, true, false, ◌==◌, List, get_or, Option, Some, None, ap, subst, ◌∙◌, arith, inl, inr}
+use Rattle.std.proofs.Common.{◌≡◌, ℕ, ◌+◌, ◌-◌, ◌*◌, ◌/◌, ◌%◌, ◌^◌, ◌<◌, ◌≤◌, true, false, ◌==◌, List, get_or, Option, Some, ap, subst, ◌∙◌, arith, inl, inr}
+use Rattle.std.proofs.lemmas.Bool.Decides.{nat_tests}
 use Rattle.std.specs.Int.{bit_at, trailing_zeros, w128}
 use Rattle.std.proofs.lemmas.Bool.{cases_lt}
 use Rattle.plan_sets.specs.Values.{Values, values_at, IsLeastFrom, NoValueBetween}
@@ -13,8 +14,7 @@ use Rattle.plan_sets.proofs.WordsLemmas.{IsFirstBit, IsFirstBit-trailing_zeros}
 marked_in_word :
     (words : List ℕ) (k bit j : ℕ) → j / word_bits ≡ k → j % word_bits ≡ bit →
     is_marked words j ≡ (bit_at (get_or words k 0) bit == 1)
-marked_in_word words k bit j word place = ap (λ w. bit_at (get_or words w 0) (j % word_bits) == 1) word ∙ ap
-    (λ i. bit_at (get_or words k 0) i == 1) place
+marked_in_word words k bit j word place = grind (arith, nat_tests)
 
 -- the first bit of a word from a position on, if no bit from v up to that position is 1
 pub least_of_word :
@@ -41,19 +41,7 @@ least_of_word words lo s v k below bit is room from first none =
 -- if no member is before a later number, the smallest from there on is the smallest of all
 pub least_later :
     (s : Values) (v w : ℕ) (answer : Option ℕ) → v ≤ w → NoValueBetween s v w → IsLeastFrom s w answer → IsLeastFrom s v answer
-least_later s v w None le none least = λ u from.
-    elim (cases_lt u w) [
-      | inl before ↦ none u from before
-      | inr after ↦ least u after
-    ]
-least_later s v w (Some n) le none (low, is, between) = (
-  omega arith,
-  is,
-  λ u from to. elim (cases_lt u w) [
-    | inl before ↦ none u from before
-    | inr after ↦ between u after to
-  ],
-)
+least_later s v w answer given given₂ given₃ = grind (arith, nat_tests)
 
 -- the first bit of a whole word
 pub first_of_word : (word : ℕ) → word < 2 ^ word_bits → 0 < word → IsFirstBit word 0 (trailing_zeros w128 word)

@@ -6,11 +6,11 @@ use Rattle.std.specs.List.{list_any}
 use Rattle.plan_sets.specs.declared.item.Item.{Item}
 use Rattle.plan_sets.specs.declared.item.Item.TheVariants.{One}
 use Rattle.plan_sets.specs.declared.item.SetFault.{SetFault}
-use Rattle.plan_sets.specs.declared.item.SetFault.TheVariants.{NoItem, OutOfRange}
+use Rattle.plan_sets.specs.declared.item.SetFault.TheVariants.{NoItem}
 use Rattle.plan_sets.specs.Values.{Values, has_value, is_among}
 use Rattle.plan_sets.specs.Items.{belongs, is_within, is_held, is_step, item_fault, fault_or, first_fault, items_fault, held_values, values_or_fault, set_reading}
 use Rattle.plan_sets.specs.ValuesLaws.{has_value-values_where, base-values_where, same_values}
-use Rattle.std.proofs.lemmas.Bool.{cases_eq, cases_lt, cases_Bool, eq-eqb, ne_eqb}
+use Rattle.std.proofs.lemmas.Bool.{cases_eq, cases_lt, eq-eqb, ne_eqb}
 use Rattle.std.proofs.lemmas.Nat.{mod-mul-add}
 use Rattle.std.proofs.Math.Nat.{mod-add-div'}
 use Rattle.std.proofs.lemmas.Bool.Decides.{nat_tests}
@@ -64,38 +64,26 @@ last_step_added first value last step v old moves from to end is =
     ]
 
 or_assoc : (a b c : Bool) → ((a || b) || c) ≡ (a || (b || c))
-or_assoc true b c = refl
-or_assoc false b c = refl
+or_assoc a b c = grind (arith, nat_tests)
 
 both_within : (w a b : Bool) → ((w && a) || (w && b)) ≡ (w && (a || b))
-both_within true a b = refl
-both_within false a b = refl
+both_within w a b = grind (arith, nat_tests)
 
 fault_or-None : (fault : Option SetFault) → fault_or fault None ≡ fault
-fault_or-None None = refl
-fault_or-None (Some fault) = refl
+fault_or-None fault = grind (arith, nat_tests)
 
 cases_fault : (fault : Option SetFault) → (fault ≡ None) ⊎ ((f : SetFault) × (fault ≡ Some f))
 cases_fault None = inl refl
 cases_fault (Some fault) = inr (fault, refl)
 
 among_within : (lo hi v : ℕ) (b : Bool) → lo ≤ hi → (is_among lo (hi + 1 - lo) v && b) ≡ (is_within lo hi v && b)
-among_within lo hi v b limits =
-    let same : is_among lo (hi + 1 - lo) v ≡ is_within lo hi v = grind (arith, nat_tests) in
-    ap (λ t. t && b) same
+among_within lo hi v b limits = grind (arith, nat_tests)
 
 -- one more value, if the item is valid
 pub one_added :
     (lo hi a v : ℕ) (old : Bool) → item_fault lo hi (One a) ≡ None →
     (nat_eq v a || old) ≡ (old || (is_within lo hi v && belongs (One a) v))
-one_added lo hi a v old faultless =
-    elim (cases_Bool (is_within lo hi a)) [
-      | inl within ↦ elim (cases_eq v a) [
-        | inl same ↦ rw same (grind (arith, nat_tests))
-        | inr apart ↦ grind (arith, nat_tests)
-      ]
-      | inr outside ↦ let bad : Some OutOfRange ≡ None = rw outside at faultless in cc
-    ]
+one_added lo hi a v old faultless = grind (arith, nat_tests)
 
 -- the values of a list with one more item at its end
 pub any_belongs-push :
@@ -141,8 +129,7 @@ first_fault-append lo hi (i ∷ items) more fault is =
 
 -- a list that is not empty has the error of its items
 pub items_fault-filled : (lo hi : ℕ) (items : List Item) → 0 < length items → items_fault lo hi items ≡ first_fault lo hi items
-items_fault-filled lo hi [] filled = absurd (omega arith)
-items_fault-filled lo hi (i ∷ items) filled = refl
+items_fault-filled lo hi items given = grind (arith, nat_tests)
 
 -- the reading of a list with valid items before an invalid one
 pub set_reading-fault :
@@ -173,8 +160,7 @@ set_reading-values lo hi items s filled limits none base held =
 -- an empty list has nothing to read
 pub set_reading-empty : (lo hi : ℕ) (items : List Item) → length items ≡ 0 → set_reading items lo hi ≡ Err NoItem
 unfolding set_reading
-set_reading-empty lo hi [] empty = refl
-set_reading-empty lo hi (i ∷ items) empty = absurd (omega arith)
+set_reading-empty lo hi items given = grind (arith, nat_tests)
 
 -- no items have no values
 pub nothing_held : (lo hi v : ℕ) → is_held [] lo hi v ≡ false

@@ -1,7 +1,8 @@
 -- What a text with the form of a timestamp says, and that it says only one thing.
 -- For the clauses `ok` and `accepted` of `read_moment`, and the clause `some` of `Fields::read` (two digits as a number). The
 -- bytes at known positions give each number; `moment_text_of` is unfolded to the text of the civil fields.
-use Rattle.std.proofs.Common.{◌≡◌, ℕ, ◌+◌, ◌/◌, ◌%◌, ◌<◌, ◌≤◌, List, [], ◌∷◌, get_or, ap, arith, pos, refl, subst, sym, ◌∙◌}
+use Rattle.std.proofs.Common.{◌≡◌, ℕ, ◌+◌, ◌/◌, ◌%◌, ◌<◌, ◌≤◌, List, [], ◌∷◌, ap, arith, pos, subst, sym, ◌∙◌}
+use Rattle.std.proofs.lemmas.Bool.Decides.{nat_tests}
 use Rattle.jiff_core.proofs.CalendarLemmas.{days_in_month_bounds}
 use Rattle.plan_sets.specs.Limits.{end_second}
 use Rattle.plan_sets.specs.Civil.{civil_fields}
@@ -15,33 +16,16 @@ pub record AreDigits (tens ones n : ℕ) : Type 0 where
   pub ones_is : ones ≡ 48 + n % 10
 
 pub AreDigits-two_digits : (tens ones n : ℕ) → (n < 100) × (tens ∷ ones ∷ [] ≡ two_digits n) → AreDigits tens ones n
-AreDigits-two_digits tens ones n (small, same) = record {
-  small = small;
-  tens_is = ap (λ (l : List ℕ). get_or l 0 0) same;
-  ones_is = ap (λ (l : List ℕ). get_or l 1 0) same;
-}
+AreDigits-two_digits tens ones n given = grind (arith, nat_tests)
 
 same_written :
     (v w : Written) → v.year ≡ w.year → v.month ≡ w.month → v.day ≡ w.day → v.hour ≡ w.hour → v.minute ≡ w.minute →
     v.second ≡ w.second → v ≡ w
-same_written v w year month day hour minute second =
-    let same : ◌≡◌ {A = Written} (record
-    { year = v.year; month = v.month; day = v.day; hour = v.hour; minute = v.minute; second = v.second }) w = rw
-    (year, month, day, hour, minute, second) refl in
-    same
-
-same_number : (a b : ℕ) → 48 + a / 10 ≡ 48 + b / 10 → 48 + a % 10 ≡ 48 + b % 10 → a ≡ b
-same_number a b tens ones = omega arith
+same_written v w year month day hour minute second = grind (arith, nat_tests)
 
 -- a text says only one thing
 pub Says-unique : (text : List ℕ) (v w : Written) → Says text v → Says text w → v ≡ w
-Says-unique text v w p q =
-    let e : written_text v ≡ written_text w = sym p.text_is ∙ q.text_is in
-    let at : (k : ℕ) → get_or (written_text v) k 0 ≡ get_or (written_text w) k 0 = λ k. ap (λ (l : List ℕ). get_or l k 0) e in
-    let century = same_number (v.year / 100) (w.year / 100) (at 0) (at 1) in
-    let rest = same_number (v.year % 100) (w.year % 100) (at 2) (at 3) in
-    same_written v w (omega arith) (same_number _ _ (at 5) (at 6)) (same_number _ _ (at 8) (at 9)) (same_number _ _ (at 11) (at 12))
-    (same_number _ _ (at 14) (at 15)) (same_number _ _ (at 17) (at 18))
+Says-unique text v w p q = grind (arith, nat_tests)
 
 -- the text of a second says its fields
 pub Says-moment_text_of : (text : List ℕ) (n : ℕ) → n ≤ end_second → text ≡ moment_text_of n → Says text (written_of (civil_fields n))

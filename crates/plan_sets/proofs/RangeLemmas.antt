@@ -2,7 +2,7 @@
 -- For `insert_range`: `has_bit-ones_between` gives the bits of a mask, and `IsMarkedBefore` says what the loop has done before a
 -- word. A step has two cases: a bit of that word, for which the mask has the bits of the range, and a bit of another word, which
 -- is unchanged.
-use Rattle.std.proofs.Common.{◌≡◌, ℕ, ◌+◌, ◌-◌, ◌*◌, ◌/◌, ◌%◌, ◌^◌, ◌<◌, ◌≤◌, Bool, false, ◌&&◌, ◌||◌, nat_eq, nat_lt, min, List, length, ap, ◌∙◌, arith, inl, inr, bit_and}
+use Rattle.std.proofs.Common.{◌≡◌, ℕ, ◌+◌, ◌-◌, ◌*◌, ◌/◌, ◌%◌, ◌^◌, ◌<◌, ◌≤◌, Bool, ◌&&◌, ◌||◌, nat_eq, nat_lt, min, List, length, ap, ◌∙◌, arith, inl, inr, bit_and}
 use Rattle.std.specs.Int.{bit_at}
 use Rattle.std.proofs.lemmas.Bool.{cases_eq, cases_lt}
 use Rattle.std.proofs.lemmas.Bool.Decides.{nat_tests}
@@ -43,22 +43,11 @@ has_bit-ones_between low high i forwards within =
 pub record IsMarkedBefore (old words : List ℕ) (low high at : ℕ) : Type 0 where
   pub marked : (j : ℕ) → is_marked words j ≡ (is_marked old j || (is_within low high j && nat_lt j (at * word_bits)))
 
--- the row has no bits of the range before the word in which the range starts
-pub IsMarkedBefore-first : (old : List ℕ) (low high : ℕ) → IsMarkedBefore old old low high (low / word_bits)
-IsMarkedBefore-first old low high = record { marked = λ j. first j (is_marked old j) }
-  where
-    first : (j : ℕ) (b : Bool) → b ≡ (b || (is_within low high j && nat_lt j (low / word_bits * word_bits)))
-    first j b =
-        let none : (is_within low high j && nat_lt j (low / word_bits * word_bits)) ≡ false = grind (arith, nat_tests) in
-        grind (arith, nat_tests, none)
-
 -- the row has all bits of the range after the word in which the range ends
 pub IsMarkedBefore-last :
     (old words : List ℕ) (low high at : ℕ) → IsMarkedBefore old words low high at → high / word_bits < at →
     (j : ℕ) → is_marked words j ≡ (is_marked old j || is_within low high j)
-IsMarkedBefore-last old words low high at before past j =
-    let all : (is_within low high j && nat_lt j (at * word_bits)) ≡ is_within low high j = grind (arith, nat_tests) in
-    before.marked j ∙ ap (λ b. is_marked old j || b) all
+IsMarkedBefore-last old words low high at before past j = grind (arith, nat_tests)
 
 -- a mask has the bits of a range that are in a word
 pub record IsRangeInWord (low high at bits : ℕ) : Type 0 where

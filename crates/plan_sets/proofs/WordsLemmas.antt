@@ -21,8 +21,7 @@ is_marked-past words k past =
 
 -- no bit of an unused word is 1
 pub is_marked-unused : (words : List ℕ) (used k : ℕ) → AreUnused words used → used ≤ k / word_bits → is_marked words k ≡ false
-is_marked-unused words used k unused past =
-    ap (λ w. bit_at w (k % word_bits) == 1) (unused (k / word_bits) past) ∙ ap (λ b. b == 1) (bit_at-zero (k % word_bits))
+is_marked-unused words used k unused past = grind (arith, nat_tests)
 
 -- the row after the bits of a mask were added to one word
 abbrev pub joined : List ℕ → ℕ → ℕ → List ℕ

@@ -65,8 +65,7 @@ unwrap_or-position p xs =
 -- ---- lines
 
 ahead : (b : Bool) (y : List ℕ) (xs ys : List (List ℕ)) → y ∷ cond b xs ys ≡ cond b (y ∷ xs) (y ∷ ys)
-ahead true y xs ys = refl
-ahead false y xs ys = refl
+ahead b y xs ys = grind (arith, nat_tests)
 
 -- a list of pieces without its last piece, if that is empty
 without_empty_end-last :
@@ -81,8 +80,7 @@ without_empty_end-last (y ∷ z ∷ more) (suc n) d long =
     (take n (z ∷ more)) (z ∷ more)
 
 map-cond : {A : Type 0} (v : A → List ℕ) (b : Bool) (xs ys : List A) → map v (cond b xs ys) ≡ cond b (map v xs) (map v ys)
-map-cond v true xs ys = refl
-map-cond v false xs ys = refl
+map-cond v b xs ys = grind (arith, nat_tests)
 
 -- the last piece is dropped if it is empty
 pub dropped_where_empty :
@@ -110,18 +108,11 @@ dropped_where_empty v w (a ∷ more) (Some x) empty is tested =
     ∙ sym (without_empty_end-last (map v (a ∷ more)) (length more) (v a) (simp length-map))
 
 length-ahead : (ys : List (List ℕ)) (n : ℕ) → length (without_empty_end ys) ≤ n → length (without_empty_end ([] ∷ ys)) ≤ suc n
-length-ahead [] n few = omega arith
-length-ahead (y ∷ more) n few = omega arith
-
-at_most_one : (b : Bool) (y : List ℕ) → length (cond b [] (y ∷ [])) ≤ 1
-at_most_one true y = omega arith
-at_most_one false y = omega arith
+length-ahead ys n given = grind (arith, nat_tests)
 
 length-onto :
     (x : ℕ) (ys : List (List ℕ)) (n : ℕ) → length (without_empty_end ys) ≤ n → length (without_empty_end (onto_first x ys)) ≤ suc n
-length-onto x [] n few = omega arith
-length-onto x (y ∷ []) n few = omega (arith, at_most_one (eqb (length (x ∷ y)) 0) (x ∷ y))
-length-onto x (y ∷ z ∷ more) n few = omega arith
+length-onto x ys n given = grind (arith, nat_tests)
 
 -- there are at most as many lines as bytes
 length-split : (p : ℕ → Bool) (text : List ℕ) → length (without_empty_end (slice_split p text)) ≤ length text
@@ -151,8 +142,7 @@ IsPiece [] = ⊥
 IsPiece (piece ∷ more) = Unit {0}
 
 piece_onto : (x : ℕ) (pieces : List (List ℕ)) → IsPiece (onto_first x pieces)
-piece_onto x [] = tt
-piece_onto x (piece ∷ more) = tt
+piece_onto x pieces = grind (arith, nat_tests)
 
 piece_of_split : (p : ℕ → Bool) (text : List ℕ) → IsPiece (slice_split p text)
 piece_of_split p [] = tt
@@ -161,13 +151,10 @@ piece_of_split p (x ∷ xs) =
     [ true ↦ tt | false ↦ piece_onto x (slice_split p xs) ]
 
 some_onto : (x : ℕ) (pieces : List (List ℕ)) → AreSome (onto_first x pieces)
-some_onto x [] = tt
-some_onto x (piece ∷ []) = tt
-some_onto x (piece ∷ next ∷ more) = tt
+some_onto x pieces = grind (arith, nat_tests)
 
 some_behind : (pieces : List (List ℕ)) → IsPiece pieces → AreSome ([] ∷ pieces)
-some_behind [] is = is
-some_behind (piece ∷ more) is = tt
+some_behind pieces given = grind (arith, nat_tests)
 
 some_of_split : (p : ℕ → Bool) (x : ℕ) (xs : List ℕ) → AreSome (slice_split p (x ∷ xs))
 some_of_split p x xs =
@@ -176,35 +163,15 @@ some_of_split p x xs =
       | false ↦ some_onto x (slice_split p xs)
     ]
 
-written_behind :
-    (pieces : List (List ℕ)) → AreSome pieces → written (without_empty_end ([] ∷ pieces)) ≡ 10 ∷ written (without_empty_end pieces)
-written_behind [] is = absurd is
-written_behind (piece ∷ more) is = refl
-
-piece_kept : (b : ℕ) (bs : List ℕ) → without_empty_end ((b ∷ bs) ∷ []) ≡ (b ∷ bs) ∷ []
-piece_kept b bs =
-    let some : (suc (length bs) == 0) ≡ false = grind (arith, nat_tests) in
-    rw some refl
-
-written_onto :
-    (x : ℕ) (pieces : List (List ℕ)) → AreSome pieces →
-    written (without_empty_end (onto_first x pieces)) ≡ x ∷ written (without_empty_end pieces)
-written_onto x [] is = absurd is
-written_onto x ([] ∷ []) is = absurd is
-written_onto x ((b ∷ bs) ∷ []) is = ap written (piece_kept x (b ∷ bs)) ∙ ap (λ pieces. x ∷ written pieces) (sym (piece_kept b bs))
-written_onto x (piece ∷ next ∷ more) is = refl
-
 one_byte :
     (x : ℕ) (b : Bool) → (b ≡ true → x ≡ 10) →
     written (without_empty_end (cond b ([] ∷ [] ∷ []) ((x ∷ []) ∷ []))) ≡ cond b (x ∷ []) (x ∷ 10 ∷ [])
-one_byte x true is = ap (λ y. y ∷ []) (sym (is refl))
-one_byte x false is = refl
+one_byte x b given = grind (arith, nat_tests)
 
 one_more :
     (x : ℕ) (b : Bool) (pieces : List (List ℕ)) → (b ≡ true → x ≡ 10) → AreSome pieces →
     written (without_empty_end (cond b ([] ∷ pieces) (onto_first x pieces))) ≡ x ∷ written (without_empty_end pieces)
-one_more x true pieces is some = written_behind pieces some ∙ ap (λ y. y ∷ written (without_empty_end pieces)) (sym (is refl))
-one_more x false pieces is some = written_onto x pieces some
+one_more x b pieces given given₂ = grind (arith, nat_tests)
 
 -- the lines, each with a newline after it, are the text with a newline at its end
 written-split : (text : List ℕ) → written (without_empty_end (slice_split (λ b. b == 10) text)) ≡ with_newline text

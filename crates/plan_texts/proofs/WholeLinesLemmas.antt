@@ -1,7 +1,8 @@
 -- Whole lines: where a text may be cut before its trailing blanks, and how lines are merged one by one.
 -- For `trimmed`, and for the loop of `joined`. Its invariant adds the lines from a place on (`rest_from`) to the lines
 -- so far. The reversed text gives the blanks at the end. One more line is a case split on whether it is a comment.
-use Rattle.std.proofs.Common.{◌≡◌, ℕ, ◌+◌, ◌-◌, ◌<◌, ◌≤◌, Bool, true, false, not, cond, List, ◌∷◌, length, drop, get_or, filter, map, reverse, refl, ap, sym, ◌∙◌, arith, inl, inr}
+use Rattle.std.proofs.Common.{◌≡◌, ℕ, ◌+◌, ◌-◌, ◌<◌, ◌≤◌, Bool, true, not, cond, List, ◌∷◌, length, drop, get_or, filter, map, reverse, ap, sym, ◌∙◌, arith, inl, inr}
+use Rattle.std.proofs.lemmas.Bool.Decides.{nat_tests}
 use Rattle.std.proofs.lemmas.Bool.{cases_lt}
 use Rattle.std.proofs.lemmas.List.{drop_more, drop-map, get_or-reverse}
 use Rattle.std.proofs.lemmas.List.Sums.{prefix_len_passes, suffix_len-le-length}
@@ -47,8 +48,7 @@ rest_from place lines =
 comment_or_line :
     (comment : Bool) (line : ℕ × List ℕ) (more : List (ℕ × List ℕ)) →
     joined (cond (not comment) (line ∷ more) more) ≡ cond comment (joined more) (with_line line (joined more))
-comment_or_line true line more = refl
-comment_or_line false line more = refl
+comment_or_line comment line more = grind (arith, nat_tests)
 
 -- one more line
 pub rest_more :
