@@ -1,6 +1,6 @@
 -- Events without clocks: for `passed_by_events`, which checks each, and for `next_of_each`, which needs that none has one.
-use Rattle.std.proofs.Common.{◌≡◌, ℕ, ◌+◌, ◌<◌, zero, suc, List, [], ◌∷◌, length, Some, inl, inr, refl, sym, ap, ◌∙◌, arith}
-use Rattle.std.proofs.lemmas.Bool.{cases_lt}
+use Rattle.std.proofs.Common.{◌≡◌, ℕ, ◌+◌, ◌<◌, zero, suc, List, [], ◌∷◌, length, Some, refl, arith}
+use Rattle.std.proofs.lemmas.Bool.Decides.{nat_tests}
 use Rattle.std.specs.List.{slice_get}
 use Rattle.plan_match.specs.declared.event.Calendar.{Calendar}
 use Rattle.plan_next.specs.UtcLaws.{HaveNoClock}
@@ -12,13 +12,7 @@ NoneBelow events i = (k : ℕ) (event : Calendar) → k < i → slice_get events
 pub none_more :
     (events : List Calendar) (i : ℕ) (found : Calendar) → slice_get events i ≡ Some found → found.clock ≡ [] → NoneBelow events i →
     NoneBelow events (i + 1)
-none_more events i found here none below = λ k event lt is.
-    elim (cases_lt k i) [
-      | inl before ↦ below k event before is
-      | inr after ↦
-          let same : k ≡ i = omega arith in
-          let both : Some found ≡ Some event = sym here ∙ ap (slice_get events) (sym same) ∙ is in cc
-    ]
+none_more events i found here none below = grind (arith, nat_tests)
 
 pub all_none : (events : List Calendar) → NoneBelow events (length events) → HaveNoClock events
 all_none [] below = tt

@@ -1,11 +1,12 @@
 -- The starts of a list of events are those of its events.
 -- For the loops of `first_of_each`, `next_of_each` and `first_within`: one event more than those so far. The next
 -- number of two tests is the smaller of both. If the second test is searched only up to the first answer, there are four cases.
-use Rattle.std.proofs.Common.{◌≡◌, ℕ, ◌+◌, zero, suc, length, ◌≤◌, Bool, true, false, ◌||◌, List, [], ◌∷◌, ◌++◌, Option, None, Some, inl, inr, Bor, take, refl, ap, sym, ◌∙◌, arith}
+use Rattle.std.proofs.Common.{◌≡◌, ℕ, ◌+◌, zero, suc, length, ◌≤◌, Bool, true, false, ◌||◌, List, [], ◌∷◌, ◌++◌, Option, None, Some, Bor, take, ap, sym, ◌∙◌, arith}
+use Rattle.std.proofs.lemmas.Bool.Decides.{nat_tests}
 use Rattle.std.specs.Prelude.{min, slice_get, unwrap_or}
 use Rattle.std.specs.List.{list_any}
 use Rattle.std.specs.Option.{option_or}
-use Rattle.std.proofs.lemmas.Bool.{cases_lt, or_from, or_left, or_right}
+use Rattle.std.proofs.lemmas.Bool.{or_left, or_right}
 use Rattle.std.proofs.lemmas.List.{take_more}
 use Rattle.std.proofs.lemmas.List.Folds.{list_any-append}
 use Rattle.std.proofs.lemmas.Option.{slice_get_within, get_or_from_slice_get}
@@ -21,30 +22,12 @@ use Rattle.plan_next.proofs.NextsLemmas.{IsFirstOrEnd-same}
 IsFirstIn-narrowed :
     (p q : ℕ → Bool) (a b : ℕ) (first second : Option ℕ) → IsFirstIn p a b first → IsFirstIn q a (unwrap_or first b) second →
     IsFirstIn (λ n. p n || q n) a b (option_or second first)
-IsFirstIn-narrowed p q a b None None h k = λ n low high. or_from (p n) (q n) (h n low high) (k n low high)
-IsFirstIn-narrowed p q a b None (Some m) h (low, high, is, none) =
-    (low, high, or_right (p m) (q m) is, λ n from to. or_from (p n) (q n) (h n from (omega arith)) (none n from to))
-IsFirstIn-narrowed p q a b (Some m) None (low, high, is, none) k =
-    (low, high, or_left (p m) (q m) is, λ n from to. or_from (p n) (q n) (none n from to) (k n from to))
-IsFirstIn-narrowed p q a b (Some m) (Some k) (low, high, is, none) (low₂, high₂, is₂, none₂) =
-    (low₂, omega arith, or_right (p k) (q k) is₂, λ n from to. or_from (p n) (q n) (none n from (omega arith)) (none₂ n from to))
+IsFirstIn-narrowed p q a b first second given given₂ = grind (arith, nat_tests)
 
 -- the smaller of two next numbers is the next of both tests
 IsFirstOrEnd-min :
     (p q : ℕ → Bool) (a b n m : ℕ) → IsFirstOrEnd p a b n → IsFirstOrEnd q a b m → IsFirstOrEnd (λ k. p k || q k) a b (min n m)
-IsFirstOrEnd-min p q a b n m first second =
-    let from = first.from in
-    let from_second = second.from in
-    let to = first.to in
-    record {
-      from = omega arith;
-      to = omega arith;
-      none = λ k low high. or_from (p k) (q k) (first.none k low (omega arith)) (second.none k low (omega arith));
-      is = λ lt. elim (cases_lt n m) [
-        | inl before ↦ let here : min n m ≡ n = omega arith in rw here (or_left (p n) (q n) (first.is (omega arith)))
-        | inr after ↦ let here : min n m ≡ m = omega arith in rw here (or_right (p m) (q m) (second.is (omega arith)))
-      ];
-    }
+IsFirstOrEnd-min p q a b n m first second = grind (arith, nat_tests)
 
 -- second n is a start of some event of the list
 abbrev pub matched_by : List Calendar → ℕ → Bool
@@ -58,8 +41,7 @@ one_more events i event is =
     (get_or_from_slice_get events i event event is)
 
 or_none : (b : Bool) → (b || false) ≡ b
-or_none true = refl
-or_none false = refl
+or_none b = grind (arith, nat_tests)
 
 matched_by-more :
     (events : List Calendar) (i n : ℕ) (event : Calendar) → slice_get events i ≡ Some event →

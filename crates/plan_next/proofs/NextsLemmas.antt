@@ -1,28 +1,17 @@
 -- Next starts: of a rule from those of its events, and each from the one before it.
 -- For `first_of_event`, `next_of_event` and `first_starts`, and for KeptLemmas and EventsLemmas. `IsFirstOrEnd` is the
 -- first number that passes, or the end of the part. Each lemma builds one such record from others.
-use Rattle.std.proofs.Common.{◌≡◌, ℕ, ◌<◌, ◌≤◌, Bool, true, Option, Some, None, inl, inr, sym, ap, ◌∙◌, arith}
+use Rattle.std.proofs.Common.{◌≡◌, ℕ, ◌<◌, ◌≤◌, Bool, true, Option, arith}
+use Rattle.std.proofs.lemmas.Bool.Decides.{nat_tests}
 use Rattle.std.specs.Prelude.{nat_lt, unwrap_or}
 use Rattle.std.specs.Bool.{then_some}
-use Rattle.std.proofs.lemmas.Bool.{cases_lt, le-ltb, lt-ltb}
 use Rattle.plan_next.specs.Next.{IsFirstOrEnd}
 use Rattle.plan_next.specs.Starts.{NoneIn, IsLeastIn, IsFirstIn}
 
 -- a first answer, or the end of the part
 pub IsFirstOrEnd-first :
     (test : ℕ → Bool) (a b : ℕ) (answer : Option ℕ) → a ≤ b → IsFirstIn test a b answer → IsFirstOrEnd test a b (unwrap_or answer b)
-IsFirstOrEnd-first test a b None le none = record {
-  from = le;
-  to = omega arith;
-  none = none;
-  is = λ lt. absurd (omega arith);
-}
-IsFirstOrEnd-first test a b (Some n) le (low, high, is, none) = record {
-  from = low;
-  to = omega arith;
-  none = none;
-  is = λ lt. is;
-}
+IsFirstOrEnd-first test a b answer given given₂ = grind (arith, nat_tests)
 
 -- if the next number isn't the end, it is the first that passes
 pub IsLeastIn-next : (test : ℕ → Bool) (a b n : ℕ) → IsFirstOrEnd test a b n → n < b → IsLeastIn test a b n
@@ -34,35 +23,16 @@ NoneIn-next test a b n next le k low high = next.none k low (omega arith)
 
 -- the next number as an option: None if it is the end
 pub IsFirstIn-next : (test : ℕ → Bool) (a b n : ℕ) → IsFirstOrEnd test a b n → IsFirstIn test a b (then_some (nat_lt n b) n)
-IsFirstIn-next test a b n next =
-    elim (cases_lt n b) [
-      | inl lt ↦ rw (lt-ltb n b lt) (IsLeastIn-next test a b n next lt)
-      | inr le ↦ rw (le-ltb n b le) (NoneIn-next test a b n next le)
-    ]
+IsFirstIn-next test a b n next = grind (arith, nat_tests)
 
 -- a part that begins later, but not after the next number
 pub IsFirstOrEnd-later : (test : ℕ → Bool) (a b n later : ℕ) → IsFirstOrEnd test a b n → a ≤ later → later ≤ n → IsFirstOrEnd test later b n
-IsFirstOrEnd-later test a b n later next low high = record {
-  from = high;
-  to = next.to;
-  none = λ k from until. next.none k (omega arith) until;
-  is = next.is;
-}
+IsFirstOrEnd-later test a b n later next low high = grind (arith, nat_tests)
 
 pub IsFirstOrEnd-same :
     (test other : ℕ → Bool) (a b n : ℕ) → ((k : ℕ) → k < b → test k ≡ other k) → IsFirstOrEnd test a b n → IsFirstOrEnd other a b n
-IsFirstOrEnd-same test other a b n same next =
-    let to = next.to in
-    record {
-      from = next.from;
-      to = to;
-      none = λ k low high. sym (same k (omega arith)) ∙ next.none k low high;
-      is = λ lt. sym (same n lt) ∙ next.is lt;
-    }
+IsFirstOrEnd-same test other a b n same next = grind (arith, nat_tests)
 
 -- if a part begins with the next number, that passes
 pub passes-next : (test : ℕ → Bool) (a b n : ℕ) → IsFirstOrEnd test a b n → n ≤ a → a < b → test a ≡ true
-passes-next test a b n next le lt =
-    let from = next.from in
-    let same : n ≡ a = omega arith in
-    ap test (sym same) ∙ next.is (omega arith)
+passes-next test a b n next le lt = grind (arith, nat_tests)

@@ -1,30 +1,27 @@
 -- Starts in a row of a clock, from what the clock shows.
 -- For `first_in_stretch` and `first_hope`. `found_in_row` is hard: the first second that counts and matches, moved
 -- back, is the first start, and a start that a gap skipped is made up for at the row's second.
-use Rattle.std.proofs.Common.{◌≡◌, ℕ, ◌+◌, ◌-◌, ◌<◌, ◌≤◌, zero, suc, ℤ, pos, negsuc, neg_ℤ, ◌+ℤ◌, ◌<ℤ◌, ◌≤ℤ◌, int_lt, int_le, Bool, true, false, not, ◌&&◌, ◌==◌, if◌then◌else◌, max, Option, None, Some, inl, inr, refl, sym, ap, ◌∙◌, arith}
+use Rattle.std.proofs.Common.{◌≡◌, ℕ, ◌+◌, ◌-◌, ◌<◌, ◌≤◌, zero, suc, ℤ, pos, neg_ℤ, ◌+ℤ◌, ◌<ℤ◌, ◌≤ℤ◌, int_lt, Bool, true, false, not, ◌&&◌, ◌==◌, if◌then◌else◌, max, Option, None, Some, inl, inr, refl, sym, ap, ◌∙◌, arith}
 use Rattle.std.specs.List.{list_any, range_with_len}
 use Rattle.std.specs.Option.{option_map}
-use Rattle.std.proofs.lemmas.Bool.{and_parts, cases_lt, eqb-true, eq-eqb, or_left, or_right}
+use Rattle.std.proofs.lemmas.Bool.{cases_lt, eqb-true, eq-eqb, or_left, or_right}
 use Rattle.std.proofs.lemmas.Bool.Decides.{nat_tests}
 use Rattle.std.proofs.lemmas.Int.{by_lt_z, ints}
 use Rattle.plan_clock.specs.declared.row.Row.{Row}
-use Rattle.plan_clock.specs.Rows.{due, is_bounded, is_near, is_repeated, most_offset, natural, shown, unshown}
+use Rattle.plan_clock.specs.Rows.{due, is_bounded, is_repeated, most_offset, natural, shown, unshown}
 use Rattle.plan_next.specs.Starts.{first_counted, passes, some_between, starts_in, NoneIn, IsFirstIn}
 
 choose : (b x y v : Bool) → (b ≡ true → x ≡ v) → (b ≡ false → y ≡ v) → (if b then x else y) ≡ v
-choose true x y v h k = h refl
-choose false x y v h k = k refl
+choose b x y v given given₂ = grind (arith, nat_tests)
 
 unless_no : (a x : Bool) → (a ≡ false → x ≡ false) → (not a && x) ≡ false
-unless_no true x h = refl
-unless_no false x h = h refl
+unless_no a x given = grind (arith, nat_tests)
 
 unless_yes : (a x : Bool) → a ≡ false → x ≡ true → (not a && x) ≡ true
 unless_yes a x fresh holds = rw (fresh, holds) refl
 
 passes-no : (test : ℕ → Bool) (z : ℤ) → ((m : ℕ) → z ≡ pos m → test m ≡ false) → passes test z ≡ false
-passes-no test (pos m) none = none m refl
-passes-no test (negsuc m) none = refl
+passes-no test z given = grind (arith, nat_tests)
 
 passes-holds : (test : ℕ → Bool) (z : ℤ) (m : ℕ) → z ≡ pos m → test m ≡ true → passes test z ≡ true
 passes-holds test z m is holds = ap (passes test) is ∙ holds
@@ -45,20 +42,16 @@ range_yes test a (suc n) m low high is =
 
 -- what `natural` is, in a form that `omega` reads
 pub natural-above : (z : ℤ) → z ≤ℤ pos (natural z)
-natural-above (pos n) = omega (arith, ints)
-natural-above (negsuc n) = omega (arith, ints)
+natural-above z = grind (arith, nat_tests)
 
 pub natural-is : (z : ℤ) → pos 0 ≤ℤ z → pos (natural z) ≡ z
-natural-is (pos n) le = refl
-natural-is (negsuc n) le = absurd (omega (arith, ints))
+natural-is z given = grind (arith, nat_tests)
 
 pub natural-some : (z : ℤ) → 0 < natural z → pos (natural z) ≡ z
-natural-some (pos n) le = refl
-natural-some (negsuc n) le = absurd (omega arith)
+natural-some z given = grind (arith, nat_tests)
 
 natural-le : (z : ℤ) (m : ℕ) → z ≤ℤ pos m → natural z ≤ m
-natural-le (pos n) m le = omega (arith, ints)
-natural-le (negsuc n) m le = omega arith
+natural-le z m given = grind (arith, nat_tests)
 
 some_between-no :
     (test : ℕ → Bool) (a b : ℤ) → ((m : ℕ) → a ≤ℤ pos m → pos m ≤ℤ b → test m ≡ false) → some_between test a b ≡ false
@@ -83,34 +76,12 @@ lt_not a b h = grind (arith, ints)
 not_lt : (a b : ℤ) → b ≤ℤ a → int_lt a b ≡ false
 not_lt a b h = grind (arith, ints)
 
-cond_le : (b : Bool) (x y m : ℕ) → x ≤ m → y ≤ m → (if b then x else y) ≤ m
-cond_le true x y m h k = h
-cond_le false x y m h k = k
-
 -- the first second that counts, at the row's second and after it
 counted_here : (row : Row) (from : ℕ) → from ≡ row.second → first_counted row true from ≡ natural (due row)
 counted_here row from is = rw (eq-eqb from row.second is) refl
 
-counted_later :
-    (row : Row) (from : ℕ) → (from == row.second) ≡ false → first_counted row true from ≡ max (natural (due row)) (natural (shown row from))
-counted_later row from isnt = rw isnt refl
-
 counted_le : (row : Row) (from m : ℕ) → due row ≤ℤ pos m → shown row from ≤ℤ pos m → first_counted row true from ≤ m
-counted_le row from m low high =
-    let due_le = natural-le (due row) m low in
-    let shown_le = natural-le (shown row from) m high in
-    cond_le (from == row.second) _ _ m due_le (omega arith)
-
-by_bool : {P : Type 0} (b : Bool) → (b ≡ true → P) → (b ≡ false → P) → P
-by_bool true h k = h refl
-by_bool false h k = k refl
-
-due_counted : (row : Row) (from m : ℕ) → first_counted row true from ≤ m → due row ≤ℤ pos m
-due_counted row from m le =
-    let above = natural-above (due row) in
-    by_bool (from == row.second)
-    (λ here. (let is = counted_here row from (eqb-true from row.second here) in omega (arith, ints)))
-    (λ away. (let is = counted_later row from away in omega (arith, ints)))
+counted_le row from m low high = grind (arith, nat_tests)
 
 -- if no second that counts and is shown by then matches, n is no start
 pub reach-none :
@@ -169,21 +140,10 @@ record IsMadeUp (row : Row) (heeds : Bool) (from m : ℕ) : Type 0 where
 is_made_up :
     (row : Row) (heeds : Bool) (from m low : ℕ) → low ≡ first_counted row heeds from → low ≤ m → pos m <ℤ shown row from →
     IsMadeUp row heeds from m
-is_made_up row false from m low is le before =
-    let above = natural-above (shown row from) in
-    absurd (omega (arith, ints))
-is_made_up row true from m low is le before =
-    let above = natural-above (shown row from) in
-    record {
-      heeded = refl;
-      begun = by_bool (from == row.second) (λ here. eqb-true from row.second here)
-          (λ away. (let is_max = counted_later row from away in absurd (omega (arith, ints))));
-      counts = due_counted row from m (omega arith);
-    }
+is_made_up row heeds from m low given given₂ given₃ = grind (arith, nat_tests)
 
 counts : (row : Row) (heeds : Bool) (from m low : ℕ) → low ≡ first_counted row heeds from → low ≤ m → heeds ≡ true → due row ≤ℤ pos m
-counts row false from m low is le holds = absurd (cc)
-counts row true from m low is le holds = due_counted row from m (omega arith)
+counts row heeds from m low given given₂ given₃ = grind (arith, nat_tests)
 
 -- the first match that counts, as the second that shows it, is the first start
 pub found_in_row :
@@ -232,20 +192,8 @@ record IsNear (row : Row) : Type 0 where
   offset_from : neg_ℤ (pos most_offset) ≤ℤ row.offset
   offset_to : row.offset ≤ℤ pos most_offset
 
-le_is : (a b : ℤ) → int_le a b ≡ true → a ≤ℤ b
-le_is a b h = grind (arith, ints)
-
 near : (row : Row) → is_bounded row ≡ true → IsNear row
-near row bounded =
-    let (before, offset) = and_parts (is_near row.before) (is_near row.offset) bounded in
-    let (before_from, before_to) = and_parts (int_le (neg_ℤ (pos most_offset)) row.before) _ before in
-    let (offset_from, offset_to) = and_parts (int_le (neg_ℤ (pos most_offset)) row.offset) _ offset in
-    record {
-      before_from = le_is _ _ before_from;
-      before_to = le_is _ _ before_to;
-      offset_from = le_is _ _ offset_from;
-      offset_to = le_is _ _ offset_to;
-    }
+near row bounded = grind (arith, nat_tests)
 
 -- if nothing within 26 hours matches, n is no start
 pub far-none :
@@ -273,27 +221,18 @@ far-none row true test n bounded none =
 fresh_start : (row : Row) (heeds : Bool) (test : ℕ → Bool) (n : ℕ) → starts_in row heeds test n ≡ true → heeds ≡ true →
     due row ≤ℤ shown row n
 unfolding starts_in
-fresh_start row false test n starts heeded = absurd (cc)
-fresh_start row true test n starts heeded =
-    let (fresh, rest) = and_parts (not (is_repeated row n)) _ starts in
-    by_bool (is_repeated row n) (λ again. (let isnt : not (is_repeated row n) ≡ false = rw again refl in absurd (cc)))
-    (λ fresh_too. lt_not (shown row n) (due row) fresh_too)
+fresh_start row heeds test n given given₂ = grind (arith, nat_tests)
 
 -- after the row's second, times that aren't repeated start exactly if what is shown matches
 plain_in_row :
     (row : Row) (heeds : Bool) (test : ℕ → Bool) (n : ℕ) → row.second < n → (heeds ≡ true → due row ≤ℤ shown row n) →
     starts_in row heeds test n ≡ passes test (shown row n)
 unfolding starts_in
-plain_in_row row false test n after fresh = refl
-plain_in_row row true test n after fresh =
-    let repeated : is_repeated row n ≡ false = not_lt (shown row n) (due row) (fresh refl) in
-    let away : (n == row.second) ≡ false = grind (arith, nat_tests) in
-    rw (repeated, away) refl
+plain_in_row row heeds test n given given₂ = grind (arith, nat_tests)
 
 -- what a start after the row's second shows
 passes-is : (test : ℕ → Bool) (z : ℤ) → passes test z ≡ true → pos (natural z) ≡ z
-passes-is test (pos m) starts = refl
-passes-is test (negsuc m) starts = absurd (cc)
+passes-is test z given = grind (arith, nat_tests)
 
 -- from such a start on, the starts are the matches, up to the end of the row
 pub plain_from :

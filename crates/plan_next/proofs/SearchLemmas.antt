@@ -1,20 +1,19 @@
 -- A search month by month is a search of the whole.
 -- For `first_open_day` and `first_later_day`, and for `date` and `later` of `Month`. Days and months are compared by
 -- the first day of a month (`ComesBefore-day`). `none_later` is hard: it is about the months that were skipped.
-use Rattle.std.proofs.Common.{◌≡◌, ℕ, ◌+◌, ◌-◌, ◌*◌, ◌/◌, ◌%◌, ◌<◌, ◌≤◌, true, false, Option, Some, None, inl, inr, refl, ap, sym, ◌∙◌, subst, arith}
+use Rattle.std.proofs.Common.{◌≡◌, ℕ, ◌+◌, ◌-◌, ◌*◌, ◌/◌, ◌<◌, ◌≤◌, true, false, Option, Some, None, inl, inr, ap, sym, ◌∙◌, subst, arith}
+use Rattle.std.proofs.lemmas.Bool.Decides.{nat_tests}
 use Rattle.std.specs.Prelude.{min}
 use Rattle.std.specs.Int.{IsInRange}
-use Rattle.std.proofs.lemmas.Bool.{cases_lt, cases_Bool, true≢false, and_parts}
+use Rattle.std.proofs.lemmas.Bool.{cases_lt, cases_Bool, true≢false}
 use Rattle.plan_sets.specs.declared.civil.Civil.{Civil}
 use Rattle.plan_sets.specs.Limits.{seconds_a_day}
 use Rattle.plan_sets.specs.Civil.{civil_fields}
 use Rattle.plan_sets.specs.CivilLaws.{IsCivilOf-civil_fields}
 use Rattle.plan_sets.specs.Months.{month_number, ComesBefore, IsFirstDay}
 use Rattle.plan_sets.specs.MonthsLaws.{civil_fields-of_month, ComesBefore-first_day, IsFirstDay-le_end, IsFirstDay-next, IsInRange-month_number}
-use Rattle.plan_sets.specs.Values.{has_value}
 use Rattle.plan_next.specs.declared.month.Month.{Month}
 use Rattle.plan_next.specs.declared.search.Pattern.{Pattern}
-use Rattle.plan_next.specs.declared.search.Pattern.TheVariants.{Cron, Event}
 use Rattle.plan_next.specs.Starts.{NoneIn, IsLeastIn}
 use Rattle.plan_next.specs.Search.{admits_date, admits_day, admits_month, admits_month_number, admits_year, end_day, end_month, IsFirstOpen, IsMonth}
 
@@ -30,24 +29,14 @@ record HasMonth (pattern : Pattern) (civil : Civil) : Type 0 where
   month : admits_month pattern civil.month ≡ true
 
 HasMonth-date : (pattern : Pattern) (civil : Civil) → admits_date pattern civil ≡ true → HasMonth pattern civil
-HasMonth-date (Cron rule) civil h = record {
-  year = refl;
-  month = (and_parts _ _ h).0;
-}
-HasMonth-date (Event event) civil h = record {
-  year = (and_parts _ _ h).0;
-  month = (and_parts (has_value event.now.months civil.month) _ (and_parts (has_value event.now.years civil.year) _ h).1).0;
-}
+HasMonth-date pattern civil given = grind (arith, nat_tests)
 
 -- ---- days and months
 
 month_here :
     (pattern : Pattern) (year month : ℕ) → IsInRange 1 12 month → admits_year pattern year ≡ true →
     admits_month pattern month ≡ true → admits_month_number pattern (12 * year + (month - 1)) ≡ true
-month_here pattern year month (low, high) has_year has_month =
-    let same : (12 * year + (month - 1)) / 12 ≡ year = omega arith in
-    let same_month : (12 * year + (month - 1)) % 12 + 1 ≡ month = omega arith in
-    rw (same, same_month, has_year, has_month) refl
+month_here pattern year month given given₂ given₃ = grind (arith, nat_tests)
 
 -- no day of a month that doesn't match does
 no_day_of_month :
@@ -163,11 +152,7 @@ none_of_month :
     (pattern : Pattern) (begin from end day : ℕ) (month : Month) → IsReached pattern begin month from →
     NoneIn (admits_day pattern) from (min end month.end) → begin ≤ day → day < end → day < month.end →
     admits_day pattern day ≡ false
-none_of_month pattern begin from end day month reached none low high until =
-    elim (cases_lt day from) [
-      | inl before ↦ reached.none day low before
-      | inr after ↦ none day after (omega arith)
-    ]
+none_of_month pattern begin from end day month reached none low high until = grind (arith, nat_tests)
 
 -- a day before the month `upto` doesn't match if no month between this one and that one does
 none_later :

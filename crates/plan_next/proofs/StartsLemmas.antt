@@ -2,6 +2,7 @@
 -- For `first_of_cron`, `next_of_cron`, `first_of_event`, `next_of_event`, KeptLemmas and EventsLemmas. The pattern
 -- reads the day and the second of the day, the rule reads the civil fields: both see the same (`admits_moment-fields`).
 use Rattle.std.proofs.Common.{◌≡◌, ℕ, ◌*◌, ◌/◌, ◌%◌, ◌<◌, Bool, true, ◌&&◌, nat_lt, Bor, [], refl, sym, ◌∙◌, arith}
+use Rattle.std.proofs.lemmas.Bool.Decides.{nat_tests}
 use Rattle.std.proofs.lemmas.Bool.{lt-ltb}
 use Rattle.plan_sets.specs.Civil.{civil_fields}
 use Rattle.plan_sets.specs.declared.civil.Civil.{Civil}
@@ -12,11 +13,6 @@ use Rattle.plan_match.specs.declared.cron.CronRule.{CronRule}
 use Rattle.plan_match.specs.declared.rule.Rule.TheVariants as rule
 use Rattle.plan_next.specs.declared.search.Pattern.{Pattern}
 use Rattle.plan_next.specs.declared.search.Pattern.TheVariants.{Cron, Event}
-use Rattle.plan_sets.specs.Values.{Values as SetOfValues, has_value}
-use Rattle.plan_match.specs.declared.event.DayCount.{DayCount}
-use Rattle.plan_match.specs.declared.event.DayCount.TheVariants.{FromStart, FromEnd}
-use Rattle.plan_match.specs.EventMatch.{month_day_matches, weekday_matches}
-use Rattle.std.proofs.Common.{Option, None, Some}
 use Rattle.plan_next.specs.Starts.{is_start}
 use Rattle.plan_next.specs.UtcLaws.{cron_starts-utc, event_starts-utc}
 use Rattle.plan_next.specs.Search.{admits_date, admits_day, admits_hour, admits_minute, admits_moment, admits_second, clock_of, matches_shown, starts_by}
@@ -26,24 +22,9 @@ abbrev pub admits_fields : Pattern → Civil → Bool
 admits_fields pattern c =
     admits_date pattern c && (admits_hour pattern c.hour && (admits_minute pattern c.minute && admits_second pattern c.second))
 
-month_day-same :
-    (count : DayCount) (days : SetOfValues) (a b : Civil) → SameDate a b →
-    month_day_matches count days a ≡ month_day_matches count days b
-month_day-same FromStart days a b same = rw same.day refl
-month_day-same FromEnd days a b same = rw (same.year, same.month, same.day) refl
-
-weekday-same : (weekdays : Option SetOfValues) (a b : Civil) → SameDate a b → weekday_matches weekdays a ≡ weekday_matches weekdays b
-weekday-same None a b same = refl
-weekday-same (Some weekdays) a b same = rw same.weekday refl
-
 -- whether a date matches depends only on its year, month, day and weekday
 admits_date-same : (pattern : Pattern) (a b : Civil) → SameDate a b → admits_date pattern a ≡ admits_date pattern b
-admits_date-same (Cron rule) a b same = rw (same.month, same.day, same.weekday) refl
-admits_date-same (Event event) a b same =
-    let e = event.now in
-    let day = month_day-same e.day_count e.days a b same in
-    let weekday = weekday-same e.weekdays a b same in
-    λ i. has_value e.years (same.year i) && (has_value e.months (same.month i) && (day i && weekday i))
+admits_date-same pattern a b given = grind (arith, nat_tests)
 
 pub admits_moment-fields : (pattern : Pattern) (n : ℕ) → admits_moment pattern n ≡ admits_fields pattern (civil_fields n)
 admits_moment-fields pattern n =
@@ -86,9 +67,7 @@ starts_by-moment pattern n none before = admits_moment-shown pattern n before �
 
 -- the starts of a cron rule's pattern are the rule's starts
 pub is_start-by : (cron : Bor CronRule) (n : ℕ) → n < end_second → starts_by (Cron cron) n ≡ is_start (rule.Cron cron.now) n
-is_start-by cron n before =
-    let known : nat_lt n end_second ≡ true = lt-ltb _ _ before in
-    rw known refl
+is_start-by cron n before = grind (arith, nat_tests)
 
 -- so if it has no clock, they are the seconds that its pattern matches
 pub is_start-cron :

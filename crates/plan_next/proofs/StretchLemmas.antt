@@ -1,15 +1,15 @@
 -- Starts in a stretch of time in which a clock has one row, from what a pattern matches; and parts of time without
 -- starts.
 -- For `first_in_stretch`, `first_hope` and `first_by_clock`.
-use Rattle.std.proofs.Common.{◌≡◌, ℕ, ◌+◌, ◌-◌, ◌<◌, ◌≤◌, Bool, true, false, min, max, Option, None, Some, [], nat_lt, inl, inr, sym, ap, subst, ◌∙◌, arith}
+use Rattle.std.proofs.Common.{◌≡◌, ℕ, ◌+◌, ◌-◌, ◌<◌, ◌≤◌, Bool, true, false, min, max, Option, None, Some, [], inl, inr, sym, ap, subst, ◌∙◌, arith}
+use Rattle.std.proofs.lemmas.Bool.Decides.{nat_tests}
 use Rattle.std.specs.Option.{option_map}
-use Rattle.std.proofs.lemmas.Bool.{cases_lt, le-ltb}
+use Rattle.std.proofs.lemmas.Bool.{cases_lt}
 use Rattle.std.proofs.lemmas.Int.{ints}
 use Rattle.plan_clock.specs.declared.row.Row.{Row}
 use Rattle.plan_clock.specs.Rows.{is_bounded, most_offset, natural, row_at, shown, unshown}
 use Rattle.plan_sets.specs.Limits.{end_second}
 use Rattle.plan_next.specs.declared.search.Pattern.{Pattern}
-use Rattle.plan_next.specs.declared.search.Pattern.TheVariants.{Cron, Event}
 use Rattle.plan_next.specs.declared.zone.Plain.{Plain}
 use Rattle.plan_next.specs.Search.{admits_moment, clock_of, heeds, matches_shown, starts_by, IsHope, IsPlain}
 use Rattle.plan_next.specs.Starts.{first_counted, starts_in, NoneIn, IsLeastIn, IsFirstIn}
@@ -19,8 +19,7 @@ use Rattle.plan_next.proofs.StartsLemmas.{admits_moment-shown, starts_by-utc}
 
 -- what is shown after the planner's years doesn't match
 matches_shown-after : (pattern : Pattern) (m : ℕ) → end_second ≤ m → matches_shown pattern m ≡ false
-matches_shown-after (Cron cron) m after = let known : nat_lt m end_second ≡ false = le-ltb _ _ after in rw known
-matches_shown-after (Event event) m after = let known : nat_lt m end_second ≡ false = le-ltb _ _ after in rw known
+matches_shown-after pattern m given = grind (arith, nat_tests)
 
 -- the first matching second that counts, moved back, is the first start
 pub found_in_stretch :
@@ -71,11 +70,7 @@ hope_some pattern from end earliest found hope bounded part low is none = record
 
 -- what matches is in the planner's years
 matches_shown-within : (pattern : Pattern) (m : ℕ) → matches_shown pattern m ≡ true → m < end_second
-matches_shown-within pattern m matches =
-    elim (cases_lt m end_second) [
-      | inl before ↦ before
-      | inr after ↦ (let none = matches_shown-after pattern m after in absurd (cc))
-    ]
+matches_shown-within pattern m matches = grind (arith, nat_tests)
 
 -- the starts from one on, after the second with which its row begins, up to the end of the row
 pub plain_part :
