@@ -7,3 +7,4 @@ pub mod PiecesLemmas
 pub mod MergingLemmas
 pub mod TilingLemmas
 pub mod StartLemmas
+pub mod NextsLemmas

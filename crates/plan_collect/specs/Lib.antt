@@ -14,3 +14,4 @@ pub mod Merging
 pub mod PlanFault
 pub mod Causes
 pub mod Start
+pub mod Upcoming

@@ -2,7 +2,8 @@
 //! collector checks and keeps them, and makes the agenda, sorted by time and then by job.
 //!
 //! The crate uses plan_rules for the jobs, and plan_next for the pieces. Read `collector` first, then
-//! `agenda`. `plan_fault` has the errors of a plan. plan_write makes the text of an agenda.
+//! `agenda`. `plan_fault` has the errors of a plan, and `upcoming` the next start of each job. plan_write makes
+//! the texts.
 #![tactic(auto)]
 
 mod agenda;
@@ -14,6 +15,7 @@ mod sizes;
 mod sorting;
 mod span;
 mod start;
+mod upcoming;
 
 pub use agenda::Agenda;
 pub use collector::{CollectFault, Collector, CollectorFault, MOST_ENTRIES, MOST_PLANNERS};
@@ -23,3 +25,4 @@ pub use plan_fault::PlanFault;
 pub use sizes::Sizes;
 pub use span::{Span, SpanFault};
 pub use start::Start;
+pub use upcoming::Upcoming;

@@ -12,6 +12,7 @@ mod stamp;
 mod upcoming;
 mod write;
 
+pub use plan_collect::Upcoming;
 pub use quiet::{nothing_starts_in_gaps, write_quiet};
-pub use upcoming::{Upcoming, write_upcoming};
+pub use upcoming::write_upcoming;
 pub use write::write_agenda;

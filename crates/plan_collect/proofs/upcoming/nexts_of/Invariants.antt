@@ -1,6 +1,6 @@
 use Rattle.std.proofs.Common.{◌≡◌, ◌++◌, drop}
-use Rattle.plan_write.specs.Upcoming.{nexts_from}
-use Rattle.plan_write.proofs.upcoming.nexts_of.Given as goal
+use Rattle.plan_collect.specs.Upcoming.{nexts_from}
+use Rattle.plan_collect.proofs.upcoming.nexts_of.Given as goal
 
 -- the next starts so far, and those that are left, are those of all jobs
 abbrev pub invariant-loop-number : goal.invariant-loop-number

@@ -2,7 +2,7 @@
 use Rattle.std.proofs.Common.{◌≡◌, ℕ, ◌+◌, List, [], ◌∷◌, ◌++◌, drop, Some, ap, sym, ◌∙◌, arith, suc, zero, append_assoc}
 use Rattle.std.specs.Prelude.{slice_get}
 use Rattle.plan_rules.specs.Job.{JobParts}
-use Rattle.plan_write.specs.Upcoming.{next_or_end, nexts_from}
+use Rattle.plan_collect.specs.Upcoming.{next_or_end, nexts_from}
 
 -- the jobs that are left start with the one at this place
 left_from :
