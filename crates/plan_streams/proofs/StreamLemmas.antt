@@ -1,14 +1,14 @@
 -- A text that a writer takes in parts: for the loop of `write_bytes`. `IsPartWritten` says how many bytes the writer
 -- took. What was written and what remains are cut at that place, which each write moves on by the bytes that it took.
-use Rattle.std.proofs.Common.{◌≡◌, ℕ, ◌+◌, ◌-◌, ◌<◌, ◌≤◌, List, [], ◌∷◌, ◌++◌, length, take, drop, get_or, Option, None, Some, Result, Ok, Err, OnErr, IsErr, Bool, is_ok, true, false, refl, ap, sym, subst, ◌∙◌, arith, append_assoc, append-nil, take_all, length-append, length-drop}
-use Rattle.std.specs.List.{flat_map}
+-- From `prefix_after` on, for a `TextWriter`: what it took is what was written and then what waits.
+use Rattle.std.proofs.Common.{◌≡◌, ℕ, ◌+◌, ◌-◌, ◌≤◌, List, [], ◌++◌, length, take, drop, Option, Result, Ok, Err, Bool, ap, sym, subst, ◌∙◌, arith, append_assoc, append-nil, take_all, length-append, length-drop}
 use Rattle.std.proofs.Math.Seq.{take-add, take-append-add}
-use Rattle.std.proofs.lemmas.List.{drop-drop, take_more, take-append-drop, take-append-le}
-use Rattle.std.proofs.lemmas.Bool.{true≢false}
-use Rattle.std.proofs.lemmas.Grind.{flat_map-append}
-use Rattle.std.proofs.KnownBytes.{Appends-trans, Appends-nil}
-use Rattle.std.specs.Io.KnownBytes.{Appends, Keeps}
-use Rattle.plan_streams.specs.Stream.{AppendsPrefix, AppendsAllBut, BreaksOff, Puts, PutsAllBut}
+use Rattle.std.proofs.lemmas.List.{drop-drop}
+use Rattle.std.proofs.KnownBytes.{Appends-trans}
+use Rattle.std.specs.Io.KnownBytes.{Appends}
+use Rattle.plan_streams.specs.Stream.{AppendsPrefix, AppendsAllBut, Puts, PutsAllBut}
+use Rattle.plan_streams.specs.Writer.{HasTaken, Takes}
+use Rattle.plan_streams.specs.declared.writer.TextWriter.{TextWriter}
 
 -- the first k bytes of the text were written, and the rest remains
 pub record IsWrittenTo (old new : Option (List ℕ)) (text rest : List ℕ) (k : ℕ) : Type 0 where
@@ -37,3 +37,42 @@ part_written_more a b c text rest n (k, so_far) most more =
             (subst (Appends b c) front more));
       },
     )
+
+-- what was written before, and then a part of a text
+prefix_after :
+    (a b c : Option (List ℕ)) (front text : List ℕ) → Appends a b front → AppendsPrefix b c text → AppendsPrefix a c (front ++ text)
+prefix_after a b c front text first (k, few, second) =
+    let both : take (length front + k) (front ++ text) ≡ front ++ take k text = take-append-add front text k in
+    (length front + k, omega (arith, length-append front text), rw both (Appends-trans a b c front (take k text) first second))
+
+puts_last :
+    {E : Type 0} (takes_all : Bool) (r : Result (Unit {0}) E) (a b c : Option (List ℕ)) (text waiting : List ℕ) →
+    AppendsAllBut a b text waiting → Puts takes_all r b c waiting → Puts takes_all r a c text
+puts_last takes_all (Ok done) a b c text waiting so_far last =
+    subst (Appends a c) (sym so_far.all) (Appends-trans a b c so_far.front waiting so_far.written last)
+puts_last takes_all (Err e) a b c text waiting so_far (fails, last) =
+    (fails, subst (AppendsPrefix a c) (sym so_far.all) (prefix_after a b c so_far.front waiting so_far.written last))
+
+-- if what waited is put, all of the text is
+pub puts_rest :
+    {E : Type 0} (takes_all : Bool) (state r : Result (Unit {0}) E) (done : Unit {0}) (a b c : Option (List ℕ)) (text waiting : List ℕ) →
+    state ≡ Ok done → Puts takes_all r b c waiting → PutsAllBut takes_all state a b text waiting → Puts takes_all r a c text
+puts_rest takes_all state r done a b c text waiting ok last before =
+    puts_last takes_all r a b c text waiting (subst (λ state. PutsAllBut takes_all state a b text waiting) ok before) last
+
+-- if all of a text is put, nothing of it waits
+pub none_waits :
+    {E : Type 0} (takes_all : Bool) (r : Result (Unit {0}) E) (a c : Option (List ℕ)) (text : List ℕ) → Puts takes_all r a c text →
+    PutsAllBut takes_all r a c text []
+none_waits takes_all (Ok done) a c text put = record { front = text; all = sym (append-nil text); written = put }
+none_waits takes_all (Err e) a c text off = off
+
+-- two texts that a writer took one after the other are one text
+pub takes_both :
+    {S : Type 0} (holds : S → Option (List ℕ)) (takes_all : Bool) (a b c : TextWriter S) (first second both : List ℕ) →
+    Takes holds takes_all a b first → Takes holds takes_all b c second → first ++ second ≡ both → Takes holds takes_all a c both
+takes_both holds takes_all a b c first second both one more is = (
+  more.0 ∙ one.0,
+  λ start before taken. subst (HasTaken holds takes_all start c)
+      (append_assoc before first second ∙ ap (λ text. before ++ text) is) (more.1 start (before ++ first) (one.1 start before taken)),
+)

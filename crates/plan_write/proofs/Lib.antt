@@ -1,4 +1,3 @@
-pub mod StreamLemmas
 pub mod StampLemmas
 pub mod QuietLemmas
 pub mod QuietLaws

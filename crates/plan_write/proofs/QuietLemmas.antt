@@ -25,10 +25,6 @@ pub text_more :
     text_left least mark (entry ∷ entries) upto ≡ wide_line least (mark, entry.0) ++ text_left least entry.0 entries upto
 text_more least mark entry entries upto = first_gap least (mark, entry.0) (pairs_from entry.0 (marks entries upto))
 
--- the text of the last gap
-pub text_last : (least mark upto : ℕ) → text_left least mark [] upto ≡ wide_line least (mark, upto) ++ []
-text_last least mark upto = first_gap least (mark, upto) []
-
 rest_from : (entries : List (ℕ × ℕ)) (i : ℕ) (d : ℕ × ℕ) → i < length entries → drop i entries ≡ get_or entries i d ∷ drop (suc i) entries
 rest_from [] i d lt = absurd (omega arith)
 rest_from (entry ∷ entries) zero d lt = refl
@@ -44,18 +40,6 @@ text_at least mark upto entries i d second lt is =
     rest_from entries i d lt ∙ ap (λ k. get_or entries i d ∷ drop k entries) one in
     ap (λ es. text_left least mark es upto) rest ∙ text_more least mark (get_or entries i d) (drop (i + 1) entries) upto
     ∙ ap (λ n. wide_line least (mark, n) ++ text_left least n (drop (i + 1) entries) upto) (sym is)
-
-none_left : (entries : List (ℕ × ℕ)) (i : ℕ) → length entries ≤ i → drop i entries ≡ []
-none_left [] zero few = refl
-none_left [] (suc i) few = refl
-none_left (entry ∷ entries) zero few = absurd (omega arith)
-none_left (entry ∷ entries) (suc i) few = none_left entries i (omega arith)
-
--- after the last entry, the last gap is left
-pub text_end :
-    (least mark upto : ℕ) (entries : List (ℕ × ℕ)) (i : ℕ) → length entries ≤ i →
-    text_left least mark (drop i entries) upto ≡ wide_line least (mark, upto) ++ []
-text_end least mark upto entries i few = ap (λ es. text_left least mark es upto) (none_left entries i few) ∙ text_last least mark upto
 
 -- the second of an entry is within the years of a plan
 pub in_years_at :

@@ -1,16 +1,15 @@
 //! The text of the gaps of an agenda, in which nothing starts.
 
-ghost use Rattle.std.specs.Prelude.{◌≡◌, ◌≤◌, ◌++◌};
+ghost use Rattle.std.specs.Prelude.{◌≡◌, ◌≤◌};
 ghost use Rattle.plan_sets.specs.Limits.{end_second};
 ghost use Rattle.plan_write.specs.Quiet.{NothingStartsInGaps, quiet_text, wide_line};
-ghost use Rattle.plan_streams.specs.Stream.{Puts, PutsAllBut};
+ghost use Rattle.plan_streams.specs.Stream.{Puts};
+ghost use Rattle.plan_streams.specs.Writer.{Takes};
 
-use crate::buffer::Buffer;
-use crate::write::put_all;
 use itoa::Buffer as Digits;
 use plan_collect::Agenda;
 use plan_sets::moment_text;
-use plan_streams::{Stream, WriteFault};
+use plan_streams::{Stream, TextWriter, WriteFault};
 
 /// Writes the gaps of an agenda that last at least `least` seconds: one line for each, in order.
 ///
@@ -26,41 +25,32 @@ use plan_streams::{Stream, WriteFault};
 pub fn write_quiet<S: Stream>(agenda: &Agenda, least: u64, out: &mut S) -> Result<(), WriteFault>
     ensures { Puts S.takes_all result (S.holds out.old) (S.holds out.new) (quiet_text least agenda.now) }
 {
-    let mut waiting = Buffer::new();
+    let mut lines = TextWriter::new(out);
     let mut mark = agenda.since();
     let upto = agenda.upto();
     let entries = agenda.entries();
     for entry in entries {
         let second = entry.second();
-        put_gap(mark, second, least, &mut waiting, out)?;
+        put_gap(mark, second, least, &mut lines);
         mark = second;
     }
-    put_gap(mark, upto, least, &mut waiting, out)?;
-    out.put(waiting.as_slice())
+    put_gap(mark, upto, least, &mut lines);
+    lines.finish()
 }
 
-// Appends the line of the gap between two marks to the waiting bytes, if the gap is wide enough.
-fn put_gap<S: Stream>(
-    from: u64,
-    to: u64,
-    least: u64,
-    waiting: &mut Buffer,
-    out: &mut S,
-) -> Result<(), WriteFault>
+// Puts the line of the gap between two marks, if the gap is wide enough.
+fn put_gap<S: Stream>(from: u64, to: u64, least: u64, lines: &mut TextWriter<'_, S>)
     requires from { from ≤ end_second }
     requires to { to ≤ end_second }
-    ensures { PutsAllBut S.takes_all result (S.holds out.old) (S.holds out.new)
-        (waiting.old ++ wide_line least (from, to)) waiting.new }
+    ensures { Takes S.holds S.takes_all lines.old lines.new (wide_line least (from, to)) }
 {
     let seconds = to.saturating_sub(from);
     if seconds < least {
-        return Ok(());
+        return;
     }
-    let begin = moment_text(from);
-    let end = moment_text(to);
-    let mut digits = Digits::new();
-    let count = digits.format(seconds).as_bytes();
-    put_all(&[&begin, b"\t", &end, b"\t", count, b"\n"], waiting, out)
+    lines.put_both(&moment_text(from), b"\t");
+    lines.put_both(&moment_text(to), b"\t");
+    lines.put_both(Digits::new().format(seconds).as_bytes(), b"\n");
 }
 
 /// States the law of gaps: no job starts within a gap of an agenda, as `write_quiet` writes them. The start and

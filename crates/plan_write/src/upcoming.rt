@@ -1,16 +1,16 @@
 //! The text of the next starts of jobs.
 
-ghost use Rattle.std.specs.Prelude.{◌++◌, slice_get};
+ghost use Rattle.std.specs.Prelude.{◌≡◌, slice_get};
 ghost use Rattle.plan_write.specs.Upcoming.{next_line, upcoming_text};
-ghost use Rattle.plan_streams.specs.Stream.{Puts, PutsAllBut};
+ghost use Rattle.plan_streams.specs.Stream.{Puts};
+ghost use Rattle.plan_streams.specs.Writer.{Takes};
 
-use crate::buffer::Buffer;
+use crate::agenda::put_line;
 use crate::stamp::Stamp;
-use crate::write::{put_all, put_line};
 use plan_collect::{Start, Upcoming};
 use plan_rules::Jobs;
 use plan_sets::END_SECOND;
-use plan_streams::{Stream, WriteFault};
+use plan_streams::{Stream, TextWriter, WriteFault};
 
 /// Writes the next start of each of these jobs: one line for each.
 ///
@@ -29,31 +29,23 @@ pub fn write_upcoming<S: Stream>(
 ) -> Result<(), WriteFault>
     ensures { Puts S.takes_all result (S.holds out.old) (S.holds out.new) (upcoming_text upcoming.now jobs.now) }
 {
-    let mut waiting = Buffer::new();
+    let mut lines = TextWriter::new(out);
     let mut stamp = Stamp::new(0);
     let nexts = upcoming.nexts();
     for next in nexts {
-        put_next(*next, jobs, &mut stamp, &mut waiting, out)?;
+        put_next(*next, jobs, &mut stamp, &mut lines);
     }
-    out.put(waiting.as_slice())
+    lines.finish()
 }
 
-// Appends the line of a job's next start to the waiting bytes.
-fn put_next<S: Stream>(
-    next: Start,
-    jobs: &Jobs,
-    stamp: &mut Stamp,
-    waiting: &mut Buffer,
-    out: &mut S,
-) -> Result<(), WriteFault>
-    ensures { PutsAllBut S.takes_all result (S.holds out.old) (S.holds out.new)
-        (waiting.old ++ next_line next.0 (slice_get jobs.now next.1)) waiting.new }
+// Puts the line of a job's next start.
+fn put_next<S: Stream>(next: Start, jobs: &Jobs, stamp: &mut Stamp, lines: &mut TextWriter<'_, S>)
+    ensures { Takes S.holds S.takes_all lines.old lines.new (next_line next.0 (slice_get jobs.now next.1)) }
 {
     if next.second() < END_SECOND {
-        return put_line(next, jobs, stamp, waiting, out);
+        return put_line(next, jobs, stamp, lines);
     }
-    let Some(job) = jobs.get(next.job() as usize) else {
-        return Ok(());
-    };
-    put_all(&[b"none\t", job.line_end().as_bytes()], waiting, out)
+    if let Some(job) = jobs.get(next.job() as usize) {
+        lines.put_both(b"none\t", job.line_end().as_bytes());
+    }
 }
