@@ -14,17 +14,16 @@ use Rattle.plan_rules.specs.Jobs.{is_named, number_of}
 use Rattle.plan_rules.specs.Limits.{most_jobs}
 use Rattle.plan_rules.specs.LineFaults.{TextReading}
 use Rattle.plan_check.specs.declared.finding.Finding.{Finding}
-use Rattle.plan_check.specs.Files.{File, after_file, file_findings, file_reading, files_findings, files_names, names_by, names_then, names_with}
+use Rattle.plan_check.specs.Files.{File, after_file, file_findings, files_findings, files_names, names_by, names_then, names_with}
 use Rattle.plan_check.specs.Finding.{is_clean}
+use Rattle.plan_check.specs.Form.{form_reading}
 use Rattle.plan_clock.specs.declared.row.Change.{Change}
 use Rattle.plan_check.specs.Names.{KnownNames, is_added, no_names}
 use Rattle.agenda_sources.specs.declared.findings.Found.{Found}
-use Rattle.agenda_sources.specs.declared.kind.SourceKind.{SourceKind}
-use Rattle.agenda_sources.specs.declared.kind.SourceKind.TheVariants.{Crontab, System, CronD, Spool, Timer}
 use Rattle.agenda_sources.specs.declared.sources.Source.{Source}
 use Rattle.agenda_sources.specs.Faults.{SourceReading, in_source}
 use Rattle.agenda_sources.specs.Findings.{found_at, found_from, is_all_clean, source_file, sources_findings}
-use Rattle.agenda_sources.specs.Kind.{file_of, reading_of}
+use Rattle.agenda_sources.specs.Kind.{form_of}
 use Rattle.agenda_sources.specs.Sources.{sources_from, sources_reading, with_jobs, with_source}
 
 -- ---- sources as files
@@ -46,14 +45,6 @@ found_files place known (source ∷ more) =
     let after = after_file known (source_file source) in
     map-append (λ (one : Found). one.finding) (map (found_at place) here) (found_from (place + 1) after more)
     ∙ (λ i. findings_back place here i ++ found_files (place + 1) after more i)
-
--- a source means what it means as a file
-same_reading : (kind : SourceKind) (name bytes : List ℕ) → file_reading (file_of kind name bytes) ≡ reading_of kind name bytes
-same_reading Crontab name bytes = refl
-same_reading System name bytes = refl
-same_reading CronD name bytes = refl
-same_reading Spool name bytes = refl
-same_reading Timer name bytes = refl
 
 -- ---- names and jobs
 
@@ -137,9 +128,8 @@ same_from :
     is_some (files_names (names_of jobs) (files_of sources)) ≡ is_ok (sources_from place jobs sources)
 same_from place [] jobs = refl
 same_from place (source ∷ more) jobs =
-    let read : names_by (names_of jobs) (file_reading (source_file source)) ≡ names_read (with_source place jobs source) =
-    ap (names_by (names_of jobs)) (same_reading source.kind source.name source.bytes)
-    ∙ same_then place jobs (reading_of source.kind source.name source.bytes) in
+    let reading = form_reading (form_of source.kind) source.name source.bytes in
+    let read : names_by (names_of jobs) reading ≡ names_read (with_source place jobs source) = same_then place jobs reading in
     ap (λ names. is_some (names_then names (λ next. files_names next (files_of more)))) read
     ∙ on_then (with_source place jobs source) (files_of more) (place + 1) more (λ next. same_from (place + 1) more next)
 

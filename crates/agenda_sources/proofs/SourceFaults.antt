@@ -17,7 +17,8 @@ use Rattle.agenda_sources.specs.declared.fault.SourceFault.{SourceFault}
 use Rattle.agenda_sources.specs.declared.fault.SourceFault.TheVariants.{NoMemory, InSource, SameName, Full}
 use Rattle.agenda_sources.specs.declared.sources.Source.{Source}
 use Rattle.agenda_sources.specs.Faults.{SourceReading, fault_at, fault_by_cause, in_source, IsOwnFault}
-use Rattle.agenda_sources.specs.Kind.{reading_of}
+use Rattle.plan_check.specs.Form.{form_reading}
+use Rattle.agenda_sources.specs.Kind.{form_of}
 use Rattle.agenda_sources.specs.Sources.{sources_from, sources_reading, with_job, with_jobs, with_source}
 
 by_cause : (c : LineCause) (fault : SourceFault) → (c ≢ cause.NoMemory → IsOwnFault fault) → IsOwnFault (fault_by_cause c fault)
@@ -43,7 +44,7 @@ jobs_behind jobs (first ∷ more) =
 
 of_one : (place : ℕ) (jobs : List JobParts) (source : Source) → IfErr (with_source place jobs source) IsOwnFault
 of_one place jobs source =
-    let read = reading_of source.kind source.name source.bytes in
+    let read = form_reading (form_of source.kind) source.name source.bytes in
     err_steps IsOwnFault (in_source place read) _ (of_source place read) (jobs_behind jobs)
 
 all : (place : ℕ) (jobs : List JobParts) (sources : List Source) → IfErr (sources_from place jobs sources) IsOwnFault

@@ -2,16 +2,16 @@
 use Rattle.std.specs.Prelude.{ℕ, ◌+◌, Bool, List, [], ◌∷◌, ◌++◌, map}
 use Rattle.plan_clock.specs.declared.row.Change.{Change}
 use Rattle.plan_check.specs.declared.finding.Finding.{Finding}
-use Rattle.plan_check.specs.Files.{File, file_findings, after_file}
+use Rattle.plan_check.specs.Files.{File, after_file, file_findings, file_of}
 use Rattle.plan_check.specs.Finding.{is_clean}
 use Rattle.plan_check.specs.Names.{KnownNames, no_names}
 use Rattle.agenda_sources.specs.declared.findings.Found.{Found}
 use Rattle.agenda_sources.specs.declared.sources.Source.{Source}
-use Rattle.agenda_sources.specs.Kind.{file_of}
+use Rattle.agenda_sources.specs.Kind.{form_of}
 
 -- a source as a file
 abbrev pub source_file : Source → File
-source_file source = file_of source.kind source.name source.bytes
+source_file source = file_of (form_of source.kind) source.name source.bytes
 
 -- a finding in the source at a place
 abbrev pub found_at : (place : ℕ) → Finding → Found

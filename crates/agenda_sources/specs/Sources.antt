@@ -9,7 +9,8 @@ use Rattle.plan_rules.specs.Zone.{jobs_in}
 use Rattle.agenda_sources.specs.declared.sources.Source.{Source}
 use Rattle.agenda_sources.specs.declared.fault.SourceFault.TheVariants.{SameName, Full}
 use Rattle.agenda_sources.specs.Faults.{SourceReading, in_source}
-use Rattle.agenda_sources.specs.Kind.{reading_of}
+use Rattle.plan_check.specs.Form.{form_reading}
+use Rattle.agenda_sources.specs.Kind.{form_of}
 
 -- ---- appending jobs
 
@@ -31,7 +32,7 @@ with_jobs jobs (job ∷ more) = do
 -- these jobs, then those of the source at a place, from 0
 abbrev pub with_source : ℕ → List JobParts → Source → SourceReading (List JobParts)
 with_source place jobs source = do
-  more ← in_source place (reading_of source.kind source.name source.bytes)
+  more ← in_source place (form_reading (form_of source.kind) source.name source.bytes)
   with_jobs jobs more
 
 -- ---- all sources

@@ -58,7 +58,8 @@ fn add_source(
         ++ map (found_at place) (file_findings names.old (source_file source.now))) }
     ensures names { OnOk result (names.new ≡ after_file names.old (source_file source.now)) }
 {
-    let more = source.kind.find(alloc, names, source.name.as_str(), source.bytes.as_slice())?;
+    let form = source.kind.form();
+    let more = form.findings(alloc, names, source.name.as_str(), source.bytes.as_slice())?;
     add_all(found, place, more.as_slice())
 }
 

@@ -1,15 +1,10 @@
-//! The kinds of sources: one table with the option, the label and the reader of each kind.
+//! The kinds of sources: one table with the option, the label and the form of each kind.
 
-ghost use Rattle.std.specs.Prelude.{◌≡◌, Err, IfOk, IfSome, OnOk, option_map};
-ghost use Rattle.plan_texts.specs.Steps.{GivesUnless};
-ghost use Rattle.plan_rules.specs.LineFaults.{of_whole, want_of_memory};
-ghost use Rattle.plan_rules.specs.Timer.{timer_reading};
-ghost use Rattle.plan_check.specs.Files.{after_file, file_findings};
-ghost use Rattle.agenda_sources.specs.Kind.{alone, cause_at_once, file_of, is_many, kinds, label_of, option_of, reading_of, timer_cause};
+ghost use Rattle.std.specs.Prelude.{◌≡◌, option_map};
+ghost use Rattle.agenda_sources.specs.Kind.{form_of, is_many, kinds, label_of, option_of};
 
-use plan_check::{Finding, Names, crontab_findings, named_crontab_findings, timer_findings};
-use plan_rules::{CrontabDirectory, Job, Kind, LineFault, crontab, named_crontab, timer};
-use std::alloc::{AllocError, Global};
+use plan_check::Form;
+use plan_rules::{CrontabDirectory, Kind};
 
 /// A kind of source. A plan reads its sources in the order of their kinds.
 #[derive(Clone, Copy, Debug, PartialEq, Eq)]
@@ -73,66 +68,16 @@ impl SourceKind {
         self.label().is_none()
     }
 
-    // Reads the jobs of a source of this kind, from its name and its bytes.
-    pub(crate) fn read(self, alloc: Global, name: &str, bytes: &[u8]) -> Result<Vec<Job>, LineFault>
-        ensures meaning { GivesUnless want_of_memory (λ jobs. jobs.items) result
-            (reading_of self name.now bytes.now) }
-        // These errors are found before any memory is requested.
-        ensures at_once { IfSome (cause_at_once self name.now bytes.now)
-            (λ cause. result ≡ Err (of_whole cause)) }
+    // Returns the form of the sources of this kind.
+    pub(crate) fn form(self) -> Form
+        ensures { result ≡ form_of self }
     {
         match self {
-            SourceKind::Crontab => crontab(alloc, "cron", bytes, Kind::User),
-            SourceKind::System => crontab(alloc, "system", bytes, Kind::System),
-            SourceKind::CronD => named_crontab(alloc, name, bytes, CrontabDirectory::CronD),
-            SourceKind::Spool => named_crontab(alloc, name, bytes, CrontabDirectory::Spool),
-            SourceKind::Timer => timer_alone(alloc, name, bytes),
+            SourceKind::Crontab => Form::Crontab(Kind::User),
+            SourceKind::System => Form::Crontab(Kind::System),
+            SourceKind::CronD => Form::Named(CrontabDirectory::CronD),
+            SourceKind::Spool => Form::Named(CrontabDirectory::Spool),
+            SourceKind::Timer => Form::Timer,
         }
     }
-
-    // Returns all findings of a source of this kind, from its name and its bytes. Adds the names of its jobs to
-    // `names`, which has the names of the jobs before them.
-    pub(crate) fn find(
-        self,
-        alloc: Global,
-        names: &mut Names,
-        name: &str,
-        bytes: &[u8],
-    ) -> Result<Vec<Finding>, AllocError>
-        ensures found { IfOk result (λ found. found.items ≡ file_findings names.old (file_of self name.now bytes.now)) }
-        ensures names { OnOk result (names.new ≡ after_file names.old (file_of self name.now bytes.now)) }
-    {
-        match self {
-            SourceKind::Crontab => crontab_findings(alloc, names, "cron", bytes, Kind::User),
-            SourceKind::System => crontab_findings(alloc, names, "system", bytes, Kind::System),
-            SourceKind::CronD => named_crontab_findings(
-                alloc,
-                names,
-                name,
-                bytes,
-                CrontabDirectory::CronD,
-            ),
-            SourceKind::Spool => named_crontab_findings(
-                alloc,
-                names,
-                name,
-                bytes,
-                CrontabDirectory::Spool,
-            ),
-            SourceKind::Timer => timer_findings(alloc, names, name, bytes),
-        }
-    }
-}
-
-// Reads the one job of a timer.
-fn timer_alone(alloc: Global, name: &str, bytes: &[u8]) -> Result<Vec<Job>, LineFault>
-    ensures meaning { GivesUnless want_of_memory (λ jobs. jobs.items) result
-        (alone (timer_reading name.now bytes.now)) }
-    ensures at_once { IfSome (timer_cause name.now bytes.now)
-        (λ cause. result ≡ Err (of_whole cause)) }
-{
-    let job = timer(alloc, name, bytes)?;
-    let mut jobs = Vec::new(alloc);
-    jobs.push(job)?;
-    Ok(jobs)
 }

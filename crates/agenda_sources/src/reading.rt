@@ -78,10 +78,8 @@ fn add_source(
     ensures few { length jobs.new ≤ most_jobs }
     ensures at_once { IfSome (source_at_once place source.now) (λ fault. result ≡ Err fault) }
 {
-    match source
-        .kind
-        .read(alloc, source.name.as_str(), source.bytes.as_slice())
-    {
+    let form = source.kind.form();
+    match form.read(alloc, source.name.as_str(), source.bytes.as_slice()) {
         Ok(more) => add_all(jobs, more),
         Err(fault) => Err(SourceFault::in_source(place, fault)),
     }

@@ -1,6 +1,6 @@
 -- Files have no finding but warnings exactly if jobs can be made of them: for `clean_where_jobs_are`.
 -- `Agrees` says so of one file, or of its lines, with the names that follow; the rest is induction over the lists.
-use Rattle.std.proofs.Common.{◌≡◌, ℕ, Bool, true, false, not, ◌&&◌, eqb, nat_lt, cond, List, [], ◌∷◌, ◌++◌, length, map, Option, Some, None, is_some, option_map, Ok, Err, refl, ap, sym, ◌∙◌, subst}
+use Rattle.std.proofs.Common.{◌≡◌, ℕ, Bool, true, false, not, ◌&&◌, eqb, nat_lt, cond, List, [], ◌∷◌, ◌++◌, length, map, Option, Some, None, is_none, is_some, option_map, Ok, Err, refl, ap, sym, ◌∙◌, subst}
 use Rattle.std.specs.List.{cons_option, flat_map}
 use Rattle.plan_clock.specs.declared.row.Change.{Change}
 use Rattle.plan_match.specs.Zone.{rule_in}
@@ -9,33 +9,38 @@ use Rattle.plan_match.specs.declared.rule.Rule.{Rule}
 use Rattle.plan_match.specs.declared.rule.Rule.TheVariants.{Events}
 use Rattle.plan_rules.specs.declared.crontabs.Kind.{Kind}
 use Rattle.plan_rules.specs.declared.entry.Entry.{Entry}
+use Rattle.plan_rules.specs.declared.line_fault.LineCause.{LineCause}
 use Rattle.plan_rules.specs.declared.line_fault.LineCause.TheVariants.{BadTabName, BadTimerName, NoTimerSection}
 use Rattle.plan_rules.specs.declared.line_fault.LineFault.{LineFault}
 use Rattle.plan_texts.specs.Steps.{◌>>=◌}
 use Rattle.plan_texts.specs.WholeLines.{whole_lines, trimmed}
-use Rattle.plan_rules.specs.Crontab.{crontab_entries, crontab_by_entries, crontab_reading}
+use Rattle.plan_rules.specs.Crontab.{crontab_entries, crontab_reading}
 use Rattle.plan_rules.specs.Entries.{refusals, refusal_on, given, unless_refused, meant_by}
 use Rattle.plan_rules.specs.FileText.{text_reading}
 use Rattle.plan_rules.specs.Job.{JobParts}
 use Rattle.plan_rules.specs.Limits.{most_jobs}
-use Rattle.plan_rules.specs.LineFaults.{LineReading, TextReading, on_line}
+use Rattle.plan_rules.specs.LineFaults.{LineReading, TextReading, fault_on_line, on_line}
 use Rattle.plan_rules.specs.NamedCrontabs.{is_crontab_name, kind_in}
 use Rattle.plan_rules.specs.Timer.{effects_from, first_unit, has_timer, is_timer_name, job_with, timer_reading}
-use Rattle.plan_rules.specs.TimerEntries.{count_from, entries_from, events_after, lines_by_entries, no_events, parts_of_lines, timer_by_entries}
+use Rattle.plan_rules.specs.TimerEntries.{count_from, entries_from, events_after, lines_by_entries, no_events, parts_of_lines, timer_by_entries, timer_entries}
 use Rattle.plan_check.specs.declared.finding.Finding.{Finding}
 use Rattle.plan_check.specs.declared.finding.Warning.{Warning}
 use Rattle.plan_check.specs.declared.finding.Warning.TheVariants.{NeverStarts, EitherDay, NoEvents}
 use Rattle.plan_check.specs.declared.finding.What.TheVariants.{SameName, Full}
-use Rattle.plan_check.specs.Crontabs.{line_findings, after_line, entries_findings, after_entries, text_findings, after_text}
-use Rattle.plan_check.specs.Finding.{is_clean, is_warning, finding_at, warned_if, refused_if}
-use Rattle.plan_check.specs.Files.{File, Crontab, Named, Timer, file_findings, after_file, files_findings, file_reading, files_names, names_by, names_with, names_then}
-use Rattle.plan_check.specs.Names.{KnownNames, is_added, after_where, no_names}
+use Rattle.plan_check.specs.declared.form.Form.{Form}
+use Rattle.plan_check.specs.declared.form.Form.TheVariants.{Crontab, Named, Timer}
+use Rattle.plan_check.specs.Crontabs.{line_findings, after_line, entries_findings, after_entries, crontab_findings, after_crontab}
+use Rattle.plan_check.specs.Finding.{is_clean, is_warning, finding_at, refused_at, refused_if, warned_if}
+use Rattle.plan_check.specs.Files.{File, file_findings, file_of, after_file, files_findings, files_names, names_by, names_with, names_then}
+use Rattle.plan_check.specs.Form.{alone, form_reading, label_of}
+use Rattle.plan_check.specs.Names.{KnownNames, is_added, names_after, no_names, with_jobs}
 use Rattle.plan_check.specs.Warnings.{rule_warnings, never_starts, is_reboot, is_either_day}
 use Rattle.plan_check.specs.Timers as timers
+use Rattle.plan_check.proofs.FirstLemmas.{CrontabLaw}
 
 -- the names that are known as long as Full was not reported
 abbrev known_by : List Change → List (List ℕ) → KnownNames
-known_by clock added = record { added = added; told = false; clock = clock }
+known_by clock added = record { added = added; told = false; makes_jobs = true; clock = clock }
 
 -- if jobs are made, nothing is rejected, and the names are theirs; else something is rejected
 abbrev Agrees : List Change → Option (List (List ℕ)) → List Finding → KnownNames → Type 0
@@ -86,7 +91,7 @@ named_findings line a b =
 
 abbrev named_after : List Change → (a b : Bool) → List (List ℕ) → List ℕ → KnownNames
 named_after clock a b added name =
-    cond a (known_by clock added) (cond b (known_by clock (added ++ name ∷ [])) (record { added = added; told = true; clock = clock }))
+    cond a (known_by clock added) (cond b (known_by clock (added ++ name ∷ [])) (record { added = added; told = true; makes_jobs = true; clock = clock }))
 
 job_right :
     (clock : List Change) (a b : Bool) (added : List (List ℕ)) (line : ℕ) (job : JobParts) (jobs : List JobParts) (F : KnownNames →
@@ -132,39 +137,55 @@ job_agrees clock (fault ∷ more) added line job jobs F G later =
 
 line_agrees :
     (clock : List Change) (added : List (List ℕ)) (line : ℕ) (read : LineReading JobParts) (more : List (Entry JobParts)) →
-    ((next : List (List ℕ)) → Agrees clock (names_by next (meant_by more)) (entries_findings true (known_by clock next) more)
-    (after_entries true (known_by clock next) more)) →
+    ((next : List (List ℕ)) → Agrees clock (names_by next (meant_by more)) (entries_findings (known_by clock next) more)
+    (after_entries (known_by clock next) more)) →
     Agrees clock (names_by added (meant_by (record { line = line; read = read } ∷ more)))
-    (line_findings true (known_by clock added) line read ++ entries_findings true (after_line true (known_by clock added) read) more)
-    (after_entries true (after_line true (known_by clock added) read) more)
+    (line_findings (known_by clock added) line read ++ entries_findings (after_line (known_by clock added) read) more)
+    (after_entries (after_line (known_by clock added) read) more)
 line_agrees clock added line (Ok job) more later =
-    job_agrees clock (refusals more) added line job (given more) (λ known. entries_findings true known more)
-    (λ known. after_entries true known more) later
+    job_agrees clock (refusals more) added line job (given more) (λ known. entries_findings known more)
+    (λ known. after_entries known more) later
 line_agrees clock added line (Err cause) more later = refl
 
 entries_agree :
     (clock : List Change) (added : List (List ℕ)) (entries : List (Entry JobParts)) →
-    Agrees clock (names_by added (meant_by entries)) (entries_findings true (known_by clock added) entries)
-    (after_entries true (known_by clock added) entries)
+    Agrees clock (names_by added (meant_by entries)) (entries_findings (known_by clock added) entries)
+    (after_entries (known_by clock added) entries)
 entries_agree clock added [] = (refl, refl)
 entries_agree clock added (entry ∷ more) = line_agrees clock added entry.line entry.read more (λ next. entries_agree clock next more)
 
 text_agrees :
     (clock : List Change) (added : List (List ℕ)) (text : TextReading (List (Entry JobParts))) →
-    Agrees clock (names_by added (text >>= λ entries. meant_by entries)) (text_findings true (known_by clock added) text)
-    (after_text true (known_by clock added) text)
+    Agrees clock (names_by added (text >>= λ entries. meant_by entries)) (crontab_findings (known_by clock added) text)
+    (after_crontab (known_by clock added) text)
 text_agrees clock added (Ok entries) = entries_agree clock added entries
 text_agrees clock added (Err fault) = refl
 
+crontab_agrees :
+    (clock : List Change) → CrontabLaw → (added : List (List ℕ)) (label : List ℕ) (kind : Kind) (bytes : List ℕ) →
+    Agrees clock (names_by added (crontab_reading label kind bytes))
+    (crontab_findings (known_by clock added) (crontab_entries label kind bytes))
+    (after_crontab (known_by clock added) (crontab_entries label kind bytes))
+crontab_agrees clock law added label kind bytes =
+    let text = crontab_entries label kind bytes in
+    let P : TextReading (List JobParts) → Type 0 = λ reading. Agrees clock (names_by added reading)
+    (crontab_findings (known_by clock added) text) (after_crontab (known_by clock added) text) in
+    subst P (sym (law label kind bytes)) (text_agrees clock added text)
+
+-- what is wrong with a name
+abbrev unless : Bool → LineCause → Option LineCause
+unless good cause = cond good None (Some cause)
+
+-- a file whose name is bad has that error, whatever its text
 named_agrees :
-    (clock : List Change) (is_named : Bool) (added : List (List ℕ)) (reading : TextReading (List JobParts)) (text : TextReading (List
-    (Entry JobParts))) →
-    Agrees clock (names_by added reading) (text_findings true (known_by clock added) text) (after_text true (known_by clock added) text) →
-    Agrees clock (names_by added (cond is_named reading (on_line 0 (Err BadTabName))))
-    (refused_if (not is_named) 0 BadTabName ++ text_findings is_named (known_by clock added) text) (after_text is_named (known_by clock
-    added) text)
-named_agrees clock true added reading text agrees = agrees
-named_agrees clock false added reading text agrees = refl
+    (clock : List Change) (good : Bool) (cause : LineCause) (added : List (List ℕ)) (reading : TextReading (List JobParts))
+    (F : KnownNames → List Finding) (G : KnownNames → KnownNames) →
+    Agrees clock (names_by added reading) (F (known_by clock added)) (G (known_by clock added)) →
+    Agrees clock (names_by added (cond good reading (on_line 0 (Err cause))))
+    (cons_option (option_map (refused_at 0) (unless good cause)) [] ++ F (with_jobs (known_by clock added) (is_none (unless good cause))))
+    (G (with_jobs (known_by clock added) (is_none (unless good cause))))
+named_agrees clock true cause added reading F G agrees = agrees
+named_agrees clock false cause added reading F G agrees = refl
 
 -- ---- a timer
 
@@ -218,55 +239,49 @@ timer_agrees clock (fault ∷ more) has is_so added name unit events found clean
     timer_wrong has (is_added name added) (nat_lt (length added) most_jobs) is_so found clean
 
 timer_text_agrees :
-    (clock : List Change) (is_named : Bool) (added : List (List ℕ)) (name : List ℕ) (text : TextReading (List ℕ)) (f : List ℕ →
-    List (ℕ × List ℕ)) →
-    Agrees clock
-    (names_by added (cond is_named (text >>= λ t. lines_by_entries name (f t)) (on_line 0 (Err BadTimerName)) >>= λ job. Ok (job ∷ [])))
-    (refused_if (not is_named) 0 BadTimerName
-    ++ timers.text_findings is_named (known_by clock added) name (text >>= λ t. Ok (parts_of_lines (f t))))
-    (after_where is_named (known_by clock added) name)
-timer_text_agrees clock false added name text f = refl
-timer_text_agrees clock true added name (Err fault) f = refl
-timer_text_agrees clock true added name (Ok text) f =
+    (clock : List Change) (added : List (List ℕ)) (name : List ℕ) (text : TextReading (List ℕ)) (f : List ℕ → List (ℕ × List ℕ)) →
+    Agrees clock (names_by added (alone (text >>= λ t. lines_by_entries name (f t))))
+    (timers.timer_findings (known_by clock added) name (text >>= λ t. Ok (parts_of_lines (f t))))
+    (names_after (known_by clock added) name)
+timer_text_agrees clock added name (Err fault) f = refl
+timer_text_agrees clock added name (Ok text) f =
     let effects = effects_from false (f text) in
     timer_agrees clock (refusals (entries_from no_events effects)) (has_timer (f text))
     (has_timer (f text) && eqb (count_from no_events effects).held 0) added name (first_unit effects) (events_after [] effects)
     (flat_map (timers.event_findings clock) (entries_from no_events effects)) (events_clean clock (entries_from no_events effects))
 
+alone_named :
+    (good : Bool) (reading : TextReading JobParts) (fault : LineFault) →
+    alone (cond good reading (Err fault)) ≡ cond good (alone reading) (Err fault)
+alone_named true reading fault = refl
+alone_named false reading fault = refl
+
 -- ---- files
 
--- the two laws of entries, as plan_rules offers them
-abbrev pub CrontabLaw : Type 0
-CrontabLaw = (label : List ℕ) (kind : Kind) (bytes : List ℕ) → crontab_reading label kind bytes ≡ crontab_by_entries label kind bytes
-
+-- the law of a timer's entries, as plan_rules offers it
 abbrev pub TimerLaw : Type 0
 TimerLaw = (name bytes : List ℕ) → timer_reading name bytes ≡ timer_by_entries name bytes
 
-crontab_agrees :
-    (clock : List Change) → CrontabLaw → (added : List (List ℕ)) (label : List ℕ) (kind : Kind) (bytes : List ℕ) →
-    Agrees clock (names_by added (crontab_reading label kind bytes)) (text_findings true (known_by clock added) (crontab_entries label
-    kind bytes))
-    (after_text true (known_by clock added) (crontab_entries label kind bytes))
-crontab_agrees clock law added label kind bytes =
-    let P : TextReading (List JobParts) → Type 0 = λ reading. Agrees clock (names_by added reading)
-    (text_findings true (known_by clock added) (crontab_entries label kind bytes))
-    (after_text true (known_by clock added) (crontab_entries label kind bytes)) in
-    subst P (sym (law label kind bytes)) (text_agrees clock added (crontab_entries label kind bytes))
-
-file_agrees :
-    (clock : List Change) → CrontabLaw → TimerLaw → (added : List (List ℕ)) (file : File) →
-    Agrees clock (names_by added (file_reading file)) (file_findings (known_by clock added) file) (after_file (known_by clock added) file)
-file_agrees clock crontab timer added (Crontab label kind bytes) = crontab_agrees clock crontab added label kind bytes
-file_agrees clock crontab timer added (Named directory name bytes) =
-    named_agrees clock (is_crontab_name directory name) added (crontab_reading name (kind_in directory) bytes) (crontab_entries name (kind_in
-    directory) bytes)
+form_agrees :
+    (clock : List Change) → CrontabLaw → TimerLaw → (added : List (List ℕ)) (form : Form) (name bytes : List ℕ) →
+    Agrees clock (names_by added (form_reading form name bytes)) (file_findings (known_by clock added) (file_of form name bytes))
+    (after_file (known_by clock added) (file_of form name bytes))
+form_agrees clock crontab timer added (Crontab kind) name bytes = crontab_agrees clock crontab added (label_of kind) kind bytes
+form_agrees clock crontab timer added (Named directory) name bytes =
+    let text = crontab_entries name (kind_in directory) bytes in
+    named_agrees clock (is_crontab_name directory name) BadTabName added (crontab_reading name (kind_in directory) bytes)
+    (λ known. crontab_findings known text) (λ known. after_crontab known text)
     (crontab_agrees clock crontab added name (kind_in directory) bytes)
-file_agrees clock crontab timer added (Timer name bytes) =
-    let P : TextReading JobParts → Type 0 = λ reading. Agrees clock (names_by added (reading >>= λ job. Ok (job ∷ [])))
-    (file_findings (known_by clock added) (Timer name bytes)) (after_file (known_by clock added) (Timer name bytes)) in
-    subst P (sym (timer name bytes))
-    (timer_text_agrees clock (is_timer_name name) added name (text_reading bytes) (λ t. map (λ line. (line.0, trimmed line.1))
-    (whole_lines t)))
+form_agrees clock crontab timer added Timer name bytes =
+    let found = file_findings (known_by clock added) (file_of Timer name bytes) in
+    let after = after_file (known_by clock added) (file_of Timer name bytes) in
+    let lines : List ℕ → List (ℕ × List ℕ) = λ t. map (λ line. (line.0, trimmed line.1)) (whole_lines t) in
+    let reading : TextReading JobParts = text_reading bytes >>= λ t. lines_by_entries name (lines t) in
+    let P : TextReading (List JobParts) → Type 0 = λ reading. Agrees clock (names_by added reading) found after in
+    subst P (sym (ap alone (timer name bytes) ∙ alone_named (is_timer_name name) reading (fault_on_line 0 BadTimerName)))
+    (named_agrees clock (is_timer_name name) BadTimerName added (alone reading)
+    (λ known. timers.timer_findings known name (timer_entries bytes)) (λ known. names_after known name)
+    (timer_text_agrees clock added name (text_reading bytes) lines))
 
 files_after :
     (clock : List Change) (next : Option (List (List ℕ))) (found : List Finding) (after : KnownNames) (more : List File) →
@@ -286,9 +301,9 @@ files_agree :
     is_clean (files_findings (known_by clock added) files) ≡ is_some (files_names added files)
 files_agree clock crontab timer added [] = refl
 files_agree clock crontab timer added (file ∷ more) =
-    files_after clock (names_by added (file_reading file)) (file_findings (known_by clock added) file) (after_file (known_by clock
+    files_after clock (names_by added (form_reading file.form file.name file.bytes)) (file_findings (known_by clock added) file) (after_file (known_by clock
     added) file) more
-    (file_agrees clock crontab timer added file) (λ next. files_agree clock crontab timer next more)
+    (form_agrees clock crontab timer added file.form file.name file.bytes) (λ next. files_agree clock crontab timer next more)
 
 pub clean_law : (clock : List Change) → CrontabLaw → TimerLaw → (files : List File) →
     is_clean (files_findings (no_names clock) files) ≡ is_some (files_names [] files)

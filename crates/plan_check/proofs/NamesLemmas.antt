@@ -31,12 +31,8 @@ insert_key-name keys key name named absent =
     ∙ map-append string_bytes keys (key ∷ [])
     ∙ ap (λ bytes. map string_bytes keys ++ bytes ∷ []) named
 
--- a name that no job has is added if there are fewer than 1,000
+-- a name that no job has is added if the file makes jobs and there are fewer than 1,000
 pub names_after-new :
-    (known : KnownNames) (name : List ℕ) → is_added name known.added ≡ false → nat_lt (length known.added) most_jobs ≡ true →
-    names_after known name ≡ record known { added = known.added ++ name ∷ [] }
-names_after-new known name absent few =
-    let new : KnownNames = record known { added = known.added ++ name ∷ [] } in
-    let told : KnownNames = record known { told = true } in
-    ap (λ (is : Bool). if is then known else (if nat_lt (length known.added) most_jobs then new else told)) absent
-    ∙ ap (λ (is : Bool). if is then new else told) few
+    (known : KnownNames) (name : List ℕ) → known.makes_jobs ≡ true → is_added name known.added ≡ false →
+    nat_lt (length known.added) most_jobs ≡ true → names_after known name ≡ record known { added = known.added ++ name ∷ [] }
+names_after-new known name makes absent few = rw (makes, absent, few) refl

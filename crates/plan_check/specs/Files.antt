@@ -1,53 +1,74 @@
 -- The findings of several files, and whether jobs can be made of them (agenda).
-use Rattle.std.specs.Prelude.{ℕ, nat_lt, if◌then◌else◌, List, [], ◌∷◌, ◌++◌, length, Option, Some, None, Ok, Err}
-use Rattle.plan_rules.specs.declared.crontabs.Kind.{Kind}
-use Rattle.plan_rules.specs.declared.named_crontabs.CrontabDirectory.{CrontabDirectory}
-use Rattle.plan_texts.specs.Steps.{◌>>=◌}
-use Rattle.plan_rules.specs.Crontab.{crontab_reading}
+use Rattle.std.specs.Prelude.{ℕ, nat_lt, if◌then◌else◌, List, [], ◌∷◌, ◌++◌, ◌≡◌, length, is_none, Option, Some, None, option_map, Ok, Err}
+use Rattle.std.specs.List.{cons_option}
+use Rattle.std.specs.Result.{result_err}
+use Rattle.plan_rules.specs.Crontab.{crontab_entries}
 use Rattle.plan_rules.specs.Job.{JobParts}
 use Rattle.plan_rules.specs.Limits.{most_jobs}
 use Rattle.plan_rules.specs.LineFaults.{TextReading}
-use Rattle.plan_rules.specs.NamedCrontabs.{named_crontab_reading}
-use Rattle.plan_rules.specs.Timer.{timer_reading}
+use Rattle.plan_rules.specs.NamedCrontabs.{kind_in}
+use Rattle.plan_rules.specs.TimerEntries.{timer_entries}
 use Rattle.plan_check.specs.declared.finding.Finding.{Finding}
-use Rattle.plan_check.specs.Crontabs.{crontab_findings, after_crontab, named_crontab_findings, after_named_crontab}
-use Rattle.plan_check.specs.Names.{KnownNames, is_added}
-use Rattle.plan_check.specs.Timers.{timer_findings, after_timer}
+use Rattle.plan_check.specs.declared.form.Form.{Form}
+use Rattle.plan_check.specs.declared.form.Form.TheVariants.{Crontab, Named, Timer}
+use Rattle.plan_check.specs.Crontabs.{crontab_findings, after_crontab}
+use Rattle.plan_check.specs.Finding.{first_fault, refused_at}
+use Rattle.plan_check.specs.Form.{form_reading, label_of, name_cause}
+use Rattle.plan_check.specs.Names.{KnownNames, is_added, names_after, with_jobs}
+use Rattle.plan_check.specs.Timers.{timer_findings}
 
--- a file: a crontab whose jobs have a label, one whose jobs have its own name, or a timer
-pub data File : Type 0 where
-  Crontab : (label : List ℕ) (kind : Kind) (bytes : List ℕ) → File
-  Named : (directory : CrontabDirectory) (name bytes : List ℕ) → File
-  Timer : (name bytes : List ℕ) → File
+-- a file
+pub record File : Type 0 where
+  pub form : Form
+  pub name : List ℕ
+  pub bytes : List ℕ
+
+abbrev pub file_of : Form → (name bytes : List ℕ) → File
+file_of form name bytes = record { form = form; name = name; bytes = bytes }
 
 -- ---- findings
 
--- the findings of a file
+-- the finding of a file's name, if it is bad
+abbrev pub name_findings : Form → (name : List ℕ) → List Finding
+name_findings form name = cons_option (option_map (refused_at 0) (name_cause form name)) []
+
+-- what is known in a file: if its name is bad, it makes no jobs
+abbrev pub in_file : KnownNames → Form → (name : List ℕ) → KnownNames
+in_file known form name = with_jobs known (is_none (name_cause form name))
+
+-- the findings of a file's text
+abbrev pub text_findings : KnownNames → Form → (name bytes : List ℕ) → List Finding
+text_findings known (Crontab kind) name bytes = crontab_findings known (crontab_entries (label_of kind) kind bytes)
+text_findings known (Named directory) name bytes = crontab_findings known (crontab_entries name (kind_in directory) bytes)
+text_findings known Timer name bytes = timer_findings known name (timer_entries bytes)
+
+-- the names of jobs after a file's text
+abbrev pub after_text : KnownNames → Form → (name bytes : List ℕ) → KnownNames
+after_text known (Crontab kind) name bytes = after_crontab known (crontab_entries (label_of kind) kind bytes)
+after_text known (Named directory) name bytes = after_crontab known (crontab_entries name (kind_in directory) bytes)
+after_text known Timer name bytes = names_after known name
+
+-- the findings of a file: its name is checked first, and then its text, even if the name is bad
 abbrev pub file_findings : KnownNames → File → List Finding
-file_findings known (Crontab label kind bytes) = crontab_findings known label kind bytes
-file_findings known (Named directory name bytes) = named_crontab_findings known directory name bytes
-file_findings known (Timer name bytes) = timer_findings known name bytes
+file_findings known file =
+    name_findings file.form file.name ++ text_findings (in_file known file.form file.name) file.form file.name file.bytes
 
 -- the names of jobs after a file
 abbrev pub after_file : KnownNames → File → KnownNames
-after_file known (Crontab label kind bytes) = after_crontab known label kind bytes
-after_file known (Named directory name bytes) = after_named_crontab known directory name bytes
-after_file known (Timer name bytes) = after_timer known name
+after_file known file = after_text (in_file known file.form file.name) file.form file.name file.bytes
 
 -- the findings of files, in order
 abbrev pub files_findings : KnownNames → List File → List Finding
 files_findings known [] = []
 files_findings known (file ∷ more) = file_findings known file ++ files_findings (after_file known file) more
 
--- ---- the jobs that are made
+-- the first error among the findings of a crontab is that of its reading; a timer's findings have another order
+abbrev pub HasFirst : Form → List Finding → TextReading (List JobParts) → Type 0
+HasFirst (Crontab kind) found reading = first_fault found ≡ result_err reading
+HasFirst (Named directory) found reading = first_fault found ≡ result_err reading
+HasFirst Timer found reading = Unit {0}
 
--- the jobs of a file, or its first error
-abbrev pub file_reading : File → TextReading (List JobParts)
-file_reading (Crontab label kind bytes) = crontab_reading label kind bytes
-file_reading (Named directory name bytes) = named_crontab_reading directory name bytes
-file_reading (Timer name bytes) = do
-  job ← timer_reading name bytes
-  Ok (job ∷ [])
+-- ---- the jobs that are made
 
 -- the names after jobs are added, if no two have the same name and there are at most 1,000
 abbrev pub names_with : List (List ℕ) → List JobParts → Option (List (List ℕ))
@@ -69,4 +90,4 @@ names_then (Some added) next = next added
 -- the names of the jobs of files, if jobs can be made of all of them
 abbrev pub files_names : List (List ℕ) → List File → Option (List (List ℕ))
 files_names added [] = Some added
-files_names added (file ∷ more) = names_then (names_by added (file_reading file)) (λ next. files_names next more)
+files_names added (file ∷ more) = names_then (names_by added (form_reading file.form file.name file.bytes)) (λ next. files_names next more)

@@ -3,4 +3,5 @@ pub mod Names
 pub mod Warnings
 pub mod Crontabs
 pub mod Timers
+pub mod Form
 pub mod Files

@@ -1,19 +1,18 @@
 -- The findings of a timer file (systemd.timer(5)). Which findings there are, and their order, is our choice (agenda).
-use Rattle.std.specs.Prelude.{ℕ, Bool, not, ◌&&◌, ◌==◌, List, [], ◌∷◌, ◌++◌, option_map, Ok, Err}
+use Rattle.std.specs.Prelude.{ℕ, not, ◌&&◌, ◌==◌, List, [], ◌∷◌, ◌++◌, option_map, Ok, Err}
 use Rattle.std.specs.List.{cons_option, flat_map}
 use Rattle.plan_clock.specs.declared.row.Change.{Change}
 use Rattle.plan_match.specs.Zone.{rule_in}
 use Rattle.plan_match.specs.declared.event.Calendar.{Calendar}
 use Rattle.plan_match.specs.declared.rule.Rule.TheVariants.{Events}
 use Rattle.plan_rules.specs.declared.entry.Entry.{Entry}
-use Rattle.plan_rules.specs.declared.line_fault.LineCause.TheVariants.{BadTimerName, NoTimerSection}
+use Rattle.plan_rules.specs.declared.line_fault.LineCause.TheVariants.{NoTimerSection}
 use Rattle.plan_rules.specs.LineFaults.{LineReading, TextReading}
-use Rattle.plan_rules.specs.Timer.{is_timer_name}
-use Rattle.plan_rules.specs.TimerEntries.{TimerParts, timer_entries}
+use Rattle.plan_rules.specs.TimerEntries.{TimerParts}
 use Rattle.plan_check.specs.declared.finding.Finding.{Finding}
 use Rattle.plan_check.specs.declared.finding.Warning.TheVariants.{NeverStarts, NoEvents}
 use Rattle.plan_check.specs.Finding.{finding_at, warned_if, refused_at, refused_if}
-use Rattle.plan_check.specs.Names.{KnownNames, fault_where, after_where}
+use Rattle.plan_check.specs.Names.{KnownNames, name_fault}
 use Rattle.plan_check.specs.Warnings.{never_starts}
 
 -- ---- one event
@@ -29,25 +28,16 @@ event_findings clock entry = read_findings clock entry.line entry.read
 
 -- ---- a timer file
 
--- what is wrong with the name of the timer's job. Each timer makes a job, whatever else is rejected, unless its
+-- what is wrong with the name of the timer's job. Each timer makes a job, whatever else is rejected, unless the file's
 -- name is bad
-abbrev pub job_findings : Bool → KnownNames → List ℕ → List Finding
-job_findings is_named known name = cons_option (option_map (λ what. finding_at 0 what) (fault_where is_named known name)) []
+abbrev pub job_findings : KnownNames → List ℕ → List Finding
+job_findings known name = cons_option (option_map (λ what. finding_at 0 what) (name_fault known name)) []
 
 -- the findings of the text: first those of the whole file, then those of its events. A text that is too large
 -- or not UTF-8 has no lines, and no missing section is reported
-abbrev pub text_findings : Bool → KnownNames → List ℕ → TextReading TimerParts → List Finding
-text_findings is_named known name (Ok parts) =
+abbrev pub timer_findings : KnownNames → List ℕ → TextReading TimerParts → List Finding
+timer_findings known name (Ok parts) =
     refused_if (not parts.has_section) 0 NoTimerSection
-    ++ (job_findings is_named known name
+    ++ (job_findings known name
     ++ (warned_if (parts.has_section && (parts.held == 0)) 0 NoEvents ++ flat_map (event_findings known.clock) parts.events))
-text_findings is_named known name (Err fault) = refused_at fault.line fault.cause ∷ job_findings is_named known name
-
--- the findings of a timer file: its name is checked first, and then the rest, even if the name is bad
-abbrev pub timer_findings : KnownNames → (name bytes : List ℕ) → List Finding
-timer_findings known name bytes =
-    refused_if (not (is_timer_name name)) 0 BadTimerName ++ text_findings (is_timer_name name) known name (timer_entries bytes)
-
--- the names after it
-abbrev pub after_timer : KnownNames → (name : List ℕ) → KnownNames
-after_timer known name = after_where (is_timer_name name) known name
+timer_findings known name (Err fault) = refused_at fault.line fault.cause ∷ job_findings known name

@@ -1,20 +1,20 @@
 //! The findings of `check`: all errors and warnings of a crontab or a timer file, line by line.
 //!
 //! plan_rules reads each line by itself, and plan_next says whether a rule has a start. Read `finding` first,
-//! then `crontab_findings` in `crontabs` and `timer_findings` in `timers`. `names` is what is passed from file
-//! to file, and `laws` connects findings with jobs.
+//! then `form`, which reads a file or finds what is wrong with it, and `crontabs` and `timers` for the lines.
+//! `names` is what is passed from file to file, and `laws` connects findings with jobs.
 #![tactic(auto)]
 
 mod crontabs;
 mod finding;
+mod form;
 mod laws;
 mod names;
 mod report;
 mod timers;
 mod warnings;
 
-pub use crontabs::{crontab_findings, named_crontab_findings};
 pub use finding::{Finding, Warning, What};
+pub use form::Form;
 pub use laws::clean_where_jobs_are;
 pub use names::Names;
-pub use timers::timer_findings;

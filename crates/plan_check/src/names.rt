@@ -1,7 +1,7 @@
 //! The names of jobs, which are passed from file to file.
 
 ghost use Rattle.std.specs.Prelude.{◌≡◌, IfOk, OnOk};
-ghost use Rattle.plan_check.specs.Names.{is_added, name_fault, names_after, no_names};
+ghost use Rattle.plan_check.specs.Names.{is_added, name_fault, names_after, no_names, with_jobs};
 
 use crate::finding::What;
 use indexmap::IndexSet;
@@ -11,12 +11,14 @@ use std::alloc::{AllocError, Global};
 use std::marker::Model;
 
 /// What is known from file to file: the names of the jobs so far, at most 1,000, whether `Full` was reported,
-/// and the clock of the zone in which the jobs start.
+/// whether the file that is checked makes jobs, and the clock of the zone in which the jobs start.
 #[derive(Debug, Drop)]
 pub struct Names {
     kept: IndexSet<String>,
     // Whether `Full` was reported.
     is_told: bool,
+    // Whether the file makes jobs: not if its name is bad.
+    makes_jobs: bool,
     clock: Clock,
 }
 
@@ -26,7 +28,7 @@ impl Model for Names {
 
     ghost Value = { KnownNames };
 
-    ghost view = { λ names. record { added = map string_bytes names.kept.keys; told = names.is_told; clock = names.clock } };
+    ghost view = { λ names. record { added = map string_bytes names.kept.keys; told = names.is_told; makes_jobs = names.makes_jobs; clock = names.clock } };
 }
 
 impl Names {
@@ -38,6 +40,7 @@ impl Names {
         Names {
             kept: IndexSet::new(alloc),
             is_told: false,
+            makes_jobs: true,
             clock,
         }
     }
@@ -49,11 +52,21 @@ impl Names {
         self.clock.try_clone()
     }
 
-    // Adds the name of a job, and returns what is wrong with it.
+    // Begins a file, which makes jobs unless its name is bad.
+    pub(crate) fn begin_file(&mut self, makes_jobs: bool)
+        ensures { self.new ≡ with_jobs self.old makes_jobs }
+    {
+        self.makes_jobs = makes_jobs;
+    }
+
+    // Adds the name of a job, if the file makes jobs, and returns what is wrong with it.
     pub(crate) fn add(&mut self, alloc: Global, name: &str) -> Result<Option<What>, AllocError>
         ensures fault { IfOk result (λ fault. fault ≡ name_fault self.old name.now) }
         ensures after { OnOk result (self.new ≡ names_after self.old name.now) }
     {
+        if !self.makes_jobs {
+            return Ok(None);
+        }
         if self.has(name) {
             return Ok(Some(What::SameName));
         }

@@ -3,7 +3,7 @@
 ghost use Rattle.std.specs.Prelude.{◌≡◌, ◌++◌, ◌∷◌, [], OnOk, option_map};
 ghost use Rattle.std.specs.List.{cons_option};
 ghost use Rattle.plan_check.specs.Finding.{finding_at, warned_if, refused_at, refused_if};
-ghost use Rattle.plan_check.specs.Names.{after_where, fault_where};
+ghost use Rattle.plan_check.specs.Names.{name_fault, names_after};
 
 use crate::finding::{Finding, Warning, What};
 use crate::names::Names;
@@ -53,23 +53,18 @@ pub(crate) fn refuse(
     Ok(())
 }
 
-// Adds the name of a line's job to the names, and what is wrong with it to the findings. Does nothing if the
-// file's name is bad.
+// Adds the name of a line's job to the names, and what is wrong with it to the findings.
 pub(crate) fn add_job(
     alloc: Global,
     names: &mut Names,
     found: &mut Vec<Finding>,
-    is_named: bool,
     line: u32,
     name: &str,
 ) -> Result<(), AllocError>
     ensures found { OnOk result (found.new.items ≡ found.old.items
-        ++ cons_option (option_map (λ what. finding_at line what) (fault_where is_named names.old name.now)) []) }
-    ensures names { OnOk result (names.new ≡ after_where is_named names.old name.now) }
+        ++ cons_option (option_map (λ what. finding_at line what) (name_fault names.old name.now)) []) }
+    ensures names { OnOk result (names.new ≡ names_after names.old name.now) }
 {
-    if !is_named {
-        return Ok(());
-    }
     if let Some(what) = names.add(alloc, name)? {
         found.push(Finding { line, what })?;
     }

@@ -9,9 +9,9 @@ pub loop-place-preserved : goal.loop-place-preserved
 loop-place-preserved c =
     let f = line_entry c.args.label.now c.args.kind in
     record {
-      found = found_more c.args.is_named c.args.names.now f (λ line. line.now) c.args.lines.now c.loop-place.place _ _ _ _ _
+      found = found_more c.args.names.now f (λ line. line.now) c.args.lines.now c.loop-place.place _ _ _ _ _
           c.loop-place-test.true c.loop-place.invariant.found c.loop-place.invariant.names c.in_ok-add_line.ensures.found;
-      names = names_more c.args.is_named c.args.names.now f (λ line. line.now) c.args.lines.now c.loop-place.place _ _ _
+      names = names_more c.args.names.now f (λ line. line.now) c.args.lines.now c.loop-place.place _ _ _
           c.loop-place-test.true c.loop-place.invariant.names c.in_ok-add_line.ensures.names;
     }
 
@@ -20,7 +20,7 @@ unfolding entries_of_lines
 returns-clause-found c =
     let f = line_entry c.args.label.now c.args.kind in
     c.loop-place.invariant.found
-    ∙ ap (λ entries. c.args.found.now.items ++ entries_findings c.args.is_named c.args.names.now entries)
+    ∙ ap (λ entries. c.args.found.now.items ++ entries_findings c.args.names.now entries)
     (entries_all f (λ line. line.now) c.args.lines.now c.loop-place.place c.loop-place-test.false)
 
 pub returns-clause-names : goal.returns-clause-names
@@ -28,5 +28,5 @@ unfolding entries_of_lines
 returns-clause-names c =
     let f = line_entry c.args.label.now c.args.kind in
     c.loop-place.invariant.names
-    ∙ ap (after_entries c.args.is_named c.args.names.now)
+    ∙ ap (after_entries c.args.names.now)
     (entries_all f (λ line. line.now) c.args.lines.now c.loop-place.place c.loop-place-test.false)

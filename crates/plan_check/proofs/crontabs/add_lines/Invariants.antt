@@ -9,9 +9,9 @@ use Rattle.plan_check.proofs.crontabs.add_lines.Given as goal
 abbrev pub invariant-loop-place : goal.invariant-loop-place
 invariant-loop-place l = record {
   found : l.found.items ≡ l.fn.found.items
-      ++ entries_findings l.is_named l.fn.names
+      ++ entries_findings l.fn.names
       (filter_map (line_entry l.label l.kind) (take l.place (placed (λ line. line.now) l.lines)));
   names : l.names
-      ≡ after_entries l.is_named l.fn.names
+      ≡ after_entries l.fn.names
       (filter_map (line_entry l.label l.kind) (take l.place (placed (λ line. line.now) l.lines)));
 }

@@ -1,0 +1,178 @@
+//! The form of a file: how its bytes are read, and which findings it has.
+
+ghost use Rattle.std.specs.Prelude.{◌≡◌, ◌++◌, Err, IfOk, IfSome, OnOk};
+ghost use Rattle.plan_texts.specs.Steps.{GivesUnless};
+ghost use Rattle.plan_rules.specs.LineFaults.{of_whole, want_of_memory};
+ghost use Rattle.plan_rules.specs.Timer.{timer_reading};
+ghost use Rattle.plan_check.specs.Files.{HasFirst, after_file, after_text, file_findings, file_of, in_file, name_findings, text_findings};
+ghost use Rattle.plan_check.specs.Form.{alone, cause_at_once, form_reading, label_of, name_cause};
+
+use crate::crontabs::add_crontab;
+use crate::finding::Finding;
+use crate::names::Names;
+use crate::report::refuse;
+use crate::timers::add_timer;
+use plan_rules::{
+    CrontabDirectory, Job, Kind, LineCause, LineFault, crontab, crontab_is_its_entries,
+    is_crontab_name, is_timer_name, kind_in, named_crontab, timer,
+};
+use std::alloc::{AllocError, Global};
+
+/// The form of a file, which decides how its bytes are read and how its jobs are named.
+#[derive(Clone, Copy, Debug, PartialEq, Eq)]
+pub enum Form {
+    /// The crontab of one user, or of the system: its jobs have a label (crontab(5)).
+    Crontab(Kind),
+    /// A crontab in a directory: its jobs have the file's name (cron(8) of Debian).
+    Named(CrontabDirectory),
+    /// A timer file: its job has the file's name (systemd.timer(5)).
+    Timer,
+}
+
+impl Form {
+    /// Returns the jobs of a file of this form, as `crontab`, `named_crontab` or `timer` of plan_rules reads them.
+    ///
+    /// # Errors
+    ///
+    /// The errors of that function.
+    pub fn read(self, alloc: Global, name: &str, bytes: &[u8]) -> Result<Vec<Job>, LineFault>
+        ensures meaning { GivesUnless want_of_memory (λ jobs. jobs.items) result
+            (form_reading self name.now bytes.now) }
+        // These errors are found before any memory is requested.
+        ensures at_once { IfSome (cause_at_once self name.now bytes.now)
+            (λ cause. result ≡ Err (of_whole cause)) }
+    {
+        match self {
+            Form::Crontab(kind) => crontab(alloc, label_of(kind), bytes, kind),
+            Form::Named(directory) => named_crontab(alloc, name, bytes, directory),
+            Form::Timer => timer_alone(alloc, name, bytes),
+        }
+    }
+
+    /// Returns all findings of a file of this form, in order. Adds the names of its jobs to `names`, which has
+    /// the names of the jobs before them.
+    ///
+    /// The first finding is that the name is bad: `BadTabName`, see `is_crontab_name`, or `BadTimerName`, see
+    /// `is_timer_name`. A file whose name is bad makes no jobs, so it has no findings about their names. If the text has
+    /// more than 1,048,576 bytes, the next finding is `TooLarge`; else, if it isn't UTF-8, it is `NotUtf8`. Such
+    /// a text has no lines.
+    ///
+    /// The findings of a crontab are those of its lines, in order (crontab(5)):
+    ///
+    /// - A rejected line has one error: the one that `crontab` of plan_rules returns if this line is the first
+    ///   that is rejected.
+    /// - Any other line that isn't empty, a comment or a setting makes a job. If another job has its name, the
+    ///   error is `SameName`. Else, if there are 1,000 jobs, it is `Full`, which is reported once for all files.
+    ///   In both cases the job isn't added.
+    /// - The warnings on the job's rule come last: `NeverStarts`, unless it is `@reboot`, and then `EitherDay`.
+    ///
+    /// The findings of a timer file are these, in this order (systemd.timer(5)):
+    ///
+    /// - `NoTimerSection`, if the text has lines.
+    /// - `SameName` if another job has the file's name. Else `Full` if there are 1,000 jobs, once for all files.
+    /// - The warning `NoEvents` if there is a `[Timer]` section and the list of events is empty at the end.
+    /// - Each event's error, or the warning `NeverStarts`, as `timer_entries` of plan_rules reads it.
+    ///
+    /// # Errors
+    ///
+    /// `AllocError` if an allocation fails. The contract doesn't say what `names` has then.
+    pub fn findings(
+        self,
+        alloc: Global,
+        names: &mut Names,
+        name: &str,
+        bytes: &[u8],
+    ) -> Result<Vec<Finding>, AllocError>
+        ensures found { IfOk result (λ found. found.items ≡ file_findings names.old (file_of self name.now bytes.now)) }
+        ensures names { OnOk result (names.new ≡ after_file names.old (file_of self name.now bytes.now)) }
+        // The first error among the findings of a crontab is the one that `read` returns.
+        ensures first { IfOk result (λ found. HasFirst self found.items (form_reading self name.now bytes.now)) }
+    {
+        crontab_is_its_entries();
+        let mut found = Vec::new(alloc);
+        self.add_name(names, &mut found, name)?;
+        self.add_text(alloc, names, &mut found, name, bytes)?;
+        Ok(found)
+    }
+
+    // Begins the file with a name, and adds what is wrong with the name.
+    fn add_name(
+        self,
+        names: &mut Names,
+        found: &mut Vec<Finding>,
+        name: &str,
+    ) -> Result<(), AllocError>
+        ensures found { OnOk result (found.new.items ≡ found.old.items ++ name_findings self name.now) }
+        ensures names { names.new ≡ in_file names.old self name.now }
+    {
+        let cause = self.name_cause(name);
+        names.begin_file(cause.is_none());
+        match cause {
+            Some(cause) => refuse(found, 0, cause),
+            None => Ok(()),
+        }
+    }
+
+    // Returns what is wrong with the name of a file of this form.
+    fn name_cause(self, name: &str) -> Option<LineCause>
+        ensures { result ≡ name_cause self name.now }
+    {
+        match self {
+            Form::Crontab(_) => None,
+            Form::Named(directory) if is_crontab_name(directory, name.as_bytes()) => None,
+            Form::Named(_) => Some(LineCause::BadTabName),
+            Form::Timer if is_timer_name(name.as_bytes()) => None,
+            Form::Timer => Some(LineCause::BadTimerName),
+        }
+    }
+
+    // Adds the findings of the text of a file of this form.
+    fn add_text(
+        self,
+        alloc: Global,
+        names: &mut Names,
+        found: &mut Vec<Finding>,
+        name: &str,
+        bytes: &[u8],
+    ) -> Result<(), AllocError>
+        ensures found { OnOk result (found.new.items ≡ found.old.items
+            ++ text_findings names.old self name.now bytes.now) }
+        ensures names { OnOk result (names.new ≡ after_text names.old self name.now bytes.now) }
+    {
+        match self {
+            Form::Crontab(kind) => add_crontab(alloc, names, found, label_of(kind), kind, bytes),
+            Form::Named(directory) => add_crontab(
+                alloc,
+                names,
+                found,
+                name,
+                kind_in(directory),
+                bytes,
+            ),
+            Form::Timer => add_timer(alloc, names, found, name, bytes),
+        }
+    }
+}
+
+// Returns the label of the jobs of the crontab of one user, or of the system.
+fn label_of(kind: Kind) -> &'static str
+    ensures { result.now ≡ label_of kind }
+{
+    match kind {
+        Kind::User => "cron",
+        Kind::System => "system",
+    }
+}
+
+// Reads the one job of a timer.
+fn timer_alone(alloc: Global, name: &str, bytes: &[u8]) -> Result<Vec<Job>, LineFault>
+    ensures meaning { GivesUnless want_of_memory (λ jobs. jobs.items) result
+        (alone (timer_reading name.now bytes.now)) }
+    ensures at_once { IfSome (cause_at_once Form.Timer name.now bytes.now)
+        (λ cause. result ≡ Err (of_whole cause)) }
+{
+    let job = timer(alloc, name, bytes)?;
+    let mut jobs = Vec::new(alloc);
+    jobs.push(job)?;
+    Ok(jobs)
+}
