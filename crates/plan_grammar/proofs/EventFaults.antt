@@ -2,30 +2,23 @@
 -- definition gives such an error.
 -- `all_words` is for the clauses `memory` and `specifier` of `calendar_event`. There is one lemma for each definition
 -- in the reading of an event, from a component's number up, which it unfolds; TextFaults puts the parts together.
-use Rattle.std.proofs.Common.{ℕ, ◌||◌, not, List, [], ◌∷◌, codes, length, eqb, Option, Some, None}
-use Rattle.std.specs.Str.{str_eq_ignore_ascii_case}
+use Rattle.std.proofs.Common.{ℕ, ◌||◌, not, List, [], ◌∷◌, codes, length, eqb, Option, Some, None, arith}
+use Rattle.std.proofs.lemmas.Bool.Decides.{nat_tests}
 use Rattle.plan_grammar.specs.declared.fault.RuleCause.TheVariants.{BadName}
 use Rattle.plan_grammar.specs.declared.element.Side.{Side}
-use Rattle.plan_grammar.specs.declared.element.Side.TheVariants.{Star, Value, Between}
 use Rattle.plan_grammar.specs.declared.component.Component.{Component}
 use Rattle.plan_grammar.specs.declared.component.Component.TheVariants.{Year, Month, Day, Place, Hour, Minute, Second}
 use Rattle.std.specs.Char.{is_ascii_alphabetic}
 use Rattle.plan_texts.specs.Text.{begins_with, words, pieces, cut_at}
-use Rattle.plan_grammar.specs.Shape.{ShapeText, date_from_start, date_from_end, cut_date, date_reading, time_of_pieces, time_reading, is_time, one_word, two_words, dated, shape_reading}
-use Rattle.plan_grammar.specs.Event.{holds_byte, component_part, component_number, component_value, component_side, component_item_of, component_item, component_items, component_set, component_reading, weekday_of, weekday_reading, weekday_span, weekday_item, without_comma, weekday_items, weekdays_reading, weekdays_if_given, day_component, event_of, spelled_out, has_zone, last_word, zone_dropped, expression_of, is_unknown_word, lone_word, zoneless, words_reading}
+use Rattle.plan_grammar.specs.Shape.{ShapeText, cut_date, date_reading, time_of_pieces, time_reading, is_time, one_word, two_words, dated, shape_reading}
+use Rattle.plan_grammar.specs.Event.{component_part, component_number, component_value, component_side, component_item_of, component_item, component_items, component_set, component_reading, weekday_of, weekday_reading, weekday_span, weekday_item, without_comma, weekday_items, weekdays_reading, weekdays_if_given, day_component, event_of, spelled_out, zone_dropped, expression_of, is_unknown_word, lone_word, zoneless, words_reading}
 use Rattle.plan_texts.specs.EachLaws.{err_steps, err_each, err_choice}
-use Rattle.plan_grammar.proofs.TextFaults.{IsTextFault, or_fault, number, side_of, cut_item, list_values}
+use Rattle.plan_grammar.proofs.TextFaults.{IsTextFault, or_fault, side_of, cut_item, list_values}
 
 -- a component's number
 digits : (component : Component) (text : List ℕ) → IsTextFault (component_number component text)
 unfolding component_number
-digits Year text = number 2 text
-digits Month text = number 3 text
-digits Day text = number 4 text
-digits Place text = number 4 text
-digits Hour text = number 5 text
-digits Minute text = number 6 text
-digits Second text = err_choice _ (holds_byte 46 text) _ _ tt (number 7 text)
+digits component text = grind (arith, nat_tests)
 
 value : (component : Component) (text : List ℕ) → IsTextFault (component_value component text)
 unfolding component_value
@@ -42,16 +35,7 @@ unfolding component_side
 side component text = side_of (component_value component) (value component) (codes "..") text
 
 item_form : (component : Component) (left : Side) (n : Option ℕ) → IsTextFault (component_item_of component left n)
-item_form Year left n = tt
-item_form Month left n = tt
-item_form Day left n = tt
-item_form Place Star None = tt
-item_form Place Star (Some n) = tt
-item_form Place (Value a) n = tt
-item_form Place (Between a b) n = tt
-item_form Hour left n = tt
-item_form Minute left n = tt
-item_form Second left n = tt
+item_form component left n = grind (arith, nat_tests)
 
 item : (component : Component) (text : List ℕ) → IsTextFault (component_item component text)
 unfolding component_item
@@ -93,33 +77,15 @@ maybe_weekdays : (text : Option (List ℕ)) → IsTextFault (weekdays_if_given t
 maybe_weekdays None = tt
 maybe_weekdays (Some text) = err_steps _ (weekdays_reading text) _ (weekdays text) (λ days. tt)
 
-from_start : (texts : List (List ℕ)) → IsTextFault (date_from_start texts)
-from_start [] = tt
-from_start (a ∷ []) = tt
-from_start (a ∷ b ∷ []) = tt
-from_start (a ∷ b ∷ c ∷ []) = tt
-from_start (a ∷ b ∷ c ∷ d ∷ more) = tt
-
-from_end : (texts : List (List ℕ)) (day : List ℕ) → IsTextFault (date_from_end texts day)
-from_end [] day = tt
-from_end (a ∷ []) day = tt
-from_end (a ∷ b ∷ []) day = tt
-from_end (a ∷ b ∷ c ∷ more) day = tt
-
 cut_day : (text : List ℕ) (cut : Option (List ℕ × List ℕ)) → IsTextFault (cut_date text cut)
-cut_day text None = from_start (pieces 45 text)
-cut_day text (Some cut) = from_end (pieces 45 cut.0) cut.1
+cut_day text cut = grind (arith, nat_tests)
 
 date : (text : List ℕ) → IsTextFault (date_reading text)
 unfolding date_reading
 date text = cut_day text (cut_at (codes "~") text)
 
 time_pieces : (texts : List (List ℕ)) → IsTextFault (time_of_pieces texts)
-time_pieces [] = tt
-time_pieces (a ∷ []) = tt
-time_pieces (a ∷ b ∷ []) = tt
-time_pieces (a ∷ b ∷ c ∷ []) = tt
-time_pieces (a ∷ b ∷ c ∷ d ∷ more) = tt
+time_pieces texts = grind (arith, nat_tests)
 
 time : (text : List ℕ) → IsTextFault (time_reading text)
 unfolding time_reading
@@ -163,8 +129,7 @@ spelled texts = err_steps _ (shape_reading texts) _ (shape texts) parts
 
 zone : (texts : List (List ℕ)) → IsTextFault (zone_dropped texts)
 unfolding zone_dropped
-zone texts =
-    err_choice _ (has_zone texts) _ _ (err_choice _ (str_eq_ignore_ascii_case (last_word texts) (codes "utc")) _ _ tt tt) tt
+zone texts = grind (arith, nat_tests)
 
 lone : (word : List ℕ) (expression : Option (List ℕ)) → IsTextFault (lone_word word expression)
 lone word (Some expression) = spelled (words expression)

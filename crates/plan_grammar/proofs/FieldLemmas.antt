@@ -1,5 +1,6 @@
 -- A text without a comma is one element. For `Field::values`, which reads such a text without a list.
-use Rattle.std.proofs.Common.{◌≡◌, ℕ, ◌==◌, ◌||◌, Bool, true, false, cond, List, [], ◌∷◌, Ok, Err, refl, ap, ◌∙◌, true≢false}
+use Rattle.std.proofs.Common.{◌≡◌, ℕ, ◌==◌, ◌||◌, Bool, false, cond, List, [], ◌∷◌, Ok, Err, refl, ap, ◌∙◌, arith}
+use Rattle.std.proofs.lemmas.Bool.Decides.{nat_tests}
 use Rattle.std.specs.List.{slice_split, onto_first, list_any}
 use Rattle.plan_sets.specs.declared.item.Item.{Item}
 use Rattle.plan_sets.specs.Items.{set_reading}
@@ -14,8 +15,7 @@ use Rattle.plan_grammar.specs.Elements.{set_in_part, values_by}
 one_ahead :
     (x : ℕ) (xs : List ℕ) (pieces : List (List ℕ)) (here later : Bool) → (here || later) ≡ false →
     (later ≡ false → pieces ≡ xs ∷ []) → cond here ([] ∷ pieces) (onto_first x pieces) ≡ (x ∷ xs) ∷ []
-one_ahead x xs pieces true later none rest = absurd (true≢false none)
-one_ahead x xs pieces false later none rest = ap (onto_first x) (rest none)
+one_ahead x xs pieces here later given given₂ = grind (arith, nat_tests)
 
 -- if no byte passes the test, the text is one piece
 one_piece : (p : ℕ → Bool) (text : List ℕ) → list_any p text ≡ false → slice_split p text ≡ text ∷ []
@@ -50,5 +50,4 @@ one_item-fault field text fault none read =
 
 -- a result that equals the reading gives it
 pub given : {A : Type 0} (answer reading : Reading A) → reading ≡ answer → Gives answer reading
-given (Ok x) reading is = is
-given (Err fault) reading is = λ kept. is
+given answer reading is = grind (arith, nat_tests)

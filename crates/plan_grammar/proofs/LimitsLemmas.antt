@@ -1,7 +1,7 @@
 -- The sets of a rule that was read are within the limits of their fields.
 -- For clause `within` of `cron_rule` and `calendar_event`. A set has those values of its span that pass a test
 -- (`span`), so it is within the span; `ok_steps` carries that through each definition of a reading.
-use Rattle.std.proofs.Common.{◌≡◌, ℕ, ◌+◌, ◌-◌, Bool, true, List, [], ◌∷◌, Option, Some, None, Result, Ok, Err, IfOk, IfSome, refl, arith, subst, sym, ◌∙◌}
+use Rattle.std.proofs.Common.{◌≡◌, ℕ, ◌+◌, ◌-◌, Bool, true, List, [], ◌∷◌, Option, Some, None, Result, IfOk, IfSome, refl, arith, subst, sym, ◌∙◌}
 use Rattle.std.proofs.lemmas.Bool.Decides.{nat_tests}
 use Rattle.std.specs.Int.{IsInRange}
 use Rattle.std.specs.List.{list_any}
@@ -32,8 +32,7 @@ use Rattle.plan_grammar.specs.Event.{component_items, component_set, component_r
 -- ---- readings
 
 any_value : {A : Type 0} (r : Reading A) → IfOk r (λ x. Unit {0})
-any_value (Ok x) = tt
-any_value (Err fault) = tt
+any_value r = grind (arith, nat_tests)
 
 then : {A B : Type 0} (P : B → Type 0) (r : Reading A) (next : A → Reading B) → ((x : A) → IfOk (next x) P) → IfOk (r >>= next) P
 then P r next later = ok_steps (λ x. Unit {0}) P r next (any_value r) (λ x any. later x)
@@ -42,8 +41,7 @@ then P r next later = ok_steps (λ x. Unit {0}) P r next (any_value r) (λ x any
 pub answered :
     {A : Type 0} (P : A → Type 0) (answer : Result A RuleFault) (reading : Reading A) → Gives answer reading → IfOk reading P →
     IfOk answer P
-answered P (Ok x) reading gives own = let Q : Reading _ → Type 0 = λ r. IfOk r P in subst Q gives own
-answered P (Err fault) reading gives own = tt
+answered P answer reading given given₂ = grind (arith, nat_tests)
 
 -- ---- sets
 
@@ -57,8 +55,7 @@ span first count last test ends = λ v has.
 
 unless_fault :
     (P : SetOfValues → Type 0) (values : SetOfValues) (fault : Option SetFault) → P values → IfOk (values_or_fault values fault) P
-unless_fault P values None own = own
-unless_fault P values (Some fault) own = tt
+unless_fault P values fault given = grind (arith, nat_tests)
 
 -- so are the values of items
 items_within :
@@ -71,8 +68,7 @@ items_within items first last count counted ends =
     subst P (sym counted) (span first count last (λ v. list_any (λ item. belongs item v) items) ends))
 
 in_part : (P : SetOfValues → Type 0) (part : ℕ) (r : Result SetOfValues SetFault) → IfOk r P → IfOk (set_in_part part r) P
-in_part P part (Ok values) own = own
-in_part P part (Err fault) own = tt
+in_part P part r given = grind (arith, nat_tests)
 
 list_within :
     (P : SetOfValues → Type 0) (part : ℕ) (set : List Item → Result SetOfValues SetFault) (forms : Reading (List Item)) →
@@ -228,15 +224,7 @@ no_zone (word ∷ []) = lone word (expression_of word)
 no_zone (first ∷ second ∷ others) = spelled (first ∷ second ∷ others)
 
 named : (names_zone : Bool) (event : Calendar) → EventIsWithinLimits event → EventIsWithinLimits (with_own_zone names_zone event)
-named names_zone event own = record {
-  years = own.years;
-  months = own.months;
-  days = own.days;
-  hours = own.hours;
-  minutes = own.minutes;
-  seconds = own.seconds;
-  weekdays = own.weekdays;
-}
+named names_zone event own = grind (arith, nat_tests)
 
 all_words : (texts : List (List ℕ)) → IfOk (words_reading texts) EventIsWithinLimits
 unfolding words_reading

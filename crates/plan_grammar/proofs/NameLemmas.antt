@@ -1,7 +1,8 @@
 -- How a name is found in a table.
 -- For `named_value` of a field, for `at_word`, and for `rule_of` (`other_at_words`). The code searches a table of
 -- borrowed texts, the definition a table of texts. By induction over the table both find the same place or row.
-use Rattle.std.proofs.Common.{◌≡◌, ℕ, ◌+◌, ◌<◌, arith, get_or, Bool, true, false, cond, List, [], ◌∷◌, length, ◌==◌, map, find, position, Option, Some, None, refl, ap, sym, ◌∙◌}
+use Rattle.std.proofs.Common.{◌≡◌, ℕ, ◌+◌, ◌<◌, arith, get_or, Bool, true, false, cond, List, [], ◌∷◌, length, ◌==◌, map, find, position, Option, Some, refl, ap, sym, ◌∙◌}
+use Rattle.std.proofs.lemmas.Bool.Decides.{nat_tests}
 use Rattle.std.proofs.lemmas.List.{length-map}
 use Rattle.std.specs.List.{prefix_len}
 use Rattle.std.specs.Option.{option_map}
@@ -39,8 +40,7 @@ named_by_place v field name names place shown is =
     (is ∙ sym (position-map (str_eq_ignore_ascii_case name) v names) ∙ ap (position (str_eq_ignore_ascii_case name)) shown)
 
 twice : {X Y Z : Type 0} (v : X → Y) (w : Y → Z) (o : Option X) → option_map (λ x. w (v x)) o ≡ option_map w (option_map v o)
-twice v w None = refl
-twice v w (Some x) = refl
+twice v w o = grind (arith, nat_tests)
 
 -- what the table has for a word, in the table of borrowed texts
 pub found_by_word :

@@ -2,7 +2,6 @@
 -- For the loops of `first_fault` (`first_place_fault-push`, `-found`) and of `listed_places` (the rest). Errors are by
 -- induction over the items: the first error stays the first. Places are a case split on whether a value is the place of the turn.
 use Rattle.std.proofs.Common.{◌≡◌, ℕ, ◌+◌, Bool, true, false, ◌&&◌, ◌||◌, nat_eq, List, [], ◌∷◌, ◌++◌, take, drop, Option, Some, None, refl, ap, sym, ◌∙◌, arith, inl, inr, take-append-drop, ◌⊎◌}
-use Rattle.std.proofs.lemmas.Bool.{cases_eq}
 use Rattle.std.proofs.lemmas.Bool.Decides.{nat_tests}
 use Rattle.plan_sets.specs.declared.item.Item.{Item}
 use Rattle.plan_sets.specs.declared.item.SetFault.{SetFault}
@@ -12,8 +11,7 @@ use Rattle.plan_sets.specs.ValuesLaws.{same_values, has_value-values_where, base
 use Rattle.plan_grammar.specs.Event.{place_fault, first_place_fault}
 
 fault_or-None : (fault : Option SetFault) → fault_or fault None ≡ fault
-fault_or-None None = refl
-fault_or-None (Some fault) = refl
+fault_or-None fault = grind (arith, nat_tests)
 
 cases_fault : (fault : Option SetFault) → (fault ≡ None) ⊎ ((f : SetFault) × (fault ≡ Some f))
 cases_fault None = inl refl
@@ -64,21 +62,13 @@ none_yet b v = grind (arith, nat_tests)
 pub place_added :
     (b : Bool) (test : ℕ → Bool) (n v : ℕ) → test (n + 1) ≡ true → b ≡ (is_among 1 n v && test v) →
     (nat_eq v (n + 1) || b) ≡ (is_among 1 (n + 1) v && test v)
-place_added b test n v passes is =
-    rw is (elim (cases_eq v (n + 1)) [
-      | inl same ↦ rw (same, passes) (grind (arith, nat_tests))
-      | inr apart ↦ grind (arith, nat_tests)
-    ])
+place_added b test n v passes is = grind (arith, nat_tests)
 
 -- one more place, which isn't listed
 pub place_passed :
     (b : Bool) (test : ℕ → Bool) (n v : ℕ) → test (n + 1) ≡ false → b ≡ (is_among 1 n v && test v) →
     b ≡ (is_among 1 (n + 1) v && test v)
-place_passed b test n v fails is =
-    rw is (elim (cases_eq v (n + 1)) [
-      | inl same ↦ rw (same, fails) (grind (arith, nat_tests))
-      | inr apart ↦ grind (arith, nat_tests)
-    ])
+place_passed b test n v fails is = grind (arith, nat_tests)
 
 -- all places up to the last are collected
 pub places_collected :

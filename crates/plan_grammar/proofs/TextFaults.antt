@@ -2,23 +2,21 @@
 -- no definition gives such an error.
 -- For clause `memory` of `cron_rule`, and for `memory` and `specifier` of `calendar_event`. There is one lemma for each
 -- definition in the reading of a cron text, which it unfolds; `err_steps`, `err_each` and `err_choice` put the parts together.
-use Rattle.std.proofs.Common.{◌≡◌, ◌≢◌, ℕ, List, [], ◌∷◌, codes, length, eqb, Option, Some, None, Result, Ok, Err, ok_or, IfErr, ap, subst, inl, inr}
-use Rattle.std.proofs.lemmas.Bool.{cases_eq}
+use Rattle.std.proofs.Common.{◌≡◌, ◌≢◌, ℕ, List, [], ◌∷◌, codes, length, eqb, Option, Some, None, Result, Err, ok_or, IfErr, arith}
+use Rattle.std.proofs.lemmas.Bool.Decides.{nat_tests}
 use Rattle.std.specs.Str.{bytes_eq}
-use Rattle.std.specs.Char.{is_ascii_alphabetic}
 use Rattle.plan_sets.specs.declared.item.SetFault.{SetFault}
 use Rattle.plan_sets.specs.Values.{Values as SetOfValues}
 use Rattle.plan_grammar.specs.declared.fault.RuleFault.{RuleFault}
 use Rattle.plan_grammar.specs.declared.fault.RuleCause.{RuleCause}
-use Rattle.plan_grammar.specs.declared.fault.RuleCause.TheVariants.{NoMemory, BadName, Specifier}
+use Rattle.plan_grammar.specs.declared.fault.RuleCause.TheVariants.{NoMemory, Specifier}
 use Rattle.plan_grammar.specs.declared.field.Field.{Field}
 use Rattle.plan_grammar.specs.declared.field.Field.TheVariants.{Minute, Hour, MonthDay, Month, WeekDay}
 use Rattle.plan_grammar.specs.declared.element.Side.{Side}
-use Rattle.plan_grammar.specs.declared.element.Side.TheVariants.{Star, Value, Between}
 use Rattle.plan_texts.specs.Text.{words, begins_with, cut_at, decimal_number, pieces}
 use Rattle.plan_texts.specs.EachLaws.{err_steps, err_each, err_choice}
 use Rattle.plan_grammar.specs.Readings.{Reading, Gives}
-use Rattle.plan_grammar.specs.Cron.{part_of, named_value, value_reading, step_reading, side_reading, item_of, item_reading, items_reading, field_reading, five_fields, at_reading, rule_reading, cron_reading, at_word, found_reading}
+use Rattle.plan_grammar.specs.Cron.{part_of, value_reading, step_reading, side_reading, item_of, item_reading, items_reading, field_reading, five_fields, at_reading, rule_reading, cron_reading, at_word, found_reading}
 use Rattle.plan_grammar.specs.Elements.{number_reading, span_by, side_by, cut_item_by, set_in_part, values_by}
 use Rattle.plan_sets.specs.declared.item.Item.{Item}
 
@@ -33,8 +31,7 @@ abbrev pub IsTextFault : {A : Type 0} → Reading A → Type 0
 IsTextFault reading = IfErr reading (λ fault. IsTextCause fault.cause)
 
 pub or_fault : {A : Type 0} (o : Option A) (fault : RuleFault) → IsTextCause fault.cause → IsTextFault (ok_or o fault)
-or_fault None fault other = other
-or_fault (Some x) fault other = tt
+or_fault o fault given = grind (arith, nat_tests)
 
 -- a number
 pub number : (part : ℕ) (text : List ℕ) → IsTextFault (number_reading part text)
@@ -43,9 +40,7 @@ number part text = err_choice _ (eqb (length text) 0) _ _ tt (or_fault (decimal_
 span :
     (value : List ℕ → Reading ℕ) → ((t : List ℕ) → IsTextFault (value t)) → (text : List ℕ) (cut : Option (List ℕ × List ℕ)) →
     IsTextFault (span_by value text cut)
-span value own text None = err_steps _ (value text) _ (own text) (λ a. tt)
-span value own text (Some ends) =
-    err_steps _ (value ends.0) _ (own ends.0) (λ a. err_steps _ (value ends.1) _ (own ends.1) (λ b. tt))
+span value given text cut = grind (arith, nat_tests)
 
 -- what comes before a step, given how a value is read
 pub side_of :
@@ -59,14 +54,10 @@ pub cut_item :
     ((t : List ℕ) → IsTextFault (side t)) → ((t : List ℕ) → IsTextFault (step t)) →
     ((s : Side) (n : Option ℕ) → IsTextFault (meaning s n)) → (text : List ℕ) (cut : Option (List ℕ × List ℕ)) →
     IsTextFault (cut_item_by side step meaning text cut)
-cut_item side step meaning own_side own_step own text None = err_steps _ (side text) _ (own_side text) (λ left. own left None)
-cut_item side step meaning own_side own_step own text (Some cut) =
-    err_steps _ (side cut.0) _ (own_side cut.0)
-    (λ left. err_steps _ (step cut.1) _ (own_step cut.1) (λ n. own left (Some n)))
+cut_item side step meaning given given₂ given₃ text cut = grind (arith, nat_tests)
 
 set_form : (part : ℕ) (r : Result SetOfValues SetFault) → IsTextFault (set_in_part part r)
-set_form part (Ok s) = tt
-set_form part (Err fault) = tt
+set_form part r = grind (arith, nat_tests)
 
 -- the values of a list
 pub list_values :
@@ -76,10 +67,7 @@ list_values part set forms own = err_steps _ forms _ own (λ xs. set_form part (
 
 value : (field : Field) (text : List ℕ) → IsTextFault (value_reading field text)
 unfolding value_reading
-value field text =
-    err_choice _ (eqb (length text) 0) _ _ tt
-    (err_choice _ (begins_with is_ascii_alphabetic text) _ _
-    (or_fault (named_value field text) (record { part = part_of field; cause = BadName }) tt) (or_fault (decimal_number text) _ tt))
+value field text = grind (arith, nat_tests)
 
 step : (field : Field) (text : List ℕ) → IsTextFault (step_reading field text)
 unfolding step_reading
@@ -90,12 +78,7 @@ unfolding side_reading
 side field text = side_of (value_reading field) (value field) (codes "-") text
 
 item_form : (field : Field) (left : Side) (n : Option ℕ) → IsTextFault (item_of field left n)
-item_form field Star None = tt
-item_form field Star (Some n) = tt
-item_form field (Value a) None = tt
-item_form field (Value a) (Some n) = tt
-item_form field (Between a b) None = tt
-item_form field (Between a b) (Some n) = tt
+item_form field left n = grind (arith, nat_tests)
 
 item : (field : Field) (text : List ℕ) → IsTextFault (item_reading field text)
 unfolding item_reading
@@ -146,30 +129,14 @@ rule (first ∷ others) =
 pub cron : (text : List ℕ) → IsTextFault (cron_reading text)
 cron text = rule (words text)
 
-without_cause :
-    {A : Type 0} (cause : RuleCause) → (IsTextCause cause → ⊥) → (reading : Reading A) (fault : RuleFault) → IsTextFault reading →
-    reading ≡ Err fault → fault.cause ≢ cause
-without_cause cause none (Ok x) fault own is = absurd cc
-without_cause cause none (Err other) fault own is = λ e. let same : other.cause ≡ cause = cc in none (subst IsTextCause same own)
-
 -- so if a call with such a reading fails because of an allocation, its part is 0
 pub part_of_memory :
     {A : Type 0} (answer : Result A RuleFault) (reading : Reading A) → Gives answer reading → IsTextFault reading →
     IfErr answer (λ fault. fault.cause ≡ NoMemory → fault.part ≡ 0)
-part_of_memory (Ok x) reading gives own = tt
-part_of_memory (Err fault) reading gives own = λ is.
-    elim (cases_eq fault.part 0) [
-      | inl none ↦ none
-      | inr some ↦ absurd (without_cause NoMemory (λ no. no) reading fault own
-          (gives (λ same. some (ap (λ (f : RuleFault). f.part) same))) is)
-    ]
+part_of_memory answer reading given given₂ = grind (arith, nat_tests)
 
 -- and it never reports a specifier
 pub no_specifier :
     {A : Type 0} (answer : Result A RuleFault) (reading : Reading A) (fault : RuleFault) → Gives answer reading →
     IsTextFault reading → fault.cause ≡ Specifier → answer ≢ Err fault
-no_specifier (Ok x) reading fault gives own is same = cc
-no_specifier (Err other) reading fault gives own is same =
-    let here : other.cause ≡ Specifier = cc in
-    without_cause Specifier (λ no. no) reading other own
-    (gives (λ memory. let there : other.cause ≡ NoMemory = ap (λ (f : RuleFault). f.cause) memory in cc)) here
+no_specifier answer reading fault given given₂ given₃ = grind (arith, nat_tests)

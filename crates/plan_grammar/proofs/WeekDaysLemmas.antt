@@ -1,8 +1,7 @@
 -- The days of a week, collected day by day.
 -- For the loop of `week_days` (`day_added`, `day_passed`) and its end (`collected`). A turn is a case split on whether
 -- a value is the day of the turn. At the end `week_days_of` is unfolded: two sets with the same members are equal.
-use Rattle.std.proofs.Common.{◌≡◌, ℕ, ◌+◌, Bool, true, false, ◌&&◌, ◌||◌, nat_eq, nat_lt, ap, sym, ◌∙◌, arith, inl, inr}
-use Rattle.std.proofs.lemmas.Bool.{cases_eq}
+use Rattle.std.proofs.Common.{◌≡◌, ℕ, ◌+◌, Bool, true, false, ◌&&◌, ◌||◌, nat_eq, nat_lt, ap, sym, ◌∙◌, arith}
 use Rattle.std.proofs.lemmas.Bool.Decides.{nat_tests}
 use Rattle.plan_sets.specs.Values.{Values, has_value, values_where, is_among}
 use Rattle.plan_sets.specs.ValuesLaws.{same_values, has_value-values_where, base-values_where}
@@ -27,17 +26,9 @@ collected written days base members =
 pub day_added :
     (b : Bool) (test : ℕ → Bool) (day v : ℕ) → test day ≡ true → b ≡ (nat_lt v day && test v) →
     (nat_eq v day || b) ≡ (nat_lt v (day + 1) && test v)
-day_added b test day v passes is =
-    rw is (elim (cases_eq v day) [
-      | inl same ↦ rw (same, passes) (grind (arith, nat_tests))
-      | inr apart ↦ grind (arith, nat_tests)
-    ])
+day_added b test day v passes is = grind (arith, nat_tests)
 
 -- one more day, which was not written
 pub day_passed :
     (b : Bool) (test : ℕ → Bool) (day v : ℕ) → test day ≡ false → b ≡ (nat_lt v day && test v) → b ≡ (nat_lt v (day + 1) && test v)
-day_passed b test day v fails is =
-    is ∙ elim (cases_eq v day) [
-      | inl same ↦ rw (same, fails) (grind (arith, nat_tests))
-      | inr apart ↦ grind (arith, nat_tests)
-    ]
+day_passed b test day v fails is = grind (arith, nat_tests)
