@@ -3,11 +3,12 @@
 -- before one of an earlier second.
 use Rattle.std.proofs.Common.{◌≡◌, ℕ, zero, suc, ◌+◌, ◌-◌, ◌<◌, ◌≤◌, Bool, true, false, cond, List, [], ◌∷◌, ◌++◌, arith}
 use Rattle.std.specs.List.{range_with_len, flat_map}
+use Rattle.std.proofs.lemmas.Bool.Decides.{nat_tests}
 use Rattle.plan_match.specs.declared.rule.Rule.{Rule}
 use Rattle.plan_next.specs.Starts.{is_start}
 use Rattle.plan_collect.specs.Span.{Bounds}
 use Rattle.plan_collect.specs.Agenda.{row_from, agenda}
-use Rattle.plan_collect.proofs.StartsLemmas.{before_false, is_before, NoneBefore, Ascends}
+use Rattle.plan_collect.proofs.StartsLemmas.{is_before, NoneBefore, Ascends}
 
 NoneBefore-append : (x : ℕ × ℕ) (xs ys : List (ℕ × ℕ)) → NoneBefore x xs → NoneBefore x ys → NoneBefore x (xs ++ ys)
 NoneBefore-append x [] ys none others = others
@@ -17,25 +18,19 @@ none_step : (is : Bool) (x y : ℕ × ℕ) (row : List (ℕ × ℕ)) → is_befo
 none_step true x y row here none = (here, none)
 none_step false x y row here none = none
 
--- in a row, no entry comes before one of the same second and an earlier job
-NoneBefore-row : (n j job : ℕ) (rules : List Rule) → j ≤ job → NoneBefore (n, j) (row_from job rules n)
-NoneBefore-row n j job [] low = tt
-NoneBefore-row n j job (rule ∷ rules) low =
-    none_step (is_start rule n) (n, j) (n, job) (row_from (job + 1) rules n)
-    (before_false (n, job) (n, j) (omega arith, λ same. low)) (NoneBefore-row n j (job + 1) rules (omega arith))
-
--- in a row, no entry comes before one of an earlier second
-NoneBefore-later : (m j n job : ℕ) (rules : List Rule) → m < n → NoneBefore (m, j) (row_from job rules n)
-NoneBefore-later m j n job [] lt = tt
-NoneBefore-later m j n job (rule ∷ rules) lt =
-    none_step (is_start rule n) (m, j) (n, job) (row_from (job + 1) rules n)
-    (before_false (n, job) (m, j) (omega arith, λ same. absurd (omega arith))) (NoneBefore-later m j n (job + 1) rules lt)
+-- in a row, no entry comes before one that comes before all its places
+NoneBefore-row :
+    (x : ℕ × ℕ) (n job : ℕ) (rules : List Rule) → ((k : ℕ) → job ≤ k → is_before (n, k) x ≡ false) → NoneBefore x (row_from job rules n)
+NoneBefore-row x n job [] first = tt
+NoneBefore-row x n job (rule ∷ rules) first =
+    none_step (is_start rule n) x (n, job) (row_from (job + 1) rules n) (first job (omega arith))
+    (NoneBefore-row x n (job + 1) rules (λ k low. first k (omega arith)))
 
 NoneBefore-rows : (m j : ℕ) (rules : List Rule) (a k : ℕ) → m < a → NoneBefore (m, j) (flat_map (row_from 0 rules) (range_with_len a k))
 NoneBefore-rows m j rules a zero lt = tt
 NoneBefore-rows m j rules a (suc k) lt =
     NoneBefore-append (m, j) (row_from 0 rules a) (flat_map (row_from 0 rules) (range_with_len (a + 1) k))
-    (NoneBefore-later m j a 0 rules lt) (NoneBefore-rows m j rules (a + 1) k (omega arith))
+    (NoneBefore-row (m, j) a 0 rules (λ k low. grind (arith, nat_tests))) (NoneBefore-rows m j rules (a + 1) k (omega arith))
 
 ascends_step :
     (is : Bool) (x : ℕ × ℕ) (row ys : List (ℕ × ℕ)) → NoneBefore x (row ++ ys) → Ascends (row ++ ys) →
@@ -50,7 +45,7 @@ Ascends-row :
 Ascends-row n job [] ys none up = up
 Ascends-row n job (rule ∷ rules) ys none up =
     ascends_step (is_start rule n) (n, job) (row_from (job + 1) rules n) ys
-    (NoneBefore-append (n, job) (row_from (job + 1) rules n) ys (NoneBefore-row n job (job + 1) rules (omega arith)) (none job))
+    (NoneBefore-append (n, job) (row_from (job + 1) rules n) ys (NoneBefore-row (n, job) n (job + 1) rules (λ k low. grind (arith, nat_tests))) (none job))
     (Ascends-row n (job + 1) rules ys none up)
 
 Ascends-rows : (rules : List Rule) (a k : ℕ) → Ascends (flat_map (row_from 0 rules) (range_with_len a k))

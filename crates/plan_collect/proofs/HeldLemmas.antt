@@ -5,46 +5,31 @@ use Rattle.std.proofs.Common.{◌≡◌, ℕ, zero, suc, ◌+◌, ◌-◌, ◌<�
 use Rattle.std.specs.Prelude.{slice_get, slice_index, slice_set}
 use Rattle.std.specs.List.{range_with_len, flat_map, list_all}
 use Rattle.std.proofs.lemmas.Bool.{and_parts, eqb-true}
-use Rattle.std.proofs.lemmas.List.Elements.{filter-append}
+use Rattle.std.proofs.lemmas.List.{length-map, map-append}
 use Rattle.plan_match.specs.declared.rule.Rule.{Rule}
-use Rattle.plan_next.specs.Starts.{is_start, starts, passing}
+use Rattle.plan_next.specs.Starts.{is_start, passing, starts}
+use Rattle.plan_next.specs.StartsLaws.{passing-append}
 use Rattle.plan_collect.specs.Span.{Bounds}
 use Rattle.plan_collect.specs.Agenda.{row_from}
 use Rattle.plan_collect.specs.Collecting.{held_from, weigh}
 use Rattle.plan_collect.proofs.StartsLemmas.{weigh-append}
 
--- a range is cut in two
-range-append : (a m n : ℕ) → range_with_len a (m + n) ≡ range_with_len a m ++ range_with_len (a + m) n
-range-append a zero n =
-    let none : 0 + n ≡ n = omega arith in
-    let here : a + 0 ≡ a = omega arith in
-    rw (none, here) refl
-range-append a (suc m) n =
-    let more : suc m + n ≡ suc (m + n) = omega arith in
-    let place : a + suc m ≡ a + 1 + m = omega arith in
-    rw (more, place) (ap (λ xs. a ∷ xs) (range-append (a + 1) m n))
-
-pub starts-append : (rule : Rule) (a b c : ℕ) → a ≤ b → b ≤ c → starts rule a c ≡ starts rule a b ++ starts rule b c
-unfolding passing
-starts-append rule a b c low high =
-    let test = is_start rule in
-    let sum : c - a ≡ b - a + (c - b) = omega arith in
-    let place : a + (b - a) ≡ b = omega arith in
-    let cut : range_with_len a (c - a) ≡ range_with_len a (b - a) ++ range_with_len b (c - b) = rw sum
-    (range-append a (b - a) (c - b) ∙ (rw place refl)) in
-    ap (filter test) cut ∙ filter-append test (range_with_len a (b - a)) (range_with_len b (c - b))
-
 -- the entries of one job
 abbrev pub entries_of : (job : ℕ) → List ℕ → List (ℕ × ℕ)
 entries_of job seconds = map (λ second. (second, job)) seconds
 
-entries_of-append : (job : ℕ) (xs ys : List ℕ) → entries_of job (xs ++ ys) ≡ entries_of job xs ++ entries_of job ys
-entries_of-append job [] ys = refl
-entries_of-append job (x ∷ xs) ys = ap (λ zs. (x, job) ∷ zs) (entries_of-append job xs ys)
-
 pub length-entries_of : (job : ℕ) (xs : List ℕ) → length (entries_of job xs) ≡ length xs
-length-entries_of job [] = refl
-length-entries_of job (x ∷ xs) = ap (λ n. suc n) (length-entries_of job xs)
+length-entries_of job xs = length-map xs (λ second. (second, job))
+
+-- a part of a rule's starts is cut in two
+starts_cut :
+    (weight : ℕ × ℕ → ℕ) (job since upto end : ℕ) (rule : Rule) → since ≤ upto → upto ≤ end →
+    weigh weight (entries_of job (starts rule since end)) ≡ weigh weight (entries_of job (starts rule since upto)) + weigh weight
+    (entries_of job (starts rule upto end))
+starts_cut weight job since upto end rule low high =
+    ap (λ seconds. weigh weight (entries_of job seconds)) (passing-append (is_start rule) since upto end low high)
+    ∙ ap (weigh weight) (map-append (λ second. (second, job)) (starts rule since upto) (starts rule upto end))
+    ∙ weigh-append weight (entries_of job (starts rule since upto)) (entries_of job (starts rule upto end))
 
 -- rows of no jobs weigh nothing
 weigh-no_jobs : (weight : ℕ × ℕ → ℕ) (job : ℕ) (seconds : List ℕ) → weigh weight (flat_map (row_from job []) seconds) ≡ 0
@@ -106,13 +91,7 @@ held-le weight job span (rule ∷ rules) [] within = omega arith
 held-le weight job span (rule ∷ rules) (upto ∷ covered) (low, high, within) =
     let others = held-le weight (job + 1) span rules covered within in
     let all = weigh-span weight job rule rules span in
-    let cut : entries_of job (starts rule span.since span.upto) ≡ entries_of job (starts rule span.since upto) ++ entries_of job
-    (starts rule upto span.upto) = ap (entries_of job) (starts-append rule span.since upto span.upto low high)
-    ∙ entries_of-append job (starts rule span.since upto) (starts rule upto span.upto) in
-    let parts : weigh weight (entries_of job (starts rule span.since span.upto)) ≡ weigh weight
-    (entries_of job (starts rule span.since upto)) + weigh weight (entries_of job (starts rule upto span.upto)) = ap
-    (weigh weight) cut ∙ weigh-append weight (entries_of job (starts rule span.since upto))
-    (entries_of job (starts rule upto span.upto)) in
+    let parts = starts_cut weight job span.since upto span.upto rule low high in
     omega (
       arith,
       others,
@@ -157,12 +136,7 @@ held-more weight first place since (own ∷ rules) [] rule end is there low high
 held-more weight first zero since (own ∷ rules) (upto ∷ covered) rule end is there low high =
     let same : own ≡ rule = cc in
     let number : first + 0 ≡ first = omega arith in
-    let cut : entries_of first (starts own since end) ≡ entries_of first (starts own since upto) ++ entries_of first
-    (starts own upto end) = ap (entries_of first) (starts-append own since upto end low high) ∙ entries_of-append first
-    (starts own since upto) (starts own upto end) in
-    let parts : weigh weight (entries_of first (starts own since end)) ≡ weigh weight
-    (entries_of first (starts own since upto)) + weigh weight (entries_of first (starts own upto end)) = ap (weigh weight) cut
-    ∙ weigh-append weight (entries_of first (starts own since upto)) (entries_of first (starts own upto end)) in
+    let parts = starts_cut weight first since upto end own low high in
     rw (← same, number) (omega (
       arith,
       parts,

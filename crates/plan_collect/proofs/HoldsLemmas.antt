@@ -61,21 +61,17 @@ Holds-begun rules span limit planners covered ended entries many first all many_
       ordered = ordered;
     }
 
-rule_of_some : (own : Option Rule) (rule : Rule) → is_rule_of own rule ≡ true → own ≡ Some rule
+-- the job of a piece that belongs has its rule
+pub rule_of_some : (own : Option Rule) (rule : Rule) → is_rule_of own rule ≡ true → own ≡ Some rule
 rule_of_some None rule h = absurd (false≢true h)
 rule_of_some (Some own) rule h = ap Some ((same_rule-Decides own rule).0 h)
-
--- the job of a piece that belongs exists, and has its rule
-pub known_rule :
-    (rules : List Rule) (job : ℕ) (rule : Rule) → is_rule_of (slice_get rules job) rule ≡ true → slice_get rules job ≡ Some rule
-known_rule rules job rule is = rule_of_some (slice_get rules job) rule is
 
 -- the job of a piece that belongs is covered to some second
 pub job_covered :
     (view c : Collected) (entries : List (ℕ × ℕ)) (job : ℕ) (rule : Rule) → view ≡ c → Holds view entries →
     is_rule_of (slice_get c.rules job) rule ≡ true → job < length view.covered
 job_covered view c entries job rule e holds is =
-    let there : job < length c.rules = slice_get_within c.rules job rule (known_rule c.rules job rule is) in
+    let there : job < length c.rules = slice_get_within c.rules job rule (rule_of_some (slice_get c.rules job) rule is) in
     let many : length view.rules ≡ length c.rules = ap (λ (v : Collected). length v.rules) e in
     let as_many : length view.covered ≡ length view.rules = holds.jobs in
     omega arith
@@ -91,7 +87,7 @@ fits :
     (c : Collected) (entries : List (ℕ × ℕ)) (job : ℕ) (piece : Part) → Holds c entries →
     is_rule_of (slice_get c.rules job) piece.rule ≡ true → adjoins c (note.Part job piece) ≡ true → Fits c job piece
 fits c entries job piece holds belongs adjoins =
-    let known = known_rule c.rules job piece.rule belongs in
+    let known = rule_of_some (slice_get c.rules job) piece.rule belongs in
     let there : job < length c.rules = slice_get_within c.rules job piece.rule known in
     let both = and_parts (slice_index c.covered job == piece.since) (nat_le piece.upto c.span.upto) adjoins in
     let as_many = holds.jobs in
@@ -188,21 +184,15 @@ too_many c entries job piece holds belongs adjoins room =
           let begins = fit.begins in
           let ends = fit.ends in
           let there = fit.there in
-          let within = AreWithin-each c.span after.covered
-          (λ k lt. elim (cases_eq k job) [
-            | inl here ↦ (let is : slice_index (slice_set c.covered job piece.upto) k ≡ piece.upto = ap
-                (slice_index (slice_set c.covered job piece.upto)) here ∙ get_or-set_same c.covered job piece.upto 0 fit.there in
-                omega arith)
-            | inr other ↦ (let is : slice_index (slice_set c.covered job piece.upto) k ≡ slice_index c.covered k =
-                get_or-set_other c.covered job k piece.upto 0 other in let low = holds.since k (omega arith) in omega arith)
-          ])
-          (λ k lt. elim (cases_eq k job) [
-            | inl here ↦ (let is : slice_index (slice_set c.covered job piece.upto) k ≡ piece.upto = ap
-                (slice_index (slice_set c.covered job piece.upto)) here ∙ get_or-set_same c.covered job piece.upto 0 fit.there in
-                omega arith)
-            | inr other ↦ (let is : slice_index (slice_set c.covered job piece.upto) k ≡ slice_index c.covered k =
-                get_or-set_other c.covered job k piece.upto 0 other in let high = holds.upto k (omega arith) in omega arith)
-          ]) in
+          let both : (k : ℕ) → k < length after.covered → (c.span.since ≤ slice_index after.covered k)
+          × (slice_index after.covered k ≤ c.span.upto) = λ k lt. elim (cases_eq k job) [
+            | inl here ↦ (let is : slice_index after.covered k ≡ piece.upto = ap (slice_index after.covered) here ∙ get_or-set_same
+                c.covered job piece.upto 0 fit.there in (omega arith, omega arith))
+            | inr other ↦ (let is : slice_index after.covered k ≡ slice_index c.covered k =
+                get_or-set_other c.covered job k piece.upto 0 other in let low = holds.since k (omega arith) in
+                let high = holds.upto k (omega arith) in (omega arith, omega arith))
+          ] in
+          let within = AreWithin-each c.span after.covered (λ k lt. (both k lt).0) (λ k lt. (both k lt).1) in
           let most = held_within after within in
           omega (
             arith,

@@ -1,6 +1,5 @@
--- The rules of jobs, one after the other: for the loop of `rules_in`, and for the loop of `plan_serial`, in which each
--- number is that of a job. `rules_more` is `rules_of` of a list with one more. The others go by induction over the list.
-use Rattle.std.proofs.Common.{◌≡◌, ℕ, ◌+◌, ◌<◌, List, [], ◌∷◌, ◌++◌, length, take, None, Some, ap, sym, ◌∙◌, arith, suc, zero}
+-- The rules of jobs, one after the other: for the loop of `rules_in`.
+use Rattle.std.proofs.Common.{◌≡◌, ℕ, ◌+◌, List, [], ◌∷◌, ◌++◌, take, Some, ap, sym, ◌∙◌}
 use Rattle.std.specs.Prelude.{slice_get}
 use Rattle.std.proofs.lemmas.List.{take_more, map-append}
 use Rattle.std.proofs.lemmas.Option.{slice_get_within, get_or_from_slice_get}
@@ -17,12 +16,3 @@ rules_more jobs n job rules rule so_far is own =
     let here = get_or_from_slice_get jobs n job job (sym is) in
     let more : take (n + 1) jobs ≡ take n jobs ++ job ∷ [] = take_more jobs n job lt ∙ ap (λ x. take n jobs ++ x ∷ []) here in
     (λ i. so_far i ++ own i ∷ []) ∙ sym (map-append (λ (j : JobParts). j.rule) (take n jobs) (job ∷ [])) ∙ sym (ap rules_of more)
-
-past_end : (jobs : List JobParts) (n : ℕ) → None ≡ slice_get jobs n → n < length jobs → ⊥
-past_end [] n none lt = omega arith
-past_end (job ∷ jobs) zero none lt = cc
-past_end (job ∷ jobs) (suc n) none lt = past_end jobs n none (omega arith)
-
--- each number below the number of jobs is that of a job
-pub job_there : (jobs : List JobParts) (n : ℕ) → None ≡ slice_get jobs n → n < length jobs → ⊥
-job_there jobs n none lt = past_end jobs n none lt

@@ -3,7 +3,6 @@ pub mod StartsLemmas
 pub mod HeldLemmas
 pub mod HoldsLemmas
 pub mod JobsLemmas
-pub mod PiecesLemmas
 pub mod MergingLemmas
 pub mod TilingLemmas
 pub mod StartLemmas

@@ -9,7 +9,6 @@ use Rattle.std.proofs.lemmas.Bool.{cases_lt, cases_eq, cases_Bool, and_parts, an
 use Rattle.std.proofs.lemmas.List.{length-set, get_or-set_same, get_or-set_other, get_or_past}
 use Rattle.std.proofs.lemmas.Option.{unwrap_or-slice_get, slice_get_within}
 use Rattle.plan_match.specs.declared.rule.Rule.{Rule}
-use Rattle.plan_match.specs.Equal.{same_rule-Decides}
 use Rattle.plan_next.specs.Starts.{starts}
 use Rattle.plan_collect.specs.declared.note.Note.{Note}
 use Rattle.plan_collect.specs.declared.note.Note.TheVariants.{Part, Last}
@@ -19,7 +18,9 @@ use Rattle.plan_collect.specs.Span.{Bounds}
 use Rattle.plan_collect.specs.Collecting.{Collected, held, belongs, is_rule_of, has_ended, adjoins, has_room, refusal, after, is_complete}
 use Rattle.plan_collect.specs.Tiling.{starts_in, notes_of}
 use Rattle.plan_collect.specs.Merging.{answer_to}
-use Rattle.plan_collect.proofs.PiecesLemmas.{held_further}
+use Rattle.plan_collect.proofs.HoldsLemmas.{rule_of_some}
+use Rattle.plan_collect.proofs.HeldLemmas.{entries_of, held-more, length-entries_of}
+use Rattle.plan_collect.proofs.StartsLemmas.{weigh-length}
 
 -- ---- messages that fit
 
@@ -182,11 +183,6 @@ pub record IsSound (c : Collected) : Type 0 where
   pub since : (j : ℕ) → j < length c.covered → c.span.since ≤ slice_index c.covered j
   pub few : length (held c) ≤ c.limit
 
--- a rule that is the same as the known rule is that rule
-found : (known : Option Rule) (rule : Rule) → is_rule_of known rule ≡ true → known ≡ Some rule
-found None rule is = cc
-found (Some own) rule is = ap (λ r. Some r) ((same_rule-Decides own rule).0 is)
-
 rule_is : (k size job : ℕ) (known : Bool) → (nat_lt k size && (job % size == k && known)) ≡ true → known ≡ true
 rule_is k size job known is = (and_parts (job % size == k) known (and_parts (nat_lt k size) (job % size == k && known) is).1).1
 
@@ -194,14 +190,26 @@ held_after :
     (k : ℕ) (c : Collected) (note : Note) → IsSound c → Fits k c note →
     length (held (after c k note)) ≡ length (held c) + starts_in note
 held_after k c (Part job piece) sound fits =
-    let known : slice_get c.rules job ≡ Some piece.rule = found (slice_get c.rules job) piece.rule
+    let known : slice_get c.rules job ≡ Some piece.rule = rule_of_some (slice_get c.rules job) piece.rule
     (rule_is k (length c.ended) job (is_rule_of (slice_get c.rules job) piece.rule) fits.own) in
     let jobs = sound.jobs in
     let among : job < length c.rules = slice_get_within c.rules job piece.rule known in
     let inside : job < length c.covered = omega arith in
     let reached : slice_index c.covered job ≡ piece.since = eqb-true _ _ (and_parts _ _ fits.next).0 in
     let low = sound.since job inside in
-    held_further 0 c.span.since c.rules c.covered job piece.since piece.upto piece.rule known inside reached (omega arith) fits.ordered
+    let ordered = fits.ordered in
+    let more = held-more (λ _. 1) 0 job c.span.since c.rules c.covered piece.rule piece.upto known inside low (omega arith) in
+    let added : length (starts piece.rule (slice_index c.covered job) piece.upto) ≡ length (starts piece.rule piece.since piece.upto) =
+    ap (λ since. length (starts piece.rule since piece.upto)) reached in
+    omega (
+      arith,
+      more,
+      added,
+      weigh-length (held (after c k (Part job piece))),
+      weigh-length (held c),
+      weigh-length (entries_of (0 + job) (starts piece.rule (slice_index c.covered job) piece.upto)),
+      length-entries_of (0 + job) (starts piece.rule (slice_index c.covered job) piece.upto),
+    )
 held_after k c Last sound fits = omega arith
 
 -- a collector stays sound after a message that fits and keeps the limit

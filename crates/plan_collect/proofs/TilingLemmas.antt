@@ -18,15 +18,9 @@ use Rattle.plan_collect.specs.Span.{Bounds}
 use Rattle.plan_collect.specs.Limits.{most_planners, most_starts}
 use Rattle.plan_collect.specs.Collecting.{Collected, begun, held_from, has_ended, after}
 use Rattle.plan_collect.specs.Tiling.{pieces_within, pieces, parts_from, tiling, starts_in, cut_after, sent_by}
-use Rattle.plan_collect.specs.TilingLaws.{EndsPiece, piece_ends, piece_of_nothing, pieces_last, pieces_more, pieces_one, parts_none, parts_own, parts_other, cut_here, cut_later, cut_none}
+use Rattle.plan_collect.specs.TilingLaws.{set_again, EndsPiece, piece_ends, piece_of_nothing, pieces_last, pieces_more, pieces_one, parts_none, parts_own, parts_other, cut_here, cut_later, cut_none}
 use Rattle.plan_collect.specs.Merging.{AcceptsMergings}
 use Rattle.plan_collect.proofs.MergingLemmas.{Fits, Ready, Over, Sends, IsSound, AllOf, merged}
-
--- a write after a write
-set_again : (xs : List ℕ) (i a b : ℕ) → set (set xs i a) i b ≡ set xs i b
-set_again [] i a b = refl
-set_again (x ∷ xs) zero a b = refl
-set_again (x ∷ xs) (suc i) a b = ap (λ rest. x ∷ rest) (set_again xs i a b)
 
 -- the planner is at this job, which has this rule
 record IsAtJob (k job : ℕ) (rule : Rule) (c : Collected) : Type 0 where

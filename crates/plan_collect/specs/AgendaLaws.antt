@@ -1,16 +1,15 @@
 -- What holds for every agenda (agenda).
-use Rattle.std.specs.Prelude.{◌≡◌, ℕ, ◌+◌, ◌-◌, ◌≤◌, Bool, true, false, nat_lt, List, [], ◌∷◌, length}
+use Rattle.std.specs.Prelude.{◌≡◌, ℕ, zero, suc, ◌+◌, ◌-◌, ◌<◌, ◌≤◌, Bool, true, false, nat_lt, List, [], ◌∷◌, length, None, slice_get}
 use Rattle.std.proofs.Common.{cond, refl, ◌∙◌, arith}
 use Rattle.std.specs.List.{range_with_len, flat_map, list_all}
 use Rattle.std.proofs.lemmas.Bool.{lt-ltb, and_parts, and_from}
 use Rattle.std.proofs.lemmas.List.Folds.{list_all-append}
-use Rattle.std.proofs.lemmas.List.{length-map}
 use Rattle.plan_sets.specs.Limits.{end_second}
 use Rattle.plan_match.specs.declared.rule.Rule.{Rule}
 use Rattle.plan_next.specs.Starts.{is_start, rule_starts}
 use Rattle.plan_rules.specs.Job.{JobParts}
 use Rattle.plan_collect.specs.Span.{Bounds}
-use Rattle.plan_collect.specs.Agenda.{row_from, agenda, rules_of, IsInYears, IsOfJobs}
+use Rattle.plan_collect.specs.Agenda.{row_from, agenda, IsInYears, IsOfJobs}
 
 -- a test that each entry of a row passes is passed by all entries of all rows
 step :
@@ -53,7 +52,8 @@ agenda-of_rules rules span =
     rows (λ entry. nat_lt entry.1 (length rules)) rules (range_with_len span.since (span.upto - span.since))
     (λ second. row_of_jobs 0 (length rules) rules second (omega arith))
 
-pub agenda-of_jobs : (jobs : List JobParts) (span : Bounds) → IsOfJobs (length jobs) (agenda (rules_of jobs) span)
-agenda-of_jobs jobs span =
-    let as_many : length (rules_of jobs) ≡ length jobs = length-map jobs (λ job. job.rule) in
-    rw as_many at (agenda-of_rules (rules_of jobs) span)
+-- each number below the number of jobs is that of a job
+pub job_there : (jobs : List JobParts) (n : ℕ) → None ≡ slice_get jobs n → n < length jobs → ⊥
+job_there [] n none lt = omega arith
+job_there (job ∷ jobs) zero none lt = cc
+job_there (job ∷ jobs) (suc n) none lt = job_there jobs n none (omega arith)

@@ -1,5 +1,6 @@
 -- What planners send, one step at a time (agenda).
 use Rattle.std.proofs.Common.{◌≡◌, ℕ, zero, suc, ◌+◌, ◌-◌, ◌%◌, ◌<◌, ◌≤◌, true, false, ◌==◌, nat_lt, nat_le, Bool, List, [], ◌∷◌, ◌++◌, length, map, filter, get_or, inl, inr, refl, ap, sym, ◌∙◌, arith}
+use Rattle.std.proofs.Math.ListN.{set}
 use Rattle.std.specs.List.{range_with_len}
 use Rattle.std.proofs.lemmas.Bool.{cases_lt, cases_Bool, eq-eqb, ne_eqb, lt-ltb, le-ltb, le-leb, lt-leb}
 use Rattle.plan_match.specs.declared.rule.Rule.{Rule}
@@ -11,6 +12,12 @@ use Rattle.plan_collect.specs.declared.note.Note.TheVariants as note
 use Rattle.plan_collect.specs.Span.{Bounds}
 use Rattle.plan_collect.specs.Limits.{most_starts}
 use Rattle.plan_collect.specs.Tiling.{pieces_within, pieces, parts_from, starts_in, cut_after}
+
+-- a write after a write
+pub set_again : (xs : List ℕ) (i a b : ℕ) → set (set xs i a) i b ≡ set xs i b
+set_again [] i a b = refl
+set_again (x ∷ xs) zero a b = refl
+set_again (x ∷ xs) (suc i) a b = ap (λ rest. x ∷ rest) (set_again xs i a b)
 
 -- ---- where pieces end
 

@@ -1,7 +1,8 @@
 use Rattle.std.proofs.Common.{map, ap, ◌∙◌, arith}
 use Rattle.std.specs.Arc.{arc_value}
 use Rattle.std.proofs.lemmas.List.{map-append}
-use Rattle.plan_collect.proofs.JobsLemmas.{rules_more, job_there}
+use Rattle.plan_collect.specs.AgendaLaws.{job_there}
+use Rattle.plan_collect.proofs.JobsLemmas.{rules_more}
 use Rattle.plan_collect.proofs.collector.rules_in.Goals as goal
 use Rattle.plan_collect.proofs.collector.rules_in.Goals.{in-Some+in_ok-try_clone+in_ok-push, in_default}
 

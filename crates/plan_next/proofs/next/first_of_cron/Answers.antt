@@ -1,4 +1,5 @@
 use Rattle.std.proofs.Common.{◌≡◌, ◌*◌, ◌<◌, [], Some, sym, ap, ◌∙◌, subst, arith}
+use Rattle.std.proofs.lemmas.Bool.Decides.{nat_tests}
 use Rattle.std.specs.Int.{div_ceil}
 use Rattle.plan_match.specs.declared.rule.Rule.TheVariants as rule
 use Rattle.plan_next.specs.declared.search.Pattern.TheVariants.{Cron}
@@ -10,9 +11,7 @@ use Rattle.plan_next.proofs.StartsLemmas.{is_start-by, is_start-cron}
 use Rattle.plan_next.proofs.next.first_of_cron.Goals as goal
 
 pub returns : goal.returns
-returns c =
-    IsFirstIn-same (starts_by (Cron c.args.rule)) (is_start (rule.Cron c.args.rule.now)) c.args.since c.args.end
-    c.first_start.result (λ n h. is_start-by c.args.rule n (omega arith)) c.first_start.ensures
+returns c = grind (arith, nat_tests)
 
 pub returns-then-starts_at_minute : goal.returns-then-starts_at_minute
 returns-then-starts_at_minute c =

@@ -1,4 +1,5 @@
 use Rattle.std.proofs.Common.{◌+◌, ◌∙◌, arith}
+use Rattle.std.proofs.lemmas.Bool.Decides.{nat_tests}
 use Rattle.plan_match.specs.declared.rule.Rule.TheVariants as rule
 use Rattle.plan_next.specs.declared.search.Pattern.TheVariants.{Cron}
 use Rattle.plan_next.specs.Starts.{is_start}
@@ -11,6 +12,4 @@ pub next_start-requires-clause-start : goal.next_start-requires-clause-start
 next_start-requires-clause-start c = is_start-by c.args.rule c.args.start (omega arith) ∙ c.requires.start
 
 pub returns : goal.returns
-returns c =
-    IsFirstIn-same (starts_by (Cron c.args.rule)) (is_start (rule.Cron c.args.rule.now))
-    (c.args.start + 1) c.args.end c.next_start.result (λ n h. is_start-by c.args.rule n (omega arith)) c.next_start.ensures
+returns c = grind (arith, nat_tests)
