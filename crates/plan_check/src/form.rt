@@ -3,9 +3,8 @@
 ghost use Rattle.std.specs.Prelude.{◌≡◌, ◌++◌, Err, IfOk, IfSome, OnOk};
 ghost use Rattle.plan_texts.specs.Steps.{GivesUnless};
 ghost use Rattle.plan_rules.specs.LineFaults.{of_whole, want_of_memory};
-ghost use Rattle.plan_rules.specs.Timer.{timer_reading};
 ghost use Rattle.plan_check.specs.Files.{HasFirst, after_file, after_text, file_findings, file_of, in_file, name_findings, text_findings};
-ghost use Rattle.plan_check.specs.Form.{alone, cause_at_once, form_reading, label_of, name_cause};
+ghost use Rattle.plan_check.specs.Form.{cause_at_once, form_reading, label_of, name_cause};
 
 use crate::crontabs::add_crontab;
 use crate::finding::Finding;
@@ -45,7 +44,7 @@ impl Form {
         match self {
             Form::Crontab(kind) => crontab(alloc, label_of(kind), bytes, kind),
             Form::Named(directory) => named_crontab(alloc, name, bytes, directory),
-            Form::Timer => timer_alone(alloc, name, bytes),
+            Form::Timer => Ok(vec![in alloc; timer(alloc, name, bytes)?]?),
         }
     }
 
@@ -71,7 +70,7 @@ impl Form {
     /// - `NoTimerSection`, if the text has lines.
     /// - `SameName` if another job has the file's name. Else `Full` if there are 1,000 jobs, once for all files.
     /// - The warning `NoEvents` if there is a `[Timer]` section and the list of events is empty at the end.
-    /// - Each event's error, or the warning `NeverStarts`, as `timer_entries` of plan_rules reads it.
+    /// - Each event's error, or the warning `NeverStarts`, as `TimerReader` of plan_rules reads it.
     ///
     /// # Errors
     ///
@@ -162,17 +161,4 @@ fn label_of(kind: Kind) -> &'static str
         Kind::User => "cron",
         Kind::System => "system",
     }
-}
-
-// Reads the one job of a timer.
-fn timer_alone(alloc: Global, name: &str, bytes: &[u8]) -> Result<Vec<Job>, LineFault>
-    ensures meaning { GivesUnless want_of_memory (λ jobs. jobs.items) result
-        (alone (timer_reading name.now bytes.now)) }
-    ensures at_once { IfSome (cause_at_once Form.Timer name.now bytes.now)
-        (λ cause. result ≡ Err (of_whole cause)) }
-{
-    let job = timer(alloc, name, bytes)?;
-    let mut jobs = Vec::new(alloc);
-    jobs.push(job)?;
-    Ok(jobs)
 }

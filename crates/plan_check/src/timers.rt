@@ -1,20 +1,18 @@
 //! The findings of the text of a timer file (systemd.timer(5)).
 
-ghost use Rattle.std.specs.Prelude.{◌≡◌, ◌++◌, ◌∷◌, [], OnOk, Ok};
-ghost use Rattle.std.specs.List.{flat_map};
-ghost use Rattle.plan_rules.specs.TimerEntries.{timer_entries, timer_parts};
-ghost use Rattle.plan_check.specs.Finding.{refused_at};
+ghost use Rattle.std.specs.Prelude.{◌≡◌, ◌++◌, [], IfOk, OnOk, Ok, map};
+ghost use Rattle.std.specs.List.{cons_option, flat_map};
+ghost use Rattle.plan_rules.specs.TimerEntries.{entry_in, parts_of_lines, shown_line, state_after, timer_entries};
 ghost use Rattle.plan_check.specs.Names.{names_after};
-ghost use Rattle.plan_check.specs.Timers.{event_findings, job_findings, read_findings, timer_findings};
+ghost use Rattle.plan_check.specs.Timers.{event_findings, read_findings, timer_findings};
 
 use crate::finding::{Finding, Warning};
 use crate::names::Names;
 use crate::report::{add_job, refuse, refuse_if, warn_if};
 use crate::warnings::never_starts;
 use plan_clock::Clock;
-use plan_rules::{
-    Calendar, Entry, Events, LineCause, LineFault, Rule, TimerEntries, timer_entries,
-};
+use plan_rules::{Calendar, Entry, Events, LineCause, LineFault, Rule, TimerReader, text_of};
+use plan_texts::whole_lines::{WholeLine, whole_lines};
 use std::alloc::{AllocError, Global};
 
 // Adds the findings of a timer's text.
@@ -29,14 +27,11 @@ pub(crate) fn add_timer(
         ++ timer_findings names.old name.now (timer_entries bytes.now)) }
     ensures names { OnOk result (names.new ≡ names_after names.old name.now) }
 {
-    match timer_entries(alloc, bytes) {
-        Ok(entries) => add_entries(alloc, names, found, name, entries),
-        Err(
-            LineFault {
-                line: _,
-                cause: LineCause::NoMemory,
-            },
-        ) => Err(AllocError),
+    match text_of(bytes) {
+        Ok(text) => {
+            let lines = whole_lines(alloc, text)?;
+            add_lines(alloc, names, found, name, lines.as_slice())
+        }
         Err(LineFault { line, cause }) => {
             refuse(found, line, cause)?;
             add_job(alloc, names, found, 0, name)
@@ -44,44 +39,68 @@ pub(crate) fn add_timer(
     }
 }
 
-// Adds the findings of the whole file, whose text was read, and then those of its events.
-fn add_entries(
+// Adds the findings of the whole file, whose lines are given, and then those of its events.
+fn add_lines(
     alloc: Global,
     names: &mut Names,
     found: &mut Vec<Finding>,
     name: &str,
-    entries: TimerEntries,
+    lines: &[WholeLine],
 ) -> Result<(), AllocError>
     ensures found { OnOk result (found.new.items ≡ found.old.items
-        ++ timer_findings names.old name.now (Ok (timer_parts entries))) }
+        ++ timer_findings names.old name.now (Ok (parts_of_lines (map shown_line lines.now)))) }
     ensures names { OnOk result (names.new ≡ names_after names.old name.now) }
 {
-    let TimerEntries {
-        events,
-        has_section,
-        held,
-    } = entries;
     let clock = names.clock()?;
+    let (reader, mut events) = read_lines(alloc, &clock, lines)?;
+    let has_section = reader.has_section();
     refuse_if(found, !has_section, LineCause::NoTimerSection)?;
     add_job(alloc, names, found, 0, name)?;
-    warn_if(found, has_section && held == 0, 0, Warning::NoEvents)?;
-    add_events(alloc, found, &clock, events)
+    warn_if(
+        found,
+        has_section && reader.held() == 0,
+        0,
+        Warning::NoEvents,
+    )?;
+    found.append(&mut events)?;
+    Ok(())
 }
 
-// Adds the findings of events, in order.
-fn add_events(
+// Returns the findings of the events of lines, in order, and the reader after the last line.
+fn read_lines(
     alloc: Global,
+    clock: &Clock,
+    lines: &[WholeLine],
+) -> Result<(TimerReader, Vec<Finding>), AllocError>
+    ensures section { IfOk result (λ read. read.0.found ≡ (parts_of_lines (map shown_line lines.now)).has_section) }
+    ensures held { IfOk result (λ read. read.0.count.held ≡ (parts_of_lines (map shown_line lines.now)).held) }
+    ensures found { IfOk result (λ read. read.1.items
+        ≡ flat_map (event_findings clock.now) (parts_of_lines (map shown_line lines.now)).events) }
+{
+    let mut reader = TimerReader::new();
+    let mut found = Vec::new(alloc);
+    for line in lines {
+        add_line(alloc, &mut reader, &mut found, clock, line)?;
+    }
+    Ok((reader, found))
+}
+
+// Adds the finding of a line's event, if there is one.
+fn add_line(
+    alloc: Global,
+    reader: &mut TimerReader,
     found: &mut Vec<Finding>,
     clock: &Clock,
-    events: Vec<Entry<Calendar>>,
+    line: &WholeLine,
 ) -> Result<(), AllocError>
-    ensures { OnOk result (found.new.items ≡ found.old.items ++ flat_map (event_findings clock.now) events.items) }
+    ensures found { OnOk result (found.new.items ≡ found.old.items
+        ++ flat_map (event_findings clock.now) (cons_option (entry_in reader.old (shown_line line.now)) [])) }
+    ensures reader { OnOk result (reader.new ≡ state_after reader.old (shown_line line.now).1) }
 {
-    for event in events {
-        let Entry { line, read } = event;
-        add_event(alloc, found, clock, line, read)?;
+    match reader.read(alloc, line)? {
+        Some(Entry { line, read }) => add_event(alloc, found, clock, line, read),
+        None => Ok(()),
     }
-    Ok(())
 }
 
 // Adds the finding of an event, if there is one.

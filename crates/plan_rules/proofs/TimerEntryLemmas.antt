@@ -1,9 +1,9 @@
--- The events of a timer file, read in order and each by itself: for `entries_of_lines` of timer_events and the law of a timer's
--- entries.
+-- The events of a timer file, read in order and each by itself: for loops that feed a `TimerReader`, and for the law of a
+-- timer's entries.
 -- While no event is rejected, the list has as many events as were counted (`events_by_entries`). So both reach 64 at the same event.
-use Rattle.std.proofs.Common.{◌≡◌, ℕ, ◌+◌, ◌<◌, Bool, true, false, ◌||◌, cond, nat_lt, List, [], ◌∷◌, ◌++◌, length, drop, get_or, map, Option, Some, None, Ok, Err, refl, ap, sym, ◌∙◌, length-append, append_assoc}
+use Rattle.std.proofs.Common.{◌≡◌, ℕ, ◌+◌, ◌<◌, Bool, true, false, ◌||◌, cond, nat_lt, List, [], ◌∷◌, ◌++◌, length, drop, get_or, map, Option, Some, None, Ok, Err, refl, ap, sym, ◌∙◌, append-nil, length-append, append_assoc}
 use Rattle.std.proofs.lemmas.List.{drop_more}
-use Rattle.std.specs.List.{cons_option}
+use Rattle.std.specs.List.{cons_option, flat_map}
 use Rattle.std.specs.Result.{result_ok}
 use Rattle.plan_match.specs.declared.event.Calendar.{Calendar}
 use Rattle.plan_rules.specs.declared.line_fault.LineCause.TheVariants.{BadTimerName, TooManyLines}
@@ -12,14 +12,12 @@ use Rattle.plan_texts.specs.Steps.{◌>>=◌}
 use Rattle.plan_grammar.specs.Event.{event_reading}
 use Rattle.plan_rules.specs.LineFaults.{LineReading, TextReading, in_line, on_line}
 use Rattle.plan_rules.specs.declared.entry.Entry.{Entry}
-use Rattle.plan_rules.specs.declared.timer_lines.Sections.{Sections}
 use Rattle.plan_rules.specs.Entries.{refusals, unless_refused}
 use Rattle.plan_rules.specs.FileText.{text_reading}
 use Rattle.plan_rules.specs.Job.{JobParts}
 use Rattle.plan_texts.specs.WholeLines.{whole_lines, trimmed}
-use Rattle.plan_rules.specs.Timer.{Effect, Reset, Event, Starts, Nothing, effects_from, events_from, first_unit, has_timer, inside_after, is_timer_name, job_with, line_effect, section_name, setting_of, timer_of_lines, timer_reading}
-use Rattle.plan_rules.specs.TimerSteps.{sections_after}
-use Rattle.plan_rules.specs.TimerEntries.{EventCount, count_after, count_from, entry_by, entries_from, events_after, lines_by_entries, parts_of_lines, read_by, timer_by_entries, timer_entries}
+use Rattle.plan_rules.specs.Timer.{Effect, Reset, Event, Starts, Nothing, effects_from, events_from, first_unit, has_timer, inside_after, is_timer_name, job_with, section_name, timer_of_lines, timer_reading}
+use Rattle.plan_rules.specs.TimerEntries.{EventCount, TimerState, count_from, entry_by, entry_in, entries_from, events_after, lines_by_entries, parts_of_lines, state_after, timer_by_entries, timer_entries}
 
 -- an event that is read, before those that follow
 event_read :
@@ -83,28 +81,25 @@ pub lines_more :
 lines_more v lines place line inside is =
     ap (map v) (drop_more lines place line inside ∙ ap (λ first. first ∷ drop (place + 1) lines) (sym is))
 
-cons_front : {A : Type 0} (o : Option A) (xs : List A) → cons_option o [] ++ xs ≡ cons_option o xs
-cons_front None xs = refl
-cons_front (Some x) xs = refl
+flat_front :
+    {A B : Type 0} (f : A → List B) (o : Option A) (xs : List A) → flat_map f (cons_option o xs) ≡ flat_map f (cons_option o []) ++ flat_map f xs
+flat_front f None xs = refl
+flat_front f (Some x) xs = ap (λ first. first ++ flat_map f xs) (sym (append-nil (f x)))
 
--- the entries after one more line
+-- what is made of the entries after one more line
 pub entries_step :
-    (events next : List (Entry Calendar)) (count counted : EventCount) (sections after : Sections) (line : ℕ × List ℕ)
-    (more : List (ℕ × List ℕ)) (whole : List (Entry Calendar)) →
-    next ≡ events
-    ++ cons_option (entry_by line.0 (read_by count (line_effect sections.inside (section_name line.1) (setting_of line.1)))) [] →
-    counted ≡ count_after count (line_effect sections.inside (section_name line.1) (setting_of line.1)) →
-    after ≡ sections_after sections (section_name line.1) →
-    events ++ entries_from count (effects_from sections.inside (line ∷ more)) ≡ whole →
-    next ++ entries_from counted (effects_from after.inside more) ≡ whole
-entries_step events next count counted sections after line more whole is count_is after_is so_far =
-    let effect = line_effect sections.inside (section_name line.1) (setting_of line.1) in
-    let here : Option (Entry Calendar) = entry_by line.0 (read_by count effect) in
-    let left : List (Entry Calendar) =
-    entries_from (count_after count effect) (effects_from (inside_after sections.inside (section_name line.1)) more) in
-    (λ i. is i ++ entries_from (count_is i) (effects_from (after_is i).inside more))
-    ∙ append_assoc events (cons_option here []) left
-    ∙ ap (λ rest. events ++ rest) (cons_front here left)
+    {B : Type 0} (f : Entry Calendar → List B) (found next : List B) (state after : TimerState) (line : ℕ × List ℕ)
+    (more : List (ℕ × List ℕ)) (whole : List B) →
+    next ≡ found ++ flat_map f (cons_option (entry_in state line) []) → after ≡ state_after state line.1 →
+    found ++ flat_map f (entries_from state.count (effects_from state.inside (line ∷ more))) ≡ whole →
+    next ++ flat_map f (entries_from after.count (effects_from after.inside more)) ≡ whole
+entries_step f found next state after line more whole is after_is so_far =
+    let here = entry_in state line in
+    let rest = state_after state line.1 in
+    let left = entries_from rest.count (effects_from rest.inside more) in
+    (λ i. is i ++ flat_map f (entries_from (after_is i).count (effects_from (after_is i).inside more)))
+    ∙ append_assoc found (flat_map f (cons_option here [])) (flat_map f left)
+    ∙ ap (λ rest. found ++ rest) (sym (flat_front f here left))
     ∙ so_far
 
 or_assoc : (a b c : Bool) → (a || (b || c)) ≡ ((a || b) || c)
@@ -113,23 +108,20 @@ or_assoc false b c = refl
 
 -- whether there is a section
 pub section_step :
-    (sections after : Sections) (line : ℕ × List ℕ) (more : List (ℕ × List ℕ)) (whole : Bool) →
-    after ≡ sections_after sections (section_name line.1) → (sections.found || has_timer (line ∷ more)) ≡ whole →
-    (after.found || has_timer more) ≡ whole
-section_step sections after line more whole after_is so_far =
-    ap (λ (s : Sections). s.found || has_timer more) after_is
-    ∙ sym (or_assoc sections.found (inside_after false (section_name line.1)) (has_timer more))
+    (state after : TimerState) (line : ℕ × List ℕ) (more : List (ℕ × List ℕ)) (whole : Bool) → after ≡ state_after state line.1 →
+    (state.found || has_timer (line ∷ more)) ≡ whole → (after.found || has_timer more) ≡ whole
+section_step state after line more whole after_is so_far =
+    ap (λ (s : TimerState). s.found || has_timer more) after_is
+    ∙ sym (or_assoc state.found (inside_after false (section_name line.1)) (has_timer more))
     ∙ so_far
 
 -- the number of events in the list
 pub count_step :
-    (count counted : EventCount) (sections after : Sections) (line : ℕ × List ℕ) (more : List (ℕ × List ℕ)) (whole : EventCount) →
-    counted ≡ count_after count (line_effect sections.inside (section_name line.1) (setting_of line.1)) →
-    after ≡ sections_after sections (section_name line.1) →
-    count_from count (effects_from sections.inside (line ∷ more)) ≡ whole →
-    count_from counted (effects_from after.inside more) ≡ whole
-count_step count counted sections after line more whole count_is after_is so_far =
-    (λ i. count_from (count_is i) (effects_from (after_is i).inside more)) ∙ so_far
+    (state after : TimerState) (line : ℕ × List ℕ) (more : List (ℕ × List ℕ)) (whole : EventCount) → after ≡ state_after state line.1 →
+    count_from state.count (effects_from state.inside (line ∷ more)) ≡ whole →
+    count_from after.count (effects_from after.inside more) ≡ whole
+count_step state after line more whole after_is so_far =
+    ap (λ (s : TimerState). count_from s.count (effects_from s.inside more)) after_is ∙ so_far
 
 -- the meaning of a file, by its text and the whole lines of that text
 pub parts_of_file :

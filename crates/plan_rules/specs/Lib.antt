@@ -21,5 +21,4 @@ pub mod Zone
 pub mod Timer
 pub mod TimerEntries
 pub mod TimerSteps
-pub mod EventSteps
 pub mod Causes

@@ -1,20 +1,20 @@
 -- What the lines of a timer file say of its events, each read by itself, and the state of the list of events while they are read.
-use Rattle.std.specs.Prelude.{ℕ, ◌+◌, Bool, false, true, nat_lt, if◌then◌else◌, List, [], ◌∷◌, ◌++◌, map, Option, Some, None, Ok, Err}
+use Rattle.std.specs.Prelude.{ℕ, ◌+◌, Bool, false, true, ◌||◌, nat_lt, if◌then◌else◌, List, [], ◌∷◌, ◌++◌, map, Option, Some, None, Ok, Err, string_bytes}
 use Rattle.std.specs.List.{cons_option}
 use Rattle.std.specs.Result.{result_ok}
 use Rattle.plan_match.specs.declared.event.Calendar.{Calendar}
 use Rattle.plan_rules.specs.declared.entry.Entry.{Entry}
 use Rattle.plan_rules.specs.declared.line_fault.LineCause.TheVariants.{BadTimerName, TooManyLines}
-use Rattle.plan_rules.specs.declared.timer_events.TimerEntries.{TimerEntries}
 use Rattle.plan_rules.specs.Limits.{most_events}
 use Rattle.plan_texts.specs.Steps.{◌>>=◌}
+use Rattle.plan_texts.specs.declared.whole_lines.WholeLine.{WholeLine}
 use Rattle.plan_texts.specs.WholeLines.{whole_lines, trimmed}
 use Rattle.plan_grammar.specs.Event.{event_reading}
 use Rattle.plan_rules.specs.Entries.{entry_at, refusals, unless_refused}
 use Rattle.plan_rules.specs.FileText.{text_reading}
 use Rattle.plan_rules.specs.Job.{JobParts}
 use Rattle.plan_rules.specs.LineFaults.{LineReading, TextReading, in_line, on_line}
-use Rattle.plan_rules.specs.Timer.{Effect, Reset, Event, Starts, Nothing, effects_from, first_unit, has_timer, is_timer_name, job_with}
+use Rattle.plan_rules.specs.Timer.{Effect, Reset, Event, Starts, Nothing, effects_from, first_unit, has_timer, inside_after, is_timer_name, job_with, line_effect, section_name, setting_of}
 
 -- ---- the list of events, where a rejected event counts like a valid one (agenda)
 
@@ -70,16 +70,42 @@ abbrev pub count_from : EventCount → List (ℕ × Effect) → EventCount
 count_from count [] = count
 count_from count ((number, effect) ∷ more) = count_from (count_after count effect) more
 
+-- a whole line as the code keeps it: its number and its text, without blanks at its ends
+abbrev pub shown_line : WholeLine → ℕ × List ℕ
+shown_line line = (line.number, trimmed (string_bytes line.text))
+
+-- the state between two lines: whether the next line is in a `[Timer]` section, whether there was one, and the list of events
+pub record TimerState : Type 0 where
+  pub inside : Bool
+  pub found : Bool
+  pub count : EventCount
+
+-- the state before the first line
+abbrev pub no_lines : TimerState
+no_lines = record { inside = false; found = false; count = no_events }
+
+-- what a line does in a state
+abbrev pub effect_in : TimerState → List ℕ → Effect
+effect_in state text = line_effect state.inside (section_name text) (setting_of text)
+
+-- the entry of a line with its number
+abbrev pub entry_in : TimerState → ℕ × List ℕ → Option (Entry Calendar)
+entry_in state line = entry_by line.0 (read_by state.count (effect_in state line.1))
+
+-- the state after a line
+abbrev pub state_after : TimerState → List ℕ → TimerState
+state_after state text = record {
+  inside = inside_after state.inside (section_name text);
+  found = state.found || inside_after false (section_name text);
+  count = count_after state.count (effect_in state text);
+}
+
 -- the meaning of a timer file by itself: the entries of its events, whether it has a `[Timer]` section, and the number of events
 -- in its list after the last line (agenda)
 pub record TimerParts : Type 0 where
   pub events : List (Entry Calendar)
   pub has_section : Bool
   pub held : ℕ
-
--- the same, as the code keeps it
-abbrev pub timer_parts : TimerEntries → TimerParts
-timer_parts entries = record { events = entries.events.items; has_section = entries.has_section; held = entries.held }
 
 -- the same, of the whole lines, without blanks at their ends
 abbrev pub parts_of_lines : List (ℕ × List ℕ) → TimerParts
