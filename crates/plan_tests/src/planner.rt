@@ -4,9 +4,9 @@ ghost use Rattle.std.specs.Prelude.{◌≡◌, [], IfOk, Some, slice_get};
 ghost use Rattle.plan_mailbox.specs.Ends.{inlet_of, outlet_of};
 
 use crate::collector::{EVERY_MINUTE, span, user_jobs};
-use plan_collect::Note;
+use plan_collect::{Note, Sizes};
 use plan_mailbox::{Inlet, Outlet, Rings};
-use plan_threads::{NoGate, run_planner};
+use plan_threads::{NoGate, Task, run_planner};
 use std::alloc::Global;
 use std::process::Abort;
 use std::test::Fail;
@@ -47,8 +47,15 @@ fn a_planner_sends_a_piece_and_its_last_note(rt: HostRuntime) -> Result<(), Fail
     let alloc = rt.alloc();
     let jobs = user_jobs(alloc, EVERY_MINUTE)?;
     let (outlet, mut inlet) = ends_of_one(alloc)?;
-    let span = span(0, 120)?;
-    let (receipt, refused) = run_planner(&rt, alloc, &jobs, span, 1, 2, &NoGate, outlet);
+    let sizes = Sizes {
+        planners: 1,
+        room: 2,
+        limit: 2,
+    };
+    let Ok(task) = Task::new(span(0, 120)?, sizes) else {
+        return Err(Fail::from("no task"));
+    };
+    let (receipt, refused) = run_planner(&rt, alloc, &jobs, &task, &NoGate, outlet);
     assert!(rt; !refused);
     assert!(rt; inlet.settle(0, receipt).is_ok());
     assert_piece(&rt, &mut inlet)?;

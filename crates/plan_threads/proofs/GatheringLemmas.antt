@@ -3,24 +3,20 @@
 -- the answer to all is that to the new message after the others (`answer_on`). The first error stays the first.
 use Rattle.std.proofs.Common.{◌≡◌, ℕ, zero, suc, ◌+◌, ◌<◌, ◌≤◌, ◌⊎◌, true, false, ◌==◌, List, [], ◌∷◌, ◌++◌, length, None, Some, Option, Result, Ok, Err, inl, inr, refl, ap, sym, ◌∙◌, subst, arith, append-nil}
 use Rattle.std.specs.Prelude.{slice_get, slice_set, slice_index_or, MatchResult, OnOk}
-use Rattle.std.specs.declared.thread.PromisedHandle.{PromisedHandle}
 use Rattle.std.proofs.lemmas.Bool.{cases_eq, eq-eqb, ne_eqb}
 use Rattle.std.proofs.lemmas.List.{length-set, get_or-set_same, get_or-set_other}
-use Rattle.plan_match.specs.declared.rule.Rule.{Rule}
 use Rattle.plan_collect.specs.declared.note.Note.{Note}
 use Rattle.plan_collect.specs.declared.note.Note.TheVariants as note
 use Rattle.plan_collect.specs.declared.collector.CollectFault.{CollectFault}
 use Rattle.plan_collect.specs.declared.collector.CollectFault.TheVariants as collect
 use Rattle.plan_collect.specs.declared.plan_fault.PlanFault.{PlanFault}
-use Rattle.plan_collect.specs.Agenda.{Planned, agenda}
-use Rattle.plan_collect.specs.Span.{Bounds}
-use Rattle.plan_collect.specs.Limits.{is_size}
 use Rattle.plan_collect.specs.Collecting.{Collected, begun, refusal, after, is_complete}
 use Rattle.plan_collect.specs.Merging.{answer_to, AcceptsMergings}
-use Rattle.plan_collect.specs.Tiling.{notes_of, sent_by, IsMerging}
-use Rattle.plan_mailbox.specs.Ends.{NothingKnown, ReceivingEnd, Ring, IsTake, taken_at}
-use Rattle.plan_threads.specs.declared.promise.PlannerPromise.{PlannerPromise}
-use Rattle.plan_threads.specs.Gathering.{AreOf, ArePlanners, Stands, IsAccounted, IsGathering, Meets, Steps, IsWhole, EndsAs, all_notes}
+use Rattle.plan_collect.specs.Tiling.{notes_of, IsMerging}
+use Rattle.plan_mailbox.specs.Ends.{NothingKnown, ReceivingEnd, IsTake, inlet_of, taken_at}
+use Rattle.plan_threads.specs.declared.desk.Desk.{Desk}
+use Rattle.plan_threads.specs.Gathering.{AreOf, Stands, IsAccounted, IsGathering, Meets, Steps, IsWhole}
+use Rattle.plan_threads.specs.Task.{TaskParts, HasTooMany, all_notes, task_of}
 
 -- ---- one more message
 
@@ -169,53 +165,32 @@ stepped start history c (Some fault) k m new refused so_far steps =
 
 -- ---- what a step leaves
 
-record IsKin (c new : Collected) : Type 0 where
-  pub rules : new.rules ≡ c.rules
-  pub span : new.span ≡ c.span
-  pub limit : new.limit ≡ c.limit
-  pub size : length new.ended ≡ length c.ended
+-- a message doesn't change the collector's task
+same_after : (c : Collected) (k : ℕ) (m : Note) → task_of (after c k m) ≡ task_of c
+same_after c k (note.Part job piece) = refl
+same_after c k note.Last = ap (λ (n : ℕ). record (task_of c) { planners = n }) (length-set c.ended k true)
 
-kin_same : (c new : Collected) → new ≡ c → IsKin c new
-kin_same c new is = record {
-  rules = ap (λ (x : Collected). x.rules) is;
-  span = ap (λ (x : Collected). x.span) is;
-  limit = ap (λ (x : Collected). x.limit) is;
-  size = ap (λ (x : Collected). length x.ended) is;
-}
+same_met :
+    (c : Collected) (k : ℕ) (m : Note) (new : Collected) (refused : Option CollectFault) → Meets c k m new refused →
+    task_of new ≡ task_of c
+same_met c k m new None meets = ap task_of meets.1 ∙ same_after c k m
+same_met c k m new (Some collect.NoMemory) meets = ap task_of meets
+same_met c k m new (Some collect.Stranger) meets = ap task_of meets.1
+same_met c k m new (Some collect.Gap) meets = ap task_of meets.1
+same_met c k m new (Some collect.TooMany) meets = ap task_of meets.1
+same_met c k m new (Some collect.AfterLast) meets = ap task_of meets.1
+same_met c k m new (Some collect.Missing) meets = ap task_of meets.1
 
-kin_after : (c new : Collected) (k : ℕ) (m : Note) → new ≡ after c k m → IsKin c new
-kin_after c new k (note.Part job piece) is = record {
-  rules = ap (λ (x : Collected). x.rules) is;
-  span = ap (λ (x : Collected). x.span) is;
-  limit = ap (λ (x : Collected). x.limit) is;
-  size = ap (λ (x : Collected). length x.ended) is;
-}
-kin_after c new k note.Last is = record {
-  rules = ap (λ (x : Collected). x.rules) is;
-  span = ap (λ (x : Collected). x.span) is;
-  limit = ap (λ (x : Collected). x.limit) is;
-  size = ap (λ (x : Collected). length x.ended) is ∙ length-set c.ended k true;
-}
-
-kin_met : (c : Collected) (k : ℕ) (m : Note) (new : Collected) (refused : Option CollectFault) → Meets c k m new refused → IsKin c new
-kin_met c k m new None meets = kin_after c new k m meets.1
-kin_met c k m new (Some collect.NoMemory) meets = kin_same c new meets
-kin_met c k m new (Some collect.Stranger) meets = kin_same c new meets.1
-kin_met c k m new (Some collect.Gap) meets = kin_same c new meets.1
-kin_met c k m new (Some collect.TooMany) meets = kin_same c new meets.1
-kin_met c k m new (Some collect.AfterLast) meets = kin_same c new meets.1
-kin_met c k m new (Some collect.Missing) meets = kin_same c new meets.1
-
-kin_step :
+same_step :
     (c : Collected) (before : Option CollectFault) (k : ℕ) (m : Note) (new : Collected) (refused : Option CollectFault) →
-    Steps c before k m new refused → IsKin c new
-kin_step c None k m new refused steps = kin_met c k m new refused steps
-kin_step c (Some fault) k m new refused steps = kin_same c new steps.0
+    Steps c before k m new refused → task_of new ≡ task_of c
+same_step c None k m new refused steps = same_met c k m new refused steps
+same_step c (Some fault) k m new refused steps = ap task_of steps.0
 
 -- TooMany comes only if the agenda has too many entries
 many_met :
     (c : Collected) (k : ℕ) (m : Note) (new : Collected) (refused : Option CollectFault) → Meets c k m new refused →
-    refused ≡ Some collect.TooMany → c.limit < length (agenda c.rules c.span)
+    refused ≡ Some collect.TooMany → HasTooMany (task_of c)
 many_met c k m new None meets is = absurd cc
 many_met c k m new (Some collect.NoMemory) meets is = absurd cc
 many_met c k m new (Some collect.Stranger) meets is = absurd cc
@@ -224,49 +199,36 @@ many_met c k m new (Some collect.TooMany) meets is = meets.2 refl
 many_met c k m new (Some collect.AfterLast) meets is = absurd cc
 many_met c k m new (Some collect.Missing) meets is = absurd cc
 
-over_is :
-    (c : Collected) (limit : ℕ) (rules : List Rule) (span : Bounds) → c.rules ≡ rules → c.span ≡ span → c.limit ≡ limit →
-    c.limit < length (agenda c.rules c.span) → limit < length (agenda rules span)
-over_is c limit rules span own whole most over =
-    let all : length (agenda c.rules c.span) ≡ length (agenda rules span) = (λ i. length (agenda (own i) (whole i))) in
-    omega arith
-
 many_step :
-    (limit : ℕ) (rules : List Rule) (span : Bounds) (c : Collected) (before : Option CollectFault) (k : ℕ) (m : Note)
-    (new : Collected) (refused : Option CollectFault) →
-    c.rules ≡ rules → c.span ≡ span → c.limit ≡ limit → (before ≡ Some collect.TooMany → limit < length (agenda rules span)) →
-    Steps c before k m new refused → refused ≡ Some collect.TooMany → limit < length (agenda rules span)
-many_step limit rules span c None k m new refused own whole most so_far steps is = over_is c limit rules span own whole most
-    (many_met c k m new refused steps is)
-many_step limit rules span c (Some fault) k m new refused own whole most so_far steps is = so_far (sym steps.1 ∙ is)
+    (task : TaskParts) (c : Collected) (before : Option CollectFault) (k : ℕ) (m : Note) (new : Collected)
+    (refused : Option CollectFault) →
+    task_of c ≡ task → (before ≡ Some collect.TooMany → HasTooMany task) → Steps c before k m new refused →
+    refused ≡ Some collect.TooMany → HasTooMany task
+many_step task c None k m new refused same so_far steps is = subst HasTooMany same (many_met c k m new refused steps is)
+many_step task c (Some fault) k m new refused same so_far steps is = so_far (sym steps.1 ∙ is)
 
 -- a message is taken
 pub gathers_more :
-    (planners limit : ℕ) (rules : List Rule) (span : Bounds) (c : Collected) (b : ReceivingEnd Note) (before : Option CollectFault)
-    (k : ℕ) (m : Note) (new : Collected) (b' : ReceivingEnd Note) (refused : Option CollectFault) →
-    IsGathering planners limit rules span c b before → IsTake b k m b' → Steps c before k m new refused →
-    IsGathering planners limit rules span new b' refused
-gathers_more planners limit rules span c b before k m new b' refused so_far take steps =
-    let kin = kin_step c before k m new refused steps in
-    let size = so_far.size_is in
+    (task : TaskParts) (desk new : Desk) (k : ℕ) (m : Note) →
+    IsGathering task desk → IsTake (inlet_of desk.inlet) k m (inlet_of new.inlet) →
+    Steps desk.collector desk.refused k m new.collector new.refused → IsGathering task new
+gathers_more task desk new k m so_far take steps =
+    let b = inlet_of desk.inlet in
+    let b' = inlet_of new.inlet in
     let lanes = so_far.lanes in
     let wide = so_far.rings in
     let among = take.known_sender in
-    let size' = kin.size in
     let taken : b'.taken ≡ slice_set b.taken k (taken_at b k ++ m ∷ []) = ap (λ (x : ReceivingEnd Note). x.taken) take.taken in
     let same : b'.rings ≡ b.rings = ap (λ (x : ReceivingEnd Note). x.rings) take.taken in
-    let count = length-set b.taken k (taken_at b k ++ m ∷ []) in
     record {
-      rules_are = kin.rules ∙ so_far.rules_are;
-      span_is = kin.span ∙ so_far.span_is;
-      limit_is = kin.limit ∙ so_far.limit_is;
-      size_is = omega arith;
-      lanes = ap length taken ∙ count ∙ lanes;
+      size = so_far.size;
+      ordered = so_far.ordered;
+      same = same_step desk.collector desk.refused k m new.collector new.refused steps ∙ so_far.same;
+      lanes = ap length taken ∙ length-set b.taken k (taken_at b k ++ m ∷ []) ∙ lanes;
       rings = ap length same ∙ wide;
-      too_many = λ is. many_step limit rules span c before k m new refused so_far.rules_are so_far.span_is so_far.limit_is
-          so_far.too_many steps is;
+      too_many = many_step task desk.collector desk.refused k m new.collector new.refused so_far.same so_far.too_many steps;
       history = so_far.history ++ (k, m) ∷ [];
-      known = are_more planners so_far.history (k, m) so_far.known (omega arith);
+      known = are_more task.planners so_far.history (k, m) so_far.known (omega arith);
       each = λ j few. elim (cases_eq k j) [
         | inl own ↦ notes_own j so_far.history k m own
             ∙ ap (λ notes. notes ++ m ∷ []) (so_far.each j few)
@@ -278,97 +240,66 @@ gathers_more planners limit rules span c b before k m new b' refused so_far take
             ∙ sym (get_or-set_other b.taken k j (taken_at b k ++ m ∷ []) [] (λ is. other (sym is)))
             ∙ ap (λ all. slice_index_or all j []) (sym taken)
       ];
-      stands = stepped (begun rules span planners limit) so_far.history c before k m new refused so_far.stands steps;
+      stands = stepped (begun task.rules task.span task.planners task.limit) so_far.history desk.collector desk.refused k m
+          new.collector new.refused so_far.stands steps;
     }
 
 -- nothing was taken
 pub gathers_same :
-    (planners limit : ℕ) (rules : List Rule) (span : Bounds) (c : Collected) (b : ReceivingEnd Note) (before : Option CollectFault)
-    (new : Collected) (b' : ReceivingEnd Note) (refused : Option CollectFault) →
-    IsGathering planners limit rules span c b before → new ≡ c → b'.taken ≡ b.taken → b'.rings ≡ b.rings → refused ≡ before →
-    IsGathering planners limit rules span new b' refused
-gathers_same planners limit rules span c b before new b' refused so_far same taken rings still = record {
-  rules_are = ap (λ (x : Collected). x.rules) same ∙ so_far.rules_are;
-  span_is = ap (λ (x : Collected). x.span) same ∙ so_far.span_is;
-  limit_is = ap (λ (x : Collected). x.limit) same ∙ so_far.limit_is;
-  size_is = ap (λ (x : Collected). length x.ended) same ∙ so_far.size_is;
+    (task : TaskParts) (desk new : Desk) → IsGathering task desk → new.collector ≡ desk.collector →
+    (inlet_of new.inlet).taken ≡ (inlet_of desk.inlet).taken → (inlet_of new.inlet).rings ≡ (inlet_of desk.inlet).rings →
+    new.refused ≡ desk.refused → IsGathering task new
+gathers_same task desk new so_far same taken rings still = record {
+  size = so_far.size;
+  ordered = so_far.ordered;
+  same = ap task_of same ∙ so_far.same;
   lanes = ap length taken ∙ so_far.lanes;
   rings = ap length rings ∙ so_far.rings;
   too_many = λ is. so_far.too_many (sym still ∙ is);
   history = so_far.history;
   known = so_far.known;
   each = λ j few. so_far.each j few ∙ ap (λ all. slice_index_or all j []) (sym taken);
-  stands = subst (λ r. Stands (answer_to (begun rules span planners limit) so_far.history) new r) (sym still)
-      (subst (λ x. Stands (answer_to (begun rules span planners limit) so_far.history) x before) (sym same) so_far.stands);
+  stands = subst (λ r. Stands (answer_to (begun task.rules task.span task.planners task.limit) so_far.history) new.collector r) (sym still)
+      (subst (λ c. Stands (answer_to (begun task.rules task.span task.planners task.limit) so_far.history) c desk.refused) (sym same)
+      so_far.stands);
 }
 
 -- ---- at the end
 
+only_many :
+    (answer : Result Collected CollectFault) (fault : CollectFault) → answer ≡ Err fault →
+    MatchResult answer (λ c. is_complete c ≡ true) (λ fault. fault ≡ collect.TooMany) → fault ≡ collect.TooMany
+only_many answer fault is accepted = subst
+    (λ r. MatchResult r (λ c. is_complete c ≡ true) (λ fault. fault ≡ collect.TooMany)) is accepted
+
 whole_so :
-    (c : Collected) (limit : ℕ) (rules : List Rule) (span : Bounds) (answer : Result Collected CollectFault)
-    (refused : Option CollectFault) →
-    c.rules ≡ rules → c.span ≡ span → c.limit ≡ limit → (refused ≡ Some collect.TooMany → limit < length (agenda rules span)) →
-    Stands answer c refused → MatchResult answer (λ x. is_complete x ≡ true) (λ fault. fault ≡ collect.TooMany) → IsWhole c refused
-whole_so c limit rules span answer None own all most many stands accepted = subst
+    (c : Collected) (answer : Result Collected CollectFault) (refused : Option CollectFault) →
+    (refused ≡ Some collect.TooMany → HasTooMany (task_of c)) → Stands answer c refused →
+    MatchResult answer (λ x. is_complete x ≡ true) (λ fault. fault ≡ collect.TooMany) → IsWhole c refused
+whole_so c answer None many stands accepted = subst
     (λ r. MatchResult r (λ x. is_complete x ≡ true) (λ fault. fault ≡ collect.TooMany)) stands accepted
-whole_so c limit rules span answer (Some collect.NoMemory) own all most many stands accepted = tt
-whole_so c limit rules span answer (Some collect.Stranger) own all most many stands accepted =
-    (let is : collect.Stranger ≡ collect.TooMany = subst
-    (λ r. MatchResult r (λ x. is_complete x ≡ true) (λ fault. fault ≡ collect.TooMany)) stands accepted in absurd cc)
-whole_so c limit rules span answer (Some collect.Gap) own all most many stands accepted =
-    (let is : collect.Gap ≡ collect.TooMany = subst
-    (λ r. MatchResult r (λ x. is_complete x ≡ true) (λ fault. fault ≡ collect.TooMany)) stands accepted in absurd cc)
-whole_so c limit rules span answer (Some collect.TooMany) own all most many stands accepted =
-    let same : length (agenda c.rules c.span) ≡ length (agenda rules span) = (λ i. length (agenda (own i) (all i))) in
-    let over = many refl in
-    (refl, omega arith)
-whole_so c limit rules span answer (Some collect.AfterLast) own all most many stands accepted =
-    (let is : collect.AfterLast ≡ collect.TooMany = subst
-    (λ r. MatchResult r (λ x. is_complete x ≡ true) (λ fault. fault ≡ collect.TooMany)) stands accepted in absurd cc)
-whole_so c limit rules span answer (Some collect.Missing) own all most many stands accepted =
-    (let is : collect.Missing ≡ collect.TooMany = subst
-    (λ r. MatchResult r (λ x. is_complete x ≡ true) (λ fault. fault ≡ collect.TooMany)) stands accepted in absurd cc)
+whole_so c answer (Some collect.NoMemory) many stands accepted = tt
+whole_so c answer (Some collect.Stranger) many stands accepted =
+    (let is = only_many answer collect.Stranger stands accepted in absurd cc)
+whole_so c answer (Some collect.Gap) many stands accepted = (let is = only_many answer collect.Gap stands accepted in absurd cc)
+whole_so c answer (Some collect.TooMany) many stands accepted = (refl, many refl)
+whole_so c answer (Some collect.AfterLast) many stands accepted =
+    (let is = only_many answer collect.AfterLast stands accepted in absurd cc)
+whole_so c answer (Some collect.Missing) many stands accepted =
+    (let is = only_many answer collect.Missing stands accepted in absurd cc)
 
 -- if everything that the planners send was taken, everything has arrived
 pub gathers_all :
-    (planners limit : ℕ) (rules : List Rule) (span : Bounds) (c : Collected) (b : ReceivingEnd Note) (refused : Option CollectFault) →
-    AcceptsMergings → is_size planners ≡ true → span.since ≤ span.upto → IsGathering planners limit rules span c b refused →
-    ((k : ℕ) → k < planners → taken_at b k ≡ sent_by k planners limit rules span) → IsWhole c refused
-gathers_all planners limit rules span c b refused accepts size part so_far all =
-    let merging : IsMerging planners limit rules span so_far.history = record {
-      known = of_places planners so_far.history so_far.known;
+    (task : TaskParts) (desk : Desk) → AcceptsMergings → IsGathering task desk → ((k : ℕ) → k < task.planners → taken_at (inlet_of desk.inlet) k ≡ all_notes task k) →
+    IsWhole desk.collector desk.refused
+gathers_all task desk accepts so_far all =
+    let merging : IsMerging task.planners task.limit task.rules task.span so_far.history = record {
+      known = of_places task.planners so_far.history so_far.known;
       each = λ k few. so_far.each k few ∙ all k few;
     } in
-    whole_so c limit rules span (answer_to (begun rules span planners limit) so_far.history) refused so_far.rules_are so_far.span_is
-    so_far.limit_is so_far.too_many so_far.stands
-    (accepts planners limit rules span so_far.history size part merging)
-
--- ---- other collectors of the same plan
-
--- what a collector has in common with another that gathers the same plan
-pub planners_kin :
-    {T : Type 0} (c new : Collected) (rings rings' : List Ring) (k : ℕ) (threads : List (PromisedHandle T PlannerPromise)) →
-    new.rules ≡ c.rules → new.span ≡ c.span → new.limit ≡ c.limit → length new.ended ≡ length c.ended → rings' ≡ rings →
-    ArePlanners c rings k threads → ArePlanners new rings' k threads
-planners_kin c new rings rings' k [] own whole most size same are = tt
-planners_kin c new rings rings' k (thread ∷ threads) own whole most size same are = (
-  record {
-    sender = are.0.sender;
-    ring = ap (λ rs. slice_get rs k) same ∙ are.0.ring;
-    planners = are.0.planners ∙ sym size;
-    limit = are.0.limit ∙ sym most;
-    rules = are.0.rules ∙ sym own;
-    span = are.0.span ∙ sym whole;
-  },
-  planners_kin c new rings rings' (k + 1) threads own whole most size same are.1,
-)
-
-pub ends_kin :
-    (c new : Collected) (r : Result Planned PlanFault) → new.rules ≡ c.rules → new.span ≡ c.span → new.limit ≡ c.limit →
-    EndsAs r new.rules new.span new.limit → EndsAs r c.rules c.span c.limit
-ends_kin c new r own whole most ends = subst (λ (limit : ℕ). EndsAs r c.rules c.span limit) most
-    (subst (λ (span : Bounds). EndsAs r c.rules span new.limit) whole
-    (subst (λ (rules : List Rule). EndsAs r rules new.span new.limit) own ends))
+    whole_so desk.collector (answer_to (begun task.rules task.span task.planners task.limit) so_far.history) desk.refused
+    (λ is. subst HasTooMany (sym so_far.same) (so_far.too_many is)) so_far.stands
+    (accepts task.planners task.limit task.rules task.span so_far.history so_far.size so_far.ordered merging)
 
 pub ok_map : (r : Result (Unit {0}) PlanFault) (A B : Type 0) → (A → B) → OnOk r A → OnOk r B
 ok_map (Ok x) A B go a = go a
@@ -377,9 +308,3 @@ ok_map (Err f) A B go a = tt
 -- what was accounted for was taken, if nothing waits
 pub taken_all : (b : ReceivingEnd Note) (k : ℕ) (sent : List Note) → NothingKnown b → IsAccounted b k sent → taken_at b k ≡ sent
 taken_all b k sent none accounted = sym (append-nil (taken_at b k)) ∙ ap (λ notes. taken_at b k ++ notes) (sym (none k)) ∙ accounted.1
-
--- messages of the same plan
-pub notes_kin :
-    (c new : Collected) (k : ℕ) → new.rules ≡ c.rules → new.span ≡ c.span → new.limit ≡ c.limit →
-    length new.ended ≡ length c.ended → all_notes new k ≡ all_notes c k
-notes_kin c new k own whole most size = (λ i. sent_by k (size i) (most i) (own i) (whole i))

@@ -2,23 +2,25 @@
 -- Most lemmas are one equation: what was to be sent is what was sent, followed by `cut_rest` of what remains.
 -- `rest_first` moves a message from the one to the other. The steps by a piece follow from it, and from these the steps
 -- by a job.
-use Rattle.std.proofs.Common.{◌≡◌, ℕ, zero, suc, ◌+◌, ◌%◌, ◌<◌, ◌≤◌, ◌⊎◌, true, false, nat_lt, List, [], ◌∷◌, ◌++◌, length, map, drop, None, Some, inl, inr, refl, ap, sym, ◌∙◌, arith, append_assoc, append-nil, subst}
-use Rattle.std.specs.Prelude.{slice_get, Result, Ok, Err, OnErr, IsErrAnd}
+use Rattle.std.proofs.Common.{◌≡◌, ℕ, ◌+◌, ◌%◌, ◌<◌, ◌≤◌, ◌⊎◌, true, false, nat_lt, List, [], ◌∷◌, ◌++◌, length, map, drop, get_or, None, Some, inl, inr, refl, ap, sym, ◌∙◌, arith, append_assoc, append-nil, subst}
+use Rattle.std.specs.Prelude.{slice_get, option_map, Result, Ok, Err, OnErr, IsErrAnd}
 use Rattle.std.proofs.lemmas.Bool.{cases_lt, lt-ltb, le-ltb}
-use Rattle.std.proofs.lemmas.List.{length-map}
+use Rattle.std.proofs.lemmas.List.{length-map, drop_all, drop_more}
+use Rattle.std.proofs.lemmas.Option.{none-some, get_or_from_slice_get, slice_get-map, slice_get_cases, slice_get_within}
 use Rattle.plan_match.specs.declared.rule.Rule.{Rule}
+use Rattle.plan_match.specs.declared.rule.Rule.TheVariants.{Never}
 use Rattle.plan_next.specs.Starts.{starts}
 use Rattle.plan_next.specs.Piece.{Part, piece_of, piece_end}
 use Rattle.plan_rules.specs.Job.{JobParts}
 use Rattle.plan_collect.specs.declared.note.Note.{Note}
 use Rattle.plan_collect.specs.declared.note.Note.TheVariants as note
 use Rattle.plan_collect.specs.Agenda.{rules_of}
-use Rattle.plan_collect.specs.Span.{Bounds}
 use Rattle.plan_collect.specs.Limits.{most_starts}
-use Rattle.plan_collect.specs.Tiling.{pieces, parts_from, starts_in, cut_after, sent_by}
+use Rattle.plan_collect.specs.Tiling.{pieces, parts_from, starts_in, cut_after}
 use Rattle.plan_collect.specs.TilingLaws.{pieces_stop, pieces_go_on, parts_none, parts_own, parts_other, cut_here, cut_later, cut_none}
 use Rattle.plan_mailbox.specs.History.{IsPrefix}
 use Rattle.plan_threads.specs.Sending.{cut_rest}
+use Rattle.plan_threads.specs.Task.{TaskParts, all_notes}
 
 -- ---- what remains after a message
 
@@ -138,145 +140,112 @@ sent_all limit count job rule from upto before sent new reached since end brough
     ∙ sym (append_assoc sent (first ∷ []) (cut_rest limit (reached + starts_in first) rest))
     ∙ sym (λ i. new_is i ++ cut_rest limit (reached + brought_is i) rest)
 
--- ---- the pieces of all jobs
+-- ---- the messages of all jobs
 
--- what remains of a planner's messages from a job on
-abbrev pub left_from : (limit count job planner planners : ℕ) → List Rule → Bounds → List Note
-left_from limit count job planner planners rules span = cut_rest limit count
-    (parts_from job planner planners (drop job rules) span ++ note.Last ∷ [])
-
-drop_here : (rules : List Rule) (n : ℕ) (rule : Rule) → slice_get rules n ≡ Some rule → drop n rules ≡ rule ∷ drop (n + 1) rules
-drop_here [] n rule is = absurd cc
-drop_here (r ∷ rules) zero rule is = let here : r ≡ rule = cc in ap (λ x. x ∷ rules) here
-drop_here (r ∷ rules) (suc n) rule is =
-    let next : suc n + 1 ≡ suc (n + 1) = omega arith in
-    drop_here rules n rule is ∙ ap (λ m. rule ∷ drop m (r ∷ rules)) (sym next)
-
--- each place has a rule
-rule_at : (rules : List Rule) (n : ℕ) → n < length rules → (rule : Rule) × (slice_get rules n ≡ Some rule)
-rule_at [] n inside = absurd (omega arith)
-rule_at (rule ∷ rules) zero inside = (rule, refl)
-rule_at (rule ∷ rules) (suc n) inside = rule_at rules n (omega arith)
+-- a planner's messages from a job on
+abbrev pub notes_from : TaskParts → (planner job : ℕ) → List Note
+notes_from task planner job = parts_from job planner task.planners (drop job task.rules) task.span ++ note.Last ∷ []
 
 -- a job of another planner changes nothing
-pub left_other :
-    (limit count job planner planners : ℕ) (rules : List Rule) (span : Bounds) (rule : Rule) → slice_get rules job ≡ Some rule →
-    (job % planners ≡ planner → ⊥) →
-    left_from limit count job planner planners rules span ≡ left_from limit count (job + 1) planner planners rules span
-left_other limit count job planner planners rules span rule is other =
-    ap (λ rs. cut_rest limit count (parts_from job planner planners rs span ++ note.Last ∷ [])) (drop_here rules job rule is)
-    ∙ ap (λ notes. cut_rest limit count (notes ++ note.Last ∷ [])) (parts_other job planner planners rule (drop (job + 1) rules) span other)
+notes_other :
+    (task : TaskParts) (planner job : ℕ) → job < length task.rules → (job % task.planners ≡ planner → ⊥) →
+    notes_from task planner job ≡ notes_from task planner (job + 1)
+notes_other task planner job inside other =
+    let later = drop (job + 1) task.rules in
+    ap (λ rules. parts_from job planner task.planners rules task.span ++ note.Last ∷ []) (drop_more task.rules job Never inside)
+    ∙ ap (λ notes. notes ++ note.Last ∷ []) (parts_other job planner task.planners (get_or task.rules job Never) later task.span other)
 
 -- for a job of the planner, its pieces come first
-pub left_own :
-    (limit count job planner planners : ℕ) (rules : List Rule) (span : Bounds) (rule : Rule) → slice_get rules job ≡ Some rule →
-    job % planners ≡ planner →
-    left_from limit count job planner planners rules span ≡ left_of limit count job rule span.since span.upto
-    (parts_from (job + 1) planner planners (drop (job + 1) rules) span ++ note.Last ∷ [])
-left_own limit count job planner planners rules span rule is own =
-    let later = parts_from (job + 1) planner planners (drop (job + 1) rules) span in
-    ap (λ rs. cut_rest limit count (parts_from job planner planners rs span ++ note.Last ∷ [])) (drop_here rules job rule is)
-    ∙ ap (λ notes. cut_rest limit count (notes ++ note.Last ∷ [])) (parts_own job planner planners rule (drop (job + 1) rules) span own)
-    ∙ ap (cut_rest limit count) (append_assoc (map (note.Part job) (pieces rule span.since span.upto)) later (note.Last ∷ []))
-
-drop_past : (rules : List Rule) (n : ℕ) → length rules ≤ n → drop n rules ≡ []
-drop_past [] zero past = refl
-drop_past [] (suc n) past = refl
-drop_past (rule ∷ rules) zero past = absurd (omega arith)
-drop_past (rule ∷ rules) (suc n) past = drop_past rules n (omega arith)
+notes_own :
+    (task : TaskParts) (planner job : ℕ) (rule : Rule) → slice_get task.rules job ≡ Some rule → job % task.planners ≡ planner →
+    notes_from task planner job ≡ map (note.Part job) (pieces rule task.span.since task.span.upto) ++ notes_from task planner (job + 1)
+notes_own task planner job rule is own =
+    let later = drop (job + 1) task.rules in
+    let here = drop_more task.rules job rule (slice_get_within task.rules job rule is)
+    ∙ ap (λ r. r ∷ later) (get_or_from_slice_get task.rules job rule rule is) in
+    ap (λ rules. parts_from job planner task.planners rules task.span ++ note.Last ∷ []) here
+    ∙ ap (λ notes. notes ++ note.Last ∷ []) (parts_own job planner task.planners rule later task.span own)
+    ∙ append_assoc (map (note.Part job) (pieces rule task.span.since task.span.upto))
+    (parts_from (job + 1) planner task.planners later task.span) (note.Last ∷ [])
 
 -- after all jobs, the last message remains
-pub left_at_end :
-    (limit count job planner planners : ℕ) (rules : List Rule) (span : Bounds) → length rules ≤ job → count ≤ limit →
-    left_from limit count job planner planners rules span ≡ note.Last ∷ []
-left_at_end limit count job planner planners rules span all few =
-    let still : count + 0 ≤ limit = omega arith in
-    ap (λ rs. cut_rest limit count (parts_from job planner planners rs span ++ note.Last ∷ [])) (drop_past rules job all)
-    ∙ ap (λ notes. cut_rest limit count (notes ++ note.Last ∷ [])) (parts_none job planner planners span)
-    ∙ rest_first limit count note.Last [] few
-    ∙ ap (λ rest. note.Last ∷ rest) (rest_few limit (count + 0) [] still ∙ cut_none limit (count + 0))
+notes_end : (task : TaskParts) (planner job : ℕ) → length task.rules ≤ job → notes_from task planner job ≡ note.Last ∷ []
+notes_end task planner job all =
+    ap (λ rules. parts_from job planner task.planners rules task.span ++ note.Last ∷ []) (drop_all job task.rules all)
+    ∙ ap (λ notes. notes ++ note.Last ∷ []) (parts_none job planner task.planners task.span)
+
+-- what was to be sent is what was sent and what remains from a job on
+abbrev pub IsSentUpTo : TaskParts → (planner : ℕ) → (sent : List Note) → (count job : ℕ) → Type 0
+IsSentUpTo task planner sent count job = all_notes task planner ≡ sent ++ cut_rest task.limit count (notes_from task planner job)
+
+pub upto_other :
+    (task : TaskParts) (planner : ℕ) (sent : List Note) (count job : ℕ) → IsSentUpTo task planner sent count job →
+    job < length task.rules → (job % task.planners ≡ planner → ⊥) → IsSentUpTo task planner sent count (job + 1)
+upto_other task planner sent count job so_far inside other =
+    so_far ∙ ap (λ notes. sent ++ cut_rest task.limit count notes) (notes_other task planner job inside other)
+
+-- what was to be sent, if a job of the planner is next
+own_whole :
+    (task : TaskParts) (planner : ℕ) (sent : List Note) (count job : ℕ) (rule : Rule) → IsSentUpTo task planner sent count job →
+    slice_get task.rules job ≡ Some rule → job % task.planners ≡ planner →
+    all_notes task planner
+    ≡ sent ++ left_of task.limit count job rule task.span.since task.span.upto (notes_from task planner (job + 1))
+own_whole task planner sent count job rule so_far there own =
+    so_far ∙ ap (λ notes. sent ++ cut_rest task.limit count notes) (notes_own task planner job rule there own)
+
+pub upto_own :
+    (task : TaskParts) (planner : ℕ) (sent new : List Note) (count reached job : ℕ) (rule : Rule) →
+    IsSentUpTo task planner sent count job → slice_get task.rules job ≡ Some rule → job % task.planners ≡ planner →
+    IsSent task.limit count job rule task.span.since task.span.upto sent new reached →
+    IsSentUpTo task planner new reached (job + 1)
+upto_own task planner sent new count reached job rule so_far there own all =
+    own_whole task planner sent count job rule so_far there own ∙ all (notes_from task planner (job + 1))
+
+pub upto_own_part :
+    (task : TaskParts) (planner : ℕ) (sent new : List Note) (count job : ℕ) (rule : Rule) → IsSentUpTo task planner sent count job →
+    slice_get task.rules job ≡ Some rule → job % task.planners ≡ planner →
+    ((rest : List Note) → IsPrefix new (sent ++ left_of task.limit count job rule task.span.since task.span.upto rest)) →
+    IsPrefix new (all_notes task planner)
+upto_own_part task planner sent new count job rule so_far there own part =
+    subst (IsPrefix new) (sym (own_whole task planner sent count job rule so_far there own)) (part (notes_from task planner (job + 1)))
+
+-- everything was sent if there were more starts than the limit
+pub upto_over :
+    (task : TaskParts) (planner : ℕ) (sent : List Note) (count job : ℕ) → IsSentUpTo task planner sent count job →
+    task.limit < count → sent ≡ all_notes task planner
+upto_over task planner sent count job so_far over =
+    sym (so_far ∙ ap (λ notes. sent ++ notes) (rest_over task.limit count (notes_from task planner job) over) ∙ append-nil sent)
+
+-- everything was sent after all jobs and the last message
+pub upto_end :
+    (task : TaskParts) (planner : ℕ) (sent : List Note) (count job : ℕ) → IsSentUpTo task planner sent count job →
+    length task.rules ≤ job → count ≤ task.limit → sent ++ note.Last ∷ [] ≡ all_notes task planner
+upto_end task planner sent count job so_far all few =
+    let still : count + 0 ≤ task.limit = omega arith in
+    sym (so_far ∙ ap (λ notes. sent ++ cut_rest task.limit count notes) (notes_end task planner job all)
+    ∙ ap (λ notes. sent ++ notes) (rest_first task.limit count note.Last [] few
+    ∙ ap (λ rest. note.Last ∷ rest) (rest_few task.limit (count + 0) [] still ∙ cut_none task.limit (count + 0))))
 
 -- ---- jobs
 
--- the rule of a job
-pub rule_there : (jobs : List JobParts) (n : ℕ) (job : JobParts) → slice_get jobs n ≡ Some job → slice_get (rules_of jobs) n ≡ Some job.rule
-rule_there [] n job is = absurd cc
-rule_there (j ∷ jobs) zero job is = let here : j ≡ job = cc in ap (λ (x : JobParts). Some x.rule) here
-rule_there (j ∷ jobs) (suc n) job is = rule_there jobs n job is
-
 -- each number below the number of jobs is that of a job
 pub job_there : (jobs : List JobParts) (n : ℕ) → None ≡ slice_get jobs n → n < length jobs → ⊥
-job_there [] n none lt = omega arith
-job_there (job ∷ jobs) zero none lt = cc
-job_there (job ∷ jobs) (suc n) none lt = job_there jobs n none (omega arith)
+job_there jobs n none lt =
+    elim (slice_get_cases jobs n).1 [
+      | inl some ↦ none-some some.0 (none ∙ some.2)
+      | inr past ↦ (let end = past.0 in omega arith)
+    ]
 
 -- the rule at a job's number is the rule of the job
 pub rule_of :
     (jobs : List JobParts) (n : ℕ) (job : JobParts) (rule : Rule) → Some job ≡ slice_get jobs n → rule ≡ job.rule →
     slice_get (rules_of jobs) n ≡ Some rule
-rule_of jobs n job rule there is = rule_there jobs n job (sym there) ∙ ap Some (sym is)
+rule_of jobs n job rule there is =
+    slice_get-map (λ (j : JobParts). j.rule) jobs n ∙ ap (option_map (λ (j : JobParts). j.rule)) (sym there) ∙ ap Some (sym is)
 
 -- there are as many rules as jobs
 pub as_many_rules : (jobs : List JobParts) → length (rules_of jobs) ≡ length jobs
 as_many_rules jobs = length-map jobs (λ job. job.rule)
-
--- ---- all messages
-
--- what was to be sent is what was sent and what remains from a job on
-abbrev pub IsSentUpTo : (limit planner planners : ℕ) → List Rule → Bounds → (sent : List Note) → (count job : ℕ) → Type 0
-IsSentUpTo limit planner planners rules span sent count job =
-    sent_by planner planners limit rules span ≡ sent ++ left_from limit count job planner planners rules span
-
-pub upto_other :
-    (limit planner planners : ℕ) (rules : List Rule) (span : Bounds) (sent : List Note) (count job : ℕ) →
-    IsSentUpTo limit planner planners rules span sent count job → job < length rules → (job % planners ≡ planner → ⊥) →
-    IsSentUpTo limit planner planners rules span sent count (job + 1)
-upto_other limit planner planners rules span sent count job so_far inside other =
-    let there = rule_at rules job inside in
-    so_far ∙ ap (λ notes. sent ++ notes) (left_other limit count job planner planners rules span there.0 there.1 other)
-
--- what was to be sent, if a job of the planner is next
-own_whole :
-    (limit planner planners : ℕ) (rules : List Rule) (span : Bounds) (sent : List Note) (count job : ℕ) (rule : Rule) →
-    IsSentUpTo limit planner planners rules span sent count job → slice_get rules job ≡ Some rule → job % planners ≡ planner →
-    sent_by planner planners limit rules span ≡ sent ++ left_of limit count job rule span.since span.upto
-    (parts_from (job + 1) planner planners (drop (job + 1) rules) span ++ note.Last ∷ [])
-own_whole limit planner planners rules span sent count job rule so_far there own =
-    so_far ∙ ap (λ notes. sent ++ notes) (left_own limit count job planner planners rules span rule there own)
-
-pub upto_own :
-    (limit planner planners : ℕ) (rules : List Rule) (span : Bounds) (sent new : List Note) (count reached job : ℕ) (rule : Rule) →
-    IsSentUpTo limit planner planners rules span sent count job → slice_get rules job ≡ Some rule → job % planners ≡ planner →
-    IsSent limit count job rule span.since span.upto sent new reached →
-    IsSentUpTo limit planner planners rules span new reached (job + 1)
-upto_own limit planner planners rules span sent new count reached job rule so_far there own all =
-    own_whole limit planner planners rules span sent count job rule so_far there own
-    ∙ all (parts_from (job + 1) planner planners (drop (job + 1) rules) span ++ note.Last ∷ [])
-
-pub upto_own_part :
-    (limit planner planners : ℕ) (rules : List Rule) (span : Bounds) (sent new : List Note) (count job : ℕ) (rule : Rule) →
-    IsSentUpTo limit planner planners rules span sent count job → slice_get rules job ≡ Some rule → job % planners ≡ planner →
-    ((rest : List Note) → IsPrefix new (sent ++ left_of limit count job rule span.since span.upto rest)) →
-    IsPrefix new (sent_by planner planners limit rules span)
-upto_own_part limit planner planners rules span sent new count job rule so_far there own part =
-    subst (IsPrefix new) (sym (own_whole limit planner planners rules span sent count job rule so_far there own))
-    (part (parts_from (job + 1) planner planners (drop (job + 1) rules) span ++ note.Last ∷ []))
-
--- everything was sent if there were more starts than the limit
-pub upto_over :
-    (limit planner planners : ℕ) (rules : List Rule) (span : Bounds) (sent : List Note) (count job : ℕ) →
-    IsSentUpTo limit planner planners rules span sent count job → limit < count → sent ≡ sent_by planner planners limit rules span
-upto_over limit planner planners rules span sent count job so_far over =
-    sym (so_far ∙ ap (λ notes. sent ++ notes)
-    (rest_over limit count (parts_from job planner planners (drop job rules) span ++ note.Last ∷ []) over) ∙ append-nil sent)
-
--- everything was sent after all jobs and the last message
-pub upto_end :
-    (limit planner planners : ℕ) (rules : List Rule) (span : Bounds) (sent : List Note) (count job : ℕ) →
-    IsSentUpTo limit planner planners rules span sent count job → length rules ≤ job → count ≤ limit →
-    sent ++ note.Last ∷ [] ≡ sent_by planner planners limit rules span
-upto_end limit planner planners rules span sent count job so_far all few =
-    sym (so_far ∙ ap (λ notes. sent ++ notes) (left_at_end limit count job planner planners rules span all few))
 
 -- what holds if an allocation failed
 pub on_err : {T E : Type 0} (r : Result T E) (e : E) (P : Type 0) → IsErrAnd r (λ f. f ≡ e) → P → OnErr r P

@@ -7,24 +7,22 @@ use Rattle.std.specs.Result.{result_and}
 use Rattle.std.proofs.lemmas.Bool.{cases_eq}
 use Rattle.plan_collect.specs.declared.note.Note.{Note}
 use Rattle.plan_collect.specs.declared.plan_fault.PlanFault.{PlanFault}
-use Rattle.plan_collect.specs.Collecting.{Collected}
-use Rattle.plan_collect.specs.Tiling.{sent_by}
 use Rattle.plan_mailbox.specs.declared.outlet.Receipt.{Receipt}
 use Rattle.plan_mailbox.specs.Ends.{ReceivingEnd, Ring, receipt_of}
 use Rattle.plan_threads.specs.declared.promise.PlannerPromise.{PlannerPromise}
 use Rattle.plan_threads.specs.Promise.{Keeps}
-use Rattle.plan_threads.specs.Gathering.{IsAccounted, IsPlanner, IsThreadFault, all_notes}
+use Rattle.plan_threads.specs.Gathering.{IsAccounted, IsPlanner, IsThreadFault}
+use Rattle.plan_threads.specs.Task.{TaskParts, all_notes}
 
 pub planner_ring :
-    (c : Collected) (rings : List Ring) (k : ℕ) (p : PlannerPromise) (r : Receipt Note × Bool) → IsPlanner c rings k p → Keeps p r →
+    (task : TaskParts) (rings : List Ring) (k : ℕ) (p : PlannerPromise) (r : Receipt Note × Bool) → IsPlanner task rings k p → Keeps p r →
     slice_get rings (receipt_of r.0).sender ≡ Some (receipt_of r.0).ring
-planner_ring c rings k p r is keeps = ap (slice_get rings) (keeps.0 ∙ is.sender) ∙ is.ring ∙ ap Some (sym keeps.1)
+planner_ring task rings k p r is keeps = ap (slice_get rings) (keeps.0 ∙ is.sender) ∙ is.ring ∙ ap Some (sym keeps.1)
 
 pub planner_sent :
-    (c : Collected) (rings : List Ring) (k : ℕ) (p : PlannerPromise) (r : Receipt Note × Bool) → IsPlanner c rings k p → Keeps p r →
-    r.1 ≡ false → (receipt_of r.0).sent ≡ all_notes c k
-planner_sent c rings k p r is keeps granted = keeps.2 granted ∙
-    (λ i. sent_by (is.sender i) (is.planners i) (is.limit i) (is.rules i) (is.span i))
+    (task : TaskParts) (rings : List Ring) (k : ℕ) (p : PlannerPromise) (r : Receipt Note × Bool) → IsPlanner task rings k p → Keeps p r →
+    r.1 ≡ false → (receipt_of r.0).sent ≡ all_notes task k
+planner_sent task rings k p r is keeps granted = keeps.2 granted ∙ (λ i. all_notes (is.same i) (is.sender i))
 
 -- the receipt of one more sender was settled
 pub accounts_more :

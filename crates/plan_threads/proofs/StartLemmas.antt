@@ -1,33 +1,32 @@
 -- What holds when threads are started: for `outlets` and `gathers` of `set_up`, and for the loop of `run_threads`.
--- `fresh_from` goes by induction over the outlets and their rings, which are numbered alike. `planner_is` reads the
--- fields of a thread's promise. Nothing was taken yet, so the history of `gathers_none` is empty.
-use Rattle.std.proofs.Common.{◌≡◌, ℕ, suc, ◌+◌, false, List, [], ◌∷◌, ◌++◌, length, map, Some, None, Ok, refl, ap, sym, ◌∙◌, subst, arith}
+-- `fresh_from` goes by induction over the outlets and their rings, which are numbered alike. Nothing was taken yet, so
+-- the history of `gathers_none` is empty.
+use Rattle.std.proofs.Common.{◌≡◌, ℕ, suc, ◌+◌, ◌≤◌, false, true, List, [], ◌∷◌, ◌++◌, length, map, Some, None, Ok, refl, ap, sym, ◌∙◌, subst, arith}
 use Rattle.std.specs.Prelude.{slice_get}
 use Rattle.std.specs.List.{enumerate_from}
 use Rattle.std.specs.declared.thread.PromisedHandle.{PromisedHandle}
 use Rattle.std.proofs.lemmas.List.{length-replicate, get_or-replicate}
-use Rattle.plan_match.specs.declared.rule.Rule.{Rule}
 use Rattle.plan_collect.specs.declared.note.Note.{Note}
-use Rattle.plan_rules.specs.Job.{JobParts}
-use Rattle.plan_collect.specs.Agenda.{rules_of}
-use Rattle.plan_collect.specs.Span.{Bounds}
-use Rattle.plan_collect.specs.Collecting.{Collected, begun}
+use Rattle.plan_collect.specs.Collecting.{begun}
+use Rattle.plan_collect.specs.Limits.{is_size}
 use Rattle.plan_mailbox.specs.declared.outlet.Outlet.{Outlet}
-use Rattle.plan_mailbox.specs.Ends.{ReceivingEnd, Ring, SendingEnd, new_inlet, new_outlets, outlet_of, taken_at}
+use Rattle.plan_mailbox.specs.Ends.{ReceivingEnd, Ring, SendingEnd, inlet_of, new_inlet, new_outlets, outlet_of, taken_at}
 use Rattle.plan_threads.specs.declared.promise.PlannerPromise as promise
-use Rattle.plan_threads.specs.Gathering.{AreFresh, ArePlanners, IsGathering, IsPlanner}
+use Rattle.plan_threads.specs.declared.desk.Desk.{Desk}
+use Rattle.plan_threads.specs.Gathering.{AreFresh, ArePlanners, IsGathering, IsPlanner, Stands}
+use Rattle.plan_threads.specs.Task.{TaskParts, task_of}
 
 -- one more thread
 pub planners_more :
-    {T : Type 0} (c : Collected) (rings : List Ring) (k : ℕ) (threads : List (PromisedHandle T promise.PlannerPromise))
+    {T : Type 0} (task : TaskParts) (rings : List Ring) (k : ℕ) (threads : List (PromisedHandle T promise.PlannerPromise))
     (thread : PromisedHandle T promise.PlannerPromise) →
-    ArePlanners c rings k threads → IsPlanner c rings (k + length threads) thread.promise →
-    ArePlanners c rings k (threads ++ thread ∷ [])
-planners_more c rings k [] thread are is =
-    (let here : k + 0 ≡ k = omega arith in subst (λ n. IsPlanner c rings n thread.promise) here is, tt)
-planners_more c rings k (first ∷ threads) thread are is =
+    ArePlanners task rings k threads → IsPlanner task rings (k + length threads) thread.promise →
+    ArePlanners task rings k (threads ++ thread ∷ [])
+planners_more task rings k [] thread are is =
+    (let here : k + 0 ≡ k = omega arith in subst (λ n. IsPlanner task rings n thread.promise) here is, tt)
+planners_more task rings k (first ∷ threads) thread are is =
     let later : k + length (first ∷ threads) ≡ (k + 1) + length threads = omega arith in
-    (are.0, planners_more c rings (k + 1) threads thread are.1 (subst (λ n. IsPlanner c rings n thread.promise) later is))
+    (are.0, planners_more task rings (k + 1) threads thread are.1 (subst (λ n. IsPlanner task rings n thread.promise) later is))
 
 abbrev sending_at : ℕ × Ring → SendingEnd Note
 sending_at p = record { sender = p.0; ring = p.1; sent = [] }
@@ -56,37 +55,18 @@ fresh_all outlets rings are = fresh_from 0 outlets rings rings are
 
 -- nothing has arrived yet
 pub gathers_none :
-    (planners limit : ℕ) (rules : List Rule) (span : Bounds) (c : Collected) (b : ReceivingEnd Note) (rings : List Ring) →
-    c ≡ begun rules span planners limit → b ≡ new_inlet rings → length rings ≡ planners →
-    IsGathering planners limit rules span c b None
-gathers_none planners limit rules span c b rings is new wide =
-    let size = length-replicate planners false in
-    record {
-      rules_are = ap (λ (x : Collected). x.rules) is;
-      span_is = ap (λ (x : Collected). x.span) is;
-      limit_is = ap (λ (x : Collected). x.limit) is;
-      size_is = ap (λ (x : Collected). length x.ended) is ∙ size;
-      lanes = ap (λ (x : ReceivingEnd Note). length x.taken) new ∙ length-replicate (length rings) [] ∙ wide;
-      rings = ap (λ (x : ReceivingEnd Note). length x.rings) new ∙ wide;
-      too_many = λ e. absurd cc;
-      history = [];
-      known = tt;
-      each = λ k few. sym (ap (λ (x : ReceivingEnd Note). taken_at x k) new ∙ get_or-replicate (length rings) k [] [] (omega arith));
-      stands = ap Ok (sym is);
-    }
-
--- the thread of this outlet's planner is that of planner n
-pub planner_is :
-    (c : Collected) (rings : List Ring) (k n : ℕ) (outlet : Outlet Note) (jobs : List JobParts) (span : Bounds) (limit planners : ℕ)
-    (p : promise.PlannerPromise) →
-    k ≡ n → p.outlet.value ≡ outlet → p.jobs.value ≡ jobs → p.span ≡ span → p.limit ≡ limit → p.planners ≡ planners →
-    c ≡ begun (rules_of jobs) span planners limit → (outlet_of outlet).sender ≡ k →
-    slice_get rings k ≡ Some (outlet_of outlet).ring → IsPlanner c rings n p
-planner_is c rings k n outlet jobs span limit planners p number outlet_is jobs_are span_is limit_is planners_are is own ring = record {
-  sender = ap (λ (o : Outlet Note). (outlet_of o).sender) outlet_is ∙ own ∙ number;
-  ring = ap (λ i. slice_get rings i) (sym number) ∙ ring ∙ ap (λ (o : Outlet Note). Some (outlet_of o).ring) (sym outlet_is);
-  planners = planners_are ∙ sym (ap (λ (x : Collected). length x.ended) is ∙ length-replicate planners false);
-  limit = limit_is ∙ sym (ap (λ (x : Collected). x.limit) is);
-  rules = ap rules_of jobs_are ∙ sym (ap (λ (x : Collected). x.rules) is);
-  span = span_is ∙ sym (ap (λ (x : Collected). x.span) is);
+    (task : TaskParts) (desk : Desk) (rings : List Ring) →
+    desk.collector ≡ begun task.rules task.span task.planners task.limit → inlet_of desk.inlet ≡ new_inlet rings → desk.refused ≡ None →
+    length rings ≡ task.planners → is_size task.planners ≡ true → task.span.since ≤ task.span.upto → IsGathering task desk
+gathers_none task desk rings is new none wide size ordered = record {
+  size = size;
+  ordered = ordered;
+  same = ap task_of is ∙ ap (λ (n : ℕ). record task { planners = n }) (length-replicate task.planners false);
+  lanes = ap (λ (x : ReceivingEnd Note). length x.taken) new ∙ length-replicate (length rings) [] ∙ wide;
+  rings = ap (λ (x : ReceivingEnd Note). length x.rings) new ∙ wide;
+  too_many = λ e. absurd cc;
+  history = [];
+  known = tt;
+  each = λ k few. sym (ap (λ (x : ReceivingEnd Note). taken_at x k) new ∙ get_or-replicate (length rings) k [] [] (omega arith));
+  stands = subst (λ r. Stands (Ok (begun task.rules task.span task.planners task.limit)) desk.collector r) (sym none) (ap Ok (sym is));
 }

@@ -7,15 +7,18 @@ use Rattle.plan_collect.specs.declared.collector.CollectFault.TheVariants as col
 use Rattle.plan_collect.specs.declared.collector.CollectFault.TheVariants.{TooMany}
 use Rattle.plan_collect.specs.declared.plan_fault.PlanFault.{PlanFault}
 use Rattle.plan_collect.specs.declared.plan_fault.PlanFault.TheVariants as plan
-use Rattle.plan_collect.specs.Agenda.{Planned, agenda, planned, rules_of, IsOfJobs}
-use Rattle.plan_collect.specs.Span.{Bounds}
+use Rattle.plan_collect.specs.Agenda.{Planned, planned, IsOfJobs}
 use Rattle.plan_collect.specs.Collecting.{Collected, begun, refusal, after, is_complete}
+use Rattle.plan_collect.specs.Limits.{is_size}
 use Rattle.plan_collect.specs.Merging.{answer_to}
-use Rattle.plan_collect.specs.Tiling.{notes_of, sent_by}
+use Rattle.plan_collect.specs.Tiling.{notes_of}
 use Rattle.std.specs.declared.thread.PromisedHandle.{PromisedHandle}
+use Rattle.plan_threads.specs.declared.desk.Desk.{Desk}
 use Rattle.plan_threads.specs.declared.promise.PlannerPromise.{PlannerPromise}
+use Rattle.plan_threads.specs.Promise.{promised}
+use Rattle.plan_threads.specs.Task.{TaskParts, HasTooMany, task_of}
 use Rattle.plan_mailbox.specs.declared.outlet.Outlet.{Outlet}
-use Rattle.plan_mailbox.specs.Ends.{ReceivingEnd, Ring, Accounts, outlet_of, taken_at, is_settled_at}
+use Rattle.plan_mailbox.specs.Ends.{ReceivingEnd, Ring, Accounts, inlet_of, outlet_of, taken_at, is_settled_at}
 
 -- each message is from one of this many planners
 abbrev pub AreOf : (planners : ℕ) → List (ℕ × Note) → Type 0
@@ -29,49 +32,40 @@ Stands answer c None = answer ≡ Ok c
 Stands answer c (Some collect.NoMemory) = Unit {0}
 Stands answer c (Some fault) = answer ≡ Err fault
 
--- the messages that were taken arrived in some order, and the collector and its first error are the result of that order
-pub record IsGathering (planners limit : ℕ) (rules : List Rule) (span : Bounds) (c : Collected) (b : ReceivingEnd Note)
-    (refused : Option CollectFault) : Type 0 where
-  pub rules_are : c.rules ≡ rules
-  pub span_is : c.span ≡ span
-  pub limit_is : c.limit ≡ limit
-  pub size_is : length c.ended ≡ planners
-  pub lanes : length b.taken ≡ planners
-  pub rings : length b.rings ≡ planners
-  pub too_many : refused ≡ Some TooMany → limit < length (agenda rules span)
+-- the messages that a desk took arrived in some order, and its collector and its first error are the result of that order
+pub record IsGathering (task : TaskParts) (desk : Desk) : Type 0 where
+  pub same : task_of desk.collector ≡ task
+  pub size : is_size task.planners ≡ true
+  pub ordered : task.span.since ≤ task.span.upto
+  pub lanes : length (inlet_of desk.inlet).taken ≡ task.planners
+  pub rings : length (inlet_of desk.inlet).rings ≡ task.planners
+  pub too_many : desk.refused ≡ Some TooMany → HasTooMany task
   pub history : List (ℕ × Note)
-  pub known : AreOf planners history
-  pub each : (k : ℕ) → k < planners → notes_of k history ≡ taken_at b k
-  pub stands : Stands (answer_to (begun rules span planners limit) history) c refused
+  pub known : AreOf task.planners history
+  pub each : (k : ℕ) → k < task.planners → notes_of k history ≡ taken_at (inlet_of desk.inlet) k
+  pub stands : Stands (answer_to (begun task.rules task.span task.planners task.limit) history) desk.collector desk.refused
 
 -- the receipt of sender s was settled, and these messages are what it sent
 abbrev pub IsAccounted : ReceivingEnd Note → ℕ → List Note → Type 0
 IsAccounted b s sent = (is_settled_at b s ≡ true) × Accounts b s sent
 
--- all messages that planner k of this collector's plan sends
-abbrev pub all_notes : Collected → ℕ → List Note
-all_notes c k = sent_by k (length c.ended) c.limit c.rules c.span
-
--- a thread promises the messages of planner k of the collector's plan, through the ring of sender k
-pub record IsPlanner (c : Collected) (rings : List Ring) (k : ℕ) (promise : PlannerPromise) : Type 0 where
+-- a thread promises the messages of planner k of a task, through the ring of sender k
+pub record IsPlanner (task : TaskParts) (rings : List Ring) (k : ℕ) (promise : PlannerPromise) : Type 0 where
   pub sender : (outlet_of promise.outlet.value).sender ≡ k
   pub ring : slice_get rings k ≡ Some (outlet_of promise.outlet.value).ring
-  pub planners : promise.planners ≡ length c.ended
-  pub limit : promise.limit ≡ c.limit
-  pub rules : rules_of promise.jobs.value ≡ c.rules
-  pub span : promise.span ≡ c.span
+  pub same : promised promise ≡ task
 
 -- these threads are those of the planners from k on, in order
-abbrev pub ArePlanners : {T : Type 0} → Collected → List Ring → (k : ℕ) → List (PromisedHandle T PlannerPromise) → Type 0
-ArePlanners c rings k [] = Unit {0}
-ArePlanners c rings k (thread ∷ threads) = IsPlanner c rings k thread.promise × ArePlanners c rings (k + 1) threads
+abbrev pub ArePlanners : {T : Type 0} → TaskParts → List Ring → (k : ℕ) → List (PromisedHandle T PlannerPromise) → Type 0
+ArePlanners task rings k [] = Unit {0}
+ArePlanners task rings k (thread ∷ threads) = IsPlanner task rings k thread.promise × ArePlanners task rings (k + 1) threads
 
 -- what a message does to a collector that has rejected none
 abbrev pub Meets : Collected → (planner : ℕ) → Note → Collected → Option CollectFault → Type 0
 Meets c planner note new None = (refusal c planner note ≡ None) × (new ≡ after c planner note)
 Meets c planner note new (Some collect.NoMemory) = new ≡ c
 Meets c planner note new (Some fault) =
-    (refusal c planner note ≡ Some fault) × (new ≡ c) × (fault ≡ TooMany → c.limit < length (agenda c.rules c.span))
+    (refusal c planner note ≡ Some fault) × (new ≡ c) × (fault ≡ TooMany → HasTooMany (task_of c))
 
 -- a message is accepted or rejected; it is dropped if one was rejected before
 abbrev pub Steps : Collected → Option CollectFault → (planner : ℕ) → Note → Collected → Option CollectFault → Type 0
@@ -82,19 +76,19 @@ Steps c (Some fault) planner note new refused = (new ≡ c) × (refused ≡ Some
 abbrev pub IsWhole : Collected → Option CollectFault → Type 0
 IsWhole c None = is_complete c ≡ true
 IsWhole c (Some collect.NoMemory) = Unit {0}
-IsWhole c (Some fault) = (fault ≡ TooMany) × (c.limit < length (agenda c.rules c.span))
+IsWhole c (Some fault) = (fault ≡ TooMany) × HasTooMany (task_of c)
 
 -- the errors of the threads, apart from those of their messages
 abbrev pub IsThreadFault : PlanFault → Type 0
 IsThreadFault plan.NoMemory = Unit {0}
 IsThreadFault fault = ⊥
 
--- the answer of a plan with valid sizes and a valid limit
-abbrev pub EndsAs : Result Planned PlanFault → List Rule → Bounds → (limit : ℕ) → Type 0
-EndsAs (Ok made) rules span limit =
-    (made ≡ planned rules span) × (length made.entries ≤ limit) × IsOfJobs (length rules) made.entries
-EndsAs (Err (plan.Collect fault)) rules span limit = (fault ≡ TooMany) × (limit < length (agenda rules span))
-EndsAs (Err fault) rules span limit = IsThreadFault fault
+-- the answer of a task
+abbrev pub EndsAs : Result Planned PlanFault → TaskParts → Type 0
+EndsAs (Ok made) task =
+    (made ≡ planned task.rules task.span) × (length made.entries ≤ task.limit) × IsOfJobs (length task.rules) made.entries
+EndsAs (Err (plan.Collect fault)) task = (fault ≡ TooMany) × HasTooMany task
+EndsAs (Err fault) task = IsThreadFault fault
 
 -- these outlets are those of the senders from k on, in order, and nothing was sent
 abbrev pub AreFresh : List Ring → (k : ℕ) → List (Outlet Note) → Type 0

@@ -6,3 +6,4 @@ pub mod Gathering
 pub mod Planning
 pub mod Promise
 pub mod Sending
+pub mod Task

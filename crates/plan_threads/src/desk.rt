@@ -1,13 +1,11 @@
 //! The calling thread's desk: the inlet that the planners' messages come from, and the collector that they go
 //! to.
 
-ghost use Rattle.std.specs.Prelude.{◌≡◌, ◌≢◌, ◌<◌, ◌≤◌, ℕ, List, true, false, length, Some, slice_get, IsOk, OnOk, IfErr, vec_len};
-ghost use Rattle.plan_match.specs.declared.rule.Rule.{Rule};
+ghost use Rattle.std.specs.Prelude.{◌≡◌, ◌≢◌, ◌<◌, ℕ, List, false, Some, slice_get, IsOk, OnOk, IfErr, vec_len};
 ghost use Rattle.plan_collect.specs.declared.note.Note.{Note};
-ghost use Rattle.plan_collect.specs.Limits.{is_size};
-ghost use Rattle.plan_collect.specs.Span.{Bounds};
 ghost use Rattle.plan_mailbox.specs.Ends.{inlet_of, receipt_of, NothingKnown};
-ghost use Rattle.plan_threads.specs.Gathering.{ArePlanners, EndsAs, IsAccounted, IsGathering, IsThreadFault, IsWhole, Steps, all_notes};
+ghost use Rattle.plan_threads.specs.Gathering.{ArePlanners, EndsAs, IsAccounted, IsGathering, IsThreadFault, IsWhole, Steps};
+ghost use Rattle.plan_threads.specs.Task.{TaskParts, all_notes, task_of};
 
 use crate::pause::Pause;
 use crate::promise::PlannerPromise;
@@ -46,13 +44,10 @@ impl Desk {
         threads: Vec<Planner>,
         planners: usize,
     ) -> Result<Agenda, PlanFault>
-        requires size { is_size planners ≡ true }
-        requires planners { planners ≡ length self.collector.ended }
-        requires span { self.collector.span.since ≤ self.collector.span.upto }
-        requires gathers { IsGathering planners self.collector.limit self.collector.rules self.collector.span
-            self.collector (inlet_of self.inlet) self.refused }
-        requires threads { ArePlanners self.collector (inlet_of self.inlet).rings 0 threads.items }
-        ensures { EndsAs result self.collector.rules self.collector.span self.collector.limit }
+        requires planners { planners ≡ (task_of self.collector).planners }
+        requires gathers { IsGathering (task_of self.collector) self }
+        requires threads { ArePlanners (task_of self.collector) (inlet_of self.inlet).rings 0 threads.items }
+        ensures { EndsAs result (task_of self.collector) }
     {
         accepts_every_merging();
         let mut desk = self;
@@ -68,9 +63,7 @@ impl Desk {
 
     // Takes messages until all these flags are raised. Backs off while no message waits.
     fn take_until<R: Wait>(&mut self, rt: &R, flags: &[AtomicBool])
-        ensures gathers { (planners limit : ℕ) (rules : List Rule) (span : Bounds) →
-            IsGathering planners limit rules span self.old.collector (inlet_of self.old.inlet) self.old.refused →
-            IsGathering planners limit rules span self.new.collector (inlet_of self.new.inlet) self.new.refused }
+        ensures gathers { (task : TaskParts) → IsGathering task self.old → IsGathering task self.new }
         ensures rings { (inlet_of self.new.inlet).rings ≡ (inlet_of self.old.inlet).rings }
     {
         let mut pause = Pause::new();
@@ -90,13 +83,13 @@ impl Desk {
     //
     // `NoMemory` if an allocation of a planner failed.
     fn settle_all<R: Threads>(&mut self, rt: &R, planners: Vec<Planner>) -> Result<(), PlanFault>
-        requires { ArePlanners self.old.collector (inlet_of self.old.inlet).rings 0 planners.items }
+        requires { ArePlanners (task_of self.old.collector) (inlet_of self.old.inlet).rings 0 planners.items }
         ensures collector { self.new.collector ≡ self.old.collector }
         ensures refused { self.new.refused ≡ self.old.refused }
         ensures rings { (inlet_of self.new.inlet).rings ≡ (inlet_of self.old.inlet).rings }
         ensures taken { (inlet_of self.new.inlet).taken ≡ (inlet_of self.old.inlet).taken }
         ensures accounts { OnOk result ((k : ℕ) → k < vec_len planners →
-            IsAccounted (inlet_of self.new.inlet) k (all_notes self.old.collector k)) }
+            IsAccounted (inlet_of self.new.inlet) k (all_notes (task_of self.old.collector) k)) }
         ensures fault { IfErr result IsThreadFault }
     {
         let mut settled = Ok(());
@@ -127,9 +120,7 @@ impl Desk {
 
     // Takes all messages that wait.
     fn take_rest<R: Wait>(&mut self, rt: &R)
-        ensures gathers { (planners limit : ℕ) (rules : List Rule) (span : Bounds) →
-            IsGathering planners limit rules span self.old.collector (inlet_of self.old.inlet) self.old.refused →
-            IsGathering planners limit rules span self.new.collector (inlet_of self.new.inlet) self.new.refused }
+        ensures gathers { (task : TaskParts) → IsGathering task self.old → IsGathering task self.new }
         ensures rings { (inlet_of self.new.inlet).rings ≡ (inlet_of self.old.inlet).rings }
         ensures accounts { (s : ℕ) (sent : List Note) →
             IsAccounted (inlet_of self.old.inlet) s sent → IsAccounted (inlet_of self.new.inlet) s sent }
@@ -146,7 +137,7 @@ impl Desk {
     fn finish(self, settled: Result<(), PlanFault>) -> Result<Agenda, PlanFault>
         requires fault { IfErr settled IsThreadFault }
         requires whole { OnOk settled (IsWhole self.collector self.refused) }
-        ensures { EndsAs result self.collector.rules self.collector.span self.collector.limit }
+        ensures { EndsAs result (task_of self.collector) }
     {
         let refused = self.refused;
         if refused == Some(CollectFault::NoMemory) {
@@ -161,9 +152,7 @@ impl Desk {
 
     // Takes a message, and returns whether there was one.
     fn take(&mut self) -> bool
-        ensures gathers { (planners limit : ℕ) (rules : List Rule) (span : Bounds) →
-            IsGathering planners limit rules span self.old.collector (inlet_of self.old.inlet) self.old.refused →
-            IsGathering planners limit rules span self.new.collector (inlet_of self.new.inlet) self.new.refused }
+        ensures gathers { (task : TaskParts) → IsGathering task self.old → IsGathering task self.new }
         ensures rings { (inlet_of self.new.inlet).rings ≡ (inlet_of self.old.inlet).rings }
         ensures accounts { (s : ℕ) (sent : List Note) →
             IsAccounted (inlet_of self.old.inlet) s sent → IsAccounted (inlet_of self.new.inlet) s sent }

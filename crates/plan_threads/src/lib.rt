@@ -1,8 +1,8 @@
 //! A plan by planner threads: each planner sends the pieces of its jobs through a ring, and the calling
 //! thread collects them.
 //!
-//! The crate uses plan_collect for the collector, and plan_mailbox for the rings. Read `planning` first, then
-//! `planner`, which runs in each thread, and `desk`, where messages arrive.
+//! The crate uses plan_collect for the collector, and plan_mailbox for the rings. Read `planning` and `task`
+//! first, then `planner`, which runs in each thread, and `desk`, where messages arrive.
 #![tactic(auto)]
 
 mod desk;
@@ -11,7 +11,9 @@ mod pause;
 mod planner;
 mod planning;
 mod promise;
+mod task;
 
 pub use gate::{Gate, NoGate};
 pub use planner::run_planner;
 pub use planning::plan;
+pub use task::Task;

@@ -1,18 +1,18 @@
 //! A planner, which sends the pieces of its jobs.
 
-ghost use Rattle.std.specs.Prelude.{◌≡◌, ◌<◌, ◌≤◌, ℕ, List, ◌++◌, [], ◌∷◌, map, length, true, false, OnOk, OnErr, IfOk};
+ghost use Rattle.std.specs.Prelude.{◌≡◌, ◌<◌, ◌≤◌, List, ◌++◌, [], map, false, OnOk, OnErr, IfOk};
 ghost use Rattle.std.specs.Arc.{arc_value};
 ghost use Rattle.plan_collect.specs.declared.note.Note.{Note};
-ghost use Rattle.plan_collect.specs.Agenda.{rules_of};
-ghost use Rattle.plan_collect.specs.Limits.{is_limit, is_size};
-ghost use Rattle.plan_collect.specs.Tiling.{pieces, sent_by};
+ghost use Rattle.plan_collect.specs.Tiling.{pieces};
 ghost use Rattle.plan_mailbox.specs.Ends.{outlet_of, receipt_of};
 ghost use Rattle.plan_mailbox.specs.History.{IsPrefix};
 ghost use Rattle.plan_threads.specs.Sending.{after_send, cut_rest};
+ghost use Rattle.plan_threads.specs.Task.{all_notes, parts_of};
 
 use crate::gate::Gate;
 use crate::pause::Pause;
-use plan_collect::{Note, PIECE_STARTS, Span};
+use crate::task::Task;
+use plan_collect::{Note, PIECE_STARTS};
 use plan_mailbox::{Outlet, Receipt};
 use plan_match::Rule;
 use plan_next::{NoMemory, next_piece};
@@ -22,10 +22,10 @@ use std::sync::{Arc, Wait};
 
 /// Sends the messages of the outlet's planner, and closes the outlet.
 ///
-/// Job j is sent by planner j mod `planners`. For each of its jobs, in ascending order, the planner sends at
-/// least one piece, each with at most 1,024 starts. The pieces follow each other without a gap and cover the
-/// span. Then it sends its last message. After a piece with which more than `limit` starts were sent, it
-/// sends nothing more.
+/// Job j is sent by planner j mod the number of planners. For each of its jobs, in ascending order, the
+/// planner sends at least one piece, each with at most 1,024 starts. The pieces follow each other without a
+/// gap and cover the span. Then it sends its last message. After a piece with which more starts were sent
+/// than the limit, it sends nothing more.
 ///
 /// The receipt accounts for what was sent. The returned flag is true if an allocation failed, which ends the
 /// sending early. The planner arrives at the gate before it sends. While the outlet is full, it tries again,
@@ -34,26 +34,20 @@ pub fn run_planner<R: Wait, G: Gate>(
     rt: &R,
     alloc: Global,
     jobs: &Jobs,
-    span: Span,
-    planners: usize,
-    limit: u64,
+    task: &Task,
     gate: &G,
     outlet: Outlet<Note>,
 ) -> (Receipt<Note>, bool)
-    requires size { is_size planners ≡ true }
-    requires limit { is_limit limit ≡ true }
-    requires planner { (outlet_of outlet).sender < planners }
+    requires planner { (outlet_of outlet).sender < task.now.sizes.planners }
     requires fresh { (outlet_of outlet).sent ≡ [] }
     ensures sender { (receipt_of result.0).sender ≡ (outlet_of outlet).sender }
     ensures ring { (receipt_of result.0).ring ≡ (outlet_of outlet).ring }
-    ensures prefix { IsPrefix (receipt_of result.0).sent
-        (sent_by (outlet_of outlet).sender planners limit (rules_of jobs.now) span) }
-    ensures all { result.1 ≡ false → (receipt_of result.0).sent
-        ≡ sent_by (outlet_of outlet).sender planners limit (rules_of jobs.now) span }
+    ensures prefix { IsPrefix (receipt_of result.0).sent (all_notes (parts_of jobs.now task.now) (outlet_of outlet).sender) }
+    ensures all { result.1 ≡ false → (receipt_of result.0).sent ≡ all_notes (parts_of jobs.now task.now) (outlet_of outlet).sender }
 {
     gate.arrive(outlet.sender());
     let mut outlet = outlet;
-    let refused = match send_notes(rt, alloc, jobs, span, planners, limit, &mut outlet) {
+    let refused = match send_notes(rt, alloc, jobs, task, &mut outlet) {
         Ok(()) => false,
         Err(NoMemory) => true,
     };
@@ -65,40 +59,26 @@ fn send_notes<R: Wait>(
     rt: &R,
     alloc: Global,
     jobs: &Jobs,
-    span: Span,
-    planners: usize,
-    limit: u64,
+    task: &Task,
     outlet: &mut Outlet<Note>,
 ) -> Result<(), NoMemory>
-    requires size { is_size planners ≡ true }
-    requires limit { is_limit limit ≡ true }
     requires fresh { (outlet_of outlet.old).sent ≡ [] }
     ensures sender { (outlet_of outlet.new).sender ≡ (outlet_of outlet.old).sender }
     ensures ring { (outlet_of outlet.new).ring ≡ (outlet_of outlet.old).ring }
-    ensures all { OnOk result ((outlet_of outlet.new).sent
-        ≡ sent_by (outlet_of outlet.old).sender planners limit (rules_of jobs.now) span) }
+    ensures all { OnOk result ((outlet_of outlet.new).sent ≡ all_notes (parts_of jobs.now task.now) (outlet_of outlet.old).sender) }
     ensures prefix { OnErr result (IsPrefix (outlet_of outlet.new).sent
-        (sent_by (outlet_of outlet.old).sender planners limit (rules_of jobs.now) span)) }
+        (all_notes (parts_of jobs.now task.now) (outlet_of outlet.old).sender)) }
 {
     let planner = outlet.sender();
     let mut count = 0;
     for number in 0..jobs.len() {
-        if number % planners != planner {
+        if number % task.sizes.planners != planner {
             continue;
         }
         if let Some(job) = jobs.get(number) {
-            count = send_job(
-                rt,
-                alloc,
-                number as u32,
-                job.rule(),
-                span,
-                limit,
-                count,
-                outlet,
-            )?;
+            count = send_job(rt, alloc, task, number as u32, job.rule(), count, outlet)?;
         }
-        if count > limit {
+        if count > task.sizes.limit {
             return Ok(());
         }
     }
@@ -106,38 +86,37 @@ fn send_notes<R: Wait>(
     Ok(())
 }
 
-// Sends the pieces of a job, after `count` starts were sent before. Stops after a piece with which more than
-// `limit` starts were sent. Returns how many were sent by then.
+// Sends the pieces of a job, after `count` starts were sent before. Stops after a piece with which more starts
+// were sent than the limit. Returns how many were sent by then.
 fn send_job<R: Wait>(
     rt: &R,
     alloc: Global,
+    task: &Task,
     job: u32,
     rule: &Arc<Rule>,
-    span: Span,
-    limit: u64,
     count: u64,
     outlet: &mut Outlet<Note>,
 ) -> Result<u64, NoMemory>
-    requires limit { is_limit limit ≡ true }
-    requires few { count ≤ limit }
+    requires few { count ≤ task.now.sizes.limit }
     ensures sender { (outlet_of outlet.new).sender ≡ (outlet_of outlet.old).sender }
     ensures ring { (outlet_of outlet.new).ring ≡ (outlet_of outlet.old).ring }
 
     // For any messages that come after the job's.
-    ensures all { IfOk result (λ reached. (rest : List Note) →
-        (outlet_of outlet.old).sent ++ cut_rest limit count (map (Note.Part job) (pieces (arc_value rule.now) span.since span.upto) ++ rest)
-        ≡ (outlet_of outlet.new).sent ++ cut_rest limit reached rest) }
-    ensures prefix { OnErr result ((rest : List Note) → IsPrefix (outlet_of outlet.new).sent
-        ((outlet_of outlet.old).sent ++ cut_rest limit count (map (Note.Part job) (pieces (arc_value rule.now) span.since span.upto) ++ rest))) }
+    ensures all { let span = task.now.span in IfOk result (λ reached. (rest : List Note) →
+        (outlet_of outlet.old).sent ++ cut_rest task.now.sizes.limit count (map (Note.Part job) (pieces (arc_value rule.now) span.since span.upto) ++ rest)
+        ≡ (outlet_of outlet.new).sent ++ cut_rest task.now.sizes.limit reached rest) }
+    ensures prefix { let span = task.now.span in OnErr result ((rest : List Note) → IsPrefix (outlet_of outlet.new).sent
+        ((outlet_of outlet.old).sent ++ cut_rest task.now.sizes.limit count (map (Note.Part job) (pieces (arc_value rule.now) span.since span.upto) ++ rest))) }
 {
-    let mut since = span.since();
+    let upto = task.span.upto();
+    let mut since = task.span.since();
     let mut reached = count;
     loop {
-        let piece = next_piece(alloc, rule, since, span.upto(), PIECE_STARTS)?;
+        let piece = next_piece(alloc, rule, since, upto, PIECE_STARTS)?;
         since = piece.upto();
         reached += piece.starts().len() as u64;
         send(rt, outlet, Note::Part(job, piece));
-        if reached > limit || since >= span.upto() {
+        if reached > task.sizes.limit || since >= upto {
             return Ok(reached);
         }
     }

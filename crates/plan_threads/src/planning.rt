@@ -1,21 +1,19 @@
 //! A plan by several planners, each in its own thread.
 
-ghost use Rattle.std.specs.Prelude.{◌≡◌, ◌<◌, ◌≤◌, true, false, [], length, IfOk, IfErr, vec_len};
+ghost use Rattle.std.specs.Prelude.{◌≡◌, ◌<◌, false, [], length, IfOk, IfErr, vec_len};
 ghost use Rattle.plan_collect.specs.Agenda.{IsOfJobs, rules_of};
-ghost use Rattle.plan_collect.specs.Collecting.{begun};
-ghost use Rattle.plan_collect.specs.Limits.{is_limit, is_size};
-ghost use Rattle.plan_collect.specs.Tiling.{sent_by};
 ghost use Rattle.plan_mailbox.specs.Ends.{inlet_of, outlet_of, receipt_of};
-ghost use Rattle.plan_mailbox.specs.Mailbox.{is_size as is_mailbox_size};
 ghost use Rattle.plan_threads.specs.Gathering.{AreFresh, EndsAs, IsGathering};
 ghost use Rattle.plan_threads.specs.Planning.{PlansBy};
+ghost use Rattle.plan_threads.specs.Task.{all_notes, parts_of};
 
 use crate::desk::Desk;
 use crate::gate::Gate;
 use crate::planner::run_planner;
 use crate::promise::PlannerPromise;
-use plan_collect::{Agenda, Collector, MOST_ENTRIES, MOST_PLANNERS, Note, PlanFault, Sizes, Span};
-use plan_mailbox::{MOST_ROOM, Outlet, Receipt, Rings};
+use crate::task::Task;
+use plan_collect::{Agenda, Collector, MOST_PLANNERS, Note, PlanFault, Sizes, Span};
+use plan_mailbox::{Outlet, Receipt, Rings};
 use plan_rules::Jobs;
 use std::alloc::Global;
 use std::snapshot::Snapshot;
@@ -44,19 +42,9 @@ pub fn plan<R: Threads + Wait + Sync, G: Gate>(
     ensures planned { PlansBy result (rules_of jobs.now) span sizes }
     ensures jobs { IfOk result (λ made. IsOfJobs (length jobs.now) made.entries) }
 {
-    let Sizes {
-        planners,
-        room,
-        limit,
-    } = sizes;
-    if planners < 1 || planners > MOST_PLANNERS || room < 1 || room > MOST_ROOM {
-        return Err(PlanFault::BadSize);
-    }
-    if limit < 1 || limit > MOST_ENTRIES {
-        return Err(PlanFault::BadLimit);
-    }
-    let (outlets, desk) = set_up(alloc, jobs, span, sizes)?;
-    run_threads(rt, alloc, jobs, span, planners, limit, gate, outlets, desk)
+    let task = Task::new(span, sizes)?;
+    let (outlets, desk) = set_up(alloc, jobs, &task)?;
+    run_threads(rt, alloc, jobs, &task, gate, outlets, desk)
 }
 
 // Runs the planners of these outlets, each in its own thread, and collects their messages at the desk.
@@ -64,20 +52,15 @@ fn run_threads<R: Threads + Wait + Sync, G: Gate>(
     rt: &R,
     alloc: Global,
     jobs: &Jobs,
-    span: Span,
-    planners: usize,
-    limit: u64,
+    task: &Task,
     gate: &G,
     outlets: Vec<Outlet<Note>>,
     desk: Desk,
 ) -> Result<Agenda, PlanFault>
-    requires size { is_size planners ≡ true }
-    requires limit { is_limit limit ≡ true }
     requires outlets { AreFresh (inlet_of desk.inlet).rings 0 outlets.items }
-    requires as_many { vec_len outlets ≡ planners }
-    requires begun { desk.collector ≡ begun (rules_of jobs.now) span planners limit }
-    requires gathers { IsGathering planners limit (rules_of jobs.now) span desk.collector (inlet_of desk.inlet) desk.refused }
-    ensures { EndsAs result (rules_of jobs.now) span limit }
+    requires as_many { vec_len outlets ≡ task.now.sizes.planners }
+    requires gathers { IsGathering (parts_of jobs.now task.now) desk }
+    ensures { EndsAs result (parts_of jobs.now task.now) }
 {
     let flags = new_flags();
     let flags = &flags;
@@ -85,15 +68,12 @@ fn run_threads<R: Threads + Wait + Sync, G: Gate>(
         thread::scope_env(),
         rt,
         move |scope| -> Result<Agenda, PlanFault>
-            requires size { is_size planners ≡ true }
-            requires limit { is_limit limit ≡ true }
             requires outlets { AreFresh (inlet_of desk.inlet).rings 0 outlets.items }
-            requires as_many { vec_len outlets ≡ planners }
-            requires begun { desk.collector ≡ begun (rules_of jobs.now) span planners limit }
-            requires gathers { IsGathering planners limit (rules_of jobs.now) span desk.collector (inlet_of desk.inlet) desk.refused }
-            ensures { EndsAs result (rules_of jobs.entry.now) span limit }
+            requires as_many { vec_len outlets ≡ task.now.sizes.planners }
+            requires gathers { IsGathering (parts_of jobs.now task.now) desk }
+            ensures { EndsAs result (parts_of jobs.entry.now task.entry.now) }
         {
-            let Ok(mut threads) = Vec::with_capacity(alloc, planners) else {
+            let Ok(mut threads) = Vec::with_capacity(alloc, task.sizes.planners) else {
                 return Err(PlanFault::NoMemory);
             };
             for outlet in outlets {
@@ -101,50 +81,43 @@ fn run_threads<R: Threads + Wait + Sync, G: Gate>(
                 let promise = PlannerPromise {
                     outlet: Snapshot::of(&outlet),
                     jobs: Snapshot::of(jobs),
-                    span,
-                    planners,
-                    limit,
+                    task: Snapshot::of(task),
                 };
                 let work = move || -> (Receipt<Note>, bool)
-                    requires size { is_size planners ≡ true }
-                    requires limit { is_limit limit ≡ true }
-                    requires planner { (outlet_of outlet).sender < planners }
+                    requires planner { (outlet_of outlet).sender < task.now.sizes.planners }
                     requires fresh { (outlet_of outlet).sent ≡ [] }
                     ensures sender { (receipt_of result.0).sender ≡ (outlet_of outlet).sender }
                     ensures ring { (receipt_of result.0).ring ≡ (outlet_of outlet).ring }
                     ensures all { result.1 ≡ false → (receipt_of result.0).sent
-                        ≡ sent_by (outlet_of outlet).sender planners limit (rules_of jobs.entry.now) span }
-                { send_all(rt, alloc, jobs, span, planners, limit, gate, outlet, flag) };
+                        ≡ all_notes (parts_of jobs.entry.now task.entry.now) (outlet_of outlet).sender }
+                { send_all(rt, alloc, jobs, task, gate, outlet, flag) };
                 match scope.spawn_with(promise, work) {
                     Ok(thread) => threads.push_reserved(thread),
                     Err(_) => break,
                 }
             }
             let started = threads.len();
-            desk.collect(rt, &flags[..started], threads, planners)
+            desk.collect(rt, &flags[..started], threads, task.sizes.planners)
         },
     )
 }
 
 // Makes the outlets of the planners, and a desk at which nothing has arrived.
-fn set_up(
-    alloc: Global,
-    jobs: &Jobs,
-    span: Span,
-    sizes: Sizes,
-) -> Result<(Vec<Outlet<Note>>, Desk), PlanFault>
-    requires size { is_size sizes.planners ≡ true }
+fn set_up(alloc: Global, jobs: &Jobs, task: &Task) -> Result<(Vec<Outlet<Note>>, Desk), PlanFault>
     ensures outlets { IfOk result (λ made. AreFresh (inlet_of made.1.inlet).rings 0 made.0.items) }
-    ensures as_many { IfOk result (λ made. vec_len made.0 ≡ sizes.planners) }
-    ensures begun { IfOk result (λ made. made.1.collector ≡ begun (rules_of jobs.now) span sizes.planners sizes.limit) }
-    ensures gathers { IfOk result (λ made. IsGathering sizes.planners sizes.limit (rules_of jobs.now) span
-        made.1.collector (inlet_of made.1.inlet) made.1.refused) }
+    ensures as_many { IfOk result (λ made. vec_len made.0 ≡ task.now.sizes.planners) }
+    ensures gathers { IfOk result (λ made. IsGathering (parts_of jobs.now task.now) made.1) }
     ensures memory { IfErr result (λ fault. fault ≡ PlanFault.NoMemory) }
 {
-    let Ok(collector) = Collector::new(alloc, jobs, span, sizes.planners, sizes.limit) else {
+    let Sizes {
+        planners,
+        room,
+        limit,
+    } = task.sizes;
+    let Ok(collector) = Collector::new(alloc, jobs, task.span, planners, limit) else {
         return Err(PlanFault::NoMemory);
     };
-    let Ok(rings) = Rings::new(alloc, sizes.planners, sizes.room) else {
+    let Ok(rings) = Rings::new(alloc, planners, room) else {
         return Err(PlanFault::NoMemory);
     };
     let Ok((outlets, inlet)) = rings.split(alloc) else {
@@ -179,23 +152,18 @@ fn send_all<R: Wait, G: Gate>(
     rt: &R,
     alloc: Global,
     jobs: &Jobs,
-    span: Span,
-    planners: usize,
-    limit: u64,
+    task: &Task,
     gate: &G,
     outlet: Outlet<Note>,
     flag: &AtomicBool,
 ) -> (Receipt<Note>, bool)
-    requires size { is_size planners ≡ true }
-    requires limit { is_limit limit ≡ true }
-    requires planner { (outlet_of outlet).sender < planners }
+    requires planner { (outlet_of outlet).sender < task.now.sizes.planners }
     requires fresh { (outlet_of outlet).sent ≡ [] }
     ensures sender { (receipt_of result.0).sender ≡ (outlet_of outlet).sender }
     ensures ring { (receipt_of result.0).ring ≡ (outlet_of outlet).ring }
-    ensures all { result.1 ≡ false → (receipt_of result.0).sent
-        ≡ sent_by (outlet_of outlet).sender planners limit (rules_of jobs.now) span }
+    ensures all { result.1 ≡ false → (receipt_of result.0).sent ≡ all_notes (parts_of jobs.now task.now) (outlet_of outlet).sender }
 {
-    let sent = run_planner(rt, alloc, jobs, span, planners, limit, gate, outlet);
+    let sent = run_planner(rt, alloc, jobs, task, gate, outlet);
     flag.store(true, SeqCst);
     sent
 }

@@ -2,7 +2,8 @@
 
 ghost use Rattle.std.specs.Prelude.{◌≡◌, false};
 
-use plan_collect::{Note, Span};
+use crate::task::Task;
+use plan_collect::Note;
 use plan_mailbox::{Outlet, Receipt};
 use plan_rules::Jobs;
 use std::snapshot::Snapshot;
@@ -14,9 +15,7 @@ use std::thread::Promise;
 pub(crate) struct PlannerPromise {
     pub(crate) outlet: Snapshot<Outlet<Note>>,
     pub(crate) jobs: Snapshot<Jobs>,
-    pub(crate) span: Span,
-    pub(crate) planners: usize,
-    pub(crate) limit: u64,
+    pub(crate) task: Snapshot<Task>,
 }
 
 impl Promise<(Receipt<Note>, bool)> for PlannerPromise {

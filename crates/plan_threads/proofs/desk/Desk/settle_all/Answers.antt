@@ -4,7 +4,8 @@
 use Rattle.std.proofs.Common.{◌≡◌, ◌<◌, ◌+◌, ◌-◌, ◌∷◌, ℕ, length, vec_len, OnOk, IfErr, sym, ap, subst, ◌∙◌, arith}
 use Rattle.std.specs.Vec.Iter.{into_iter_items, into_iter_len}
 use Rattle.plan_mailbox.specs.Ends.{inlet_of, receipt_of}
-use Rattle.plan_threads.specs.Gathering.{ArePlanners, IsAccounted, IsThreadFault, all_notes}
+use Rattle.plan_threads.specs.Gathering.{ArePlanners, IsAccounted, IsThreadFault}
+use Rattle.plan_threads.specs.Task.{all_notes, task_of}
 use Rattle.plan_threads.proofs.SettlingLemmas.{planner_ring, planner_sent, accounts_more, and_ok, and_err}
 use Rattle.plan_threads.proofs.desk.Desk.settle_all.Goals as goal
 use Rattle.std.specs.Prelude.{slice_get}
@@ -15,10 +16,10 @@ settle-requires g c =
     let so_far = c.loop-planner.invariant in
     let done = vec_len c.args.planners - into_iter_len c.loop-planner.planner-iterator in
     let some = so_far.6 in
-    let are : ArePlanners before.collector (inlet_of before.inlet).rings done (c.in-Some.planner ∷ into_iter_items c.next.new.self) =
-    subst (ArePlanners before.collector (inlet_of before.inlet).rings done) c.in-Some.ensures.steps.0 (so_far.4 done (omega arith)).0 in
+    let are : ArePlanners (task_of before.collector) (inlet_of before.inlet).rings done (c.in-Some.planner ∷ into_iter_items c.next.new.self) =
+    subst (ArePlanners (task_of before.collector) (inlet_of before.inlet).rings done) c.in-Some.ensures.steps.0 (so_far.4 done (omega arith)).0 in
     ap (λ rings. slice_get rings (receipt_of c.join-receipt.result.0).sender) so_far.2
-    ∙ planner_ring before.collector (inlet_of before.inlet).rings done c.in-Some.planner.promise c.join-receipt.result are.0
+    ∙ planner_ring (task_of before.collector) (inlet_of before.inlet).rings done c.in-Some.planner.promise c.join-receipt.result are.0
     c.join-receipt.ensures
 
 pub loop-planner-preserved-then-refused : goal.loop-planner-preserved-then-refused
@@ -34,11 +35,11 @@ loop-planner-preserved-then-refused g c =
       c.settle.ensures.taken ∙ so_far.3,
       (λ done are. (
         (let earlier : (done - 1) + 1 ≡ done = omega arith in
-            let all : ArePlanners before.collector (inlet_of before.inlet).rings (done - 1)
+            let all : ArePlanners (task_of before.collector) (inlet_of before.inlet).rings (done - 1)
             (c.in-Some.planner ∷ into_iter_items c.next.new.self) =
-            subst (ArePlanners before.collector (inlet_of before.inlet).rings (done - 1)) c.in-Some.ensures.steps.0
+            subst (ArePlanners (task_of before.collector) (inlet_of before.inlet).rings (done - 1)) c.in-Some.ensures.steps.0
             (so_far.4 (done - 1) (omega arith)).0 in
-            subst (λ n. ArePlanners before.collector (inlet_of before.inlet).rings n (into_iter_items c.next.new.self)) earlier all.1),
+            subst (λ n. ArePlanners (task_of before.collector) (inlet_of before.inlet).rings n (into_iter_items c.next.new.self)) earlier all.1),
         tt,
       )),
       tt,
@@ -60,20 +61,20 @@ loop-planner-preserved g c =
       (λ done are.
           let earlier : (done - 1) + 1 ≡ done = omega arith in
           let was = so_far.4 (done - 1) (omega arith) in
-          let all : ArePlanners before.collector (inlet_of before.inlet).rings (done - 1)
+          let all : ArePlanners (task_of before.collector) (inlet_of before.inlet).rings (done - 1)
           (c.in-Some.planner ∷ into_iter_items c.next.new.self) =
-          subst (ArePlanners before.collector (inlet_of before.inlet).rings (done - 1)) c.in-Some.ensures.steps.0 was.0 in
+          subst (ArePlanners (task_of before.collector) (inlet_of before.inlet).rings (done - 1)) c.in-Some.ensures.steps.0 was.0 in
           let own : receipt.sender ≡ done - 1 = c.join-receipt.ensures.0 ∙ all.0.sender in
-          let sent : receipt.sent ≡ all_notes before.collector (done - 1) = planner_sent before.collector
+          let sent : receipt.sent ≡ all_notes (task_of before.collector) (done - 1) = planner_sent (task_of before.collector)
           (inlet_of before.inlet).rings (done - 1) c.in-Some.planner.promise c.join-receipt.result all.0 c.join-receipt.ensures
           c.if-refused.false in (
-            subst (λ n. ArePlanners before.collector (inlet_of before.inlet).rings n (into_iter_items c.next.new.self)) earlier all.1,
+            subst (λ n. ArePlanners (task_of before.collector) (inlet_of before.inlet).rings n (into_iter_items c.next.new.self)) earlier all.1,
             subst (λ r. OnOk r ((k : ℕ) → k < done → IsAccounted (inlet_of c.settle.new.self.inlet) k
-                (all_notes before.collector k))) (sym c.and-settled.ensures)
+                (all_notes (task_of before.collector) k))) (sym c.and-settled.ensures)
                 (and_ok c.loop-planner.settled c.settle.result _ _
-                ((k : ℕ) → k < done → IsAccounted (inlet_of c.settle.new.self.inlet) k (all_notes before.collector k)) was.1
+                ((k : ℕ) → k < done → IsAccounted (inlet_of c.settle.new.self.inlet) k (all_notes (task_of before.collector) k)) was.1
                 c.settle.ensures.accounts
-                (λ known here. λ k lt. accounts_more (all_notes before.collector) (inlet_of c.loop-planner.self.inlet)
+                (λ known here. λ k lt. accounts_more (all_notes (task_of before.collector)) (inlet_of c.loop-planner.self.inlet)
                 (inlet_of c.settle.new.self.inlet) (done - 1) receipt.sender receipt.sent own sent here c.settle.ensures.others
                 known k (omega arith))),
           )),

@@ -6,14 +6,11 @@ use Rattle.plan_threads.proofs.GatheringLemmas.{gathers_more}
 use Rattle.plan_threads.proofs.desk.Desk.take.Goals as goal
 
 pub returns-clause-gathers : goal.returns-clause-gathers
-returns-clause-gathers c = λ planners limit rules span so_far.
+returns-clause-gathers c = λ task so_far.
     let took : IsTake (inlet_of c.args.self.now.inlet) c.in-Some.planner c.in-Some.note (inlet_of c.accept.new.self.inlet) =
     subst (λ (i : Inlet Note). IsTake (inlet_of c.args.self.now.inlet) c.in-Some.planner c.in-Some.note (inlet_of i))
     (sym c.accept.ensures.inlet) c.in-Some.ensures.took in
-    gathers_more planners limit rules span c.args.self.now.collector
-    (inlet_of c.args.self.now.inlet) c.args.self.now.refused c.in-Some.planner c.in-Some.note c.accept.new.self.collector
-    (inlet_of c.accept.new.self.inlet) c.accept.new.self.refused
-    so_far took c.accept.ensures.steps
+    gathers_more task c.args.self.now c.accept.new.self c.in-Some.planner c.in-Some.note so_far took c.accept.ensures.steps
 
 pub returns-clause-accounts : goal.returns-clause-accounts
 returns-clause-accounts c = λ s sent accounted.

@@ -9,8 +9,7 @@ loop-preserved g c = record {
   can = tt;
   ends = tt;
   same = (
-    (λ planners limit rules span so_far. c.take.ensures.gathers planners limit rules span
-        (c.loop.invariant.same.0 planners limit rules span so_far)),
+    (λ task so_far. c.take.ensures.gathers task (c.loop.invariant.same.0 task so_far)),
     c.take.ensures.rings ∙ c.loop.invariant.same.1,
     (λ s sent accounted. c.take.ensures.accounts s sent (c.loop.invariant.same.2 s sent accounted)),
   );

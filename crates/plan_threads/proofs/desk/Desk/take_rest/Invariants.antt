@@ -1,9 +1,8 @@
 use Rattle.std.proofs.Common.{◌≡◌, ℕ, List}
-use Rattle.plan_match.specs.declared.rule.Rule.{Rule}
 use Rattle.plan_collect.specs.declared.note.Note.{Note}
-use Rattle.plan_collect.specs.Span.{Bounds}
 use Rattle.plan_mailbox.specs.Ends.{inlet_of}
 use Rattle.plan_threads.specs.Gathering.{IsAccounted, IsGathering}
+use Rattle.plan_threads.specs.Task.{TaskParts}
 use Rattle.plan_threads.proofs.desk.Desk.take_rest.Given as goal
 
 -- what was known still holds
@@ -12,9 +11,7 @@ invariant-loop g l = record {
   can : (goal.iterator-loop g).can_next l.iterator';
   ends : (goal.iterator-loop g).is_finite l.iterator';
   same : (
-      ((planners limit : ℕ) (rules : List Rule) (span : Bounds) → IsGathering planners limit rules span l.fn.self.collector
-      (inlet_of l.fn.self.inlet) l.fn.self.refused → IsGathering planners limit rules span l.self.collector
-      (inlet_of l.self.inlet) l.self.refused)
+      ((task : TaskParts) → IsGathering task l.fn.self → IsGathering task l.self)
       × ((inlet_of l.self.inlet).rings ≡ (inlet_of l.fn.self.inlet).rings)
       × ((s : ℕ) (sent : List Note) → IsAccounted (inlet_of l.fn.self.inlet) s sent → IsAccounted (inlet_of l.self.inlet) s sent)
       );
