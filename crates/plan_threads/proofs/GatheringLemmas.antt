@@ -1,7 +1,7 @@
 -- The result of the messages that are taken: for `gathers` of `Desk::take`, and for `Desk::collect`. `IsGathering` has
 -- the messages in the order of arrival, as a history. `gathers_more` appends a message: by induction over the history,
 -- the answer to all is that to the new message after the others (`answer_on`). The first error stays the first.
-use Rattle.std.proofs.Common.{◌≡◌, ℕ, zero, suc, ◌+◌, ◌<◌, ◌≤◌, ◌⊎◌, true, false, ◌==◌, List, [], ◌∷◌, ◌++◌, length, None, Some, Option, Result, Ok, Err, inl, inr, refl, ap, sym, ◌∙◌, subst, arith, append-nil}
+use Rattle.std.proofs.Common.{◌≡◌, ℕ, zero, suc, ◌<◌, ◌⊎◌, true, false, ◌==◌, List, [], ◌∷◌, ◌++◌, length, None, Some, Option, Result, Ok, Err, inl, inr, refl, ap, sym, ◌∙◌, subst, arith, append-nil}
 use Rattle.std.specs.Prelude.{slice_get, slice_set, slice_index_or, MatchResult, OnOk}
 use Rattle.std.proofs.lemmas.Bool.{cases_eq, eq-eqb, ne_eqb}
 use Rattle.std.proofs.lemmas.List.{length-set, get_or-set_same, get_or-set_other}

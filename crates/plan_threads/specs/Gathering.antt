@@ -1,6 +1,5 @@
 -- What the calling thread of a plan knows about the messages that it took (agenda).
 use Rattle.std.specs.Prelude.{◌≡◌, ℕ, ◌+◌, ◌<◌, ◌≤◌, true, List, [], ◌∷◌, length, Option, None, Some, slice_get, Result, Ok, Err}
-use Rattle.plan_match.specs.declared.rule.Rule.{Rule}
 use Rattle.plan_collect.specs.declared.note.Note.{Note}
 use Rattle.plan_collect.specs.declared.collector.CollectFault.{CollectFault}
 use Rattle.plan_collect.specs.declared.collector.CollectFault.TheVariants as collect

@@ -1,4 +1,4 @@
-use Rattle.std.proofs.Common.{◌≡◌, ◌-◌, ◌≤◌, ◌++◌, List}
+use Rattle.std.proofs.Common.{◌≡◌, ◌-◌, ◌≤◌}
 use Rattle.std.specs.Arc.{arc_value}
 use Rattle.plan_mailbox.specs.Ends.{outlet_of}
 use Rattle.plan_threads.proofs.SendingLemmas.{IsSentTo}

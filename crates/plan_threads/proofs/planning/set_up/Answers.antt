@@ -1,7 +1,7 @@
 use Rattle.std.proofs.Common.{◌≡◌, [], length, refl, sym, ap, subst, ◌∙◌}
 use Rattle.std.proofs.lemmas.List.{length-map, length-replicate}
 use Rattle.plan_collect.specs.declared.note.Note.{Note}
-use Rattle.plan_mailbox.specs.Ends.{ReceivingEnd, inlet_of}
+use Rattle.plan_mailbox.specs.Ends.{ReceivingEnd}
 use Rattle.plan_mailbox.specs.Mailbox.{senders_of}
 use Rattle.plan_mailbox.specs.Splits.{rings_of}
 use Rattle.plan_threads.specs.Gathering.{AreFresh}

@@ -4,7 +4,7 @@
 -- (`gathers_all`).
 use Rattle.std.proofs.Common.{◌<◌, ℕ, vec_len, sym, ap, subst, ◌∙◌, arith}
 use Rattle.plan_mailbox.specs.Ends.{inlet_of}
-use Rattle.plan_threads.specs.Gathering.{ArePlanners, EndsAs, IsAccounted, IsGathering, IsWhole}
+use Rattle.plan_threads.specs.Gathering.{ArePlanners, EndsAs, IsAccounted, IsWhole}
 use Rattle.plan_threads.specs.Task.{all_notes, task_of}
 use Rattle.plan_threads.proofs.GatheringLemmas.{gathers_all, gathers_same, ok_map, taken_all}
 use Rattle.plan_threads.proofs.desk.Desk.collect.Goals as goal
