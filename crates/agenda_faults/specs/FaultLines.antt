@@ -15,7 +15,8 @@ use Rattle.plan_collect.specs.declared.CollectFault.TheVariants as collect
 use Rattle.plan_collect.specs.declared.PlanFault.{PlanFault}
 use Rattle.plan_collect.specs.declared.PlanFault.TheVariants as plan
 use Rattle.agenda_script.specs.Causes.{script_cause}
-use Rattle.plan_collect.specs.Causes.{span_cause, collect_cause}
+use Rattle.plan_collect.specs.Causes.{collect_cause}
+use Rattle.plan_collect.specs.Span.{span_cause}
 use Rattle.plan_grammar.specs.Causes.{rule_cause}
 use Rattle.plan_rules.specs.Causes.{line_cause}
 use Rattle.plan_sets.specs.Causes.{moment_cause}

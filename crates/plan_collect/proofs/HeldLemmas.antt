@@ -9,7 +9,7 @@ use Rattle.std.proofs.lemmas.List.{length-map, map-append}
 use Rattle.plan_match.specs.declared.rule.Rule.{Rule}
 use Rattle.plan_next.specs.Starts.{is_start, passing, starts}
 use Rattle.plan_next.specs.StartsLaws.{passing-append}
-use Rattle.plan_collect.specs.Span.{Bounds}
+use Rattle.plan_next.specs.Span.{Bounds}
 use Rattle.plan_collect.specs.Agenda.{row_from}
 use Rattle.plan_collect.specs.Collecting.{held_from, weigh}
 use Rattle.plan_collect.proofs.StartsLemmas.{weigh-append}

@@ -16,7 +16,7 @@ use Rattle.plan_next.specs.Starts.{starts, passing}
 use Rattle.plan_next.specs.Piece.{Part}
 use Rattle.plan_collect.specs.declared.note.Note.TheVariants as note
 use Rattle.plan_rules.specs.Limits.{most_jobs}
-use Rattle.plan_collect.specs.Span.{Bounds}
+use Rattle.plan_next.specs.Span.{Bounds}
 use Rattle.plan_collect.specs.Limits.{is_limit, is_size}
 use Rattle.plan_collect.specs.Agenda.{agenda}
 use Rattle.plan_collect.specs.Collecting.{Collected, held_from, held, is_rule_of, belongs, adjoins, has_room, is_complete, weigh, SameStarts, Holds}

@@ -14,7 +14,7 @@ use Rattle.plan_collect.specs.declared.note.Note.{Note}
 use Rattle.plan_collect.specs.declared.note.Note.TheVariants.{Part, Last}
 use Rattle.plan_collect.specs.declared.collector.CollectFault.{CollectFault}
 use Rattle.plan_collect.specs.declared.collector.CollectFault.TheVariants.{TooMany}
-use Rattle.plan_collect.specs.Span.{Bounds}
+use Rattle.plan_next.specs.Span.{Bounds}
 use Rattle.plan_collect.specs.Collecting.{Collected, held, belongs, is_rule_of, has_ended, adjoins, has_room, refusal, after, is_complete}
 use Rattle.plan_collect.specs.Tiling.{starts_in, notes_of}
 use Rattle.plan_collect.specs.Merging.{answer_to}

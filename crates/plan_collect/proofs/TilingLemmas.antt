@@ -14,7 +14,7 @@ use Rattle.plan_next.specs.StartsLaws.{passing-none}
 use Rattle.plan_next.specs.Piece.{piece_of, piece_end}
 use Rattle.plan_collect.specs.declared.note.Note.{Note}
 use Rattle.plan_collect.specs.declared.note.Note.TheVariants as note
-use Rattle.plan_collect.specs.Span.{Bounds}
+use Rattle.plan_next.specs.Span.{Bounds}
 use Rattle.plan_collect.specs.Limits.{most_planners, most_starts}
 use Rattle.plan_collect.specs.Collecting.{Collected, begun, held_from, has_ended, after}
 use Rattle.plan_collect.specs.Tiling.{pieces_within, pieces, parts_from, tiling, starts_in, cut_after, sent_by}

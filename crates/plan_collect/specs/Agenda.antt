@@ -6,7 +6,7 @@ use Rattle.plan_sets.specs.Limits.{end_second}
 use Rattle.plan_match.specs.declared.rule.Rule.{Rule}
 use Rattle.plan_next.specs.Starts.{is_start}
 use Rattle.plan_rules.specs.Job.{JobParts}
-use Rattle.plan_collect.specs.Span.{Bounds, bounds_code}
+use Rattle.plan_next.specs.Span.{Bounds, bounds_code}
 
 -- the rules of jobs: the rule at place j is that of the job with number j
 abbrev pub rules_of : List JobParts → List Rule

@@ -8,7 +8,7 @@ use Rattle.plan_sets.specs.Limits.{end_second}
 use Rattle.plan_match.specs.declared.rule.Rule.{Rule}
 use Rattle.plan_next.specs.Starts.{is_start, rule_starts}
 use Rattle.plan_rules.specs.Job.{JobParts}
-use Rattle.plan_collect.specs.Span.{Bounds}
+use Rattle.plan_next.specs.Span.{Bounds}
 use Rattle.plan_collect.specs.Agenda.{row_from, agenda, IsInYears, IsOfJobs}
 
 -- a test that each entry of a row passes is passed by all entries of all rows

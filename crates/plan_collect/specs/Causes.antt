@@ -1,14 +1,7 @@
 -- The names of errors, as `Display` and error lines show them (agenda).
 use Rattle.std.specs.Prelude.{ℕ, List, codes}
-use Rattle.plan_collect.specs.declared.span.SpanFault.{SpanFault}
-use Rattle.plan_collect.specs.declared.span.SpanFault.TheVariants as span
 use Rattle.plan_collect.specs.declared.collector.CollectFault.{CollectFault}
 use Rattle.plan_collect.specs.declared.collector.CollectFault.TheVariants as collect
-
--- the names of the errors of a span
-abbrev pub span_cause : SpanFault → List ℕ
-span_cause span.Backwards = codes "Backwards"
-span_cause span.OutOfYears = codes "OutOfYears"
 
 -- the names of a collector's errors
 abbrev pub collect_cause : CollectFault → List ℕ

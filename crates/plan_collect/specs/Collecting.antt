@@ -12,7 +12,7 @@ use Rattle.plan_collect.specs.declared.note.Note.TheVariants.{Part, Last}
 use Rattle.plan_collect.specs.declared.collector.CollectFault.{CollectFault}
 use Rattle.plan_collect.specs.declared.collector.CollectFault.TheVariants.{NoMemory, Stranger, Gap, TooMany, AfterLast, Missing}
 use Rattle.plan_rules.specs.Limits.{most_jobs}
-use Rattle.plan_collect.specs.Span.{Bounds, bounds_code}
+use Rattle.plan_next.specs.Span.{Bounds, bounds_code}
 use Rattle.plan_collect.specs.Limits.{is_limit, is_size}
 use Rattle.plan_collect.specs.Agenda.{Planned, planned}
 

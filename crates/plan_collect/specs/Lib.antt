@@ -1,13 +1,13 @@
 pub use Rattle.plan_match.specs.Match
 pub use Rattle.plan_next.specs.Starts
 pub use Rattle.plan_next.specs.Piece
+pub use Rattle.plan_next.specs.Span
 pub use Rattle.plan_rules.specs.Job
 pub use Rattle.plan_sets.specs.Moment
 pub mod Agenda
 pub mod AgendaLaws
 pub mod Collecting
 pub mod Limits
-pub mod Span
 pub mod Tiling
 pub mod TilingLaws
 pub mod Merging

@@ -5,7 +5,7 @@ use Rattle.plan_next.specs.Starts.{starts}
 use Rattle.plan_next.specs.Piece.{Part, piece_of}
 use Rattle.plan_collect.specs.declared.note.Note.{Note}
 use Rattle.plan_collect.specs.declared.note.Note.TheVariants as note
-use Rattle.plan_collect.specs.Span.{Bounds}
+use Rattle.plan_next.specs.Span.{Bounds}
 use Rattle.plan_collect.specs.Limits.{most_starts}
 
 -- the pieces of a rule from `since` on, each starting where the one before it ends, until one ends with the part: at

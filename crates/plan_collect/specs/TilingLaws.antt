@@ -9,7 +9,7 @@ use Rattle.plan_next.specs.Piece.{piece_of, piece_end}
 use Rattle.plan_next.specs.StartsLaws.{passing-none}
 use Rattle.plan_collect.specs.declared.note.Note.{Note}
 use Rattle.plan_collect.specs.declared.note.Note.TheVariants as note
-use Rattle.plan_collect.specs.Span.{Bounds}
+use Rattle.plan_next.specs.Span.{Bounds}
 use Rattle.plan_collect.specs.Limits.{most_starts}
 use Rattle.plan_collect.specs.Tiling.{pieces_within, pieces, parts_from, starts_in, cut_after}
 

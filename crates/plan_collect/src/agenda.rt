@@ -3,8 +3,8 @@
 ghost use Rattle.std.specs.Prelude.{◌≡◌, ◌≤◌, ◌↔◌, [], length, slice_get, IsTrue};
 ghost use Rattle.plan_collect.specs.Agenda.{IsInYears};
 
-use crate::span::Span;
 use crate::start::Start;
+use plan_next::Span;
 use plan_sets::END_SECOND;
 use std::marker::Model;
 

@@ -14,10 +14,9 @@ ghost use Rattle.plan_collect.specs.Collecting.{begun, is_rule_of, belongs, has_
 use crate::agenda::Agenda;
 use crate::note::Note;
 use crate::sorting::sort_starts;
-use crate::span::Span;
 use crate::start::Start;
 use plan_match::Rule;
-use plan_next::Piece;
+use plan_next::{Piece, Span};
 use plan_rules::Jobs;
 use std::alloc::{AllocError, Global};
 use std::marker::Model;

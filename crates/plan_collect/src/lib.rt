@@ -13,7 +13,6 @@ mod note;
 mod plan_fault;
 mod sizes;
 mod sorting;
-mod span;
 mod start;
 mod upcoming;
 
@@ -22,7 +21,7 @@ pub use collector::{CollectFault, Collector, CollectorFault, MOST_ENTRIES, MOST_
 pub use merging::accepts_every_merging;
 pub use note::{Note, PIECE_STARTS};
 pub use plan_fault::PlanFault;
+pub use plan_next::{Span, SpanFault};
 pub use sizes::Sizes;
-pub use span::{Span, SpanFault};
 pub use start::Start;
 pub use upcoming::Upcoming;

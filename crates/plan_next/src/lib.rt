@@ -12,8 +12,10 @@ mod next;
 mod nexts;
 mod piece;
 mod search;
+mod span;
 mod zone;
 
 pub use laws::starts_without_clock;
 pub use next::{next_from, next_start};
 pub use piece::{NoMemory, Piece, next_piece};
+pub use span::{Span, SpanFault};

@@ -4,7 +4,7 @@ use Rattle.plan_match.specs.declared.rule.Rule.{Rule}
 use Rattle.plan_collect.specs.Agenda.{Planned, agenda, planned, IsInYears, IsOfJobs}
 use Rattle.plan_collect.specs.Collecting.{Collected}
 use Rattle.plan_collect.specs.AgendaLaws.{agenda-in_years, agenda-of_rules}
-use Rattle.plan_collect.specs.Span.{Bounds}
+use Rattle.plan_next.specs.Span.{Bounds}
 use Rattle.plan_collect.specs.contracts.collector.Collector.{the_view}
 use Rattle.plan_collect.proofs.HoldsLemmas.{agenda_sorted}
 use Rattle.plan_collect.proofs.collector.Collector.finish.Goals as goal

@@ -18,7 +18,7 @@ pub enum SpanFault {
 
 impl SpanFault {
     ghost use Rattle.std.specs.Prelude.{◌≡◌};
-    ghost use Rattle.plan_collect.specs.Causes.{span_cause};
+    ghost use Rattle.plan_next.specs.Span.{span_cause};
 
     /// Returns the name of the error, as error lines show it.
     pub fn name(&self) -> &'static str
@@ -41,7 +41,7 @@ pub struct Span {
 
 impl Model for Span {
     ghost use Rattle.std.specs.Prelude.{◌≤◌};
-    ghost use Rattle.plan_collect.specs.Span.{Bounds};
+    ghost use Rattle.plan_next.specs.Span.{Bounds};
     ghost use Rattle.plan_sets.specs.declared.civil.TheConstants.{END_SECOND};
 
     ghost Value = { Bounds };
