@@ -1,6 +1,6 @@
 use Rattle.std.proofs.Common.{◌++◌, ◌+◌, ap, ◌∙◌, arith, drop}
+use Rattle.plan_collect.specs.AgendaLaws.{job_there}
 use Rattle.plan_collect.specs.Upcoming.{next_or_end, nexts_from}
-use Rattle.plan_collect.proofs.JobsLemmas.{job_there}
 use Rattle.plan_collect.proofs.NextsLemmas.{nexts_more}
 use Rattle.plan_collect.proofs.upcoming.nexts_of.Goals as goal
 use Rattle.plan_collect.proofs.upcoming.nexts_of.Goals.{in-Some+in_ok-push, in_default}
