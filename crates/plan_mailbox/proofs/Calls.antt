@@ -1,7 +1,8 @@
 -- What a mailbox replies, by cases: for `send`, `take` and `is_new` of `Lanes`, and for `is_new` of `Lanes::new`. Each
 -- lemma applies what the code found to the tests of the definition. In `next-found-in` and `next-none-in` the code
 -- searched the lanes, and the definition the mailbox's lists of the same length: Lines.antt does the rest.
-use Rattle.std.proofs.Common.{◌≡◌, ℕ, zero, suc, ◌<◌, Bool, true, false, not, ◌||◌, cond, eqb, ltb, List, [], ◌∷◌, length, map, replicate, None, Some, find, refl, subst, sym, ap, ◌∙◌}
+use Rattle.std.proofs.Common.{◌≡◌, ℕ, zero, suc, ◌<◌, Bool, true, false, not, ◌||◌, cond, eqb, ltb, List, [], ◌∷◌, length, map, replicate, None, Some, find, refl, subst, sym, ap, ◌∙◌, arith}
+use Rattle.std.proofs.lemmas.Bool.Decides.{nat_tests}
 use Rattle.std.specs.List.{list_any, list_all, slice_get, AllPass}
 use Rattle.std.proofs.lemmas.List.{length-map, length-replicate}
 use Rattle.std.proofs.lemmas.Bool.{cond-true, cond-false, lt-ltb, ne_eqb, or_parts, not-true}
@@ -17,11 +18,7 @@ use Rattle.plan_mailbox.proofs.Lines.{next-found, next-none}
 pub send_reply-sent :
     {M : Type 0} (b : Mailbox M) (s : ℕ) (m : M) → s < senders_of b → is_closed_at b s ≡ false →
     (length (waiting_at b s) ≡ b.room → ⊥) → send_reply b s m ≡ Sent
-send_reply-sent b s m known open' fits =
-    let room = cond (eqb (length (waiting_at b s)) b.room) (Full m) Sent in
-    cond-true (ltb s (senders_of b)) (cond (is_closed_at b s) (Closed m) room) (NoSender m) (lt-ltb s (senders_of b) known)
-    ∙ cond-false (is_closed_at b s) (Closed m) room open' ∙ cond-false (eqb (length (waiting_at b s)) b.room) (Full m) Sent
-    (ne_eqb (length (waiting_at b s)) b.room fits)
+send_reply-sent b s m known open' fits = grind (arith, nat_tests)
 
 -- if no mark is set, all marks are false
 pub none_closed : (marks : List Bool) → list_any (λ x. x) marks ≡ false → marks ≡ replicate (length marks) false
@@ -76,11 +73,7 @@ list_any-map f (x ∷ xs) = ap (λ b. f x || b) (list_any-map f xs)
 pub IsNew-from :
     {M : Type 0} (b : Mailbox M) → b.waiting ≡ replicate (senders_of b) [] → b.closed ≡ replicate (senders_of b) false → b.turn ≡ 0 →
     b.has_sent ≡ false → IsNew b
-IsNew-from b waiting closed turn sent =
-    let n = senders_of b in
-    ap (λ ws. record b { waiting = ws }) waiting ∙ ap (λ marks. record b { waiting = replicate n []; closed = marks }) closed
-    ∙ ap (λ t. record b { waiting = replicate n []; closed = replicate n false; turn = t }) turn
-    ∙ ap (λ s. record b { waiting = replicate n []; closed = replicate n false; turn = 0; has_sent = s }) sent
+IsNew-from b waiting closed turn sent = grind (arith, nat_tests)
 
 -- a new mailbox is new
 pub IsNew-at : {M : Type 0} (b : Mailbox M) (senders room : ℕ) → b ≡ new_mailbox senders room → IsNew b

@@ -2,6 +2,7 @@
 -- longer history at any time is the shorter one at that time, or the whole. So `IsLawful-push` needs only what
 -- `IsAllowed` says of the whole. For the waiting messages, `Leaves-push` cuts what was sent after what was taken.
 use Rattle.std.proofs.Common.{◌≡◌, ℕ, ◌+◌, ◌%◌, ◌<◌, ◌≤◌, Bool, true, false, cond, ◌||◌, eqb, List, [], ◌∷◌, ◌++◌, length, take, drop, None, refl, sym, ap, ◌∙◌, inl, inr, ⊎_elim, subst, arith, add-zero, zero-add}
+use Rattle.std.proofs.lemmas.Bool.Decides.{nat_tests}
 use Rattle.std.specs.Prelude.{flat_map, count_by}
 use Rattle.std.specs.List.{list_any, last_or}
 use Rattle.std.proofs.lemmas.List.{append-nil, append_assoc, take_all, take-append-le, drop-append-le, drop_all, length-append, take-append-drop}
@@ -20,8 +21,7 @@ flat_map_push : {X A : Type 0} (f : X → List A) (xs : List X) (x : X) → flat
 flat_map_push f xs x = flat_map-append f xs (x ∷ []) ∙ ap (λ r. flat_map f xs ++ r) (append-nil (f x))
 
 pub or_false : (b : Bool) → (b || false) ≡ b
-or_false true = refl
-or_false false = refl
+or_false b = grind (arith, nat_tests)
 
 -- what a history with one more event says about a sender
 pub was_closed-push : {M : Type 0} (h : List (Event M)) (e : Event M) (s : ℕ) → was_closed (h ++ e ∷ []) s ≡ (was_closed h s || closes s e)
@@ -116,13 +116,7 @@ pub record IsAllowed {M : Type 0} (senders room : ℕ) (h : List (Event M)) (e :
   pub known : sender_of e < senders
 
 pub IsLawful-nil : {M : Type 0} (senders room : ℕ) → IsLawful {M = M} senders room []
-IsLawful-nil senders room = record {
-  in_order = λ k s. simp take-nil;
-  roomy = λ k s. simp take-nil (omega arith);
-  closed_once = λ s. omega arith;
-  closed = λ k s closed. simp drop-nil;
-  known = All-nil (λ x. sender_of x < senders);
-}
+IsLawful-nil senders room = grind (arith, nat_tests)
 
 -- a sender that was closed at some time was closed
 was_closed-take : {M : Type 0} (h : List (Event M)) (k s : ℕ) → was_closed (take k h) s ≡ true → was_closed h s ≡ true

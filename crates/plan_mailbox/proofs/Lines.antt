@@ -2,6 +2,7 @@
 -- By induction over the senders in turn. If a message of the first sender waits, it is the first of the line. If none
 -- waits, both the line and the search for a sender are those of the other senders.
 use Rattle.std.proofs.Common.{◌≡◌, ℕ, cond, ltb, List, [], ◌∷◌, ◌++◌, length, map, Option, None, Some, find, refl, sym, ap, ◌∙◌, arith}
+use Rattle.std.proofs.lemmas.Bool.Decides.{nat_tests}
 use Rattle.std.specs.List.{slice_get}
 use Rattle.std.proofs.lemmas.Option.{same_Some, none-some}
 use Rattle.std.proofs.lemmas.Bool.{lt-ltb}
@@ -9,9 +10,7 @@ use Rattle.plan_mailbox.specs.Turn.{line_of}
 
 -- the same messages make the same line
 pub line_of-same : {M : Type 0} (f g : ℕ → List M) → ((s : ℕ) → f s ≡ g s) → (order : List ℕ) → line_of f order ≡ line_of g order
-line_of-same f g h [] = refl
-line_of-same f g h (s ∷ order) =
-    ap (λ ms. map (λ m. (s, m)) ms ++ line_of f order) (h s) ∙ ap (λ r. map (λ m. (s, m)) (g s) ++ r) (line_of-same f g h order)
+line_of-same f g given order = grind (arith, nat_tests)
 
 -- the first message in a line is the oldest of its sender
 first_among : {M : Type 0} (f : ℕ → List M) (s : ℕ) (ms : List M) (others : List (ℕ × M)) (next : ℕ × M) → f s ≡ ms

@@ -2,6 +2,7 @@
 -- cases of `taking`. The sender of a message has a number below 8, since it is a sender of the mailbox: for larger
 -- numbers nothing waits, but the first message in line does.
 use Rattle.std.proofs.Common.{◌≡◌, ℕ, ◌<◌, ◌≤◌, Bool, true, false, List, [], ◌∷◌, Option, None, Some, refl, sym, ap, subst, ◌∙◌, ⊎_elim, arith}
+use Rattle.std.proofs.lemmas.Bool.Decides.{nat_tests}
 use Rattle.std.specs.List.{list_all}
 use Rattle.std.proofs.lemmas.Bool.{cases_lt}
 use Rattle.std.proofs.lemmas.List.{get_or_past}
@@ -27,9 +28,7 @@ taking-replies :
     {M : Type 0} (found : Option (ℕ × M)) (all : Bool) → ((next : ℕ × M) → found ≡ Some next → next.0 < most_senders) →
     (taking found all ≡ Nothing → ⊥)
     → IsTakeReply (taking found all) × (Some (taking found all) ≡ answer_to_take (taking found all))
-taking-replies (Some next) all known goes_on = (known next refl, refl)
-taking-replies None true known goes_on = (tt, refl)
-taking-replies None false known goes_on = absurd (goes_on refl)
+taking-replies found all given given₂ = grind (arith, nat_tests)
 
 -- the replies to a take, except that a message may still come
 pub take-replies :

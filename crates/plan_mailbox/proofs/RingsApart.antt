@@ -52,27 +52,14 @@ module _ {M : Type 0} where
   rings-apart (lane ∷ lanes) = ap (λ ring. ring ∷ map (λ (e : RingEnd M). consumer_ring e.consumer) (map end_from lanes))
       (one_ring lane) ∙ ap (λ rings. ring_in lane ∷ rings) (rings-apart lanes)
 
-  taken-apart :
-      (lanes : List (RingLane M)) → All IsUnused lanes →
-      map (λ (e : RingEnd M). received e.consumer) (map end_from lanes) ≡ replicate (length lanes) []
-  taken-apart [] unused = refl
-  taken-apart (lane ∷ lanes) unused =
-      ap (λ taken. taken ∷ map (λ (e : RingEnd M). received e.consumer) (map end_from lanes))
-      (nothing_received lane (All-head IsUnused lane lanes unused))
-      ∙ ap (λ taken. [] ∷ taken) (taken-apart lanes (All-tail IsUnused lane lanes unused))
-
-  known-apart :
-      (lanes : List (RingLane M)) → All IsUnused lanes →
-      map (λ (e : RingEnd M). known_items e.consumer) (map end_from lanes) ≡ replicate (length lanes) []
-  known-apart [] unused = refl
-  known-apart (lane ∷ lanes) unused =
-      ap (λ known. known ∷ map (λ (e : RingEnd M). known_items e.consumer) (map end_from lanes))
-      (nothing_known lane (All-head IsUnused lane lanes unused))
-      ∙ ap (λ known. [] ∷ known) (known-apart lanes (All-tail IsUnused lane lanes unused))
-
-  settled-apart : (lanes : List (RingLane M)) → map (λ (e : RingEnd M). e.is_settled) (map end_from lanes) ≡ replicate (length lanes) false
-  settled-apart [] = refl
-  settled-apart (lane ∷ lanes) = ap (λ marks. false ∷ marks) (settled-apart lanes)
+  -- what each receiving end of an unused lane has
+  each-apart :
+      {B : Type 0} (f : RingEnd M → B) (y : B) → ((lane : RingLane M) → IsUnused lane → f (end_from lane) ≡ y) →
+      (lanes : List (RingLane M)) → All IsUnused lanes → map f (map end_from lanes) ≡ replicate (length lanes) y
+  each-apart f y same [] unused = refl
+  each-apart f y same (lane ∷ lanes) unused =
+      ap (λ x. x ∷ map f (map end_from lanes)) (same lane (All-head IsUnused lane lanes unused))
+      ∙ ap (λ ys. y ∷ ys) (each-apart f y same lanes (All-tail IsUnused lane lanes unused))
 
   -- how many places the sending end of a lane knows to be free
   abbrev pub free_in : RingLane M → ℕ
@@ -110,9 +97,9 @@ module _ {M : Type 0} where
   pub inlet-apart : (lanes : List (RingLane M)) → All IsUnused lanes → receiving 0 (map end_from lanes) ≡ new_inlet (map ring_in lanes)
   inlet-apart lanes unused = rw (
     rings-apart lanes,
-    taken-apart lanes unused,
-    known-apart lanes unused,
-    settled-apart lanes,
+    each-apart (λ e. received e.consumer) [] nothing_received lanes unused,
+    each-apart (λ e. known_items e.consumer) [] nothing_known lanes unused,
+    each-apart (λ e. e.is_settled) false (λ lane unused. refl) lanes unused,
     length-map lanes ring_in,
   )
 

@@ -2,6 +2,7 @@
 -- Runs.antt. `Keeps-step` goes through the tests of the reply in their order. A rejected step records no event. For the
 -- others there is one lemma each, `Keeps-sends`, `Keeps-takes` and `Keeps-closes`, about the step's sender and all others.
 use Rattle.std.proofs.Common.{◌≡◌, ℕ, ◌≢◌, ◌+◌, ◌%◌, ◌<◌, ◌≤◌, Bool, true, false, cond, ◌||◌, eqb, ltb, List, [], ◌∷◌, ◌++◌, length, drop, set, get_or, replicate, Option, None, Some, refl, sym, ap, ◌∙◌, inl, inr, ⊎_elim, subst, arith}
+use Rattle.std.proofs.lemmas.Bool.Decides.{nat_tests}
 use Rattle.std.specs.List.{list_all, list_any, slice_get, range_with_len}
 use Rattle.std.proofs.lemmas.List.{append-nil, length-append, length-set, length-replicate, get_or-replicate, get_or_past, set-get_or, set_past}
 use Rattle.std.proofs.lemmas.Bool.{cases_lt, cases_Bool, or_right, cond_both, ltb-true, ltb-false, eqb-true, eqb-false, both_ways, ne_eqb}
@@ -45,10 +46,7 @@ Keeps-same : {M : Type 0} (senders room : ℕ) (h : List (Event M)) (b : Mailbox
 Keeps-same senders room h b k = rw (append-nil h) k
 
 or_cond : (x y : Bool) → (x || y) ≡ cond y true x
-or_cond true true = refl
-or_cond true false = refl
-or_cond false true = refl
-or_cond false false = refl
+or_cond x y = grind (arith, nat_tests)
 
 -- a message is sent
 Keeps-sends :
