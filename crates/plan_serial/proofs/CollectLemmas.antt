@@ -4,6 +4,7 @@
 use Rattle.std.proofs.Common.{◌≡◌, ℕ, zero, suc, ◌%◌, ◌<◌, ◌≤◌, Bool, true, false, cond, ◌&&◌, ◌==◌, List, [], ◌∷◌, length, None, Some, Result, Err, refl, ap, sym, subst, ◌∙◌, arith}
 use Rattle.std.specs.Prelude.{slice_get, slice_index, slice_set, unwrap_or, nat_lt, nat_le}
 use Rattle.std.proofs.lemmas.Bool.{and_from, eq-eqb, le-leb}
+use Rattle.std.proofs.lemmas.Option.{get_or_from_slice_get}
 use Rattle.plan_collect.specs.Span.{Bounds}
 use Rattle.plan_match.specs.declared.rule.Rule.{Rule}
 use Rattle.plan_match.specs.Equal.{same_rule-Decides}
@@ -13,6 +14,7 @@ use Rattle.plan_collect.specs.declared.collector.CollectFault.{CollectFault}
 use Rattle.plan_collect.specs.declared.collector.CollectFault.TheVariants.{NoMemory, Stranger, Gap, TooMany, AfterLast, Missing}
 use Rattle.plan_collect.specs.Agenda.{agenda}
 use Rattle.plan_collect.specs.Collecting.{Collected, is_rule_of, belongs, has_ended, adjoins, has_room, refusal, Answers}
+use Rattle.plan_collect.specs.TilingLaws.{set_again}
 use Rattle.plan_serial.specs.Planning.{PlanFails}
 use Rattle.plan_collect.specs.PlanFault.{of_collect}
 
@@ -25,20 +27,10 @@ pub record IsAt (old now : Collected) (job since : ℕ) : Type 0 where
   pub others : (end : ℕ) → slice_set now.covered job end ≡ slice_set old.covered job end
   pub here : slice_get now.covered job ≡ Some since
 
-set_twice : (xs : List ℕ) (i a b : ℕ) → slice_set (slice_set xs i a) i b ≡ slice_set xs i b
-set_twice [] i a b = refl
-set_twice (x ∷ xs) zero a b = refl
-set_twice (x ∷ xs) (suc i) a b = ap (λ ys. x ∷ ys) (set_twice xs i a b)
-
 get_set : (xs : List ℕ) (i a b : ℕ) → slice_get xs i ≡ Some a → slice_get (slice_set xs i b) i ≡ Some b
 get_set [] i a b is = absurd cc
 get_set (x ∷ xs) zero a b is = refl
 get_set (x ∷ xs) (suc i) a b is = get_set xs i a b is
-
-index_get : (xs : List ℕ) (i a : ℕ) → slice_get xs i ≡ Some a → slice_index xs i ≡ a
-index_get [] i a is = absurd cc
-index_get (x ∷ xs) zero a is = cc
-index_get (x ∷ xs) (suc i) a is = index_get xs i a is
 
 -- one more piece
 pub IsAt-more :
@@ -49,7 +41,7 @@ IsAt-more old now new job since end so_far is = record {
   span = ap (λ (c : Collected). c.span) is ∙ so_far.span;
   limit = ap (λ (c : Collected). c.limit) is ∙ so_far.limit;
   ended = ap (λ (c : Collected). c.ended) is ∙ so_far.ended;
-  others = λ last. ap (λ (c : Collected). slice_set c.covered job last) is ∙ set_twice now.covered job end last ∙ so_far.others last;
+  others = λ last. ap (λ (c : Collected). slice_set c.covered job last) is ∙ set_again now.covered job end last ∙ so_far.others last;
   here = ap (λ (c : Collected). slice_get c.covered job) is ∙ get_set now.covered job since end so_far.here;
 }
 
@@ -58,17 +50,9 @@ last_refusal :
     (room : Bool) (fault : CollectFault) (P : Type 0) → Answers (Err fault) (cond room None (Some TooMany)) →
     (fault ≡ TooMany → P) → (fault ≡ NoMemory → P) → P
 last_refusal true NoMemory P is many none = none refl
-last_refusal true Stranger P is many none = absurd cc
-last_refusal true Gap P is many none = absurd cc
-last_refusal true TooMany P is many none = absurd cc
-last_refusal true AfterLast P is many none = absurd cc
-last_refusal true Missing P is many none = absurd cc
-last_refusal false NoMemory P is many none = absurd cc
-last_refusal false Stranger P is many none = absurd cc
-last_refusal false Gap P is many none = absurd cc
+last_refusal true other P is many none = absurd cc
 last_refusal false TooMany P is many none = many refl
-last_refusal false AfterLast P is many none = absurd cc
-last_refusal false Missing P is many none = absurd cc
+last_refusal false other P is many none = absurd cc
 
 only_room :
     (belonging ended adjoining room : Bool) → belonging ≡ true → ended ≡ false → adjoining ≡ true →
@@ -107,7 +91,7 @@ piece_refused old now job rule piece since upto fault so_far unended ends known 
     ∙ and_from (job % 1 == 0) (is_rule_of (slice_get now.rules job) piece.rule) remainder same in
     let going_on : has_ended now 0 ≡ false = ap (λ (ended : List Bool). unwrap_or (slice_get ended 0) false) none_ended in
     let at_begin : (slice_index now.covered job == piece.since) ≡ true = eq-eqb (slice_index now.covered job) piece.since
-    (index_get now.covered job since so_far.here ∙ sym begins) in
+    (get_or_from_slice_get now.covered job since 0 so_far.here ∙ sym begins) in
     let end_is : now.span.upto ≡ upto = ap (λ (s : Bounds). s.upto) so_far.span ∙ ends in
     let at_end : nat_le piece.upto now.span.upto ≡ true = le-leb piece.upto now.span.upto (omega arith) in
     let adjoining : adjoins now (note.Part job piece) ≡ true = and_from (slice_index now.covered job == piece.since)

@@ -77,9 +77,3 @@ err_not_ok e x is = cc
 pub if_err : {T E : Type 0} (r : Result T E) (e : E) (P : E → Type 0) → IsErrAnd r (λ f. f ≡ e) → P e → IfErr r P
 if_err (Ok x) e P is h = tt
 if_err (Err f) e P is h = subst P (sym is) h
-
--- each number below the number of jobs is that of a job
-pub job_there : (jobs : List JobParts) (n : ℕ) → None ≡ slice_get jobs n → n < length jobs → ⊥
-job_there [] n none lt = omega arith
-job_there (job ∷ jobs) zero none lt = cc
-job_there (job ∷ jobs) (suc n) none lt = job_there jobs n none (omega arith)

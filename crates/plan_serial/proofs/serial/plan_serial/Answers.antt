@@ -2,7 +2,8 @@ use Rattle.std.proofs.Common.{◌≡◌, ◌<◌, length, ◌∙◌, arith}
 use Rattle.std.proofs.lemmas.List.{length-map}
 use Rattle.plan_rules.specs.Job.{JobParts}
 use Rattle.plan_collect.specs.Agenda.{rules_of}
-use Rattle.plan_serial.proofs.SerialLemmas.{IsUpTo-more, finished-all, err_not_ok, job_there}
+use Rattle.plan_collect.specs.AgendaLaws.{job_there}
+use Rattle.plan_serial.proofs.SerialLemmas.{IsUpTo-more, finished-all, err_not_ok}
 use Rattle.plan_serial.proofs.serial.plan_serial.Goals as goal
 use Rattle.plan_serial.proofs.serial.plan_serial.Goals.{in-Some+in_ok-collect_job, in_default}
 
