@@ -1,72 +1,69 @@
--- The findings of lines, one after the other: for `add_lines`. The findings of two lists of entries are those
--- of the first, and then those of the second with the names after the first (`entries_findings-append`). A line
--- adds its entry, if it has one (`entries_push`).
-use Rattle.std.proofs.Common.{◌≡◌, ℕ, ◌+◌, ◌<◌, List, [], ◌∷◌, ◌++◌, length, take, get_or, Option, refl, ap, sym, ◌∙◌}
-use Rattle.std.proofs.lemmas.List.{append_assoc}
-use Rattle.std.specs.List.{cons_option, filter_map}
+-- The findings of lines, one after the other: for the loop of `add_lines`. What was found so far, with what the
+-- remaining lines add to it, is what is found in all lines.
+use Rattle.std.proofs.Common.{◌≡◌, ℕ, ◌+◌, ◌<◌, ◌≤◌, List, [], ◌++◌, length, drop, get_or, map, Option, Some, None, refl, ap, sym, ◌∙◌, append-nil}
+use Rattle.std.proofs.lemmas.List.{append_assoc, drop_more, drop_all}
+use Rattle.std.specs.List.{cons_option, enumerate_from, filter_map}
 use Rattle.plan_rules.specs.declared.entry.Entry.{Entry}
 use Rattle.plan_rules.specs.Job.{JobParts}
-use Rattle.plan_rules.proofs.CrontabLemmas.{placed}
-use Rattle.plan_rules.proofs.EntryLemmas.{entries_push}
 use Rattle.plan_check.specs.declared.finding.Finding.{Finding}
 use Rattle.plan_check.specs.Crontabs.{line_findings, after_line, entries_findings, after_entries}
 use Rattle.plan_check.specs.Names.{KnownNames}
 
-entries_findings-append :
-    (known : KnownNames) (first second : List (Entry JobParts)) →
-    entries_findings known (first ++ second)
-    ≡ entries_findings known first ++ entries_findings (after_entries known first) second
-entries_findings-append known [] second = refl
-entries_findings-append known (entry ∷ more) second =
-    let here = line_findings known entry.line entry.read in
-    let next = after_line known entry.read in
-    ap (λ found. here ++ found) (entries_findings-append next more second)
-    ∙ sym (append_assoc here (entries_findings next more) (entries_findings (after_entries next more) second))
+-- the entries of the lines from a place on
+abbrev pub entries_left : {A : Type 0} → (ℕ × List ℕ → Option (Entry JobParts)) → (A → List ℕ) → List A → ℕ → List (Entry JobParts)
+entries_left f v lines place = filter_map f (enumerate_from place (map v (drop place lines)))
 
-after_entries-append :
-    (known : KnownNames) (first second : List (Entry JobParts)) →
-    after_entries known (first ++ second) ≡ after_entries (after_entries known first) second
-after_entries-append known [] second = refl
-after_entries-append known (entry ∷ more) second =
-    after_entries-append (after_line known entry.read) more second
+left_more :
+    {A : Type 0} (f : ℕ × List ℕ → Option (Entry JobParts)) (v : A → List ℕ) (lines : List A) (place : ℕ) (d : A) → place < length lines →
+    entries_left f v lines place ≡ cons_option (f (place, v (get_or lines place d))) (entries_left f v lines (place + 1))
+left_more f v lines place d inside =
+    ap (λ left. filter_map f (enumerate_from place (map v left))) (drop_more lines place d inside)
 
--- the entries of the lines so far, and that of one more line
-grown :
-    {A : Type 0} (f : ℕ × List ℕ → Option (Entry JobParts)) (v : A → List ℕ) (lines : List A) (place : ℕ) (d : A) →
-    place < length lines →
-    filter_map f (take place (placed v lines)) ++ cons_option (f (place, v (get_or lines place d))) []
-    ≡ filter_map f (take (place + 1) (placed v lines))
-grown f v lines place d inside = entries_push f v lines place d _ _ inside refl refl
+found_step :
+    (known : KnownNames) (entry : Option (Entry JobParts)) (more : List (Entry JobParts)) →
+    entries_findings known (cons_option entry more)
+    ≡ entries_findings known (cons_option entry []) ++ entries_findings (after_entries known (cons_option entry [])) more
+found_step known None more = refl
+found_step known (Some entry) more =
+    ap (λ here. here ++ entries_findings (after_line known entry.read) more) (sym (append-nil (line_findings known entry.line entry.read)))
 
--- the findings grow in the same way
+names_step :
+    (known : KnownNames) (entry : Option (Entry JobParts)) (more : List (Entry JobParts)) →
+    after_entries known (cons_option entry more) ≡ after_entries (after_entries known (cons_option entry [])) more
+names_step known None more = refl
+names_step known (Some entry) more = refl
+
+-- one more line
 pub found_more :
-    {A : Type 0} (known : KnownNames) (f : ℕ × List ℕ → Option (Entry JobParts)) (v : A → List ℕ) (lines : List A)
-    (place : ℕ) (d : A) (before so_far next : List Finding) (names : KnownNames) → place < length lines →
-    so_far ≡ before ++ entries_findings known (filter_map f (take place (placed v lines))) →
-    names ≡ after_entries known (filter_map f (take place (placed v lines))) →
-    next ≡ so_far ++ entries_findings names (cons_option (f (place, v (get_or lines place d))) []) →
-    next ≡ before ++ entries_findings known (filter_map f (take (place + 1) (placed v lines)))
-found_more known f v lines place d before so_far next names inside found after here =
-    let first = filter_map f (take place (placed v lines)) in
-    let second = cons_option (f (place, v (get_or lines place d))) [] in
-    here
-    ∙ (λ i. found i ++ entries_findings (after i) second)
-    ∙ append_assoc before (entries_findings known first)
-    (entries_findings (after_entries known first) second)
-    ∙ ap (λ found. before ++ found)
-    (sym (entries_findings-append known first second) ∙ ap (entries_findings known) (grown f v lines place d inside))
+    {A : Type 0} (known names : KnownNames) (f : ℕ × List ℕ → Option (Entry JobParts)) (v : A → List ℕ) (lines : List A) (place : ℕ)
+    (d : A) (found next whole : List Finding) → place < length lines →
+    next ≡ found ++ entries_findings known (cons_option (f (place, v (get_or lines place d))) []) →
+    names ≡ after_entries known (cons_option (f (place, v (get_or lines place d))) []) →
+    found ++ entries_findings known (entries_left f v lines place) ≡ whole →
+    next ++ entries_findings names (entries_left f v lines (place + 1)) ≡ whole
+found_more known names f v lines place d found next whole inside is after so_far =
+    let entry = f (place, v (get_or lines place d)) in
+    let more = entries_left f v lines (place + 1) in
+    (λ i. is i ++ entries_findings (after i) more)
+    ∙ append_assoc found (entries_findings known (cons_option entry [])) (entries_findings (after_entries known (cons_option entry [])) more)
+    ∙ ap (λ left. found ++ left)
+    (sym (ap (entries_findings known) (left_more f v lines place d inside) ∙ found_step known entry more))
+    ∙ so_far
 
--- and the names
 pub names_more :
-    {A : Type 0} (known : KnownNames) (f : ℕ × List ℕ → Option (Entry JobParts)) (v : A → List ℕ) (lines : List A)
-    (place : ℕ) (d : A) (names next : KnownNames) → place < length lines →
-    names ≡ after_entries known (filter_map f (take place (placed v lines))) →
-    next ≡ after_entries names (cons_option (f (place, v (get_or lines place d))) []) →
-    next ≡ after_entries known (filter_map f (take (place + 1) (placed v lines)))
-names_more known f v lines place d names next inside after here =
-    let first = filter_map f (take place (placed v lines)) in
-    let second = cons_option (f (place, v (get_or lines place d))) [] in
-    here
-    ∙ ap (λ known. after_entries known second) after
-    ∙ sym (after_entries-append known first second)
-    ∙ ap (after_entries known) (grown f v lines place d inside)
+    {A : Type 0} (known names : KnownNames) (f : ℕ × List ℕ → Option (Entry JobParts)) (v : A → List ℕ) (lines : List A) (place : ℕ)
+    (d : A) (whole : KnownNames) → place < length lines →
+    names ≡ after_entries known (cons_option (f (place, v (get_or lines place d))) []) →
+    after_entries known (entries_left f v lines place) ≡ whole → after_entries names (entries_left f v lines (place + 1)) ≡ whole
+names_more known names f v lines place d whole inside after so_far =
+    let entry = f (place, v (get_or lines place d)) in
+    let more = entries_left f v lines (place + 1) in
+    ap (λ (k : KnownNames). after_entries k more) after
+    ∙ sym (ap (after_entries known) (left_more f v lines place d inside) ∙ names_step known entry more)
+    ∙ so_far
+
+-- after the last line
+pub none_left :
+    {A : Type 0} (f : ℕ × List ℕ → Option (Entry JobParts)) (v : A → List ℕ) (lines : List A) (place : ℕ) → length lines ≤ place →
+    entries_left f v lines place ≡ []
+none_left f v lines place past = ap (λ left. filter_map f (enumerate_from place (map v left))) (drop_all place lines past)

@@ -1,8 +1,6 @@
--- The entries of lines, and what the lines mean together: for loops that read one line after the other, and for the law of entries.
+-- The entries of lines, and what the lines mean together: for the law of entries.
 -- A text whose lines are read in order, up to the first error, means what its entries mean (`each_by_entries`).
-use Rattle.std.proofs.Common.{◌≡◌, ℕ, ◌+◌, ◌<◌, ◌≤◌, List, [], ◌∷◌, ◌++◌, length, take, get_or, Option, Some, None, Ok, Err, refl, ap, sym, ◌∙◌, arith}
-use Rattle.std.proofs.lemmas.List.{take_more, take_all}
-use Rattle.std.proofs.lemmas.List.Elements.{filter_map-append}
+use Rattle.std.proofs.Common.{◌≡◌, ℕ, ◌+◌, List, [], ◌∷◌, Option, Some, None, Ok, Err, refl, ap, ◌∙◌}
 use Rattle.std.specs.List.{filter_map, cons_option, enumerate_from}
 use Rattle.plan_rules.specs.declared.entry.Entry.{Entry}
 use Rattle.plan_rules.specs.declared.line_fault.LineFault.{LineFault}
@@ -13,41 +11,6 @@ use Rattle.plan_rules.specs.declared.crontabs.Kind.{Kind}
 use Rattle.plan_texts.specs.Lines.{lines}
 use Rattle.plan_rules.specs.Crontab.{line_reading, jobs_reading, entries_of_lines, crontab_reading, crontab_by_entries}
 use Rattle.plan_rules.specs.Entries.{entry_on, refusals, given, unless_refused, meant_by}
-use Rattle.plan_rules.proofs.CrontabLemmas.{placed, at_place, length-placed}
-
--- ---- the loop
-
--- one more line
-entries_more :
-    {A B : Type 0} (f : ℕ × List ℕ → Option B) (v : A → List ℕ) (lines : List A) (place : ℕ) (d : A) → place < length lines →
-    filter_map f (take (place + 1) (placed v lines))
-    ≡ filter_map f (take place (placed v lines)) ++ cons_option (f (place, v (get_or lines place d))) []
-entries_more f v lines place d inside =
-    let long = length-placed v lines in
-    let within : place < length (placed v lines) = omega arith in
-    ap (filter_map f) (take_more (placed v lines) place (place, v (get_or lines place d)) within ∙
-    ap (λ l. take place (placed v lines) ++ l ∷ []) (at_place v lines place d (place, v (get_or lines place d)) inside))
-    ∙ filter_map-append f (take place (placed v lines)) ((place, v (get_or lines place d)) ∷ [])
-
--- so there is one more entry, or none
-pub entries_push :
-    {A B : Type 0} (f : ℕ × List ℕ → Option B) (v : A → List ℕ) (lines : List A) (place : ℕ) (d : A) (so_far next : List B) →
-    place < length lines → so_far ≡ filter_map f (take place (placed v lines)) →
-    next ≡ so_far ++ cons_option (f (place, v (get_or lines place d))) [] → next ≡ filter_map f (take (place + 1) (placed v lines))
-entries_push f v lines place d so_far next inside is here =
-    here
-    ∙ ap (λ xs. xs ++ cons_option (f (place, v (get_or lines place d))) []) is
-    ∙ sym (entries_more f v lines place d inside)
-
--- all lines
-pub entries_all :
-    {A B : Type 0} (f : ℕ × List ℕ → Option B) (v : A → List ℕ) (lines : List A) (place : ℕ) → length lines ≤ place →
-    filter_map f (take place (placed v lines)) ≡ filter_map f (placed v lines)
-entries_all f v lines place past =
-    let long = length-placed v lines in
-    ap (filter_map f) (take_all place (placed v lines) (omega arith))
-
--- ---- the law of a crontab
 
 with_first :
     {B : Type 0} (x : B) (later : TextReading (List (Option B))) (faults : List LineFault) (xs : List B) →
