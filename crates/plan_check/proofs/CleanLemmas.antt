@@ -26,11 +26,11 @@ use Rattle.plan_rules.specs.TimerEntries.{count_from, entries_from, events_after
 use Rattle.plan_check.specs.declared.finding.Finding.{Finding}
 use Rattle.plan_check.specs.declared.finding.Warning.{Warning}
 use Rattle.plan_check.specs.declared.finding.Warning.TheVariants.{NeverStarts, EitherDay, NoEvents}
-use Rattle.plan_check.specs.declared.finding.What.TheVariants.{SameName, Full}
+use Rattle.plan_check.specs.declared.finding.What.TheVariants.{Refused, SameName, Full, Warned}
 use Rattle.plan_check.specs.declared.form.Form.{Form}
 use Rattle.plan_check.specs.declared.form.Form.TheVariants.{Crontab, Named, Timer}
 use Rattle.plan_check.specs.Crontabs.{line_findings, after_line, entries_findings, after_entries, crontab_findings, after_crontab}
-use Rattle.plan_check.specs.Finding.{is_clean, is_warning, finding_at, refused_at, refused_if, warned_if}
+use Rattle.plan_check.specs.Finding.{is_clean, is_warning, finding_at, found_if, refused_at}
 use Rattle.plan_check.specs.Files.{File, file_findings, file_of, after_file, files_findings, files_names, names_by, names_with, names_then}
 use Rattle.plan_check.specs.Form.{alone, form_reading, label_of}
 use Rattle.plan_check.specs.Names.{KnownNames, is_added, names_after, no_names, with_jobs}
@@ -58,13 +58,13 @@ clean_append [] ys = refl
 clean_append (x ∷ xs) ys =
     ap (λ (b : Bool). is_warning x.what && b) (clean_append xs ys) ∙ and_assoc (is_warning x.what) (is_clean xs) (is_clean ys)
 
-warned_clean : (is_so : Bool) (line : ℕ) (warning : Warning) (more : List Finding) → is_clean (warned_if is_so line warning ++ more) ≡ is_clean more
+warned_clean : (is_so : Bool) (line : ℕ) (warning : Warning) (more : List Finding) → is_clean (found_if is_so line (Warned warning) ++ more) ≡ is_clean more
 warned_clean true line warning more = refl
 warned_clean false line warning more = refl
 
 two_clean :
     (p q : Bool) (line : ℕ) (first second : Warning) (more : List Finding) →
-    is_clean ((warned_if p line first ++ warned_if q line second) ++ more) ≡ is_clean more
+    is_clean ((found_if p line (Warned first) ++ found_if q line (Warned second)) ++ more) ≡ is_clean more
 two_clean true true line first second more = refl
 two_clean true false line first second more = refl
 two_clean false true line first second more = refl
@@ -210,14 +210,14 @@ events_clean clock (event ∷ more) =
 timer_right :
     (clock : List Change) (a b is_so : Bool) (added : List (List ℕ)) (name : List ℕ) (found : List Finding) → is_clean found ≡ true →
     Agrees clock (cond a None (cond b (Some (added ++ name ∷ [])) None))
-    (named_findings 0 a b ++ (warned_if is_so 0 NoEvents ++ found)) (named_after clock a b added name)
+    (named_findings 0 a b ++ (found_if is_so 0 (Warned NoEvents) ++ found)) (named_after clock a b added name)
 timer_right clock true b is_so added name found clean = refl
 timer_right clock false true is_so added name found clean = (warned_clean is_so 0 NoEvents found ∙ clean, refl)
 timer_right clock false false is_so added name found clean = refl
 
 timer_wrong :
     (has a b is_so : Bool) (found : List Finding) → is_clean found ≡ false →
-    is_clean (refused_if (not has) 0 NoTimerSection ++ (named_findings 0 a b ++ (warned_if is_so 0 NoEvents ++ found))) ≡ false
+    is_clean (found_if (not has) 0 (Refused NoTimerSection) ++ (named_findings 0 a b ++ (found_if is_so 0 (Warned NoEvents) ++ found))) ≡ false
 timer_wrong false a b is_so found faulty = refl
 timer_wrong true true b is_so found faulty = refl
 timer_wrong true false true is_so found faulty = warned_clean is_so 0 NoEvents found ∙ faulty
@@ -229,8 +229,8 @@ timer_agrees :
     (found : List Finding) →
     is_clean found ≡ is_none_of faults →
     Agrees clock (names_by added ((unless_refused faults events >>= λ held. job_with has name unit held) >>= λ job. Ok (job ∷ [])))
-    (refused_if (not has) 0 NoTimerSection
-    ++ (named_findings 0 (is_added name added) (nat_lt (length added) most_jobs) ++ (warned_if is_so 0 NoEvents ++ found)))
+    (found_if (not has) 0 (Refused NoTimerSection)
+    ++ (named_findings 0 (is_added name added) (nat_lt (length added) most_jobs) ++ (found_if is_so 0 (Warned NoEvents) ++ found)))
     (named_after clock (is_added name added) (nat_lt (length added) most_jobs) added name)
 timer_agrees clock [] true is_so added name unit events found clean =
     timer_right clock (is_added name added) (nat_lt (length added) most_jobs) is_so added name found clean

@@ -23,13 +23,13 @@ use Rattle.plan_rules.specs.LineFaults.{LineReading, TextReading, on_line}
 use Rattle.plan_rules.specs.NamedCrontabs.{is_crontab_name, kind_in}
 use Rattle.plan_check.specs.declared.finding.Warning.{Warning}
 use Rattle.plan_check.specs.declared.finding.Warning.TheVariants.{NeverStarts, EitherDay}
-use Rattle.plan_check.specs.declared.finding.What.TheVariants.{SameName, Full}
+use Rattle.plan_check.specs.declared.finding.What.TheVariants.{SameName, Full, Warned}
 use Rattle.plan_check.specs.declared.finding.Finding.{Finding}
 use Rattle.plan_check.specs.declared.form.Form.{Form}
 use Rattle.plan_check.specs.declared.form.Form.TheVariants.{Crontab, Named, Timer}
 use Rattle.plan_check.specs.Crontabs.{line_findings, after_line, entries_findings, crontab_findings}
 use Rattle.plan_check.specs.Files.{HasFirst, file_findings, file_of, in_file}
-use Rattle.plan_check.specs.Finding.{fault_of, finding_at, first_of, first_fault, refused_at, warned_if}
+use Rattle.plan_check.specs.Finding.{fault_of, finding_at, first_of, first_fault, found_if, refused_at}
 use Rattle.plan_check.specs.Form.{form_reading, label_of}
 use Rattle.plan_check.specs.Names.{KnownNames, is_added, name_fault}
 use Rattle.plan_check.specs.Warnings.{rule_warnings, never_starts, is_reboot, is_either_day}
@@ -37,7 +37,7 @@ use Rattle.plan_check.specs.Warnings.{rule_warnings, never_starts, is_reboot, is
 -- ---- lines
 
 no_fault_noted :
-    (p q : Bool) (line : ℕ) (first second : Warning) → filter_map fault_of (warned_if p line first ++ warned_if q line second) ≡ []
+    (p q : Bool) (line : ℕ) (first second : Warning) → filter_map fault_of (found_if p line (Warned first) ++ found_if q line (Warned second)) ≡ []
 no_fault_noted true true line first second = refl
 no_fault_noted true false line first second = refl
 no_fault_noted false true line first second = refl

@@ -28,15 +28,10 @@ finding_at line what = record { line = line; what = what }
 abbrev pub refused_at : ℕ → LineCause → Finding
 refused_at line cause = finding_at line (Refused cause)
 
--- a line, or a file, is rejected if this is true
-abbrev pub refused_if : Bool → ℕ → LineCause → List Finding
-refused_if true line cause = refused_at line cause ∷ []
-refused_if false line cause = []
-
--- a warning, if this is true
-abbrev pub warned_if : Bool → ℕ → Warning → List Finding
-warned_if true line warning = finding_at line (Warned warning) ∷ []
-warned_if false line warning = []
+-- a finding, if this is true
+abbrev pub found_if : Bool → ℕ → What → List Finding
+found_if true line what = finding_at line what ∷ []
+found_if false line what = []
 
 -- ---- errors
 

@@ -11,7 +11,8 @@ use Rattle.plan_rules.specs.LineFaults.{LineReading, TextReading}
 use Rattle.plan_rules.specs.TimerEntries.{TimerParts}
 use Rattle.plan_check.specs.declared.finding.Finding.{Finding}
 use Rattle.plan_check.specs.declared.finding.Warning.TheVariants.{NeverStarts, NoEvents}
-use Rattle.plan_check.specs.Finding.{finding_at, warned_if, refused_at, refused_if}
+use Rattle.plan_check.specs.declared.finding.What.TheVariants.{Refused, Warned}
+use Rattle.plan_check.specs.Finding.{finding_at, found_if, refused_at}
 use Rattle.plan_check.specs.Names.{KnownNames, name_fault}
 use Rattle.plan_check.specs.Warnings.{never_starts}
 
@@ -19,7 +20,7 @@ use Rattle.plan_check.specs.Warnings.{never_starts}
 
 -- the finding of an event: its error, or that a job with only this event never starts, by the clock of a zone
 abbrev pub read_findings : List Change → ℕ → LineReading Calendar → List Finding
-read_findings clock line (Ok event) = warned_if (never_starts (rule_in clock (Events (event ∷ [])))) line NeverStarts
+read_findings clock line (Ok event) = found_if (never_starts (rule_in clock (Events (event ∷ [])))) line (Warned NeverStarts)
 read_findings clock line (Err cause) = refused_at line cause ∷ []
 
 -- the same for an event with its line
@@ -37,7 +38,7 @@ job_findings known name = cons_option (option_map (λ what. finding_at 0 what) (
 -- or not UTF-8 has no lines, and no missing section is reported
 abbrev pub timer_findings : KnownNames → List ℕ → TextReading TimerParts → List Finding
 timer_findings known name (Ok parts) =
-    refused_if (not parts.has_section) 0 NoTimerSection
+    found_if (not parts.has_section) 0 (Refused NoTimerSection)
     ++ (job_findings known name
-    ++ (warned_if (parts.has_section && (parts.held == 0)) 0 NoEvents ++ flat_map (event_findings known.clock) parts.events))
+    ++ (found_if (parts.has_section && (parts.held == 0)) 0 (Warned NoEvents) ++ flat_map (event_findings known.clock) parts.events))
 timer_findings known name (Err fault) = refused_at fault.line fault.cause ∷ job_findings known name

@@ -8,7 +8,8 @@ use Rattle.plan_match.specs.declared.rule.Rule.TheVariants.{Cron, Never, Events}
 use Rattle.plan_next.specs.Starts.{starts}
 use Rattle.plan_check.specs.declared.finding.Finding.{Finding}
 use Rattle.plan_check.specs.declared.finding.Warning.TheVariants.{NeverStarts, EitherDay}
-use Rattle.plan_check.specs.Finding.{warned_if}
+use Rattle.plan_check.specs.declared.finding.What.TheVariants.{Warned}
+use Rattle.plan_check.specs.Finding.{found_if}
 
 -- a rule has no start from 1970 to 2999 (agenda)
 abbrev pub never_starts : Rule → Bool
@@ -29,5 +30,5 @@ is_either_day (Events events) = false
 -- the warnings on the rule of a line, in this order, by the clock of a zone (agenda)
 abbrev pub rule_warnings : List Change → ℕ → Rule → List Finding
 rule_warnings clock line rule =
-    warned_if (not (is_reboot rule) && never_starts (rule_in clock rule)) line NeverStarts
-    ++ warned_if (is_either_day rule) line EitherDay
+    found_if (not (is_reboot rule) && never_starts (rule_in clock rule)) line (Warned NeverStarts)
+    ++ found_if (is_either_day rule) line (Warned EitherDay)

@@ -2,40 +2,25 @@
 
 ghost use Rattle.std.specs.Prelude.{◌≡◌, ◌++◌, ◌∷◌, [], OnOk, option_map};
 ghost use Rattle.std.specs.List.{cons_option};
-ghost use Rattle.plan_check.specs.Finding.{finding_at, warned_if, refused_at, refused_if};
+ghost use Rattle.plan_check.specs.Finding.{finding_at, found_if, refused_at};
 ghost use Rattle.plan_check.specs.Names.{name_fault, names_after};
 
-use crate::finding::{Finding, Warning, What};
+use crate::finding::{Finding, What};
 use crate::names::Names;
 use plan_rules::LineCause;
 use std::alloc::{AllocError, Global};
 
-// Adds a warning on a line if `is_so`.
-pub(crate) fn warn_if(
+// Adds a finding of a line, or of the whole file, which is line 0, if `is_so`.
+pub(crate) fn add_if(
     found: &mut Vec<Finding>,
     is_so: bool,
     line: u32,
-    warning: Warning,
+    what: What,
 ) -> Result<(), AllocError>
-    ensures { OnOk result (found.new.items ≡ found.old.items ++ warned_if is_so line warning) }
+    ensures { OnOk result (found.new.items ≡ found.old.items ++ found_if is_so line what) }
 {
     if is_so {
-        let what = What::Warned(warning);
         found.push(Finding { line, what })?;
-    }
-    Ok(())
-}
-
-// Adds that a whole file is rejected if `is_so`.
-pub(crate) fn refuse_if(
-    found: &mut Vec<Finding>,
-    is_so: bool,
-    cause: LineCause,
-) -> Result<(), AllocError>
-    ensures { OnOk result (found.new.items ≡ found.old.items ++ refused_if is_so 0 cause) }
-{
-    if is_so {
-        refuse(found, 0, cause)?;
     }
     Ok(())
 }

@@ -6,9 +6,9 @@ ghost use Rattle.plan_rules.specs.TimerEntries.{entry_in, parts_of_lines, shown_
 ghost use Rattle.plan_check.specs.Names.{names_after};
 ghost use Rattle.plan_check.specs.Timers.{event_findings, read_findings, timer_findings};
 
-use crate::finding::{Finding, Warning};
+use crate::finding::{Finding, Warning, What};
 use crate::names::Names;
-use crate::report::{add_job, refuse, refuse_if, warn_if};
+use crate::report::{add_if, add_job, refuse};
 use crate::warnings::never_starts;
 use plan_clock::Clock;
 use plan_rules::{Calendar, Entry, Events, LineCause, LineFault, Rule, TimerReader, text_of};
@@ -54,14 +54,11 @@ fn add_lines(
     let clock = names.clock()?;
     let (reader, mut events) = read_lines(alloc, &clock, lines)?;
     let has_section = reader.has_section();
-    refuse_if(found, !has_section, LineCause::NoTimerSection)?;
+    let missing = What::Refused(LineCause::NoTimerSection);
+    add_if(found, !has_section, 0, missing)?;
     add_job(alloc, names, found, 0, name)?;
-    warn_if(
-        found,
-        has_section && reader.held() == 0,
-        0,
-        Warning::NoEvents,
-    )?;
+    let empty = What::Warned(Warning::NoEvents);
+    add_if(found, has_section && reader.held() == 0, 0, empty)?;
     found.append(&mut events)?;
     Ok(())
 }
@@ -117,7 +114,8 @@ fn add_event(
         Ok(event) => {
             let rule = Rule::Events(Events::one(alloc, event)?);
             let never_starts = never_starts(alloc, clock, &rule)?;
-            warn_if(found, never_starts, line, Warning::NeverStarts)
+            let never = What::Warned(Warning::NeverStarts);
+            add_if(found, never_starts, line, never)
         }
         Err(cause) => refuse(found, line, cause),
     }

@@ -4,8 +4,8 @@ ghost use Rattle.std.specs.Prelude.{◌≡◌, ◌++◌, IfOk, OnOk};
 ghost use Rattle.plan_match.specs.Zone.{rule_in};
 ghost use Rattle.plan_check.specs.Warnings.{is_either_day, is_reboot, never_starts, rule_warnings};
 
-use crate::finding::{Finding, Warning};
-use crate::report::warn_if;
+use crate::finding::{Finding, Warning, What};
+use crate::report::add_if;
 use plan_clock::Clock;
 use plan_next::next_from;
 use plan_rules::Rule;
@@ -22,13 +22,10 @@ pub(crate) fn add_warnings(
     ensures { OnOk result (found.new.items ≡ found.old.items ++ rule_warnings clock.now line rule.now) }
 {
     let never_starts = never_starts(alloc, clock, rule)?;
-    warn_if(
-        found,
-        !is_reboot(rule) && never_starts,
-        line,
-        Warning::NeverStarts,
-    )?;
-    warn_if(found, is_either_day(rule), line, Warning::EitherDay)
+    let never = What::Warned(Warning::NeverStarts);
+    add_if(found, !is_reboot(rule) && never_starts, line, never)?;
+    let either = What::Warned(Warning::EitherDay);
+    add_if(found, is_either_day(rule), line, either)
 }
 
 // Returns whether a rule never starts from 1970 to 2999, by the clock of a zone.
