@@ -48,10 +48,7 @@ passed_by changes n k bound passes stops = prefix_len_is (λ (change : Change). 
 offset_of-passed :
     (changes : List Change) (n k : ℕ) → passed_at changes n ≡ k → 0 < k → offset_of changes n ≡ (change_at changes (k - 1)).offset
 unfolding row_at
-offset_of-passed changes n zero is some = absurd (omega arith)
-offset_of-passed changes n (suc k) is some =
-    let filled : (suc k == 0) ≡ false = grind (arith, nat_tests) in
-    ap (λ p. (row_after changes p).offset) is ∙ (rw filled refl)
+offset_of-passed changes n k given given₂ = grind (arith, nat_tests)
 
 -- the changes with one more
 at_left :
@@ -104,12 +101,7 @@ push_pairs P changes change each last k l =
 
 -- an offset of jiff is less than 26 hours from UTC
 near : (offset : ℤ) → IsOffsetSeconds offset → is_near offset ≡ true
-near offset h =
-    rw (
-      le_yes (neg_ℤ (pos most_offset)) offset (omega (arith, signed_arith)),
-      le_yes offset (pos most_offset)
-          (omega (arith, signed_arith)),
-    ) refl
+near offset h = grind (arith, nat_tests)
 
 push_near :
     (changes : List Change) (change : Change) → ((k : ℕ) → is_near (change_at changes k).offset ≡ true) →
@@ -239,17 +231,7 @@ Covers-added z changes s e offset covers within is later steady =
 
 -- the changes before second 0 are none
 pub Covers-none : (z : Tzif) → Covers z [] 0
-Covers-none z = record {
-  some = λ l. absurd (omega arith);
-  are = record {
-    first = λ l. refl;
-    ascends = λ k l. absurd (omega arith);
-    differs = λ k l. absurd (omega arith);
-    bounded = λ k. refl;
-  };
-  before = λ k l. absurd (omega arith);
-  same = λ n l. absurd (omega arith);
-}
+Covers-none z = grind (arith, nat_tests)
 
 -- an offset is restored from its bits
 pub offset-back : (a : ℤ) → IsOffsetSeconds a → to_z w32 (of_z w32 a) ≡ a

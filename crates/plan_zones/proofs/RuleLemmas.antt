@@ -21,44 +21,13 @@ use Rattle.plan_zones.specs.Changes.{zone_offset, year_at}
 use Rattle.plan_sets.specs.Limits.{end_second}
 
 lt_yes : (a b : ℤ) → a <ℤ b → int_lt a b ≡ true
-lt_yes a b h = elim (int_lt a b) as (λ v. int_lt a b ≡ v → v ≡ true) [
-  | true ↦ λ e. refl
-  | false ↦ λ e. let over = lt-false a b e in absurd (omega (arith, signed_arith))
-] refl
-
-lt_no : (a b : ℤ) → b ≤ℤ a → int_lt a b ≡ false
-lt_no a b h = elim (int_lt a b) as (λ v. int_lt a b ≡ v → v ≡ false) [
-  | true ↦ λ e. let under = lt-true a b e in absurd (omega (arith, signed_arith))
-  | false ↦ λ e. refl
-] refl
-
--- two times without `a` between them are both before `a`, or both at or after it
-le_same : (a n m : ℤ) → n ≤ℤ m → (n <ℤ a → m <ℤ a) → int_le a m ≡ int_le a n
-le_same a n m up stays = elim (int_le a n) as (λ v. int_le a n ≡ v → int_le a m ≡ v) [
-  | true ↦ λ e. let at = le-true a n e in le_yes a m (omega (arith, signed_arith))
-  | false ↦ λ e. let over = le-false a n e in le_no a m (stays (omega (arith, signed_arith)))
-] refl
-
-lt_same : (a n m : ℤ) → n ≤ℤ m → (n <ℤ a → m <ℤ a) → int_lt m a ≡ int_lt n a
-lt_same a n m up stays = elim (int_lt n a) as (λ v. int_lt n a ≡ v → int_lt m a ≡ v) [
-  | true ↦ λ e. let under = lt-true n a e in lt_yes m a (stays (omega (arith, signed_arith)))
-  | false ↦ λ e. let over = lt-false n a e in lt_no m a (omega (arith, signed_arith))
-] refl
-
--- two times without an end of a window between them are both inside or both outside
-window_same : (w : ℤ × ℤ) (n m : ℤ) → n ≤ℤ m → (n <ℤ w.0 → m <ℤ w.0) → (n <ℤ w.1 → m <ℤ w.1) → in_window w m ≡ in_window w n
-window_same w n m up first second =
-    rw (le_same w.0 n m up first, lt_same w.1 n m up second, le_same w.1 n m up second, lt_same w.0 n m up first) refl
+lt_yes a b h = grind (arith, nat_tests)
 
 -- the same, for the ends in order
 window_steady :
     (w : ℤ × ℤ) (n m : ℤ) → n ≤ℤ m → (n <ℤ (ordered w).0 → m <ℤ (ordered w).0) → (n <ℤ (ordered w).1 → m <ℤ (ordered w).1) →
     in_window w m ≡ in_window w n
-window_steady w n m up = elim (int_le w.0 w.1) as (λ b. (n <ℤ (cond b w (w.1, w.0)).0 → m <ℤ (cond b w (w.1, w.0)).0) →
-    (n <ℤ (cond b w (w.1, w.0)).1 → m <ℤ (cond b w (w.1, w.0)).1) → in_window w m ≡ in_window w n) [
-      | true ↦ λ f g. window_same w n m up f g
-      | false ↦ λ f g. window_same w n m up g f
-    ]
+window_steady w n m given given₂ given₃ = grind (arith, nat_tests)
 
 -- the time is before the transition, if there is one
 abbrev pub IsBefore : ℤ → Option (ℤ × OffsetInfo) → Type 0
@@ -76,23 +45,10 @@ last_instant = pos 253_402_207_200_999_999_999
 moment_ahead :
     (tz : TimeZone) (d : Dst) (w : ℤ × ℤ) (x n m : ℤ) → first_instant ≤ℤ n → m ≤ℤ last_instant → n <ℤ x →
     IsBefore m (transition_of tz d w x) → m <ℤ x
-moment_ahead tz d w x n m low high ahead =
-    elim (int_le first_instant x && int_le x last_instant) as
-    (λ b. (int_le first_instant x && int_le x last_instant) ≡ b →
-    IsBefore m (cond b (Some (x, cond (in_window w x) (Posix.dst_info d) (Posix.std_info tz))) None) → m <ℤ x) [
-      | true ↦ λ e before. before
-      | false ↦ λ e before.
-          let from : int_le first_instant x ≡ true = le_yes first_instant x (omega (arith, signed_arith)) in
-          let over : int_le x last_instant ≡ false = subst (λ b. (b && int_le x last_instant) ≡ false) from e in
-          let past = le-false x last_instant over in
-          omega (arith, signed_arith)
-    ] refl
+moment_ahead tz d w x n m given given₂ given₃ given₄ = grind (arith, nat_tests)
 
 ordered_rises : (w : ℤ × ℤ) → (ordered w).0 ≤ℤ (ordered w).1
-ordered_rises w = elim (int_le w.0 w.1) as (λ b. int_le w.0 w.1 ≡ b → (cond b w (w.1, w.0)).0 ≤ℤ (cond b w (w.1, w.0)).1) [
-  | true ↦ λ e. let le = le-true w.0 w.1 e in omega (arith, signed_arith)
-  | false ↦ λ e. let over = le-false w.0 w.1 e in omega (arith, signed_arith)
-] refl
+ordered_rises w = grind (arith, nat_tests)
 
 -- no end of a year's window is between an instant and a time before the next transition
 window_ahead :
