@@ -22,12 +22,6 @@ pub all_but_err :
 all_but_err takes_all (Ok x) old new text waiting is off = absurd (let no : false ≡ true = is in cc)
 all_but_err takes_all (Err e) old new text waiting is off = off
 
--- the same text, written differently
-pub puts_as :
-    {T E : Type 0} (takes_all : Bool) (r : Result T E) (old new : Option (List ℕ)) (text same : List ℕ) →
-    Puts takes_all r old new text → text ≡ same → Puts takes_all r old new same
-puts_as takes_all r old new text same put is = subst (Puts takes_all r old new) is put
-
 -- at first all is left
 pub all_left : (a : Option (List ℕ)) (whole : List ℕ) → AppendsAllBut a a whole whole
 all_left a whole = record { front = []; all = refl; written = Appends-nil a }
