@@ -1,6 +1,6 @@
 -- What holds for every agenda (agenda).
-use Rattle.std.specs.Prelude.{◌≡◌, ℕ, zero, suc, ◌+◌, ◌-◌, ◌<◌, ◌≤◌, Bool, true, false, nat_lt, List, [], ◌∷◌, length, None, slice_get}
-use Rattle.std.proofs.Common.{cond, refl, ◌∙◌, arith}
+use Rattle.std.specs.Prelude.{◌≡◌, ℕ, zero, suc, ◌+◌, ◌-◌, ◌<◌, ◌≤◌, Bool, true, false, nat_lt, nat_le, List, [], ◌∷◌, length, None, slice_get, Result, Ok, Err, IfOk}
+use Rattle.std.proofs.Common.{cond, refl, subst, ◌∙◌, arith}
 use Rattle.std.specs.List.{range_with_len, flat_map, list_all}
 use Rattle.std.proofs.lemmas.Bool.{lt-ltb, and_parts, and_from}
 use Rattle.std.proofs.lemmas.List.Folds.{list_all-append}
@@ -9,7 +9,9 @@ use Rattle.plan_match.specs.declared.rule.Rule.{Rule}
 use Rattle.plan_next.specs.Starts.{is_start, rule_starts}
 use Rattle.plan_rules.specs.Job.{JobParts}
 use Rattle.plan_next.specs.Span.{Bounds}
-use Rattle.plan_collect.specs.Agenda.{row_from, agenda, IsInYears, IsOfJobs}
+use Rattle.plan_collect.specs.Agenda.{Planned, row_from, agenda, planned, rules_of, IsInYears, IsOfJobs}
+use Rattle.plan_collect.specs.Planning.{Gives, agenda_within}
+use Rattle.plan_collect.specs.declared.plan_fault.PlanFault.{PlanFault}
 
 -- a test that each entry of a row passes is passed by all entries of all rows
 step :
@@ -57,3 +59,21 @@ pub job_there : (jobs : List JobParts) (n : ℕ) → None ≡ slice_get jobs n �
 job_there [] n none lt = omega arith
 job_there (job ∷ jobs) zero none lt = cc
 job_there (job ∷ jobs) (suc n) none lt = job_there jobs n none (omega arith)
+
+pub agenda-of_jobs : (jobs : List JobParts) (span : Bounds) → IsOfJobs (length jobs) (agenda (rules_of jobs) span)
+agenda-of_jobs jobs span =
+    let as_many : length (rules_of jobs) ≡ length jobs = length-map jobs (λ job. job.rule) in
+    rw as_many at (agenda-of_rules (rules_of jobs) span)
+
+-- the same of an agenda that a plan gives
+pub gives-of_jobs :
+    (jobs : List JobParts) (span : Bounds) (limit : ℕ) (result : Result Planned PlanFault) →
+    Gives result (agenda_within (rules_of jobs) span limit) → IfOk result (λ made. IsOfJobs (length jobs) made.entries)
+gives-of_jobs jobs span limit (Err fault) is = tt
+gives-of_jobs jobs span limit (Ok made) is = go (nat_le (length (agenda (rules_of jobs) span)) limit) _ is
+  where
+    go : (few : Bool) (fault : PlanFault) → cond few (Ok (planned (rules_of jobs) span)) (Err fault) ≡ Ok made → IsOfJobs (length jobs) made.entries
+    go true fault is =
+        let same : planned (rules_of jobs) span ≡ made = cc in
+        subst (λ (m : Planned). IsOfJobs (length jobs) m.entries) same (agenda-of_jobs jobs span)
+    go false fault is = absurd cc

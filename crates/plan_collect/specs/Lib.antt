@@ -12,6 +12,7 @@ pub mod Tiling
 pub mod TilingLaws
 pub mod Merging
 pub mod PlanFault
+pub mod Planning
 pub mod Causes
 pub mod Start
 pub mod Upcoming

@@ -1,9 +1,9 @@
 -- A job's pieces, collected one after the other: for the loop of `collect_job` and its `fails`. `IsAt` says that in the
 -- collector only the second to which the job is covered has changed. In `piece_refused` the first three tests of
 -- `refusal` pass. So only the test of the limit remains, and the error is `TooMany` or `NoMemory`.
-use Rattle.std.proofs.Common.{◌≡◌, ℕ, zero, suc, ◌%◌, ◌<◌, ◌≤◌, Bool, true, false, cond, ◌&&◌, ◌==◌, List, [], ◌∷◌, length, None, Some, Result, Err, refl, ap, sym, subst, ◌∙◌, arith}
+use Rattle.std.proofs.Common.{◌≡◌, ◌≢◌, ℕ, zero, suc, ◌%◌, ◌<◌, ◌≤◌, Bool, true, false, cond, ◌&&◌, ◌==◌, List, [], ◌∷◌, length, None, Some, Result, Err, refl, ap, sym, subst, ◌∙◌, arith}
 use Rattle.std.specs.Prelude.{slice_get, slice_index, slice_set, unwrap_or, nat_lt, nat_le}
-use Rattle.std.proofs.lemmas.Bool.{and_from, eq-eqb, le-leb}
+use Rattle.std.proofs.lemmas.Bool.{and_from, eq-eqb, le-leb, lt-leb}
 use Rattle.std.proofs.lemmas.Option.{get_or_from_slice_get}
 use Rattle.plan_collect.specs.Span.{Bounds}
 use Rattle.plan_match.specs.declared.rule.Rule.{Rule}
@@ -15,7 +15,9 @@ use Rattle.plan_collect.specs.declared.collector.CollectFault.TheVariants.{NoMem
 use Rattle.plan_collect.specs.Agenda.{agenda}
 use Rattle.plan_collect.specs.Collecting.{Collected, is_rule_of, belongs, has_ended, adjoins, has_room, refusal, Answers}
 use Rattle.plan_collect.specs.TilingLaws.{set_again}
-use Rattle.plan_serial.specs.Planning.{PlanFails}
+use Rattle.plan_collect.specs.Planning.{agenda_within}
+use Rattle.plan_collect.specs.declared.plan_fault.PlanFault.{PlanFault}
+use Rattle.plan_collect.specs.declared.plan_fault.PlanFault.TheVariants as plan
 use Rattle.plan_collect.specs.PlanFault.{of_collect}
 
 -- the pieces of one job up to this second were collected
@@ -69,6 +71,13 @@ more_than old now so_far many =
     let limit = so_far.limit in
     omega arith
 
+-- a plan stops with this error
+abbrev pub Fails : Collected → PlanFault → Type 0
+Fails c fault = fault ≢ plan.NoMemory → agenda_within c.rules c.span c.limit ≡ Err fault
+
+too_many : (c : Collected) → c.limit < length (agenda c.rules c.span) → Fails c (plan.Collect TooMany)
+too_many c many other = let more : nat_le (length (agenda c.rules c.span)) c.limit ≡ false = lt-leb _ _ many in rw more refl
+
 -- the answer to a message that is rejected
 abbrev pub refused_by : CollectFault → Result (Unit {0}) CollectFault
 refused_by fault = Err fault
@@ -78,7 +87,7 @@ pub piece_refused :
     (old now : Collected) (job : ℕ) (rule : Rule) (piece : Part) (since upto : ℕ) (fault : CollectFault) → IsAt old now job since →
     old.ended ≡ false ∷ [] → old.span.upto ≡ upto → slice_get old.rules job ≡ Some rule → piece.rule ≡ rule → piece.since ≡ since →
     piece.upto ≤ upto → Answers (Err fault) (refusal now 0 (note.Part job piece)) →
-    (refused_by fault ≡ refused_by TooMany → now.limit < length (agenda now.rules now.span)) → PlanFails old (of_collect fault)
+    (refused_by fault ≡ refused_by TooMany → now.limit < length (agenda now.rules now.span)) → Fails old (of_collect fault)
 piece_refused old now job rule piece since upto fault so_far unended ends known own begins within answer many =
     let none_ended : now.ended ≡ false ∷ [] = so_far.ended ∙ unended in
     let there : slice_get now.rules job ≡ Some piece.rule = ap (λ rules. slice_get rules job) so_far.rules ∙ known ∙ ap Some (sym own) in
@@ -96,9 +105,9 @@ piece_refused old now job rule piece since upto fault so_far unended ends known 
     let at_end : nat_le piece.upto now.span.upto ≡ true = le-leb piece.upto now.span.upto (omega arith) in
     let adjoining : adjoins now (note.Part job piece) ≡ true = and_from (slice_index now.covered job == piece.since)
     (nat_le piece.upto now.span.upto) at_begin at_end in
-    let P : Type 0 = PlanFails old (of_collect fault) in
+    let P : Type 0 = Fails old (of_collect fault) in
     last_refusal (has_room now (note.Part job piece)) fault P
     (subst (Answers (Err fault)) (only_room (belongs now 0 (note.Part job piece)) (has_ended now 0)
     (adjoins now (note.Part job piece)) (has_room now (note.Part job piece)) belonging going_on adjoining) answer)
-    (λ is. subst (λ f. PlanFails old (of_collect f)) (sym is) (refl, more_than old now so_far (many (ap refused_by is))))
-    (λ is. subst (λ f. PlanFails old (of_collect f)) (sym is) tt)
+    (λ is. subst (λ f. Fails old (of_collect f)) (sym is) (too_many old (more_than old now so_far (many (ap refused_by is)))))
+    (λ is. subst (λ f. Fails old (of_collect f)) (sym is) (λ other. absurd (other refl)))

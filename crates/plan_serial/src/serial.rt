@@ -1,11 +1,11 @@
 //! A plan by one planner, without threads.
 
-ghost use Rattle.std.specs.Prelude.{◌≡◌, ◌<◌, ◌≤◌, false, [], ◌∷◌, length, slice_get, slice_set, Some, IfOk, IfErr, OnOk};
+ghost use Rattle.std.specs.Prelude.{◌≡◌, ◌≢◌, ◌<◌, ◌≤◌, false, [], ◌∷◌, length, slice_get, slice_set, Some, IfOk, IfErr, OnOk};
 ghost use Rattle.std.specs.Arc.{arc_value};
 ghost use Rattle.plan_next.specs.Piece.{piece_of};
 ghost use Rattle.plan_collect.specs.Agenda.{rules_of, IsOfJobs};
-ghost use Rattle.plan_collect.specs.Limits.{most_starts};
-ghost use Rattle.plan_serial.specs.Planning.{Plans, PlanFails};
+ghost use Rattle.plan_collect.specs.Limits.{is_limit, most_starts};
+ghost use Rattle.plan_collect.specs.Planning.{Gives, agenda_within, plan_answer};
 
 use plan_collect::{Agenda, Collector, Note, PIECE_STARTS, PlanFault, Span};
 use plan_match::Rule;
@@ -22,7 +22,9 @@ use std::sync::Arc;
 /// `BadLimit` if the limit isn't 1 to 1,000,000; else `Collect(TooMany)` if the agenda has more entries than
 /// the limit, or `NoMemory` if an allocation failed.
 pub fn plan_serial(alloc: Global, jobs: &Jobs, span: Span, limit: u64) -> Result<Agenda, PlanFault>
-    ensures planned { Plans result (rules_of jobs.now) span limit }
+    ensures planned { Gives result
+        (plan_answer (rules_of jobs.now) span (record { planners = 1; room = 1; limit = limit })) }
+    ensures at_once { is_limit limit ≡ false → result ≡ Err PlanFault.BadLimit }
     ensures jobs { IfOk result (λ made. IsOfJobs (length jobs.now) made.entries) }
 {
     let mut collector = Collector::new(alloc, jobs, span, 1, limit)?;
@@ -48,7 +50,8 @@ fn collect_job(
     requires rule { slice_get collector.old.rules job ≡ Some (arc_value rule.now) }
     requires open { slice_get collector.old.covered job ≡ Some span.since }
     ensures covered { OnOk result (collector.new ≡ record collector.old { covered = slice_set collector.old.covered job span.upto }) }
-    ensures fails { IfErr result (PlanFails collector.old) }
+    ensures fails { IfErr result (λ fault. fault ≢ PlanFault.NoMemory
+        → agenda_within collector.old.rules collector.old.span collector.old.limit ≡ Err fault) }
 {
     let mut since = span.since();
     loop {

@@ -6,7 +6,6 @@ use Rattle.plan_collect.specs.declared.collector.CollectFault.TheVariants as col
 use Rattle.plan_collect.specs.declared.collector.CollectFault.TheVariants.{TooMany}
 use Rattle.plan_collect.specs.declared.plan_fault.PlanFault.{PlanFault}
 use Rattle.plan_collect.specs.declared.plan_fault.PlanFault.TheVariants as plan
-use Rattle.plan_collect.specs.Agenda.{Planned, planned, IsOfJobs}
 use Rattle.plan_collect.specs.Collecting.{Collected, begun, refusal, after, is_complete}
 use Rattle.plan_collect.specs.Limits.{is_size}
 use Rattle.plan_collect.specs.Merging.{answer_to}
@@ -81,13 +80,6 @@ IsWhole c (Some fault) = (fault ≡ TooMany) × HasTooMany (task_of c)
 abbrev pub IsThreadFault : PlanFault → Type 0
 IsThreadFault plan.NoMemory = Unit {0}
 IsThreadFault fault = ⊥
-
--- the answer of a task
-abbrev pub EndsAs : Result Planned PlanFault → TaskParts → Type 0
-EndsAs (Ok made) task =
-    (made ≡ planned task.rules task.span) × (length made.entries ≤ task.limit) × IsOfJobs (length task.rules) made.entries
-EndsAs (Err (plan.Collect fault)) task = (fault ≡ TooMany) × HasTooMany task
-EndsAs (Err fault) task = IsThreadFault fault
 
 -- these outlets are those of the senders from k on, in order, and nothing was sent
 abbrev pub AreFresh : List Ring → (k : ℕ) → List (Outlet Note) → Type 0

@@ -3,9 +3,10 @@
 
 ghost use Rattle.std.specs.Prelude.{◌≡◌, ◌≢◌, ◌<◌, ℕ, List, false, Some, slice_get, IsOk, OnOk, IfErr, vec_len};
 ghost use Rattle.plan_collect.specs.declared.note.Note.{Note};
+ghost use Rattle.plan_collect.specs.Planning.{Gives};
 ghost use Rattle.plan_mailbox.specs.Ends.{inlet_of, receipt_of, NothingKnown};
-ghost use Rattle.plan_threads.specs.Gathering.{ArePlanners, EndsAs, IsAccounted, IsGathering, IsThreadFault, IsWhole, Steps};
-ghost use Rattle.plan_threads.specs.Task.{TaskParts, all_notes, task_of};
+ghost use Rattle.plan_threads.specs.Gathering.{ArePlanners, IsAccounted, IsGathering, IsThreadFault, IsWhole, Steps};
+ghost use Rattle.plan_threads.specs.Task.{TaskParts, all_notes, answer_of, task_of};
 
 use crate::pause::Pause;
 use crate::promise::PlannerPromise;
@@ -47,7 +48,7 @@ impl Desk {
         requires planners { planners ≡ (task_of self.collector).planners }
         requires gathers { IsGathering (task_of self.collector) self }
         requires threads { ArePlanners (task_of self.collector) (inlet_of self.inlet).rings 0 threads.items }
-        ensures { EndsAs result (task_of self.collector) }
+        ensures { Gives result (answer_of (task_of self.collector)) }
     {
         accepts_every_merging();
         let mut desk = self;
@@ -137,7 +138,7 @@ impl Desk {
     fn finish(self, settled: Result<(), PlanFault>) -> Result<Agenda, PlanFault>
         requires fault { IfErr settled IsThreadFault }
         requires whole { OnOk settled (IsWhole self.collector self.refused) }
-        ensures { EndsAs result (task_of self.collector) }
+        ensures { Gives result (answer_of (task_of self.collector)) }
     {
         let refused = self.refused;
         if refused == Some(CollectFault::NoMemory) {

@@ -2,10 +2,10 @@
 
 ghost use Rattle.std.specs.Prelude.{◌≡◌, ◌<◌, false, [], length, IfOk, IfErr, vec_len};
 ghost use Rattle.plan_collect.specs.Agenda.{IsOfJobs, rules_of};
+ghost use Rattle.plan_collect.specs.Planning.{Gives, plan_answer, valid_sizes};
 ghost use Rattle.plan_mailbox.specs.Ends.{inlet_of, outlet_of, receipt_of};
-ghost use Rattle.plan_threads.specs.Gathering.{AreFresh, EndsAs, IsGathering};
-ghost use Rattle.plan_threads.specs.Planning.{PlansBy};
-ghost use Rattle.plan_threads.specs.Task.{all_notes, parts_of};
+ghost use Rattle.plan_threads.specs.Gathering.{AreFresh, IsGathering};
+ghost use Rattle.plan_threads.specs.Task.{all_notes, answer_of, parts_of};
 
 use crate::desk::Desk;
 use crate::gate::Gate;
@@ -39,7 +39,10 @@ pub fn plan<R: Threads + Wait + Sync, G: Gate>(
     sizes: Sizes,
     gate: &G,
 ) -> Result<Agenda, PlanFault>
-    ensures planned { PlansBy result (rules_of jobs.now) span sizes }
+    ensures planned { Gives result (plan_answer (rules_of jobs.now) span sizes) }
+
+    // These errors are found before any memory is requested.
+    ensures at_once { IfErr (valid_sizes sizes) (λ fault. result ≡ Err fault) }
     ensures jobs { IfOk result (λ made. IsOfJobs (length jobs.now) made.entries) }
 {
     let task = Task::new(span, sizes)?;
@@ -60,7 +63,7 @@ fn run_threads<R: Threads + Wait + Sync, G: Gate>(
     requires outlets { AreFresh (inlet_of desk.inlet).rings 0 outlets.items }
     requires as_many { vec_len outlets ≡ task.now.sizes.planners }
     requires gathers { IsGathering (parts_of jobs.now task.now) desk }
-    ensures { EndsAs result (parts_of jobs.now task.now) }
+    ensures { Gives result (answer_of (parts_of jobs.now task.now)) }
 {
     let flags = new_flags();
     let flags = &flags;
@@ -71,7 +74,7 @@ fn run_threads<R: Threads + Wait + Sync, G: Gate>(
             requires outlets { AreFresh (inlet_of desk.inlet).rings 0 outlets.items }
             requires as_many { vec_len outlets ≡ task.now.sizes.planners }
             requires gathers { IsGathering (parts_of jobs.now task.now) desk }
-            ensures { EndsAs result (parts_of jobs.entry.now task.entry.now) }
+            ensures { Gives result (answer_of (parts_of jobs.entry.now task.entry.now)) }
         {
             let Ok(mut threads) = Vec::with_capacity(alloc, task.sizes.planners) else {
                 return Err(PlanFault::NoMemory);

@@ -19,7 +19,7 @@ pub struct Task {
 
 impl Task {
     ghost use Rattle.std.specs.Prelude.{◌≡◌, IfErr, IfOk, Ok, Err};
-    ghost use Rattle.plan_threads.specs.Task.{valid_sizes};
+    ghost use Rattle.plan_collect.specs.Planning.{valid_sizes};
 
     /// Makes the task of planning over a span.
     ///

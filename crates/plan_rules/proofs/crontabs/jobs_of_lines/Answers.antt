@@ -24,13 +24,13 @@ loop-place-preserved c =
     ∙ c.loop-place.invariant in
     elim c.match-branch-2.branch [
       | in-Some+in_ok-push w ↦
-        ap (λ js. rest_reading f (λ line. line.now) js c.args.lines.now (c.loop-place.place + 1))
-            (ap (λ v. v.items) w.jobs-is ∙ w.in_ok-push.ensures.items ∙ ap (λ j. jobs ++ cons_option j []) (sym w.in-Some.is))
-            ∙ more
+          ap (λ js. rest_reading f (λ line. line.now) js c.args.lines.now (c.loop-place.place + 1))
+          (ap (λ v. v.items) w.jobs-is ∙ w.in_ok-push.ensures.items ∙ ap (λ j. jobs ++ cons_option j []) (sym w.in-Some.is))
+          ∙ more
       | in_default w ↦
-        ap (λ js. rest_reading f (λ line. line.now) js c.args.lines.now (c.loop-place.place + 1))
-            (ap (λ v. v.items) w.jobs-is ∙ sym (append-nil jobs) ∙ ap (λ j. jobs ++ cons_option j []) (sym w.in_default.is))
-            ∙ more
+          ap (λ js. rest_reading f (λ line. line.now) js c.args.lines.now (c.loop-place.place + 1))
+          (ap (λ v. v.items) w.jobs-is ∙ sym (append-nil jobs) ∙ ap (λ j. jobs ++ cons_option j []) (sym w.in_default.is))
+          ∙ more
     ]
 
 pub returns : goal.returns

@@ -3,9 +3,10 @@
 -- waits, so everything was taken. Then the history is a merging, and `accepts_every_merging` states its result
 -- (`gathers_all`).
 use Rattle.std.proofs.Common.{◌<◌, ℕ, vec_len, sym, ap, subst, ◌∙◌, arith}
+use Rattle.plan_collect.specs.Planning.{Gives}
 use Rattle.plan_mailbox.specs.Ends.{inlet_of}
-use Rattle.plan_threads.specs.Gathering.{ArePlanners, EndsAs, IsAccounted, IsWhole}
-use Rattle.plan_threads.specs.Task.{all_notes, task_of}
+use Rattle.plan_threads.specs.Gathering.{ArePlanners, IsAccounted, IsWhole}
+use Rattle.plan_threads.specs.Task.{all_notes, answer_of, task_of}
 use Rattle.plan_threads.proofs.GatheringLemmas.{gathers_all, gathers_same, ok_map, taken_all}
 use Rattle.plan_threads.proofs.desk.Desk.collect.Goals as goal
 
@@ -40,4 +41,4 @@ returns g c =
     let so_far = c.take_until.ensures.gathers task c.requires.gathers in
     let settled = gathers_same task c.take_until.new.self c.settle_all-settled.new.self so_far c.settle_all-settled.ensures.collector
     c.settle_all-settled.ensures.taken c.settle_all-settled.ensures.rings c.settle_all-settled.ensures.refused in
-    subst (EndsAs c.finish.result) (c.take_rest.ensures.gathers task settled).same c.finish.ensures
+    subst (λ task. Gives c.finish.result (answer_of task)) (c.take_rest.ensures.gathers task settled).same c.finish.ensures

@@ -8,9 +8,10 @@ use Rattle.plan_collect.specs.declared.note.Note.{Note}
 use Rattle.plan_mailbox.specs.declared.outlet.Outlet.{Outlet}
 use Rattle.plan_mailbox.specs.Ends.{inlet_of, outlet_of}
 use Rattle.plan_threads.specs.declared.promise.PlannerPromise as promise
-use Rattle.plan_threads.specs.Gathering.{AreFresh, ArePlanners, EndsAs, IsGathering, IsPlanner}
+use Rattle.plan_collect.specs.Planning.{Gives}
+use Rattle.plan_threads.specs.Gathering.{AreFresh, ArePlanners, IsGathering, IsPlanner}
 use Rattle.plan_threads.specs.Promise.{promised}
-use Rattle.plan_threads.specs.Task.{TaskParts, parts_of}
+use Rattle.plan_threads.specs.Task.{TaskParts, answer_of, parts_of}
 use Rattle.plan_threads.proofs.StartLemmas.{planners_more}
 use Rattle.plan_threads.proofs.planning.fn.run_threads.scope.Goals as goal
 
@@ -54,4 +55,4 @@ collect-requires g c = record {
 }
 
 pub returns : goal.returns
-returns g c = subst (EndsAs c.collect.result) c.requires.gathers.same c.collect.ensures
+returns g c = subst (λ task. Gives c.collect.result (answer_of task)) c.requires.gathers.same c.collect.ensures

@@ -1,2 +1,0 @@
-pub use Rattle.plan_collect.specs.Agenda
-pub mod Planning
