@@ -113,7 +113,7 @@ fn asked_by_upcoming(alloc: Global, given: &ArgMatches<'_>) -> Result<Ask, Usage
     })
 }
 
-#[tactic(auto, unfolding(crate::specs::Words::asked_by_quiet))]
+#[tactic(auto, unfolding(crate::specs::Arguments::asked_by_quiet))]
 fn asked_by_quiet(alloc: Global, given: &ArgMatches<'_>) -> Result<Ask, UsageFault>
     ensures { Gives result (asked_by_quiet (rows_of (found_of given.now))) }
 {
