@@ -1,9 +1,8 @@
--- Starts that are listed one after another: for `starts_text` of next.rt. `refused_as` is for `refused` of `run_next`.
+-- Starts that are listed one after another: for `starts_text` of next.rt.
 -- `IsListed` splits the rule's starts after a time into those that are already listed and those after the
 -- latest. The first of these is listed next (`passing-least`). If there is none, those already listed are all
 -- of them (`passing-none`).
-use Rattle.std.proofs.Common.{◌≡◌, ℕ, ◌+◌, ◌<◌, true, false, List, [], ◌∷◌, ◌++◌, length, take, nat_lt, codes, refl, ap, sym, ◌∙◌, subst, arith, append_assoc, append-nil, take_all}
-use Rattle.std.proofs.Common.{Result, Ok, Err, IsErrAnd, IfErr}
+use Rattle.std.proofs.Common.{◌≡◌, ℕ, ◌+◌, ◌<◌, true, false, List, [], ◌∷◌, ◌++◌, length, take, nat_lt, codes, refl, ap, sym, ◌∙◌, arith, append_assoc, append-nil, take_all}
 use Rattle.std.specs.List.{flat_map}
 use Rattle.std.proofs.lemmas.Bool.{lt-ltb, le-ltb}
 use Rattle.std.proofs.Math.Seq.{take-append_seam}
@@ -11,7 +10,6 @@ use Rattle.plan_sets.specs.Limits.{end_second}
 use Rattle.plan_rules.specs.declared.Rule.{Rule}
 use Rattle.plan_next.specs.Starts.{NoneIn, IsLeastIn, is_start, starts}
 use Rattle.plan_next.specs.StartsLaws.{passing-least, passing-none}
-use Rattle.agenda_faults.specs.declared.faults.RunFault.{RunFault}
 use Rattle.agenda_commands.specs.Next.{moment_line, starts_text, next_text}
 
 -- some starts are listed, and those after the latest remain
@@ -59,10 +57,3 @@ lists_fewer rule after latest count text new moments so_far few none line =
     ap (λ l. moments ++ l) (passing-none (is_start rule) (latest + 1) end_second none) ∙ append-nil moments in
     let first : take count (starts rule (after + 1) end_second) ≡ moments = ap (take count) all ∙ take_all count moments (omega arith) in
     line ∙ ap (λ l. l ++ codes "none\n") so_far.lines ∙ sym (rw (first, short) refl)
-
--- what holds for an error that is known holds for any error of the result
-pub refused_as :
-    (result : Result (Unit {0}) RunFault) (fault : RunFault) (P : RunFault → Type 0) → IsErrAnd result (λ e. e ≡ fault) → P fault →
-    IfErr result P
-refused_as (Ok x) fault P is held = tt
-refused_as (Err e) fault P is held = subst P (sym is) held

@@ -1,5 +1,5 @@
 -- What `check` writes about the findings on sources. All of it is our choice (agenda).
-use Rattle.std.specs.Prelude.{◌≡◌, ⊤, ℕ, Bool, true, false, ◌==◌, if◌then◌else◌, List, [], ◌++◌, codes, decimal, is_ok, Option, Some, None, slice_get}
+use Rattle.std.specs.Prelude.{ℕ, Bool, true, false, ◌==◌, if◌then◌else◌, List, [], ◌++◌, codes, decimal, is_ok, Option, Some, None, Result, Ok, slice_get}
 use Rattle.std.specs.List.{flat_map}
 use Rattle.plan_grammar.specs.Causes.{rule_cause}
 use Rattle.plan_rules.specs.Causes.{line_cause}
@@ -16,7 +16,6 @@ use Rattle.agenda_sources.specs.declared.Found.{Found}
 use Rattle.agenda_sources.specs.declared.Source.{Source}
 use Rattle.agenda_sources.specs.declared.SourcePath.{SourcePath}
 use Rattle.agenda_faults.specs.declared.faults.RunFault.{RunFault}
-use Rattle.agenda_faults.specs.declared.faults.RunFault.TheVariants.{NoMemory}
 use Rattle.agenda_commands.specs.declared.check.Verdict.{Verdict}
 use Rattle.agenda_commands.specs.declared.check.Verdict.TheVariants as verdict
 
@@ -64,12 +63,10 @@ abbrev pub verdict_of : (is_clean : Bool) → Verdict
 verdict_of true = verdict.Clean
 verdict_of false = verdict.Refused
 
--- what is printed for sources: all findings; there is an error exactly if the sources make no list of jobs
-abbrev pub IsTextOfCheck : List Change → List SourcePath → List Source → Verdict → List ℕ → Type 0
-IsTextOfCheck clock paths sources verdict text =
-    (text ≡ check_text paths (sources_findings clock sources)) × (verdict ≡ verdict_of (is_ok (sources_reading sources)))
+-- the verdict on sources: there is an error exactly if they make no list of jobs
+abbrev pub sources_verdict : List Source → Verdict
+sources_verdict sources = verdict_of (is_ok (sources_reading sources))
 
--- when a check fails: only if an allocation failed
-abbrev pub RefusesCheck : RunFault → Type 0
-RefusesCheck NoMemory = ⊤
-RefusesCheck other = ⊥
+-- what `check` writes for sources: all findings
+abbrev pub check_output : List Change → List SourcePath → List Source → Result (List ℕ) RunFault
+check_output clock paths sources = Ok (check_text paths (sources_findings clock sources))

@@ -1,5 +1,5 @@
 -- The next starts of one rule, and the text that lists them.
-use Rattle.std.specs.Prelude.{◌≡◌, ℕ, ◌+◌, ◌≤◌, nat_lt, if◌then◌else◌, List, [], ◌++◌, length, take, codes, Ok, Err}
+use Rattle.std.specs.Prelude.{ℕ, ◌+◌, ◌&&◌, nat_lt, nat_le, if◌then◌else◌, List, [], ◌++◌, length, take, codes, Result, Ok, Err}
 use Rattle.std.specs.List.{flat_map}
 use Rattle.plan_sets.specs.Limits.{end_second}
 use Rattle.plan_sets.specs.Moment.{moment_text_of}
@@ -14,7 +14,9 @@ use Rattle.plan_next.specs.Starts.{starts}
 use Rattle.agenda_sources.specs.declared.Asked.{Asked}
 use Rattle.agenda_sources.specs.declared.Asked.TheVariants.{Cron, Event}
 use Rattle.agenda_faults.specs.declared.faults.RunFault.{RunFault}
-use Rattle.agenda_faults.specs.declared.faults.RunFault.TheVariants.{NoMemory, BadCount, Rule as BadRule}
+use Rattle.agenda_faults.specs.declared.faults.RunFault.TheVariants.{BadCount}
+use Rattle.agenda_faults.specs.Faults.{fault_of_rule}
+use Rattle.agenda_commands.specs.Command.{step}
 
 -- the line of a timestamp (agenda)
 abbrev pub moment_line : ℕ → List ℕ
@@ -44,18 +46,13 @@ asked_reading clock asked = do
 abbrev pub most_starts : ℕ
 most_starts = 1000
 
--- the number of starts can be requested (agenda)
-abbrev pub IsCount : ℕ → Type 0
-IsCount count = (1 ≤ count) × (count ≤ most_starts)
+-- a number of starts that can be requested (agenda)
+abbrev pub valid_count : ℕ → Result ℕ RunFault
+valid_count count = if nat_le 1 count && nat_le count most_starts then Ok count else Err BadCount
 
--- what `next` prints for the requested rule (agenda)
-abbrev pub IsTextOfNext : List Change → Asked → (after count : ℕ) → List ℕ → Type 0
-IsTextOfNext clock asked after count text =
-    IsCount count × ((rule : Rule) × (asked_reading clock asked ≡ Ok rule) × (text ≡ next_text rule after count))
-
--- when `next` is rejected, and why: the count is checked first, then the rule (agenda)
-abbrev pub RefusesNext : List Change → Asked → ℕ → RunFault → Type 0
-RefusesNext clock asked count BadCount = IsCount count → ⊥
-RefusesNext clock asked count (BadRule fault) = IsCount count × (asked_reading clock asked ≡ Err fault)
-RefusesNext clock asked count NoMemory = IsCount count
-RefusesNext clock asked count other = ⊥
+-- what `next` writes for the requested rule: the count is checked first, then the rule (agenda)
+abbrev pub next_output : List Change → Asked → (after count : ℕ) → Result (List ℕ) RunFault
+next_output clock asked after count = do
+  many ← valid_count count
+  rule ← step fault_of_rule (asked_reading clock asked)
+  Ok (next_text rule after many)

@@ -4,8 +4,8 @@ ghost use Rattle.std.specs.Prelude.{◌≡◌, ◌++◌, IfErr, IfOk, OnOk};
 ghost use Rattle.std.specs.List.{list_all};
 ghost use Rattle.plan_check.specs.Finding.{is_warning};
 ghost use Rattle.agenda_sources.specs.Findings.{is_all_clean, sources_findings};
-ghost use Rattle.agenda_commands.specs.Command.{Fails, Writes};
-ghost use Rattle.agenda_commands.specs.Check.{IsTextOfCheck, RefusesCheck, cause_text, check_text, finding_line, line_mark, path_at, verdict_of, what_text};
+ghost use Rattle.agenda_commands.specs.Command.{Outputs};
+ghost use Rattle.agenda_commands.specs.Check.{cause_text, check_output, check_text, finding_line, line_mark, path_at, sources_verdict, verdict_of, what_text};
 
 use agenda_faults::RunFault;
 use agenda_sources::{Found, SourcePath, Sources, findings_of_sources};
@@ -42,9 +42,8 @@ pub fn run_check<S: Stream>(
     clock: &Clock,
     out: &mut S,
 ) -> Result<Verdict, RunFault>
-    ensures written { IfOk result (λ verdict. Writes (IsTextOfCheck clock.now paths.now sources.now verdict) (S.holds out.old) (S.holds out.new)) }
-    ensures refused { IfErr result (λ fault. Fails S.takes_all (λ text. text ≡ check_text paths.now (sources_findings clock.now sources.now))
-        RefusesCheck fault (S.holds out.old) (S.holds out.new)) }
+    ensures verdict { IfOk result (λ verdict. verdict ≡ sources_verdict sources.now) }
+    ensures output { Outputs S.takes_all (check_output clock.now paths.now sources.now) result (S.holds out.old) (S.holds out.new) }
 {
     let found = findings_of_sources(alloc, sources, clock)?;
     let text = check_text(alloc, paths, found.as_slice())?;

@@ -1,8 +1,8 @@
 //! Writes the next starts of one rule.
 
 ghost use Rattle.std.specs.Prelude.{◌≡◌, IfOk, IfErr, OnOk};
-ghost use Rattle.agenda_commands.specs.Command.{Fails, Writes};
-ghost use Rattle.agenda_commands.specs.Next.{next_text, IsTextOfNext, RefusesNext, IsCount, asked_reading, asked_rule};
+ghost use Rattle.agenda_commands.specs.Command.{Outputs};
+ghost use Rattle.agenda_commands.specs.Next.{asked_reading, asked_rule, next_output, next_text, valid_count};
 ghost use Rattle.plan_rules.specs.Readings.{Gives};
 
 use agenda_faults::RunFault;
@@ -33,12 +33,10 @@ pub fn run_next<S: Stream>(
     count: u64,
     out: &mut S,
 ) -> Result<(), RunFault>
-    ensures written { OnOk result (Writes (IsTextOfNext clock.now asked.now after count) (S.holds out.old) (S.holds out.new)) }
-    ensures refused { IfErr result (λ fault. Fails S.takes_all (IsTextOfNext clock.now asked.now after count) (RefusesNext clock.now asked.now count) fault
-        (S.holds out.old) (S.holds out.new)) }
+    ensures output { Outputs S.takes_all (next_output clock.now asked.now after count) result (S.holds out.old) (S.holds out.new) }
 
     // A bad count is found before anything else, and before memory is allocated.
-    ensures bad_count { ¬ IsCount count → result ≡ Err RunFault.BadCount }
+    ensures bad_count { IfErr (valid_count count) (λ fault. result ≡ Err fault) }
 {
     if count == 0 || count > MOST_STARTS {
         return Err(RunFault::BadCount);

@@ -3,8 +3,8 @@
 ghost use Rattle.std.specs.Prelude.{◌≡◌, IfErr, IfSome, OnOk};
 ghost use Rattle.agenda_sources.specs.AtOnce.{fault_at_once};
 ghost use Rattle.agenda_faults.specs.Faults.{fault_of_sources};
-ghost use Rattle.agenda_commands.specs.Command.{Fails, Writes};
-ghost use Rattle.agenda_commands.specs.Plan.{IsTextOfPlan, RefusesPlan};
+ghost use Rattle.agenda_commands.specs.Command.{Outputs};
+ghost use Rattle.agenda_commands.specs.Plan.{plan_output};
 
 use agenda_faults::RunFault;
 use agenda_sources::{Sources, jobs_of_sources};
@@ -39,9 +39,7 @@ pub fn run_plan<R: Threads + Wait + Sync, S: Stream>(
     sizes: Sizes,
     out: &mut S,
 ) -> Result<(), RunFault>
-    ensures written { OnOk result (Writes (IsTextOfPlan clock.now sources.now span sizes) (S.holds out.old) (S.holds out.new)) }
-    ensures refused { IfErr result (λ fault. Fails S.takes_all (IsTextOfPlan clock.now sources.now span sizes)
-        (RefusesPlan clock.now sources.now span sizes) fault (S.holds out.old) (S.holds out.new)) }
+    ensures output { Outputs S.takes_all (plan_output clock.now sources.now span sizes) result (S.holds out.old) (S.holds out.new) }
 
     // These errors are found before any memory is allocated.
     ensures at_once { IfSome (fault_at_once sources.now) (λ fault. result ≡ Err (fault_of_sources fault)) }

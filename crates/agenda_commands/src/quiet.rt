@@ -3,8 +3,8 @@
 ghost use Rattle.std.specs.Prelude.{◌≡◌, ◌≤◌, IfErr, IfSome, OnOk};
 ghost use Rattle.agenda_sources.specs.AtOnce.{fault_at_once};
 ghost use Rattle.agenda_faults.specs.Faults.{fault_of_sources};
-ghost use Rattle.agenda_commands.specs.Command.{Fails, Writes};
-ghost use Rattle.agenda_commands.specs.Quiet.{IsTextOfQuiet, RefusesQuiet};
+ghost use Rattle.agenda_commands.specs.Command.{Outputs};
+ghost use Rattle.agenda_commands.specs.Quiet.{quiet_output};
 
 use agenda_faults::RunFault;
 use agenda_sources::{Sources, jobs_of_sources};
@@ -34,9 +34,7 @@ pub fn run_quiet<R: Threads + Wait + Sync, S: Stream>(
     least: u32,
     out: &mut S,
 ) -> Result<(), RunFault>
-    ensures written { OnOk result (Writes (IsTextOfQuiet clock.now sources.now span sizes least) (S.holds out.old) (S.holds out.new)) }
-    ensures refused { IfErr result (λ fault. Fails S.takes_all (IsTextOfQuiet clock.now sources.now span sizes least)
-        (RefusesQuiet clock.now sources.now span sizes least) fault (S.holds out.old) (S.holds out.new)) }
+    ensures output { Outputs S.takes_all (quiet_output clock.now sources.now span sizes least) result (S.holds out.old) (S.holds out.new) }
 
     // These errors are found before any memory is allocated.
     ensures bad_least { least ≡ 0 → result ≡ Err RunFault.BadLeast }
