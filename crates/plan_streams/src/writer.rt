@@ -1,7 +1,7 @@
 //! A writer of texts, which collects them and writes many together.
 
 ghost use Rattle.std.specs.Prelude.{◌≡◌, ℕ, List, [], Option};
-ghost use Rattle.plan_streams.specs.Stream.{PutsAllBut};
+ghost use Rattle.plan_streams.specs.Stream.{Puts, PutsAllBut};
 
 use crate::buffer::Buffer;
 use crate::stream::{Stream, WriteFault};
@@ -18,9 +18,8 @@ pub struct TextWriter<'a, S> {
 }
 
 impl<'a, S: Stream> TextWriter<'a, S> {
-    ghost use Rattle.std.specs.Prelude.{◌≡◌, ◌++◌, ℕ, List, [], Option};
-    ghost use Rattle.plan_streams.specs.Stream.{Puts};
-    ghost use Rattle.plan_streams.specs.Writer.{HasTaken, IsNew, Takes};
+    ghost use Rattle.std.specs.Prelude.{◌≡◌, ◌++◌, []};
+    ghost use Rattle.plan_streams.specs.Writer.{Finishes, IsNew, Takes};
 
     /// Returns a writer to a stream.
     pub fn new(out: &'a mut S) -> TextWriter<'a, S>
@@ -79,17 +78,10 @@ impl<'a, S: Stream> TextWriter<'a, S> {
     /// # Errors
     ///
     /// `Device` if the stream failed. Then only the first bytes of the texts were written.
-    pub fn finish(self) -> Result<(), WriteFault>
-        ensures { (start : Option (List ℕ)) → (text : List ℕ) → HasTaken S.holds S.takes_all start self.entry text →
-            Puts S.takes_all result start (S.holds self.exit.0.now) text }
+    pub fn finish(&mut self) -> Result<(), WriteFault>
+        ensures { Finishes S.holds S.takes_all result self.old self.new }
     {
-        let TextWriter {
-            out,
-            waiting,
-            state,
-        } = self;
-        state?;
-        out.put(waiting.as_slice())
+        put_rest(self.state, self.waiting.as_slice(), self.out)
     }
 }
 
@@ -105,4 +97,18 @@ fn put_part<S: Stream>(
 {
     state?;
     out.put_part(waiting)
+}
+
+// Writes what waits to a stream and flushes it, unless it failed before.
+fn put_rest<S: Stream>(
+    state: Result<(), WriteFault>,
+    waiting: &[u8],
+    out: &mut S,
+) -> Result<(), WriteFault>
+    ensures { (start : Option (List ℕ)) → (text : List ℕ) →
+        PutsAllBut S.takes_all state start (S.holds out.old) text waiting.now →
+        Puts S.takes_all result start (S.holds out.new) text }
+{
+    state?;
+    out.put(waiting)
 }
