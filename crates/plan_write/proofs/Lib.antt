@@ -1,3 +1,4 @@
 pub mod StampLemmas
 pub mod QuietLemmas
 pub mod QuietLaws
+pub mod NextLemmas

@@ -3,3 +3,5 @@ pub mod Texts
 pub mod Stamp
 pub mod Upcoming
 pub mod Quiet
+pub mod Next
+pub mod Findings

@@ -1,17 +1,20 @@
-//! The texts that are made of an agenda and of jobs: one line for each start, one line for each gap in which
-//! nothing starts, and one line for each job with its next start.
+//! The texts of the answers: of agendas, their gaps, the next starts of jobs and of one rule, and findings.
 //!
-//! The agendas come from plan_collect and the jobs from plan_rules. The texts go to the streams of
-//! plan_streams, by the writer of `writer`. Read `agenda` first, then `quiet`, which writes gaps, and `upcoming`,
-//! which writes next starts.
+//! The agendas come from plan_collect, the jobs from plan_rules and the findings from agenda_sources. Each text
+//! goes to a stream by a `TextWriter` of plan_streams. Read `agenda` first. Each other module has the text that
+//! it is named after.
 #![tactic(auto)]
 
 mod agenda;
+mod findings;
+mod next;
 mod quiet;
 mod stamp;
 mod upcoming;
 
 pub use agenda::write_agenda;
+pub use findings::write_findings;
+pub use next::write_next;
 pub use plan_collect::Upcoming;
 pub use quiet::{nothing_starts_in_gaps, write_quiet};
 pub use upcoming::write_upcoming;
