@@ -133,26 +133,13 @@ met :
     (start : Collected) (history : List (ℕ × Note)) (c : Collected) (k : ℕ) (m : Note) (new : Collected) (refused : Option CollectFault) →
     answer_to start history ≡ Ok c → Meets c k m new refused → Stands (answer_to start (history ++ (k, m) ∷ [])) new refused
 met start history c k m new None so_far meets = answer_on start history (k, m) c so_far ∙ one_ok c k m meets.0 ∙ ap Ok (sym meets.1)
-met start history c k m new (Some collect.NoMemory) so_far meets = tt
-met start history c k m new (Some collect.Stranger) so_far meets = answer_on start history (k, m) c so_far
-    ∙ one_err c k m collect.Stranger meets.0
-met start history c k m new (Some collect.Gap) so_far meets = answer_on start history (k, m) c so_far ∙ one_err c k m collect.Gap meets.0
-met start history c k m new (Some collect.TooMany) so_far meets = answer_on start history (k, m) c so_far
-    ∙ one_err c k m collect.TooMany meets.0
-met start history c k m new (Some collect.AfterLast) so_far meets = answer_on start history (k, m) c so_far
-    ∙ one_err c k m collect.AfterLast meets.0
-met start history c k m new (Some collect.Missing) so_far meets = answer_on start history (k, m) c so_far
-    ∙ one_err c k m collect.Missing meets.0
+met start history c k m new (Some fault) so_far meets = λ given.
+    answer_on start history (k, m) c so_far ∙ one_err c k m fault (meets.1 given)
 
 dropped :
     (start : Collected) (history : List (ℕ × Note)) (c : Collected) (sent : ℕ × Note) (new : Collected) (fault : CollectFault) →
     Stands (answer_to start history) c (Some fault) → Stands (answer_to start (history ++ sent ∷ [])) new (Some fault)
-dropped start history c sent new collect.NoMemory so_far = tt
-dropped start history c sent new collect.Stranger so_far = answer_refused start history sent collect.Stranger so_far
-dropped start history c sent new collect.Gap so_far = answer_refused start history sent collect.Gap so_far
-dropped start history c sent new collect.TooMany so_far = answer_refused start history sent collect.TooMany so_far
-dropped start history c sent new collect.AfterLast so_far = answer_refused start history sent collect.AfterLast so_far
-dropped start history c sent new collect.Missing so_far = answer_refused start history sent collect.Missing so_far
+dropped start history c sent new fault so_far given = answer_refused start history sent fault (so_far given)
 
 stepped :
     (start : Collected) (history : List (ℕ × Note)) (c : Collected) (before : Option CollectFault) (k : ℕ) (m : Note)
@@ -174,12 +161,7 @@ same_met :
     (c : Collected) (k : ℕ) (m : Note) (new : Collected) (refused : Option CollectFault) → Meets c k m new refused →
     task_of new ≡ task_of c
 same_met c k m new None meets = ap task_of meets.1 ∙ same_after c k m
-same_met c k m new (Some collect.NoMemory) meets = ap task_of meets
-same_met c k m new (Some collect.Stranger) meets = ap task_of meets.1
-same_met c k m new (Some collect.Gap) meets = ap task_of meets.1
-same_met c k m new (Some collect.TooMany) meets = ap task_of meets.1
-same_met c k m new (Some collect.AfterLast) meets = ap task_of meets.1
-same_met c k m new (Some collect.Missing) meets = ap task_of meets.1
+same_met c k m new (Some fault) meets = ap task_of meets.0
 
 same_step :
     (c : Collected) (before : Option CollectFault) (k : ℕ) (m : Note) (new : Collected) (refused : Option CollectFault) →
@@ -192,12 +174,7 @@ many_met :
     (c : Collected) (k : ℕ) (m : Note) (new : Collected) (refused : Option CollectFault) → Meets c k m new refused →
     refused ≡ Some collect.TooMany → HasTooMany (task_of c)
 many_met c k m new None meets is = absurd cc
-many_met c k m new (Some collect.NoMemory) meets is = absurd cc
-many_met c k m new (Some collect.Stranger) meets is = absurd cc
-many_met c k m new (Some collect.Gap) meets is = absurd cc
-many_met c k m new (Some collect.TooMany) meets is = meets.2 refl
-many_met c k m new (Some collect.AfterLast) meets is = absurd cc
-many_met c k m new (Some collect.Missing) meets is = absurd cc
+many_met c k m new (Some fault) meets is = let is_many : fault ≡ collect.TooMany = cc in meets.2 is_many
 
 many_step :
     (task : TaskParts) (c : Collected) (before : Option CollectFault) (k : ℕ) (m : Note) (new : Collected)
@@ -266,27 +243,16 @@ gathers_same task desk new so_far same taken rings still = record {
 
 -- ---- at the end
 
-only_many :
-    (answer : Result Collected CollectFault) (fault : CollectFault) → answer ≡ Err fault →
-    MatchResult answer (λ c. is_complete c ≡ true) (λ fault. fault ≡ collect.TooMany) → fault ≡ collect.TooMany
-only_many answer fault is accepted = subst
-    (λ r. MatchResult r (λ c. is_complete c ≡ true) (λ fault. fault ≡ collect.TooMany)) is accepted
-
 whole_so :
     (c : Collected) (answer : Result Collected CollectFault) (refused : Option CollectFault) →
     (refused ≡ Some collect.TooMany → HasTooMany (task_of c)) → Stands answer c refused →
     MatchResult answer (λ x. is_complete x ≡ true) (λ fault. fault ≡ collect.TooMany) → IsWhole c refused
 whole_so c answer None many stands accepted = subst
     (λ r. MatchResult r (λ x. is_complete x ≡ true) (λ fault. fault ≡ collect.TooMany)) stands accepted
-whole_so c answer (Some collect.NoMemory) many stands accepted = tt
-whole_so c answer (Some collect.Stranger) many stands accepted =
-    (let is = only_many answer collect.Stranger stands accepted in absurd cc)
-whole_so c answer (Some collect.Gap) many stands accepted = (let is = only_many answer collect.Gap stands accepted in absurd cc)
-whole_so c answer (Some collect.TooMany) many stands accepted = (refl, many refl)
-whole_so c answer (Some collect.AfterLast) many stands accepted =
-    (let is = only_many answer collect.AfterLast stands accepted in absurd cc)
-whole_so c answer (Some collect.Missing) many stands accepted =
-    (let is = only_many answer collect.Missing stands accepted in absurd cc)
+whole_so c answer (Some fault) many stands accepted = λ given.
+    let is : fault ≡ collect.TooMany = subst
+    (λ r. MatchResult r (λ x. is_complete x ≡ true) (λ fault. fault ≡ collect.TooMany)) (stands given) accepted in
+    (is, many (ap Some is))
 
 -- if everything that the planners send was taken, everything has arrived
 pub gathers_all :

@@ -1,9 +1,8 @@
 -- What the calling thread of a plan knows about the messages that it took (agenda).
-use Rattle.std.specs.Prelude.{◌≡◌, ℕ, ◌+◌, ◌<◌, ◌≤◌, true, List, [], ◌∷◌, length, Option, None, Some, slice_get, Result, Ok, Err}
+use Rattle.std.specs.Prelude.{◌≡◌, ◌≢◌, ℕ, ◌+◌, ◌<◌, ◌≤◌, true, List, [], ◌∷◌, length, Option, None, Some, slice_get, Result, Ok, Err}
 use Rattle.plan_collect.specs.declared.note.Note.{Note}
 use Rattle.plan_collect.specs.declared.collector.CollectFault.{CollectFault}
-use Rattle.plan_collect.specs.declared.collector.CollectFault.TheVariants as collect
-use Rattle.plan_collect.specs.declared.collector.CollectFault.TheVariants.{TooMany}
+use Rattle.plan_collect.specs.declared.collector.CollectFault.TheVariants.{NoMemory, TooMany}
 use Rattle.plan_collect.specs.declared.plan_fault.PlanFault.{PlanFault}
 use Rattle.plan_collect.specs.declared.plan_fault.PlanFault.TheVariants as plan
 use Rattle.plan_collect.specs.Collecting.{Collected, begun, refusal, after, is_complete}
@@ -27,8 +26,7 @@ AreOf planners (sent ∷ history) = (sent.0 < planners) × AreOf planners histor
 -- stated if an allocation failed
 abbrev pub Stands : Result Collected CollectFault → Collected → Option CollectFault → Type 0
 Stands answer c None = answer ≡ Ok c
-Stands answer c (Some collect.NoMemory) = Unit {0}
-Stands answer c (Some fault) = answer ≡ Err fault
+Stands answer c (Some fault) = fault ≢ NoMemory → answer ≡ Err fault
 
 -- the messages that a desk took arrived in some order, and its collector and its first error are the result of that order
 pub record IsGathering (task : TaskParts) (desk : Desk) : Type 0 where
@@ -61,9 +59,8 @@ ArePlanners task rings k (thread ∷ threads) = IsPlanner task rings k thread.pr
 -- what a message does to a collector that has rejected none
 abbrev pub Meets : Collected → (planner : ℕ) → Note → Collected → Option CollectFault → Type 0
 Meets c planner note new None = (refusal c planner note ≡ None) × (new ≡ after c planner note)
-Meets c planner note new (Some collect.NoMemory) = new ≡ c
 Meets c planner note new (Some fault) =
-    (refusal c planner note ≡ Some fault) × (new ≡ c) × (fault ≡ TooMany → HasTooMany (task_of c))
+    (new ≡ c) × (fault ≢ NoMemory → refusal c planner note ≡ Some fault) × (fault ≡ TooMany → HasTooMany (task_of c))
 
 -- a message is accepted or rejected; it is dropped if one was rejected before
 abbrev pub Steps : Collected → Option CollectFault → (planner : ℕ) → Note → Collected → Option CollectFault → Type 0
@@ -73,8 +70,7 @@ Steps c (Some fault) planner note new refused = (new ≡ c) × (refused ≡ Some
 -- everything that was sent has arrived: the collector is complete, or there are more starts than its limit, or an allocation failed
 abbrev pub IsWhole : Collected → Option CollectFault → Type 0
 IsWhole c None = is_complete c ≡ true
-IsWhole c (Some collect.NoMemory) = Unit {0}
-IsWhole c (Some fault) = (fault ≡ TooMany) × HasTooMany (task_of c)
+IsWhole c (Some fault) = fault ≢ NoMemory → (fault ≡ TooMany) × HasTooMany (task_of c)
 
 -- the errors of the threads, apart from those of their messages
 abbrev pub IsThreadFault : PlanFault → Type 0
