@@ -1,62 +1,14 @@
 -- What `check` writes about the findings on sources. All of it is our choice (agenda).
-use Rattle.std.specs.Prelude.{ℕ, Bool, true, false, ◌==◌, if◌then◌else◌, List, [], ◌++◌, codes, decimal, is_ok, Option, Some, None, Result, Ok, slice_get}
-use Rattle.std.specs.List.{flat_map}
-use Rattle.plan_grammar.specs.Causes.{rule_cause}
-use Rattle.plan_rules.specs.Causes.{line_cause}
-use Rattle.plan_rules.specs.declared.LineCause.{LineCause}
-use Rattle.plan_rules.specs.declared.LineCause.TheVariants.{Rule}
+use Rattle.std.specs.Prelude.{ℕ, Bool, true, false, List, is_ok, Result, Ok}
 use Rattle.plan_clock.specs.declared.row.Change.{Change}
-use Rattle.plan_check.specs.Finding.{warning_name}
-use Rattle.plan_check.specs.declared.Finding.{Finding}
-use Rattle.plan_check.specs.declared.What.{What}
-use Rattle.plan_check.specs.declared.What.TheVariants.{Refused, SameName, Full, Warned}
+pub use Rattle.plan_write.specs.Findings.{check_text}
 use Rattle.agenda_sources.specs.Findings.{sources_findings}
 use Rattle.agenda_sources.specs.Sources.{sources_reading}
-use Rattle.agenda_sources.specs.declared.Found.{Found}
 use Rattle.agenda_sources.specs.declared.Source.{Source}
 use Rattle.agenda_sources.specs.declared.SourcePath.{SourcePath}
 use Rattle.agenda_faults.specs.declared.faults.RunFault.{RunFault}
 use Rattle.agenda_commands.specs.declared.check.Verdict.{Verdict}
 use Rattle.agenda_commands.specs.declared.check.Verdict.TheVariants as verdict
-
--- ---- a line
-
--- the number of a line, after its path; a finding about the whole file has none
-abbrev pub line_mark : ℕ → List ℕ
-line_mark line = if line == 0 then [] else codes ":" ++ decimal line
-
--- why a line is rejected; for a rule also which of its parts
-abbrev pub cause_text : LineCause → List ℕ
-cause_text (Rule fault) = codes "part " ++ (decimal fault.part ++ (codes ": " ++ rule_cause fault.cause))
-cause_text cause = line_cause cause
-
--- what is found
-abbrev pub what_text : What → List ℕ
-what_text (Refused cause) = cause_text cause
-what_text SameName = codes "SameName"
-what_text Full = codes "Full"
-what_text (Warned note) = codes "note: " ++ warning_name note
-
--- the line of a finding: the path, the line's number, what is found
-abbrev pub finding_line : List ℕ → Finding → List ℕ
-finding_line path finding = path ++ (line_mark finding.line ++ (codes ": " ++ (what_text finding.what ++ codes "\n")))
-
--- ---- all lines
-
--- the path of a source, if the source exists
-abbrev pub path_in : Option SourcePath → List ℕ
-path_in None = []
-path_in (Some source) = source.path
-
--- the path at a place, which is counted from 0
-abbrev pub path_at : List SourcePath → ℕ → List ℕ
-path_at paths place = path_in (slice_get paths place)
-
--- a line for each finding, in order, with the path of its source as it was given
-abbrev pub check_text : List SourcePath → List Found → List ℕ
-check_text paths found = flat_map (λ one. finding_line (path_at paths one.place) one.finding) found
-
--- ---- the command
 
 -- the verdict of a check
 abbrev pub verdict_of : (is_clean : Bool) → Verdict

@@ -1,8 +1,5 @@
--- The next starts of one rule, and the text that lists them.
-use Rattle.std.specs.Prelude.{ℕ, ◌+◌, ◌&&◌, nat_lt, nat_le, if◌then◌else◌, List, [], ◌++◌, length, take, codes, Result, Ok, Err}
-use Rattle.std.specs.List.{flat_map}
-use Rattle.plan_sets.specs.Limits.{end_second}
-use Rattle.plan_sets.specs.Moment.{moment_text_of}
+-- The next starts of one rule.
+use Rattle.std.specs.Prelude.{ℕ, ◌&&◌, nat_le, if◌then◌else◌, List, Result, Ok, Err}
 use Rattle.plan_clock.specs.declared.row.Change.{Change}
 use Rattle.plan_match.specs.Zone.{rule_in}
 use Rattle.plan_rules.specs.declared.Rule.{Rule}
@@ -10,26 +7,13 @@ use Rattle.plan_rules.specs.Cron.{cron_reading}
 use Rattle.plan_rules.specs.Event.{event_rule_reading}
 use Rattle.plan_rules.specs.Readings.{Reading}
 use Rattle.plan_texts.specs.Steps.{◌>>=◌}
-use Rattle.plan_next.specs.Starts.{starts}
+pub use Rattle.plan_write.specs.Next.{next_text}
 use Rattle.agenda_sources.specs.declared.Asked.{Asked}
 use Rattle.agenda_sources.specs.declared.Asked.TheVariants.{Cron, Event}
 use Rattle.agenda_faults.specs.declared.faults.RunFault.{RunFault}
 use Rattle.agenda_faults.specs.declared.faults.RunFault.TheVariants.{BadCount}
 use Rattle.agenda_faults.specs.Faults.{fault_of_rule}
 use Rattle.agenda_commands.specs.Command.{step}
-
--- the line of a timestamp (agenda)
-abbrev pub moment_line : ℕ → List ℕ
-moment_line n = moment_text_of n ++ codes "\n"
-
--- one line for each timestamp, then `none` if there are fewer than requested (agenda)
-unfoldable pub starts_text : ℕ → List ℕ → List ℕ
-starts_text count moments =
-    flat_map moment_line moments ++ (if nat_lt (length moments) count then codes "none\n" else [])
-
--- the text of next starts: the first `count` starts of the rule after a time, then `none` if there are fewer (agenda)
-abbrev pub next_text : Rule → (after count : ℕ) → List ℕ
-next_text rule after count = starts_text count (take count (starts rule (after + 1) end_second))
 
 -- the requested rule, from its text; in UTC unless it names a zone (agenda)
 abbrev pub asked_rule : Asked → Reading Rule

@@ -1,18 +1,17 @@
 //! Writes the next starts of one rule.
 
-ghost use Rattle.std.specs.Prelude.{◌≡◌, IfOk, IfErr, OnOk};
+ghost use Rattle.std.specs.Prelude.{◌≡◌, IfErr};
 ghost use Rattle.agenda_commands.specs.Command.{Outputs};
-ghost use Rattle.agenda_commands.specs.Next.{asked_reading, asked_rule, next_output, next_text, valid_count};
+ghost use Rattle.agenda_commands.specs.Next.{asked_reading, asked_rule, next_output, valid_count};
 ghost use Rattle.plan_rules.specs.Readings.{Gives};
 
 use agenda_faults::RunFault;
 use agenda_sources::Asked;
 use plan_clock::Clock;
-use plan_next::next_start;
 use plan_rules::{Rule, RuleFault, calendar_rule, cron_rule};
-use plan_sets::moment_text;
 use plan_streams::Stream;
-use std::alloc::{AllocError, Global};
+use plan_write::write_next;
+use std::alloc::Global;
 
 /// The maximum number of starts that can be requested.
 pub const MOST_STARTS: u64 = 1_000;
@@ -42,8 +41,7 @@ pub fn run_next<S: Stream>(
         return Err(RunFault::BadCount);
     }
     let rule = zoned_rule(alloc, asked, clock)?;
-    let text = starts_text(alloc, &rule, after, count)?;
-    out.put(text.as_slice())?;
+    write_next(&rule, after, count, out)?;
     Ok(())
 }
 
@@ -63,22 +61,4 @@ fn asked_rule(alloc: Global, asked: &Asked) -> Result<Rule, RuleFault>
         Asked::Cron(text) => cron_rule(alloc, text.as_str()),
         Asked::Event(text) => calendar_rule(alloc, text.as_str()),
     }
-}
-
-// Returns the text of the next starts.
-fn starts_text(alloc: Global, rule: &Rule, after: u64, count: u64) -> Result<Vec<u8>, AllocError>
-    ensures { IfOk result (λ text. text.items ≡ next_text rule.now after count) }
-{
-    let mut text = Vec::new(alloc);
-    let mut latest = after;
-    for _listed in 0..count {
-        let Some(moment) = next_start(rule, latest) else {
-            text.extend_from_slice(b"none\n")?;
-            return Ok(text);
-        };
-        text.extend_from_slice(&moment_text(moment))?;
-        text.push(b'\n')?;
-        latest = moment;
-    }
-    Ok(text)
 }
