@@ -89,15 +89,15 @@ memory_answers held status takes_all kept err (is, line) = inr (Run run.NoMemory
 -- what a command wrote before its error, if its texts and errors are among the others
 pub fails_as :
     (takes_all : Bool) (P Q : List ℕ → Type 0) (R : RunFault → Type 0) (S : Failure → Type 0) (fault : RunFault)
-    (old new : Option (List ℕ)) → ((text : List ℕ) → P text → Q text) → ((refused : RunFault) → R refused → S (Run refused)) →
+    (old new : Option (List ℕ)) → ((text : List ℕ) → P text → Q text) → (R fault → S (Run fault)) →
     Fails takes_all P R fault old new → Stops takes_all Q S (Run fault) old new
 fails_as takes_all P Q R S run.Device old new texts faults (text, is, off) = (text, texts text is, off)
-fails_as takes_all P Q R S run.NoMemory old new texts faults (is, kept) = (faults _ is, kept)
-fails_as takes_all P Q R S run.BadCount old new texts faults (is, kept) = (faults _ is, kept)
-fails_as takes_all P Q R S (run.Rule fault) old new texts faults (is, kept) = (faults _ is, kept)
-fails_as takes_all P Q R S (run.InSource place fault) old new texts faults (is, kept) = (faults _ is, kept)
-fails_as takes_all P Q R S (run.SameName name) old new texts faults (is, kept) = (faults _ is, kept)
-fails_as takes_all P Q R S run.Full old new texts faults (is, kept) = (faults _ is, kept)
-fails_as takes_all P Q R S (run.Plan fault) old new texts faults (is, kept) = (faults _ is, kept)
-fails_as takes_all P Q R S (run.Script fault) old new texts faults (is, kept) = (faults _ is, kept)
-fails_as takes_all P Q R S run.BadLeast old new texts faults (is, kept) = (faults _ is, kept)
+fails_as takes_all P Q R S run.NoMemory old new texts faults (is, kept) = (faults is, kept)
+fails_as takes_all P Q R S run.BadCount old new texts faults (is, kept) = (faults is, kept)
+fails_as takes_all P Q R S (run.Rule fault) old new texts faults (is, kept) = (faults is, kept)
+fails_as takes_all P Q R S (run.InSource place fault) old new texts faults (is, kept) = (faults is, kept)
+fails_as takes_all P Q R S (run.SameName name) old new texts faults (is, kept) = (faults is, kept)
+fails_as takes_all P Q R S run.Full old new texts faults (is, kept) = (faults is, kept)
+fails_as takes_all P Q R S (run.Plan fault) old new texts faults (is, kept) = (faults is, kept)
+fails_as takes_all P Q R S (run.Script fault) old new texts faults (is, kept) = (faults is, kept)
+fails_as takes_all P Q R S run.BadLeast old new texts faults (is, kept) = (faults is, kept)

@@ -1,37 +1,12 @@
--- What a check prints and when it fails, for `check` and `answer_check`. Even if it was stopped, its text has
--- a status: that of the verdict on the sources.
-use Rattle.std.proofs.Common.{◌≡◌, ℕ, List, Option, Ok, is_ok, inr, refl, subst}
-use Rattle.agenda_commands.specs.Check.{RefusesCheck, check_text, verdict_of}
+-- What the program answers when a check failed, for `answer_check`.
+use Rattle.std.proofs.Common.{◌≡◌, ℕ, List, Option, Ok, inr, subst}
 use Rattle.agenda_faults.specs.declared.faults.Failure.{Failure}
-use Rattle.agenda_faults.specs.declared.faults.Failure.TheVariants.{Run}
-use Rattle.agenda_faults.specs.declared.faults.RunFault.{RunFault}
 use Rattle.agenda_faults.specs.FaultLines.{fault_text}
 use Rattle.agenda_faults.specs.Faults.{status_of}
-use Rattle.agenda_sources.specs.Findings.{sources_findings}
-use Rattle.agenda_sources.specs.Sources.{sources_reading}
-use Rattle.agenda_sources.specs.declared.Source.{Source}
 use Rattle.agenda_sources.specs.declared.SourcePath.{SourcePath}
-use Rattle.agenda_answers.specs.Answer.{Answers, FailsCheck, GivesCheck, Stops, Stream, asked_check, status_on}
+use Rattle.agenda_answers.specs.Answer.{Answers, FailsCheck, GivesCheck, Stops, Stream, asked_check}
 use Rattle.agenda_answers.specs.Files.{Held}
-use Rattle.agenda_answers.specs.Zone.{HasClock}
-use Rattle.plan_clock.specs.declared.row.Change.{Change}
-use Rattle.agenda_answers.specs.Sources.{AreSourcesOf}
 use Rattle.plan_streams.specs.Stream.{PutsOrBreaksOff}
-
--- the lines of all findings are a text of the check
-pub gives_check :
-    (held : Held) (zone : Option (List ℕ)) (paths : List SourcePath) (clock : List Change) (sources : List Source) (text : List ℕ) →
-    HasClock held zone clock → AreSourcesOf held paths sources → text ≡ check_text paths (sources_findings clock sources) →
-    (status : ℕ) × GivesCheck held zone paths status text
-gives_check held named paths clock sources text has are is =
-    let verdict = verdict_of (is_ok (sources_reading sources)) in
-    (status_on verdict, (clock, sources, verdict, has, are, (is, refl), refl))
-
--- it fails only if an allocation fails
-pub fails_check :
-    (held : Held) (zone : Option (List ℕ)) (paths : List SourcePath) (fault : RunFault) → RefusesCheck fault →
-    FailsCheck held zone paths (Run fault)
-fails_check held named paths fault is = inr is
 
 -- a check that failed has its status, and its line was written
 pub check_fails :

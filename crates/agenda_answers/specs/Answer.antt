@@ -1,5 +1,5 @@
 -- What the program answers to a request: its exit status, and what both streams hold after it. All of it is our choice (agenda).
-use Rattle.std.specs.Prelude.{◌≡◌, ⊤, ℕ, ◌<◌, ◌≤◌, ◌⊎◌, Bool, List, [], codes, Option, Result, Ok, Err}
+use Rattle.std.specs.Prelude.{◌≡◌, ⊤, ℕ, ◌<◌, ◌≤◌, ◌⊎◌, Bool, List, [], codes, Option, Result, Ok, Err, IfErr}
 use Rattle.std.specs.Io.KnownBytes.{Keeps}
 use Rattle.plan_clock.specs.declared.row.Change.{Change}
 use Rattle.plan_sets.specs.Limits.{end_second}
@@ -25,11 +25,11 @@ use Rattle.agenda_faults.specs.Faults.{refused_status, status_of}
 use Rattle.agenda_answers.specs.Files.{Held, IsHeld, IsUnsure}
 use Rattle.agenda_commands.specs.declared.Verdict.{Verdict}
 use Rattle.agenda_commands.specs.declared.Verdict.TheVariants.{Clean, Refused}
-use Rattle.agenda_commands.specs.Check.{IsTextOfCheck, RefusesCheck}
-use Rattle.agenda_commands.specs.Command.{Writes}
-use Rattle.agenda_commands.specs.Next.{IsTextOfNext, RefusesNext}
-use Rattle.agenda_commands.specs.Plan.{IsTextOfPlan, RefusesPlan}
-use Rattle.agenda_commands.specs.Quiet.{IsTextOfQuiet, RefusesQuiet}
+use Rattle.agenda_commands.specs.Check.{check_output, sources_verdict}
+use Rattle.agenda_commands.specs.Command.{IsFaultOf, IsTextOf, Writes}
+use Rattle.agenda_commands.specs.Next.{next_output, valid_count}
+use Rattle.agenda_commands.specs.Plan.{plan_output}
+use Rattle.agenda_commands.specs.Quiet.{quiet_output}
 use Rattle.agenda_commands.specs.Script.{IsTextOfRun, RefusesRun}
 use Rattle.agenda_commands.specs.Upcoming.{IsTextOfUpcoming, RefusesUpcoming}
 use Rattle.agenda_answers.specs.Sources.{AreSourcesOf, IsUnreadInput}
@@ -49,7 +49,8 @@ IsMoment text moment = (moment ≤ end_second) × (text ≡ moment_text_of momen
 -- what `next` prints
 abbrev pub GivesNext : Held → List ℕ → Option (List ℕ) → ℕ → Asked → List ℕ → Type 0
 GivesNext held after zone count rule text =
-    (moment : ℕ) × (clock : List Change) × IsMoment after moment × HasClock held zone clock × IsTextOfNext clock rule moment count text
+    (moment : ℕ) × (clock : List Change) × IsMoment after moment × HasClock held zone clock
+    × IsTextOf (next_output clock rule moment count) text
 
 -- a command failed with an error for which this holds
 abbrev pub FailsRun : (RunFault → Type 0) → Failure → Type 0
@@ -61,13 +62,14 @@ abbrev pub GivesNoMoment : List ℕ → Failure → Type 0
 GivesNoMoment after (After fault) = HasFault after fault
 GivesNoMoment after other = ⊥
 
--- when `next` fails, and why: the timestamp is read first, then the zone, then the count and the rule
+-- when `next` fails, and why: the timestamp is read first, then the zone, then the count, which needs no memory, and the rule
 abbrev pub FailsNext : Held → List ℕ → Option (List ℕ) → ℕ → Asked → Failure → Type 0
 FailsNext held after zone count rule failure =
     GivesNoMoment after failure
     ⊎ (((moment : ℕ) × IsMoment after moment × HasNoClock held zone failure)
     ⊎ ((moment : ℕ) × (clock : List Change) × IsMoment after moment × HasClock held zone clock
-    × FailsRun (RefusesNext clock rule count) failure))
+    × FailsRun (IsFaultOf (next_output clock rule moment count)) failure
+    × IfErr (valid_count count) (λ fault. failure ≡ Run fault)))
 
 -- the span between two timestamps
 abbrev pub IsSpan : (since upto : List ℕ) → Bounds → Type 0
@@ -85,7 +87,8 @@ GivesNoSpan since upto other = ⊥
 abbrev pub GivesPlan : Held → Wanted → List ℕ → Type 0
 GivesPlan held wanted text =
     (span : Bounds) × (clock : List Change) × (sources : List Source) × IsSpan wanted.since wanted.upto span
-    × HasClock held wanted.zone clock × AreSourcesOf held wanted.sources sources × IsTextOfPlan clock sources span wanted.sizes text
+    × HasClock held wanted.zone clock × AreSourcesOf held wanted.sources sources
+    × IsTextOf (plan_output clock sources span wanted.sizes) text
 
 -- when `plan` fails, and why: the span is read first, then the zone, then the files, and then the plan is made
 abbrev pub FailsPlan : Held → Wanted → Failure → Type 0
@@ -94,14 +97,14 @@ FailsPlan held wanted failure =
     ⊎ (((span : Bounds) × IsSpan wanted.since wanted.upto span × IsUnreadInput held wanted.zone wanted.sources failure)
     ⊎ ((span : Bounds) × (clock : List Change) × (sources : List Source) × IsSpan wanted.since wanted.upto span
     × HasClock held wanted.zone clock × AreSourcesOf held wanted.sources sources
-    × FailsRun (RefusesPlan clock sources span wanted.sizes) failure))
+    × FailsRun (IsFaultOf (plan_output clock sources span wanted.sizes)) failure))
 
 -- what `quiet` prints
 abbrev pub GivesQuiet : Held → Wanted → (least : ℕ) → List ℕ → Type 0
 GivesQuiet held wanted least text =
     (span : Bounds) × (clock : List Change) × (sources : List Source) × IsSpan wanted.since wanted.upto span
     × HasClock held wanted.zone clock × AreSourcesOf held wanted.sources sources
-    × IsTextOfQuiet clock sources span wanted.sizes least text
+    × IsTextOf (quiet_output clock sources span wanted.sizes least) text
 
 -- when `quiet` fails, and why: in the same order as `plan`
 abbrev pub FailsQuiet : Held → Wanted → (least : ℕ) → Failure → Type 0
@@ -110,7 +113,7 @@ FailsQuiet held wanted least failure =
     ⊎ (((span : Bounds) × IsSpan wanted.since wanted.upto span × IsUnreadInput held wanted.zone wanted.sources failure)
     ⊎ ((span : Bounds) × (clock : List Change) × (sources : List Source) × IsSpan wanted.since wanted.upto span
     × HasClock held wanted.zone clock × AreSourcesOf held wanted.sources sources
-    × FailsRun (RefusesQuiet clock sources span wanted.sizes least) failure))
+    × FailsRun (IsFaultOf (quiet_output clock sources span wanted.sizes least)) failure))
 
 -- what `upcoming` prints
 abbrev pub GivesUpcoming : Held → (after : List ℕ) → Option (List ℕ) → List SourcePath → List ℕ → Type 0
@@ -134,12 +137,15 @@ status_on Refused = refused_status
 -- what `check` prints, and its exit status
 abbrev pub GivesCheck : Held → Option (List ℕ) → List SourcePath → (status : ℕ) → List ℕ → Type 0
 GivesCheck held zone paths status text =
-    (clock : List Change) × (sources : List Source) × (verdict : Verdict) × HasClock held zone clock × AreSourcesOf held paths sources
-    × IsTextOfCheck clock paths sources verdict text × (status ≡ status_on verdict)
+    (clock : List Change) × (sources : List Source) × HasClock held zone clock × AreSourcesOf held paths sources
+    × IsTextOf (check_output clock paths sources) text × (status ≡ status_on (sources_verdict sources))
 
 -- when `check` fails, and why: the zone is read first, then the files; after that only an allocation can fail
 abbrev pub FailsCheck : Held → Option (List ℕ) → List SourcePath → Failure → Type 0
-FailsCheck held zone paths failure = IsUnreadInput held zone paths failure ⊎ FailsRun RefusesCheck failure
+FailsCheck held zone paths failure =
+    IsUnreadInput held zone paths failure
+    ⊎ ((clock : List Change) × (sources : List Source) × HasClock held zone clock × AreSourcesOf held paths sources
+    × FailsRun (IsFaultOf (check_output clock paths sources)) failure)
 
 -- what `steps` prints
 abbrev pub GivesSteps : Held → List ℕ → List ℕ → Type 0

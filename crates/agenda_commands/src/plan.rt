@@ -1,6 +1,6 @@
 //! Plans and writes the agenda of the jobs of crontabs and timer files.
 
-ghost use Rattle.std.specs.Prelude.{◌≡◌, IfErr, IfSome, OnOk};
+ghost use Rattle.std.specs.Prelude.{◌≡◌, IfSome};
 ghost use Rattle.agenda_sources.specs.AtOnce.{fault_at_once};
 ghost use Rattle.agenda_faults.specs.Faults.{fault_of_sources};
 ghost use Rattle.agenda_commands.specs.Command.{Outputs};

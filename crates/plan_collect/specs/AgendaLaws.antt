@@ -3,6 +3,7 @@ use Rattle.std.specs.Prelude.{◌≡◌, ℕ, zero, suc, ◌+◌, ◌-◌, ◌<�
 use Rattle.std.proofs.Common.{cond, refl, subst, ◌∙◌, arith}
 use Rattle.std.specs.List.{range_with_len, flat_map, list_all}
 use Rattle.std.proofs.lemmas.Bool.{lt-ltb, and_parts, and_from}
+use Rattle.std.proofs.lemmas.List.{length-map}
 use Rattle.std.proofs.lemmas.List.Folds.{list_all-append}
 use Rattle.plan_sets.specs.Limits.{end_second}
 use Rattle.plan_match.specs.declared.rule.Rule.{Rule}
@@ -60,7 +61,8 @@ job_there [] n none lt = omega arith
 job_there (job ∷ jobs) zero none lt = cc
 job_there (job ∷ jobs) (suc n) none lt = job_there jobs n none (omega arith)
 
-pub agenda-of_jobs : (jobs : List JobParts) (span : Bounds) → IsOfJobs (length jobs) (agenda (rules_of jobs) span)
+-- each entry of an agenda has the number of one of these jobs
+agenda-of_jobs : (jobs : List JobParts) (span : Bounds) → IsOfJobs (length jobs) (agenda (rules_of jobs) span)
 agenda-of_jobs jobs span =
     let as_many : length (rules_of jobs) ≡ length jobs = length-map jobs (λ job. job.rule) in
     rw as_many at (agenda-of_rules (rules_of jobs) span)

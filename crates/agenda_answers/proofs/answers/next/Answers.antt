@@ -1,18 +1,23 @@
 -- A failure before the starts stops early (`stopped_early`). A failure of the starts is that of its error (`fails_as`).
-use Rattle.std.proofs.Common.{◌≡◌, ℕ, List, inl, inr, subst}
-use Rattle.plan_clock.specs.declared.row.Change.{Change}
-use Rattle.agenda_sources.specs.declared.Asked.{Asked}
+use Rattle.std.proofs.Common.{◌≡◌, ℕ, Result, Ok, Err, IfErr, inl, inr, subst}
+use Rattle.agenda_commands.specs.Command.{IsFaultOf, IsTextOf}
+use Rattle.agenda_commands.specs.Next.{next_output, valid_count}
+use Rattle.agenda_faults.specs.declared.faults.Failure.TheVariants.{Run}
 use Rattle.agenda_faults.specs.declared.faults.RunFault.{RunFault}
-use Rattle.agenda_commands.specs.Next.{IsTextOfNext, RefusesNext}
 use Rattle.agenda_answers.specs.Answer.{FailsNext, GivesNext}
 use Rattle.agenda_answers.proofs.AnswerLemmas.{fails_as, writes_as}
 use Rattle.agenda_answers.proofs.EarlyLemmas.{early_clock, early_moment, stopped_early}
 use Rattle.agenda_answers.proofs.answers.next.Goals as goal
 
-refusal_as :
-    (clock : List Change) (rule : Asked) (count given : ℕ) (fault : RunFault) → count ≡ given → RefusesNext clock rule count fault →
-    RefusesNext clock rule given fault
-refusal_as clock rule count given fault same is = subst (λ n. RefusesNext clock rule n fault) same is
+-- the answer of a command that failed
+abbrev pub refused : RunFault → Result (Unit {0}) RunFault
+refused fault = Err fault
+
+same_count :
+    (count : Result ℕ RunFault) (fault : RunFault) → IfErr count (λ found. refused fault ≡ Err found) →
+    IfErr count (λ found. Run fault ≡ Run found)
+same_count (Ok x) fault is = tt
+same_count (Err found) fault is = cc
 
 pub returns-in_err-moment-clause-failed : goal.returns-in_err-moment-clause-failed
 returns-in_err-moment-clause-failed g c =
@@ -40,7 +45,7 @@ returns-in-Ok-clause-done g c =
     let moment = c.in_ok-moment.moment in
     let clock = c.in_ok-clock.clock in
     let rule = c.args.rule.now in
-    writes_as (IsTextOfNext clock rule moment c.from.result)
+    writes_as (IsTextOf (next_output clock rule moment c.from.result))
     (GivesNext (g.F.Files.held c.args.files.now) c.args.after.now c.args.zone.now c.args.count c.args.rule.now)
     (g.S.Stream.holds c.args.out.now) (g.S.Stream.holds c.run_next.new.out)
     (λ text is. (
@@ -48,8 +53,8 @@ returns-in-Ok-clause-done g c =
       clock,
       c.in_ok-moment.ensures.moment,
       c.in_ok-clock.ensures.clock,
-      subst (λ n. IsTextOfNext clock rule moment n text) c.from.ensures is,
-    )) c.in-Ok.ensures.written
+      subst (λ n. IsTextOf (next_output clock rule moment n) text) c.from.ensures is,
+    )) c.in-Ok.ensures.output
 
 pub returns-clause-failed : goal.returns-clause-failed
 returns-clause-failed g c =
@@ -57,20 +62,22 @@ returns-clause-failed g c =
     let clock = c.in_ok-clock.clock in
     let rule = c.args.rule.now in
     let held = g.F.Files.held c.args.files.now in
-    fails_as g.S.Stream.takes_all (IsTextOfNext clock rule moment c.from.result)
-    (GivesNext held c.args.after.now c.args.zone.now c.args.count c.args.rule.now) (RefusesNext clock rule c.from.result)
+    fails_as g.S.Stream.takes_all (IsTextOf (next_output clock rule moment c.from.result))
+    (GivesNext held c.args.after.now c.args.zone.now c.args.count c.args.rule.now) (IsFaultOf (next_output clock rule moment c.from.result))
     (FailsNext held c.args.after.now c.args.zone.now c.args.count c.args.rule.now) c.in-Err.fault (g.S.Stream.holds c.args.out.now)
     (g.S.Stream.holds c.run_next.new.out) (λ text is. (
       moment,
       clock,
       c.in_ok-moment.ensures.moment,
       c.in_ok-clock.ensures.clock,
-      subst (λ n. IsTextOfNext clock rule moment n text) c.from.ensures is,
+      subst (λ n. IsTextOf (next_output clock rule moment n) text) c.from.ensures is,
     ))
-    (λ fault is. inr (inr (
+    (λ is. inr (inr (
       moment,
       clock,
       c.in_ok-moment.ensures.moment,
       c.in_ok-clock.ensures.clock,
-      refusal_as clock rule c.from.result c.args.count fault c.from.ensures is,
-    ))) c.in-Err.ensures.refused
+      subst (λ n. IsFaultOf (next_output clock rule moment n) c.in-Err.fault) c.from.ensures is,
+      subst (λ n. IfErr (valid_count n) (λ found. Run c.in-Err.fault ≡ Run found)) c.from.ensures
+          (same_count (valid_count c.from.result) c.in-Err.fault c.in-Err.ensures.bad_count),
+    ))) c.in-Err.ensures.output

@@ -1,6 +1,7 @@
 -- A failure before the plan stops early (`stopped_early`). A failure of the plan is that of its error (`fails_as`).
 use Rattle.std.proofs.Common.{inl, inr, subst}
-use Rattle.agenda_commands.specs.Plan.{IsTextOfPlan, RefusesPlan}
+use Rattle.agenda_commands.specs.Command.{IsFaultOf, IsTextOf}
+use Rattle.agenda_commands.specs.Plan.{plan_output}
 use Rattle.agenda_answers.specs.Answer.{FailsPlan, GivesPlan}
 use Rattle.agenda_answers.specs.Sources.{AreSourcesOf, IsUnreadInput}
 use Rattle.agenda_answers.proofs.AnswerLemmas.{fails_as, writes_as}
@@ -33,10 +34,10 @@ returns-in-Ok-clause-done g c =
     let wanted = c.args.wanted.now in
     let held = g.F.Files.held c.args.files.now in
     let are = subst (λ paths. AreSourcesOf held paths input.sources) c.as_slice.ensures c.in_ok-input.ensures.sources in
-    writes_as (IsTextOfPlan input.clock input.sources span wanted.sizes)
+    writes_as (IsTextOf (plan_output input.clock input.sources span wanted.sizes))
     (GivesPlan (g.F.Files.held c.args.files.now) wanted) (g.S.Stream.holds c.args.out.now) (g.S.Stream.holds c.run_plan.new.out)
     (λ text is. (span, input.clock, input.sources, c.in_ok-span.ensures.span, c.in_ok-input.ensures.clock, are, is))
-    c.in-Ok.ensures.written
+    c.in-Ok.ensures.output
 
 pub returns-clause-failed : goal.returns-clause-failed
 returns-clause-failed g c =
@@ -45,9 +46,9 @@ returns-clause-failed g c =
     let wanted = c.args.wanted.now in
     let held = g.F.Files.held c.args.files.now in
     let are = subst (λ paths. AreSourcesOf held paths input.sources) c.as_slice.ensures c.in_ok-input.ensures.sources in
-    fails_as g.S.Stream.takes_all (IsTextOfPlan input.clock input.sources span wanted.sizes) (GivesPlan held wanted)
-    (RefusesPlan input.clock input.sources span wanted.sizes) (FailsPlan held wanted) c.in-Err.fault
+    fails_as g.S.Stream.takes_all (IsTextOf (plan_output input.clock input.sources span wanted.sizes)) (GivesPlan held wanted)
+    (IsFaultOf (plan_output input.clock input.sources span wanted.sizes)) (FailsPlan held wanted) c.in-Err.fault
     (g.S.Stream.holds c.args.out.now) (g.S.Stream.holds c.run_plan.new.out)
     (λ text is. (span, input.clock, input.sources, c.in_ok-span.ensures.span, c.in_ok-input.ensures.clock, are, is))
-    (λ fault is. inr (inr (span, input.clock, input.sources, c.in_ok-span.ensures.span, c.in_ok-input.ensures.clock, are, is)))
-    c.in-Err.ensures.refused
+    (λ is. inr (inr (span, input.clock, input.sources, c.in_ok-span.ensures.span, c.in_ok-input.ensures.clock, are, is)))
+    c.in-Err.ensures.output

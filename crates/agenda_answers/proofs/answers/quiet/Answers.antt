@@ -1,6 +1,7 @@
 -- A failure before the plan stops early (`stopped_early`). A failure of the plan is that of its error (`fails_as`).
 use Rattle.std.proofs.Common.{inl, inr, subst}
-use Rattle.agenda_commands.specs.Quiet.{IsTextOfQuiet, RefusesQuiet}
+use Rattle.agenda_commands.specs.Command.{IsFaultOf, IsTextOf}
+use Rattle.agenda_commands.specs.Quiet.{quiet_output}
 use Rattle.agenda_answers.specs.Answer.{FailsQuiet, GivesQuiet}
 use Rattle.agenda_answers.specs.Sources.{AreSourcesOf, IsUnreadInput}
 use Rattle.agenda_answers.proofs.AnswerLemmas.{fails_as, writes_as}
@@ -34,11 +35,11 @@ returns-in-Ok-clause-done g c =
     let wanted = c.args.wanted.now in
     let held = g.F.Files.held c.args.files.now in
     let are = subst (λ paths. AreSourcesOf held paths input.sources) c.as_slice.ensures c.in_ok-input.ensures.sources in
-    writes_as (IsTextOfQuiet input.clock input.sources span wanted.sizes c.args.least)
+    writes_as (IsTextOf (quiet_output input.clock input.sources span wanted.sizes c.args.least))
     (GivesQuiet (g.F.Files.held c.args.files.now) wanted c.args.least) (g.S.Stream.holds c.args.out.now) (g.S.Stream.holds
     c.run_quiet.new.out)
     (λ text is. (span, input.clock, input.sources, c.in_ok-span.ensures.span, c.in_ok-input.ensures.clock, are, is))
-    c.in-Ok.ensures.written
+    c.in-Ok.ensures.output
 
 pub returns-clause-failed : goal.returns-clause-failed
 returns-clause-failed g c =
@@ -47,10 +48,10 @@ returns-clause-failed g c =
     let wanted = c.args.wanted.now in
     let held = g.F.Files.held c.args.files.now in
     let are = subst (λ paths. AreSourcesOf held paths input.sources) c.as_slice.ensures c.in_ok-input.ensures.sources in
-    fails_as g.S.Stream.takes_all (IsTextOfQuiet input.clock input.sources span wanted.sizes c.args.least) (GivesQuiet held wanted
+    fails_as g.S.Stream.takes_all (IsTextOf (quiet_output input.clock input.sources span wanted.sizes c.args.least)) (GivesQuiet held wanted
     c.args.least)
-    (RefusesQuiet input.clock input.sources span wanted.sizes c.args.least) (FailsQuiet held wanted c.args.least) c.in-Err.fault
+    (IsFaultOf (quiet_output input.clock input.sources span wanted.sizes c.args.least)) (FailsQuiet held wanted c.args.least) c.in-Err.fault
     (g.S.Stream.holds c.args.out.now) (g.S.Stream.holds c.run_quiet.new.out)
     (λ text is. (span, input.clock, input.sources, c.in_ok-span.ensures.span, c.in_ok-input.ensures.clock, are, is))
-    (λ fault is. inr (inr (span, input.clock, input.sources, c.in_ok-span.ensures.span, c.in_ok-input.ensures.clock, are, is)))
-    c.in-Err.ensures.refused
+    (λ is. inr (inr (span, input.clock, input.sources, c.in_ok-span.ensures.span, c.in_ok-input.ensures.clock, are, is)))
+    c.in-Err.ensures.output

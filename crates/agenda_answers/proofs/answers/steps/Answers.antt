@@ -27,6 +27,6 @@ returns-clause-failed g c =
     (FailsSteps held c.args.file) c.in-Err-run_script.fault (g.S.Stream.holds c.args.out.now) (g.S.Stream.holds c.run_script.new.out)
     (λ text is. gives_steps held c.args.file c.as_str.result.now c.in-Ok.script.items c.as_slice.result.now text c.as_str.ensures
     c.in-Ok.ensures.bytes c.as_slice.ensures.value is)
-    (λ fault is. fails_steps held c.args.file c.as_str.result.now c.in-Ok.script.items c.as_slice.result.now fault c.as_str.ensures
+    (λ is. fails_steps held c.args.file c.as_str.result.now c.in-Ok.script.items c.as_slice.result.now c.in-Err-run_script.fault c.as_str.ensures
     c.in-Ok.ensures.bytes c.as_slice.ensures.value is)
     c.in-Err-run_script.ensures.refused

@@ -52,5 +52,5 @@ returns-clause-failed g c =
     (FailsUpcoming held c.args.after.now c.args.zone.now c.args.paths.now) c.in-Err.fault
     (g.S.Stream.holds c.args.out.now) (g.S.Stream.holds c.run_upcoming.new.out)
     (λ text is. (moment, input.clock, input.sources, c.in_ok-moment.ensures.moment, c.in_ok-input.ensures.clock, are, is))
-    (λ fault is. inr (inr (moment, input.clock, input.sources, c.in_ok-moment.ensures.moment, c.in_ok-input.ensures.clock, are, is)))
+    (λ is. inr (inr (moment, input.clock, input.sources, c.in_ok-moment.ensures.moment, c.in_ok-input.ensures.clock, are, is)))
     c.in-Err.ensures.refused
