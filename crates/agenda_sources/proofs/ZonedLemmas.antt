@@ -7,11 +7,3 @@ use Rattle.agenda_sources.specs.Sources.{zoned}
 
 pub zoned-utc : (clock : List Change) (jobs : List JobParts) → clock ≡ [] → zoned clock jobs ≡ jobs
 zoned-utc clock jobs none = ap (λ (c : List Change). zoned c jobs) none
-
-pub zoned-none : (clock : List Change) (jobs : List JobParts) → jobs ≡ [] → zoned clock jobs ≡ jobs
-zoned-none [] jobs none = refl
-zoned-none (first ∷ more) jobs none = ap (jobs_in (first ∷ more)) none ∙ sym none
-
-pub zoned-clock : (clock : List Change) (jobs : List JobParts) → clock ≢ [] → zoned clock jobs ≡ jobs_in clock jobs
-zoned-clock [] jobs some = absurd (some refl)
-zoned-clock (first ∷ more) jobs some = refl
