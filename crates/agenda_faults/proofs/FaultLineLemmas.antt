@@ -2,7 +2,7 @@
 -- `put_script_fault`, `put_source_rule_fault`, `put_source_fault`, `put_collect_fault` and `put_zone_fault`. By
 -- the cases of the cause: `NoMemory` is ruled out, and so is `Rule` for the line of a source. In every other
 -- case the definition computes.
-use Rattle.std.proofs.Common.{◌≡◌, ◌≢◌, ℕ, List, ◌++◌, codes, decimal, refl, sym}
+use Rattle.std.proofs.Common.{◌≡◌, ◌≢◌, ℕ, List, ◌++◌, codes, decimal, refl}
 use Rattle.plan_rules.specs.declared.RuleCause.{RuleCause}
 use Rattle.plan_rules.specs.declared.RuleCause.TheVariants as cause
 use Rattle.agenda_script.specs.declared.fault.ScriptCause.{ScriptCause}
@@ -33,65 +33,30 @@ pub script_line-refused :
 script_line-refused line script.NoMemory not = absurd (not refl)
 script_line-refused line other not = refl
 
--- their pieces
-pub rule_line-pieces :
-    (part : ℕ) (refused : RuleCause) (digits name : List ℕ) → refused ≢ cause.NoMemory → digits ≡ decimal part → name ≡ rule_cause refused →
-    codes "agenda: rule: part " ++ (digits ++ (codes ": " ++ (name ++ codes "\n"))) ≡ rule_line part refused
-rule_line-pieces part refused digits name not part_is name_is = rw (part_is, name_is) (sym (rule_line-refused part refused not))
-
-pub script_line-pieces :
-    (line : ℕ) (refused : ScriptCause) (digits name : List ℕ) → refused ≢ script.NoMemory → digits ≡ decimal line →
-    name ≡ script_cause refused →
-    codes "agenda: script: line " ++ (digits ++ (codes ": " ++ (name ++ codes "\n"))) ≡ script_line line refused
-script_line-pieces line refused digits name not line_is name_is = rw (line_is, name_is) (sym (script_line-refused line refused not))
-
 -- the line of a rule in a source
-source_rule_line-refused :
+pub source_rule_line-refused :
     (source : List ℕ) (line part : ℕ) (refused : RuleCause) → refused ≢ cause.NoMemory →
     source_rule_line source line part refused ≡ text_of_part source (decimal line) (decimal part) (rule_cause refused)
 source_rule_line-refused source line part cause.NoMemory not = absurd (not refl)
 source_rule_line-refused source line part other not = refl
 
-pub source_rule_line-text :
-    (source digits more name : List ℕ) (line part : ℕ) (refused : RuleCause) → refused ≢ cause.NoMemory → digits ≡ decimal line →
-    more ≡ decimal part → name ≡ rule_cause refused → text_of_part source digits more name ≡ source_rule_line source line part refused
-source_rule_line-text source digits more name line part refused not line_is part_is name_is =
-    rw (line_is, part_is, name_is) (sym (source_rule_line-refused source line part refused not))
-
 -- the line of a source
-source_line-refused :
+pub source_line-refused :
     (source : List ℕ) (line : ℕ) (refused : LineCause) → refused ≢ on_line.NoMemory → ((fault : RuleFault) → refused ≢ on_line.Rule fault) →
     source_line source line refused ≡ text_of_line source (decimal line) (line_cause refused)
 source_line-refused source line on_line.NoMemory not no_rule = absurd (not refl)
 source_line-refused source line (on_line.Rule fault) not no_rule = absurd (no_rule fault refl)
 source_line-refused source line other not no_rule = refl
 
-pub source_line-text :
-    (source digits name : List ℕ) (line : ℕ) (refused : LineCause) → refused ≢ on_line.NoMemory →
-    ((fault : RuleFault) → refused ≢ on_line.Rule fault) → digits ≡ decimal line → name ≡ line_cause refused →
-    text_of_line source digits name ≡ source_line source line refused
-source_line-text source digits name line refused not no_rule line_is name_is =
-    rw (line_is, name_is) (sym (source_line-refused source line refused not no_rule))
-
 -- the line of an error of a collector
-collect_line-refused :
+pub collect_line-refused :
     (refused : CollectFault) → refused ≢ collect.NoMemory →
     collect_line refused ≡ codes "agenda: plan: " ++ (collect_cause refused ++ codes "\n")
 collect_line-refused collect.NoMemory not = absurd (not refl)
 collect_line-refused other not = refl
 
-pub collect_line-text :
-    (refused : CollectFault) (name : List ℕ) → refused ≢ collect.NoMemory → name ≡ collect_cause refused →
-    codes "agenda: plan: " ++ (name ++ codes "\n") ≡ collect_line refused
-collect_line-text refused name not name_is = rw name_is (sym (collect_line-refused refused not))
-
 -- the line of a zone that can't be used
-zone_line-refused :
+pub zone_line-refused :
     (refused : ZoneFault) → refused ≢ zone.NoMemory → zone_line refused ≡ codes "agenda: zone: " ++ (zone_fault_name refused ++ codes "\n")
 zone_line-refused zone.NoMemory not = absurd (not refl)
 zone_line-refused other not = refl
-
-pub zone_line-text :
-    (refused : ZoneFault) (name : List ℕ) → refused ≢ zone.NoMemory → name ≡ zone_fault_name refused →
-    codes "agenda: zone: " ++ (name ++ codes "\n") ≡ zone_line refused
-zone_line-text refused name not name_is = rw name_is (sym (zone_line-refused refused not))

@@ -1,2 +1,1 @@
 pub mod FaultLineLemmas
-pub mod StreamLemmas

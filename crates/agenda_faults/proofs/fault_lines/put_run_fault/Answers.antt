@@ -1,38 +1,19 @@
-use Rattle.std.proofs.Common.{◌++◌, List, ℕ, codes, ap, sym, ◌∙◌}
-use Rattle.agenda_faults.specs.FaultLines.{run_line}
-use Rattle.agenda_faults.proofs.StreamLemmas.{puts_as}
 use Rattle.agenda_faults.proofs.fault_lines.put_run_fault.Goals as goal
 
 pub returns-in-NoMemory : goal.returns-in-NoMemory
-returns-in-NoMemory g c =
-    puts_as g.S.Stream.takes_all c.put.result (g.S.Stream.holds c.args.stream.now) (g.S.Stream.holds c.put.new.self) _ _
-    c.put.ensures (ap (run_line c.args.sources.now) (sym c.in-NoMemory.is))
+returns-in-NoMemory g c = rw c.in-NoMemory.is c.put.ensures
 
 pub returns-in-BadCount : goal.returns-in-BadCount
-returns-in-BadCount g c =
-    puts_as g.S.Stream.takes_all c.put-in-BadCount.result (g.S.Stream.holds c.args.stream.now) (g.S.Stream.holds c.put-in-BadCount.new.self)
-    _ _
-    c.put-in-BadCount.ensures (ap (run_line c.args.sources.now) (sym c.in-BadCount.is))
+returns-in-BadCount g c = rw c.in-BadCount.is c.put-in-BadCount.ensures
 
 pub returns-in-Device : goal.returns-in-Device
-returns-in-Device g c =
-    puts_as g.S.Stream.takes_all c.put-in-Device.result (g.S.Stream.holds c.args.stream.now) (g.S.Stream.holds c.put-in-Device.new.self) _ _
-    c.put-in-Device.ensures (ap (run_line c.args.sources.now) (sym c.in-Device.is))
-
-pub returns-in-SameName : goal.returns-in-SameName
-returns-in-SameName g c =
-    let name = ap (λ (l : List ℕ). codes "agenda: job " ++ (l ++ codes ": SameName\n")) c.as_str.ensures in
-    puts_as g.S.Stream.takes_all c.put_same_name.result (g.S.Stream.holds c.args.stream.now) (g.S.Stream.holds c.put_same_name.new.stream) _
-    _
-    c.put_same_name.ensures (name ∙ ap (run_line c.args.sources.now) (sym c.in-SameName.is))
+returns-in-Device g c = rw c.in-Device.is c.put-in-Device.ensures
 
 pub returns-in-Full : goal.returns-in-Full
-returns-in-Full g c =
-    puts_as g.S.Stream.takes_all c.put-in-Full.result (g.S.Stream.holds c.args.stream.now) (g.S.Stream.holds c.put-in-Full.new.self) _ _
-    c.put-in-Full.ensures (ap (run_line c.args.sources.now) (sym c.in-Full.is))
+returns-in-Full g c = rw c.in-Full.is c.put-in-Full.ensures
 
 pub returns-in-BadLeast : goal.returns-in-BadLeast
-returns-in-BadLeast g c =
-    puts_as g.S.Stream.takes_all c.put-in-BadLeast.result (g.S.Stream.holds c.args.stream.now) (g.S.Stream.holds c.put-in-BadLeast.new.self)
-    _ _
-    c.put-in-BadLeast.ensures (ap (run_line c.args.sources.now) (sym c.in-BadLeast.is))
+returns-in-BadLeast g c = rw c.in-BadLeast.is c.put-in-BadLeast.ensures
+
+pub returns-in-SameName : goal.returns-in-SameName
+returns-in-SameName g c = rw (c.in-SameName.is, ← c.as_str.ensures) c.put_same_name.ensures

@@ -1,20 +1,13 @@
-use Rattle.std.proofs.Common.{◌≡◌, decimal, ap, sym, ◌∙◌}
+use Rattle.std.proofs.Common.{◌≡◌, decimal, ◌∙◌}
 use Rattle.agenda_script.specs.Causes.{script_cause}
-use Rattle.agenda_faults.specs.FaultLines.{script_line}
-use Rattle.agenda_faults.proofs.FaultLineLemmas.{script_line-pieces}
-use Rattle.agenda_faults.proofs.StreamLemmas.{puts_as}
+use Rattle.agenda_faults.proofs.FaultLineLemmas.{script_line-refused}
 use Rattle.agenda_faults.proofs.fault_lines.put_script_fault.Goals as goal
 
 pub returns-in-NoMemory : goal.returns-in-NoMemory
-returns-in-NoMemory g c =
-    puts_as g.S.Stream.takes_all c.put.result (g.S.Stream.holds c.args.stream.now) (g.S.Stream.holds c.put.new.self) _ _
-    c.put.ensures (ap (script_line c.args.fault.line) (sym c.in-NoMemory.is))
+returns-in-NoMemory g c = rw c.in-NoMemory.is c.put.ensures
 
 pub returns-in_default : goal.returns-in_default
 returns-in_default g c =
-    let cause = c.args.fault.cause in
     let digits : c.as_bytes-line.result.now ≡ decimal c.args.fault.line = c.as_bytes-line.ensures.value ∙ c.format.ensures.text in
-    let name : c.as_bytes.result.now ≡ script_cause cause = cc in
-    puts_as g.S.Stream.takes_all c.put_joined.result (g.S.Stream.holds c.args.stream.now) (g.S.Stream.holds c.put_joined.new.stream) _ _
-    c.put_joined.ensures
-    (script_line-pieces c.args.fault.line cause c.as_bytes-line.result.now c.as_bytes.result.now c.in_default.not-NoMemory digits name)
+    let name : c.as_bytes.result.now ≡ script_cause c.args.fault.cause = cc in
+    rw (script_line-refused c.args.fault.line c.args.fault.cause c.in_default.not-NoMemory, ← digits, ← name) c.put_joined.ensures

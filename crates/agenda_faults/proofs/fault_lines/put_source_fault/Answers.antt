@@ -1,21 +1,17 @@
-use Rattle.std.proofs.Common.{◌≡◌, decimal, ap, sym, ◌∙◌}
+use Rattle.std.proofs.Common.{◌≡◌, decimal, ◌∙◌}
 use Rattle.plan_rules.specs.Causes.{line_cause}
-use Rattle.agenda_faults.specs.FaultLines.{source_line}
-use Rattle.agenda_faults.proofs.FaultLineLemmas.{source_line-text}
-use Rattle.agenda_faults.proofs.StreamLemmas.{puts_as}
+use Rattle.agenda_faults.proofs.FaultLineLemmas.{source_line-refused}
 use Rattle.agenda_faults.proofs.fault_lines.put_source_fault.Goals as goal
 
 pub returns-in-NoMemory : goal.returns-in-NoMemory
-returns-in-NoMemory g c =
-    puts_as g.S.Stream.takes_all c.put.result (g.S.Stream.holds c.args.stream.now) (g.S.Stream.holds c.put.new.self) _ _
-    c.put.ensures (ap (source_line c.args.source.now c.args.fault.line) (sym c.in-NoMemory.is))
+returns-in-NoMemory g c = rw c.in-NoMemory.is c.put.ensures
 
 pub returns-in_default : goal.returns-in_default
 returns-in_default g c =
-    let cause = c.args.fault.cause in
     let digits : c.as_bytes-line.result.now ≡ decimal c.args.fault.line = c.as_bytes-line.ensures.value ∙ c.format.ensures.text in
-    let name : c.as_bytes.result.now ≡ line_cause cause = cc in
-    puts_as g.S.Stream.takes_all c.put_line.result (g.S.Stream.holds c.args.stream.now) (g.S.Stream.holds c.put_line.new.stream) _ _
-    c.put_line.ensures
-    (source_line-text c.args.source.now c.as_bytes-line.result.now c.as_bytes.result.now c.args.fault.line cause c.in_default.not-NoMemory
-    c.in_default.not-Rule digits name)
+    let name : c.as_bytes.result.now ≡ line_cause c.args.fault.cause = cc in
+    rw (
+      source_line-refused c.args.source.now c.args.fault.line c.args.fault.cause c.in_default.not-NoMemory c.in_default.not-Rule,
+      ← digits,
+      ← name,
+    ) c.put_line.ensures
