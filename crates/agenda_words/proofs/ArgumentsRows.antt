@@ -7,8 +7,10 @@ use Rattle.clap.specs.Lexer.{long_of, short_of}
 use Rattle.clap.proofs.OnLiterals.{clap_on_literals}
 use Rattle.plan_collect.specs.declared.Sizes.{Sizes}
 use Rattle.agenda_words.specs.declared.ask.Ask.TheVariants.{Next, Plan, Upcoming, Quiet, Steps}
+use Rattle.agenda_words.specs.declared.ask.PlanRequest.{PlanRequest}
 use Rattle.agenda_sources.specs.declared.Asked.TheVariants.{Cron, Event}
 use Rattle.agenda_sources.specs.declared.SourceKind.TheVariants.{Crontab, System, CronD, Spool, Timer}
+use Rattle.agenda_sources.specs.declared.SourcePath.{SourcePath}
 use Rattle.agenda_words.specs.Arguments.{asked_by, is_usage, path_of, wants_help}
 use Rattle.agenda_words.proofs.OnLiterals.{agenda_on_literals}
 
@@ -133,22 +135,25 @@ plan_with words = codes "agenda" ∷ codes "plan" ∷ codes "--since" ∷ moment
 abbrev sized : (planners room limit : ℕ) → Sizes
 sized planners room limit = record { planners = planners; room = room; limit = limit }
 
+abbrev planned : (upto : List ℕ) → List SourcePath → Sizes → PlanRequest
+planned upto sources sizes = record { since = moment; upto = upto; zone = None; sources = sources; sizes = sizes }
+
 -- only a span: no crontab, no timer, and the default of each number
-a_span_is_given : asked_by (plan_with []) ≡ Ok (Plan moment (codes "u") None [] (sized 2 16 10000))
+a_span_is_given : asked_by (plan_with []) ≡ Ok (Plan (planned (codes "u") [] (sized 2 16 10000)))
 unfolding asked_by clap_on_literals agenda_on_literals
 a_span_is_given = refl
 
 -- every option
 all_is_given : asked_by (plan_with (codes "--crontab" ∷ codes "c" ∷ codes "--system-crontab" ∷ codes "s" ∷ codes "--planners" ∷ codes "3"
     ∷ codes "--room" ∷ codes "4" ∷ codes "--limit" ∷ codes "5" ∷ []))
-    ≡ Ok (Plan moment (codes "u") None (path_of Crontab (codes "c") ∷ path_of System (codes "s") ∷ []) (sized 3 4 5))
+    ≡ Ok (Plan (planned (codes "u") (path_of Crontab (codes "c") ∷ path_of System (codes "s") ∷ []) (sized 3 4 5)))
 unfolding asked_by clap_on_literals agenda_on_literals
 all_is_given = refl
 
 -- timers, also between options, in the order of the arguments
 timers_are_given : asked_by (plan_with (codes "b.timer" ∷ codes "--room=1" ∷ codes "a.timer" ∷ codes "--" ∷ codes "-c" ∷ []))
-    ≡ Ok (Plan moment (codes "u") None (path_of Timer (codes "b.timer") ∷ path_of Timer (codes "a.timer") ∷ path_of Timer (codes "-c") ∷ [])
-    (sized 2 1 10000))
+    ≡ Ok (Plan (planned (codes "u") (path_of Timer (codes "b.timer") ∷ path_of Timer (codes "a.timer") ∷ path_of Timer (codes "-c") ∷ [])
+    (sized 2 1 10000)))
 unfolding asked_by clap_on_literals agenda_on_literals
 timers_are_given = refl
 
@@ -164,16 +169,16 @@ no_end_is_given = refl
 
 -- a timer before the options of crontabs: the sources are in the order of their kinds
 sources_in_order : asked_by (plan_with (codes "t.timer" ∷ codes "--system-crontab" ∷ codes "s" ∷ codes "--crontab" ∷ codes "c" ∷ []))
-    ≡ Ok (Plan moment (codes "u") None (path_of Crontab (codes "c") ∷ path_of System (codes "s") ∷ path_of Timer (codes "t.timer") ∷ [])
-    (sized 2 16 10000))
+    ≡ Ok (Plan (planned (codes "u") (path_of Crontab (codes "c") ∷ path_of System (codes "s") ∷ path_of Timer (codes "t.timer") ∷ [])
+    (sized 2 16 10000)))
 unfolding asked_by clap_on_literals agenda_on_literals
 sources_in_order = refl
 
 -- crontabs that have names, any number of them; those of one kind are in the order of the arguments
 named_crontabs :
     asked_by (plan_with (codes "--spool=u" ∷ codes "--cron-d" ∷ codes "b" ∷ codes "--cron-d=a" ∷ codes "--spool" ∷ codes "-" ∷ []))
-    ≡ Ok (Plan moment (codes "u") None (path_of CronD (codes "b") ∷ path_of CronD (codes "a") ∷ path_of Spool (codes "u")
-    ∷ path_of Spool (codes "-") ∷ []) (sized 2 16 10000))
+    ≡ Ok (Plan (planned (codes "u") (path_of CronD (codes "b") ∷ path_of CronD (codes "a") ∷ path_of Spool (codes "u")
+    ∷ path_of Spool (codes "-") ∷ []) (sized 2 16 10000)))
 unfolding asked_by clap_on_literals agenda_on_literals
 named_crontabs = refl
 
@@ -210,7 +215,7 @@ upcoming_of_two = refl
 
 -- `quiet` with all defaults: gaps of half an hour, and a limit of 1,000,000
 quiet_by_default : asked_by (codes "agenda" ∷ codes "quiet" ∷ codes "--since" ∷ moment ∷ codes "--upto" ∷ codes "z" ∷ [])
-    ≡ Ok (Quiet moment (codes "z") None [] (record { planners = 2; room = 16; limit = 1000000 }) 1800)
+    ≡ Ok (Quiet (planned (codes "z") [] (sized 2 16 1000000)) 1800)
 unfolding asked_by clap_on_literals agenda_on_literals
 quiet_by_default = refl
 

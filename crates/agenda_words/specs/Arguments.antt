@@ -14,6 +14,7 @@ use Rattle.agenda_words.specs.declared.ask.Ask.{Ask}
 use Rattle.agenda_words.specs.declared.ask.Ask.TheVariants.{Next, Plan, Upcoming, Quiet, Check, Steps}
 use Rattle.agenda_sources.specs.declared.Asked.{Asked}
 use Rattle.agenda_sources.specs.declared.Asked.TheVariants.{Cron, Event}
+use Rattle.agenda_words.specs.declared.ask.PlanRequest.{PlanRequest}
 use Rattle.agenda_words.specs.declared.ask.UsageFault.{UsageFault}
 use Rattle.agenda_words.specs.declared.ask.UsageFault.TheVariants.{NoMemory, Usage, Help}
 use Rattle.agenda_sources.specs.declared.SourceKind.{SourceKind}
@@ -92,13 +93,19 @@ paths_in kind rows =
 abbrev pub sources_in : List Row → List SourcePath
 sources_in rows = flat_map (λ kind. map (path_of kind) (paths_in kind rows)) kinds
 
--- what `plan` requests, by its values; there may be no source (agenda)
-abbrev pub asked_by_plan : List Row → Result Ask Refusal
-asked_by_plan rows = do
+-- what a plan is made from, by its values; there may be no source (agenda)
+unfoldable pub plan_in : List Row → Result PlanRequest Refusal
+plan_in rows = do
   since ← wanted (first_of (codes "since") rows)
   upto ← wanted (first_of (codes "upto") rows)
   sizes ← sizes_in rows
-  Ok (Plan since upto (zone_in rows) (sources_in rows) sizes)
+  Ok (record { since = since; upto = upto; zone = zone_in rows; sources = sources_in rows; sizes = sizes })
+
+-- what `plan` requests, by its values (agenda)
+abbrev pub asked_by_plan : List Row → Result Ask Refusal
+asked_by_plan rows = do
+  plan ← plan_in rows
+  Ok (Plan plan)
 
 -- what `upcoming` requests, by its values; there may be no source (agenda)
 abbrev pub asked_by_upcoming : List Row → Result Ask Refusal
@@ -106,14 +113,12 @@ asked_by_upcoming rows = do
   after ← wanted (first_of (codes "after") rows)
   Ok (Upcoming after (zone_in rows) (sources_in rows))
 
--- what `quiet` requests, by its values; there may be no source (agenda)
-unfoldable pub asked_by_quiet : List Row → Result Ask Refusal
+-- what `quiet` requests, by its values (agenda)
+abbrev pub asked_by_quiet : List Row → Result Ask Refusal
 asked_by_quiet rows = do
-  since ← wanted (first_of (codes "since") rows)
-  upto ← wanted (first_of (codes "upto") rows)
+  plan ← plan_in rows
   least ← wanted (number_in (one_of (codes "least") rows))
-  sizes ← sizes_in rows
-  Ok (Quiet since upto (zone_in rows) (sources_in rows) sizes least)
+  Ok (Quiet plan least)
 
 -- what `check` requests, by its values; there may be no source (agenda)
 abbrev pub asked_by_check : List Row → Result Ask Refusal

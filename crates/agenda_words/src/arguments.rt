@@ -3,9 +3,9 @@ ghost use Rattle.std.specs.Prelude.{IfOk, map, string_bytes};
 ghost use Rattle.clap.specs.Words.{found_of, kind_of, rows_of, subcommand_rows_of};
 ghost use Rattle.agenda_words.specs.Arguments.{Gives, IsAnswerTo, asked_by, asked_by_check, asked_by_next};
 ghost use Rattle.agenda_words.specs.Arguments.{asked_by_plan, asked_by_quiet, asked_by_steps, asked_by_subcommand};
-ghost use Rattle.agenda_words.specs.Arguments.{asked_by_upcoming, sizes_in};
+ghost use Rattle.agenda_words.specs.Arguments.{asked_by_upcoming, plan_in, sizes_in};
 
-use crate::ask::{Ask, UsageFault};
+use crate::ask::{Ask, PlanRequest, UsageFault};
 use crate::command::agenda_command;
 use crate::paths::sources_of;
 use crate::values::{number_argument, text, text_if_given, text_of};
@@ -86,18 +86,7 @@ fn asked_by_next(alloc: Global, given: &ArgMatches<'_>) -> Result<Ask, UsageFaul
 fn asked_by_plan(alloc: Global, given: &ArgMatches<'_>) -> Result<Ask, UsageFault>
     ensures { Gives result (asked_by_plan (rows_of (found_of given.now))) }
 {
-    let since = text_of(alloc, given, "since")?;
-    let upto = text_of(alloc, given, "upto")?;
-    let zone = text_if_given(alloc, given, "zone")?;
-    let sizes = sizes_of(alloc, given)?;
-    let sources = sources_of(alloc, given)?;
-    Ok(Ask::Plan {
-        since,
-        upto,
-        zone,
-        sources,
-        sizes,
-    })
+    Ok(Ask::Plan(plan_of(alloc, given)?))
 }
 
 fn asked_by_upcoming(alloc: Global, given: &ArgMatches<'_>) -> Result<Ask, UsageFault>
@@ -113,23 +102,30 @@ fn asked_by_upcoming(alloc: Global, given: &ArgMatches<'_>) -> Result<Ask, Usage
     })
 }
 
-#[tactic(auto, unfolding(crate::specs::Arguments::asked_by_quiet))]
 fn asked_by_quiet(alloc: Global, given: &ArgMatches<'_>) -> Result<Ask, UsageFault>
     ensures { Gives result (asked_by_quiet (rows_of (found_of given.now))) }
+{
+    let plan = plan_of(alloc, given)?;
+    let least = number_argument(alloc, given, "least")?;
+    Ok(Ask::Quiet { plan, least })
+}
+
+// Returns what a plan is made from.
+#[tactic(auto, unfolding(crate::specs::Arguments::plan_in))]
+fn plan_of(alloc: Global, given: &ArgMatches<'_>) -> Result<PlanRequest, UsageFault>
+    ensures { Gives result (plan_in (rows_of (found_of given.now))) }
 {
     let since = text_of(alloc, given, "since")?;
     let upto = text_of(alloc, given, "upto")?;
     let zone = text_if_given(alloc, given, "zone")?;
-    let least = number_argument(alloc, given, "least")?;
     let sizes = sizes_of(alloc, given)?;
     let sources = sources_of(alloc, given)?;
-    Ok(Ask::Quiet {
+    Ok(PlanRequest {
         since,
         upto,
         zone,
         sources,
         sizes,
-        least,
     })
 }
 

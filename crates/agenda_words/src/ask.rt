@@ -6,6 +6,21 @@ use plan_texts::Text;
 use std::alloc::AllocError;
 use thiserror::Error;
 
+/// What a plan is made from.
+#[derive(Debug, Drop)]
+pub struct PlanRequest {
+    /// The text of a timestamp, the start of the span.
+    pub since: Text,
+    /// The text of a timestamp, the end of the span. It is outside the span.
+    pub upto: Text,
+    /// The text of the time zone of the rules. It is UTC if this is missing.
+    pub zone: Option<Text>,
+    /// The paths of the sources, in the order of their kinds. Those of one kind are in the order of the arguments.
+    pub sources: SourcePaths,
+    /// The number of planners, the capacity of each one's ring, and the maximum number of starts.
+    pub sizes: Sizes,
+}
+
 /// A request to the program.
 #[derive(Debug, Drop)]
 pub enum Ask {
@@ -21,39 +36,20 @@ pub enum Ask {
         rule: Asked,
     },
     /// Print the agenda of the jobs of crontabs and timers.
-    Plan {
-        /// The text of a timestamp, the start of the span.
-        since: Text,
-        /// The text of a timestamp, the end of the span. It is outside the span.
-        upto: Text,
-        /// The text of the time zone of the rules. It is UTC if this is missing.
-        zone: Option<Text>,
-        /// The paths of the sources, in the order of their kinds. Those of one kind are in the order of the arguments.
-        sources: SourcePaths,
-        /// The number of planners, the capacity of each one's ring, and the maximum number of starts.
-        sizes: Sizes,
-    },
+    Plan(PlanRequest),
     /// Print when each job of crontabs and timers starts next.
     Upcoming {
         /// The text of a timestamp. The starts are later.
         after: Text,
         /// The text of the time zone of the rules. It is UTC if this is missing.
         zone: Option<Text>,
-        /// The paths of the sources, in the same order as for `Plan`.
+        /// The paths of the sources, in the same order as for a plan.
         sources: SourcePaths,
     },
     /// Print the gaps in which no job of crontabs and timers starts.
     Quiet {
-        /// The text of a timestamp, the start of the span.
-        since: Text,
-        /// The text of a timestamp, the end of the span. It is outside the span.
-        upto: Text,
-        /// The text of the time zone of the rules. It is UTC if this is missing.
-        zone: Option<Text>,
-        /// The paths of the sources, in the same order as for `Plan`.
-        sources: SourcePaths,
-        /// The sizes of the plan that is searched for gaps.
-        sizes: Sizes,
+        /// The plan that is searched for gaps.
+        plan: PlanRequest,
         /// The minimum length of a gap, in seconds.
         least: u32,
     },
@@ -61,7 +57,7 @@ pub enum Ask {
     Check {
         /// The text of the time zone of the rules. It is UTC if this is missing.
         zone: Option<Text>,
-        /// The paths of the sources, in the same order as for `Plan`.
+        /// The paths of the sources, in the same order as for a plan.
         sources: SourcePaths,
     },
     /// Print the replies to the steps of a script.

@@ -12,4 +12,4 @@ mod paths;
 mod values;
 
 pub use arguments::read_words;
-pub use ask::{Ask, UsageFault};
+pub use ask::{Ask, PlanRequest, UsageFault};
