@@ -1,7 +1,7 @@
 //! The program `agenda`: shows when jobs start, and what a mailbox replies, as its arguments request.
 #![tactic(auto)]
 
-use agenda_answers::{Files, OpenFile, answer, answer_arguments, unread_arguments};
+use agenda_answers::{Files, answer, answer_arguments, read_front, unread_arguments};
 use std::alloc::Global;
 use std::fs::File;
 use std::process::ExitCode;
@@ -14,29 +14,13 @@ mod tests;
 #[derive(Drop)]
 struct HostFiles<'a>(&'a HostRuntime);
 
-// An open file of the machine.
-#[derive(Drop)]
-struct HostFile(File);
-
-impl OpenFile for HostFile {
-    ghost use Rattle.agenda_answers.specs.Files.{unknown};
-
-    ghost known = { λ _. unknown };
-
-    fn front(self, alloc: Global) -> io::Result<Vec<u8>> {
-        self.0.front(alloc)
-    }
-}
-
 impl Files for HostFiles<'_> {
     ghost use Rattle.agenda_answers.specs.Files.{unknown};
 
-    type File = HostFile;
-
     ghost held = { λ _ _. unknown };
 
-    fn open(&mut self, path: &str) -> io::Result<HostFile> {
-        Ok(HostFile(File::open(self.0, path)?))
+    fn front(&mut self, alloc: Global, path: &str, most: u64) -> io::Result<Vec<u8>> {
+        read_front(alloc, File::open(self.0, path)?, most)
     }
 }
 

@@ -1,6 +1,4 @@
-pub mod AnswerLemmas
-pub mod CheckLemmas
-pub mod EarlyLemmas
 pub mod FileLemmas
 pub mod ScriptLemmas
 pub mod SourcesLemmas
+pub mod StepLemmas

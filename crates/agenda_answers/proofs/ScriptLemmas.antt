@@ -1,17 +1,16 @@
 -- A script of which only the first bytes were read, up to one more than the limit, means what the whole file means.
--- For `done` and `failed` of `steps`. Up to the limit, all bytes were read. Past it both are too large, with
--- `script_reading` unfolded. The other lemmas apply what `run_script` promises for the bytes that were read
--- to a script that may be the whole file.
-use Rattle.std.proofs.Common.{◌≡◌, ℕ, ◌≤◌, ◌<◌, true, List, [], length, take, nat_lt, Option, None, Some, refl, sym, ap, subst, ◌∙◌, arith, take_all, length-take-le, ⊎_elim}
+-- Up to the limit, all bytes were read. Past it both are too large, with `script_reading` unfolded.
+use Rattle.std.proofs.Common.{◌≡◌, ℕ, Bool, ◌≤◌, ◌<◌, true, List, length, take, nat_lt, Option, None, Some, Result, Ok, Err, refl, sym, ap, ◌∙◌, arith, take_all, length-take-le, ⊎_elim}
 use Rattle.std.proofs.lemmas.Bool.{lt-ltb, cases_lt}
 use Rattle.plan_texts.specs.declared.lines.TheConstants.{MOST_BYTES}
 use Rattle.agenda_script.specs.declared.fault.ScriptCause.TheVariants.{TooLarge}
 use Rattle.agenda_script.specs.Script.{script_reading, fault_on}
-use Rattle.agenda_faults.specs.declared.faults.RunFault.{RunFault}
 use Rattle.agenda_faults.specs.declared.faults.RunFault.TheVariants as run
+use Rattle.agenda_faults.specs.declared.faults.Failure.{Failure}
 use Rattle.agenda_faults.specs.declared.faults.Failure.TheVariants.{Run}
-use Rattle.agenda_answers.specs.Answer.{FailsSteps, GivesSteps}
+use Rattle.agenda_answers.specs.Answer.{Leaves, Printed, prints, steps_ends}
 use Rattle.agenda_answers.specs.Files.{Held, most_read, IsFrontOf, IsHeld}
+use Rattle.agenda_answers.specs.Steps.{goes}
 use Rattle.agenda_commands.specs.Script.{IsTextOfRun, RefusesRun}
 
 -- a script with more bytes than the limit is too large, whatever its bytes are
@@ -27,49 +26,28 @@ script_reading-take bytes =
     (cases_lt (length bytes) most_read)
 
 -- the whole file, if it is known, means what was read
-pub whole_script :
-    (held : Option (List ℕ)) (bytes : List ℕ) → IsFrontOf held bytes →
+whole_script :
+    (held : Option (List ℕ)) (bytes : List ℕ) → IsFrontOf held most_read bytes →
     (script : List ℕ) × IsHeld held script × (script_reading script ≡ script_reading bytes)
 whole_script None bytes front = (bytes, tt, refl)
 whole_script (Some whole) bytes front = (whole, refl, sym (script_reading-take whole) ∙ ap script_reading (sym front))
 
--- some bytes that the file may hold
-pub some_script : (held : Option (List ℕ)) → (script : List ℕ) × IsHeld held script
-some_script None = ([], tt)
-some_script (Some whole) = (whole, refl)
+-- what a run ends with depends only on the script's meaning
+run_whole :
+    (bytes script : List ℕ) (end : Result Printed Failure) → script_reading script ≡ script_reading bytes →
+    prints (IsTextOfRun bytes) (RefusesRun bytes) end → prints (IsTextOfRun script) (RefusesRun script) end
+run_whole bytes script (Ok printed) same ((meaning, replies, reads, many, turn, lawful, is), zero) =
+    ((meaning, replies, same ∙ reads, many, turn, lawful, is), zero)
+run_whole bytes script (Err (Run (run.Script fault))) same reads = same ∙ reads
+run_whole bytes script (Err (Run run.NoMemory)) same refused = tt
+run_whole bytes script (Err (Run other)) same none = absurd none
+run_whole bytes script (Err other) same none = absurd none
 
--- what a run prints depends only on the script's meaning
-text_whole :
-    (bytes script text : List ℕ) → script_reading script ≡ script_reading bytes → IsTextOfRun bytes text → IsTextOfRun script text
-text_whole bytes script text same (meaning, replies, reads, many, turn, lawful, is) =
-    (meaning, replies, same ∙ reads, many, turn, lawful, is)
-
-refusal_whole :
-    (bytes script : List ℕ) (fault : RunFault) → script_reading script ≡ script_reading bytes → RefusesRun bytes fault →
-    RefusesRun script fault
-refusal_whole bytes script (run.Script fault) same reads = same ∙ reads
-refusal_whole bytes script run.NoMemory same refused = tt
-refusal_whole bytes script other same none = absurd none
-
--- the text of a run of a file's first bytes is a text of the file's run
-pub gives_steps :
-    (held : Held) (file path bytes read text : List ℕ) → path ≡ file → IsFrontOf (held path).bytes bytes → read ≡ bytes →
-    IsTextOfRun read text → GivesSteps held file text
-gives_steps held file path bytes read text same front is gives =
-    let (script, whole, means) = whole_script (held path).bytes bytes front in
-    subst (λ p. GivesSteps held p text) same (script, whole, text_whole bytes script text means (subst (λ b. IsTextOfRun b text) is gives))
-
-pub fails_steps :
-    (held : Held) (file path bytes read : List ℕ) (fault : RunFault) → path ≡ file → IsFrontOf (held path).bytes bytes → read ≡ bytes →
-    RefusesRun read fault → FailsSteps held file (Run fault)
-fails_steps held file path bytes read fault same front is refuses =
-    let (script, whole, means) = whole_script (held path).bytes bytes front in
-    subst (λ p. FailsSteps held p (Run fault)) same (
-      script,
-      whole,
-      refusal_whole bytes script fault means (subst (λ b. RefusesRun b fault) is refuses),
-    )
-
--- `steps` without memory to read the file
-pub fails_unread : (held : Held) (file : List ℕ) → FailsSteps held file (Run run.NoMemory)
-fails_unread held file = let (script, whole) = some_script (held file).bytes in (script, whole, tt)
+-- what a run of a file's first bytes leaves is what `steps` leaves
+pub steps_left :
+    (held : Held) (file bytes : List ℕ) (takes_all : Bool) (done : Result ℕ Failure) (old new : Option (List ℕ)) →
+    IsFrontOf (held file).bytes most_read bytes → Leaves takes_all (prints (IsTextOfRun bytes) (RefusesRun bytes)) done old new →
+    Leaves takes_all (steps_ends held file) done old new
+steps_left held file bytes takes_all done old new front left =
+    let (script, whole, means) = whole_script (held file).bytes bytes front in
+    record { end = left.end; ends = goes script whole (run_whole bytes script left.end means left.ends); puts = left.puts }

@@ -1,12 +1,12 @@
 -- What the program answers to a request: its exit status, and what both streams hold after it. All of it is our choice (agenda).
-use Rattle.std.specs.Prelude.{◌≡◌, ⊤, ℕ, ◌<◌, ◌≤◌, ◌⊎◌, Bool, List, [], codes, Option, Result, Ok, Err, IfErr}
-use Rattle.std.specs.Io.KnownBytes.{Keeps}
-use Rattle.plan_clock.specs.declared.row.Change.{Change}
+use Rattle.std.specs.Prelude.{◌≡◌, ⊤, ℕ, ◌<◌, ◌≤◌, Bool, List, [], codes, Option, Result, Ok, Err, IfErr}
+use Rattle.std.specs.Io.KnownBytes.{Appends, Keeps}
 use Rattle.plan_sets.specs.Limits.{end_second}
 use Rattle.plan_sets.specs.Moment.{HasFault, moment_text_of}
+use Rattle.plan_sets.specs.declared.MomentFault.{MomentFault}
 use Rattle.agenda_words.specs.declared.Ask.{Ask}
 use Rattle.agenda_words.specs.declared.Ask.TheVariants.{Next, Plan, Upcoming, Quiet, Check, Steps}
-use Rattle.agenda_sources.specs.declared.Asked.{Asked}
+use Rattle.agenda_words.specs.declared.PlanRequest.{PlanRequest}
 use Rattle.agenda_words.specs.declared.UsageFault.{UsageFault}
 use Rattle.agenda_words.specs.declared.UsageFault.TheVariants as usage
 use Rattle.agenda_words.specs.Arguments.{Gives, asked_by}
@@ -14,26 +14,25 @@ use Rattle.agenda_faults.specs.declared.faults.RunFault.{RunFault}
 use Rattle.agenda_faults.specs.declared.faults.RunFault.TheVariants as run
 use Rattle.agenda_faults.specs.declared.faults.Failure.{Failure}
 use Rattle.agenda_faults.specs.declared.faults.Failure.TheVariants.{Usage, After, Since, Upto, Span, Run, File}
-use Rattle.agenda_answers.specs.declared.answers.Wanted.{Wanted}
-use Rattle.agenda_sources.specs.declared.Source.{Source}
+use Rattle.agenda_sources.specs.declared.Asked.{Asked}
 use Rattle.agenda_sources.specs.declared.SourcePath.{SourcePath}
 use Rattle.plan_collect.specs.Span.{Bounds}
-use Rattle.plan_collect.specs.declared.Sizes.{Sizes}
 use Rattle.plan_collect.specs.declared.SpanFault.TheVariants.{Backwards}
 use Rattle.agenda_faults.specs.FaultLines.{fault_text}
 use Rattle.agenda_faults.specs.Faults.{refused_status, status_of}
-use Rattle.agenda_answers.specs.Files.{Held, IsHeld, IsUnsure}
+use Rattle.agenda_answers.specs.Files.{Held, whole_of}
+use Rattle.agenda_answers.specs.Sources.{input_of}
+use Rattle.agenda_answers.specs.Steps.{Step, fails, gives, ◌>>=◌}
+use Rattle.agenda_answers.specs.Zone.{clock_of}
 use Rattle.agenda_commands.specs.declared.Verdict.{Verdict}
 use Rattle.agenda_commands.specs.declared.Verdict.TheVariants.{Clean, Refused}
 use Rattle.agenda_commands.specs.Check.{check_output, sources_verdict}
-use Rattle.agenda_commands.specs.Command.{IsFaultOf, IsTextOf, Writes}
+use Rattle.agenda_commands.specs.Command.{IsFaultOf, IsTextOf}
 use Rattle.agenda_commands.specs.Next.{next_output, valid_count}
 use Rattle.agenda_commands.specs.Plan.{plan_output}
 use Rattle.agenda_commands.specs.Quiet.{quiet_output}
 use Rattle.agenda_commands.specs.Script.{IsTextOfRun, RefusesRun}
 use Rattle.agenda_commands.specs.Upcoming.{IsTextOfUpcoming, RefusesUpcoming}
-use Rattle.agenda_answers.specs.Sources.{AreSourcesOf, IsUnreadInput}
-use Rattle.agenda_answers.specs.Zone.{HasClock, HasNoClock}
 use Rattle.plan_streams.specs.Stream.{BreaksOff, PutsOrBreaksOff}
 
 -- the text of usage if an argument isn't UTF-8, unless an allocation failed
@@ -42,184 +41,123 @@ SaysNotUtf8 usage.NoMemory = ⊤
 SaysNotUtf8 (usage.Usage text) = text ≡ codes "a word of the command line is not UTF-8\n"
 SaysNotUtf8 (usage.Help text) = ⊥
 
--- the text is that of this timestamp
-abbrev pub IsMoment : List ℕ → ℕ → Type 0
-IsMoment text moment = (moment ≤ end_second) × (text ≡ moment_text_of moment)
+-- ---- times
 
--- what `next` prints
-abbrev pub GivesNext : Held → List ℕ → Option (List ℕ) → ℕ → Asked → List ℕ → Type 0
-GivesNext held after zone count rule text =
-    (moment : ℕ) × (clock : List Change) × IsMoment after moment × HasClock held zone clock
-    × IsTextOf (next_output clock rule moment count) text
+-- the timestamp of an option, with the failure if the text isn't one
+abbrev pub moment_of : (MomentFault → Failure) → List ℕ → Step ℕ
+moment_of of_option text (Ok moment) = (moment ≤ end_second) × (text ≡ moment_text_of moment)
+moment_of of_option text (Err failure) = (fault : MomentFault) × (failure ≡ of_option fault) × HasFault text fault
 
--- a command failed with an error for which this holds
-abbrev pub FailsRun : (RunFault → Type 0) → Failure → Type 0
-FailsRun IsTheirs (Run fault) = IsTheirs fault
-FailsRun IsTheirs other = ⊥
+-- two timestamps bound a span unless the second is earlier
+abbrev pub bounded : (since upto : ℕ) → Step Bounds
+bounded since upto (Ok span) = span ≡ record { since = since; upto = upto }
+bounded since upto (Err failure) = (failure ≡ Span Backwards) × (upto < since)
 
--- the text isn't that of a timestamp
-abbrev pub GivesNoMoment : List ℕ → Failure → Type 0
-GivesNoMoment after (After fault) = HasFault after fault
-GivesNoMoment after other = ⊥
+-- the span of a plan: the first timestamp is read first, then the second, then their order is checked
+abbrev pub span_of : (since upto : List ℕ) → Step Bounds
+span_of since upto = do
+  begin ← moment_of Since since
+  end ← moment_of Upto upto
+  bounded begin end
 
--- when `next` fails, and why: the timestamp is read first, then the zone, then the count, which needs no memory, and the rule
-abbrev pub FailsNext : Held → List ℕ → Option (List ℕ) → ℕ → Asked → Failure → Type 0
-FailsNext held after zone count rule failure =
-    GivesNoMoment after failure
-    ⊎ (((moment : ℕ) × IsMoment after moment × HasNoClock held zone failure)
-    ⊎ ((moment : ℕ) × (clock : List Change) × IsMoment after moment × HasClock held zone clock
-    × FailsRun (IsFaultOf (next_output clock rule moment count)) failure
-    × IfErr (valid_count count) (λ fault. failure ≡ Run fault)))
+-- ---- commands
 
--- the span between two timestamps
-abbrev pub IsSpan : (since upto : List ℕ) → Bounds → Type 0
-IsSpan since upto span = IsMoment since span.since × IsMoment upto span.upto
+-- what is printed, and the exit status after it
+pub record Printed : Type 0 where
+  pub text : List ℕ
+  pub status : ℕ
 
--- when two texts give no span, and why: the first timestamp is checked first, then the second, then their order
-abbrev pub GivesNoSpan : (since upto : List ℕ) → Failure → Type 0
-GivesNoSpan since upto (Since fault) = HasFault since fault
-GivesNoSpan since upto (Upto fault) = (begin : ℕ) × IsMoment since begin × HasFault upto fault
-GivesNoSpan since upto (Span Backwards) =
-    (begin : ℕ) × (end : ℕ) × IsMoment since begin × IsMoment upto end × (end < begin)
-GivesNoSpan since upto other = ⊥
+-- the last step of a request: a command prints a text, or is rejected
+abbrev pub runs : (Printed → Type 0) → (RunFault → Type 0) → Step Printed
+runs IsPrinted IsRefused (Ok printed) = IsPrinted printed
+runs IsPrinted IsRefused (Err (Run fault)) = IsRefused fault
+runs IsPrinted IsRefused (Err other) = ⊥
 
--- what `plan` prints
-abbrev pub GivesPlan : Held → Wanted → List ℕ → Type 0
-GivesPlan held wanted text =
-    (span : Bounds) × (clock : List Change) × (sources : List Source) × IsSpan wanted.since wanted.upto span
-    × HasClock held wanted.zone clock × AreSourcesOf held wanted.sources sources
-    × IsTextOf (plan_output clock sources span wanted.sizes) text
+-- the same for a command whose status is always 0
+abbrev pub prints : (List ℕ → Type 0) → (RunFault → Type 0) → Step Printed
+prints IsText IsRefused = runs (λ printed. IsText printed.text × (printed.status ≡ 0)) IsRefused
 
--- when `plan` fails, and why: the span is read first, then the zone, then the files, and then the plan is made
-abbrev pub FailsPlan : Held → Wanted → Failure → Type 0
-FailsPlan held wanted failure =
-    GivesNoSpan wanted.since wanted.upto failure
-    ⊎ (((span : Bounds) × IsSpan wanted.since wanted.upto span × IsUnreadInput held wanted.zone wanted.sources failure)
-    ⊎ ((span : Bounds) × (clock : List Change) × (sources : List Source) × IsSpan wanted.since wanted.upto span
-    × HasClock held wanted.zone clock × AreSourcesOf held wanted.sources sources
-    × FailsRun (IsFaultOf (plan_output clock sources span wanted.sizes)) failure))
+-- the same for a command with this output
+abbrev pub outputs : Result (List ℕ) RunFault → Step Printed
+outputs output = prints (IsTextOf output) (IsFaultOf output)
 
--- what `quiet` prints
-abbrev pub GivesQuiet : Held → Wanted → (least : ℕ) → List ℕ → Type 0
-GivesQuiet held wanted least text =
-    (span : Bounds) × (clock : List Change) × (sources : List Source) × IsSpan wanted.since wanted.upto span
-    × HasClock held wanted.zone clock × AreSourcesOf held wanted.sources sources
-    × IsTextOf (quiet_output clock sources span wanted.sizes least) text
+-- `next`: the timestamp is read first, then the zone, then the count, for which no memory is requested, and the rule
+abbrev pub next_ends : Held → List ℕ → Option (List ℕ) → (count : ℕ) → Asked → Step Printed
+next_ends held after zone count rule = do
+  moment ← moment_of After after
+  clock ← clock_of held zone
+  prints (IsTextOf (next_output clock rule moment count))
+      (λ fault. IsFaultOf (next_output clock rule moment count) fault × IfErr (valid_count count) (λ found. fault ≡ found))
 
--- when `quiet` fails, and why: in the same order as `plan`
-abbrev pub FailsQuiet : Held → Wanted → (least : ℕ) → Failure → Type 0
-FailsQuiet held wanted least failure =
-    GivesNoSpan wanted.since wanted.upto failure
-    ⊎ (((span : Bounds) × IsSpan wanted.since wanted.upto span × IsUnreadInput held wanted.zone wanted.sources failure)
-    ⊎ ((span : Bounds) × (clock : List Change) × (sources : List Source) × IsSpan wanted.since wanted.upto span
-    × HasClock held wanted.zone clock × AreSourcesOf held wanted.sources sources
-    × FailsRun (IsFaultOf (quiet_output clock sources span wanted.sizes least)) failure))
+-- `plan`: the span is read first, then the zone, then the files, and then the plan is made
+abbrev pub plan_ends : Held → PlanRequest → Step Printed
+plan_ends held request = do
+  span ← span_of request.since request.upto
+  input ← input_of held request.zone request.sources
+  outputs (plan_output input.clock input.sources span request.sizes)
 
--- what `upcoming` prints
-abbrev pub GivesUpcoming : Held → (after : List ℕ) → Option (List ℕ) → List SourcePath → List ℕ → Type 0
-GivesUpcoming held after zone paths text =
-    (moment : ℕ) × (clock : List Change) × (sources : List Source) × IsMoment after moment × HasClock held zone clock
-    × AreSourcesOf held paths sources × IsTextOfUpcoming clock sources moment text
+-- `upcoming`: the timestamp is read first, then the zone, then the files, and then their texts
+abbrev pub upcoming_ends : Held → List ℕ → Option (List ℕ) → List SourcePath → Step Printed
+upcoming_ends held after zone paths = do
+  moment ← moment_of After after
+  input ← input_of held zone paths
+  prints (IsTextOfUpcoming input.clock input.sources moment) (RefusesUpcoming input.clock input.sources)
 
--- when `upcoming` fails, and why: the timestamp is read first, then the zone, then the files, and then their texts
-abbrev pub FailsUpcoming : Held → (after : List ℕ) → Option (List ℕ) → List SourcePath → Failure → Type 0
-FailsUpcoming held after zone paths failure =
-    GivesNoMoment after failure
-    ⊎ (((moment : ℕ) × IsMoment after moment × IsUnreadInput held zone paths failure)
-    ⊎ ((moment : ℕ) × (clock : List Change) × (sources : List Source) × IsMoment after moment × HasClock held zone clock
-    × AreSourcesOf held paths sources × FailsRun (RefusesUpcoming clock sources) failure))
+-- `quiet`: in the same order as `plan`
+abbrev pub quiet_ends : Held → PlanRequest → (least : ℕ) → Step Printed
+quiet_ends held request least = do
+  span ← span_of request.since request.upto
+  input ← input_of held request.zone request.sources
+  outputs (quiet_output input.clock input.sources span request.sizes least)
 
 -- the exit status of `check`
 abbrev pub status_on : Verdict → ℕ
 status_on Clean = 0
 status_on Refused = refused_status
 
--- what `check` prints, and its exit status
-abbrev pub GivesCheck : Held → Option (List ℕ) → List SourcePath → (status : ℕ) → List ℕ → Type 0
-GivesCheck held zone paths status text =
-    (clock : List Change) × (sources : List Source) × HasClock held zone clock × AreSourcesOf held paths sources
-    × IsTextOf (check_output clock paths sources) text × (status ≡ status_on (sources_verdict sources))
+-- `check`: the zone is read first, then the files; after that only an allocation can fail
+abbrev pub check_ends : Held → Option (List ℕ) → List SourcePath → Step Printed
+check_ends held zone paths = do
+  input ← input_of held zone paths
+  runs (λ printed. IsTextOf (check_output input.clock paths input.sources) printed.text
+      × (printed.status ≡ status_on (sources_verdict input.sources))) (IsFaultOf (check_output input.clock paths input.sources))
 
--- when `check` fails, and why: the zone is read first, then the files; after that only an allocation can fail
-abbrev pub FailsCheck : Held → Option (List ℕ) → List SourcePath → Failure → Type 0
-FailsCheck held zone paths failure =
-    IsUnreadInput held zone paths failure
-    ⊎ ((clock : List Change) × (sources : List Source) × HasClock held zone clock × AreSourcesOf held paths sources
-    × FailsRun (IsFaultOf (check_output clock paths sources)) failure)
+-- `steps`: the file is read first, then the script in it is run
+abbrev pub steps_ends : Held → List ℕ → Step Printed
+steps_ends held file = do
+  script ← whole_of (held file) (File file)
+  prints (IsTextOfRun script) (RefusesRun script)
 
--- what `steps` prints
-abbrev pub GivesSteps : Held → List ℕ → List ℕ → Type 0
-GivesSteps held file text = (script : List ℕ) × IsHeld (held file).bytes script × IsTextOfRun script text
+-- ---- the answer
 
--- when `steps` fails, and why: the file is read first, and only a file that may fail is reported
-abbrev pub FailsSteps : Held → List ℕ → Failure → Type 0
-FailsSteps held file (File path) = (path ≡ file) × IsUnsure (held path)
-FailsSteps held file (Run fault) = (script : List ℕ) × IsHeld (held file).bytes script × RefusesRun script fault
-FailsSteps held file failure = ⊥
+-- a request
+abbrev pub ask_ends : Held → Ask → Step Printed
+ask_ends held (Next after zone count rule) = next_ends held after zone count rule
+ask_ends held (Plan request) = plan_ends held request
+ask_ends held (Upcoming after zone sources) = upcoming_ends held after zone sources
+ask_ends held (Quiet request least) = quiet_ends held request least
+ask_ends held (Check zone sources) = check_ends held zone sources
+ask_ends held (Steps file) = steps_ends held file
 
--- what a plan is made from, by its parts
-abbrev pub wanted_of : (since upto : List ℕ) → Option (List ℕ) → List SourcePath → Sizes → Wanted
-wanted_of since upto zone sources sizes = record { since = since; upto = upto; zone = zone; sources = sources; sizes = sizes }
+-- arguments that request no command: help is printed, and invalid arguments are a failure by themselves
+abbrev pub usage_ends : UsageFault → Step Printed
+usage_ends (usage.Help help) = gives (record { text = help; status = 0 })
+usage_ends (usage.Usage text) = fails (Usage text)
+usage_ends usage.NoMemory = fails (Run run.NoMemory)
 
--- the request `plan`, by what the plan is made from
-abbrev pub asked_plan : Wanted → Ask
-asked_plan wanted = Plan wanted.since wanted.upto wanted.zone wanted.sources wanted.sizes
+-- what standard output holds after a request: the whole text with its status, or its first bytes if the stream failed;
+-- or what it held before, if the request failed
+abbrev pub HoldsAfter : Bool → Result Printed Failure → Result ℕ Failure → (old new : Option (List ℕ)) → Type 0
+HoldsAfter takes_all (Ok printed) (Ok status) old new = (status ≡ printed.status) × Appends old new printed.text
+HoldsAfter takes_all (Ok printed) (Err failure) old new = (failure ≡ Run run.Device) × BreaksOff takes_all old new printed.text
+HoldsAfter takes_all (Err failure) (Ok status) old new = ⊥
+HoldsAfter takes_all (Err failure) (Err found) old new = (found ≡ failure) × Keeps old new
 
--- the request `quiet`, by what its plan is made from
-abbrev pub asked_quiet : Wanted → (least : ℕ) → Ask
-asked_quiet wanted least = Quiet wanted.since wanted.upto wanted.zone wanted.sources wanted.sizes least
-
--- the request `check`, by the zone and the paths of the sources
-abbrev pub asked_check : Option (List ℕ) → List SourcePath → Ask
-asked_check zone paths = Check zone paths
-
--- the request `upcoming`, by the timestamp, the zone and the paths of the sources
-abbrev pub asked_upcoming : (after : List ℕ) → Option (List ℕ) → List SourcePath → Ask
-asked_upcoming after zone paths = Upcoming after zone paths
-
--- what is printed for a request, and the exit status: the text of a command, or the text of help
-abbrev pub Prints : Held → Result Ask UsageFault → (status : ℕ) → List ℕ → Type 0
-Prints held (Ok (Next after zone count rule)) status text = (status ≡ 0) × GivesNext held after zone count rule text
-Prints held (Ok (Plan since upto zone sources sizes)) status text =
-    (status ≡ 0) × GivesPlan held (wanted_of since upto zone sources sizes) text
-Prints held (Ok (Upcoming after zone sources)) status text = (status ≡ 0) × GivesUpcoming held after zone sources text
-Prints held (Ok (Quiet since upto zone sources sizes least)) status text =
-    (status ≡ 0) × GivesQuiet held (wanted_of since upto zone sources sizes) least text
-Prints held (Ok (Check zone sources)) status text = GivesCheck held zone sources status text
-Prints held (Ok (Steps file)) status text = (status ≡ 0) × GivesSteps held file text
-Prints held (Err (usage.Help help)) status text = (status ≡ 0) × (text ≡ help)
-Prints held (Err refusal) status text = ⊥
-
--- what may be printed, with any status
-abbrev pub MayPrint : Held → Result Ask UsageFault → List ℕ → Type 0
-MayPrint held asked text = (status : ℕ) × Prints held asked status text
-
--- when a request is rejected, and why: invalid arguments are a failure by themselves, and help is never rejected
-abbrev pub Refuses : Held → Result Ask UsageFault → Failure → Type 0
-Refuses held (Ok (Next after zone count rule)) failure = FailsNext held after zone count rule failure
-Refuses held (Ok (Plan since upto zone sources sizes)) failure = FailsPlan held (wanted_of since upto zone sources sizes) failure
-Refuses held (Ok (Upcoming after zone sources)) failure = FailsUpcoming held after zone sources failure
-Refuses held (Ok (Quiet since upto zone sources sizes least)) failure =
-    FailsQuiet held (wanted_of since upto zone sources sizes) least failure
-Refuses held (Ok (Check zone sources)) failure = FailsCheck held zone sources failure
-Refuses held (Ok (Steps file)) failure = FailsSteps held file failure
-Refuses held (Err (usage.Help text)) failure = ⊥
-Refuses held (Err (usage.Usage text)) failure = failure ≡ Usage text
-Refuses held (Err usage.NoMemory) failure = failure ≡ Run run.NoMemory
-
--- what standard output holds after a failure: a first part of the text if the stream failed, and otherwise what it held before
-abbrev pub Stops :
-    Bool → (List ℕ → Type 0) → (Failure → Type 0) → Failure → (old new : Option (List ℕ)) → Type 0
-Stops takes_all IsText IsRefused (Run run.Device) old new = (text : List ℕ) × IsText text × BreaksOff takes_all old new text
-Stops takes_all IsText IsRefused failure old new = IsRefused failure × Keeps old new
-
--- the paths of the sources that were given
-abbrev pub sources_of : Result Ask UsageFault → List SourcePath
-sources_of (Ok (Plan _ _ _ sources _)) = sources
-sources_of (Ok (Upcoming _ _ sources)) = sources
-sources_of (Ok (Quiet _ _ _ sources _ _)) = sources
-sources_of (Ok (Check _ sources)) = sources
-sources_of other = []
+-- the same for a request that may end in more than one way
+pub record Leaves (takes_all : Bool) (step : Step Printed) (done : Result ℕ Failure) (old new : Option (List ℕ)) : Type 0 where
+  pub end : Result Printed Failure
+  pub ends : step end
+  pub puts : HoldsAfter takes_all end done old new
 
 -- a stream: whether it accepts all bytes, and what it held before and after
 pub record Stream : Type 0 where
@@ -227,15 +165,28 @@ pub record Stream : Type 0 where
   pub old : Option (List ℕ)
   pub new : Option (List ℕ)
 
--- the program's answer: either the text on standard output with its status, which is 0 unless `check` finds
--- an error, and nothing on standard error; or the status of a failure, and its line on standard error
+-- the exit status, and standard error: nothing after success, and after a failure its status and its line
+abbrev pub Ends : List SourcePath → Result ℕ Failure → (status : ℕ) → Stream → Type 0
+Ends sources (Ok status) found err = (found ≡ status) × Keeps err.old err.new
+Ends sources (Err failure) found err =
+    (found ≡ status_of failure) × PutsOrBreaksOff err.takes_all err.old err.new (fault_text sources failure)
+
+-- the paths of the sources that a request names
+abbrev pub sources_in : Ask → List SourcePath
+sources_in (Plan request) = request.sources
+sources_in (Upcoming _ _ sources) = sources
+sources_in (Quiet request _) = request.sources
+sources_in (Check _ sources) = sources
+sources_in other = []
+
+-- the program's answer: what the request leaves on standard output, and how it ends
 abbrev pub Answers : Held → Result Ask UsageFault → ℕ → (out err : Stream) → Type 0
-Answers held asked status out err =
-    (Writes (Prints held asked status) out.old out.new × Keeps err.old err.new)
-    ⊎ ((failure : Failure) × Stops out.takes_all (MayPrint held asked) (Refuses held asked) failure out.old out.new
-    × (status ≡ status_of failure) × PutsOrBreaksOff err.takes_all err.old err.new (fault_text (sources_of asked) failure))
+Answers held (Ok ask) status out err =
+    (done : Result ℕ Failure) × Leaves out.takes_all (ask_ends held ask) done out.old out.new × Ends (sources_in ask) done status err
+Answers held (Err fault) status out err =
+    (done : Result ℕ Failure) × Leaves out.takes_all (usage_ends fault) done out.old out.new × Ends [] done status err
 
 -- the same, by the arguments of the command line
 abbrev pub AnswersArguments : Held → List (List ℕ) → ℕ → (out err : Stream) → Type 0
 AnswersArguments held words status out err =
-    (asked : Result Ask UsageFault) × Gives asked (asked_by words) × Answers held asked status out err
+    (request : Result Ask UsageFault) × Gives request (asked_by words) × Answers held request status out err

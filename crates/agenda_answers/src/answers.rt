@@ -1,17 +1,12 @@
 //! Does what the arguments request, over any files and streams.
 
-ghost use Rattle.std.specs.Prelude.{◌≡◌, ◌≢◌, ℕ, IfErr, IfOk, Ok, OnOk, map, string_bytes};
-ghost use Rattle.std.specs.Io.KnownBytes.{Keeps};
-ghost use Rattle.agenda_faults.specs.FaultLines.{fault_text};
-ghost use Rattle.agenda_faults.specs.Faults.{status_of as failure_status};
-ghost use Rattle.agenda_answers.specs.Answer.{Answers, AnswersArguments, asked_plan, asked_quiet, asked_upcoming};
-ghost use Rattle.agenda_answers.specs.Answer.{FailsCheck, FailsNext, FailsPlan, FailsQuiet, FailsSteps, FailsUpcoming};
-ghost use Rattle.agenda_answers.specs.Answer.{GivesCheck, GivesNext, GivesNoSpan, GivesPlan, GivesQuiet, GivesSteps, GivesUpcoming};
-ghost use Rattle.agenda_answers.specs.Answer.{GivesNoMoment, IsMoment, IsSpan, SaysNotUtf8, Stops, asked_check, status_on};
-ghost use Rattle.agenda_commands.specs.Command.{Writes};
-ghost use Rattle.plan_streams.specs.Stream.{PutsOrBreaksOff};
+ghost use Rattle.std.specs.Prelude.{◌≡◌, ◌≢◌, map, string_bytes};
+ghost use Rattle.agenda_answers.specs.Answer.{Answers, AnswersArguments, Ends, Leaves, SaysNotUtf8};
+ghost use Rattle.agenda_answers.specs.Answer.{ask_ends, check_ends, moment_of, next_ends, plan_ends, quiet_ends};
+ghost use Rattle.agenda_answers.specs.Answer.{sources_in, span_of, status_on, steps_ends, upcoming_ends, usage_ends};
+ghost use Rattle.agenda_faults.specs.declared.faults.Failure.TheVariants.{After};
 
-use crate::files::{Files, read_file};
+use crate::files::{Files, read_path};
 use crate::sources::read_input;
 use crate::zone::read_clock;
 use agenda_commands::{
@@ -19,8 +14,8 @@ use agenda_commands::{
 };
 use agenda_faults::{Failure, RunFault, fault_line};
 use agenda_sources::{Asked, SourcePath, SourcePaths};
-use agenda_words::{Ask, UsageFault, read_words};
-use plan_collect::{Sizes, Span};
+use agenda_words::{Ask, PlanRequest, UsageFault, read_words};
+use plan_collect::Span;
 use plan_rules::Text;
 use plan_sets::read_moment;
 use plan_streams::Stream;
@@ -28,16 +23,6 @@ use std::alloc::Global;
 use std::io::ErrorKind;
 use std::sync::Wait;
 use std::thread::Threads;
-
-// What a plan is made from: the texts of two timestamps and of the zone, the paths of the sources, and the sizes.
-#[derive(Drop)]
-struct Wanted {
-    since: Text,
-    upto: Text,
-    zone: Option<Text>,
-    sources: SourcePaths,
-    sizes: Sizes,
-}
 
 // The exit status after success, and after help.
 const DONE: u8 = 0;
@@ -84,68 +69,11 @@ pub fn answer<R: Threads + Wait + Sync, F: Files, O: Stream, E: Stream>(
         (record { takes_all = E.takes_all; old = E.holds err.old; new = E.holds err.new }) }
 {
     match asked {
-        Ok(
-            Ask::Next {
-                after,
-                zone,
-                count,
-                rule,
-            },
-        ) => {
-            let done = next(alloc, &after, &zone, count, &rule, files, out);
-            status_of(done, &[], err)
+        Ok(ask) => {
+            let done = carry_out(rt, alloc, &ask, files, out);
+            end(done, sources_in(&ask), err)
         }
-        Ok(
-            Ask::Plan {
-                since,
-                upto,
-                zone,
-                sources,
-                sizes,
-            },
-        ) => {
-            let wanted = Wanted {
-                since,
-                upto,
-                zone,
-                sources,
-                sizes,
-            };
-            answer_plan(rt, alloc, &wanted, files, out, err)
-        }
-        Ok(
-            Ask::Upcoming {
-                after,
-                zone,
-                sources,
-            },
-        ) => answer_upcoming(alloc, &after, &zone, &sources, files, out, err),
-        Ok(
-            Ask::Quiet {
-                since,
-                upto,
-                zone,
-                sources,
-                sizes,
-                least,
-            },
-        ) => {
-            let wanted = Wanted {
-                since,
-                upto,
-                zone,
-                sources,
-                sizes,
-            };
-            answer_quiet(rt, alloc, &wanted, least, files, out, err)
-        }
-        Ok(Ask::Check { zone, sources }) => {
-            answer_check(alloc, &zone, &sources, files, out, err)
-        }
-        Ok(Ask::Steps { file }) => status_of(steps(alloc, file, files, out), &[], err),
-        Err(UsageFault::Help(text)) => status_of(help(&text, out), &[], err),
-        Err(UsageFault::Usage(text)) => status_of(Err(Failure::Usage(text)), &[], err),
-        Err(UsageFault::NoMemory) => status_of(Err(Failure::Run(RunFault::NoMemory)), &[], err),
+        Err(fault) => end(explain(fault, out), &[], err),
     }
 }
 
@@ -164,89 +92,71 @@ pub fn unread_arguments(alloc: Global, kind: ErrorKind) -> UsageFault
     }
 }
 
-// Answers `plan`.
-fn answer_plan<R: Threads + Wait + Sync, F: Files, O: Stream, E: Stream>(
-    rt: &R,
-    alloc: Global,
-    wanted: &Wanted,
-    files: &mut F,
-    out: &mut O,
-    err: &mut E,
-) -> u8
-    ensures { Answers (F.held files.old) (Ok (asked_plan wanted.now)) result
-        (record { takes_all = O.takes_all; old = O.holds out.old; new = O.holds out.new })
-        (record { takes_all = E.takes_all; old = E.holds err.old; new = E.holds err.new }) }
+// Returns the exit status after a request, and writes the line of its error. `sources` are the paths of the
+// sources that it names.
+fn end<S: Stream>(done: Result<u8, Failure>, sources: &[SourcePath], err: &mut S) -> u8
+    ensures { Ends sources.now done result
+        (record { takes_all = S.takes_all; old = S.holds err.old; new = S.holds err.new }) }
 {
-    let done = plan(rt, alloc, wanted, files, out);
-    status_of(done, wanted.sources.as_slice(), err)
-}
-
-// Answers `upcoming`.
-fn answer_upcoming<F: Files, O: Stream, E: Stream>(
-    alloc: Global,
-    after: &Text,
-    zone: &Option<Text>,
-    sources: &SourcePaths,
-    files: &mut F,
-    out: &mut O,
-    err: &mut E,
-) -> u8
-    ensures { Answers (F.held files.old) (Ok (asked_upcoming after.now zone.now sources.now)) result
-        (record { takes_all = O.takes_all; old = O.holds out.old; new = O.holds out.new })
-        (record { takes_all = E.takes_all; old = E.holds err.old; new = E.holds err.new }) }
-{
-    let done = upcoming(alloc, after, zone, sources, files, out);
-    status_of(done, sources.as_slice(), err)
-}
-
-// Answers `quiet`.
-fn answer_quiet<R: Threads + Wait + Sync, F: Files, O: Stream, E: Stream>(
-    rt: &R,
-    alloc: Global,
-    wanted: &Wanted,
-    least: u32,
-    files: &mut F,
-    out: &mut O,
-    err: &mut E,
-) -> u8
-    ensures { Answers (F.held files.old) (Ok (asked_quiet wanted.now least)) result
-        (record { takes_all = O.takes_all; old = O.holds out.old; new = O.holds out.new })
-        (record { takes_all = E.takes_all; old = E.holds err.old; new = E.holds err.new }) }
-{
-    let done = quiet(rt, alloc, wanted, least, files, out);
-    status_of(done, wanted.sources.as_slice(), err)
-}
-
-// Answers `check`.
-fn answer_check<F: Files, O: Stream, E: Stream>(
-    alloc: Global,
-    zone: &Option<Text>,
-    sources: &SourcePaths,
-    files: &mut F,
-    out: &mut O,
-    err: &mut E,
-) -> u8
-    ensures { Answers (F.held files.old) (Ok (asked_check zone.now sources.now)) result
-        (record { takes_all = O.takes_all; old = O.holds out.old; new = O.holds out.new })
-        (record { takes_all = E.takes_all; old = E.holds err.old; new = E.holds err.new }) }
-{
-    match check(alloc, zone, sources.as_slice(), files, out) {
-        Ok(Verdict::Clean) => DONE,
-        Ok(Verdict::Refused) => REFUSED,
-        Err(failure) => fault_line(&failure, sources.as_slice(), err),
+    match done {
+        Ok(status) => status,
+        Err(failure) => fault_line(&failure, sources, err),
     }
 }
 
-// Returns the exit status of a command, and writes the line of its error. `sources` are the paths of the
-// sources of a plan.
-fn status_of<S: Stream>(done: Result<(), Failure>, sources: &[SourcePath], err: &mut S) -> u8
-    ensures done { OnOk done ((result ≡ 0) × Keeps (S.holds err.old) (S.holds err.new)) }
-    ensures failed { IfErr done (λ failure. (result ≡ failure_status failure)
-        × PutsOrBreaksOff S.takes_all (S.holds err.old) (S.holds err.new) (fault_text sources.now failure)) }
+// Returns the paths of the sources that a request names.
+fn sources_in(ask: &Ask) -> &[SourcePath]
+    ensures { result.now ≡ sources_in ask.now }
 {
-    match done {
-        Ok(()) => DONE,
-        Err(failure) => fault_line(&failure, sources, err),
+    match ask {
+        Ask::Plan(request) => request.sources.as_slice(),
+        Ask::Upcoming { sources, .. } => sources.as_slice(),
+        Ask::Quiet { plan, .. } => plan.sources.as_slice(),
+        Ask::Check { sources, .. } => sources.as_slice(),
+        _ => &[],
+    }
+}
+
+// Does what is requested. Returns the exit status, unless that fails.
+fn carry_out<R: Threads + Wait + Sync, F: Files, S: Stream>(
+    rt: &R,
+    alloc: Global,
+    ask: &Ask,
+    files: &mut F,
+    out: &mut S,
+) -> Result<u8, Failure>
+    ensures { Leaves S.takes_all (ask_ends (F.held files.old) ask.now) result (S.holds out.old) (S.holds out.new) }
+{
+    match ask {
+        Ask::Next {
+            after,
+            zone,
+            count,
+            rule,
+        } => next(alloc, after, zone, *count, rule, files, out),
+        Ask::Plan(request) => plan(rt, alloc, request, files, out),
+        Ask::Upcoming {
+            after,
+            zone,
+            sources,
+        } => upcoming(alloc, after, zone, sources, files, out),
+        Ask::Quiet { plan, least } => quiet(rt, alloc, plan, *least, files, out),
+        Ask::Check { zone, sources } => check(alloc, zone, sources, files, out),
+        Ask::Steps { file } => steps(alloc, file, files, out),
+    }
+}
+
+// Prints help, or returns the failure of arguments that request no command.
+fn explain<S: Stream>(fault: UsageFault, out: &mut S) -> Result<u8, Failure>
+    ensures { Leaves S.takes_all (usage_ends fault) result (S.holds out.old) (S.holds out.new) }
+{
+    match fault {
+        UsageFault::Help(text) => match out.put(text.as_str().as_bytes()) {
+            Ok(()) => Ok(DONE),
+            Err(fault) => Err(Failure::Run(RunFault::from(fault))),
+        },
+        UsageFault::Usage(text) => Err(Failure::Usage(text)),
+        UsageFault::NoMemory => Err(Failure::Run(RunFault::NoMemory)),
     }
 }
 
@@ -259,45 +169,37 @@ fn next<F: Files, S: Stream>(
     rule: &Asked,
     files: &mut F,
     out: &mut S,
-) -> Result<(), Failure>
-    ensures done { OnOk result (Writes (GivesNext (F.held files.old) after.now zone.now count rule.now) (S.holds out.old) (S.holds out.new)) }
-    ensures failed { IfErr result (λ failure. Stops S.takes_all (GivesNext (F.held files.old) after.now zone.now count rule.now)
-        (FailsNext (F.held files.old) after.now zone.now count rule.now) failure (S.holds out.old) (S.holds out.new)) }
+) -> Result<u8, Failure>
+    ensures { Leaves S.takes_all (next_ends (F.held files.old) after.now zone.now count rule.now) result (S.holds out.old) (S.holds out.new) }
 {
     let moment = moment_after(after)?;
     let clock = read_clock(alloc, files, zone)?;
-    match run_next(alloc, rule, &clock, moment, u64::from(count), out) {
-        Ok(()) => Ok(()),
-        Err(fault) => Err(Failure::Run(fault)),
-    }
+    run_next(alloc, rule, &clock, moment, u64::from(count), out)?;
+    Ok(DONE)
 }
 
 // Runs the command `plan`.
 fn plan<R: Threads + Wait + Sync, F: Files, S: Stream>(
     rt: &R,
     alloc: Global,
-    wanted: &Wanted,
+    request: &PlanRequest,
     files: &mut F,
     out: &mut S,
-) -> Result<(), Failure>
-    ensures done { OnOk result (Writes (GivesPlan (F.held files.old) wanted.now) (S.holds out.old) (S.holds out.new)) }
-    ensures failed { IfErr result (λ failure. Stops S.takes_all (GivesPlan (F.held files.old) wanted.now)
-        (FailsPlan (F.held files.old) wanted.now) failure (S.holds out.old) (S.holds out.new)) }
+) -> Result<u8, Failure>
+    ensures { Leaves S.takes_all (plan_ends (F.held files.old) request.now) result (S.holds out.old) (S.holds out.new) }
 {
-    let span = span_between(&wanted.since, &wanted.upto)?;
-    let input = read_input(alloc, files, &wanted.zone, wanted.sources.as_slice())?;
-    match run_plan(
+    let span = span_between(&request.since, &request.upto)?;
+    let input = read_input(alloc, files, &request.zone, &request.sources)?;
+    run_plan(
         rt,
         alloc,
         &input.sources,
         &input.clock,
         span,
-        wanted.sizes,
+        request.sizes,
         out,
-    ) {
-        Ok(()) => Ok(()),
-        Err(fault) => Err(Failure::Run(fault)),
-    }
+    )?;
+    Ok(DONE)
 }
 
 // Runs the command `upcoming`.
@@ -308,73 +210,83 @@ fn upcoming<F: Files, S: Stream>(
     paths: &SourcePaths,
     files: &mut F,
     out: &mut S,
-) -> Result<(), Failure>
-    ensures done { OnOk result (Writes (GivesUpcoming (F.held files.old) after.now zone.now paths.now) (S.holds out.old) (S.holds out.new)) }
-    ensures failed { IfErr result (λ failure. Stops S.takes_all (GivesUpcoming (F.held files.old) after.now zone.now paths.now)
-        (FailsUpcoming (F.held files.old) after.now zone.now paths.now) failure (S.holds out.old) (S.holds out.new)) }
+) -> Result<u8, Failure>
+    ensures { Leaves S.takes_all (upcoming_ends (F.held files.old) after.now zone.now paths.now) result (S.holds out.old) (S.holds out.new) }
 {
     let moment = moment_after(after)?;
-    let input = read_input(alloc, files, zone, paths.as_slice())?;
-    match run_upcoming(alloc, &input.sources, &input.clock, moment, out) {
-        Ok(()) => Ok(()),
-        Err(fault) => Err(Failure::Run(fault)),
-    }
+    let input = read_input(alloc, files, zone, paths)?;
+    run_upcoming(alloc, &input.sources, &input.clock, moment, out)?;
+    Ok(DONE)
 }
 
 // Runs the command `quiet`.
 fn quiet<R: Threads + Wait + Sync, F: Files, S: Stream>(
     rt: &R,
     alloc: Global,
-    wanted: &Wanted,
+    request: &PlanRequest,
     least: u32,
     files: &mut F,
     out: &mut S,
-) -> Result<(), Failure>
-    ensures done { OnOk result (Writes (GivesQuiet (F.held files.old) wanted.now least) (S.holds out.old) (S.holds out.new)) }
-    ensures failed { IfErr result (λ failure. Stops S.takes_all (GivesQuiet (F.held files.old) wanted.now least)
-        (FailsQuiet (F.held files.old) wanted.now least) failure (S.holds out.old) (S.holds out.new)) }
+) -> Result<u8, Failure>
+    ensures { Leaves S.takes_all (quiet_ends (F.held files.old) request.now least) result (S.holds out.old) (S.holds out.new) }
 {
-    let span = span_between(&wanted.since, &wanted.upto)?;
-    let input = read_input(alloc, files, &wanted.zone, wanted.sources.as_slice())?;
-    match run_quiet(
+    let span = span_between(&request.since, &request.upto)?;
+    let input = read_input(alloc, files, &request.zone, &request.sources)?;
+    run_quiet(
         rt,
         alloc,
         &input.sources,
         &input.clock,
         span,
-        wanted.sizes,
+        request.sizes,
         least,
         out,
-    ) {
-        Ok(()) => Ok(()),
-        Err(fault) => Err(Failure::Run(fault)),
-    }
+    )?;
+    Ok(DONE)
 }
 
 // Runs the command `check`.
 fn check<F: Files, S: Stream>(
     alloc: Global,
     zone: &Option<Text>,
-    paths: &[SourcePath],
+    paths: &SourcePaths,
     files: &mut F,
     out: &mut S,
-) -> Result<Verdict, Failure>
-    ensures done { IfOk result (λ verdict. Writes (GivesCheck (F.held files.old) zone.now paths.now (status_on verdict))
-        (S.holds out.old) (S.holds out.new)) }
-    ensures failed { IfErr result (λ failure. Stops S.takes_all (λ text. (status : ℕ) × GivesCheck (F.held files.old) zone.now paths.now status text)
-        (FailsCheck (F.held files.old) zone.now paths.now) failure (S.holds out.old) (S.holds out.new)) }
+) -> Result<u8, Failure>
+    ensures { Leaves S.takes_all (check_ends (F.held files.old) zone.now paths.now) result (S.holds out.old) (S.holds out.new) }
 {
     let input = read_input(alloc, files, zone, paths)?;
-    match run_check(alloc, paths, &input.sources, &input.clock, out) {
-        Ok(verdict) => Ok(verdict),
-        Err(fault) => Err(Failure::Run(fault)),
+    let verdict = run_check(alloc, paths.as_slice(), &input.sources, &input.clock, out)?;
+    Ok(status_on(verdict))
+}
+
+// Returns the exit status of `check`.
+fn status_on(verdict: Verdict) -> u8
+    ensures { result ≡ status_on verdict }
+{
+    match verdict {
+        Verdict::Clean => DONE,
+        Verdict::Refused => REFUSED,
     }
+}
+
+// Runs the command `steps`.
+fn steps<F: Files, S: Stream>(
+    alloc: Global,
+    file: &Text,
+    files: &mut F,
+    out: &mut S,
+) -> Result<u8, Failure>
+    ensures { Leaves S.takes_all (steps_ends (F.held files.old) file.now) result (S.holds out.old) (S.holds out.new) }
+{
+    let script = read_path(alloc, files, file.as_str())?;
+    run_script(alloc, script.as_slice(), out)?;
+    Ok(DONE)
 }
 
 // Reads the timestamp after which starts are requested.
 fn moment_after(after: &Text) -> Result<u64, Failure>
-    ensures moment { IfOk result (IsMoment after.now) }
-    ensures none { IfErr result (GivesNoMoment after.now) }
+    ensures { moment_of After after.now result }
 {
     match read_moment(after.as_str()) {
         Ok(moment) => Ok(moment),
@@ -384,8 +296,7 @@ fn moment_after(after: &Text) -> Result<u64, Failure>
 
 // Reads the two timestamps of a span.
 fn span_between(since: &Text, upto: &Text) -> Result<Span, Failure>
-    ensures span { IfOk result (IsSpan since.now upto.now) }
-    ensures no_span { IfErr result (GivesNoSpan since.now upto.now) }
+    ensures { span_of since.now upto.now result }
 {
     let begin = match read_moment(since.as_str()) {
         Ok(begin) => begin,
@@ -398,41 +309,5 @@ fn span_between(since: &Text, upto: &Text) -> Result<Span, Failure>
     match Span::new(begin, end) {
         Ok(span) => Ok(span),
         Err(fault) => Err(Failure::Span(fault)),
-    }
-}
-
-// Runs the command `steps`.
-fn steps<F: Files, S: Stream>(
-    alloc: Global,
-    file: Text,
-    files: &mut F,
-    out: &mut S,
-) -> Result<(), Failure>
-    ensures done { OnOk result (Writes (GivesSteps (F.held files.old) file) (S.holds out.old) (S.holds out.new)) }
-    ensures failed { IfErr result (λ failure. Stops S.takes_all (GivesSteps (F.held files.old) file)
-        (FailsSteps (F.held files.old) file) failure (S.holds out.old) (S.holds out.new)) }
-{
-    let script = match read_file(alloc, files, file.as_str()) {
-        Ok(script) => script,
-        Err(fault) if fault.kind() == ErrorKind::OutOfMemory => {
-            return Err(Failure::Run(RunFault::NoMemory));
-        }
-        Err(_) => return Err(Failure::File(file)),
-    };
-    match run_script(alloc, script.as_slice(), out) {
-        Ok(()) => Ok(()),
-        Err(fault) => Err(Failure::Run(fault)),
-    }
-}
-
-// Prints the text of help.
-fn help<S: Stream>(text: &Text, out: &mut S) -> Result<(), Failure>
-    ensures done { OnOk result (Writes (λ printed. printed ≡ text.now) (S.holds out.old) (S.holds out.new)) }
-    ensures failed { IfErr result (λ failure. Stops S.takes_all (λ printed. printed ≡ text.now) (λ _. ⊥)
-        failure (S.holds out.old) (S.holds out.new)) }
-{
-    match out.put(text.as_str().as_bytes()) {
-        Ok(()) => Ok(()),
-        Err(fault) => Err(Failure::Run(RunFault::from(fault))),
     }
 }

@@ -1,76 +1,72 @@
-//! Files, which are opened by their paths and read up to a limit.
+//! Files, of which the first bytes are read.
 
-ghost use Rattle.std.specs.Prelude.{◌≡◌, IfErr, IfOk};
-ghost use Rattle.std.specs.IoError.{error_kind};
-ghost use Rattle.agenda_answers.specs.Files.{IsFrontOf, MayFail};
+ghost use Rattle.std.specs.Prelude.{◌≡◌, IfOk};
+ghost use Rattle.agenda_answers.specs.Files.{IsFrontOf, front_of};
+ghost use Rattle.agenda_faults.specs.declared.faults.Failure.TheVariants.{File};
 
+use agenda_faults::{Failure, RunFault};
+use agenda_sources::Bytes;
+use plan_rules::Text;
 use plan_rules::lines::MOST_BYTES;
 use std::alloc::Global;
-use std::io;
-use std::io::Read;
+use std::io::{self, ErrorKind, Read};
 
-/// A file that was opened.
-pub trait OpenFile {
-    ghost use Rattle.std.specs.Prelude.{IfErr, IfOk};
-    ghost use Rattle.std.specs.IoError.{error_kind};
-    ghost use Rattle.agenda_answers.specs.Files.{Known, IsFrontOf, MayFail};
-
-    /// What contracts know of the file.
-    ghost known: { Self → Known };
-
-    /// Reads the first 1,048,577 bytes of the file, one more than the limit of every input, or all of them if
-    /// there are fewer.
-    fn front(self, alloc: Global) -> io::Result<Vec<u8>>
-        ensures bytes { IfOk result (λ bytes. IsFrontOf (known self).bytes bytes.items) }
-        ensures fails { IfErr result (λ fault. MayFail (known self) (error_kind fault)) };
-}
-
-/// Every reader is such a file. It may fail.
-impl<R: Read + Drop> OpenFile for R {
-    ghost use Rattle.std.specs.Prelude.{false};
-
-    ghost known = { λ file. record { bytes = R.remaining file; is_readable = false } };
-
-    fn front(self, alloc: Global) -> io::Result<Vec<u8>> {
-        read_front(alloc, self)
-    }
-}
-
-/// Opens files by their paths.
+/// Files by their paths.
 pub trait Files {
     ghost use Rattle.std.specs.Prelude.{◌≡◌, List, ℕ, IfErr, IfOk};
     ghost use Rattle.std.specs.IoError.{error_kind};
-    ghost use Rattle.agenda_answers.specs.Files.{Known, MayFail};
-
-    /// A file that was opened.
-    type File: OpenFile;
+    ghost use Rattle.agenda_answers.specs.Files.{IsFrontOf, Known, MayFail};
 
     /// What contracts know of the file with a path.
     ghost held: { Self → List ℕ → Known };
 
-    /// Opens the file with a path, and starts at its first byte.
-    fn open(&mut self, path: &str) -> io::Result<Self::File>
-        ensures known { IfOk result (λ file. Self.File.known file ≡ held self.old path.now) }
+    /// Returns the first `most` bytes of the file with a path, or all of them if there are fewer.
+    fn front(&mut self, alloc: Global, path: &str, most: u64) -> io::Result<Vec<u8>>
+        ensures bytes { IfOk result (λ bytes. IsFrontOf (held self.old path.now).bytes most bytes.items) }
         ensures fails { IfErr result (λ fault. MayFail (held self.old path.now) (error_kind fault)) }
         ensures same { held self.new ≡ held self.old };
 }
 
-/// Reads the first 1,048,577 bytes of a file, one more than the limit of every input, or all of them if there
-/// are fewer.
-pub fn read_file<F: Files>(alloc: Global, files: &mut F, path: &str) -> io::Result<Vec<u8>>
-    ensures bytes { IfOk result (λ bytes. IsFrontOf (F.held files.old path.now).bytes bytes.items) }
-    ensures fails { IfErr result (λ fault. MayFail (F.held files.old path.now) (error_kind fault)) }
-    ensures same { F.held files.new ≡ F.held files.old }
-{
-    let file = files.open(path)?;
-    file.front(alloc)
-}
-
-// Reads the bytes of a reader, up to one more than the limit.
-fn read_front<R: Read + Drop>(alloc: Global, file: R) -> io::Result<Vec<u8>>
-    ensures { IfOk result (λ bytes. IsFrontOf (R.remaining file) bytes.items) }
+/// Returns the first `most` bytes of a reader, or all of them if there are fewer. For implementations of `Files`.
+pub fn read_front<R: Read + Drop>(alloc: Global, reader: R, most: u64) -> io::Result<Vec<u8>>
+    ensures { IfOk result (λ bytes. IsFrontOf (R.remaining reader) most bytes.items) }
 {
     let mut bytes = Vec::new(alloc);
-    file.take(MOST_BYTES as u64 + 1).read_to_end(&mut bytes)?;
+    reader.take(most).read_to_end(&mut bytes)?;
     Ok(bytes)
+}
+
+// The maximum number of bytes that are read of a file: one more than the limit of every input.
+const MOST_READ: u64 = MOST_BYTES as u64 + 1;
+
+// Reads the first bytes of a file. If it can't be opened or read, returns `unread`.
+pub(crate) fn read_file<F: Files>(
+    alloc: Global,
+    files: &mut F,
+    path: &str,
+    unread: Failure,
+) -> Result<Bytes, Failure>
+    ensures read { front_of (F.held files.old path.now) unread result }
+    ensures same { F.held files.new ≡ F.held files.old }
+{
+    match files.front(alloc, path, MOST_READ) {
+        Ok(bytes) => Ok(Bytes::new(bytes)),
+        Err(fault) if fault.kind() == ErrorKind::OutOfMemory => {
+            Err(Failure::Run(RunFault::NoMemory))
+        }
+        Err(_) => Err(unread),
+    }
+}
+
+// Reads the first bytes of a file. If it can't be opened or read, returns `File` with its path.
+pub(crate) fn read_path<F: Files>(
+    alloc: Global,
+    files: &mut F,
+    path: &str,
+) -> Result<Bytes, Failure>
+    ensures read { front_of (F.held files.old path.now) (File path.now) result }
+    ensures same { F.held files.new ≡ F.held files.old }
+{
+    let unread = Failure::File(Text::new(String::from_str(alloc, path)?));
+    read_file(alloc, files, path, unread)
 }

@@ -10,5 +10,4 @@ mod sources;
 mod zone;
 
 pub use answers::{answer, answer_arguments, unread_arguments};
-pub use files::{Files, OpenFile, read_file};
-pub use sources::{Input, read_input};
+pub use files::{Files, read_front};

@@ -1,17 +1,17 @@
 //! Reads the clock of the time zone of the rules.
 
-ghost use Rattle.std.specs.Prelude.{◌≡◌, IfErr, IfOk};
-ghost use Rattle.agenda_answers.specs.Zone.{HasClock, HasNoClock, IsClockIn, RejectsBytes, RejectsName, RejectsPath};
-ghost use Rattle.plan_zones.specs.Zones.{IsClockOf};
+ghost use Rattle.std.specs.Prelude.{◌≡◌};
+ghost use Rattle.agenda_answers.specs.Zone.{clock_of, clock_of_bytes, clock_of_file};
+ghost use Rattle.agenda_faults.specs.declared.faults.Failure.TheVariants.{File, Zone};
+ghost use Rattle.plan_zones.specs.declared.zone_fault.ZoneFault.TheVariants.{NoSuchZone};
 ghost use Rattle.plan_zones.specs.ZoneTexts.{zone_path};
 
-use crate::files::{Files, read_file};
-use agenda_faults::{Failure, RunFault};
+use crate::files::{Files, read_file, read_path};
+use agenda_faults::Failure;
 use plan_clock::Clock;
 use plan_rules::Text;
 use plan_zones::{ZoneFault, ZoneSource, read_zone, zone_path, zone_source};
 use std::alloc::Global;
-use std::io::ErrorKind;
 
 /// Reads the clock of the zone that a text gives. Without a text it is the clock of UTC, and no file is read.
 ///
@@ -24,8 +24,7 @@ pub fn read_clock<F: Files>(
     files: &mut F,
     zone: &Option<Text>,
 ) -> Result<Clock, Failure>
-    ensures clock { IfOk result (HasClock (F.held files.old) zone.now) }
-    ensures none { IfErr result (HasNoClock (F.held files.old) zone.now) }
+    ensures read { clock_of (F.held files.old) zone.now result }
     ensures same { F.held files.new ≡ F.held files.old }
 {
     let Some(text) = zone else {
@@ -41,48 +40,27 @@ pub fn read_clock<F: Files>(
 
 // Reads the clock of the zone whose file has this path.
 fn clock_of_path<F: Files>(alloc: Global, files: &mut F, path: &str) -> Result<Clock, Failure>
-    ensures clock { IfOk result (IsClockIn (F.held files.old path.now)) }
-    ensures none { IfErr result (RejectsPath (F.held files.old) path.now) }
+    ensures read { clock_of_file (F.held files.old path.now) (File path.now) result }
     ensures same { F.held files.new ≡ F.held files.old }
 {
-    match read_file(alloc, files, path) {
-        Ok(bytes) => clock_of_bytes(alloc, bytes.as_slice()),
-        Err(fault) if fault.kind() == ErrorKind::OutOfMemory => {
-            Err(Failure::Run(RunFault::NoMemory))
-        }
-        Err(_) => Err(Failure::File(Text::new(String::from_str(alloc, path)?))),
-    }
+    let bytes = read_path(alloc, files, path)?;
+    clock_of_bytes(alloc, bytes.as_slice())
 }
 
 // Reads the clock of the system's zone with this name.
 fn clock_of_name<F: Files>(alloc: Global, files: &mut F, name: &str) -> Result<Clock, Failure>
-    ensures clock { IfOk result (IsClockIn (F.held files.old (zone_path name.now))) }
-    ensures none { IfErr result (RejectsName (F.held files.old (zone_path name.now))) }
+    ensures read { clock_of_file (F.held files.old (zone_path name.now)) (Zone NoSuchZone) result }
     ensures same { F.held files.new ≡ F.held files.old }
 {
     let path = zone_path(alloc, name)?;
-    clock_of_system(alloc, files, path.as_str())
-}
-
-// Reads the clock of the system's zone whose file has this path.
-fn clock_of_system<F: Files>(alloc: Global, files: &mut F, path: &str) -> Result<Clock, Failure>
-    ensures clock { IfOk result (IsClockIn (F.held files.old path.now)) }
-    ensures none { IfErr result (RejectsName (F.held files.old path.now)) }
-    ensures same { F.held files.new ≡ F.held files.old }
-{
-    match read_file(alloc, files, path) {
-        Ok(bytes) => clock_of_bytes(alloc, bytes.as_slice()),
-        Err(fault) if fault.kind() == ErrorKind::OutOfMemory => {
-            Err(Failure::Run(RunFault::NoMemory))
-        }
-        Err(_) => Err(Failure::Zone(ZoneFault::NoSuchZone)),
-    }
+    let unread = Failure::Zone(ZoneFault::NoSuchZone);
+    let bytes = read_file(alloc, files, path.as_str(), unread)?;
+    clock_of_bytes(alloc, bytes.as_slice())
 }
 
 // Reads the clock of the zone whose file has these bytes.
 fn clock_of_bytes(alloc: Global, bytes: &[u8]) -> Result<Clock, Failure>
-    ensures clock { IfOk result (IsClockOf bytes.now) }
-    ensures none { IfErr result (RejectsBytes bytes.now) }
+    ensures { clock_of_bytes bytes.now result }
 {
     match read_zone(alloc, bytes) {
         Ok(clock) => Ok(clock),

@@ -187,6 +187,17 @@ impl<T: Drop> From<AllocFailed<T>> for Failure {
     }
 }
 
+impl From<RunFault> for Failure {
+    ghost use Rattle.std.specs.Prelude.{◌≡◌};
+    ghost use Rattle.agenda_faults.specs.declared.faults.Failure.TheVariants.{Run};
+
+    ghost from_gives = { λ fault failure. failure ≡ Run fault };
+
+    fn from(fault: RunFault) -> Failure {
+        Failure::Run(fault)
+    }
+}
+
 // Running out of memory for a zone is always the same error.
 impl From<ZoneFault> for Failure {
     ghost use Rattle.std.specs.Prelude.{◌≡◌};

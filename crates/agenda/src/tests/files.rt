@@ -1,5 +1,5 @@
 //! Files that give some bytes per call, and fail if a test requires it.
-use agenda_answers::{Files, read_file};
+use agenda_answers::{Files, read_front};
 use std::alloc::Global;
 use std::io::{self, ErrorKind, Read};
 use std::process::Abort;
@@ -53,22 +53,21 @@ impl<'a> FewFiles<'a> {
     }
 }
 
-impl<'a> Files for FewFiles<'a> {
+impl Files for FewFiles<'_> {
     ghost use Rattle.agenda_answers.specs.Files.{unknown};
-
-    type File = LimitedFile<'a>;
 
     ghost held = { λ _ _. unknown };
 
-    fn open(&mut self, path: &str) -> io::Result<LimitedFile<'a>> {
+    fn front(&mut self, alloc: Global, path: &str, most: u64) -> io::Result<Vec<u8>> {
         self.opened = self.opened.saturating_add(1);
         for (name, bytes) in self.files {
             if *name == path {
-                return Ok(LimitedFile {
+                let file = LimitedFile {
                     bytes,
                     at_a_call: self.at_a_call,
                     fails: self.fails,
-                });
+                };
+                return read_front(alloc, file, most);
             }
         }
         Err(io::Error::from(ErrorKind::NotFound))
@@ -79,21 +78,19 @@ impl<'a> Files for FewFiles<'a> {
 #[derive(Drop)]
 struct KnownFiles<'a>(&'a [u8]);
 
-impl<'a> Files for KnownFiles<'a> {
+impl Files for KnownFiles<'_> {
     ghost use Rattle.std.specs.Prelude.{Some, false};
-
-    type File = &'a [u8];
 
     ghost held = { λ files _. record { bytes = Some files.0.now; is_readable = false } };
 
-    fn open(&mut self, _path: &str) -> io::Result<&'a [u8]> {
-        Ok(self.0)
+    fn front(&mut self, alloc: Global, _path: &str, most: u64) -> io::Result<Vec<u8>> {
+        read_front(alloc, self.0, most)
     }
 }
 
 #[test]
 fn bytes_that_contracts_know(rt: HostRuntime) -> Result<(), Fail> {
-    let bytes = read_file(rt.alloc(), &mut KnownFiles(b"take\n"), "any")?;
+    let bytes = KnownFiles(b"take\n").front(rt.alloc(), "any", 9)?;
     assert_eq!(rt; bytes.as_slice(), b"take\n".as_slice());
     Ok(())
 }
@@ -107,7 +104,7 @@ fn read_of(
     path: &str,
 ) -> io::Result<Vec<u8>> {
     let held = [("a", bytes)];
-    read_file(alloc, &mut FewFiles::new(&held, at_a_call, fails), path)
+    FewFiles::new(&held, at_a_call, fails).front(alloc, path, 1_048_577)
 }
 
 #[test]

@@ -1,14 +1,17 @@
-use Rattle.std.proofs.Common.{◌≡◌, IfErr, IfOk, subst, ◌∙◌}
-use Rattle.plan_zones.specs.ZoneTexts.{zone_path}
-use Rattle.agenda_answers.specs.Zone.{IsClockIn, RejectsName}
+use Rattle.std.proofs.Common.{inl, refl}
+use Rattle.agenda_faults.specs.declared.faults.RunFault.TheVariants as run
+use Rattle.agenda_faults.specs.declared.faults.Failure.TheVariants.{Run}
+use Rattle.agenda_answers.specs.Steps.{goes}
+use Rattle.agenda_answers.proofs.StepLemmas.{failed}
 use Rattle.agenda_answers.proofs.zone.clock_of_name.Goals as goal
 
-pub returns-clause-clock : goal.returns-clause-clock
-returns-clause-clock g c =
-    let path : c.as_str.result.now ≡ zone_path c.args.name.now = c.as_str.ensures ∙ c.in_ok-path.ensures in
-    subst (λ p. IfOk c.clock_of_system.result (IsClockIn (g.F.Files.held c.args.files.now p))) path c.clock_of_system.ensures.clock
+pub returns-in_err-path-clause-read : goal.returns-in_err-path-clause-read
+returns-in_err-path-clause-read g c = failed _ (Run run.NoMemory) (inl refl) c.from_residual.ensures.1
 
-pub returns-clause-none : goal.returns-clause-none
-returns-clause-none g c =
-    let path : c.as_str.result.now ≡ zone_path c.args.name.now = c.as_str.ensures ∙ c.in_ok-path.ensures in
-    subst (λ p. IfErr c.clock_of_system.result (RejectsName (g.F.Files.held c.args.files.now p))) path c.clock_of_system.ensures.none
+pub returns-in_err-bytes-clause-read : goal.returns-in_err-bytes-clause-read
+returns-in_err-bytes-clause-read g c =
+    failed _ _ (rw (c.as_str.ensures, c.in_ok-path.ensures) at c.in_err-bytes.ensures.read) c.from_residual-in_err-bytes.ensures.1
+
+pub returns-clause-read : goal.returns-clause-read
+returns-clause-read g c =
+    goes _ (rw (c.as_str.ensures, c.in_ok-path.ensures) at c.in_ok-bytes.ensures.read) (rw c.as_slice.ensures at c.clock_of_bytes.ensures)
