@@ -4,7 +4,7 @@ use Rattle.agenda_sources.specs.declared.Source.{Source}
 use Rattle.agenda_sources.specs.declared.SourcePath.{SourcePath}
 use Rattle.agenda_sources.specs.Name.{file_name}
 use Rattle.agenda_faults.specs.declared.faults.Failure.TheVariants.{File}
-use Rattle.agenda_answers.specs.declared.sources.Input.{Input}
+use Rattle.agenda_commands.specs.declared.Input.{Input}
 use Rattle.agenda_answers.specs.Files.{Held, front_of}
 use Rattle.agenda_answers.specs.Steps.{Step, gives, ◌>>=◌}
 use Rattle.agenda_answers.specs.Zone.{clock_of}

@@ -190,15 +190,7 @@ fn plan<R: Threads + Wait + Sync, F: Files, S: Stream>(
 {
     let span = span_between(&request.since, &request.upto)?;
     let input = read_input(alloc, files, &request.zone, &request.sources)?;
-    run_plan(
-        rt,
-        alloc,
-        &input.sources,
-        &input.clock,
-        span,
-        request.sizes,
-        out,
-    )?;
+    run_plan(rt, alloc, &input, span, request.sizes, out)?;
     Ok(DONE)
 }
 
@@ -215,7 +207,7 @@ fn upcoming<F: Files, S: Stream>(
 {
     let moment = moment_after(after)?;
     let input = read_input(alloc, files, zone, paths)?;
-    run_upcoming(alloc, &input.sources, &input.clock, moment, out)?;
+    run_upcoming(alloc, &input, moment, out)?;
     Ok(DONE)
 }
 
@@ -232,16 +224,7 @@ fn quiet<R: Threads + Wait + Sync, F: Files, S: Stream>(
 {
     let span = span_between(&request.since, &request.upto)?;
     let input = read_input(alloc, files, &request.zone, &request.sources)?;
-    run_quiet(
-        rt,
-        alloc,
-        &input.sources,
-        &input.clock,
-        span,
-        request.sizes,
-        least,
-        out,
-    )?;
+    run_quiet(rt, alloc, &input, span, request.sizes, least, out)?;
     Ok(DONE)
 }
 
@@ -256,7 +239,7 @@ fn check<F: Files, S: Stream>(
     ensures { Leaves S.takes_all (check_ends (F.held files.old) zone.now paths.now) result (S.holds out.old) (S.holds out.new) }
 {
     let input = read_input(alloc, files, zone, paths)?;
-    let verdict = run_check(alloc, paths.as_slice(), &input.sources, &input.clock, out)?;
+    let verdict = run_check(alloc, paths.as_slice(), &input, out)?;
     Ok(status_on(verdict))
 }
 

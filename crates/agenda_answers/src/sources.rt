@@ -5,20 +5,11 @@ ghost use Rattle.agenda_answers.specs.Sources.{input_of, source_of, sources_of};
 
 use crate::files::{Files, read_path};
 use crate::zone::read_clock;
+use agenda_commands::Input;
 use agenda_faults::Failure;
 use agenda_sources::{Source, SourcePath, SourcePaths, Sources, file_name};
-use plan_clock::Clock;
 use plan_rules::Text;
 use std::alloc::Global;
-
-/// What jobs are made from: their sources, and the clock of the time zone of their rules.
-#[derive(Drop)]
-pub(crate) struct Input {
-    /// The clock of the zone.
-    pub clock: Clock,
-    /// The sources, in the order of their paths.
-    pub sources: Sources,
-}
 
 /// Reads the clock of the zone that a text gives, then the sources with these paths, in order, each path once.
 ///

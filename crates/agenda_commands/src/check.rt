@@ -7,10 +7,10 @@ ghost use Rattle.agenda_sources.specs.Findings.{is_all_clean, sources_findings};
 ghost use Rattle.agenda_commands.specs.Command.{Outputs};
 ghost use Rattle.agenda_commands.specs.Check.{check_output, sources_verdict, verdict_of};
 
+use crate::input::Input;
 use agenda_faults::RunFault;
-use agenda_sources::{Found, SourcePath, Sources, findings_of_sources};
+use agenda_sources::{Found, SourcePath, findings_of_sources};
 use plan_check::What;
-use plan_clock::Clock;
 use plan_streams::Stream;
 use plan_write::write_findings;
 use std::alloc::Global;
@@ -37,14 +37,13 @@ pub enum Verdict {
 pub fn run_check<S: Stream>(
     alloc: Global,
     paths: &[SourcePath],
-    sources: &Sources,
-    clock: &Clock,
+    input: &Input,
     out: &mut S,
 ) -> Result<Verdict, RunFault>
-    ensures verdict { IfOk result (λ verdict. verdict ≡ sources_verdict sources.now) }
-    ensures output { Outputs S.takes_all (check_output clock.now paths.now sources.now) result (S.holds out.old) (S.holds out.new) }
+    ensures verdict { IfOk result (λ verdict. verdict ≡ sources_verdict input.now.sources) }
+    ensures output { Outputs S.takes_all (check_output input.now.clock paths.now input.now.sources) result (S.holds out.old) (S.holds out.new) }
 {
-    let found = findings_of_sources(alloc, sources, clock)?;
+    let found = findings_of_sources(alloc, &input.sources, &input.clock)?;
     write_findings(paths, found.as_slice(), out)?;
     Ok(verdict_on(found.as_slice()))
 }

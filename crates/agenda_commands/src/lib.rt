@@ -9,6 +9,7 @@
 #![tactic(auto)]
 
 mod check;
+mod input;
 mod next;
 mod plan;
 mod quiet;
@@ -16,6 +17,7 @@ mod script;
 mod upcoming;
 
 pub use check::{Verdict, run_check};
+pub use input::Input;
 pub use next::run_next;
 pub use plan::run_plan;
 pub use quiet::run_quiet;

@@ -6,9 +6,9 @@ ghost use Rattle.agenda_faults.specs.Faults.{fault_of_sources};
 ghost use Rattle.agenda_commands.specs.Command.{Outputs};
 ghost use Rattle.agenda_commands.specs.Quiet.{quiet_output};
 
+use crate::input::Input;
 use agenda_faults::RunFault;
-use agenda_sources::{Sources, jobs_of_sources};
-use plan_clock::Clock;
+use agenda_sources::jobs_of_sources;
 use plan_collect::{Sizes, Span};
 use plan_streams::Stream;
 use plan_threads::{NoGate, plan};
@@ -27,23 +27,22 @@ use std::thread::Threads;
 pub fn run_quiet<R: Threads + Wait + Sync, S: Stream>(
     rt: &R,
     alloc: Global,
-    sources: &Sources,
-    clock: &Clock,
+    input: &Input,
     span: Span,
     sizes: Sizes,
     least: u32,
     out: &mut S,
 ) -> Result<(), RunFault>
-    ensures output { Outputs S.takes_all (quiet_output clock.now sources.now span sizes least) result (S.holds out.old) (S.holds out.new) }
+    ensures output { Outputs S.takes_all (quiet_output input.now.clock input.now.sources span sizes least) result (S.holds out.old) (S.holds out.new) }
 
     // These errors are found before any memory is allocated.
     ensures bad_least { least ≡ 0 → result ≡ Err RunFault.BadLeast }
-    ensures at_once { 1 ≤ least → IfSome (fault_at_once sources.now) (λ fault. result ≡ Err (fault_of_sources fault)) }
+    ensures at_once { 1 ≤ least → IfSome (fault_at_once input.now.sources) (λ fault. result ≡ Err (fault_of_sources fault)) }
 {
     if least == 0 {
         return Err(RunFault::BadLeast);
     }
-    let jobs = jobs_of_sources(alloc, sources, clock)?;
+    let jobs = jobs_of_sources(alloc, &input.sources, &input.clock)?;
     let agenda = plan(rt, alloc, &jobs, span, sizes, &NoGate)?;
     write_quiet(&agenda, u64::from(least), out)?;
     Ok(())

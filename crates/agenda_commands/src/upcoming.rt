@@ -6,9 +6,9 @@ ghost use Rattle.agenda_faults.specs.Faults.{fault_of_sources};
 ghost use Rattle.agenda_commands.specs.Command.{Fails, Writes};
 ghost use Rattle.agenda_commands.specs.Upcoming.{IsTextOfUpcoming, RefusesUpcoming};
 
+use crate::input::Input;
 use agenda_faults::RunFault;
-use agenda_sources::{Sources, jobs_of_sources};
-use plan_clock::Clock;
+use agenda_sources::jobs_of_sources;
 use plan_streams::Stream;
 use plan_write::{Upcoming, write_upcoming};
 use std::alloc::Global;
@@ -25,19 +25,18 @@ use std::alloc::Global;
 /// failed, which then accepted the first bytes of the text.
 pub fn run_upcoming<S: Stream>(
     alloc: Global,
-    sources: &Sources,
-    clock: &Clock,
+    input: &Input,
     after: u64,
     out: &mut S,
 ) -> Result<(), RunFault>
-    ensures written { OnOk result (Writes (IsTextOfUpcoming clock.now sources.now after) (S.holds out.old) (S.holds out.new)) }
-    ensures refused { IfErr result (λ fault. Fails S.takes_all (IsTextOfUpcoming clock.now sources.now after) (RefusesUpcoming clock.now sources.now) fault
+    ensures written { OnOk result (Writes (IsTextOfUpcoming input.now.clock input.now.sources after) (S.holds out.old) (S.holds out.new)) }
+    ensures refused { IfErr result (λ fault. Fails S.takes_all (IsTextOfUpcoming input.now.clock input.now.sources after) (RefusesUpcoming input.now.clock input.now.sources) fault
         (S.holds out.old) (S.holds out.new)) }
 
     // These errors are found before any memory is allocated.
-    ensures at_once { IfSome (fault_at_once sources.now) (λ fault. result ≡ Err (fault_of_sources fault)) }
+    ensures at_once { IfSome (fault_at_once input.now.sources) (λ fault. result ≡ Err (fault_of_sources fault)) }
 {
-    let jobs = jobs_of_sources(alloc, sources, clock)?;
+    let jobs = jobs_of_sources(alloc, &input.sources, &input.clock)?;
     let upcoming = Upcoming::new(alloc, &jobs, after)?;
     write_upcoming(&upcoming, &jobs, out)?;
     Ok(())
