@@ -25,7 +25,8 @@ sources_more held [] sources given source are is =
 sources_more held (p ∷ paths) sources given source (stops failure none same) is = absurd cc
 sources_more held (p ∷ paths) sources given source (goes first read (goes others are same)) is =
     let all : sources ≡ first ∷ others = cc in
-    goes first read (goes (others ++ source ∷ []) (sources_more held paths others given source are is) (ap (λ l. Ok (l ++ source ∷ [])) all))
+    goes first read (goes (others ++ source ∷ []) (sources_more held paths others given source are is)
+    (ap (λ l. Ok (l ++ source ∷ [])) all))
 sources_more held (p ∷ paths) sources given source (goes first read (stops failure none same)) is = absurd cc
 
 -- a source after them that isn't read

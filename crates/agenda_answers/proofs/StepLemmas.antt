@@ -69,7 +69,8 @@ pub stopped :
     (old new : Option (List ℕ)) → Fails takes_all P R fault old new → IsErrAnd result (λ found. found ≡ Run fault) →
     Leaves takes_all (prints P R) result old new
 stopped P R takes_all result fault old new fails passed =
-    stopped_as P (λ printed. P printed.text × (printed.status ≡ 0)) R takes_all result fault old new (λ text is. (0, (is, refl))) fails passed
+    stopped_as P (λ printed. P printed.text × (printed.status ≡ 0)) R takes_all result fault old new (λ text is. (0, (is, refl))) fails
+    passed
 
 -- a command failed, and more is known of its error
 pub fails_more :

@@ -30,7 +30,8 @@ pub fn run_upcoming<S: Stream>(
     out: &mut S,
 ) -> Result<(), RunFault>
     ensures written { OnOk result (Writes (IsTextOfUpcoming input.now.clock input.now.sources after) (S.holds out.old) (S.holds out.new)) }
-    ensures refused { IfErr result (λ fault. Fails S.takes_all (IsTextOfUpcoming input.now.clock input.now.sources after) (RefusesUpcoming input.now.clock input.now.sources) fault
+    ensures refused { IfErr result (λ fault. Fails S.takes_all (IsTextOfUpcoming input.now.clock input.now.sources after)
+        (RefusesUpcoming input.now.clock input.now.sources) fault
         (S.holds out.old) (S.holds out.new)) }
 
     // These errors are found before any memory is allocated.

@@ -58,7 +58,8 @@ clean_append [] ys = refl
 clean_append (x ∷ xs) ys =
     ap (λ (b : Bool). is_warning x.what && b) (clean_append xs ys) ∙ and_assoc (is_warning x.what) (is_clean xs) (is_clean ys)
 
-warned_clean : (is_so : Bool) (line : ℕ) (warning : Warning) (more : List Finding) → is_clean (found_if is_so line (Warned warning) ++ more) ≡ is_clean more
+warned_clean : (is_so : Bool) (line : ℕ) (warning : Warning) (more : List Finding) → is_clean
+    (found_if is_so line (Warned warning) ++ more) ≡ is_clean more
 warned_clean true line warning more = refl
 warned_clean false line warning more = refl
 
@@ -91,7 +92,8 @@ named_findings line a b =
 
 abbrev named_after : List Change → (a b : Bool) → List (List ℕ) → List ℕ → KnownNames
 named_after clock a b added name =
-    cond a (known_by clock added) (cond b (known_by clock (added ++ name ∷ [])) (record { added = added; told = true; makes_jobs = true; clock = clock }))
+    cond a (known_by clock added) (cond b (known_by clock (added ++ name ∷ []))
+    (record { added = added; told = true; makes_jobs = true; clock = clock }))
 
 job_right :
     (clock : List Change) (a b : Bool) (added : List (List ℕ)) (line : ℕ) (job : JobParts) (jobs : List JobParts) (F : KnownNames →
@@ -217,7 +219,8 @@ timer_right clock false false is_so added name found clean = refl
 
 timer_wrong :
     (has a b is_so : Bool) (found : List Finding) → is_clean found ≡ false →
-    is_clean (found_if (not has) 0 (Refused NoTimerSection) ++ (named_findings 0 a b ++ (found_if is_so 0 (Warned NoEvents) ++ found))) ≡ false
+    is_clean (found_if (not has) 0 (Refused NoTimerSection) ++ (named_findings 0 a b ++ (found_if is_so 0 (Warned NoEvents) ++ found)))
+    ≡ false
 timer_wrong false a b is_so found faulty = refl
 timer_wrong true true b is_so found faulty = refl
 timer_wrong true false true is_so found faulty = warned_clean is_so 0 NoEvents found ∙ faulty
@@ -301,7 +304,8 @@ files_agree :
     is_clean (files_findings (known_by clock added) files) ≡ is_some (files_names added files)
 files_agree clock crontab timer added [] = refl
 files_agree clock crontab timer added (file ∷ more) =
-    files_after clock (names_by added (form_reading file.form file.name file.bytes)) (file_findings (known_by clock added) file) (after_file (known_by clock
+    files_after clock (names_by added (form_reading file.form file.name file.bytes)) (file_findings (known_by clock added) file)
+    (after_file (known_by clock
     added) file) more
     (form_agrees clock crontab timer added file.form file.name file.bytes) (λ next. files_agree clock crontab timer next more)
 

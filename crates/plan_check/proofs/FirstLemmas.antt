@@ -37,7 +37,8 @@ use Rattle.plan_check.specs.Warnings.{rule_warnings, never_starts, is_reboot, is
 -- ---- lines
 
 no_fault_noted :
-    (p q : Bool) (line : ℕ) (first second : Warning) → filter_map fault_of (found_if p line (Warned first) ++ found_if q line (Warned second)) ≡ []
+    (p q : Bool) (line : ℕ) (first second : Warning) → filter_map fault_of
+    (found_if p line (Warned first) ++ found_if q line (Warned second)) ≡ []
 no_fault_noted true true line first second = refl
 no_fault_noted true false line first second = refl
 no_fault_noted false true line first second = refl

@@ -45,7 +45,8 @@ found_more known names f v lines place d found next whole inside is after so_far
     let entry = f (place, v (get_or lines place d)) in
     let more = entries_left f v lines (place + 1) in
     (λ i. is i ++ entries_findings (after i) more)
-    ∙ append_assoc found (entries_findings known (cons_option entry [])) (entries_findings (after_entries known (cons_option entry [])) more)
+    ∙ append_assoc found (entries_findings known (cons_option entry []))
+    (entries_findings (after_entries known (cons_option entry [])) more)
     ∙ ap (λ left. found ++ left)
     (sym (ap (entries_findings known) (left_more f v lines place d inside) ∙ found_step known entry more))
     ∙ so_far

@@ -45,7 +45,8 @@ Ascends-row :
 Ascends-row n job [] ys none up = up
 Ascends-row n job (rule ∷ rules) ys none up =
     ascends_step (is_start rule n) (n, job) (row_from (job + 1) rules n) ys
-    (NoneBefore-append (n, job) (row_from (job + 1) rules n) ys (NoneBefore-row (n, job) n (job + 1) rules (λ k low. grind (arith, nat_tests))) (none job))
+    (NoneBefore-append (n, job) (row_from (job + 1) rules n) ys
+    (NoneBefore-row (n, job) n (job + 1) rules (λ k low. grind (arith, nat_tests))) (none job))
     (Ascends-row n (job + 1) rules ys none up)
 
 Ascends-rows : (rules : List Rule) (a k : ℕ) → Ascends (flat_map (row_from 0 rules) (range_with_len a k))

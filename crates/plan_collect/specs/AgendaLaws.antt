@@ -74,7 +74,8 @@ pub gives-of_jobs :
 gives-of_jobs jobs span limit (Err fault) is = tt
 gives-of_jobs jobs span limit (Ok made) is = go (nat_le (length (agenda (rules_of jobs) span)) limit) _ is
   where
-    go : (few : Bool) (fault : PlanFault) → cond few (Ok (planned (rules_of jobs) span)) (Err fault) ≡ Ok made → IsOfJobs (length jobs) made.entries
+    go : (few : Bool) (fault : PlanFault) → cond few (Ok (planned (rules_of jobs) span)) (Err fault) ≡ Ok made → IsOfJobs (length jobs)
+        made.entries
     go true fault is =
         let same : planned (rules_of jobs) span ≡ made = cc in
         subst (λ (m : Planned). IsOfJobs (length jobs) m.entries) same (agenda-of_jobs jobs span)

@@ -51,7 +51,8 @@ parts_of (Err fault) = []
 
 reboot_and_daily : parts_of (crontab_reading (codes "cron") User nightly) ≡ (codes "cron:3", codes "a") ∷ (codes "cron:4", codes "b") ∷ []
 unfolding is_utf8 chars lib.Utf8.encode digits lines cut_word words at_word_in_front what_reading job_reading line_reading jobs_reading
-    cut_at decimal_number set_reading rule_reading five_fields field_reading items_reading item_reading side_reading value_reading step_reading
+    cut_at decimal_number set_reading rule_reading five_fields field_reading items_reading item_reading side_reading value_reading
+    step_reading
 reboot_and_daily = refl
 
 -- the system's crontab: the user, a space and the command
@@ -60,7 +61,8 @@ parts_hourly = codes "17 * * * * root cd / && run-parts x"
 
 run_parts : parts_of (crontab_reading (codes "system") System parts_hourly) ≡ (codes "system:1", codes "root cd / && run-parts x") ∷ []
 unfolding is_utf8 chars lib.Utf8.encode digits lines cut_word words fields_in_front what_reading job_reading line_reading jobs_reading
-    cut_at decimal_number set_reading rule_reading five_fields field_reading items_reading item_reading side_reading value_reading step_reading
+    cut_at decimal_number set_reading rule_reading five_fields field_reading items_reading item_reading side_reading value_reading
+    step_reading
 run_parts = refl
 
 -- whether the first job of a text matches civil fields
@@ -72,7 +74,8 @@ first_matches other times = []
 run_parts_hourly :
     first_matches (crontab_reading (codes "system") System parts_hourly) ((0, 17) ∷ (1, 17) ∷ (0, 0) ∷ []) ≡ true ∷ true ∷ false ∷ []
 unfolding is_utf8 chars lib.Utf8.encode digits lines cut_word words fields_in_front what_reading job_reading line_reading jobs_reading
-    cut_at decimal_number set_reading rule_reading five_fields field_reading items_reading item_reading side_reading value_reading step_reading
+    cut_at decimal_number set_reading rule_reading five_fields field_reading items_reading item_reading side_reading value_reading
+    step_reading
     week_days_of at_minute
 run_parts_hourly = simp has_value-values_where
 
@@ -83,7 +86,8 @@ kept_as_written : map (λ text. parts_of (crontab_reading (codes "cron") User te
     ∷ ((codes "cron:2", codes "a\r") ∷ [])
     ∷ []
 unfolding is_utf8 chars lib.Utf8.encode digits lines cut_word words at_word_in_front what_reading job_reading line_reading jobs_reading
-    cut_at decimal_number set_reading rule_reading five_fields field_reading items_reading item_reading side_reading value_reading step_reading
+    cut_at decimal_number set_reading rule_reading five_fields field_reading items_reading item_reading side_reading value_reading
+    step_reading
 kept_as_written = refl
 
 -- invalid texts of a user, each with its error
@@ -117,7 +121,8 @@ user_refusals : map (crontab_reading (codes "cron") User)
     ∷ on 0 NotUtf8
     ∷ []
 unfolding on part is_utf8 chars lib.Utf8.encode digits lines cut_word words fields_in_front at_word_in_front what_reading job_reading
-    line_reading jobs_reading cut_at decimal_number set_reading rule_reading five_fields field_reading items_reading item_reading side_reading
+    line_reading jobs_reading cut_at decimal_number set_reading rule_reading five_fields field_reading items_reading item_reading
+    side_reading
     value_reading step_reading
 user_refusals = refl
 
@@ -126,7 +131,8 @@ user_alone :
     map (crontab_reading (codes "system") System) (codes "* * * * * root" ∷ codes "@daily root \t" ∷ codes "@daily" ∷ []) ≡
     on 1 NoCommand ∷ on 1 NoCommand ∷ on 1 NoCommand ∷ []
 unfolding on is_utf8 chars lib.Utf8.encode digits lines cut_word words fields_in_front at_word_in_front what_reading job_reading
-    line_reading jobs_reading cut_at decimal_number set_reading rule_reading five_fields field_reading items_reading item_reading side_reading
+    line_reading jobs_reading cut_at decimal_number set_reading rule_reading five_fields field_reading items_reading item_reading
+    side_reading
     value_reading step_reading
 user_alone = refl
 

@@ -49,7 +49,8 @@ job_of name what texts =
 reset_empties :
     timer_reading (codes "backup.timer") (codes "[Timer]\nOnCalendar=hourly\nOnCalendar=\nOnCalendar=daily\nOnCalendar=*-*-* 00:00:00\n") ≡
     job_of (codes "backup.timer") (codes "backup.service") (codes "daily" ∷ codes "*-*-* 00:00:00" ∷ [])
-unfolding is_utf8 chars lib.Utf8.encode lines whole_lines is_timer_name section_name setting_of key_of words cut_at decimal_number set_reading
+unfolding is_utf8 chars lib.Utf8.encode lines whole_lines is_timer_name section_name setting_of key_of words cut_at decimal_number
+    set_reading
     date_reading time_reading dated shape_reading component_number component_value component_side component_item component_items
     places_reading component_reading weekday_of weekday_reading weekday_item weekday_items weekdays_reading event_of spelled_out
     zone_dropped expression_of zoneless words_reading
@@ -59,7 +60,8 @@ reset_empties = refl
 comment_inside :
     timer_reading (codes "n.timer") (codes "[Unit]\nDescription=x\n[Timer]\nOnCalendar=Mon \\\n# note\n  12:00\nUnit=y.service\n") ≡
     job_of (codes "n.timer") (codes "y.service") (codes "Mon 12:00" ∷ [])
-unfolding is_utf8 chars lib.Utf8.encode lines whole_lines is_timer_name section_name setting_of key_of words cut_at decimal_number set_reading
+unfolding is_utf8 chars lib.Utf8.encode lines whole_lines is_timer_name section_name setting_of key_of words cut_at decimal_number
+    set_reading
     date_reading time_reading dated shape_reading component_number component_value component_side component_item component_items
     places_reading component_reading weekday_of weekday_reading weekday_item weekday_items weekdays_reading event_of spelled_out
     zone_dropped expression_of zoneless words_reading
@@ -68,7 +70,8 @@ comment_inside = refl
 -- a merged line at the end of the input
 joined_at_the_end :
     timer_reading (codes "t.timer") (codes "[Timer]\nOnCalendar=Mon \\") ≡ job_of (codes "t.timer") (codes "t.service") (codes "Mon" ∷ [])
-unfolding is_utf8 chars lib.Utf8.encode lines whole_lines is_timer_name section_name setting_of key_of words cut_at decimal_number set_reading
+unfolding is_utf8 chars lib.Utf8.encode lines whole_lines is_timer_name section_name setting_of key_of words cut_at decimal_number
+    set_reading
     date_reading time_reading dated shape_reading component_number component_value component_side component_item component_items
     places_reading component_reading weekday_of weekday_reading weekday_item weekday_items weekdays_reading event_of spelled_out
     zone_dropped expression_of zoneless words_reading
@@ -76,7 +79,8 @@ joined_at_the_end = refl
 
 -- only a `[Timer]` section
 no_events : timer_reading (codes "x.timer") (codes "[Timer]") ≡ job_of (codes "x.timer") (codes "x.service") []
-unfolding is_utf8 chars lib.Utf8.encode lines whole_lines is_timer_name section_name setting_of key_of words cut_at decimal_number set_reading
+unfolding is_utf8 chars lib.Utf8.encode lines whole_lines is_timer_name section_name setting_of key_of words cut_at decimal_number
+    set_reading
     date_reading time_reading dated shape_reading component_number component_value component_side component_item component_items
     places_reading component_reading weekday_of weekday_reading weekday_item weekday_items weekdays_reading event_of spelled_out
     zone_dropped expression_of zoneless words_reading
@@ -85,7 +89,8 @@ no_events = refl
 -- a monotonic setting with an empty value empties the list too
 monotonic_reset :
     timer_reading (codes "x.timer") (codes "[Timer]\nOnCalendar=daily\nOnBootSec=") ≡ job_of (codes "x.timer") (codes "x.service") []
-unfolding is_utf8 chars lib.Utf8.encode lines whole_lines is_timer_name section_name setting_of key_of words cut_at decimal_number set_reading
+unfolding is_utf8 chars lib.Utf8.encode lines whole_lines is_timer_name section_name setting_of key_of words cut_at decimal_number
+    set_reading
     date_reading time_reading dated shape_reading component_number component_value component_side component_item component_items
     places_reading component_reading weekday_of weekday_reading weekday_item weekday_items weekdays_reading event_of spelled_out
     zone_dropped expression_of zoneless words_reading
@@ -95,7 +100,8 @@ monotonic_reset = refl
 monotonic_value :
     timer_reading (codes "x.timer") (codes "[Timer]\nOnCalendar=daily\nOnBootSec=5min") ≡
     job_of (codes "x.timer") (codes "x.service") (codes "daily" ∷ [])
-unfolding is_utf8 chars lib.Utf8.encode lines whole_lines is_timer_name section_name setting_of key_of words cut_at decimal_number set_reading
+unfolding is_utf8 chars lib.Utf8.encode lines whole_lines is_timer_name section_name setting_of key_of words cut_at decimal_number
+    set_reading
     date_reading time_reading dated shape_reading component_number component_value component_side component_item component_items
     places_reading component_reading weekday_of weekday_reading weekday_item weekday_items weekdays_reading event_of spelled_out
     zone_dropped expression_of zoneless words_reading
@@ -106,7 +112,8 @@ other_lines :
     timer_reading (codes "x.timer")
     (codes "OnCalendar=weekly\n[Timer]\noncalendar=weekly\n OnCalendar = daily \n[Install]\nUnit=z\n[Timer]\nUnit=\nUnit=b\nUnit=c") ≡
     job_of (codes "x.timer") (codes "b") (codes "daily" ∷ [])
-unfolding is_utf8 chars lib.Utf8.encode lines whole_lines is_timer_name section_name setting_of key_of words cut_at decimal_number set_reading
+unfolding is_utf8 chars lib.Utf8.encode lines whole_lines is_timer_name section_name setting_of key_of words cut_at decimal_number
+    set_reading
     date_reading time_reading dated shape_reading component_number component_value component_side component_item component_items
     places_reading component_reading weekday_of weekday_reading weekday_item weekday_items weekdays_reading event_of spelled_out
     zone_dropped expression_of zoneless words_reading
@@ -135,7 +142,8 @@ refusals : map (λ (file : List ℕ × List ℕ). timer_reading file.0 file.1)
     ∷ Err (record { line = 2; cause = Rule (record { part = 0; cause = UnknownWord }) })
     ∷ Err (record { line = 2; cause = Rule (record { part = 5; cause = Values OutOfRange }) })
     ∷ []
-unfolding is_utf8 chars lib.Utf8.encode lines whole_lines is_timer_name section_name setting_of key_of words cut_at decimal_number set_reading
+unfolding is_utf8 chars lib.Utf8.encode lines whole_lines is_timer_name section_name setting_of key_of words cut_at decimal_number
+    set_reading
     date_reading time_reading dated shape_reading component_number component_value component_side component_item component_items
     places_reading component_reading weekday_of weekday_reading weekday_item weekday_items weekdays_reading event_of spelled_out
     zone_dropped expression_of zoneless words_reading
@@ -155,7 +163,8 @@ sixty_four_times =
 too_many_events :
     timer_of_lines (codes "x.timer") ((1, codes "[Timer]") ∷ enumerate_from 2 (sixty_four_times ++ daily ∷ [])) ≡
     Err (record { line = 66; cause = TooManyLines })
-unfolding is_utf8 chars lib.Utf8.encode lines whole_lines is_timer_name section_name setting_of key_of words cut_at decimal_number set_reading
+unfolding is_utf8 chars lib.Utf8.encode lines whole_lines is_timer_name section_name setting_of key_of words cut_at decimal_number
+    set_reading
     date_reading time_reading dated shape_reading component_number component_value component_side component_item component_items
     places_reading component_reading weekday_of weekday_reading weekday_item weekday_items weekdays_reading event_of spelled_out
     zone_dropped expression_of zoneless words_reading
@@ -182,7 +191,8 @@ starts_at (Err fault) civil = false
 either_event :
     map (λ (at : ℕ × ℕ × ℕ). starts_at (timer_reading (codes "two.timer") (codes "[Timer]\nOnCalendar=Fri 12:00\nOnCalendar=*-*-3 06:00"))
     (at_hour at.0 at.1 at.2)) ((3, 2, 6) ∷ (5, 4, 12) ∷ (5, 4, 6) ∷ []) ≡ true ∷ true ∷ false ∷ []
-unfolding is_utf8 chars lib.Utf8.encode lines whole_lines is_timer_name section_name setting_of key_of words cut_at decimal_number set_reading
+unfolding is_utf8 chars lib.Utf8.encode lines whole_lines is_timer_name section_name setting_of key_of words cut_at decimal_number
+    set_reading
     date_reading time_reading dated shape_reading component_number component_value component_side component_item component_items
     places_reading component_reading weekday_of weekday_reading weekday_item weekday_items weekdays_reading event_of spelled_out
     zone_dropped expression_of zoneless words_reading at_hour

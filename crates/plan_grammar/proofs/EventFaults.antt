@@ -93,7 +93,8 @@ time text = time_pieces (pieces 58 text)
 
 one : (given : Option (List ℕ)) (word : List ℕ) → IsTextFault (one_word given word)
 one given word =
-    err_choice _ (is_time word) _ _ (err_steps _ (time_reading word) _ (time word) (λ t. tt)) (err_steps _ (date_reading word) _ (date word) (λ d. tt))
+    err_choice _ (is_time word) _ _ (err_steps _ (time_reading word) _ (time word) (λ t. tt))
+    (err_steps _ (date_reading word) _ (date word) (λ d. tt))
 
 two : (given : Option (List ℕ)) (first second : List ℕ) → IsTextFault (two_words given first second)
 two given first second =
@@ -110,7 +111,8 @@ after_weekdays given (a ∷ b ∷ c ∷ more) = tt
 shape : (texts : List (List ℕ)) → IsTextFault (shape_reading texts)
 unfolding shape_reading
 shape [] = tt
-shape (first ∷ others) = err_choice _ (begins_with is_ascii_alphabetic first) _ _ (after_weekdays (Some first) others) (after_weekdays None (first ∷ others))
+shape (first ∷ others) = err_choice _ (begins_with is_ascii_alphabetic first) _ _ (after_weekdays (Some first) others)
+    (after_weekdays None (first ∷ others))
 
 parts : (form : ShapeText) → IsTextFault (event_of form)
 unfolding event_of
@@ -118,7 +120,8 @@ parts form =
     err_steps _ (weekdays_if_given form.weekdays) _ (maybe_weekdays form.weekdays)
     (λ a. err_steps _ (component_reading Year form.date.year) _ (values Year form.date.year)
     (λ b. err_steps _ (component_reading Month form.date.month) _ (values Month form.date.month)
-    (λ c. err_steps _ (component_reading (day_component form.date.count) form.date.day) _ (values (day_component form.date.count) form.date.day)
+    (λ c. err_steps _ (component_reading (day_component form.date.count) form.date.day) _
+    (values (day_component form.date.count) form.date.day)
     (λ d. err_steps _ (component_reading Hour form.time.hour) _ (values Hour form.time.hour)
     (λ e. err_steps _ (component_reading Minute form.time.minute) _ (values Minute form.time.minute)
     (λ f. err_steps _ (component_reading Second form.time.second) _ (values Second form.time.second) (λ g. tt)))))))

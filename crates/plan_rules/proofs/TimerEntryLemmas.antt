@@ -82,7 +82,8 @@ lines_more v lines place line inside is =
     ap (map v) (drop_more lines place line inside ∙ ap (λ first. first ∷ drop (place + 1) lines) (sym is))
 
 flat_front :
-    {A B : Type 0} (f : A → List B) (o : Option A) (xs : List A) → flat_map f (cons_option o xs) ≡ flat_map f (cons_option o []) ++ flat_map f xs
+    {A B : Type 0} (f : A → List B) (o : Option A) (xs : List A) → flat_map f (cons_option o xs) ≡ flat_map f (cons_option o [])
+    ++ flat_map f xs
 flat_front f None xs = refl
 flat_front f (Some x) xs = ap (λ first. first ++ flat_map f xs) (sym (append-nil (f x)))
 

@@ -256,7 +256,8 @@ whole_so c answer (Some fault) many stands accepted = λ given.
 
 -- if everything that the planners send was taken, everything has arrived
 pub gathers_all :
-    (task : TaskParts) (desk : Desk) → AcceptsMergings → IsGathering task desk → ((k : ℕ) → k < task.planners → taken_at (inlet_of desk.inlet) k ≡ all_notes task k) →
+    (task : TaskParts) (desk : Desk) → AcceptsMergings → IsGathering task desk →
+    ((k : ℕ) → k < task.planners → taken_at (inlet_of desk.inlet) k ≡ all_notes task k) →
     IsWhole desk.collector desk.refused
 gathers_all task desk accepts so_far all =
     let merging : IsMerging task.planners task.limit task.rules task.span so_far.history = record {

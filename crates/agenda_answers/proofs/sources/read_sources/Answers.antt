@@ -16,7 +16,8 @@ returns-in_err-source g c =
     let held = g.F.Files.held c.args.files.now in
     let within : c.loop-path.path-index < length c.args.paths.now = omega arith in
     passed_on (sources_of held c.args.paths.now) _ _ (sources_fail_at held c.args.paths.now c.loop-path.sources.items c.loop-path.path-index
-    c.path-item.result _ c.loop-path.invariant.so_far within (rw (c.loop-path.invariant.same, c.path-item.is) at c.in_err-source.ensures.read))
+    c.path-item.result _ c.loop-path.invariant.so_far within
+    (rw (c.loop-path.invariant.same, c.path-item.is) at c.in_err-source.ensures.read))
     c.from_residual.ensures.1
 
 pub returns-in_err-push : goal.returns-in_err-push

@@ -24,12 +24,14 @@ returns-then-reached-task-clause-all g c =
       end_is = c.upto-since.ensures.value;
       brought_is = ap length c.starts.ensures;
     } in
-    let stop : (c.args.task.now.sizes.limit < c.loop-piece.reached + length c.starts.result.now) ⊎ (c.args.task.now.span.upto ≤ c.upto-since.result) =
+    let stop : (c.args.task.now.sizes.limit < c.loop-piece.reached + length c.starts.result.now) ⊎
+    (c.args.task.now.span.upto ≤ c.upto-since.result) =
     elim c.then-reached-task.branch [
       | then-reached-task-via-then-reached-task w ↦ inl w.if-reached-task.true
       | then-reached-task-via-else-reached-task+then-since-upto w ↦ inr (omega (arith, c.upto-upto.ensures.value, w.if-since-upto.true))
     ] in
-    sent_all c.args.task.now.sizes.limit c.args.count c.args.job rule c.args.task.now.span.since c.args.task.now.span.upto (outlet_of c.args.outlet.now).sent sent new
+    sent_all c.args.task.now.sizes.limit c.args.count c.args.job rule c.args.task.now.span.since c.args.task.now.span.upto
+    (outlet_of c.args.outlet.now).sent sent new
     c.loop-piece.reached c.loop-piece.since c.upto-since.result (length c.starts.result.now) c.in_ok-piece.piece
     so_far.4 so_far.0 so_far.1 next stop
 
@@ -51,7 +53,8 @@ loop-piece-preserved g c =
       c.if-reached-task.false,
       ap (λ (s : SendingEnd Note). s.sender) c.send.ensures ∙ so_far.2,
       ap (λ (s : SendingEnd Note). s.ring) c.send.ensures ∙ so_far.3,
-      sent_on c.args.task.now.sizes.limit c.args.count c.args.job rule c.args.task.now.span.since c.args.task.now.span.upto (outlet_of c.args.outlet.now).sent sent new
+      sent_on c.args.task.now.sizes.limit c.args.count c.args.job rule c.args.task.now.span.since c.args.task.now.span.upto
+          (outlet_of c.args.outlet.now).sent sent new
           c.loop-piece.reached c.loop-piece.since c.upto-since.result (length c.starts.result.now) c.in_ok-piece.piece
           so_far.4 so_far.0 so_far.1 next more,
     )

@@ -17,7 +17,8 @@ loop-entry-preserved g c =
     let (taken, takes, is) = c.loop-entry.invariant.0 in (
       (
         taken ++ line,
-        takes_both g.S.Stream.holds g.S.Stream.takes_all c.new-lines.result c.loop-entry.lines c.put_gap.new.lines taken line (taken ++ line)
+        takes_both g.S.Stream.holds g.S.Stream.takes_all c.new-lines.result c.loop-entry.lines c.put_gap.new.lines taken line
+            (taken ++ line)
             takes c.put_gap.ensures refl,
         append_assoc taken line left
             ∙ ap (λ text. taken ++ text) (sym (text_at c.args.least c.loop-entry.mark c.upto-upto.result entries c.loop-entry.entry-index

@@ -11,7 +11,13 @@ use Rattle.plan_check.proofs.names.Names.add.Goals as goal
 pub returns-then-len-lt-MOST_JOBS-clause-after : goal.returns-then-len-lt-MOST_JOBS-clause-after
 returns-then-len-lt-MOST_JOBS-clause-after c =
     let kept = c.self.inside.kept in
-    let known : KnownNames = record { added = map string_bytes kept.keys; told = c.self.inside.is_told; makes_jobs = c.self.inside.makes_jobs; clock = c.self.inside.clock } in
+    let known : KnownNames = record {
+      added = map string_bytes kept.keys;
+      told = c.self.inside.is_told;
+      makes_jobs =
+          c.self.inside.makes_jobs;
+      clock = c.self.inside.clock;
+    } in
     let absent : is_added c.args.name.now known.added ≡ false =
     ap (λ (before : KnownNames). is_added c.args.name.now before.added) c.self.view_is ∙ sym c.has.ensures ∙ c.if-has.false in
     let few : nat_lt (length known.added) most_jobs ≡ true =

@@ -16,8 +16,10 @@ settle-requires g c =
     let so_far = c.loop-planner.invariant in
     let done = vec_len c.args.planners - into_iter_len c.loop-planner.planner-iterator in
     let some = so_far.6 in
-    let are : ArePlanners (task_of before.collector) (inlet_of before.inlet).rings done (c.in-Some.planner ∷ into_iter_items c.next.new.self) =
-    subst (ArePlanners (task_of before.collector) (inlet_of before.inlet).rings done) c.in-Some.ensures.steps.0 (so_far.4 done (omega arith)).0 in
+    let are : ArePlanners (task_of before.collector) (inlet_of before.inlet).rings done
+    (c.in-Some.planner ∷ into_iter_items c.next.new.self) =
+    subst (ArePlanners (task_of before.collector) (inlet_of before.inlet).rings done) c.in-Some.ensures.steps.0
+    (so_far.4 done (omega arith)).0 in
     ap (λ rings. slice_get rings (receipt_of c.join-receipt.result.0).sender) so_far.2
     ∙ planner_ring (task_of before.collector) (inlet_of before.inlet).rings done c.in-Some.planner.promise c.join-receipt.result are.0
     c.join-receipt.ensures
@@ -39,7 +41,8 @@ loop-planner-preserved-then-refused g c =
             (c.in-Some.planner ∷ into_iter_items c.next.new.self) =
             subst (ArePlanners (task_of before.collector) (inlet_of before.inlet).rings (done - 1)) c.in-Some.ensures.steps.0
             (so_far.4 (done - 1) (omega arith)).0 in
-            subst (λ n. ArePlanners (task_of before.collector) (inlet_of before.inlet).rings n (into_iter_items c.next.new.self)) earlier all.1),
+            subst (λ n. ArePlanners (task_of before.collector) (inlet_of before.inlet).rings n (into_iter_items c.next.new.self)) earlier
+            all.1),
         tt,
       )),
       tt,
@@ -68,7 +71,8 @@ loop-planner-preserved g c =
           let sent : receipt.sent ≡ all_notes (task_of before.collector) (done - 1) = planner_sent (task_of before.collector)
           (inlet_of before.inlet).rings (done - 1) c.in-Some.planner.promise c.join-receipt.result all.0 c.join-receipt.ensures
           c.if-refused.false in (
-            subst (λ n. ArePlanners (task_of before.collector) (inlet_of before.inlet).rings n (into_iter_items c.next.new.self)) earlier all.1,
+            subst (λ n. ArePlanners (task_of before.collector) (inlet_of before.inlet).rings n (into_iter_items c.next.new.self)) earlier
+                all.1,
             subst (λ r. OnOk r ((k : ℕ) → k < done → IsAccounted (inlet_of c.settle.new.self.inlet) k
                 (all_notes (task_of before.collector) k))) (sym c.and-settled.ensures)
                 (and_ok c.loop-planner.settled c.settle.result _ _
