@@ -35,7 +35,7 @@ whole_script (Some whole) bytes front = (whole, refl, sym (script_reading-take w
 -- what a run ends with depends only on the script's meaning
 run_whole :
     (bytes script : List ℕ) (end : Result Printed Failure) → script_reading script ≡ script_reading bytes →
-    prints (IsTextOfRun bytes) (RefusesRun bytes) end → prints (IsTextOfRun script) (RefusesRun script) end
+    prints 0 (IsTextOfRun bytes) (RefusesRun bytes) end → prints 0 (IsTextOfRun script) (RefusesRun script) end
 run_whole bytes script (Ok printed) same ((meaning, replies, reads, many, turn, lawful, is), zero) =
     ((meaning, replies, same ∙ reads, many, turn, lawful, is), zero)
 run_whole bytes script (Err (Run (run.Script fault))) same reads = same ∙ reads
@@ -46,7 +46,7 @@ run_whole bytes script (Err other) same none = absurd none
 -- what a run of a file's first bytes leaves is what `steps` leaves
 pub steps_left :
     (held : Held) (file bytes : List ℕ) (takes_all : Bool) (done : Result ℕ Failure) (old new : Option (List ℕ)) →
-    IsFrontOf (held file).bytes most_read bytes → Leaves takes_all (prints (IsTextOfRun bytes) (RefusesRun bytes)) done old new →
+    IsFrontOf (held file).bytes most_read bytes → Leaves takes_all (prints 0 (IsTextOfRun bytes) (RefusesRun bytes)) done old new →
     Leaves takes_all (steps_ends held file) done old new
 steps_left held file bytes takes_all done old new front left =
     let (script, whole, means) = whole_script (held file).bytes bytes front in

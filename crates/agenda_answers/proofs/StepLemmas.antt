@@ -2,12 +2,12 @@
 use Rattle.std.proofs.Common.{◌≡◌, ℕ, Bool, List, Option, Result, Ok, Err, IfErr, refl, subst, sym}
 use Rattle.std.specs.Result.{IsErrAnd}
 use Rattle.std.proofs.KnownBytes.{Keeps-refl}
-use Rattle.agenda_commands.specs.Command.{Fails, Writes}
+use Rattle.agenda_commands.specs.Command.{Fails, IsFaultOf, IsTextOf, Writes}
 use Rattle.agenda_faults.specs.declared.faults.Failure.{Failure}
 use Rattle.agenda_faults.specs.declared.faults.Failure.TheVariants.{Run}
 use Rattle.agenda_faults.specs.declared.faults.RunFault.{RunFault}
 use Rattle.agenda_faults.specs.declared.faults.RunFault.TheVariants as run
-use Rattle.agenda_answers.specs.Answer.{Leaves, Printed, prints, runs}
+use Rattle.agenda_answers.specs.Answer.{Leaves, Printed, outputs_if, prints}
 use Rattle.agenda_answers.specs.Steps.{Step, ◌>>=◌, stops, goes}
 
 -- a failure was passed on
@@ -37,53 +37,39 @@ pub went_on :
     (x : X) → step (Ok x) → Leaves takes_all (next x) done old new → Leaves takes_all (step >>= next) done old new
 went_on x is left = record { end = left.end; ends = goes x is left.ends; puts = left.puts }
 
--- a command printed a text, which it prints with this status
-pub printed_as :
-    (P : List ℕ → Type 0) (Q : Printed → Type 0) (R : RunFault → Type 0) (takes_all : Bool) (status : ℕ) (old new : Option (List ℕ)) →
-    ((text : List ℕ) → P text → Q (record { text = text; status = status })) → Writes P old new →
-    Leaves takes_all (runs Q R) (Ok status) old new
-printed_as P Q R takes_all status old new leads (text, is, appends) =
-    record { end = Ok (record { text = text; status = status }); ends = leads text is; puts = (refl, appends) }
+-- a command printed a text
+pub printed :
+    (P : List ℕ → Type 0) (R : RunFault → Type 0) (takes_all : Bool) (status : ℕ) (old new : Option (List ℕ)) → Writes P old new →
+    Leaves takes_all (prints status P R) (Ok status) old new
+printed P R takes_all status old new (text, is, appends) =
+    record { end = Ok (record { text = text; status = status }); ends = (is, refl); puts = (refl, appends) }
 
 -- a command failed, and its error was passed on
-pub stopped_as :
-    (P : List ℕ → Type 0) (Q : Printed → Type 0) (R : RunFault → Type 0) (takes_all : Bool) (result : Result ℕ Failure) (fault : RunFault)
-    (old new : Option (List ℕ)) → ((text : List ℕ) → P text → (status : ℕ) × Q (record { text = text; status = status })) →
-    Fails takes_all P R fault old new → IsErrAnd result (λ found. found ≡ Run fault) → Leaves takes_all (runs Q R) result old new
-stopped_as P Q R takes_all (Ok status) fault old new leads fails passed = absurd passed
-stopped_as P Q R takes_all (Err found) run.Device old new leads (text, is, off) passed =
-    let (status, prints) = leads text is in
-    record { end = Ok (record { text = text; status = status }); ends = prints; puts = (passed, off) }
-stopped_as P Q R takes_all (Err found) other old new leads fails passed =
+pub stopped :
+    (P : List ℕ → Type 0) (R : RunFault → Type 0) (takes_all : Bool) (status : ℕ) (result : Result ℕ Failure) (fault : RunFault)
+    (old new : Option (List ℕ)) → Fails takes_all P R fault old new → IsErrAnd result (λ found. found ≡ Run fault) →
+    Leaves takes_all (prints status P R) result old new
+stopped P R takes_all status (Ok done) fault old new fails passed = absurd passed
+stopped P R takes_all status (Err found) run.Device old new (text, is, off) passed =
+    record { end = Ok (record { text = text; status = status }); ends = (is, refl); puts = (passed, off) }
+stopped P R takes_all status (Err found) other old new fails passed =
     record { end = Err (Run other); ends = fails.0; puts = (passed, fails.1) }
 
--- the same of a command whose status is 0
-pub printed :
-    (P : List ℕ → Type 0) (R : RunFault → Type 0) (takes_all : Bool) (old new : Option (List ℕ)) →
-    Writes P old new → Leaves takes_all (prints P R) (Ok 0) old new
-printed P R takes_all old new writes =
-    printed_as P (λ printed. P printed.text × (printed.status ≡ 0)) R takes_all 0 old new (λ text is. (is, refl)) writes
+-- the same of a command that checks a number first
+pub stopped_if :
+    (number : Result ℕ RunFault) (output : Result (List ℕ) RunFault) (takes_all : Bool) (result : Result ℕ Failure) (fault : RunFault)
+    (old new : Option (List ℕ)) → Fails takes_all (IsTextOf output) (IsFaultOf output) fault old new →
+    IfErr number (λ found. fault ≡ found) → IsErrAnd result (λ found. found ≡ Run fault) →
+    Leaves takes_all (outputs_if number output) result old new
+stopped_if number output takes_all (Ok done) fault old new fails first passed = absurd passed
+stopped_if number output takes_all (Err found) run.Device old new (text, is, off) first passed =
+    record { end = Ok (record { text = text; status = 0 }); ends = (is, refl); puts = (passed, off) }
+stopped_if number output takes_all (Err found) other old new fails first passed =
+    record { end = Err (Run other); ends = (fails.0, first); puts = (passed, fails.1) }
 
-pub stopped :
-    (P : List ℕ → Type 0) (R : RunFault → Type 0) (takes_all : Bool) (result : Result ℕ Failure) (fault : RunFault)
-    (old new : Option (List ℕ)) → Fails takes_all P R fault old new → IsErrAnd result (λ found. found ≡ Run fault) →
-    Leaves takes_all (prints P R) result old new
-stopped P R takes_all result fault old new fails passed =
-    stopped_as P (λ printed. P printed.text × (printed.status ≡ 0)) R takes_all result fault old new (λ text is. (0, (is, refl))) fails
-    passed
-
--- a command failed, and more is known of its error
-pub fails_more :
-    (P : List ℕ → Type 0) (R S : RunFault → Type 0) (takes_all : Bool) (fault : RunFault) (old new : Option (List ℕ)) →
-    Fails takes_all P R fault old new → S fault → Fails takes_all P (λ other. R other × S other) fault old new
-fails_more P R S takes_all run.Device old new fails more = fails
-fails_more P R S takes_all other old new fails more = ((fails.0, more), fails.1)
-
--- the error of a command that failed
-abbrev refused : RunFault → Result (Unit {0}) RunFault
-refused fault = Err fault
-
-pub same_fault :
-    (valid : Result ℕ RunFault) (fault : RunFault) → IfErr valid (λ found. refused fault ≡ Err found) → IfErr valid (λ found. fault ≡ found)
-same_fault (Ok x) fault is = tt
-same_fault (Err found) fault is = cc
+-- an error in a number is that of a command which checks the number first
+pub same_error :
+    {A : Type 0} (number : Result ℕ RunFault) (fault : RunFault) (done : Result A RunFault) → done ≡ Err fault →
+    IfErr number (λ found. done ≡ Err found) → IfErr number (λ found. fault ≡ found)
+same_error (Ok n) fault done is same = tt
+same_error (Err found) fault done is same = cc

@@ -30,7 +30,7 @@ use Rattle.agenda_commands.specs.Check.{check_output, sources_verdict}
 use Rattle.agenda_commands.specs.Command.{IsFaultOf, IsTextOf}
 use Rattle.agenda_commands.specs.Next.{next_output, valid_count}
 use Rattle.agenda_commands.specs.Plan.{plan_output}
-use Rattle.agenda_commands.specs.Quiet.{quiet_output}
+use Rattle.agenda_commands.specs.Quiet.{quiet_output, valid_least}
 use Rattle.agenda_commands.specs.Script.{IsTextOfRun, RefusesRun}
 use Rattle.agenda_commands.specs.Upcoming.{IsTextOfUpcoming, RefusesUpcoming}
 use Rattle.plan_streams.specs.Stream.{BreaksOff, PutsOrBreaksOff}
@@ -67,48 +67,47 @@ pub record Printed : Type 0 where
   pub text : List ℕ
   pub status : ℕ
 
--- the last step of a request: a command prints a text, or is rejected
-abbrev pub runs : (Printed → Type 0) → (RunFault → Type 0) → Step Printed
-runs IsPrinted IsRefused (Ok printed) = IsPrinted printed
-runs IsPrinted IsRefused (Err (Run fault)) = IsRefused fault
-runs IsPrinted IsRefused (Err other) = ⊥
+-- the last step of a request: a command prints a text, which has this status, or is rejected
+abbrev pub prints : (status : ℕ) → (List ℕ → Type 0) → (RunFault → Type 0) → Step Printed
+prints status IsText IsRefused (Ok printed) = IsText printed.text × (printed.status ≡ status)
+prints status IsText IsRefused (Err (Run fault)) = IsRefused fault
+prints status IsText IsRefused (Err other) = ⊥
 
--- the same for a command whose status is always 0
-abbrev pub prints : (List ℕ → Type 0) → (RunFault → Type 0) → Step Printed
-prints IsText IsRefused = runs (λ printed. IsText printed.text × (printed.status ≡ 0)) IsRefused
+-- the same by the output of the command, which is its text or its first error
+abbrev pub outputs : (status : ℕ) → Result (List ℕ) RunFault → Step Printed
+outputs status output = prints status (IsTextOf output) (IsFaultOf output)
 
--- the same for a command with this output
-abbrev pub outputs : Result (List ℕ) RunFault → Step Printed
-outputs output = prints (IsTextOf output) (IsFaultOf output)
+-- the same for a command that checks a number before it requests memory, with status 0
+abbrev pub outputs_if : (number : Result ℕ RunFault) → Result (List ℕ) RunFault → Step Printed
+outputs_if number output = prints 0 (IsTextOf output) (λ fault. IsFaultOf output fault × IfErr number (λ found. fault ≡ found))
 
--- `next`: the timestamp is read first, then the zone, then the count, for which no memory is requested, and the rule
+-- `next`: the timestamp is read first, then the zone, then the count and the rule
 abbrev pub next_ends : Held → List ℕ → Option (List ℕ) → (count : ℕ) → Asked → Step Printed
 next_ends held after zone count rule = do
   moment ← moment_of After after
   clock ← clock_of held zone
-  prints (IsTextOf (next_output clock rule moment count))
-      (λ fault. IsFaultOf (next_output clock rule moment count) fault × IfErr (valid_count count) (λ found. fault ≡ found))
+  outputs_if (valid_count count) (next_output clock rule moment count)
 
 -- `plan`: the span is read first, then the zone, then the files, and then the plan is made
 abbrev pub plan_ends : Held → PlanRequest → Step Printed
 plan_ends held request = do
   span ← span_of request.since request.upto
   input ← input_of held request.zone request.sources
-  outputs (plan_output input.clock input.sources span request.sizes)
+  outputs 0 (plan_output input.clock input.sources span request.sizes)
 
 -- `upcoming`: the timestamp is read first, then the zone, then the files, and then their texts
 abbrev pub upcoming_ends : Held → List ℕ → Option (List ℕ) → List SourcePath → Step Printed
 upcoming_ends held after zone paths = do
   moment ← moment_of After after
   input ← input_of held zone paths
-  prints (IsTextOfUpcoming input.clock input.sources moment) (RefusesUpcoming input.clock input.sources)
+  prints 0 (IsTextOfUpcoming input.clock input.sources moment) (RefusesUpcoming input.clock input.sources)
 
 -- `quiet`: in the same order as `plan`
 abbrev pub quiet_ends : Held → PlanRequest → (least : ℕ) → Step Printed
 quiet_ends held request least = do
   span ← span_of request.since request.upto
   input ← input_of held request.zone request.sources
-  outputs (quiet_output input.clock input.sources span request.sizes least)
+  outputs_if (valid_least least) (quiet_output input.clock input.sources span request.sizes least)
 
 -- the exit status of `check`
 abbrev pub status_on : Verdict → ℕ
@@ -119,14 +118,13 @@ status_on Refused = refused_status
 abbrev pub check_ends : Held → Option (List ℕ) → List SourcePath → Step Printed
 check_ends held zone paths = do
   input ← input_of held zone paths
-  runs (λ printed. IsTextOf (check_output input.clock paths input.sources) printed.text
-      × (printed.status ≡ status_on (sources_verdict input.sources))) (IsFaultOf (check_output input.clock paths input.sources))
+  outputs (status_on (sources_verdict input.sources)) (check_output input.clock paths input.sources)
 
 -- `steps`: the file is read first, then the script in it is run
 abbrev pub steps_ends : Held → List ℕ → Step Printed
 steps_ends held file = do
   script ← whole_of (held file) (File file)
-  prints (IsTextOfRun script) (RefusesRun script)
+  prints 0 (IsTextOfRun script) (RefusesRun script)
 
 -- ---- the answer
 

@@ -1,10 +1,10 @@
 //! Writes the gaps in which no job of crontabs and timer files starts.
 
-ghost use Rattle.std.specs.Prelude.{◌≡◌, ◌≤◌, IfSome};
+ghost use Rattle.std.specs.Prelude.{◌≡◌, ◌≤◌, IfErr, IfSome};
 ghost use Rattle.agenda_sources.specs.AtOnce.{fault_at_once};
 ghost use Rattle.agenda_faults.specs.Faults.{fault_of_sources};
 ghost use Rattle.agenda_commands.specs.Command.{Outputs};
-ghost use Rattle.agenda_commands.specs.Quiet.{quiet_output};
+ghost use Rattle.agenda_commands.specs.Quiet.{quiet_output, valid_least};
 
 use crate::input::Input;
 use agenda_faults::RunFault;
@@ -36,7 +36,7 @@ pub fn run_quiet<R: Threads + Wait + Sync, S: Stream>(
     ensures output { Outputs S.takes_all (quiet_output input.now.clock input.now.sources span sizes least) result (S.holds out.old) (S.holds out.new) }
 
     // These errors are found before any memory is allocated.
-    ensures bad_least { least ≡ 0 → result ≡ Err RunFault.BadLeast }
+    ensures bad_least { IfErr (valid_least least) (λ fault. result ≡ Err fault) }
     ensures at_once { 1 ≤ least → IfSome (fault_at_once input.now.sources) (λ fault. result ≡ Err (fault_of_sources fault)) }
 {
     if least == 0 {

@@ -9,6 +9,7 @@ use Rattle.clap.specs.Words.{Kinds, Row, all_of, fault_of, first_of, one_of, sub
 use Rattle.clap.specs.declared.builder.value_parser.ValueParser.TheVariants as parser
 use Rattle.clap.specs.declared.error.kind.ErrorKind.{ErrorKind}
 use Rattle.clap.specs.declared.error.kind.ErrorKind.TheVariants.{DisplayHelp, DisplayVersion, OutOfMemory}
+use Rattle.plan_texts.specs.Steps.{◌>>=◌}
 use Rattle.plan_collect.specs.declared.Sizes.{Sizes}
 use Rattle.agenda_words.specs.declared.ask.Ask.{Ask}
 use Rattle.agenda_words.specs.declared.ask.Ask.TheVariants.{Next, Plan, Upcoming, Quiet, Check, Steps}
@@ -26,12 +27,6 @@ use Rattle.agenda_words.specs.Command.{agenda}
 pub data Refusal : Type 0 where
   wants_help : Refusal
   is_usage : Refusal
-
-infixl 10 ◌>>=◌
--- one step after another: the first refusal is the result (agenda)
-abbrev pub ◌>>=◌ : {X Y : Type 0} → Result X Refusal → (X → Result Y Refusal) → Result Y Refusal
-(Ok x) >>= f = f x
-(Err e) >>= f = Err e
 
 -- the value of a required option (agenda)
 abbrev pub wanted : {X : Type 0} → Option X → Result X Refusal

@@ -1,4 +1,6 @@
-use Rattle.agenda_answers.proofs.StepLemmas.{failed_first, fails_more, printed, same_fault, stopped, went_on}
+use Rattle.std.proofs.Common.{refl}
+use Rattle.agenda_commands.specs.Next.{valid_count}
+use Rattle.agenda_answers.proofs.StepLemmas.{failed_first, printed, same_error, stopped_if, went_on}
 use Rattle.agenda_answers.proofs.answers.next.Goals as goal
 
 pub returns-in_err-moment : goal.returns-in_err-moment
@@ -11,10 +13,11 @@ returns-in_err-clock g c =
 pub returns-in_err-run_next : goal.returns-in_err-run_next
 returns-in_err-run_next g c =
     went_on _ c.in_ok-moment.ensures (went_on _ c.in_ok-clock.ensures.read
-    (stopped _ _ _ _ _ _ _ (fails_more _ _ _ _ _ _ _ (rw c.from.ensures at c.in_err-run_next.ensures.output)
-    (same_fault _ _ (rw c.from.ensures at c.in_err-run_next.ensures.bad_count))) c.from_residual-in_err-run_next.ensures.1))
+    (stopped_if (valid_count c.args.count) _ _ _ _ _ _ (rw c.from.ensures at c.in_err-run_next.ensures.output)
+    (rw c.from.ensures at (same_error (valid_count c.from.result) c.in_err-run_next.field-0.0 _ refl c.in_err-run_next.ensures.bad_count))
+    c.from_residual-in_err-run_next.ensures.1))
 
 pub returns : goal.returns
 returns g c =
     went_on _ c.in_ok-moment.ensures (went_on _ c.in_ok-clock.ensures.read
-    (printed _ _ _ _ _ (rw c.from.ensures at c.in_ok-run_next.ensures.output)))
+    (printed _ _ _ _ _ _ (rw c.from.ensures at c.in_ok-run_next.ensures.output)))

@@ -9,9 +9,10 @@ returns-in_err-script g c = failed_first _ _ _ (rw c.as_str.ensures at c.in_err-
 pub returns-in_err-run_script : goal.returns-in_err-run_script
 returns-in_err-run_script g c =
     steps_left (g.F.Files.held c.args.files.now) c.args.file.now _ _ _ _ _ (rw c.as_str.ensures at c.in_ok-script.ensures.read)
-    (stopped _ _ _ _ _ _ _ (rw c.as_slice.ensures at c.in_err-run_script.ensures.refused) c.from_residual-in_err-run_script.ensures.1)
+    (stopped _ _ _ _ _ _ _ _ (rw c.as_slice.ensures at c.in_err-run_script.ensures.refused)
+    c.from_residual-in_err-run_script.ensures.1)
 
 pub returns : goal.returns
 returns g c =
     steps_left (g.F.Files.held c.args.files.now) c.args.file.now _ _ _ _ _ (rw c.as_str.ensures at c.in_ok-script.ensures.read)
-    (printed _ _ _ _ _ (rw c.as_slice.ensures at c.in_ok-run_script.ensures.written))
+    (printed _ _ _ _ _ _ (rw c.as_slice.ensures at c.in_ok-run_script.ensures.written))

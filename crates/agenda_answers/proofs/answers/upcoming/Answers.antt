@@ -11,7 +11,7 @@ returns-in_err-input g c =
 pub returns-in_err-run_upcoming : goal.returns-in_err-run_upcoming
 returns-in_err-run_upcoming g c =
     went_on _ c.in_ok-moment.ensures (went_on _ c.in_ok-input.ensures
-    (stopped _ _ _ _ _ _ _ c.in_err-run_upcoming.ensures.refused c.from_residual-in_err-run_upcoming.ensures.1))
+    (stopped _ _ _ _ _ _ _ _ c.in_err-run_upcoming.ensures.refused c.from_residual-in_err-run_upcoming.ensures.1))
 
 pub returns : goal.returns
-returns g c = went_on _ c.in_ok-moment.ensures (went_on _ c.in_ok-input.ensures (printed _ _ _ _ _ c.in_ok-run_upcoming.ensures.written))
+returns g c = went_on _ c.in_ok-moment.ensures (went_on _ c.in_ok-input.ensures (printed _ _ _ _ _ _ c.in_ok-run_upcoming.ensures.written))
