@@ -94,9 +94,11 @@ faulty.timer:2: part 5: OutOfRange\nnone.timer: NoTimerSection\n' '' 1
   writes_between "findings of four sources by one write" 1 1
   writes_run agenda check d.timer
   writes_between "no finding without a write" 0 0
-  # 1,024 bytes are the longest line that takes one write
-  writes_run agenda steps "$(yes p | tr -d '\n' | head -c 1007)"
-  writes_between "a fault line of 1,024 bytes by one write" 1 1
+  # 65,536 bytes are the longest line that takes one write; 17 of them are before and after the path
+  writes_run agenda steps "$(yes p | tr -d '\n' | head -c 65519)"
+  writes_between "an error line of 65,536 bytes by one write" 1 1
+  writes_run agenda steps "$(yes p | tr -d '\n' | head -c 65520)"
+  writes_between "an error line of 65,537 bytes by two writes" 2 2
   # these have 53, 83, 1,854, 43,256 and 3,931,258 bytes
   writes_agenda minutes 2024-01-01T00:00:00Z 0
   writes_agenda minutes 2024-01-01T00:01:00Z 1

@@ -2,7 +2,7 @@
 -- `put_script_fault`, `put_source_rule_fault`, `put_source_fault`, `put_collect_fault` and `put_zone_fault`. By
 -- the cases of the cause: `NoMemory` is ruled out, and so is `Rule` for the line of a source. In every other
 -- case the definition computes.
-use Rattle.std.proofs.Common.{◌≡◌, ◌≢◌, ℕ, List, ◌++◌, codes, decimal, refl}
+use Rattle.std.proofs.Common.{◌≡◌, ◌≢◌, ℕ, List, codes, refl}
 use Rattle.plan_rules.specs.declared.RuleCause.{RuleCause}
 use Rattle.plan_rules.specs.declared.RuleCause.TheVariants as cause
 use Rattle.agenda_script.specs.declared.fault.ScriptCause.{ScriptCause}
@@ -16,34 +16,34 @@ use Rattle.agenda_script.specs.Causes.{script_cause}
 use Rattle.plan_collect.specs.Causes.{collect_cause}
 use Rattle.plan_grammar.specs.Causes.{rule_cause}
 use Rattle.plan_rules.specs.Causes.{line_cause}
-use Rattle.agenda_faults.specs.FaultLines.{collect_line, rule_line, script_line, source_line, source_rule_line, text_of_line, text_of_part, zone_line}
+use Rattle.agenda_faults.specs.FaultLines.{caused_line, collect_line, numbered_line, rule_line, script_line, source_line, source_rule_line, text_of_line, text_of_part, zone_line}
 use Rattle.plan_zones.specs.declared.zone_fault.ZoneFault.{ZoneFault}
 use Rattle.plan_zones.specs.declared.zone_fault.ZoneFault.TheVariants as zone
 use Rattle.plan_zones.specs.Zones.{zone_fault_name}
 
 pub rule_line-refused :
     (part : ℕ) (refused : RuleCause) → refused ≢ cause.NoMemory →
-    rule_line part refused ≡ codes "agenda: rule: part " ++ (decimal part ++ (codes ": " ++ (rule_cause refused ++ codes "\n")))
+    rule_line part refused ≡ numbered_line (codes "agenda: rule: part ") part (rule_cause refused)
 rule_line-refused part cause.NoMemory not = absurd (not refl)
 rule_line-refused part other not = refl
 
 pub script_line-refused :
     (line : ℕ) (refused : ScriptCause) → refused ≢ script.NoMemory →
-    script_line line refused ≡ codes "agenda: script: line " ++ (decimal line ++ (codes ": " ++ (script_cause refused ++ codes "\n")))
+    script_line line refused ≡ numbered_line (codes "agenda: script: line ") line (script_cause refused)
 script_line-refused line script.NoMemory not = absurd (not refl)
 script_line-refused line other not = refl
 
 -- the line of a rule in a source
 pub source_rule_line-refused :
     (source : List ℕ) (line part : ℕ) (refused : RuleCause) → refused ≢ cause.NoMemory →
-    source_rule_line source line part refused ≡ text_of_part source (decimal line) (decimal part) (rule_cause refused)
+    source_rule_line source line part refused ≡ text_of_part source line part (rule_cause refused)
 source_rule_line-refused source line part cause.NoMemory not = absurd (not refl)
 source_rule_line-refused source line part other not = refl
 
 -- the line of a source
 pub source_line-refused :
     (source : List ℕ) (line : ℕ) (refused : LineCause) → refused ≢ on_line.NoMemory → ((fault : RuleFault) → refused ≢ on_line.Rule fault) →
-    source_line source line refused ≡ text_of_line source (decimal line) (line_cause refused)
+    source_line source line refused ≡ text_of_line source line (line_cause refused)
 source_line-refused source line on_line.NoMemory not no_rule = absurd (not refl)
 source_line-refused source line (on_line.Rule fault) not no_rule = absurd (no_rule fault refl)
 source_line-refused source line other not no_rule = refl
@@ -51,12 +51,12 @@ source_line-refused source line other not no_rule = refl
 -- the line of an error of a collector
 pub collect_line-refused :
     (refused : CollectFault) → refused ≢ collect.NoMemory →
-    collect_line refused ≡ codes "agenda: plan: " ++ (collect_cause refused ++ codes "\n")
+    collect_line refused ≡ caused_line (codes "agenda: plan: ") (collect_cause refused)
 collect_line-refused collect.NoMemory not = absurd (not refl)
 collect_line-refused other not = refl
 
 -- the line of a zone that can't be used
 pub zone_line-refused :
-    (refused : ZoneFault) → refused ≢ zone.NoMemory → zone_line refused ≡ codes "agenda: zone: " ++ (zone_fault_name refused ++ codes "\n")
+    (refused : ZoneFault) → refused ≢ zone.NoMemory → zone_line refused ≡ caused_line (codes "agenda: zone: ") (zone_fault_name refused)
 zone_line-refused zone.NoMemory not = absurd (not refl)
 zone_line-refused other not = refl

@@ -27,6 +27,14 @@ use Rattle.agenda_sources.specs.Name.{file_name}
 use Rattle.agenda_sources.specs.Kind.{label_of}
 use Rattle.agenda_sources.specs.declared.SourcePath.{SourcePath}
 
+-- a cause, after the text that says what it is about
+abbrev pub caused_line : List ℕ → List ℕ → List ℕ
+caused_line about cause = about ++ (cause ++ codes "\n")
+
+-- a number in decimal and a cause, after the text that says what they are about
+abbrev pub numbered_line : List ℕ → ℕ → List ℕ → List ℕ
+numbered_line about number cause = about ++ (decimal number ++ caused_line (codes ": ") cause)
+
 -- an allocation failed
 abbrev pub memory_line : List ℕ
 memory_line = codes "agenda: NoMemory\n"
@@ -34,36 +42,32 @@ memory_line = codes "agenda: NoMemory\n"
 -- the rule of `next`: its part and cause. If an allocation failed, the line has no part
 abbrev pub rule_line : ℕ → RuleCause → List ℕ
 rule_line part cause.NoMemory = memory_line
-rule_line part refused =
-    codes "agenda: rule: part " ++ (decimal part ++ (codes ": " ++ (rule_cause refused ++ codes "\n")))
+rule_line part refused = numbered_line (codes "agenda: rule: part ") part (rule_cause refused)
 
 -- a script: its line and cause. If an allocation failed, no line is named
 abbrev pub script_line : ℕ → ScriptCause → List ℕ
 script_line line script.NoMemory = memory_line
-script_line line refused =
-    codes "agenda: script: line " ++ (decimal line ++ (codes ": " ++ (script_cause refused ++ codes "\n")))
+script_line line refused = numbered_line (codes "agenda: script: line ") line (script_cause refused)
 
--- a line of a crontab or a timer file: the source's name, the line's number in decimal and the cause
-abbrev pub text_of_line : (source line cause : List ℕ) → List ℕ
-text_of_line source line cause =
-    codes "agenda: " ++ (source ++ (codes ": line " ++ (line ++ (codes ": " ++ (cause ++ codes "\n")))))
+-- an error on a line of a crontab or a timer file: the source's name, the line's number and the cause
+abbrev pub text_of_line : (source : List ℕ) → (line : ℕ) → (cause : List ℕ) → List ℕ
+text_of_line source line cause = codes "agenda: " ++ (source ++ numbered_line (codes ": line ") line cause)
 
--- a part of a rule on such a line: also the part's number in decimal
-abbrev pub text_of_part : (source line part cause : List ℕ) → List ℕ
+-- an error in a part of a rule on such a line: also the part's number
+abbrev pub text_of_part : (source : List ℕ) → (line part : ℕ) → (cause : List ℕ) → List ℕ
 text_of_part source line part cause =
-    codes "agenda: "
-    ++ (source ++ (codes ": line " ++ (line ++ (codes ": part " ++ (part ++ (codes ": " ++ (cause ++ codes "\n")))))))
+    codes "agenda: " ++ (source ++ (codes ": line " ++ (decimal line ++ numbered_line (codes ": part ") part cause)))
 
 -- a rule on a line of a crontab or a timer file. If an allocation failed, no line is named
 abbrev pub source_rule_line : List ℕ → (line part : ℕ) → RuleCause → List ℕ
 source_rule_line source line part cause.NoMemory = memory_line
-source_rule_line source line part refused = text_of_part source (decimal line) (decimal part) (rule_cause refused)
+source_rule_line source line part refused = text_of_part source line part (rule_cause refused)
 
 -- a crontab or a timer file that is rejected. If an allocation failed, no line is named
 abbrev pub source_line : List ℕ → ℕ → LineCause → List ℕ
 source_line source line on_line.NoMemory = memory_line
 source_line source line (on_line.Rule fault) = source_rule_line source line fault.part fault.cause
-source_line source line refused = text_of_line source (decimal line) (line_cause refused)
+source_line source line refused = text_of_line source line (line_cause refused)
 
 -- the name of a source in error lines: the label of its kind, or its file's name
 abbrev pub name_of : SourcePath → List ℕ
@@ -81,7 +85,7 @@ source_name sources place = name_in (slice_get sources place)
 -- an error of a collector. If an allocation failed, no cause is named
 abbrev pub collect_line : CollectFault → List ℕ
 collect_line collect.NoMemory = memory_line
-collect_line refused = codes "agenda: plan: " ++ (collect_cause refused ++ codes "\n")
+collect_line refused = caused_line (codes "agenda: plan: ") (collect_cause refused)
 
 -- a plan that was not made. If an allocation failed, no cause is named
 abbrev pub plan_line : PlanFault → List ℕ
@@ -107,15 +111,15 @@ run_line sources BadLeast = codes "agenda: quiet: BadLeast\n"
 -- a zone that can't be used. If an allocation failed, the zone is not named
 abbrev pub zone_line : ZoneFault → List ℕ
 zone_line zone.NoMemory = memory_line
-zone_line refused = codes "agenda: zone: " ++ (zone_fault_name refused ++ codes "\n")
+zone_line refused = caused_line (codes "agenda: zone: ") (zone_fault_name refused)
 
 -- what standard error gets: the text of usage unchanged, or one line
 abbrev pub fault_text : List SourcePath → Failure → List ℕ
 fault_text sources (Usage text) = text
-fault_text sources (After fault) = codes "agenda: after: " ++ (moment_cause fault ++ codes "\n")
-fault_text sources (Since fault) = codes "agenda: since: " ++ (moment_cause fault ++ codes "\n")
-fault_text sources (Upto fault) = codes "agenda: upto: " ++ (moment_cause fault ++ codes "\n")
-fault_text sources (Span fault) = codes "agenda: span: " ++ (span_cause fault ++ codes "\n")
+fault_text sources (After fault) = caused_line (codes "agenda: after: ") (moment_cause fault)
+fault_text sources (Since fault) = caused_line (codes "agenda: since: ") (moment_cause fault)
+fault_text sources (Upto fault) = caused_line (codes "agenda: upto: ") (moment_cause fault)
+fault_text sources (Span fault) = caused_line (codes "agenda: span: ") (span_cause fault)
 fault_text sources (Zone fault) = zone_line fault
 fault_text sources (Run fault) = run_line sources fault
 fault_text sources (File path) = codes "agenda: " ++ (path ++ codes ": Device\n")

@@ -1,4 +1,4 @@
-use Rattle.std.proofs.Common.{◌≡◌, decimal, ◌∙◌}
+use Rattle.std.proofs.Common.{◌≡◌}
 use Rattle.plan_grammar.specs.Causes.{rule_cause}
 use Rattle.agenda_faults.proofs.FaultLineLemmas.{rule_line-refused}
 use Rattle.agenda_faults.proofs.fault_lines.put_rule_fault.Goals as goal
@@ -8,6 +8,6 @@ returns-in-NoMemory g c = rw c.in-NoMemory.is c.put.ensures
 
 pub returns-in_default : goal.returns-in_default
 returns-in_default g c =
-    let digits : c.as_bytes-part.result.now ≡ decimal c.args.fault.part = c.as_bytes-part.ensures.value ∙ c.format.ensures.text in
-    let name : c.as_bytes.result.now ≡ rule_cause c.args.fault.cause = cc in
-    rw (rule_line-refused c.args.fault.part c.args.fault.cause c.in_default.not-NoMemory, ← digits, ← name) c.put_joined.ensures
+    let part : c.from.result ≡ c.args.fault.part = cc in
+    let name : c.name.result.now ≡ rule_cause c.args.fault.cause = cc in
+    rw (rule_line-refused c.args.fault.part c.args.fault.cause c.in_default.not-NoMemory, ← part, ← name) c.put_numbered.ensures

@@ -1,4 +1,4 @@
-use Rattle.std.proofs.Common.{◌≡◌, decimal, ◌∙◌}
+use Rattle.std.proofs.Common.{◌≡◌}
 use Rattle.agenda_script.specs.Causes.{script_cause}
 use Rattle.agenda_faults.proofs.FaultLineLemmas.{script_line-refused}
 use Rattle.agenda_faults.proofs.fault_lines.put_script_fault.Goals as goal
@@ -8,6 +8,5 @@ returns-in-NoMemory g c = rw c.in-NoMemory.is c.put.ensures
 
 pub returns-in_default : goal.returns-in_default
 returns-in_default g c =
-    let digits : c.as_bytes-line.result.now ≡ decimal c.args.fault.line = c.as_bytes-line.ensures.value ∙ c.format.ensures.text in
-    let name : c.as_bytes.result.now ≡ script_cause c.args.fault.cause = cc in
-    rw (script_line-refused c.args.fault.line c.args.fault.cause c.in_default.not-NoMemory, ← digits, ← name) c.put_joined.ensures
+    let name : c.name.result.now ≡ script_cause c.args.fault.cause = cc in
+    rw (script_line-refused c.args.fault.line c.args.fault.cause c.in_default.not-NoMemory, ← name) c.put_numbered.ensures

@@ -1,4 +1,4 @@
-use Rattle.std.proofs.Common.{◌≡◌, decimal, ◌∙◌}
+use Rattle.std.proofs.Common.{◌≡◌}
 use Rattle.plan_rules.specs.Causes.{line_cause}
 use Rattle.agenda_faults.proofs.FaultLineLemmas.{source_line-refused}
 use Rattle.agenda_faults.proofs.fault_lines.put_source_fault.Goals as goal
@@ -8,10 +8,5 @@ returns-in-NoMemory g c = rw c.in-NoMemory.is c.put.ensures
 
 pub returns-in_default : goal.returns-in_default
 returns-in_default g c =
-    let digits : c.as_bytes-line.result.now ≡ decimal c.args.fault.line = c.as_bytes-line.ensures.value ∙ c.format.ensures.text in
-    let name : c.as_bytes.result.now ≡ line_cause c.args.fault.cause = cc in
-    rw (
-      source_line-refused c.args.source.now c.args.fault.line c.args.fault.cause c.in_default.not-NoMemory c.in_default.not-Rule,
-      ← digits,
-      ← name,
-    ) c.put_line.ensures
+    let name : c.name.result.now ≡ line_cause c.args.fault.cause = cc in
+    rw (source_line-refused c.args.source.now c.args.fault.line c.args.fault.cause c.in_default.not-NoMemory c.in_default.not-Rule, ← name) c.put_source_line.ensures
