@@ -3,7 +3,8 @@ use Rattle.std.specs.Prelude.{◌≡◌, ⊤, ℕ, List, length, Ok, Err}
 use Rattle.plan_mailbox.specs.declared.replies.Reply.{Reply}
 use Rattle.plan_mailbox.specs.Reply.{RepliesInTurn}
 use Rattle.plan_mailbox.specs.History.{IsLawful, record_of}
-use Rattle.agenda_script.specs.Script.{Meaning, script_reading, replies_text}
+use Rattle.plan_write.specs.Replies.{replies_text}
+use Rattle.agenda_script.specs.Script.{Meaning, script_reading}
 use Rattle.agenda_faults.specs.declared.faults.RunFault.{RunFault}
 use Rattle.agenda_faults.specs.declared.faults.RunFault.TheVariants as run
 

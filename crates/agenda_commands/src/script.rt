@@ -9,9 +9,10 @@ ghost use Rattle.agenda_commands.specs.Command.{Fails, Writes};
 ghost use Rattle.agenda_commands.specs.Script.{IsTextOfRun, RefusesRun};
 
 use agenda_faults::RunFault;
-use agenda_script::{Script, read_script, replies_text};
+use agenda_script::{Script, read_script};
 use plan_mailbox::{Reply, Rings, Step, run_steps};
 use plan_streams::Stream;
+use plan_write::write_replies;
 use std::alloc::Global;
 
 /// Runs the steps of a script on a new mailbox, and writes one line for each reply.
@@ -31,8 +32,7 @@ pub fn run_script<S: Stream>(alloc: Global, script: &[u8], out: &mut S) -> Resul
     let Ok(replies) = replies_to(alloc, &mut mailbox, steps) else {
         return Err(RunFault::NoMemory);
     };
-    let text = replies_text(alloc, replies.as_slice())?;
-    out.put(text.as_slice())?;
+    write_replies(replies.as_slice(), out)?;
     Ok(())
 }
 

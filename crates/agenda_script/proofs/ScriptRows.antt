@@ -1,5 +1,5 @@
 -- Worked rows of scripts: what the definitions say about some examples.
--- They answer no goal of a function, but test `script_reading`, `step_on` and `replies_text`. Each row is
+-- They answer no goal of a function, but test `script_reading` and `step_on`. Each row is
 -- computed, with the definitions that it needs unfolded.
 use lib.Utf8.{encode}
 use Rattle.std.proofs.Common.{◌≡◌, [], ◌∷◌, Ok, codes, refl}
@@ -9,7 +9,7 @@ use Rattle.plan_mailbox.specs.declared.replies.Reply.TheVariants.{Sent, Full, Cl
 use Rattle.plan_texts.specs.Lines.{lines}
 use Rattle.plan_texts.specs.Text.{cut_at, decimal_number}
 use Rattle.agenda_script.specs.declared.fault.ScriptCause.TheVariants.{NotUtf8, BadLine, BadSize, TooManySteps}
-use Rattle.agenda_script.specs.Script.{fault_on, lines_reading, mailbox_line, replies_text, reply_line, script_reading, send_of, size_reading, sizes_of, step_of, step_on}
+use Rattle.agenda_script.specs.Script.{fault_on, lines_reading, mailbox_line, script_reading, send_of, size_reading, sizes_of, step_of, step_on}
 
 two_steps : script_reading (codes "mailbox 2 16\nsend 1  a\nclose 0") ≡ Ok
     (record { senders = 2; room = 16; steps = Send 1 (codes " a") ∷ Close 0 ∷ [] })
@@ -52,9 +52,3 @@ a_bad_line_after_the_last_step = refl
 the_last_step : step_on 10001 (codes "take") ≡ Ok Take
 unfolding step_on step_of
 the_last_step = refl
-
-replies_without_a_number : replies_text
-    (Sent ∷ Full (codes "c") ∷ Closed (codes "e") ∷ NoSender (codes " x") ∷ Nothing ∷ Ended ∷ Shut ∷ AlreadyShut ∷ Unknown ∷ [])
-    ≡ codes "sent\nfull c\nclosed e\nno sender  x\nnothing\nended\nshut\nalready shut\nunknown\n"
-unfolding replies_text reply_line
-replies_without_a_number = refl

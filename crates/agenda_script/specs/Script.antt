@@ -1,12 +1,10 @@
--- Scripts of steps on a mailbox: what their bytes mean, and the text of the mailbox's replies (agenda).
+-- Scripts of steps on a mailbox: what their bytes mean (agenda).
 use Rattle.std.specs.Prelude.{ℕ, ◌+◌, ◌==◌, nat_lt, if◌then◌else◌, List, [], ◌∷◌, ◌++◌, length, flat_map, codes, decimal, Option, None, Some, option_and_then, Result, Ok, Err}
 use Rattle.std.specs.List.{enumerate_from}
 use Rattle.std.specs.Option.{option_map}
 use Rattle.std.specs.Str.{bytes_eq, is_utf8}
 use Rattle.plan_mailbox.specs.declared.replies.Step.{Step}
 use Rattle.plan_mailbox.specs.declared.replies.Step.TheVariants.{Send, Take, Close}
-use Rattle.plan_mailbox.specs.declared.replies.Reply.{Reply}
-use Rattle.plan_mailbox.specs.declared.replies.Reply.TheVariants.{Sent, Full, Closed, NoSender, Took, Nothing, Ended, Shut, AlreadyShut, Unknown}
 use Rattle.plan_mailbox.specs.declared.faults.NewFault.{NewFault}
 use Rattle.plan_mailbox.specs.declared.faults.NewFault.TheVariants as new
 use Rattle.plan_mailbox.specs.Mailbox.{Mailbox, is_size, senders_of}
@@ -143,22 +141,3 @@ meaning_of script = record {
   room = (mailbox_in script).room;
   steps = script.steps.items;
 }
-
--- ---- the text of replies
-
--- the line of a reply
-unfoldable pub reply_line : Reply (List ℕ) → List ℕ
-reply_line Sent = codes "sent\n"
-reply_line (Full text) = codes "full " ++ text ++ codes "\n"
-reply_line (Closed text) = codes "closed " ++ text ++ codes "\n"
-reply_line (NoSender text) = codes "no sender " ++ text ++ codes "\n"
-reply_line (Took s text) = codes "took " ++ decimal s ++ codes " " ++ text ++ codes "\n"
-reply_line Nothing = codes "nothing\n"
-reply_line Ended = codes "ended\n"
-reply_line Shut = codes "shut\n"
-reply_line AlreadyShut = codes "already shut\n"
-reply_line Unknown = codes "unknown\n"
-
--- one line for each reply
-unfoldable pub replies_text : List (Reply (List ℕ)) → List ℕ
-replies_text replies = flat_map reply_line replies

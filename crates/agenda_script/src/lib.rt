@@ -1,14 +1,12 @@
-//! Scripts of steps on a mailbox: how their bytes are read, and the text of the mailbox's replies.
+//! Scripts of steps on a mailbox: how their bytes are read.
 //!
-//! The steps and the replies are those of plan_mailbox. plan_texts cuts lines and reads numbers. Read `reader` first.
+//! The steps are those of plan_mailbox. plan_texts cuts lines and reads numbers. Read `reader` first.
 #![tactic(auto)]
 
 mod fault;
 mod message;
 mod reader;
-mod replies;
 
 pub use fault::{ScriptCause, ScriptFault};
 pub use message::Message;
 pub use reader::{MOST_STEPS, Script, read_script};
-pub use replies::replies_text;

@@ -2,3 +2,4 @@ pub mod StampLemmas
 pub mod QuietLemmas
 pub mod QuietLaws
 pub mod NextLemmas
+pub mod ReplyRows

@@ -1,7 +1,7 @@
 -- Starts that are written one after another: for the loop of `write_next`. The starts of its rule after a time are a
 -- list, of which each turn of the loop writes one more (`listed_more`). At the end, the first `count` of them are
 -- written (`lists_all`), or all, and the line `none` (`lists_fewer`).
-use Rattle.std.proofs.Common.{◌≡◌, ℕ, zero, suc, ◌+◌, ◌<◌, ◌≤◌, true, false, List, [], ◌∷◌, ◌++◌, length, take, drop, nat_lt, codes, refl, ap, sym, ◌∙◌, arith, append_assoc, append-nil, take_all, take-append-drop, length-drop}
+use Rattle.std.proofs.Common.{◌≡◌, ℕ, zero, suc, ◌+◌, ◌<◌, ◌≤◌, true, false, List, [], ◌∷◌, ◌++◌, length, take, drop, nat_lt, codes, refl, ap, sym, ◌∙◌, arith, append_assoc, append-nil, take_all, length-drop}
 use Rattle.std.specs.List.{flat_map}
 use Rattle.std.proofs.lemmas.Bool.{lt-ltb, le-ltb}
 use Rattle.std.proofs.lemmas.List.{length-take}

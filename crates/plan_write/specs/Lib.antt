@@ -5,3 +5,4 @@ pub mod Upcoming
 pub mod Quiet
 pub mod Next
 pub mod Findings
+pub mod Replies
