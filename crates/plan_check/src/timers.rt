@@ -2,7 +2,7 @@
 
 ghost use Rattle.std.specs.Prelude.{◌≡◌, ◌++◌, [], IfOk, OnOk, Ok, map};
 ghost use Rattle.std.specs.List.{cons_option, flat_map};
-ghost use Rattle.plan_rules.specs.TimerEntries.{entry_in, parts_of_lines, shown_line, state_after, timer_entries};
+ghost use Rattle.plan_rules.specs.TimerEntries.{entry_of, line_in, parts_of_lines, shown_line, state_after, timer_entries};
 ghost use Rattle.plan_check.specs.Names.{names_after};
 ghost use Rattle.plan_check.specs.Timers.{event_findings, read_findings, timer_findings};
 
@@ -11,7 +11,9 @@ use crate::names::Names;
 use crate::report::{add_if, add_job, refuse};
 use crate::warnings::never_starts;
 use plan_clock::Clock;
-use plan_rules::{Calendar, Entry, Events, LineCause, LineFault, Rule, TimerReader, text_of};
+use plan_rules::{
+    Calendar, Entry, Events, LineCause, LineFault, Rule, TimerLine, TimerReader, text_of,
+};
 use plan_texts::whole_lines::{WholeLine, whole_lines};
 use std::alloc::{AllocError, Global};
 
@@ -91,12 +93,12 @@ fn add_line(
     line: &WholeLine,
 ) -> Result<(), AllocError>
     ensures found { OnOk result (found.new.items ≡ found.old.items
-        ++ flat_map (event_findings clock.now) (cons_option (entry_in reader.old (shown_line line.now)) [])) }
+        ++ flat_map (event_findings clock.now) (cons_option (entry_of (line_in reader.old (shown_line line.now))) [])) }
     ensures reader { OnOk result (reader.new ≡ state_after reader.old (shown_line line.now).1) }
 {
     match reader.read(alloc, line)? {
-        Some(Entry { line, read }) => add_event(alloc, found, clock, line, read),
-        None => Ok(()),
+        TimerLine::Event(Entry { line, read }) => add_event(alloc, found, clock, line, read),
+        TimerLine::Nothing | TimerLine::Empties | TimerLine::Starts(_) => Ok(()),
     }
 }
 

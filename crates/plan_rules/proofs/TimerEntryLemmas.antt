@@ -17,7 +17,8 @@ use Rattle.plan_rules.specs.FileText.{text_reading}
 use Rattle.plan_rules.specs.Job.{JobParts}
 use Rattle.plan_texts.specs.WholeLines.{whole_lines, trimmed}
 use Rattle.plan_rules.specs.Timer.{Effect, Reset, Event, Starts, Nothing, effects_from, events_from, first_unit, has_timer, inside_after, is_timer_name, job_with, section_name, timer_of_lines, timer_reading}
-use Rattle.plan_rules.specs.TimerEntries.{EventCount, TimerState, count_from, entry_by, entry_in, entries_from, events_after, lines_by_entries, parts_of_lines, state_after, timer_by_entries, timer_entries}
+use Rattle.plan_rules.proofs.TimerLemmas.{or_assoc}
+use Rattle.plan_rules.specs.TimerEntries.{EventCount, TimerState, count_from, entry_of, event_line, line_in, entries_from, events_after, lines_by_entries, parts_of_lines, state_after, timer_by_entries, timer_entries}
 
 -- an event that is read, before those that follow
 event_read :
@@ -26,7 +27,7 @@ event_read :
     ≡ unless_refused (refusals (entries_from (record { held = length held + 1; told = false }) more)) (events_after next more)) →
     (on_line number r >>= λ event. events_from (held ++ event ∷ []) more)
     ≡ unless_refused
-    (refusals (cons_option (entry_by number (Some r)) (entries_from (record { held = length held + 1; told = false }) more)))
+    (refusals (cons_option (entry_of (event_line number (Some r))) (entries_from (record { held = length held + 1; told = false }) more)))
     (events_after (held ++ cons_option (result_ok r) []) more)
 event_read number held (Ok event) more later = later (held ++ event ∷ []) (length-append held (event ∷ []))
 event_read number held (Err cause) more later = refl
@@ -37,7 +38,7 @@ event_held :
     ((next : List Calendar) → length next ≡ length held + 1 → events_from next more
     ≡ unless_refused (refusals (entries_from (record { held = length held + 1; told = false }) more)) (events_after next more)) →
     (on_line number (cond room r (Err TooManyLines)) >>= λ event. events_from (held ++ event ∷ []) more)
-    ≡ unless_refused (refusals (cons_option (entry_by number (cond room (Some r) (Some (Err TooManyLines))))
+    ≡ unless_refused (refusals (cons_option (entry_of (event_line number (cond room (Some r) (Some (Err TooManyLines)))))
     (entries_from (cond room (record { held = length held + 1; told = false }) (record { held = length held; told = true })) more)))
     (events_after (held ++ cons_option (result_ok r) []) more)
 event_held true number held r more later = event_read number held r more later
@@ -91,21 +92,17 @@ flat_front f (Some x) xs = ap (λ first. first ++ flat_map f xs) (sym (append-ni
 pub entries_step :
     {B : Type 0} (f : Entry Calendar → List B) (found next : List B) (state after : TimerState) (line : ℕ × List ℕ)
     (more : List (ℕ × List ℕ)) (whole : List B) →
-    next ≡ found ++ flat_map f (cons_option (entry_in state line) []) → after ≡ state_after state line.1 →
+    next ≡ found ++ flat_map f (cons_option (entry_of (line_in state line)) []) → after ≡ state_after state line.1 →
     found ++ flat_map f (entries_from state.count (effects_from state.inside (line ∷ more))) ≡ whole →
     next ++ flat_map f (entries_from after.count (effects_from after.inside more)) ≡ whole
 entries_step f found next state after line more whole is after_is so_far =
-    let here = entry_in state line in
+    let here = entry_of (line_in state line) in
     let rest = state_after state line.1 in
     let left = entries_from rest.count (effects_from rest.inside more) in
     (λ i. is i ++ flat_map f (entries_from (after_is i).count (effects_from (after_is i).inside more)))
     ∙ append_assoc found (flat_map f (cons_option here [])) (flat_map f left)
     ∙ ap (λ rest. found ++ rest) (sym (flat_front f here left))
     ∙ so_far
-
-or_assoc : (a b c : Bool) → (a || (b || c)) ≡ ((a || b) || c)
-or_assoc true b c = refl
-or_assoc false b c = refl
 
 -- whether there is a section
 pub section_step :

@@ -1,14 +1,18 @@
 -- A timer file that is read line by line: for the loop of `timer_of_lines`.
 -- The state and the remaining lines together mean what the whole file means (`rest_reading`): before the first line, from one
 -- line to the next, and after the last.
-use Rattle.std.proofs.Common.{◌≡◌, ℕ, ◌+◌, ◌<◌, ◌≤◌, Bool, true, false, ◌||◌, List, [], ◌∷◌, ◌++◌, length, drop, get_or, map, Option, Some, None, Result, Ok, Err, unwrap_or, refl, ap, sym, ◌∙◌}
+use Rattle.std.proofs.Common.{◌≡◌, ℕ, ◌+◌, ◌<◌, ◌≤◌, Bool, true, false, ◌||◌, cond, nat_lt, List, [], ◌∷◌, ◌++◌, length, drop, get_or, map, Option, Some, None, Ok, Err, IfOk, unwrap_or, refl, ap, sym, subst, ◌∙◌, length-append}
 use Rattle.std.proofs.lemmas.List.{drop_more, drop_all}
 use Rattle.plan_match.specs.declared.event.Calendar.{Calendar}
 use Rattle.plan_texts.specs.Steps.{◌>>=◌}
-use Rattle.plan_rules.specs.LineFaults.{LineReading, TextReading, on_line}
+use Rattle.plan_grammar.specs.Event.{event_reading}
+use Rattle.plan_rules.specs.declared.line_fault.LineCause.TheVariants.{TooManyLines}
+use Rattle.plan_rules.specs.Limits.{most_events}
+use Rattle.plan_rules.specs.LineFaults.{LineReading, TextReading, in_line, on_line}
 use Rattle.plan_rules.specs.Job.{JobParts}
-use Rattle.plan_rules.specs.Timer.{Effect, Reset, Event, Starts, Nothing, section_name, setting_of, inside_after, line_effect, effects_from, has_timer, added_event, events_from, first_unit, job_with, timer_of_lines}
-use Rattle.plan_rules.specs.TimerSteps.{Draft, after_effect, after_section, after_line}
+use Rattle.plan_rules.specs.Timer.{Effect, Reset, Event, Starts, Nothing, section_name, setting_of, inside_after, line_effect, effects_from, has_timer, events_from, first_unit, job_with, timer_of_lines}
+use Rattle.plan_rules.specs.TimerEntries.{EventCount, count_after, effect_in, event_line, line_by, state_after}
+use Rattle.plan_rules.specs.TimerSteps.{Draft, after_step, after_line, no_settings}
 
 -- ---- the unit
 
@@ -37,68 +41,102 @@ unit_step (Some unit) number other more = refl
 -- the meaning of a file, from the state and the remaining lines
 abbrev pub rest_reading : List ℕ → Draft → List (ℕ × List ℕ) → TextReading JobParts
 rest_reading name draft lines =
-    events_from draft.events (effects_from draft.inside lines)
-    >>= λ events. job_with (draft.found || has_timer lines) name (unit_from draft.unit (effects_from draft.inside lines)) events
+    events_from draft.events (effects_from draft.reader.inside lines)
+    >>= λ events. job_with (draft.reader.found || has_timer lines) name (unit_from draft.unit (effects_from draft.reader.inside lines)) events
+
+-- the count of a list of events, none of which was rejected
+abbrev pub counted : List Calendar → EventCount
+counted events = record { held = length events; told = false }
+
+-- the reader counted the events in the list
+abbrev pub IsCounted : Draft → Type 0
+IsCounted draft = draft.reader.count ≡ counted draft.events
 
 -- before the first line
 pub rest_reading-none :
-    (name : List ℕ) (lines : List (ℕ × List ℕ)) →
-    rest_reading name (record { inside = false; found = false; events = []; unit = None }) lines ≡ timer_of_lines name lines
+    (name : List ℕ) (lines : List (ℕ × List ℕ)) → rest_reading name no_settings lines ≡ timer_of_lines name lines
 rest_reading-none name lines = refl
 
-then_then : {A B C E : Type 0} (r : Result A E) (f : A → Result B E) (g : B → Result C E) → ((r >>= f) >>= g) ≡ (r >>= λ x. f x >>= g)
-then_then (Ok x) f g = refl
-then_then (Err e) f g = refl
-
-event_held :
-    {A : Type 0} (number : ℕ) (draft : Draft) (read : LineReading Calendar) (next : Draft → TextReading A) →
-    (on_line number read >>= λ event. next (record draft { events = draft.events ++ event ∷ [] })) ≡
-    (on_line number (read >>= λ event. Ok (record draft { events = draft.events ++ event ∷ [] })) >>= next)
-event_held number draft (Ok event) next = refl
-event_held number draft (Err cause) next = refl
+-- an event, whether the list is full or not
+event_step :
+    (room : Bool) (name : List ℕ) (number : ℕ) (read : LineReading Calendar) (draft : Draft) (more : List (ℕ × List ℕ)) →
+    ((on_line number (cond room read (Err TooManyLines))
+    >>= λ event. events_from (draft.events ++ event ∷ []) (effects_from draft.reader.inside more))
+    >>= λ events. job_with (draft.reader.found || has_timer more) name (unit_from draft.unit (effects_from draft.reader.inside more)) events)
+    ≡ (after_step draft (event_line number (cond room (Some read) (Some (Err TooManyLines)))) >>= λ next. rest_reading name next more)
+event_step true name number (Ok event) draft more = refl
+event_step true name number (Err cause) draft more = refl
+event_step false name number read draft more = refl
 
 -- what a line does
 effect_step :
     (name : List ℕ) (number : ℕ) (effect : Effect) (draft : Draft) (more : List (ℕ × List ℕ)) →
-    (events_from draft.events ((number, effect) ∷ effects_from draft.inside more) >>=
-    λ events. job_with (draft.found || has_timer more) name (unit_from (unit_after draft.unit effect) (effects_from draft.inside more))
-    events) ≡ (on_line number (after_effect draft effect) >>= λ next. rest_reading name next more)
+    (events_from draft.events ((number, effect) ∷ effects_from draft.reader.inside more) >>=
+    λ events. job_with (draft.reader.found || has_timer more) name
+    (unit_from (unit_after draft.unit effect) (effects_from draft.reader.inside more)) events)
+    ≡ (after_step draft (line_by number (counted draft.events) effect) >>= λ next. rest_reading name next more)
 effect_step name number Reset draft more = refl
 effect_step name number (Event text) draft more =
-    let effects = effects_from draft.inside more in
-    then_then (on_line number (added_event draft.events text)) (λ event. events_from (draft.events ++ event ∷ []) effects)
-    (λ events. job_with (draft.found || has_timer more) name (unit_from draft.unit effects) events)
-    ∙ event_held number draft (added_event draft.events text) (λ next. rest_reading name next more)
+    event_step (nat_lt (length draft.events) most_events) name number (in_line (event_reading text)) draft more
 effect_step name number (Starts unit) draft more = refl
 effect_step name number Nothing draft more = refl
 
-or_assoc : (a b c : Bool) → (a || (b || c)) ≡ ((a || b) || c)
+pub or_assoc : (a b c : Bool) → (a || (b || c)) ≡ ((a || b) || c)
 or_assoc true b c = refl
 or_assoc false b c = refl
 
 -- one more line
 pub rest_reading-line :
-    (name : List ℕ) (draft : Draft) (line : ℕ × List ℕ) (more : List (ℕ × List ℕ)) →
-    rest_reading name draft (line ∷ more) ≡ (on_line line.0 (after_line draft line.1) >>= λ next. rest_reading name next more)
-rest_reading-line name draft line more =
+    (name : List ℕ) (draft : Draft) (line : ℕ × List ℕ) (more : List (ℕ × List ℕ)) → IsCounted draft →
+    rest_reading name draft (line ∷ more) ≡ (after_line draft line >>= λ next. rest_reading name next more)
+rest_reading-line name draft line more counts =
     let section = section_name line.1 in
-    let effect = line_effect draft.inside section (setting_of line.1) in
-    let left = effects_from (inside_after draft.inside section) more in
+    let effect = line_effect draft.reader.inside section (setting_of line.1) in
+    let left = effects_from (inside_after draft.reader.inside section) more in
+    let after = record draft { reader = state_after draft.reader line.1 } in
     ap (λ (end : Bool × Option (List ℕ)). events_from draft.events ((line.0, effect) ∷ left) >>=
     λ events. job_with end.0 name end.1 events)
-    (λ i. (or_assoc draft.found (inside_after false section) (has_timer more) i, unit_step draft.unit line.0 effect left i))
-    ∙ effect_step name line.0 effect (after_section draft section) more
+    (λ i. (or_assoc draft.reader.found (inside_after false section) (has_timer more) i, unit_step draft.unit line.0 effect left i))
+    ∙ effect_step name line.0 effect after more
+    ∙ ap (λ count. after_step after (line_by line.0 count effect) >>= λ next. rest_reading name next more) (sym counts)
+
+-- an event that is added is counted
+counted_event :
+    (room : Bool) (number : ℕ) (read : LineReading Calendar) (draft : Draft) →
+    draft.reader.count ≡ cond room (record { held = length draft.events + 1; told = false }) (record { held = length draft.events; told = true }) →
+    IfOk (after_step draft (event_line number (cond room (Some read) (Some (Err TooManyLines))))) IsCounted
+counted_event true number (Ok event) draft counts =
+    counts ∙ ap (λ held. record { held = held; told = false }) (sym (length-append draft.events (event ∷ [])))
+counted_event true number (Err cause) draft counts = tt
+counted_event false number read draft counts = tt
+
+counted_step :
+    (number : ℕ) (effect : Effect) (draft : Draft) → draft.reader.count ≡ count_after (counted draft.events) effect →
+    IfOk (after_step draft (line_by number (counted draft.events) effect)) IsCounted
+counted_step number Reset draft counts = counts
+counted_step number (Event text) draft counts =
+    counted_event (nat_lt (length draft.events) most_events) number (in_line (event_reading text)) draft counts
+counted_step number (Starts unit) draft counts = counts
+counted_step number Nothing draft counts = counts
+
+-- the reader counts as many events as the list gets
+pub counted_line : (draft : Draft) (line : ℕ × List ℕ) → IsCounted draft → IfOk (after_line draft line) IsCounted
+counted_line draft line counts =
+    let effect = effect_in draft.reader line.1 in
+    let after = record draft { reader = state_after draft.reader line.1 } in
+    subst (λ (count : EventCount). IfOk (after_step after (line_by line.0 count effect)) IsCounted) (sym counts)
+    (counted_step line.0 effect after (ap (λ count. count_after count effect) counts))
 
 -- the line at a position
 pub rest_reading-more :
     {A : Type 0} (v : A → ℕ × List ℕ) (name : List ℕ) (draft : Draft) (lines : List A) (place : ℕ) (line : A) → place < length lines →
-    line ≡ get_or lines place line →
+    line ≡ get_or lines place line → IsCounted draft →
     rest_reading name draft (map v (drop place lines)) ≡
-    (on_line (v line).0 (after_line draft (v line).1) >>= λ next. rest_reading name next (map v (drop (place + 1) lines)))
-rest_reading-more v name draft lines place line inside is =
+    (after_line draft (v line) >>= λ next. rest_reading name next (map v (drop (place + 1) lines)))
+rest_reading-more v name draft lines place line inside is counts =
     ap (λ left. rest_reading name draft (map v left))
     (drop_more lines place line inside ∙ ap (λ first. first ∷ drop (place + 1) lines) (sym is))
-    ∙ rest_reading-line name draft (v line) (map v (drop (place + 1) lines))
+    ∙ rest_reading-line name draft (v line) (map v (drop (place + 1) lines)) counts
 
 or_false : (b : Bool) → (b || false) ≡ b
 or_false true = refl
@@ -111,7 +149,7 @@ unit_from-empty (Some unit) = refl
 -- after the last line
 pub rest_reading-end :
     {A : Type 0} (v : A → ℕ × List ℕ) (name : List ℕ) (draft : Draft) (lines : List A) (place : ℕ) → length lines ≤ place →
-    rest_reading name draft (map v (drop place lines)) ≡ job_with draft.found name draft.unit draft.events
+    rest_reading name draft (map v (drop place lines)) ≡ job_with draft.reader.found name draft.unit draft.events
 rest_reading-end v name draft lines place past =
     ap (λ left. rest_reading name draft (map v left)) (drop_all place lines past)
-    ∙ (λ i. job_with (or_false draft.found i) name (unit_from-empty draft.unit i) draft.events)
+    ∙ (λ i. job_with (or_false draft.reader.found i) name (unit_from-empty draft.unit i) draft.events)

@@ -4,6 +4,8 @@ use Rattle.std.specs.List.{cons_option}
 use Rattle.std.specs.Result.{result_ok}
 use Rattle.plan_match.specs.declared.event.Calendar.{Calendar}
 use Rattle.plan_rules.specs.declared.entry.Entry.{Entry}
+use Rattle.plan_rules.specs.declared.timer_events.TimerLine.{TimerLine}
+use Rattle.plan_rules.specs.declared.timer_events.TimerLine.TheVariants as does
 use Rattle.plan_rules.specs.declared.line_fault.LineCause.TheVariants.{BadTimerName, TooManyLines}
 use Rattle.plan_rules.specs.Limits.{most_events}
 use Rattle.plan_texts.specs.Steps.{◌>>=◌}
@@ -38,12 +40,30 @@ abbrev pub after_event_text : EventCount → EventCount
 after_event_text count =
     if nat_lt count.held most_events then record count { held = count.held + 1 } else record count { told = true }
 
--- the meaning of a line's event, if it has one
-abbrev pub read_by : EventCount → Effect → Option (LineReading Calendar)
-read_by count Reset = None
-read_by count (Event text) = event_by count text
-read_by count (Starts unit) = None
-read_by count Nothing = None
+-- what a line does to the job of a timer: it does nothing, empties the list of events, has an event of the list or what is wrong
+-- with it, or names the unit that is started (systemd.timer(5))
+pub data LineStep : Type 0 where
+  Idle : LineStep
+  Empties : LineStep
+  Has : Entry Calendar → LineStep
+  Names : (unit : List ℕ) → LineStep
+
+-- what the line with this number does, if an event was read of it
+abbrev pub event_line : ℕ → Option (LineReading Calendar) → LineStep
+event_line number None = Idle
+event_line number (Some reading) = Has (entry_at number reading)
+
+-- the same, by its effect
+abbrev pub line_by : ℕ → EventCount → Effect → LineStep
+line_by number count Reset = Empties
+line_by number count (Event text) = event_line number (event_by count text)
+line_by number count (Starts unit) = Names unit
+line_by number count Nothing = Idle
+
+-- the entry of a line's event, if it has one
+abbrev pub entry_of : LineStep → Option (Entry Calendar)
+entry_of (Has entry) = Some entry
+entry_of other = None
 
 -- the state after a line; a reset empties the list (systemd.timer(5), `OnCalendar=`)
 abbrev pub count_after : EventCount → Effect → EventCount
@@ -54,16 +74,11 @@ count_after count Nothing = count
 
 -- ---- all lines
 
--- the entry of the line with this number, if anything was read
-abbrev pub entry_by : ℕ → Option (LineReading Calendar) → Option (Entry Calendar)
-entry_by number None = None
-entry_by number (Some reading) = Some (entry_at number reading)
-
 -- the entries of lines, by what the lines do, from a state of the list
 abbrev pub entries_from : EventCount → List (ℕ × Effect) → List (Entry Calendar)
 entries_from count [] = []
 entries_from count ((number, effect) ∷ more) =
-    cons_option (entry_by number (read_by count effect)) (entries_from (count_after count effect) more)
+    cons_option (entry_of (line_by number count effect)) (entries_from (count_after count effect) more)
 
 -- the state after lines
 abbrev pub count_from : EventCount → List (ℕ × Effect) → EventCount
@@ -88,9 +103,16 @@ no_lines = record { inside = false; found = false; count = no_events }
 abbrev pub effect_in : TimerState → List ℕ → Effect
 effect_in state text = line_effect state.inside (section_name text) (setting_of text)
 
--- the entry of a line with its number
-abbrev pub entry_in : TimerState → ℕ × List ℕ → Option (Entry Calendar)
-entry_in state line = entry_by line.0 (read_by state.count (effect_in state line.1))
+-- what a line with its number does to the job
+abbrev pub line_in : TimerState → ℕ × List ℕ → LineStep
+line_in state line = line_by line.0 state.count (effect_in state line.1)
+
+-- the same, as the code says it
+abbrev pub line_shown : TimerLine → LineStep
+line_shown does.Nothing = Idle
+line_shown does.Empties = Empties
+line_shown (does.Event entry) = Has entry
+line_shown (does.Starts unit) = Names unit.now
 
 -- the state after a line
 abbrev pub state_after : TimerState → List ℕ → TimerState

@@ -1,5 +1,5 @@
 -- The state while the whole lines of a timer file are read, and how each line changes it.
-use Rattle.std.specs.Prelude.{ℕ, Bool, false, ◌||◌, List, [], ◌∷◌, ◌++◌, Option, Some, Ok, unwrap_or, string_bytes}
+use Rattle.std.specs.Prelude.{ℕ, false, ◌||◌, List, [], ◌∷◌, ◌++◌, Option, Some, None, Ok, unwrap_or, string_bytes}
 use Rattle.std.specs.Option.{option_map}
 use Rattle.plan_match.specs.declared.event.Calendar.{Calendar}
 use Rattle.plan_rules.specs.declared.timer_lines.LineEffect.{LineEffect}
@@ -7,8 +7,9 @@ use Rattle.plan_rules.specs.declared.timer_lines.LineEffect.TheVariants as does
 use Rattle.plan_rules.specs.declared.timer_lines.Sections.{Sections}
 use Rattle.plan_rules.specs.declared.timers.Settings.{Settings}
 use Rattle.plan_texts.specs.Steps.{◌>>=◌}
-use Rattle.plan_rules.specs.LineFaults.{LineReading}
-use Rattle.plan_rules.specs.Timer.{Effect, Reset, Event, Starts, Nothing, added_event, inside_after, line_effect, section_name, setting_of}
+use Rattle.plan_rules.specs.LineFaults.{LineReading, TextReading, on_line}
+use Rattle.plan_rules.specs.Timer.{Effect, Reset, Event, Starts, Nothing, inside_after}
+use Rattle.plan_rules.specs.TimerEntries.{TimerState, LineStep, Idle, Empties, Has, Names, line_in, no_lines, state_after}
 
 -- ---- what a line does
 
@@ -28,47 +29,41 @@ sections_after sections section = record {
 
 -- ---- the state of the settings
 
--- whether the next line is in a `[Timer]` section, whether there was one, the list of events, and the unit that was named
+-- the state between two lines: that of the reader, the list of events, and the unit that was named
 pub record Draft : Type 0 where
-  pub inside : Bool
-  pub found : Bool
+  pub reader : TimerState
   pub events : List Calendar
   pub unit : Option (List ℕ)
+
+-- the state before the first line
+abbrev pub no_settings : Draft
+no_settings = record { reader = no_lines; events = []; unit = None }
 
 -- the same, as the code keeps it
 abbrev pub draft_of : Settings → Draft
 draft_of settings = record {
-  inside = settings.sections.inside;
-  found = settings.sections.found;
+  reader = settings.reader;
   events = settings.events;
   unit = option_map (λ unit. string_bytes unit) settings.unit;
 }
 
--- the state with one more event at the end of the list
-abbrev pub after_event : Draft → List ℕ → LineReading Draft
-after_event draft text = do
-  event ← added_event draft.events text
+-- the state with an event at the end of the list
+abbrev pub after_event : Draft → LineReading Calendar → LineReading Draft
+after_event draft reading = do
+  event ← reading
   Ok (record draft { events = draft.events ++ event ∷ [] })
 
 -- the state after a unit was named: only the first one counts
 abbrev pub after_unit : Draft → List ℕ → Draft
 after_unit draft unit = record draft { unit = Some (unwrap_or draft.unit unit) }
 
--- the state after what a line does
-abbrev pub after_effect : Draft → Effect → LineReading Draft
-after_effect draft Reset = Ok (record draft { events = [] })
-after_effect draft (Event text) = after_event draft text
-after_effect draft (Starts unit) = Ok (after_unit draft unit)
-after_effect draft Nothing = Ok draft
-
--- the state after the section that a line begins
-abbrev pub after_section : Draft → Option (List ℕ) → Draft
-after_section draft section = record draft {
-  inside = inside_after draft.inside section;
-  found = draft.found || inside_after false section;
-}
+-- the state after what a line does; an event that is rejected is the error of its line
+abbrev pub after_step : Draft → LineStep → TextReading Draft
+after_step draft Idle = Ok draft
+after_step draft Empties = Ok (record draft { events = [] })
+after_step draft (Has entry) = on_line entry.line (after_event draft entry.read)
+after_step draft (Names unit) = Ok (after_unit draft unit)
 
 -- the state after a whole line
-abbrev pub after_line : Draft → List ℕ → LineReading Draft
-after_line draft text =
-    after_effect (after_section draft (section_name text)) (line_effect draft.inside (section_name text) (setting_of text))
+abbrev pub after_line : Draft → ℕ × List ℕ → TextReading Draft
+after_line draft line = after_step (record draft { reader = state_after draft.reader line.1 }) (line_in draft.reader line)

@@ -2,8 +2,9 @@
 //!
 //! Open `crontabs` first (crontab(5)), then `named_crontabs`, for crontabs with a file name, and `timers`
 //! (systemd.timer(5), systemd.syntax(7)). Each takes its text from `file_text` and makes a `job` of each rule. `jobs`
-//! is the list of all jobs, by their names. An `entry` is what one line says by itself. `timer_events` reads the entries of a timer,
-//! and `crontabs` those of a crontab, so that a caller can report all errors of a file.
+//! is the list of all jobs, by their names. An `entry` is what one line says by itself. `timer_events` reads the
+//! lines of a timer one after the other, and `crontabs` those of a crontab, so that a caller can report all errors
+//! of a file.
 //!
 //! The crate also re-exports names of three crates below it: plan_texts, plan_match and plan_grammar.
 #![tactic(auto)]
@@ -29,5 +30,5 @@ pub use named_crontabs::{CrontabDirectory, is_crontab_name, kind_in, named_cront
 pub use plan_grammar::{RuleCause, RuleFault, calendar_event, calendar_rule, cron_rule};
 pub use plan_match::{Calendar, CronRule, DayCount, Events, Rule};
 pub use plan_texts::{Text, cut, lines, number};
-pub use timer_events::{TimerReader, timer_is_its_entries};
+pub use timer_events::{TimerLine, TimerReader, timer_is_its_entries};
 pub use timers::{MOST_EVENTS, is_timer_name, timer};

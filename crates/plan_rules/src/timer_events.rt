@@ -1,4 +1,4 @@
-//! The events of a timer file, each read by itself (systemd.timer(5)).
+//! The lines of a timer file, read one after the other, each by itself (systemd.timer(5)).
 
 ghost use Rattle.std.specs.Prelude.{◌≡◌, ℕ, List, IfOk, OnOk};
 ghost use Rattle.plan_grammar.specs.Event.{event_reading};
@@ -15,6 +15,19 @@ use plan_match::Calendar;
 use plan_texts::whole_lines::{WholeLine, trimmed};
 use std::alloc::{AllocError, Global};
 use std::marker::Model;
+
+/// What a whole line of a timer file does to the timer's job (systemd.timer(5)).
+#[derive(Debug, Drop)]
+pub enum TimerLine<'a> {
+    /// Nothing.
+    Nothing,
+    /// Empties the list of events.
+    Empties,
+    /// Has an event of the list, or what is wrong with it.
+    Event(Entry<Calendar>),
+    /// Names the unit that is started.
+    Starts(&'a str),
+}
 
 /// Reads the whole lines of a timer file one after the other, each event by itself (systemd.timer(5)).
 ///
@@ -42,7 +55,7 @@ impl Model for TimerReader {
 }
 
 impl TimerReader {
-    ghost use Rattle.plan_rules.specs.TimerEntries.{after_event_text, entry_by, entry_in, event_by, no_events, no_lines, shown_line, state_after};
+    ghost use Rattle.plan_rules.specs.TimerEntries.{after_event_text, event_by, event_line, line_in, line_shown, no_events, no_lines, shown_line, state_after};
 
     /// Returns a reader that has read no line yet.
     pub fn new() -> TimerReader
@@ -69,56 +82,57 @@ impl TimerReader {
         self.held
     }
 
-    /// Reads the next whole line, and returns the entry of its event, if it has one.
+    /// Reads the next whole line, and returns what it does.
     ///
     /// # Errors
     ///
     /// Fails if an allocation fails.
-    pub fn read(
+    pub fn read<'a>(
         &mut self,
         alloc: Global,
-        line: &WholeLine,
-    ) -> Result<Option<Entry<Calendar>>, AllocError>
-        ensures entry { IfOk result (λ entry. entry ≡ entry_in self.old (shown_line line.now)) }
+        line: &'a WholeLine,
+    ) -> Result<TimerLine<'a>, AllocError>
+        ensures line { IfOk result (λ read. line_shown read ≡ line_in self.old (shown_line line.now)) }
         ensures after { OnOk result (self.new ≡ state_after self.old (shown_line line.now).1) }
     {
         match self.sections.effect(trimmed(line.text.as_str())) {
             LineEffect::Reset => {
-                self.reset();
-                Ok(None)
+                self.empty();
+                Ok(TimerLine::Empties)
             }
             LineEffect::Event(text) => self.read_event(alloc, line.number, text),
-            LineEffect::Starts(_) | LineEffect::Nothing => Ok(None),
+            LineEffect::Starts(unit) => Ok(TimerLine::Starts(unit)),
+            LineEffect::Nothing => Ok(TimerLine::Nothing),
         }
     }
 
     // Empties the list.
-    fn reset(&mut self)
+    fn empty(&mut self)
         ensures { self.new ≡ record self.old { count = record self.old.count { held = 0 } } }
     {
         self.held = 0;
     }
 
     // Reads an event, unless the list is full.
-    fn read_event(
+    fn read_event<'a>(
         &mut self,
         alloc: Global,
         number: u32,
         text: &str,
-    ) -> Result<Option<Entry<Calendar>>, AllocError>
-        ensures entry { IfOk result (λ entry. entry ≡ entry_by number (event_by self.old.count text.now)) }
+    ) -> Result<TimerLine<'a>, AllocError>
+        ensures line { IfOk result (λ read. line_shown read ≡ event_line number (event_by self.old.count text.now)) }
         ensures after { OnOk result (self.new ≡ record self.old { count = after_event_text self.old.count }) }
     {
         if self.held < MOST_EVENTS {
             let read = event_in_line(alloc, text)?;
             self.held += 1;
-            return Ok(Some(Entry { line: number, read }));
+            return Ok(TimerLine::Event(Entry { line: number, read }));
         }
         if self.told {
-            return Ok(None);
+            return Ok(TimerLine::Nothing);
         }
         self.told = true;
-        Ok(Some(Entry {
+        Ok(TimerLine::Event(Entry {
             line: number,
             read: Err(LineCause::TooManyLines),
         }))

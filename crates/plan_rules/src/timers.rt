@@ -5,18 +5,18 @@ ghost use Rattle.std.specs.List.{list_all};
 ghost use Rattle.std.specs.Option.{option_map};
 ghost use Rattle.std.specs.Str.{is_utf8};
 ghost use Rattle.plan_texts.specs.Steps.{GivesUnless};
-ghost use Rattle.plan_rules.specs.LineFaults.{of_whole, want_of_memory, IsOwnCause};
+ghost use Rattle.plan_rules.specs.LineFaults.{of_whole, on_line, want_of_memory, IsOwnCause};
 ghost use Rattle.plan_texts.specs.Lines.{is_too_large};
-ghost use Rattle.plan_texts.specs.WholeLines.{trimmed};
+ghost use Rattle.plan_rules.specs.TimerEntries.{shown_line};
 ghost use Rattle.plan_rules.specs.Timer.{is_name_byte, is_timer_name, service_name, timer_of_lines, timer_reading, job_with};
 
+use crate::entry::Entry;
 use crate::file_text::text_of;
 use crate::job::Job;
 use crate::line_fault::{LineCause, LineFault};
-use crate::timer_lines::{LineEffect, Sections};
-use plan_grammar::calendar_event;
-use plan_match::{Events, Rule};
-use plan_texts::whole_lines::{WholeLine, trimmed, whole_lines};
+use crate::timer_events::{TimerLine, TimerReader};
+use plan_match::{Calendar, Events, Rule};
+use plan_texts::whole_lines::{WholeLine, whole_lines};
 use std::alloc::{AllocError, Global};
 use std::sync::Arc;
 
@@ -101,14 +101,11 @@ fn is_name_byte(byte: u8) -> bool
 // Returns the job of the whole lines of a timer file.
 fn timer_of_lines(alloc: Global, name: &str, lines: &[WholeLine]) -> Result<Job, LineFault>
     requires { is_timer_name name.now ≡ true }
-    ensures { GivesUnless want_of_memory (λ job. job) result
-        (timer_of_lines name.now (map (λ line. (line.number, trimmed (string_bytes line.text))) lines.now)) }
+    ensures { GivesUnless want_of_memory (λ job. job) result (timer_of_lines name.now (map shown_line lines.now)) }
 {
     let mut settings = Settings::new(alloc);
     for line in lines {
-        if let Err(cause) = settings.read(alloc, trimmed(line.text.as_str())) {
-            return Err(cause.on_line(line.number));
-        }
+        settings.read(alloc, line)?;
     }
     settings.into_job(alloc, name)
 }
@@ -125,56 +122,61 @@ fn service_name(alloc: Global, name: &str) -> Result<String, AllocError>
 // The settings of a timer file that were read so far.
 #[derive(Drop)]
 struct Settings {
-    sections: Sections,
+    reader: TimerReader,
+    // The list of events, as many as the reader counted.
     events: Events,
     // The first unit that was named.
     unit: Option<String>,
 }
 
 impl Settings {
-    ghost use Rattle.plan_rules.specs.TimerSteps.{draft_of, after_event, after_line, after_unit};
+    ghost use Rattle.plan_rules.specs.TimerEntries.{shown_line};
+    ghost use Rattle.plan_rules.specs.TimerSteps.{draft_of, after_event, after_line, after_unit, no_settings};
 
     // Returns the settings before the first line.
     fn new(alloc: Global) -> Settings
-        ensures { draft_of result ≡ record { inside = false; found = false; events = []; unit = None } }
+        ensures { draft_of result ≡ no_settings }
     {
         Settings {
-            sections: Sections::new(),
+            reader: TimerReader::new(),
             events: Events::new(alloc),
             unit: None,
         }
     }
 
-    // Reads a whole line, without blanks at its ends.
-    fn read(&mut self, alloc: Global, text: &str) -> Result<(), LineCause>
-        ensures { GivesUnless LineCause.NoMemory (λ _. draft_of self.new) result (after_line (draft_of self.old) text.now) }
+    // Reads a whole line.
+    fn read(&mut self, alloc: Global, line: &WholeLine) -> Result<(), LineFault>
+        ensures { GivesUnless want_of_memory (λ _. draft_of self.new) result
+            (after_line (draft_of self.old) (shown_line line.now)) }
     {
-        match self.sections.effect(text) {
-            LineEffect::Reset => {
+        match self.reader.read(alloc, line)? {
+            TimerLine::Empties => {
                 self.events.clear();
                 Ok(())
             }
-            LineEffect::Event(text) => self.add_event(alloc, text),
-            LineEffect::Starts(unit) => self.name_unit(alloc, unit),
-            LineEffect::Nothing => Ok(()),
+            TimerLine::Event(entry) => self.add_event(entry),
+            TimerLine::Starts(unit) => self.name_unit(alloc, unit),
+            TimerLine::Nothing => Ok(()),
         }
     }
 
-    // Adds an event to the list.
-    fn add_event(&mut self, alloc: Global, text: &str) -> Result<(), LineCause>
-        ensures { GivesUnless LineCause.NoMemory (λ _. draft_of self.new) result (after_event (draft_of self.old) text.now) }
+    // Adds an event to the list, unless it is rejected.
+    fn add_event(&mut self, entry: Entry<Calendar>) -> Result<(), LineFault>
+        ensures { GivesUnless want_of_memory (λ _. draft_of self.new) result
+            (on_line entry.line (after_event (draft_of self.old) entry.read)) }
     {
-        if self.events.len() >= MOST_EVENTS {
-            return Err(LineCause::TooManyLines);
+        match entry.read {
+            Ok(event) => {
+                self.events.push(event)?;
+                Ok(())
+            }
+            Err(cause) => Err(cause.on_line(entry.line)),
         }
-        let event = calendar_event(alloc, text)?;
-        self.events.push(event)?;
-        Ok(())
     }
 
     // Keeps the unit, if it is the first one.
-    fn name_unit(&mut self, alloc: Global, unit: &str) -> Result<(), LineCause>
-        ensures { GivesUnless LineCause.NoMemory (λ _. draft_of self.new) result (Ok (after_unit (draft_of self.old) unit.now)) }
+    fn name_unit(&mut self, alloc: Global, unit: &str) -> Result<(), LineFault>
+        ensures { GivesUnless want_of_memory (λ _. draft_of self.new) result (Ok (after_unit (draft_of self.old) unit.now)) }
     {
         if self.unit.is_none() {
             self.unit = Some(String::from_str(alloc, unit)?);
@@ -186,14 +188,14 @@ impl Settings {
     fn into_job(self, alloc: Global, name: &str) -> Result<Job, LineFault>
         requires { is_timer_name name.now ≡ true }
         ensures { GivesUnless want_of_memory (λ job. job) result
-            (job_with self.sections.found name.now (option_map (λ unit. string_bytes unit) self.unit) self.events) }
+            (job_with self.reader.found name.now (option_map (λ unit. string_bytes unit) self.unit) self.events) }
     {
         let Settings {
-            sections,
+            reader,
             events,
             unit,
         } = self;
-        if !sections.found {
+        if !reader.has_section() {
             return Err(LineCause::NoTimerSection.on_line(0));
         }
         let what = match unit {
