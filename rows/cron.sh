@@ -112,6 +112,7 @@ lists_refused --cron <<'ROWS'
 0 UnknownWord|@
 0 WrongParts|0 0 * *
 0 WrongParts|0 0 * * * *
+0 WrongParts|99 0 1 1 * x
 0 WrongParts|
 0 WrongParts|x @ * *
 2 OutOfRange|* 24 * * *

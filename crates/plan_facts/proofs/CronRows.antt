@@ -10,9 +10,10 @@ use Rattle.plan_sets.specs.ValuesLaws.{has_value-values_where}
 use Rattle.plan_grammar.specs.declared.fault.RuleCause.TheVariants.{WrongParts, BadNumber, BadName, Values, UnknownWord}
 use Rattle.plan_match.specs.declared.rule.Rule.{Rule}
 use Rattle.plan_match.specs.declared.rule.Rule.TheVariants.{Cron, Never}
-use Rattle.plan_texts.specs.Text.{words, cut_at, decimal_number}
+use Rattle.plan_texts.specs.Text.{cut_at, decimal_number}
+use Rattle.plan_texts.specs.Lines.{cut_word}
 use Rattle.plan_grammar.specs.Readings.{Reading, refused}
-use Rattle.plan_grammar.specs.Cron.{cron_reading, rule_reading, five_fields, field_reading, items_reading, item_reading, side_reading, value_reading, step_reading, week_days_of}
+use Rattle.plan_grammar.specs.Cron.{cron_reading, rule_reading, at_reading, fields_in_front, five_fields, field_reading, items_reading, item_reading, side_reading, value_reading, step_reading, week_days_of}
 use Rattle.plan_match.specs.Match.{rule_matches}
 use Rattle.plan_facts.specs.Rows.{at_minute}
 
@@ -33,8 +34,8 @@ every_minute : cron_reading (codes "* * * * *") ≡ Ok (Cron (record {
   is_wildcard = true;
   clock = [];
 }))
-unfolding words cut_at decimal_number set_reading rule_reading five_fields field_reading items_reading item_reading side_reading
-    value_reading step_reading
+unfolding rule_reading cut_word fields_in_front cut_at decimal_number set_reading at_reading five_fields field_reading items_reading
+    item_reading side_reading value_reading step_reading
 every_minute = refl
 
 -- lists, and two restricted day fields
@@ -49,8 +50,8 @@ half_past_four : cron_reading (codes "30 4 1,15 * 5") ≡ Ok (Cron (record {
   is_wildcard = false;
   clock = [];
 }))
-unfolding words cut_at decimal_number set_reading rule_reading five_fields field_reading items_reading item_reading side_reading
-    value_reading step_reading
+unfolding rule_reading cut_word fields_in_front cut_at decimal_number set_reading at_reading five_fields field_reading items_reading
+    item_reading side_reading value_reading step_reading
 half_past_four = refl
 
 -- blanks around the text and between its fields are ignored; `*/2` is unrestricted
@@ -65,8 +66,8 @@ odd_days : cron_reading (codes "  0 0 */2   * 1 ") ≡ Ok (Cron (record {
   is_wildcard = false;
   clock = [];
 }))
-unfolding words cut_at decimal_number set_reading rule_reading five_fields field_reading items_reading item_reading side_reading
-    value_reading step_reading
+unfolding rule_reading cut_word fields_in_front cut_at decimal_number set_reading at_reading five_fields field_reading items_reading
+    item_reading side_reading value_reading step_reading
 odd_days = refl
 
 -- whether the rule of a text is a wildcard
@@ -89,8 +90,8 @@ wildcards : map (λ text. has_wildcard (cron_reading text))
     ∷ codes "@yearly"
     ∷ [])
     ≡ true ∷ true ∷ true ∷ true ∷ false ∷ false ∷ false ∷ false ∷ false ∷ false ∷ false ∷ []
-unfolding words cut_at decimal_number set_reading rule_reading five_fields field_reading items_reading item_reading side_reading
-    value_reading step_reading
+unfolding rule_reading cut_word fields_in_front cut_at decimal_number set_reading at_reading five_fields field_reading items_reading
+    item_reading side_reading value_reading step_reading
 wildcards = refl
 
 -- invalid texts, each with its error
@@ -106,6 +107,7 @@ refusals : map cron_reading
     ∷ codes "*/0 * * * *"
     ∷ codes " @dayly"
     ∷ codes "0 0 * x"
+    ∷ codes "99 0 1 1 * x"
     ∷ codes " "
     ∷ [])
     ≡ refused 1 (Values OutOfRange)
@@ -120,9 +122,10 @@ refusals : map cron_reading
     ∷ refused 0 UnknownWord
     ∷ refused 0 WrongParts
     ∷ refused 0 WrongParts
+    ∷ refused 0 WrongParts
     ∷ []
-unfolding words cut_at decimal_number set_reading rule_reading five_fields field_reading items_reading item_reading side_reading
-    value_reading step_reading
+unfolding rule_reading cut_word fields_in_front cut_at decimal_number set_reading at_reading five_fields field_reading items_reading
+    item_reading side_reading value_reading step_reading
 refusals = refl
 
 -- the order of the checks within an element: the first value, the second, the step, then whether a step is
@@ -146,8 +149,8 @@ first_faults : map cron_reading
     ∷ refused 1 BadName
     ∷ refused 1 (Values OutOfRange)
     ∷ []
-unfolding words cut_at decimal_number set_reading rule_reading five_fields field_reading items_reading item_reading side_reading
-    value_reading step_reading
+unfolding rule_reading cut_word fields_in_front cut_at decimal_number set_reading at_reading five_fields field_reading items_reading
+    item_reading side_reading value_reading step_reading
 first_faults = refl
 
 -- whether a text's rule matches midnight of some days of January 2024, given with their weekdays
@@ -157,33 +160,33 @@ at_midnight text days = map (λ (day : ℕ × ℕ). match_reading (cron_reading 
 -- Friday the 5th, by the day of the week, and Monday the 15th, by the day of the month
 either_day_suffices : map (λ (day : ℕ × ℕ). match_reading (cron_reading (codes "30 4 1,15 * 5")) (at_minute 1 day.0 day.1 4 30))
     ((5, 4) ∷ (15, 0) ∷ (16, 1) ∷ []) ≡ true ∷ true ∷ false ∷ []
-unfolding words cut_at decimal_number set_reading rule_reading five_fields field_reading items_reading item_reading side_reading
-    value_reading step_reading week_days_of at_minute
+unfolding rule_reading cut_word fields_in_front cut_at decimal_number set_reading at_reading five_fields field_reading items_reading
+    item_reading side_reading value_reading step_reading week_days_of at_minute
 either_day_suffices = simp has_value-values_where
 
 -- a star comes first, so both must match: Mondays the 1st and 15th, not Monday the 8th, not Wednesday the 3rd
 star_stands_first : at_midnight (codes "0 0 */2 * 1") ((1, 0) ∷ (3, 2) ∷ (8, 0) ∷ (15, 0) ∷ []) ≡ true ∷ false ∷ false ∷ true ∷ []
-unfolding words cut_at decimal_number set_reading rule_reading five_fields field_reading items_reading item_reading side_reading
-    value_reading step_reading week_days_of at_minute at_midnight
+unfolding rule_reading cut_word fields_in_front cut_at decimal_number set_reading at_reading five_fields field_reading items_reading
+    item_reading side_reading value_reading step_reading week_days_of at_minute at_midnight
 star_stands_first = simp has_value-values_where
 
 -- weekday 7 is Sunday: Sunday the 7th, not Saturday the 6th
 seven_is_sunday : at_midnight (codes "0 0 * * 7") ((6, 5) ∷ (7, 6) ∷ []) ≡ false ∷ true ∷ []
-unfolding words cut_at decimal_number set_reading rule_reading five_fields field_reading items_reading item_reading side_reading
-    value_reading step_reading week_days_of at_minute at_midnight
+unfolding rule_reading cut_word fields_in_front cut_at decimal_number set_reading at_reading five_fields field_reading items_reading
+    item_reading side_reading value_reading step_reading week_days_of at_minute at_midnight
 seven_is_sunday = simp has_value-values_where
 
 -- a step past the range's end leaves only the first value
 step_past_the_end : at_midnight (codes "0 0 1-31/40 * *") ((1, 0) ∷ (2, 1) ∷ (31, 2) ∷ []) ≡ true ∷ false ∷ false ∷ []
-unfolding words cut_at decimal_number set_reading rule_reading five_fields field_reading items_reading item_reading side_reading
-    value_reading step_reading week_days_of at_minute at_midnight
+unfolding rule_reading cut_word fields_in_front cut_at decimal_number set_reading at_reading five_fields field_reading items_reading
+    item_reading side_reading value_reading step_reading week_days_of at_minute at_midnight
 step_past_the_end = simp has_value-values_where
 
 -- `*/25` is minutes 0, 25 and 50
 every_25_minutes : map (λ (minute : ℕ). match_reading (cron_reading (codes "*/25 * * * *")) (at_minute 1 1 0 0 minute))
     (0 ∷ 24 ∷ 25 ∷ 50 ∷ 59 ∷ []) ≡ true ∷ false ∷ true ∷ true ∷ false ∷ []
-unfolding words cut_at decimal_number set_reading rule_reading five_fields field_reading items_reading item_reading side_reading
-    value_reading step_reading week_days_of at_minute
+unfolding rule_reading cut_word fields_in_front cut_at decimal_number set_reading at_reading five_fields field_reading items_reading
+    item_reading side_reading value_reading step_reading week_days_of at_minute
 every_25_minutes = simp has_value-values_where
 
 -- names, in any case of their letters, with a step of hours: Friday the 1st of March at 9 and 17, not at 10, not on Saturday
@@ -191,8 +194,8 @@ every_25_minutes = simp has_value-values_where
 named_months_and_days : map (λ (at : ℕ × ℕ × ℕ × ℕ). match_reading (cron_reading (codes "0 9-17/4 * jan,Mar MON-fri"))
     (at_minute at.0 at.1 at.2 at.3 0))
     ((3, 1, 4, 9) ∷ (3, 1, 4, 17) ∷ (3, 1, 4, 10) ∷ (3, 2, 5, 9) ∷ (2, 29, 3, 9) ∷ []) ≡ true ∷ true ∷ false ∷ false ∷ false ∷ []
-unfolding words cut_at decimal_number set_reading rule_reading five_fields field_reading items_reading item_reading side_reading
-    value_reading step_reading week_days_of at_minute
+unfolding rule_reading cut_word fields_in_front cut_at decimal_number set_reading at_reading five_fields field_reading items_reading
+    item_reading side_reading value_reading step_reading week_days_of at_minute
 named_months_and_days = simp has_value-values_where
 
 -- names are allowed only in fields 4 and 5, never as a step, and a range of names may be backwards
@@ -215,8 +218,8 @@ refused_names : map cron_reading
     ∷ refused 0 UnknownWord
     ∷ refused 0 UnknownWord
     ∷ []
-unfolding words cut_at decimal_number set_reading rule_reading five_fields field_reading items_reading item_reading side_reading
-    value_reading step_reading
+unfolding rule_reading cut_word fields_in_front cut_at decimal_number set_reading at_reading five_fields field_reading items_reading
+    item_reading side_reading value_reading step_reading
 refused_names = refl
 
 -- each word of the table is its five fields, and `@reboot` never starts a job
@@ -225,9 +228,9 @@ at_words_are_fields : map cron_reading
     ≡ map cron_reading
     (codes "0 0 1 1 *" ∷ codes "0 0 1 1 *" ∷ codes "0 0 1 * *" ∷ codes "0 0 * * 0" ∷ codes "0 0 * * *" ∷ codes "0 0 * * *" ∷ codes
     "0 * * * *" ∷ [])
-unfolding words rule_reading
+unfolding rule_reading cut_word fields_in_front at_reading
 at_words_are_fields = refl
 
 reboot_never_starts : cron_reading (codes "@reboot") ≡ Ok Never
-unfolding words rule_reading
+unfolding rule_reading cut_word fields_in_front at_reading
 reboot_never_starts = refl

@@ -12,13 +12,13 @@ use Rattle.plan_grammar.specs.declared.fault.RuleCause.{RuleCause}
 use Rattle.plan_grammar.specs.declared.fault.RuleCause.TheVariants.{WrongParts, BadNumber, BadName, Values, UnknownWord}
 use Rattle.plan_rules.specs.declared.line_fault.LineCause.{LineCause}
 use Rattle.plan_rules.specs.declared.line_fault.LineCause.TheVariants.{NotUtf8, TooLarge, BadSetting, Rule, NoCommand}
-use Rattle.plan_texts.specs.Text.{words, cut_at, decimal_number}
-use Rattle.plan_grammar.specs.Cron.{rule_reading, five_fields, field_reading, items_reading, item_reading, side_reading, value_reading, step_reading, week_days_of}
+use Rattle.plan_texts.specs.Text.{cut_at, decimal_number}
+use Rattle.plan_grammar.specs.Cron.{rule_in_front, at_reading, fields_in_front, five_fields, field_reading, items_reading, item_reading, side_reading, value_reading, step_reading, week_days_of}
 use Rattle.plan_match.specs.Match.{rule_matches}
 use Rattle.plan_texts.specs.Lines.{lines, cut_word}
 use Rattle.plan_rules.specs.LineFaults.{TextReading}
 use Rattle.plan_rules.specs.Job.{JobParts}
-use Rattle.plan_rules.specs.Crontab.{fields_in_front, at_word_in_front, what_reading, job_reading, line_reading, jobs_reading, crontab_reading}
+use Rattle.plan_rules.specs.Crontab.{what_reading, job_reading, line_reading, jobs_reading, crontab_reading}
 use Rattle.plan_facts.specs.Rows.{at_minute}
 
 -- the error of a line
@@ -50,9 +50,9 @@ parts_of (Ok jobs) = map (λ job. (job.name, job.what)) jobs
 parts_of (Err fault) = []
 
 reboot_and_daily : parts_of (crontab_reading (codes "cron") User nightly) ≡ (codes "cron:3", codes "a") ∷ (codes "cron:4", codes "b") ∷ []
-unfolding is_utf8 chars lib.Utf8.encode digits lines cut_word words at_word_in_front what_reading job_reading line_reading jobs_reading
-    cut_at decimal_number set_reading rule_reading five_fields field_reading items_reading item_reading side_reading value_reading
-    step_reading
+unfolding is_utf8 chars lib.Utf8.encode digits lines cut_word rule_in_front at_reading fields_in_front what_reading job_reading
+    line_reading jobs_reading cut_at decimal_number set_reading five_fields field_reading items_reading item_reading side_reading
+    value_reading step_reading
 reboot_and_daily = refl
 
 -- the system's crontab: the user, a space and the command
@@ -60,8 +60,8 @@ abbrev parts_hourly : List ℕ
 parts_hourly = codes "17 * * * * root cd / && run-parts x"
 
 run_parts : parts_of (crontab_reading (codes "system") System parts_hourly) ≡ (codes "system:1", codes "root cd / && run-parts x") ∷ []
-unfolding is_utf8 chars lib.Utf8.encode digits lines cut_word words fields_in_front what_reading job_reading line_reading jobs_reading
-    cut_at decimal_number set_reading rule_reading five_fields field_reading items_reading item_reading side_reading value_reading
+unfolding is_utf8 chars lib.Utf8.encode digits lines cut_word rule_in_front fields_in_front what_reading job_reading line_reading
+    jobs_reading cut_at decimal_number set_reading five_fields field_reading items_reading item_reading side_reading value_reading
     step_reading
 run_parts = refl
 
@@ -73,10 +73,9 @@ first_matches other times = []
 -- at 00:17:00 and 01:17:00, not at 00:00:00
 run_parts_hourly :
     first_matches (crontab_reading (codes "system") System parts_hourly) ((0, 17) ∷ (1, 17) ∷ (0, 0) ∷ []) ≡ true ∷ true ∷ false ∷ []
-unfolding is_utf8 chars lib.Utf8.encode digits lines cut_word words fields_in_front what_reading job_reading line_reading jobs_reading
-    cut_at decimal_number set_reading rule_reading five_fields field_reading items_reading item_reading side_reading value_reading
-    step_reading
-    week_days_of at_minute
+unfolding is_utf8 chars lib.Utf8.encode digits lines cut_word rule_in_front fields_in_front what_reading job_reading line_reading
+    jobs_reading cut_at decimal_number set_reading five_fields field_reading items_reading item_reading side_reading value_reading
+    step_reading week_days_of at_minute
 run_parts_hourly = simp has_value-values_where
 
 -- what a user's job runs is kept as it is written, without the blanks before it
@@ -85,9 +84,9 @@ kept_as_written : map (λ text. parts_of (crontab_reading (codes "cron") User te
     ≡ ((codes "cron:3", codes "a # b % ") ∷ [])
     ∷ ((codes "cron:2", codes "a\r") ∷ [])
     ∷ []
-unfolding is_utf8 chars lib.Utf8.encode digits lines cut_word words at_word_in_front what_reading job_reading line_reading jobs_reading
-    cut_at decimal_number set_reading rule_reading five_fields field_reading items_reading item_reading side_reading value_reading
-    step_reading
+unfolding is_utf8 chars lib.Utf8.encode digits lines cut_word rule_in_front at_reading fields_in_front what_reading job_reading
+    line_reading jobs_reading cut_at decimal_number set_reading five_fields field_reading items_reading item_reading side_reading
+    value_reading step_reading
 kept_as_written = refl
 
 -- invalid texts of a user, each with its error
@@ -120,9 +119,8 @@ user_refusals : map (crontab_reading (codes "cron") User)
     ∷ on 3 (part 1 (Values OutOfRange))
     ∷ on 0 NotUtf8
     ∷ []
-unfolding on part is_utf8 chars lib.Utf8.encode digits lines cut_word words fields_in_front at_word_in_front what_reading job_reading
-    line_reading jobs_reading cut_at decimal_number set_reading rule_reading five_fields field_reading items_reading item_reading
-    side_reading
+unfolding on part is_utf8 chars lib.Utf8.encode digits lines cut_word rule_in_front at_reading fields_in_front what_reading job_reading
+    line_reading jobs_reading cut_at decimal_number set_reading five_fields field_reading items_reading item_reading side_reading
     value_reading step_reading
 user_refusals = refl
 
@@ -130,9 +128,8 @@ user_refusals = refl
 user_alone :
     map (crontab_reading (codes "system") System) (codes "* * * * * root" ∷ codes "@daily root \t" ∷ codes "@daily" ∷ []) ≡
     on 1 NoCommand ∷ on 1 NoCommand ∷ on 1 NoCommand ∷ []
-unfolding on is_utf8 chars lib.Utf8.encode digits lines cut_word words fields_in_front at_word_in_front what_reading job_reading
-    line_reading jobs_reading cut_at decimal_number set_reading rule_reading five_fields field_reading items_reading item_reading
-    side_reading
+unfolding on is_utf8 chars lib.Utf8.encode digits lines cut_word rule_in_front at_reading fields_in_front what_reading job_reading
+    line_reading jobs_reading cut_at decimal_number set_reading five_fields field_reading items_reading item_reading side_reading
     value_reading step_reading
 user_alone = refl
 

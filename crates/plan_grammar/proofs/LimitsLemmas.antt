@@ -18,6 +18,7 @@ use Rattle.plan_texts.specs.Steps.{◌>>=◌}
 use Rattle.plan_grammar.specs.Readings.{Reading, Gives}
 use Rattle.plan_grammar.specs.Elements.{set_in_part, values_by}
 use Rattle.plan_texts.specs.Text.{words}
+use Rattle.plan_texts.specs.WholeLines.{trimmed}
 use Rattle.plan_match.specs.declared.event.Calendar.{Calendar}
 use Rattle.plan_match.specs.declared.event.DayCount.{DayCount}
 use Rattle.plan_match.specs.declared.event.DayCount.TheVariants.{FromStart, FromEnd}
@@ -25,9 +26,9 @@ use Rattle.plan_match.specs.WithinLimits.{LieWithin, EventIsWithinLimits, RuleIs
 use Rattle.plan_grammar.specs.declared.field.Field.{Field}
 use Rattle.plan_grammar.specs.declared.field.Field.TheVariants.{Minute, Hour, MonthDay, Month, WeekDay}
 use Rattle.plan_grammar.specs.declared.component.Component.TheVariants as component
-use Rattle.plan_grammar.specs.Cron.{lowest, highest, items_reading, field_reading, has_week_day, week_days_of, five_fields, at_word, found_reading, at_reading, rule_reading, cron_reading}
+use Rattle.plan_grammar.specs.Cron.{lowest, highest, items_reading, field_reading, has_week_day, week_days_of, five_fields, fields_alone, at_word, found_reading, at_reading, rule_reading, cron_reading}
 use Rattle.plan_grammar.specs.Shape.{ShapeText, shape_reading}
-use Rattle.plan_grammar.specs.Event.{component_items, component_set, component_reading, first_place_fault, is_listed_place, places_reading, weekday_items, weekdays_reading, weekdays_if_given, day_component, event_of, spelled_out, has_zone, zone_dropped, expression_of, is_unknown_word, lone_word, zoneless, with_own_zone, words_reading, has_specifier, event_reading}
+use Rattle.plan_grammar.specs.Event.{component_items, component_set, component_reading, first_place_fault, is_listed_place, places_reading, weekday_items, weekdays_reading, weekdays_if_given, day_component, event_of, spelled_out, has_zone, zone_dropped, lone_word, zoneless, with_own_zone, words_reading, has_specifier, event_reading}
 
 -- ---- readings
 
@@ -96,13 +97,7 @@ week_days_within written = span 0 7 6 (has_week_day written) refl
 
 fields : (texts : List (List ℕ)) → IfOk (five_fields texts) RuleIsWithinLimits
 unfolding five_fields
-fields [] = tt
-fields (a ∷ []) = tt
-fields (a ∷ b ∷ []) = tt
-fields (a ∷ b ∷ c ∷ []) = tt
-fields (a ∷ b ∷ c ∷ d ∷ []) = tt
-fields (a ∷ b ∷ c ∷ d ∷ e ∷ []) =
-    ok_steps (LieWithin 0 59) RuleIsWithinLimits (field_reading Minute a) _ (field_within Minute a)
+fields (a ∷ b ∷ c ∷ d ∷ e ∷ []) = ok_steps (LieWithin 0 59) RuleIsWithinLimits (field_reading Minute a) _ (field_within Minute a)
     (λ minutes in_minutes. ok_steps (LieWithin 0 23) RuleIsWithinLimits (field_reading Hour b) _ (field_within Hour b)
     (λ hours in_hours. ok_steps (LieWithin 1 31) RuleIsWithinLimits (field_reading MonthDay c) _ (field_within MonthDay c)
     (λ month_days in_month_days. ok_steps (LieWithin 1 12) RuleIsWithinLimits (field_reading Month d) _ (field_within Month d)
@@ -114,26 +109,22 @@ fields (a ∷ b ∷ c ∷ d ∷ e ∷ []) =
       months = in_months;
       week_days = week_days_within week_days;
     })))))
-fields (a ∷ b ∷ c ∷ d ∷ e ∷ f ∷ more) = tt
+fields other = tt
+
+alone : (text : List ℕ) → IfOk (fields_alone text) RuleIsWithinLimits
+alone text = grind (arith, nat_tests, fields)
 
 found : (word : Option (Option (List ℕ))) → IfOk (found_reading word) RuleIsWithinLimits
-found None = tt
-found (Some None) = tt
-found (Some (Some text)) = fields (words text)
+found word = grind (arith, nat_tests, alone)
 
-at_words : (texts : List (List ℕ)) → IfOk (at_reading texts) RuleIsWithinLimits
-at_words [] = tt
-at_words (word ∷ []) = found (at_word word)
-at_words (word ∷ more ∷ others) = tt
-
-rule : (texts : List (List ℕ)) → IfOk (rule_reading texts) RuleIsWithinLimits
-unfolding rule_reading
-rule [] = tt
-rule (first ∷ others) = ok_choice RuleIsWithinLimits _ _ _ (at_words (first ∷ others)) (fields (first ∷ others))
+at : (word : List ℕ) → IfOk (at_reading word) RuleIsWithinLimits
+unfolding at_reading
+at word = found (at_word word)
 
 -- the sets of a cron rule that was read are within the limits of their fields
 pub cron : (text : List ℕ) → IfOk (cron_reading text) RuleIsWithinLimits
-cron text = rule (words text)
+unfolding rule_reading
+cron text = ok_choice RuleIsWithinLimits _ _ _ (at (trimmed text)) (alone (trimmed text))
 
 -- ---- calendar events
 
@@ -214,14 +205,11 @@ unfolding spelled_out
 spelled texts = then EventIsWithinLimits (shape_reading texts) _ parts
 
 lone : (word : List ℕ) (expression : Option (List ℕ)) → IfOk (lone_word word expression) EventIsWithinLimits
-lone word (Some expression) = spelled (words expression)
-lone word None = ok_choice EventIsWithinLimits (is_unknown_word word) _ _ tt (spelled (word ∷ []))
+lone word expression = grind (arith, nat_tests, spelled)
 
 no_zone : (texts : List (List ℕ)) → IfOk (zoneless texts) EventIsWithinLimits
 unfolding zoneless
-no_zone [] = spelled []
-no_zone (word ∷ []) = lone word (expression_of word)
-no_zone (first ∷ second ∷ others) = spelled (first ∷ second ∷ others)
+no_zone texts = grind (arith, nat_tests, spelled, lone)
 
 named : (names_zone : Bool) (event : Calendar) → EventIsWithinLimits event → EventIsWithinLimits (with_own_zone names_zone event)
 named names_zone event own = grind (arith, nat_tests)

@@ -1,17 +1,14 @@
 -- How a name is found in a table.
--- For `named_value` of a field, for `at_word`, and for `rule_of` (`other_at_words`). The code searches a table of
--- borrowed texts, the definition a table of texts. By induction over the table both find the same place or row.
-use Rattle.std.proofs.Common.{◌≡◌, ℕ, ◌+◌, ◌<◌, arith, get_or, Bool, true, false, cond, List, [], ◌∷◌, length, ◌==◌, map, find, position, Option, Some, refl, ap, sym, ◌∙◌}
+-- For `named_value` of a field, and for `at_word`. The code searches a table of borrowed texts, the definition a table of
+-- texts. By induction over the table both find the same place or row.
+use Rattle.std.proofs.Common.{◌≡◌, ℕ, ◌+◌, arith, Bool, cond, List, [], ◌∷◌, map, find, position, Option, refl, ap, sym, ◌∙◌}
 use Rattle.std.proofs.lemmas.Bool.Decides.{nat_tests}
 use Rattle.std.proofs.lemmas.List.{length-map}
 use Rattle.std.specs.List.{prefix_len}
 use Rattle.std.specs.Option.{option_map}
 use Rattle.std.specs.Str.{bytes_eq, str_eq_ignore_ascii_case}
-use Rattle.plan_grammar.specs.declared.fault.RuleCause.TheVariants.{UnknownWord}
 use Rattle.plan_grammar.specs.declared.field.Field.{Field}
-use Rattle.plan_grammar.specs.Readings.{refused}
-use Rattle.plan_texts.specs.Text.{begins_with}
-use Rattle.plan_grammar.specs.Cron.{lowest, names_of, named_value, at_words, at_word, rule_reading}
+use Rattle.plan_grammar.specs.Cron.{lowest, names_of, named_value, at_words, at_word}
 
 prefix_len-map : {X Y : Type 0} (p : Y → Bool) (v : X → Y) (xs : List X) → prefix_len p (map v xs) ≡ prefix_len (λ x. p (v x)) xs
 prefix_len-map p v [] = refl
@@ -22,13 +19,7 @@ position-map p v xs = simp (prefix_len-map, length-map)
 
 find-map : {X Y : Type 0} (p : Y → Bool) (v : X → Y) (xs : List X) → option_map v (find (λ x. p (v x)) xs) ≡ find p (map v xs)
 find-map p v [] = refl
-find-map p v (x ∷ xs) = choice (p (v x)) (find-map p v xs)
-  where
-    choice :
-        (b : Bool) → option_map v (find (λ y. p (v y)) xs) ≡ find p (map v xs) →
-        option_map v (cond b (Some x) (find (λ y. p (v y)) xs)) ≡ cond b (Some (v x)) (find p (map v xs))
-    choice b later = elim b as (λ b. option_map v (cond b (Some x) (find (λ y. p (v y)) xs)) ≡ cond b (Some (v x))
-        (find p (map v xs))) [ true ↦ refl | false ↦ later ]
+find-map p v (x ∷ xs) = grind (arith, nat_tests, find-map p v xs)
 
 -- the place of a name among the borrowed names
 pub named_by_place :
@@ -50,12 +41,3 @@ found_by_word v word known found shown is =
     twice v (λ row. row.1) found
     ∙ ap (option_map (λ row. row.1))
     (ap (option_map v) is ∙ find-map (λ row. bytes_eq (row.0) word) v known ∙ ap (find (λ row. bytes_eq (row.0) word)) shown)
-
--- several words whose first begins with `@`
-pub other_at_words :
-    {A : Type 0} (v : A → List ℕ) (words : List A) (d : A) → 1 < length words →
-    begins_with (λ b. b == 64) (v (get_or words 0 d)) ≡ true → rule_reading (map v words) ≡ refused 0 UnknownWord
-unfolding rule_reading
-other_at_words v [] d many at = absurd (omega arith)
-other_at_words v (word ∷ []) d many at = absurd (omega arith)
-other_at_words v (word ∷ next ∷ more) d many at = rw at refl

@@ -2,7 +2,7 @@
 -- no definition gives such an error.
 -- For clause `memory` of `cron_rule`, and for `memory` and `specifier` of `calendar_event`. There is one lemma for each
 -- definition in the reading of a cron text, which it unfolds; `err_steps`, `err_each` and `err_choice` put the parts together.
-use Rattle.std.proofs.Common.{◌≡◌, ◌≢◌, ℕ, List, [], ◌∷◌, codes, length, eqb, Option, Some, None, Result, Err, ok_or, IfErr, arith}
+use Rattle.std.proofs.Common.{◌≡◌, ◌≢◌, ℕ, List, [], ◌∷◌, codes, length, eqb, Option, Result, Err, ok_or, IfErr, arith}
 use Rattle.std.proofs.lemmas.Bool.Decides.{nat_tests}
 use Rattle.std.specs.Str.{bytes_eq}
 use Rattle.plan_sets.specs.declared.item.SetFault.{SetFault}
@@ -13,10 +13,12 @@ use Rattle.plan_grammar.specs.declared.fault.RuleCause.TheVariants.{NoMemory, Sp
 use Rattle.plan_grammar.specs.declared.field.Field.{Field}
 use Rattle.plan_grammar.specs.declared.field.Field.TheVariants.{Minute, Hour, MonthDay, Month, WeekDay}
 use Rattle.plan_grammar.specs.declared.element.Side.{Side}
-use Rattle.plan_texts.specs.Text.{words, begins_with, cut_at, decimal_number, pieces}
+use Rattle.plan_texts.specs.Text.{begins_with, cut_at, decimal_number, pieces}
+use Rattle.plan_texts.specs.Lines.{cut_word}
+use Rattle.plan_texts.specs.WholeLines.{trimmed}
 use Rattle.plan_texts.specs.EachLaws.{err_steps, err_each, err_choice}
 use Rattle.plan_grammar.specs.Readings.{Reading, Gives}
-use Rattle.plan_grammar.specs.Cron.{part_of, value_reading, step_reading, side_reading, item_of, item_reading, items_reading, field_reading, five_fields, at_reading, rule_reading, cron_reading, at_word, found_reading}
+use Rattle.plan_grammar.specs.Cron.{part_of, value_reading, step_reading, side_reading, item_of, item_reading, items_reading, field_reading, five_fields, next_field, fields_in_front, fields_alone, at_word, found_reading, at_reading, rule_reading, cron_reading}
 use Rattle.plan_grammar.specs.Elements.{number_reading, span_by, side_by, cut_item_by, set_in_part, values_by}
 use Rattle.plan_sets.specs.declared.item.Item.{Item}
 
@@ -96,38 +98,35 @@ field_values field text = list_values (part_of field) _ (items_reading field tex
 
 fields : (texts : List (List ℕ)) → IsTextFault (five_fields texts)
 unfolding five_fields
-fields [] = tt
-fields (a ∷ []) = tt
-fields (a ∷ b ∷ []) = tt
-fields (a ∷ b ∷ c ∷ []) = tt
-fields (a ∷ b ∷ c ∷ d ∷ []) = tt
 fields (a ∷ b ∷ c ∷ d ∷ e ∷ []) =
     err_steps _ (field_reading Minute a) _ (field_values Minute a)
     (λ minutes. err_steps _ (field_reading Hour b) _ (field_values Hour b)
     (λ hours. err_steps _ (field_reading MonthDay c) _ (field_values MonthDay c)
     (λ month_days. err_steps _ (field_reading Month d) _ (field_values Month d)
     (λ months. err_steps _ (field_reading WeekDay e) _ (field_values WeekDay e) (λ week_days. tt)))))
-fields (a ∷ b ∷ c ∷ d ∷ e ∷ f ∷ more) = tt
+fields other = tt
+
+next : (text : List ℕ) → IsTextFault (next_field text)
+next text = or_fault (cut_word text) _ tt
+
+front : (text : List ℕ) → IsTextFault (fields_in_front text)
+unfolding fields_in_front
+front text = grind (arith, nat_tests, next)
+
+alone : (text : List ℕ) → IsTextFault (fields_alone text)
+alone text = grind (arith, nat_tests, front text, fields)
 
 found : (word : Option (Option (List ℕ))) → IsTextFault (found_reading word)
-found None = tt
-found (Some None) = tt
-found (Some (Some text)) = fields (words text)
+found word = grind (arith, nat_tests, alone)
 
-at_words : (texts : List (List ℕ)) → IsTextFault (at_reading texts)
-at_words [] = tt
-at_words (word ∷ []) = found (at_word word)
-at_words (word ∷ more ∷ others) = tt
-
-rule : (texts : List (List ℕ)) → IsTextFault (rule_reading texts)
-unfolding rule_reading
-rule [] = tt
-rule (first ∷ others) =
-    err_choice _ (begins_with (λ b. eqb b 64) first) _ _ (at_words (first ∷ others)) (fields (first ∷ others))
+at : (word : List ℕ) → IsTextFault (at_reading word)
+unfolding at_reading
+at word = found (at_word word)
 
 -- the error of a cron text has such a cause
 pub cron : (text : List ℕ) → IsTextFault (cron_reading text)
-cron text = rule (words text)
+unfolding rule_reading
+cron text = err_choice _ (begins_with (λ b. eqb b 64) (trimmed text)) _ _ (at (trimmed text)) (alone (trimmed text))
 
 -- so if a call with such a reading fails because of an allocation, its part is 0
 pub part_of_memory :

@@ -14,7 +14,9 @@ use Rattle.plan_grammar.specs.declared.element.Side.{Side}
 use Rattle.plan_grammar.specs.declared.element.Side.TheVariants.{Star, Value, Between}
 use Rattle.plan_match.specs.declared.rule.Rule.{Rule}
 use Rattle.plan_match.specs.declared.rule.Rule.TheVariants.{Cron, Never}
-use Rattle.plan_texts.specs.Text.{words, pieces, begins_with, cut_at, decimal_number}
+use Rattle.plan_texts.specs.Text.{pieces, begins_with, cut_at, decimal_number}
+use Rattle.plan_texts.specs.Lines.{cut_word}
+use Rattle.plan_texts.specs.WholeLines.{trimmed}
 use Rattle.plan_texts.specs.Steps.{◌>>=◌, each}
 use Rattle.plan_grammar.specs.Readings.{Reading, refused}
 use Rattle.plan_grammar.specs.Elements.{number_reading, side_by, cut_item_by, values_by}
@@ -109,7 +111,7 @@ week_days_of written = values_where 0 7 (has_week_day written)
 abbrev pub is_restricted : List ℕ → Bool
 is_restricted text = not (begins_with (λ b. b == byte "*") text)
 
--- five fields, read from left to right; any other number of words is rejected (crontab(5), fields)
+-- five fields, read from left to right; any other number of fields is rejected (crontab(5), fields)
 unfoldable pub five_fields : List (List ℕ) → Reading Rule
 five_fields (minute ∷ hour ∷ month_day ∷ month ∷ week_day ∷ []) = do
   minutes ← field_reading Minute minute
@@ -132,6 +134,26 @@ five_fields (minute ∷ hour ∷ month_day ∷ month ∷ week_day ∷ []) = do
       }))
 five_fields other = refused 0 WrongParts
 
+-- the next word of a text and what follows it; if there is none, the text has too few fields (crontab(5), fields)
+abbrev pub next_field : List ℕ → Reading (List ℕ × List ℕ)
+next_field text = ok_or (cut_word text) (record { part = 0; cause = WrongParts })
+
+-- the first five fields of a text and what follows them; all five must be present before the first is read (agenda)
+unfoldable pub fields_in_front : List ℕ → Reading (List (List ℕ) × List ℕ)
+fields_in_front text = do
+  minute ← next_field text
+  hour ← next_field (minute.1)
+  month_day ← next_field (hour.1)
+  month ← next_field (month_day.1)
+  week_day ← next_field (month.1)
+  Ok (minute.0 ∷ hour.0 ∷ month_day.0 ∷ month.0 ∷ week_day.0 ∷ [], week_day.1)
+
+-- a text of five fields; if anything follows them, it is rejected before the first is read (agenda)
+abbrev pub fields_alone : List ℕ → Reading Rule
+fields_alone text = do
+  front ← fields_in_front text
+  if length (front.1) == 0 then five_fields (front.0) else refused 0 WrongParts
+
 -- the words that begin with `@`, each with the five fields that it abbreviates (crontab(5), extensions); `@reboot` has no fields
 abbrev pub at_words : List (List ℕ × Option (List ℕ))
 at_words =
@@ -153,19 +175,28 @@ at_word word = option_map (λ known. known.1) (find (λ known. bytes_eq known.0 
 abbrev pub found_reading : Option (Option (List ℕ)) → Reading Rule
 found_reading None = refused 0 UnknownWord
 found_reading (Some None) = Ok Never
-found_reading (Some (Some fields)) = five_fields (words fields)
+found_reading (Some (Some fields)) = fields_alone fields
 
--- a text that begins with `@` is one word of the table (agenda)
-abbrev pub at_reading : List (List ℕ) → Reading Rule
-at_reading (word ∷ []) = found_reading (at_word word)
-at_reading other = refused 0 UnknownWord
+-- the rule of a word that begins with `@` (crontab(5), extensions)
+unfoldable pub at_reading : List ℕ → Reading Rule
+at_reading word = found_reading (at_word word)
 
--- the words of a rule: one word with `@`, or five fields (crontab(5))
-unfoldable pub rule_reading : List (List ℕ) → Reading Rule
-rule_reading [] = refused 0 WrongParts
-rule_reading (first ∷ others) =
-    if begins_with (λ b. b == byte "@") first then at_reading (first ∷ others) else five_fields (first ∷ others)
+-- the rule at the start of a text without leading blanks, and what follows it (crontab(5))
+unfoldable pub rule_in_front : List ℕ → Reading (Rule × List ℕ)
+rule_in_front text =
+    if begins_with (λ b. b == byte "@") text then (do
+      word ← next_field text
+      rule ← at_reading (word.0)
+      Ok (rule, word.1))
+    else (do
+      front ← fields_in_front text
+      rule ← five_fields (front.0)
+      Ok (rule, front.1))
+
+-- the rule of a text without blanks around it: a word of the table, or five fields (crontab(5))
+unfoldable pub rule_reading : List ℕ → Reading Rule
+rule_reading text = if begins_with (λ b. b == byte "@") text then at_reading text else fields_alone text
 
 -- the meaning of a cron text; blanks around it are ignored (crontab(5), fields)
 abbrev pub cron_reading : List ℕ → Reading Rule
-cron_reading text = rule_reading (words text)
+cron_reading text = rule_reading (trimmed text)

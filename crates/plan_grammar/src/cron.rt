@@ -2,16 +2,18 @@
 
 ghost use Rattle.std.specs.Prelude.{◌≡◌, IfErr, IfOk, map};
 ghost use Rattle.std.specs.Option.{option_map};
-ghost use Rattle.plan_grammar.specs.Readings.{Gives};
+ghost use Rattle.plan_grammar.specs.Readings.{Gives, GivesBy};
 ghost use Rattle.plan_match.specs.WithinLimits.{RuleIsWithinLimits};
-ghost use Rattle.plan_grammar.specs.Cron.{has_week_day, week_days_of, five_fields, at_words, at_word, found_reading, rule_reading, cron_reading};
+ghost use Rattle.plan_grammar.specs.Cron.{has_week_day, week_days_of, five_fields, fields_in_front, fields_alone, at_words, at_word, at_reading, rule_in_front, rule_reading, cron_reading};
 
 use crate::fault::{RuleCause, RuleFault};
 use crate::field::{Field, is_restricted};
 use plan_clock::Clock;
 use plan_match::{CronRule, Rule};
 use plan_sets::ValueSet;
-use plan_texts::{begins_with, words};
+use plan_texts::begins_with;
+use plan_texts::lines::cut_word;
+use plan_texts::whole_lines::trimmed;
 use std::alloc::Global;
 
 // The words that begin with `@`, each with the five fields that it abbreviates (crontab(5), extensions).
@@ -27,8 +29,8 @@ static AT_WORDS: [(&str, Option<&str>); 8] = [
     ("@reboot", None),
 ];
 
-/// The error of a text that doesn't have five fields.
-pub const WRONG_PARTS: RuleFault = RuleFault {
+// The error of a text that doesn't have five fields.
+const WRONG_PARTS: RuleFault = RuleFault {
     part: 0,
     cause: RuleCause::WrongParts,
 };
@@ -65,25 +67,69 @@ pub fn cron_rule(alloc: Global, text: &str) -> Result<Rule, RuleFault>
     ensures within { IfOk result RuleIsWithinLimits }
     ensures memory { IfErr result (λ fault. fault.cause ≡ RuleCause.NoMemory → fault.part ≡ 0) }
 {
-    let words = words(alloc, text.as_bytes())?;
-    rule_of(alloc, words.as_slice())
+    rule_of(alloc, trimmed(text))
 }
 
-// Parses the words of a rule.
+// Parses a text without blanks around it.
 #[tactic(auto, unfolding(crate::specs::Cron::rule_reading))]
-fn rule_of(alloc: Global, words: &[&[u8]]) -> Result<Rule, RuleFault>
-    ensures { Gives result (rule_reading (map (λ word. word.now) words.now)) }
+fn rule_of(alloc: Global, text: &str) -> Result<Rule, RuleFault>
+    ensures { Gives result (rule_reading text.now) }
 {
-    let [first, ..] = words else {
+    if begins_with(text.as_bytes(), b'@') {
+        at_rule(alloc, text.as_bytes())
+    } else {
+        fields_alone(alloc, text)
+    }
+}
+
+/// Parses the rule at the start of a text without leading blanks, and returns it and what follows it (crontab(5)).
+///
+/// The rule is one word if the text begins with `@`, and five fields otherwise, as `cron_rule` reads them.
+///
+/// # Errors
+///
+/// Those of `cron_rule`.
+#[tactic(auto, unfolding(crate::specs::Cron::rule_in_front))]
+pub fn rule_in_front(alloc: Global, text: &str) -> Result<(Rule, &str), RuleFault>
+    ensures { GivesBy (λ front. (front.0, front.1.now)) result (rule_in_front text.now) }
+{
+    if begins_with(text.as_bytes(), b'@') {
+        let (word, rest) = cut_word(text).ok_or(WRONG_PARTS)?;
+        return Ok((at_rule(alloc, word.as_bytes())?, rest));
+    }
+    let (fields, rest) = fields_in_front(text)?;
+    Ok((five_fields(alloc, fields)?, rest))
+}
+
+// Parses a text that has five fields and nothing after them.
+fn fields_alone(alloc: Global, text: &str) -> Result<Rule, RuleFault>
+    ensures { Gives result (fields_alone text.now) }
+{
+    let (fields, rest) = fields_in_front(text)?;
+    if !rest.is_empty() {
         return Err(WRONG_PARTS);
-    };
-    if !begins_with(first, b'@') {
-        return five_fields(alloc, words);
     }
-    if words.len() > 1 {
-        return Err(UNKNOWN_WORD);
-    }
-    at_rule(alloc, first)
+    five_fields(alloc, fields)
+}
+
+// Returns the first five fields of a text, and what follows them.
+#[tactic(auto, unfolding(crate::specs::Cron::fields_in_front))]
+fn fields_in_front(text: &str) -> Result<([&[u8]; 5], &str), RuleFault>
+    ensures { GivesBy (λ front. (map (λ field. field.now) front.0, front.1.now)) result (fields_in_front text.now) }
+{
+    let (minute, rest) = cut_word(text).ok_or(WRONG_PARTS)?;
+    let (hour, rest) = cut_word(rest).ok_or(WRONG_PARTS)?;
+    let (month_day, rest) = cut_word(rest).ok_or(WRONG_PARTS)?;
+    let (month, rest) = cut_word(rest).ok_or(WRONG_PARTS)?;
+    let (week_day, rest) = cut_word(rest).ok_or(WRONG_PARTS)?;
+    let fields = [
+        minute.as_bytes(),
+        hour.as_bytes(),
+        month_day.as_bytes(),
+        month.as_bytes(),
+        week_day.as_bytes(),
+    ];
+    Ok((fields, rest))
 }
 
 // Returns the table of the words that begin with `@`.
@@ -103,13 +149,10 @@ fn at_word(word: &[u8]) -> Option<Option<&'static str>>
     Some(*fields)
 }
 
-/// Returns the rule of a word that begins with `@` (crontab(5), extensions).
-///
-/// # Errors
-///
-/// Those of `cron_rule`.
-pub fn at_rule(alloc: Global, word: &[u8]) -> Result<Rule, RuleFault>
-    ensures { Gives result (found_reading (at_word word.now)) }
+// Returns the rule of a word that begins with `@` (crontab(5), extensions).
+#[tactic(auto, unfolding(crate::specs::Cron::at_reading))]
+fn at_rule(alloc: Global, word: &[u8]) -> Result<Rule, RuleFault>
+    ensures { Gives result (at_reading word.now) }
 {
     let Some(fields) = at_word(word) else {
         return Err(UNKNOWN_WORD);
@@ -117,22 +160,15 @@ pub fn at_rule(alloc: Global, word: &[u8]) -> Result<Rule, RuleFault>
     let Some(fields) = fields else {
         return Ok(Rule::Never);
     };
-    let fields = words(alloc, fields.as_bytes())?;
-    five_fields(alloc, fields.as_slice())
+    fields_alone(alloc, fields)
 }
 
-/// Parses a rule of five fields.
-///
-/// # Errors
-///
-/// Those of `cron_rule`.
+// Parses the five fields of a rule.
 #[tactic(auto, unfolding(crate::specs::Cron::five_fields))]
-pub fn five_fields(alloc: Global, fields: &[&[u8]]) -> Result<Rule, RuleFault>
-    ensures { Gives result (five_fields (map (λ field. field.now) fields.now)) }
+fn five_fields(alloc: Global, fields: [&[u8]; 5]) -> Result<Rule, RuleFault>
+    ensures { Gives result (five_fields (map (λ field. field.now) fields.entry)) }
 {
-    let [minute, hour, month_day, month, week_day] = fields else {
-        return Err(WRONG_PARTS);
-    };
+    let [minute, hour, month_day, month, week_day] = fields;
     Ok(Rule::Cron(CronRule {
         minutes: Field::Minute.values(alloc, minute)?,
         hours: Field::Hour.values(alloc, hour)?,

@@ -14,6 +14,6 @@ mod places;
 mod shape;
 mod weekdays;
 
-pub use cron::{WRONG_PARTS, at_rule, cron_rule, five_fields};
+pub use cron::{cron_rule, rule_in_front};
 pub use event::{calendar_event, calendar_rule};
 pub use fault::{RuleCause, RuleFault};

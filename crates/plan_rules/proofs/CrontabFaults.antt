@@ -17,7 +17,8 @@ use Rattle.plan_texts.specs.Steps.{each, GivesUnless}
 use Rattle.plan_grammar.specs.Readings.{Reading}
 use Rattle.plan_texts.specs.Lines.{after_blanks, cut_word}
 use Rattle.plan_rules.specs.LineFaults.{LineReading, TextReading, IsOwnCause, cause_by_cause, in_line, on_line, fault_on_line, want_of_memory}
-use Rattle.plan_rules.specs.Crontab.{rule_in_front, command_reading, user_and_command, what_reading, job_reading, begins_setting, entry_reading, line_reading, numbered_reading, jobs_reading}
+use Rattle.plan_grammar.specs.Cron.{rule_in_front}
+use Rattle.plan_rules.specs.Crontab.{command_reading, user_and_command, what_reading, job_reading, begins_setting, entry_reading, line_reading, numbered_reading, jobs_reading}
 
 -- a cause that is found in the lines of a text
 abbrev pub IsLineCause : LineCause → Type 0

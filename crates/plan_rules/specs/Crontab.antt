@@ -1,53 +1,20 @@
 -- The meaning of a crontab (crontab(5)): the jobs of its lines, or its first error with its line.
-use Rattle.std.specs.Prelude.{ℕ, ◌+◌, Bool, ◌||◌, ◌==◌, if◌then◌else◌, List, [], ◌∷◌, ◌++◌, length, codes, Option, Some, None, Ok, Err, ok_or}
+use Rattle.std.specs.Prelude.{ℕ, ◌+◌, Bool, ◌||◌, ◌==◌, if◌then◌else◌, List, [], ◌∷◌, ◌++◌, length, codes, Option, Some, None, Ok, Err}
 use Rattle.std.specs.Char.{is_ascii_alphabetic}
 use Rattle.std.specs.Fmt.{decimal}
 use Rattle.std.specs.List.{list_any, filter_map, enumerate_from}
 use Rattle.std.specs.Str.{byte}
 use Rattle.plan_rules.specs.declared.crontabs.Kind.{Kind}
 use Rattle.plan_rules.specs.declared.crontabs.Kind.TheVariants.{User, System}
-use Rattle.plan_grammar.specs.declared.fault.RuleCause.TheVariants.{WrongParts}
 use Rattle.plan_rules.specs.declared.entry.Entry.{Entry}
 use Rattle.plan_rules.specs.declared.line_fault.LineCause.TheVariants.{BadSetting, NoCommand}
-use Rattle.plan_match.specs.declared.rule.Rule.{Rule}
-use Rattle.plan_texts.specs.Text.{begins_with}
 use Rattle.plan_texts.specs.Steps.{◌>>=◌, each}
-use Rattle.plan_grammar.specs.Readings.{Reading}
-use Rattle.plan_grammar.specs.Cron.{five_fields, at_word, found_reading}
+use Rattle.plan_grammar.specs.Cron.{rule_in_front}
 use Rattle.plan_texts.specs.Lines.{lines, after_blanks, cut_word}
 use Rattle.plan_rules.specs.LineFaults.{LineReading, TextReading, in_line, on_line}
 use Rattle.plan_rules.specs.Entries.{entry_on, meant_by}
 use Rattle.plan_rules.specs.FileText.{text_reading}
 use Rattle.plan_rules.specs.Job.{JobParts}
-
--- ---- the rule at the start of a line
-
--- the next word of a line and what follows it; if there is none, the line has too few fields (crontab(5), fields)
-abbrev pub next_part : List ℕ → Reading (List ℕ × List ℕ)
-next_part text = ok_or (cut_word text) (record { part = 0; cause = WrongParts })
-
--- the rule of five fields and what follows them; all five must be present before the first is read (agenda)
-unfoldable pub fields_in_front : List ℕ → Reading (Rule × List ℕ)
-fields_in_front text = do
-  minute ← next_part text
-  hour ← next_part (minute.1)
-  month_day ← next_part (hour.1)
-  month ← next_part (month_day.1)
-  week_day ← next_part (month.1)
-  rule ← five_fields (minute.0 ∷ hour.0 ∷ month_day.0 ∷ month.0 ∷ week_day.0 ∷ [])
-  Ok (rule, week_day.1)
-
--- the rule of a word that begins with `@`, and what follows it (crontab(5), extensions)
-unfoldable pub at_word_in_front : List ℕ → Reading (Rule × List ℕ)
-at_word_in_front text = do
-  word ← next_part text
-  rule ← found_reading (at_word (word.0))
-  Ok (rule, word.1)
-
--- the rule at the start of a line without leading blanks, and what follows it (crontab(5))
-abbrev pub rule_in_front : List ℕ → Reading (Rule × List ℕ)
-rule_in_front text =
-    if begins_with (λ b. b == byte "@") text then at_word_in_front text else fields_in_front text
 
 -- ---- what a line's job runs
 

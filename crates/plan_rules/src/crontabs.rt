@@ -5,20 +5,17 @@ ghost use Rattle.std.specs.Result.{result_map_both};
 ghost use Rattle.std.specs.Str.{is_utf8};
 ghost use Rattle.plan_texts.specs.Limits.{most_bytes};
 ghost use Rattle.plan_texts.specs.Steps.{GivesUnless};
-ghost use Rattle.plan_grammar.specs.Readings.{GivesBy};
 ghost use Rattle.plan_texts.specs.Lines.{after_blanks, is_too_large};
 ghost use Rattle.plan_rules.specs.LineFaults.{on_line, of_whole, want_of_memory, GivesLine, IsOwnCause};
 ghost use Rattle.plan_rules.specs.declared.crontabs.Kind.{Kind};
 ghost use Rattle.plan_rules.specs.Entries.{entry_on};
-ghost use Rattle.plan_rules.specs.Crontab.{crontab_by_entries, rule_in_front, at_word_in_front, fields_in_front, command_reading, what_reading, job_name, job_reading, begins_setting, setting_reading, line_reading, jobs_reading, crontab_reading};
+ghost use Rattle.plan_rules.specs.Crontab.{crontab_by_entries, command_reading, what_reading, job_name, job_reading, begins_setting, setting_reading, line_reading, jobs_reading, crontab_reading};
 
 use crate::entry::Entry;
 use crate::file_text::text_of;
 use crate::job::Job;
 use crate::line_fault::{LineCause, LineFault};
-use plan_grammar::{RuleFault, WRONG_PARTS, at_rule, five_fields};
-use plan_match::Rule;
-use plan_texts::begins_with;
+use plan_grammar::rule_in_front;
 use plan_texts::lines::{after_blanks, cut_word, lines};
 use std::alloc::{AllocError, Global};
 use std::sync::Arc;
@@ -182,46 +179,6 @@ fn job(alloc: Global, label: &str, kind: Kind, number: u32, line: &str) -> Resul
     let what = what(alloc, kind, rest)?;
     let name = name(alloc, label, number)?;
     Ok(Job::new(alloc, name, what, Arc::new(alloc, rule)?)?)
-}
-
-// Returns the rule at the start of a line without leading blanks, and what follows it.
-fn rule_in_front(alloc: Global, line: &str) -> Result<(Rule, &str), RuleFault>
-    ensures { GivesBy (λ front. (front.0, front.1.now)) result (rule_in_front line.now) }
-{
-    if begins_with(line.as_bytes(), b'@') {
-        at_word_in_front(alloc, line)
-    } else {
-        fields_in_front(alloc, line)
-    }
-}
-
-// Returns the rule of the first word of a line, which begins with `@`, and what follows it.
-#[tactic(auto, unfolding(crate::specs::Crontab::at_word_in_front))]
-fn at_word_in_front(alloc: Global, line: &str) -> Result<(Rule, &str), RuleFault>
-    ensures { GivesBy (λ front. (front.0, front.1.now)) result (at_word_in_front line.now) }
-{
-    let (word, rest) = cut_word(line).ok_or(WRONG_PARTS)?;
-    Ok((at_rule(alloc, word.as_bytes())?, rest))
-}
-
-// Returns the rule of the first five fields of a line, and what follows them.
-#[tactic(auto, unfolding(crate::specs::Crontab::fields_in_front))]
-fn fields_in_front(alloc: Global, line: &str) -> Result<(Rule, &str), RuleFault>
-    ensures { GivesBy (λ front. (front.0, front.1.now)) result (fields_in_front line.now) }
-{
-    let (minute, rest) = cut_word(line).ok_or(WRONG_PARTS)?;
-    let (hour, rest) = cut_word(rest).ok_or(WRONG_PARTS)?;
-    let (month_day, rest) = cut_word(rest).ok_or(WRONG_PARTS)?;
-    let (month, rest) = cut_word(rest).ok_or(WRONG_PARTS)?;
-    let (week_day, rest) = cut_word(rest).ok_or(WRONG_PARTS)?;
-    let fields = [
-        minute.as_bytes(),
-        hour.as_bytes(),
-        month_day.as_bytes(),
-        month.as_bytes(),
-        week_day.as_bytes(),
-    ];
-    Ok((five_fields(alloc, &fields)?, rest))
 }
 
 // Returns what the job of a line runs, from the text that follows its rule.
