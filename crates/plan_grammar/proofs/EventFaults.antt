@@ -2,18 +2,16 @@
 -- definition gives such an error.
 -- `all_words` is for the clauses `memory` and `specifier` of `calendar_event`. There is one lemma for each definition
 -- in the reading of an event, from a component's number up, which it unfolds; TextFaults puts the parts together.
-use Rattle.std.proofs.Common.{ℕ, ◌||◌, not, List, [], ◌∷◌, codes, length, eqb, Option, Some, None, arith}
+use Rattle.std.proofs.Common.{ℕ, ◌||◌, not, List, codes, Option, Some, None, arith}
 use Rattle.std.proofs.lemmas.Bool.Decides.{nat_tests}
-use Rattle.plan_grammar.specs.declared.fault.RuleCause.TheVariants.{BadName}
 use Rattle.plan_grammar.specs.declared.element.Side.{Side}
 use Rattle.plan_grammar.specs.declared.component.Component.{Component}
-use Rattle.plan_grammar.specs.declared.component.Component.TheVariants.{Year, Month, Day, Place, Hour, Minute, Second}
-use Rattle.std.specs.Char.{is_ascii_alphabetic}
-use Rattle.plan_texts.specs.Text.{begins_with, words, pieces, cut_at}
+use Rattle.plan_grammar.specs.declared.component.Component.TheVariants.{Year, Month, Hour, Minute, Second}
+use Rattle.plan_texts.specs.Text.{pieces, cut_at}
 use Rattle.plan_grammar.specs.Shape.{ShapeText, cut_date, date_reading, time_of_pieces, time_reading, is_time, one_word, two_words, dated, shape_reading}
-use Rattle.plan_grammar.specs.Event.{component_part, component_number, component_value, component_side, component_item_of, component_item, component_items, component_set, component_reading, weekday_of, weekday_reading, weekday_span, weekday_item, without_comma, weekday_items, weekdays_reading, weekdays_if_given, day_component, event_of, spelled_out, zone_dropped, expression_of, is_unknown_word, lone_word, zoneless, words_reading}
+use Rattle.plan_grammar.specs.Event.{component_part, component_number, component_value, component_side, component_item_of, component_item, component_items, component_set, component_reading, weekday_reading, weekday_span, weekday_item, without_comma, weekday_items, weekdays_reading, weekdays_if_given, day_component, event_of, spelled_out, zone_dropped, lone_word, zoneless, words_reading}
 use Rattle.plan_texts.specs.EachLaws.{err_steps, err_each, err_choice}
-use Rattle.plan_grammar.proofs.TextFaults.{IsTextFault, or_fault, side_of, cut_item, list_values}
+use Rattle.plan_grammar.proofs.TextFaults.{IsTextFault, side_of, cut_item, list_values}
 
 -- a component's number
 digits : (component : Component) (text : List ℕ) → IsTextFault (component_number component text)
@@ -22,13 +20,7 @@ digits component text = grind (arith, nat_tests)
 
 value : (component : Component) (text : List ℕ) → IsTextFault (component_value component text)
 unfolding component_value
-value Year text = err_steps _ (component_number Year text) _ (digits Year text) (λ n. tt)
-value Month text = digits Month text
-value Day text = digits Day text
-value Place text = digits Place text
-value Hour text = digits Hour text
-value Minute text = digits Minute text
-value Second text = digits Second text
+value component text = grind (arith, nat_tests, digits)
 
 side : (component : Component) (text : List ℕ) → IsTextFault (component_side component text)
 unfolding component_side
@@ -54,7 +46,7 @@ values component text = list_values (component_part component) (component_set co
 
 weekday : (name : List ℕ) → IsTextFault (weekday_reading name)
 unfolding weekday_reading
-weekday name = err_choice _ (eqb (length name) 0) _ _ tt (or_fault (weekday_of name) (record { part = 1; cause = BadName }) tt)
+weekday name = grind (arith, nat_tests)
 
 weekday_form : (text : List ℕ) (cut : Option (List ℕ × List ℕ)) → IsTextFault (weekday_span text cut)
 weekday_form text None = err_steps _ (weekday_reading text) _ (weekday text) (λ a. tt)
@@ -75,7 +67,7 @@ weekdays text = list_values 1 _ (weekday_items text) (weekday_list text)
 
 maybe_weekdays : (text : Option (List ℕ)) → IsTextFault (weekdays_if_given text)
 maybe_weekdays None = tt
-maybe_weekdays (Some text) = err_steps _ (weekdays_reading text) _ (weekdays text) (λ days. tt)
+maybe_weekdays (Some text) = grind (arith, nat_tests, weekdays text)
 
 cut_day : (text : List ℕ) (cut : Option (List ℕ × List ℕ)) → IsTextFault (cut_date text cut)
 cut_day text cut = grind (arith, nat_tests)
@@ -103,16 +95,11 @@ two given first second =
 
 after_weekdays : (given : Option (List ℕ)) (texts : List (List ℕ)) → IsTextFault (dated given texts)
 unfolding dated
-after_weekdays given [] = tt
-after_weekdays given (a ∷ []) = one given a
-after_weekdays given (a ∷ b ∷ []) = two given a b
-after_weekdays given (a ∷ b ∷ c ∷ more) = tt
+after_weekdays given texts = grind (arith, nat_tests, one, two)
 
 shape : (texts : List (List ℕ)) → IsTextFault (shape_reading texts)
 unfolding shape_reading
-shape [] = tt
-shape (first ∷ others) = err_choice _ (begins_with is_ascii_alphabetic first) _ _ (after_weekdays (Some first) others)
-    (after_weekdays None (first ∷ others))
+shape texts = grind (arith, nat_tests, after_weekdays)
 
 parts : (form : ShapeText) → IsTextFault (event_of form)
 unfolding event_of
@@ -135,14 +122,11 @@ unfolding zone_dropped
 zone texts = grind (arith, nat_tests)
 
 lone : (word : List ℕ) (expression : Option (List ℕ)) → IsTextFault (lone_word word expression)
-lone word (Some expression) = spelled (words expression)
-lone word None = err_choice _ (is_unknown_word word) _ _ tt (spelled (word ∷ []))
+lone word expression = grind (arith, nat_tests, spelled)
 
 no_zone : (texts : List (List ℕ)) → IsTextFault (zoneless texts)
 unfolding zoneless
-no_zone [] = spelled []
-no_zone (word ∷ []) = lone word (expression_of word)
-no_zone (first ∷ second ∷ others) = spelled (first ∷ second ∷ others)
+no_zone texts = grind (arith, nat_tests, spelled, lone)
 
 -- the error of an event's words has a cause that words may have
 pub all_words : (texts : List (List ℕ)) → IsTextFault (words_reading texts)

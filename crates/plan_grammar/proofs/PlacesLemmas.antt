@@ -1,7 +1,7 @@
 -- The places that a list of items stands for, checked one by one.
 -- For the loops of `first_fault` (`first_place_fault-push`, `-found`) and of `listed_places` (the rest). Errors are by
 -- induction over the items: the first error stays the first. Places are a case split on whether a value is the place of the turn.
-use Rattle.std.proofs.Common.{◌≡◌, ℕ, ◌+◌, Bool, true, false, ◌&&◌, ◌||◌, nat_eq, List, [], ◌∷◌, ◌++◌, take, drop, Option, Some, None, refl, ap, sym, ◌∙◌, arith, inl, inr, take-append-drop, ◌⊎◌}
+use Rattle.std.proofs.Common.{◌≡◌, ℕ, ◌+◌, Bool, true, false, ◌&&◌, ◌||◌, nat_eq, List, [], ◌∷◌, ◌++◌, take, drop, Option, Some, None, ap, sym, ◌∙◌, arith, take-append-drop}
 use Rattle.std.proofs.lemmas.Bool.Decides.{nat_tests}
 use Rattle.plan_sets.specs.declared.item.Item.{Item}
 use Rattle.plan_sets.specs.declared.item.SetFault.{SetFault}
@@ -10,24 +10,21 @@ use Rattle.plan_sets.specs.Values.{Values, has_value, values_where, is_among}
 use Rattle.plan_sets.specs.ValuesLaws.{same_values, has_value-values_where, base-values_where}
 use Rattle.plan_grammar.specs.Event.{place_fault, first_place_fault}
 
-fault_or-None : (fault : Option SetFault) → fault_or fault None ≡ fault
-fault_or-None fault = grind (arith, nat_tests)
+-- an item before others that have no error, and before others that have one
+unless_here : (here later new end : Option SetFault) → fault_or here later ≡ None → (later ≡ None → new ≡ end) → fault_or here new ≡ end
+unless_here here later new end none more = grind (arith, nat_tests)
 
-cases_fault : (fault : Option SetFault) → (fault ≡ None) ⊎ ((f : SetFault) × (fault ≡ Some f))
-cases_fault None = inl refl
-cases_fault (Some fault) = inr (fault, refl)
+still_first :
+    (here later new : Option SetFault) (fault : SetFault) → fault_or here later ≡ Some fault →
+    (later ≡ Some fault → new ≡ Some fault) → fault_or here new ≡ Some fault
+still_first here later new fault is more = grind (arith, nat_tests)
 
 -- one more item
 pub first_place_fault-push :
     (items : List Item) (item : Item) → first_place_fault items ≡ None → first_place_fault (items ++ item ∷ []) ≡ place_fault item
-first_place_fault-push [] item none = fault_or-None (place_fault item)
+first_place_fault-push [] item none = grind (arith, nat_tests)
 first_place_fault-push (i ∷ items) item none =
-    elim (cases_fault (place_fault i)) [
-      | inl here ↦
-          let later : first_place_fault items ≡ None = rw here at none in
-          rw here (first_place_fault-push items item later)
-      | inr there ↦ let bad : Some there.0 ≡ None = rw there.1 at none in cc
-    ]
+    unless_here (place_fault i) (first_place_fault items) _ _ none (first_place_fault-push items item)
 
 -- the first error stays the first, whatever follows
 first_place_fault-append :
@@ -35,14 +32,7 @@ first_place_fault-append :
     first_place_fault (items ++ more) ≡ Some fault
 first_place_fault-append [] more fault is = cc
 first_place_fault-append (i ∷ items) more fault is =
-    elim (cases_fault (place_fault i)) [
-      | inl here ↦
-          let later : first_place_fault items ≡ Some fault = rw here at is in
-          rw here (first_place_fault-append items more fault later)
-      | inr there ↦
-          let same : Some there.0 ≡ Some fault = rw there.1 at is in
-          rw there.1 same
-    ]
+    still_first (place_fault i) (first_place_fault items) _ fault is (first_place_fault-append items more fault)
 
 -- the error of a list whose items have no error before this item
 pub first_place_fault-found :

@@ -1,7 +1,7 @@
 -- Which errors a timer file has, and what is known of its name and its lines: for `timer` and `service_name`.
 -- `lines_fault` follows the definition: after each step all errors are of a line.
 use Rattle.std.proofs.Common.{◌≡◌, ℕ, ◌+◌, ◌-◌, ◌≤◌, Bool, true, false, ◌&&◌, nat_lt, nat_le, nat_eq, List, [], ◌∷◌, ◌++◌, length, drop, get_or, map, codes, Option, Ok, Err, IfErr, string_bytes, refl, ap, sym, ◌∙◌, true≢false, arith}
-use Rattle.std.proofs.lemmas.Bool.Decides.{nat_tests}
+use Rattle.std.proofs.lemmas.Bool.{and_parts, leb-true}
 use Rattle.std.proofs.lemmas.List.{get_or-drop}
 use Rattle.std.proofs.lemmas.Str.{IsCharBoundary-before_ascii}
 use Rattle.std.specs.Cmp.Lexicographic.{bytes_decides}
@@ -22,30 +22,19 @@ use Rattle.plan_rules.proofs.CrontabFaults.{IsLineCause, IsOwnFault, rule_in, on
 
 -- ---- the name
 
-and_first : (a b : Bool) → (a && b) ≡ true → a ≡ true
-and_first true b both = refl
-and_first false b both = absurd (true≢false (sym both))
-
-and_second : (a b : Bool) → (a && b) ≡ true → b ≡ true
-and_second true b both = both
-and_second false b both = absurd (true≢false (sym both))
-
-from_nat_le : (m n : ℕ) → nat_le m n ≡ true → m ≤ n
-from_nat_le m n is = grind (arith, nat_tests)
-
 -- a timer's name is long enough to be cut before `.timer`
 pub name_long : (name : List ℕ) → is_timer_name name ≡ true → 7 ≤ length name
 unfolding is_timer_name
-name_long name is = from_nat_le 7 (length name) (and_first (nat_le 7 (length name)) _ is)
+name_long name is = leb-true 7 (length name) (and_parts (nat_le 7 (length name)) _ is).0
 
 -- a timer's name may be cut there
 pub boundary_of_name : (name : List ℕ) → is_timer_name name ≡ true → IsCharBoundary name (length name - 6)
 unfolding is_timer_name
 boundary_of_name name is =
     let long : 7 ≤ length name = name_long name is in
-    let later = and_second (nat_le 7 (length name)) _ is in
-    let ends : ends_with nat_eq name (codes ".timer") ≡ true = and_first (ends_with nat_eq name (codes ".timer")) _
-    (and_second (nat_le (length name) 255) _ later) in
+    let later = (and_parts (nat_le 7 (length name)) _ is).1 in
+    let ends : ends_with nat_eq name (codes ".timer") ≡ true = (and_parts (ends_with nat_eq name (codes ".timer")) _
+    (and_parts (nat_le (length name) 255) _ later).1).0 in
     let tail : codes ".timer" ≡ drop (length name - 6) name = (bytes_decides (codes ".timer") (drop (length name - 6) name)).0 ends in
     let shift : length name - 6 + 0 ≡ length name - 6 = omega arith in
     let dot : get_or name (length name - 6) 0 ≡ 46 =
