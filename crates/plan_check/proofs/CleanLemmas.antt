@@ -1,6 +1,8 @@
 -- Files have no finding but warnings exactly if jobs can be made of them: for `clean_where_jobs_are`.
 -- `Agrees` says so of one file, or of its lines, with the names that follow; the rest is induction over the lists.
-use Rattle.std.proofs.Common.{◌≡◌, ℕ, Bool, true, false, not, ◌&&◌, eqb, nat_lt, cond, List, [], ◌∷◌, ◌++◌, length, map, Option, Some, None, is_none, is_some, option_map, Ok, Err, refl, ap, sym, ◌∙◌, subst}
+use Rattle.std.proofs.Common.{◌≡◌, ℕ, Bool, true, false, not, ◌&&◌, eqb, nat_lt, cond, List, [], ◌∷◌, ◌++◌, length, map, Option, Some, None, is_none, is_some, option_map, Ok, Err, refl, ap, sym, ◌∙◌, subst, arith}
+use Rattle.std.proofs.lemmas.Bool.Decides.{nat_tests}
+use Rattle.std.proofs.lemmas.List.Folds.{list_all-append}
 use Rattle.std.specs.List.{cons_option, flat_map}
 use Rattle.plan_clock.specs.declared.row.Change.{Change}
 use Rattle.plan_match.specs.Zone.{rule_in}
@@ -49,27 +51,17 @@ Agrees clock (Some next) found after = (is_clean found ≡ true) × (after ≡ k
 
 -- ---- warnings don't count
 
-and_assoc : (a b c : Bool) → (a && (b && c)) ≡ ((a && b) && c)
-and_assoc true b c = refl
-and_assoc false b c = refl
-
 clean_append : (xs ys : List Finding) → is_clean (xs ++ ys) ≡ (is_clean xs && is_clean ys)
-clean_append [] ys = refl
-clean_append (x ∷ xs) ys =
-    ap (λ (b : Bool). is_warning x.what && b) (clean_append xs ys) ∙ and_assoc (is_warning x.what) (is_clean xs) (is_clean ys)
+clean_append xs ys = list_all-append (λ finding. is_warning finding.what) xs ys
 
 warned_clean : (is_so : Bool) (line : ℕ) (warning : Warning) (more : List Finding) → is_clean
     (found_if is_so line (Warned warning) ++ more) ≡ is_clean more
-warned_clean true line warning more = refl
-warned_clean false line warning more = refl
+warned_clean is_so line warning more = grind (arith, nat_tests)
 
 two_clean :
     (p q : Bool) (line : ℕ) (first second : Warning) (more : List Finding) →
     is_clean ((found_if p line (Warned first) ++ found_if q line (Warned second)) ++ more) ≡ is_clean more
-two_clean true true line first second more = refl
-two_clean true false line first second more = refl
-two_clean false true line first second more = refl
-two_clean false false line first second more = refl
+two_clean p q line first second more = grind (arith, nat_tests)
 
 notes_clean : (clock : List Change) (line : ℕ) (rule : Rule) (more : List Finding) →
     is_clean (rule_warnings clock line rule ++ more) ≡ is_clean more
@@ -256,8 +248,7 @@ timer_text_agrees clock added name (Ok text) f =
 alone_named :
     (good : Bool) (reading : TextReading JobParts) (fault : LineFault) →
     alone (cond good reading (Err fault)) ≡ cond good (alone reading) (Err fault)
-alone_named true reading fault = refl
-alone_named false reading fault = refl
+alone_named good reading fault = grind (arith, nat_tests)
 
 -- ---- files
 

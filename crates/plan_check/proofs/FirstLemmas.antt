@@ -1,7 +1,8 @@
 -- The first error among the findings of a crontab: for the clause `first` of `findings`.
 -- The errors among the findings of lines are those of their entries (`faults_of_entries`), the first of which
 -- decides.
-use Rattle.std.proofs.Common.{◌≡◌, ℕ, Bool, true, false, not, ◌&&◌, nat_lt, cond, List, [], ◌∷◌, ◌++◌, length, Option, Some, None, option_map, Ok, Err, refl, ap, sym, ◌∙◌}
+use Rattle.std.proofs.Common.{◌≡◌, ℕ, Bool, true, false, not, ◌&&◌, nat_lt, cond, List, [], ◌∷◌, ◌++◌, length, Option, Some, None, option_map, Ok, Err, refl, ap, sym, ◌∙◌, arith}
+use Rattle.std.proofs.lemmas.Bool.Decides.{nat_tests}
 use Rattle.std.proofs.lemmas.List.Elements.{filter_map-append}
 use Rattle.std.specs.List.{filter_map, cons_option}
 use Rattle.std.specs.Result.{result_err}
@@ -39,10 +40,7 @@ use Rattle.plan_check.specs.Warnings.{rule_warnings, never_starts, is_reboot, is
 no_fault_noted :
     (p q : Bool) (line : ℕ) (first second : Warning) → filter_map fault_of
     (found_if p line (Warned first) ++ found_if q line (Warned second)) ≡ []
-no_fault_noted true true line first second = refl
-no_fault_noted true false line first second = refl
-no_fault_noted false true line first second = refl
-no_fault_noted false false line first second = refl
+no_fault_noted p q line first second = grind (arith, nat_tests)
 
 no_fault_in_warnings : (clock : List Change) (line : ℕ) (rule : Rule) → filter_map fault_of (rule_warnings clock line rule) ≡ []
 no_fault_in_warnings clock line rule =
@@ -53,11 +51,7 @@ no_fault_named :
     (m a b c : Bool) (line : ℕ) →
     filter_map fault_of (cons_option (option_map (λ what. finding_at line what)
     (cond (not m) None (cond a (Some SameName) (cond b None (cond c None (Some Full)))))) []) ≡ []
-no_fault_named false a b c line = refl
-no_fault_named true true b c line = refl
-no_fault_named true false true c line = refl
-no_fault_named true false false true line = refl
-no_fault_named true false false false line = refl
+no_fault_named m a b c line = grind (arith, nat_tests)
 
 no_fault_of_job :
     (known : KnownNames) (line : ℕ) (name : List ℕ) →
@@ -75,8 +69,7 @@ faults_of_line known line (Ok job) =
 faults_of_line known line (Err cause) = refl
 
 cons_front : {A : Type 0} (o : Option A) (xs : List A) → cons_option o [] ++ xs ≡ cons_option o xs
-cons_front None xs = refl
-cons_front (Some x) xs = refl
+cons_front o xs = grind (arith, nat_tests)
 
 pub faults_of_entries :
     (known : KnownNames) (entries : List (Entry JobParts)) →
@@ -95,8 +88,7 @@ abbrev pub CrontabLaw : Type 0
 CrontabLaw = (label : List ℕ) (kind : Kind) (bytes : List ℕ) → crontab_reading label kind bytes ≡ crontab_by_entries label kind bytes
 
 first_refused : {A : Type 0} (faults : List LineFault) (x : A) → first_of faults ≡ result_err (unless_refused faults x)
-first_refused [] x = refl
-first_refused (fault ∷ more) x = refl
+first_refused faults x = grind (arith, nat_tests)
 
 of_bytes :
     (large utf8 : Bool) (bytes : List ℕ) (known : KnownNames) (f : List ℕ → List (Entry JobParts)) →

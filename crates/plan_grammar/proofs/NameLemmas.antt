@@ -14,7 +14,8 @@ prefix_len-map : {X Y : Type 0} (p : Y → Bool) (v : X → Y) (xs : List X) →
 prefix_len-map p v [] = refl
 prefix_len-map p v (x ∷ xs) = ap (λ n. cond (p (v x)) (1 + n) 0) (prefix_len-map p v xs)
 
-position-map : {X Y : Type 0} (p : Y → Bool) (v : X → Y) (xs : List X) → position p (map v xs) ≡ position (λ x. p (v x)) xs
+-- a search in a mapped list stops at the same position
+pub position-map : {X Y : Type 0} (p : Y → Bool) (v : X → Y) (xs : List X) → position p (map v xs) ≡ position (λ x. p (v x)) xs
 position-map p v xs = simp (prefix_len-map, length-map)
 
 find-map : {X Y : Type 0} (p : Y → Bool) (v : X → Y) (xs : List X) → option_map v (find (λ x. p (v x)) xs) ≡ find p (map v xs)

@@ -1,11 +1,11 @@
 -- Which errors a crontab has: a failed allocation has line 0, and never is inside a rule's error.
 -- For all clauses of `crontab`, and for some of `timer`. `line` and `jobs` follow the definition: each step, choice and element
 -- keeps this property of its errors. `answered` carries it over to an answer, which may be a failed allocation instead.
-use Rattle.std.proofs.Common.{◌≡◌, ◌≢◌, ℕ, ◌+◌, eqb, List, [], ◌∷◌, length, Option, Some, None, Result, Ok, Err, IfErr, refl, ap, sym, inl, inr, subst}
+use Rattle.std.proofs.Common.{◌≡◌, ◌≢◌, ℕ, ◌+◌, eqb, List, [], ◌∷◌, length, Option, None, Result, Ok, Err, IfErr, refl, ap, sym, inl, inr, subst, arith}
+use Rattle.std.proofs.lemmas.Bool.Decides.{nat_tests}
 use Rattle.std.proofs.lemmas.Bool.{cases_eq}
 use Rattle.std.specs.List.{enumerate_from, list_any}
 use Rattle.plan_rules.specs.declared.crontabs.Kind.{Kind}
-use Rattle.plan_rules.specs.declared.crontabs.Kind.TheVariants.{User, System}
 use Rattle.plan_grammar.specs.declared.fault.RuleFault.{RuleFault}
 use Rattle.plan_grammar.specs.declared.fault.RuleCause.{RuleCause}
 use Rattle.plan_grammar.specs.declared.fault.RuleCause.TheVariants as cause
@@ -15,7 +15,7 @@ use Rattle.plan_rules.specs.declared.line_fault.LineFault.{LineFault}
 use Rattle.plan_texts.specs.EachLaws.{err_steps, err_each, err_choice}
 use Rattle.plan_texts.specs.Steps.{each, GivesUnless}
 use Rattle.plan_grammar.specs.Readings.{Reading}
-use Rattle.plan_texts.specs.Lines.{after_blanks, cut_word}
+use Rattle.plan_texts.specs.Lines.{after_blanks}
 use Rattle.plan_rules.specs.LineFaults.{LineReading, TextReading, IsOwnCause, cause_by_cause, in_line, on_line, fault_on_line, want_of_memory}
 use Rattle.plan_grammar.specs.Cron.{rule_in_front}
 use Rattle.plan_rules.specs.Crontab.{command_reading, user_and_command, what_reading, job_reading, begins_setting, entry_reading, line_reading, numbered_reading, jobs_reading}
@@ -51,13 +51,11 @@ command : (text : List ℕ) → IfErr (command_reading text) IsLineCause
 command text = err_choice IsLineCause (eqb (length text) 0) _ _ tt tt
 
 user : (cut : Option (List ℕ × List ℕ)) → IfErr (user_and_command cut) IsLineCause
-user None = tt
-user (Some cut) = err_steps IsLineCause (command_reading (after_blanks cut.1)) _ (command (after_blanks cut.1)) (λ c. tt)
+user cut = grind (arith, nat_tests, command)
 
 what : (kind : Kind) (text : List ℕ) → IfErr (what_reading kind text) IsLineCause
 unfolding what_reading
-what User text = command (after_blanks text)
-what System text = user (cut_word text)
+what kind text = grind (arith, nat_tests, command, user)
 
 job : (label : List ℕ) (kind : Kind) (number : ℕ) (text : List ℕ) → IfErr (job_reading label kind number text) IsLineCause
 unfolding job_reading

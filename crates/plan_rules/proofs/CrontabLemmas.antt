@@ -1,6 +1,7 @@
 -- A crontab that is read line by line: for the loop of `jobs_of_lines`. The jobs so far and the remaining lines together mean what
 -- all lines mean (`rest_reading`).
-use Rattle.std.proofs.Common.{◌≡◌, ℕ, ◌+◌, ◌<◌, ◌≤◌, List, [], ◌∷◌, ◌++◌, length, drop, get_or, map, Option, Some, None, Result, Ok, Err, refl, ap, sym, ◌∙◌, append-nil}
+use Rattle.std.proofs.Common.{◌≡◌, ℕ, ◌+◌, ◌<◌, ◌≤◌, List, [], ◌∷◌, ◌++◌, length, drop, get_or, map, Option, Result, Ok, Err, ap, ◌∙◌, append-nil, arith}
+use Rattle.std.proofs.lemmas.Bool.Decides.{nat_tests}
 use Rattle.std.proofs.lemmas.List.{append_assoc, drop_more, drop_all}
 use Rattle.std.specs.List.{cons_option, enumerate_from, filter_map}
 use Rattle.plan_texts.specs.Steps.{◌>>=◌, each}
@@ -14,9 +15,7 @@ line_read :
     {B E : Type 0} (jobs : List B) (here : Option B) (rest : Result (List (Option B)) E) →
     ((rest >>= λ ys. Ok (here ∷ ys)) >>= λ found. Ok (jobs ++ filter_map (λ job. job) found))
     ≡ (rest >>= λ found. Ok ((jobs ++ cons_option here []) ++ filter_map (λ job. job) found))
-line_read jobs here (Err e) = refl
-line_read jobs None (Ok ys) = ap (λ j. Ok (j ++ filter_map (λ job. job) ys)) (sym (append-nil jobs))
-line_read jobs (Some job) (Ok ys) = ap Ok (sym (append_assoc jobs (job ∷ []) (filter_map (λ job. job) ys)))
+line_read jobs here rest = grind (arith, nat_tests, append-nil, append_assoc)
 
 -- one more line was read
 pub rest_more :

@@ -1,6 +1,7 @@
 -- The entries of lines, and what the lines mean together: for the law of entries.
 -- A text whose lines are read in order, up to the first error, means what its entries mean (`each_by_entries`).
-use Rattle.std.proofs.Common.{◌≡◌, ℕ, ◌+◌, List, [], ◌∷◌, Option, Some, None, Ok, Err, refl, ap, ◌∙◌}
+use Rattle.std.proofs.Common.{◌≡◌, ℕ, ◌+◌, List, [], ◌∷◌, Option, Some, None, Ok, Err, refl, ◌∙◌, arith}
+use Rattle.std.proofs.lemmas.Bool.Decides.{nat_tests}
 use Rattle.std.specs.List.{filter_map, cons_option, enumerate_from}
 use Rattle.plan_rules.specs.declared.entry.Entry.{Entry}
 use Rattle.plan_rules.specs.declared.line_fault.LineFault.{LineFault}
@@ -16,17 +17,13 @@ with_first :
     {B : Type 0} (x : B) (later : TextReading (List (Option B))) (faults : List LineFault) (xs : List B) →
     (later >>= λ found. Ok (filter_map (λ job. job) found)) ≡ unless_refused faults xs →
     ((later >>= λ ys. Ok (Some x ∷ ys)) >>= λ found. Ok (filter_map (λ job. job) found)) ≡ unless_refused faults (x ∷ xs)
-with_first x (Ok ys) [] xs is = let same : filter_map (λ job. job) ys ≡ xs = cc in ap (λ rest. Ok (x ∷ rest)) same
-with_first x (Ok ys) (fault ∷ more) xs is = absurd cc
-with_first x (Err e) [] xs is = absurd cc
-with_first x (Err e) (fault ∷ more) xs is = is
+with_first x later faults xs is = grind (arith, nat_tests)
 
 without_first :
     {B : Type 0} (later : TextReading (List (Option B))) →
     ((later >>= λ ys. Ok (None ∷ ys)) >>= λ found. Ok (filter_map (λ job. job) found))
     ≡ (later >>= λ found. Ok (filter_map (λ (job : Option B). job) found))
-without_first (Ok ys) = refl
-without_first (Err e) = refl
+without_first later = grind (arith, nat_tests)
 
 first_line :
     {B : Type 0} (number : ℕ) (r : LineReading (Option B)) (later : TextReading (List (Option B))) (entries : List (Entry B)) →

@@ -1,7 +1,8 @@
 -- What the text of a file says about its bytes: for `text_of`, and for `crontab` and `timer` at their last returns.
 -- If there is a text, the bytes are not too large and are valid UTF-8 (`sound`). Then a call whose errors are of lines has
 -- neither of these two errors, so both sides of the clauses `too_large` and `not_utf8` are false.
-use Rattle.std.proofs.Common.{◌≡◌, ◌↔◌, ℕ, Bool, true, false, cond, List, Result, Ok, Err, IfErr, IsTrue, refl, sym, ◌∙◌, true≢false}
+use Rattle.std.proofs.Common.{◌≡◌, ◌↔◌, ℕ, Bool, true, false, cond, List, Result, Ok, Err, IfErr, IsTrue, refl, sym, ◌∙◌, true≢false, arith}
+use Rattle.std.proofs.lemmas.Bool.Decides.{nat_tests}
 use Rattle.std.proofs.lemmas.Str.{IsUtf8-from_is_utf8, is_utf8-from_IsUtf8}
 use Rattle.std.specs.Str.{IsUtf8, is_utf8}
 use Rattle.plan_rules.specs.declared.line_fault.LineCause.TheVariants.{NotUtf8, TooLarge}
@@ -29,9 +30,7 @@ text_of_other bytes small other = rw (small, no_utf8 (is_utf8 bytes) bytes refl 
 sound :
     (large utf8 : Bool) (bytes text : List ℕ) →
     Ok text ≡ on_line 0 (cond large (Err TooLarge) (cond utf8 (Ok bytes) (Err NotUtf8))) → (large ≡ false) × (utf8 ≡ true)
-sound true utf8 bytes text is = absurd cc
-sound false true bytes text is = (refl, refl)
-sound false false bytes text is = absurd cc
+sound large utf8 bytes text is = grind (arith, nat_tests)
 
 pub too_large :
     {A : Type 0} (answer : Result A LineFault) (bytes text : List ℕ) → Ok text ≡ text_reading bytes → IfErr answer IsOwnFault →

@@ -1,27 +1,19 @@
 -- Jobs by their names: the entries of a map, whose keys are the names of its values.
 -- For `distinct` of `Jobs::len`, for `number_of` and for `add`. `KeysAreNames` is the type's invariant. By it the position of a
 -- key is that of a job, since a search in a mapped list stops at the same position (`position-map`).
-use Rattle.std.proofs.Common.{◌≡◌, ℕ, ◌+◌, Bool, false, cond, not, nat_lt, List, [], ◌∷◌, ◌++◌, map, Option, Some, None, is_some, String, Global, string_bytes, position, refl, ap, sym, ◌∙◌, true≢false, subst}
-use Rattle.std.proofs.lemmas.List.{map-append, length-map}
-use Rattle.std.specs.List.{prefix_len, IsDistinct, AllByRecursion}
+use Rattle.std.proofs.Common.{◌≡◌, ℕ, Bool, false, List, [], ◌∷◌, ◌++◌, map, Option, None, is_some, String, Global, string_bytes, position, ap, sym, ◌∙◌, subst, arith}
+use Rattle.std.proofs.lemmas.Bool.Decides.{nat_tests}
+use Rattle.std.proofs.lemmas.List.{map-append}
+use Rattle.std.specs.List.{IsDistinct, AllByRecursion}
 use Rattle.std.specs.Map.{keys_of, values_of}
 use Rattle.std.specs.Str.{bytes_eq}
 use Rattle.std.specs.String.{string_eq}
 use Rattle.indexmap.specs.IndexMap.{IndexMap, insert_entry}
 use Rattle.indexmap.proofs.CallerLemmas.{insert_entry-new}
 use Rattle.indexmap.proofs.MapLemmas.{some_index}
+use Rattle.plan_grammar.proofs.NameLemmas.{position-map}
 use Rattle.plan_rules.specs.Job.{JobParts}
 use Rattle.plan_rules.specs.Jobs.{number_of, HaveDistinctNames}
-
-prefix_len-map : {A B : Type 0} (p : B → Bool) (f : A → B) (xs : List A) → prefix_len p (map f xs) ≡ prefix_len (λ x. p (f x)) xs
-prefix_len-map p f [] = refl
-prefix_len-map p f (x ∷ xs) = ap (λ n. cond (p (f x)) (1 + n) 0) (prefix_len-map p f xs)
-
-position-map : {A B : Type 0} (p : B → Bool) (f : A → B) (xs : List A) → position p (map f xs) ≡ position (λ x. p (f x)) xs
-position-map p f xs =
-    let first = prefix_len-map (λ y. not (p y)) f xs in
-    let all = length-map xs f in
-    λ i. cond (nat_lt (first i) (all i)) (Some (first i)) None
 
 -- the keys are the names of the values
 abbrev pub KeysAreNames : List (String Global × JobParts) → Type 0
@@ -56,8 +48,7 @@ HaveDistinctNames-keys es same distinct =
     subst P same (IsDistinct-map bytes_eq (λ key. string_bytes key) (keys_of es) distinct)
 
 none_there : {A : Type 0} (o : Option A) → is_some o ≡ false → o ≡ None
-none_there None h = refl
-none_there (Some x) h = absurd (true≢false h)
+none_there o h = grind (arith, nat_tests)
 
 -- a job with a new name is added last
 pub insert_entry-job :

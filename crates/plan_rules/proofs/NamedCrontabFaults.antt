@@ -1,6 +1,7 @@
 -- An error of a crontab is never that of a bad name: for `bad_name` of `named_crontab`, at its last return.
 -- It follows from the definition: the bytes are checked first, and then each error is of a line.
-use Rattle.std.proofs.Common.{◌≡◌, ◌≢◌, ℕ, Bool, true, false, cond, List, Result, Ok, Err, IfErr, ap}
+use Rattle.std.proofs.Common.{◌≡◌, ◌≢◌, ℕ, Bool, cond, List, Result, Ok, Err, IfErr, ap, arith}
+use Rattle.std.proofs.lemmas.Bool.Decides.{nat_tests}
 use Rattle.std.proofs.lemmas.Result.{IfErr-weaker}
 use Rattle.std.specs.Str.{is_utf8}
 use Rattle.plan_rules.specs.declared.crontabs.Kind.{Kind}
@@ -25,9 +26,7 @@ of_line c own = λ same. cc
 
 of_text :
     (large utf8 : Bool) (bytes : List ℕ) → IfErr (on_line 0 (cond large (Err TooLarge) (cond utf8 (Ok bytes) (Err NotUtf8)))) IsOfNoName
-of_text true utf8 bytes = λ same. cc
-of_text false true bytes = tt
-of_text false false bytes = λ same. cc
+of_text large utf8 bytes = grind (arith, nat_tests)
 
 pub of_crontab : (label : List ℕ) (kind : Kind) (bytes : List ℕ) → IfErr (crontab_reading label kind bytes) IsOfNoName
 of_crontab label kind bytes =

@@ -1,6 +1,6 @@
 -- Which errors a timer file has, and what is known of its name and its lines: for `timer` and `service_name`.
 -- `lines_fault` follows the definition: after each step all errors are of a line.
-use Rattle.std.proofs.Common.{◌≡◌, ℕ, ◌+◌, ◌-◌, ◌≤◌, Bool, true, false, ◌&&◌, nat_lt, nat_le, nat_eq, List, [], ◌∷◌, ◌++◌, length, drop, get_or, map, codes, Option, Ok, Err, IfErr, string_bytes, refl, ap, sym, ◌∙◌, true≢false, arith}
+use Rattle.std.proofs.Common.{◌≡◌, ℕ, ◌+◌, ◌-◌, ◌≤◌, Bool, true, false, nat_lt, nat_le, nat_eq, List, [], ◌∷◌, ◌++◌, length, drop, get_or, map, codes, Option, Ok, Err, IfErr, string_bytes, refl, ap, sym, ◌∙◌, arith}
 use Rattle.std.proofs.lemmas.Bool.{and_parts, leb-true}
 use Rattle.std.proofs.lemmas.List.{get_or-drop}
 use Rattle.std.proofs.lemmas.Str.{IsCharBoundary-before_ascii}
