@@ -2,6 +2,7 @@
 -- timer's entries.
 -- While no event is rejected, the list has as many events as were counted (`events_by_entries`). So both reach 64 at the same event.
 use Rattle.std.proofs.Common.{◌≡◌, ℕ, ◌+◌, ◌<◌, Bool, true, false, ◌||◌, cond, nat_lt, List, [], ◌∷◌, ◌++◌, length, drop, get_or, map, Option, Some, None, Ok, Err, refl, ap, sym, ◌∙◌, append-nil, length-append, append_assoc}
+use Rattle.std.proofs.Math.Bool.{or_assoc}
 use Rattle.std.proofs.lemmas.List.{drop_more}
 use Rattle.std.specs.List.{cons_option, flat_map}
 use Rattle.std.specs.Result.{result_ok}
@@ -17,7 +18,6 @@ use Rattle.plan_rules.specs.FileText.{text_reading}
 use Rattle.plan_rules.specs.Job.{JobParts}
 use Rattle.plan_texts.specs.WholeLines.{whole_lines, trimmed}
 use Rattle.plan_rules.specs.Timer.{Effect, Reset, Event, Starts, Nothing, effects_from, events_from, first_unit, has_timer, inside_after, is_timer_name, job_with, section_name, timer_of_lines, timer_reading}
-use Rattle.plan_rules.proofs.TimerLemmas.{or_assoc}
 use Rattle.plan_rules.specs.TimerEntries.{EventCount, TimerState, count_from, entry_of, event_line, line_in, entries_from, events_after, lines_by_entries, parts_of_lines, state_after, timer_by_entries, timer_entries}
 
 -- an event that is read, before those that follow
@@ -110,7 +110,7 @@ pub section_step :
     (state.found || has_timer (line ∷ more)) ≡ whole → (after.found || has_timer more) ≡ whole
 section_step state after line more whole after_is so_far =
     ap (λ (s : TimerState). s.found || has_timer more) after_is
-    ∙ sym (or_assoc state.found (inside_after false (section_name line.1)) (has_timer more))
+    ∙ or_assoc state.found (inside_after false (section_name line.1)) (has_timer more)
     ∙ so_far
 
 -- the number of events in the list

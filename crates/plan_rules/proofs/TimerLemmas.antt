@@ -2,6 +2,7 @@
 -- The state and the remaining lines together mean what the whole file means (`rest_reading`): before the first line, from one
 -- line to the next, and after the last.
 use Rattle.std.proofs.Common.{◌≡◌, ℕ, ◌+◌, ◌<◌, ◌≤◌, Bool, true, false, ◌||◌, cond, nat_lt, List, [], ◌∷◌, ◌++◌, length, drop, get_or, map, Option, Some, None, Ok, Err, IfOk, unwrap_or, refl, ap, sym, subst, ◌∙◌, length-append}
+use Rattle.std.proofs.Math.Bool.{or_assoc, or-false}
 use Rattle.std.proofs.lemmas.List.{drop_more, drop_all}
 use Rattle.plan_match.specs.declared.event.Calendar.{Calendar}
 use Rattle.plan_texts.specs.Steps.{◌>>=◌}
@@ -81,10 +82,6 @@ effect_step name number (Event text) draft more =
 effect_step name number (Starts unit) draft more = refl
 effect_step name number Nothing draft more = refl
 
-pub or_assoc : (a b c : Bool) → (a || (b || c)) ≡ ((a || b) || c)
-or_assoc true b c = refl
-or_assoc false b c = refl
-
 -- one more line
 pub rest_reading-line :
     (name : List ℕ) (draft : Draft) (line : ℕ × List ℕ) (more : List (ℕ × List ℕ)) → IsCounted draft →
@@ -96,7 +93,7 @@ rest_reading-line name draft line more counts =
     let after = record draft { reader = state_after draft.reader line.1 } in
     ap (λ (end : Bool × Option (List ℕ)). events_from draft.events ((line.0, effect) ∷ left) >>=
     λ events. job_with end.0 name end.1 events)
-    (λ i. (or_assoc draft.reader.found (inside_after false section) (has_timer more) i, unit_step draft.unit line.0 effect left i))
+    (λ i. (sym (or_assoc draft.reader.found (inside_after false section) (has_timer more)) i, unit_step draft.unit line.0 effect left i))
     ∙ effect_step name line.0 effect after more
     ∙ ap (λ count. after_step after (line_by line.0 count effect) >>= λ next. rest_reading name next more) (sym counts)
 
@@ -138,10 +135,6 @@ rest_reading-more v name draft lines place line inside is counts =
     (drop_more lines place line inside ∙ ap (λ first. first ∷ drop (place + 1) lines) (sym is))
     ∙ rest_reading-line name draft (v line) (map v (drop (place + 1) lines)) counts
 
-or_false : (b : Bool) → (b || false) ≡ b
-or_false true = refl
-or_false false = refl
-
 unit_from-empty : (unit : Option (List ℕ)) → unit_from unit [] ≡ unit
 unit_from-empty None = refl
 unit_from-empty (Some unit) = refl
@@ -152,4 +145,4 @@ pub rest_reading-end :
     rest_reading name draft (map v (drop place lines)) ≡ job_with draft.reader.found name draft.unit draft.events
 rest_reading-end v name draft lines place past =
     ap (λ left. rest_reading name draft (map v left)) (drop_all place lines past)
-    ∙ (λ i. job_with (or_false draft.reader.found i) name (unit_from-empty draft.unit i) draft.events)
+    ∙ (λ i. job_with (or-false draft.reader.found i) name (unit_from-empty draft.unit i) draft.events)
