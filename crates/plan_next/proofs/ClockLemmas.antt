@@ -1,6 +1,5 @@
 -- Events without clocks: for `passed_by_events`, which checks each, and for `next_of_each`, which needs that none has one.
-use Rattle.std.proofs.Common.{◌≡◌, ℕ, ◌+◌, ◌<◌, zero, suc, List, [], ◌∷◌, length, Some, refl, arith}
-use Rattle.std.proofs.lemmas.Bool.Decides.{nat_tests}
+use Rattle.std.proofs.Common.{◌≡◌, ℕ, ◌<◌, zero, suc, List, [], ◌∷◌, length, Some, refl, arith}
 use Rattle.std.specs.List.{slice_get}
 use Rattle.plan_match.specs.declared.event.Calendar.{Calendar}
 use Rattle.plan_next.specs.UtcLaws.{HaveNoClock}
@@ -8,11 +7,6 @@ use Rattle.plan_next.specs.UtcLaws.{HaveNoClock}
 -- none of the first i events has a clock
 abbrev pub NoneBelow : List Calendar → ℕ → Type 0
 NoneBelow events i = (k : ℕ) (event : Calendar) → k < i → slice_get events k ≡ Some event → event.clock ≡ []
-
-pub none_more :
-    (events : List Calendar) (i : ℕ) (found : Calendar) → slice_get events i ≡ Some found → found.clock ≡ [] → NoneBelow events i →
-    NoneBelow events (i + 1)
-none_more events i found here none below = grind (arith, nat_tests)
 
 pub all_none : (events : List Calendar) → NoneBelow events (length events) → HaveNoClock events
 all_none [] below = tt

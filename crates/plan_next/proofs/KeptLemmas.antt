@@ -1,14 +1,13 @@
 -- The next starts that are kept for the events of a list.
--- For the loops of `first_of_each` and `next_of_each`, and for `first_starts`, `next_of_event` and `next_of_cron`.
--- `KeepsNexts-start` is hard: an event that started before the list's next start would itself be a start (`not_before`).
+-- For `first_of_each` and `next_of_each`.
+-- `AreNexts-start` is hard: an event that started before the list's next start would itself be a start (`not_before`).
 use Rattle.std.proofs.Common.{◌≡◌, ◌≢◌, ℕ, ◌+◌, ◌<◌, ◌≤◌, true, List, length, get_or, set, get_or-set_other, get_or-set_same, Some, inl, inr, sym, ap, ◌∙◌, subst, arith}
 use Rattle.std.specs.Prelude.{nat_lt, slice_get, slice_index}
 use Rattle.std.proofs.lemmas.Bool.{cases_lt, lt-ltb, true≢false}
 use Rattle.plan_sets.specs.Limits.{end_second}
 use Rattle.plan_match.specs.declared.event.Calendar.{Calendar}
-use Rattle.plan_match.specs.declared.rule.Rule.{Rule}
 use Rattle.plan_match.specs.declared.rule.Rule.TheVariants as rule
-use Rattle.plan_next.specs.Next.{IsFirstOrEnd, KeepsNexts}
+use Rattle.plan_next.specs.Next.{AreNexts, IsFirstOrEnd}
 use Rattle.plan_next.specs.Starts.{event_starts, is_start}
 use Rattle.plan_next.proofs.EventsLemmas.{is_start-event}
 use Rattle.plan_next.proofs.NextsLemmas.{IsFirstOrEnd-later}
@@ -16,9 +15,10 @@ use Rattle.plan_next.proofs.NextsLemmas.{IsFirstOrEnd-later}
 -- no event's next start comes before the list's
 not_before :
     (events : List Calendar) (from end start k n : ℕ) (event : Calendar) →
-    IsFirstOrEnd (is_start (rule.Events events)) from end start → start < end → end ≤ end_second →
+    IsFirstOrEnd (is_start (rule.Events events)) from end start → end ≤ end_second →
     slice_get events k ≡ Some event → IsFirstOrEnd (event_starts event) from end n → start ≤ n
-not_before events from end start k n event next lt years is kept =
+not_before events from end start k n event next years is kept =
+    let to = next.to in
     elim (cases_lt n start) [
       | inl before ↦
           let known : nat_lt n end_second ≡ true = lt-ltb _ _ (omega arith) in
@@ -28,17 +28,15 @@ not_before events from end start k n event next lt years is kept =
       | inr after ↦ after
     ]
 
--- what is kept for each event, if the rule's next start is known
-pub KeepsNexts-start :
-    (of : Rule) (from end start : ℕ) (kept : List ℕ) → IsFirstOrEnd (is_start of) from end start → start < end → end ≤ end_second →
-    KeepsNexts of from end kept → KeepsNexts of start end kept
-KeepsNexts-start (rule.Cron cron) from end start kept next lt years keeps = keeps
-KeepsNexts-start rule.Never from end start kept next lt years keeps = tt
-KeepsNexts-start (rule.Events events) from end start kept next lt years keeps =
-    λ few k event is.
-    let here = keeps few k event is in
+-- what is kept for each event, if the list's next start is known
+pub AreNexts-start :
+    (events : List Calendar) (from end start : ℕ) (kept : List ℕ) → IsFirstOrEnd (is_start (rule.Events events)) from end start →
+    end ≤ end_second → AreNexts events from end kept → AreNexts events start end kept
+AreNexts-start events from end start kept next years keeps =
+    λ k event is.
+    let here = keeps k event is in
     IsFirstOrEnd-later (event_starts event) from end (slice_index kept k) start here next.from
-    (not_before events from end start k (slice_index kept k) event next lt years is here)
+    (not_before events from end start k (slice_index kept k) event next years is here)
 
 -- the next starts are kept for the events before place i
 abbrev pub AreKept : List Calendar → (from end i : ℕ) → List ℕ → Type 0

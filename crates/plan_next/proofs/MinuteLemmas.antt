@@ -1,6 +1,6 @@
 -- A cron rule's first start is at the first minute if the rule starts then. After a start, the next one is at the next
 -- of its minutes in the hour.
--- For `first_of_cron` and `add_cron_starts_of_hour`. The only second of a minute that can match is its first.
+-- For `first_of_cron` and `add_minutes`. The only second of a minute that can match is its first.
 use Rattle.std.proofs.Common.{◌≡◌, ℕ, ◌+◌, ◌-◌, ◌*◌, ◌/◌, ◌%◌, ◌<◌, true, Bor, List, arith}
 use Rattle.std.proofs.lemmas.Bool.Decides.{nat_tests}
 use Rattle.std.specs.Int.{div_ceil}

@@ -1,17 +1,12 @@
 -- Next starts: of a rule from those of its events, and each from the one before it.
 -- For `first_of_event`, `next_of_event` and `first_starts`, and for KeptLemmas and EventsLemmas. `IsFirstOrEnd` is the
 -- first number that passes, or the end of the part. Each lemma builds one such record from others.
-use Rattle.std.proofs.Common.{◌≡◌, ℕ, ◌<◌, ◌≤◌, Bool, true, Option, arith}
+use Rattle.std.proofs.Common.{◌≡◌, ℕ, ◌<◌, ◌≤◌, Bool, arith}
 use Rattle.std.proofs.lemmas.Bool.Decides.{nat_tests}
-use Rattle.std.specs.Prelude.{nat_lt, unwrap_or}
+use Rattle.std.specs.Prelude.{nat_lt}
 use Rattle.std.specs.Bool.{then_some}
 use Rattle.plan_next.specs.Next.{IsFirstOrEnd}
 use Rattle.plan_next.specs.Starts.{NoneIn, IsLeastIn, IsFirstIn}
-
--- a first answer, or the end of the part
-pub IsFirstOrEnd-first :
-    (test : ℕ → Bool) (a b : ℕ) (answer : Option ℕ) → a ≤ b → IsFirstIn test a b answer → IsFirstOrEnd test a b (unwrap_or answer b)
-IsFirstOrEnd-first test a b answer given given₂ = grind (arith, nat_tests)
 
 -- if the next number isn't the end, it is the first that passes
 pub IsLeastIn-next : (test : ℕ → Bool) (a b n : ℕ) → IsFirstOrEnd test a b n → n < b → IsLeastIn test a b n
@@ -32,7 +27,3 @@ IsFirstOrEnd-later test a b n later next low high = grind (arith, nat_tests)
 pub IsFirstOrEnd-same :
     (test other : ℕ → Bool) (a b n : ℕ) → ((k : ℕ) → k < b → test k ≡ other k) → IsFirstOrEnd test a b n → IsFirstOrEnd other a b n
 IsFirstOrEnd-same test other a b n same next = grind (arith, nat_tests)
-
--- if a part begins with the next number, that passes
-pub passes-next : (test : ℕ → Bool) (a b n : ℕ) → IsFirstOrEnd test a b n → n ≤ a → a < b → test a ≡ true
-passes-next test a b n next le lt = grind (arith, nat_tests)

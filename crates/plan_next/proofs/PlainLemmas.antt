@@ -1,5 +1,5 @@
 -- The starts of a cron rule in an hour of what its clock shows.
--- For `add_starts_of_hour`, which continues from a start in a part of time where the rule starts exactly when what is
+-- For `add_minutes`, which continues from a start in a part of time where the rule starts exactly when what is
 -- shown matches.
 use Rattle.std.proofs.Common.{◌≡◌, ℕ, ◌+◌, ◌-◌, ◌*◌, ◌/◌, ◌%◌, ◌<◌, ◌≤◌, true, Bor, List, Some, sym, ap, subst, ◌∙◌, arith}
 use Rattle.plan_sets.specs.Limits.{end_second}

@@ -188,7 +188,6 @@ found_in_row row heeds test from upto low high (Some m) begun part is within bey
 -- both offsets are at most 26 hours from UTC
 record IsNear (row : Row) : Type 0 where
   before_from : neg_ℤ (pos most_offset) ≤ℤ row.before
-  before_to : row.before ≤ℤ pos most_offset
   offset_from : neg_ℤ (pos most_offset) ≤ℤ row.offset
   offset_to : row.offset ≤ℤ pos most_offset
 

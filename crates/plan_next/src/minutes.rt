@@ -1,11 +1,10 @@
 //! Finds the starts of a cron rule within an hour. For each minute of the rule, the next one in the hour is kept.
 
-ghost use Rattle.std.specs.Prelude.{◌≡◌, ◌+◌, ◌<◌, ◌≤◌, ℕ, true, None, IfOk};
+ghost use Rattle.std.specs.Prelude.{◌≡◌, ◌+◌, ◌<◌, ◌≤◌, ℕ, true, IfOk};
 ghost use Rattle.plan_sets.specs.Limits.{end_second};
 ghost use Rattle.plan_sets.specs.Values.{has_value};
 ghost use Rattle.plan_next.specs.Starts.{is_start};
-ghost use Rattle.plan_next.specs.UtcLaws.{HasNoClock};
-ghost use Rattle.plan_next.specs.Next.{AreNextMinutes, IsFirstOrEnd, KeepsNexts};
+ghost use Rattle.plan_next.specs.Next.{AreNextMinutes, IsFirstOrEnd};
 ghost use Rattle.plan_next.specs.Piece.{AreFound};
 ghost use Rattle.plan_next.specs.Search.{IsPlain};
 ghost use Rattle.plan_next.specs.declared.search.Pattern.TheVariants.{Cron};
@@ -41,47 +40,15 @@ fn minute_or_end(minutes: &ValueSet, from: u16) -> u16
 }
 
 /// Adds the starts of a cron rule that follow `start` in its hour, until `found` has `most` starts, and returns
-/// the last start that was found.
+/// the last start that was found: `start` if none is added.
 ///
-/// Only starts before `upto` are added. `start` is the last start found so far. If none is added, such as for
-/// any other kind of rule, `start` is returned.
+/// `start` is the last start found so far. `part` begins with it, and in it the rule starts exactly when what its
+/// clock shows matches. `kept` is from `keep_next_minutes`.
 ///
 /// # Errors
 ///
 /// `AllocError` if an allocation fails.
-pub(crate) fn add_starts_of_hour(
-    rule: &Rule,
-    kept: &[u64; MOST_KEPT],
-    start: u64,
-    upto: u64,
-    most: usize,
-    found: &mut Vec<u64>,
-    guess: Option<usize>,
-) -> Result<u64, AllocError>
-    requires part { start < upto }
-    requires years { upto ≤ end_second }
-    requires start { is_start rule.now start ≡ true }
-    requires kept { KeepsNexts rule.now start upto kept.now }
-    requires utc { guess ≡ None → HasNoClock rule.now }
-    ensures from { IfOk result (λ last. start ≤ last) }
-    ensures part { IfOk result (λ last. last < upto) }
-    ensures last { IfOk result (λ last. is_start rule.now last ≡ true) }
-    ensures kept { IfOk result (λ last. KeepsNexts rule.now last upto kept.now) }
-    ensures found { (since : ℕ) → AreFound rule.now since upto most found.old.items (start + 1)
-        → IfOk result (λ last. AreFound rule.now since upto most found.new.items (last + 1)) }
-{
-    match rule {
-        Rule::Cron(rule) => match Pattern::Cron(rule).plain_part(start, upto, guess) {
-            Some(part) => add_cron_starts_of_hour(rule, kept, start, part, upto, most, found),
-            None => Ok(start),
-        },
-        _ => Ok(start),
-    }
-}
-
-// Does the same for a cron rule. `part` begins with a start, and in it the rule starts exactly when what its
-// clock shows matches.
-fn add_cron_starts_of_hour(
+pub(crate) fn add_minutes(
     rule: &CronRule,
     kept: &[u64; MOST_KEPT],
     start: u64,

@@ -6,8 +6,7 @@ ghost use Rattle.plan_sets.specs.Limits.{end_second};
 ghost use Rattle.plan_next.specs.Starts.{starts};
 ghost use Rattle.plan_next.specs.Piece.{piece_end, piece_of};
 
-use crate::minutes::add_starts_of_hour;
-use crate::nexts::{MOST_KEPT, changes_passed, first_or_end, next_or_end};
+use crate::nexts::{MOST_KEPT, Starts};
 use plan_match::Rule;
 use std::alloc::{AllocError, AllocFailed, Global};
 use std::marker::Model;
@@ -142,17 +141,16 @@ fn first_starts(
 {
     let mut found = Vec::new(alloc);
     let mut kept = [upto; MOST_KEPT];
-    let guess = changes_passed(rule, since, upto);
+    let mut starts = Starts::first(rule, since, upto, &mut kept);
     let mut reached = since;
-    let mut next = first_or_end(rule, since, upto, &mut kept);
-    while next < upto {
+    while starts.start() < upto {
         if found.len() == most {
             return Ok((found, reached));
         }
-        found.push(next)?;
-        let last = add_starts_of_hour(rule, &kept, next, upto, most, &mut found, guess)?;
-        reached = last + 1;
-        next = next_or_end(rule, last, upto, &mut kept, guess);
+        found.push(starts.start())?;
+        starts.add_rest_of_hour(most, &mut found)?;
+        reached = starts.start() + 1;
+        starts.next();
     }
     Ok((found, upto))
 }

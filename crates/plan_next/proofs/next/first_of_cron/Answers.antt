@@ -4,10 +4,10 @@ use Rattle.std.specs.Int.{div_ceil}
 use Rattle.plan_match.specs.declared.rule.Rule.TheVariants as rule
 use Rattle.plan_next.specs.declared.search.Pattern.TheVariants.{Cron}
 use Rattle.plan_next.specs.Starts.{is_start}
-use Rattle.plan_next.specs.Search.{admits_moment, starts_by}
+use Rattle.plan_next.specs.Search.{admits_moment}
 use Rattle.plan_next.proofs.FirstLemmas.{IsFirstIn-same}
 use Rattle.plan_next.proofs.MinuteLemmas.{IsLeastIn-first_minute}
-use Rattle.plan_next.proofs.StartsLemmas.{is_start-by, is_start-cron}
+use Rattle.plan_next.proofs.StartsLemmas.{is_start-cron}
 use Rattle.plan_next.proofs.next.first_of_cron.Goals as goal
 
 pub returns : goal.returns

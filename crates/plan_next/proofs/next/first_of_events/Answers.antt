@@ -1,8 +1,5 @@
-use Rattle.std.proofs.Common.{◌≤◌, arith}
+use Rattle.std.proofs.Common.{arith}
 use Rattle.std.proofs.lemmas.Bool.Decides.{nat_tests}
-use Rattle.plan_match.specs.declared.rule.Rule.TheVariants as rule
-use Rattle.plan_next.specs.Starts.{is_start}
-use Rattle.plan_next.proofs.FirstLemmas.{IsFirstIn-later}
 use Rattle.plan_next.proofs.next.first_of_events.Goals as goal
 
 pub returns : goal.returns

@@ -1,7 +1,5 @@
 use Rattle.std.proofs.Common.{arith}
 use Rattle.std.proofs.lemmas.Bool.Decides.{nat_tests}
-use Rattle.plan_next.specs.Starts.{event_starts}
-use Rattle.plan_next.proofs.NextsLemmas.{IsFirstOrEnd-first}
 use Rattle.plan_next.proofs.nexts.first_of_event.Goals as goal
 
 pub returns : goal.returns

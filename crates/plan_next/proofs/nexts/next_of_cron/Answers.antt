@@ -1,10 +1,5 @@
-use Rattle.std.proofs.Common.{◌+◌, ◌∙◌, arith}
+use Rattle.std.proofs.Common.{◌∙◌, arith}
 use Rattle.std.proofs.lemmas.Bool.Decides.{nat_tests}
-use Rattle.plan_match.specs.declared.rule.Rule.TheVariants as rule
-use Rattle.plan_next.specs.declared.search.Pattern.TheVariants.{Cron}
-use Rattle.plan_next.specs.Starts.{is_start}
-use Rattle.plan_next.specs.Search.{starts_by}
-use Rattle.plan_next.proofs.FirstLemmas.{IsFirstIn-same}
 use Rattle.plan_next.proofs.StartsLemmas.{is_start-by}
 use Rattle.plan_next.proofs.nexts.next_of_cron.Goals as goal
 

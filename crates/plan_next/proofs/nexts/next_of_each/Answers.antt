@@ -2,11 +2,12 @@
 -- The invariant: for events before place i the next start after `start` is kept, and for the others still the one at or
 -- after `start`; `earliest` is the minimum so far. A turn sets one place of `kept` and takes the earlier of two next starts.
 use Rattle.std.proofs.Common.{◌+◌, ◌∙◌, ◌<◌, length, refl, sym, ap, arith}
+use Rattle.std.proofs.lemmas.Grind.{common_steps}
 use Rattle.std.specs.Option.{option_copied}
 use Rattle.std.proofs.lemmas.Option.{slice_get_within}
 use Rattle.plan_next.proofs.ClockLemmas.{none_at}
 use Rattle.plan_next.proofs.EventsLemmas.{more_nexts, none_past}
-use Rattle.plan_next.proofs.KeptLemmas.{AreKept-more, AreLeft-more}
+use Rattle.plan_next.proofs.KeptLemmas.{AreNexts-start, AreKept-more, AreLeft-more}
 use Rattle.plan_next.proofs.nexts.next_of_each.Goals as goal
 use Rattle.plan_next.proofs.nexts.next_of_each.Goals.{in-Some, in_default}
 
@@ -41,7 +42,12 @@ loop-i-init c = record {
   left = λ k event from is. c.requires.kept k event is;
 }
 
+pub returns-clause-next : goal.returns-clause-next
+returns-clause-next c = grind (arith, common_steps)
+
 pub returns-clause-kept : goal.returns-clause-kept
-returns-clause-kept c = λ k event is.
+returns-clause-kept c =
+    AreNexts-start c.args.events.now (c.args.start + 1) c.args.end c.loop-i.earliest c.loop-i.kept (returns-clause-next c) c.requires.years
+    (λ k event is.
     let place = slice_get_within c.args.events.now k event is in
-    c.loop-i.invariant.kept k event (omega arith) is
+    c.loop-i.invariant.kept k event (omega arith) is)

@@ -1,9 +1,7 @@
 -- Each event is checked, and none of those that were skipped has a clock.
-use Rattle.std.proofs.Common.{◌∙◌, sym, ap, arith}
+use Rattle.std.proofs.Common.{arith}
 use Rattle.std.proofs.lemmas.Bool.Decides.{nat_tests}
-use Rattle.std.specs.Option.{option_copied}
-use Rattle.plan_next.proofs.ClockLemmas.{all_none, none_more}
-use Rattle.plan_next.proofs.EventsLemmas.{none_past}
+use Rattle.plan_next.proofs.ClockLemmas.{all_none}
 use Rattle.plan_next.proofs.nexts.passed_by_events.Goals as goal
 use Rattle.plan_next.proofs.nexts.passed_by_events.Goals.{in-Some+else-not-is_utc, in_default}
 

@@ -5,7 +5,7 @@ use Rattle.std.specs.Prelude.{slice_index}
 use Rattle.plan_match.specs.declared.rule.Rule.TheVariants as rule
 use Rattle.plan_next.proofs.PieceLemmas.{found_more}
 use Rattle.plan_next.proofs.PlainLemmas.{next_minute, IsLeastIn-next_minute}
-use Rattle.plan_next.proofs.minutes.add_cron_starts_of_hour.Goals as goal
+use Rattle.plan_next.proofs.minutes.add_minutes.Goals as goal
 
 pub overflow_sub-later : goal.overflow_sub-later
 overflow_sub-later c =

@@ -2,7 +2,7 @@ use Rattle.std.proofs.Common.{◌≡◌, ℕ, ◌+◌, ◌-◌, ◌/◌, ◌%◌
 use Rattle.plan_match.specs.declared.rule.Rule.TheVariants as rule
 use Rattle.plan_next.specs.Piece.{AreFound}
 use Rattle.plan_next.specs.Starts.{is_start}
-use Rattle.plan_next.proofs.minutes.add_cron_starts_of_hour.Given as goal
+use Rattle.plan_next.proofs.minutes.add_minutes.Given as goal
 
 -- all starts up to the last one are found
 abbrev pub invariant-loop : goal.invariant-loop
