@@ -1,7 +1,7 @@
 -- The result of the messages that are taken: for `gathers` of `Desk::take`, and for `Desk::collect`. `IsGathering` has
 -- the messages in the order of arrival, as a history. `gathers_more` appends a message: by induction over the history,
 -- the answer to all is that to the new message after the others (`answer_on`). The first error stays the first.
-use Rattle.std.proofs.Common.{◌≡◌, ℕ, zero, suc, ◌<◌, ◌⊎◌, true, false, ◌==◌, List, [], ◌∷◌, ◌++◌, length, None, Some, Option, Result, Ok, Err, inl, inr, refl, ap, sym, ◌∙◌, subst, arith, append-nil}
+use Rattle.std.proofs.Common.{◌≡◌, ℕ, zero, suc, ◌<◌, true, false, ◌==◌, List, [], ◌∷◌, ◌++◌, length, None, Some, Option, Result, Ok, Err, inl, inr, refl, ap, sym, ◌∙◌, subst, arith, append-nil}
 use Rattle.std.specs.Prelude.{slice_get, slice_set, slice_index_or, MatchResult, OnOk}
 use Rattle.std.proofs.lemmas.Bool.{cases_eq, eq-eqb, ne_eqb}
 use Rattle.std.proofs.lemmas.List.{length-set, get_or-set_same, get_or-set_other}
@@ -56,33 +56,12 @@ notes_other k (first ∷ history) s m not =
 
 -- ---- answers to one more message
 
+-- the answer to a message and those after it, from that to the message and that to the others
 abbrev pick : Option CollectFault → Result Collected CollectFault → Result Collected CollectFault
-pick None next = next
-pick (Some fault) next = Err fault
-
-either_way : (r : Option CollectFault) → (r ≡ None) ⊎ ((fault : CollectFault) × (r ≡ Some fault))
-either_way None = inl refl
-either_way (Some fault) = inr (fault, refl)
-
-accepted :
-    (c : Collected) (sent : ℕ × Note) (history : List (ℕ × Note)) → refusal c sent.0 sent.1 ≡ None →
-    answer_to c (sent ∷ history) ≡ answer_to (after c sent.0 sent.1) history
-accepted c sent history is = rw (is, answer_to) refl
-
-refused_so :
-    (c : Collected) (sent : ℕ × Note) (history : List (ℕ × Note)) (fault : CollectFault) → refusal c sent.0 sent.1 ≡ Some fault →
-    answer_to c (sent ∷ history) ≡ Err fault
-refused_so c sent history fault is = rw (is, answer_to) refl
-
-answer_first :
-    (c : Collected) (sent : ℕ × Note) (history : List (ℕ × Note)) →
-    answer_to c (sent ∷ history) ≡ pick (refusal c sent.0 sent.1) (answer_to (after c sent.0 sent.1) history)
-answer_first c sent history =
-    let next = answer_to (after c sent.0 sent.1) history in
-    elim (either_way (refusal c sent.0 sent.1)) [
-      | inl none ↦ accepted c sent history none ∙ sym (ap (λ r. pick r next) none)
-      | inr some ↦ refused_so c sent history some.0 some.1 ∙ sym (ap (λ r. pick r next) some.1)
-    ]
+pick r next = elim r [
+  | None ↦ next
+  | Some fault ↦ Err fault
+]
 
 err_ok : (c : Collected) (fault : CollectFault) → Err fault ≡ Ok c → ⊥
 err_ok c fault is = cc
@@ -109,9 +88,8 @@ answer_on :
 answer_on c [] sent d is = let same : c ≡ d = ap (or_else c) is in ap (λ x. answer_to x (sent ∷ [])) same
 answer_on c (first ∷ history) sent d is =
     let next = after c first.0 first.1 in
-    answer_first c first (history ++ sent ∷ [])
-    ∙ on_ok (refusal c first.0 first.1) (answer_to next history) (answer_to next (history ++ sent ∷ [])) (answer_to d (sent ∷ [])) d
-    (answer_on next history sent d) (sym (answer_first c first history) ∙ is)
+    on_ok (refusal c first.0 first.1) (answer_to next history) (answer_to next (history ++ sent ∷ [])) (answer_to d (sent ∷ [])) d
+    (answer_on next history sent d) is
 
 answer_refused :
     (c : Collected) (history : List (ℕ × Note)) (sent : ℕ × Note) (fault : CollectFault) → answer_to c history ≡ Err fault →
@@ -119,15 +97,14 @@ answer_refused :
 answer_refused c [] sent fault is = absurd cc
 answer_refused c (first ∷ history) sent fault is =
     let next = after c first.0 first.1 in
-    answer_first c first (history ++ sent ∷ [])
-    ∙ on_err (refusal c first.0 first.1) (answer_to next history) (answer_to next (history ++ sent ∷ [])) fault
-    (answer_refused next history sent fault) (sym (answer_first c first history) ∙ is)
+    on_err (refusal c first.0 first.1) (answer_to next history) (answer_to next (history ++ sent ∷ [])) fault
+    (answer_refused next history sent fault) is
 
 one_ok : (c : Collected) (k : ℕ) (m : Note) → refusal c k m ≡ None → answer_to c ((k, m) ∷ []) ≡ Ok (after c k m)
-one_ok c k m is = answer_first c (k, m) [] ∙ ap (λ r. pick r (Ok (after c k m))) is
+one_ok c k m is = ap (λ r. pick r (Ok (after c k m))) is
 
 one_err : (c : Collected) (k : ℕ) (m : Note) (fault : CollectFault) → refusal c k m ≡ Some fault → answer_to c ((k, m) ∷ []) ≡ Err fault
-one_err c k m fault is = answer_first c (k, m) [] ∙ ap (λ r. pick r (Ok (after c k m))) is
+one_err c k m fault is = ap (λ r. pick r (Ok (after c k m))) is
 
 met :
     (start : Collected) (history : List (ℕ × Note)) (c : Collected) (k : ℕ) (m : Note) (new : Collected) (refused : Option CollectFault) →

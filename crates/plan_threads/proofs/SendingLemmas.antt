@@ -2,11 +2,11 @@
 -- Most lemmas are one equation: what was to be sent is what was sent, followed by `cut_rest` of what remains.
 -- `rest_first` moves a message from the one to the other. The steps by a piece follow from it, and from these the steps
 -- by a job.
-use Rattle.std.proofs.Common.{◌≡◌, ℕ, ◌+◌, ◌%◌, ◌<◌, ◌≤◌, ◌⊎◌, true, false, nat_lt, List, [], ◌∷◌, ◌++◌, length, map, drop, get_or, None, Some, inl, inr, refl, ap, sym, ◌∙◌, arith, append_assoc, append-nil, subst}
+use Rattle.std.proofs.Common.{◌≡◌, ℕ, ◌+◌, ◌%◌, ◌<◌, ◌≤◌, ◌⊎◌, true, false, nat_lt, List, [], ◌∷◌, ◌++◌, length, map, drop, get_or, Some, inl, inr, refl, ap, sym, ◌∙◌, arith, append_assoc, append-nil, subst}
 use Rattle.std.specs.Prelude.{slice_get, option_map, Result, Ok, Err, OnErr, IsErrAnd}
 use Rattle.std.proofs.lemmas.Bool.{cases_lt, lt-ltb, le-ltb}
 use Rattle.std.proofs.lemmas.List.{length-map, drop_all, drop_more}
-use Rattle.std.proofs.lemmas.Option.{none-some, get_or_from_slice_get, slice_get-map, slice_get_cases, slice_get_within}
+use Rattle.std.proofs.lemmas.Option.{get_or_from_slice_get, slice_get-map, slice_get_within}
 use Rattle.plan_match.specs.declared.rule.Rule.{Rule}
 use Rattle.plan_match.specs.declared.rule.Rule.TheVariants.{Never}
 use Rattle.plan_next.specs.Starts.{starts}
@@ -227,14 +227,6 @@ upto_end task planner sent count job so_far all few =
     ∙ ap (λ rest. note.Last ∷ rest) (rest_few task.limit (count + 0) [] still ∙ cut_none task.limit (count + 0))))
 
 -- ---- jobs
-
--- each number below the number of jobs is that of a job
-pub job_there : (jobs : List JobParts) (n : ℕ) → None ≡ slice_get jobs n → n < length jobs → ⊥
-job_there jobs n none lt =
-    elim (slice_get_cases jobs n).1 [
-      | inl some ↦ none-some some.0 (none ∙ some.2)
-      | inr past ↦ (let end = past.0 in omega arith)
-    ]
 
 -- the rule at a job's number is the rule of the job
 pub rule_of :

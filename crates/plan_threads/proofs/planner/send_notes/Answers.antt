@@ -5,11 +5,12 @@
 use Rattle.std.proofs.Common.{◌<◌, ◌+◌, ◌++◌, length, sym, ap, subst, ◌∙◌, arith}
 use Rattle.std.specs.Arc.{arc_value}
 use Rattle.plan_collect.specs.declared.note.Note.{Note}
+use Rattle.plan_collect.specs.AgendaLaws.{job_there}
 use Rattle.plan_mailbox.specs.Ends.{SendingEnd, outlet_of}
 use Rattle.plan_mailbox.specs.History.{IsPrefix}
 use Rattle.plan_threads.specs.Sending.{cut_rest}
 use Rattle.plan_threads.specs.Task.{all_notes, parts_of}
-use Rattle.plan_threads.proofs.SendingLemmas.{notes_from, upto_other, upto_own, upto_own_part, upto_over, upto_end, rule_of, as_many_rules, job_there, on_err}
+use Rattle.plan_threads.proofs.SendingLemmas.{notes_from, upto_other, upto_own, upto_own_part, upto_over, upto_end, rule_of, as_many_rules, on_err}
 use Rattle.plan_threads.proofs.planner.send_notes.Goals as goal
 use Rattle.plan_threads.proofs.planner.send_notes.Goals.{in-Some+in_ok-count, in_default}
 
