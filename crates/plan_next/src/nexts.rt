@@ -93,10 +93,9 @@ impl<'a> Starts<'a> {
         match rule {
             Rule::Cron(rule) => self.start = next_of_cron(rule, at, end, guess).unwrap_or(end),
             Rule::Never => self.start = end,
-            Rule::Events(events) if events.len() <= MOST_KEPT => match guess {
-                None => self.start = next_of_each(events, at, end, self.kept, None),
-                Some(_) => self.start = next_of_each_by_clock(events, at, end, self.kept, guess),
-            },
+            Rule::Events(events) if events.len() <= MOST_KEPT => {
+                self.start = next_of_each(events, at, end, self.kept, guess);
+            }
             Rule::Events(events) => {
                 self.start = first_of_events(events, at + 1, end).unwrap_or(end);
             }
@@ -257,26 +256,6 @@ fn next_of_each(
         }
     }
     earliest
-}
-
-// Does the same for events that may have clocks. It isn't inlined, to keep the loop for events without clocks apart.
-#[inline(never)]
-fn next_of_each_by_clock(
-    events: &Events,
-    start: u64,
-    end: u64,
-    kept: &mut [u64; MOST_KEPT],
-    guess: Option<usize>,
-) -> u64
-    requires part { start < end }
-    requires years { end ≤ end_second }
-    requires room { length events.now ≤ most_kept }
-    requires kept { AreNexts events.now start end kept.old }
-    requires utc { guess ≡ None → HaveNoClock events.now }
-    ensures next { IsFirstOrEnd (is_start (Rule.Events events.now)) (start + 1) end result }
-    ensures kept { AreNexts events.now result end kept.new }
-{
-    next_of_each(events, start, end, kept, guess)
 }
 
 // Returns the first start of an event at or after `from`, or `end` if it has none before that.

@@ -40,8 +40,8 @@ full c =
     let before : c.loop-starts.starts.since < c.args.upto = omega arith in
     let many : length c.loop-starts.found.items ≡ c.args.most = omega arith in
     let least = IsLeastIn-next (is_start c.args.rule.now) c.loop-starts.reached c.args.upto c.loop-starts.starts.since so_far.next before in
-    full_piece c.args.rule.now c.args.since c.args.upto c.args.most c.loop-starts.reached c.loop-starts.starts.since c.loop-starts.found.items
-    so_far.found many c.requires.room least
+    full_piece c.args.rule.now c.args.since c.args.upto c.args.most c.loop-starts.reached c.loop-starts.starts.since
+    c.loop-starts.found.items so_far.found many c.requires.room least
 
 pub returns-then-len-most-clause-end : goal.returns-then-len-most-clause-end
 returns-then-len-most-clause-end c = (full (goal.at.returns-then-len-most-clause-end c).Then-len-most).end_is

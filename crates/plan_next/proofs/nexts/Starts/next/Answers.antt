@@ -6,8 +6,3 @@ pub next_of_each-self-inside-requires-clause-kept : goal.next_of_each-self-insid
 next_of_each-self-inside-requires-clause-kept c =
     let few : length c.in-Events.events ≤ most_kept = omega arith in
     (rw c.in-Events.is at c.self.invariant.nexts) few
-
-pub next_of_each_by_clock-self-inside-requires-clause-kept : goal.next_of_each_by_clock-self-inside-requires-clause-kept
-next_of_each_by_clock-self-inside-requires-clause-kept c =
-    let few : length c.in-Events.events ≤ most_kept = omega arith in
-    (rw c.in-Events.is at c.self.invariant.nexts) few
