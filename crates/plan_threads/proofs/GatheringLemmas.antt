@@ -2,6 +2,7 @@
 -- the messages in the order of arrival, as a history. `gathers_more` appends a message: by induction over the history,
 -- the answer to all is that to the new message after the others (`answer_on`). The first error stays the first.
 use Rattle.std.proofs.Common.{◌≡◌, ℕ, zero, suc, ◌<◌, true, false, ◌==◌, List, [], ◌∷◌, ◌++◌, length, None, Some, Option, Result, Ok, Err, inl, inr, refl, ap, sym, ◌∙◌, subst, arith, append-nil}
+use Rattle.std.proofs.lemmas.Bool.Decides.{nat_tests}
 use Rattle.std.specs.Prelude.{slice_get, slice_set, slice_index_or, MatchResult, OnOk}
 use Rattle.std.proofs.lemmas.Bool.{cases_eq, eq-eqb, ne_eqb}
 use Rattle.std.proofs.lemmas.List.{length-set, get_or-set_same, get_or-set_other}
@@ -63,20 +64,15 @@ pick r next = elim r [
   | Some fault ↦ Err fault
 ]
 
-err_ok : (c : Collected) (fault : CollectFault) → Err fault ≡ Ok c → ⊥
-err_ok c fault is = cc
-
 on_ok :
     (r : Option CollectFault) (now more target : Result Collected CollectFault) (d : Collected) → (now ≡ Ok d → more ≡ target) →
     pick r now ≡ Ok d → pick r more ≡ target
-on_ok None now more target d go is = go is
-on_ok (Some fault) now more target d go is = absurd (err_ok d fault is)
+on_ok r now more target d go is = grind (arith, nat_tests)
 
 on_err :
     (r : Option CollectFault) (now more : Result Collected CollectFault) (fault : CollectFault) →
     (now ≡ Err fault → more ≡ Err fault) → pick r now ≡ Err fault → pick r more ≡ Err fault
-on_err None now more fault go is = go is
-on_err (Some first) now more fault go is = is
+on_err r now more fault go is = grind (arith, nat_tests)
 
 abbrev or_else : Collected → Result Collected CollectFault → Collected
 or_else c (Ok d) = d
@@ -150,16 +146,14 @@ same_step c (Some fault) k m new refused steps = ap task_of steps.0
 many_met :
     (c : Collected) (k : ℕ) (m : Note) (new : Collected) (refused : Option CollectFault) → Meets c k m new refused →
     refused ≡ Some collect.TooMany → HasTooMany (task_of c)
-many_met c k m new None meets is = absurd cc
-many_met c k m new (Some fault) meets is = let is_many : fault ≡ collect.TooMany = cc in meets.2 is_many
+many_met c k m new refused meets is = grind (arith, nat_tests)
 
 many_step :
     (task : TaskParts) (c : Collected) (before : Option CollectFault) (k : ℕ) (m : Note) (new : Collected)
     (refused : Option CollectFault) →
     task_of c ≡ task → (before ≡ Some collect.TooMany → HasTooMany task) → Steps c before k m new refused →
     refused ≡ Some collect.TooMany → HasTooMany task
-many_step task c None k m new refused same so_far steps is = subst HasTooMany same (many_met c k m new refused steps is)
-many_step task c (Some fault) k m new refused same so_far steps is = so_far (sym steps.1 ∙ is)
+many_step task c before k m new refused same so_far steps is = grind (arith, nat_tests)
 
 -- a message is taken
 pub gathers_more :
@@ -246,8 +240,7 @@ gathers_all task desk accepts so_far all =
     (accepts task.planners task.limit task.rules task.span so_far.history so_far.size so_far.ordered merging)
 
 pub ok_map : (r : Result (Unit {0}) PlanFault) (A B : Type 0) → (A → B) → OnOk r A → OnOk r B
-ok_map (Ok x) A B go a = go a
-ok_map (Err f) A B go a = tt
+ok_map r A B go a = grind (arith, nat_tests)
 
 -- what was accounted for was taken, if nothing waits
 pub taken_all : (b : ReceivingEnd Note) (k : ℕ) (sent : List Note) → NothingKnown b → IsAccounted b k sent → taken_at b k ≡ sent

@@ -1,7 +1,8 @@
 -- What is known when planners are joined: for the loop of `Desk::settle_all`. The receipt keeps the thread's promise
 -- (`Keeps`), and the promise is that of the planner (`IsPlanner`): so are the ring and the messages. `accounts_more` adds
 -- it to those before, and `and_ok`, `and_err` go by the cases of `Result::and`.
-use Rattle.std.proofs.Common.{◌≡◌, ℕ, ◌+◌, ◌<◌, false, List, Some, Result, Ok, Err, inl, inr, ap, sym, ◌∙◌, subst, arith}
+use Rattle.std.proofs.Common.{◌≡◌, ℕ, ◌+◌, ◌<◌, false, List, Some, Result, inl, inr, ap, sym, ◌∙◌, subst, arith}
+use Rattle.std.proofs.lemmas.Bool.Decides.{nat_tests}
 use Rattle.std.specs.Prelude.{Bool, slice_get, IsOk, OnOk, IfErr}
 use Rattle.std.specs.Result.{result_and}
 use Rattle.std.proofs.lemmas.Bool.{cases_eq}
@@ -39,13 +40,9 @@ accounts_more all b b' done s sent own is here others before k lt =
 pub and_ok :
     (first second : Result (Unit {0}) PlanFault) (A B C : Type 0) → OnOk first A → B → (A → B → C) →
     OnOk (result_and first second) C
-and_ok (Ok x) (Ok y) A B C a b go = go a b
-and_ok (Ok x) (Err f) A B C a b go = tt
-and_ok (Err f) second A B C a b go = tt
+and_ok first second A B C a b go = grind (arith, nat_tests)
 
 pub and_err :
     (first second : Result (Unit {0}) PlanFault) → IfErr first IsThreadFault → IsOk second →
     IfErr (result_and first second) IsThreadFault
-and_err (Ok x) (Ok y) a b = tt
-and_err (Ok x) (Err f) a b = absurd cc
-and_err (Err f) second a b = a
+and_err first second a b = grind (arith, nat_tests)
