@@ -12,7 +12,7 @@ use agenda_sources::jobs_of_sources;
 use plan_collect::{Sizes, Span};
 use plan_streams::Stream;
 use plan_threads::{NoGate, plan};
-use plan_write::write_agenda;
+use plan_write::{LineEnds, write_agenda};
 use std::alloc::Global;
 use std::sync::Wait;
 use std::thread::Threads;
@@ -45,6 +45,7 @@ pub fn run_plan<R: Threads + Wait + Sync, S: Stream>(
 {
     let jobs = jobs_of_sources(alloc, &input.sources, &input.clock)?;
     let agenda = plan(rt, alloc, &jobs, span, sizes, &NoGate)?;
-    write_agenda(&agenda, &jobs, out)?;
+    let ends = LineEnds::new(alloc, &jobs)?;
+    write_agenda(&agenda, &ends, out)?;
     Ok(())
 }

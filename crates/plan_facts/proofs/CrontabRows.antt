@@ -1,7 +1,7 @@
 -- Worked rows of crontabs, read only by the definitions. No proof uses them: they show what `crontab` should mean.
 -- A row is `refl` once the definitions that it names are unfolded. The row of a set's members needs a law of
 -- sets, and the row of a text that is too large takes the text's length as given.
-use Rattle.std.proofs.Common.{◌≡◌, ℕ, Bool, true, false, List, [], ◌∷◌, length, map, codes, Ok, Err, refl}
+use Rattle.std.proofs.Common.{◌≡◌, ℕ, Bool, true, false, List, [], ◌∷◌, length, map, codes, Option, Some, None, Ok, Err, refl}
 use Rattle.std.specs.Fmt.{digits}
 use Rattle.std.specs.Str.{chars, is_utf8}
 use Rattle.plan_sets.specs.declared.item.SetFault.TheVariants.{OutOfRange, Backwards}
@@ -44,22 +44,26 @@ text_lines = refl
 abbrev nightly : List ℕ
 nightly = codes "# nightly\nMAILTO=x\n@reboot a\n@daily b"
 
--- the names of the jobs of a text, and what they run
-abbrev parts_of : TextReading (List JobParts) → List (List ℕ × List ℕ)
-parts_of (Ok jobs) = map (λ job. (job.name, job.what)) jobs
+-- the names of the jobs of a text, their users and their commands
+abbrev parts_of : TextReading (List JobParts) → List (List ℕ × Option (List ℕ) × List ℕ)
+parts_of (Ok jobs) = map (λ job. (job.name, job.user, job.command)) jobs
 parts_of (Err fault) = []
 
-reboot_and_daily : parts_of (crontab_reading (codes "cron") User nightly) ≡ (codes "cron:3", codes "a") ∷ (codes "cron:4", codes "b") ∷ []
+reboot_and_daily :
+    parts_of (crontab_reading (codes "cron") User nightly) ≡
+    (codes "cron:3", None, codes "a") ∷ (codes "cron:4", None, codes "b") ∷ []
 unfolding is_utf8 chars lib.Utf8.encode digits lines cut_word rule_in_front at_reading fields_in_front what_reading job_reading
     line_reading jobs_reading cut_at decimal_number set_reading five_fields field_reading items_reading item_reading side_reading
     value_reading step_reading
 reboot_and_daily = refl
 
--- the system's crontab: the user, a space and the command
+-- the system's crontab: the user and the command
 abbrev parts_hourly : List ℕ
 parts_hourly = codes "17 * * * * root cd / && run-parts x"
 
-run_parts : parts_of (crontab_reading (codes "system") System parts_hourly) ≡ (codes "system:1", codes "root cd / && run-parts x") ∷ []
+run_parts :
+    parts_of (crontab_reading (codes "system") System parts_hourly) ≡
+    (codes "system:1", Some (codes "root"), codes "cd / && run-parts x") ∷ []
 unfolding is_utf8 chars lib.Utf8.encode digits lines cut_word rule_in_front fields_in_front what_reading job_reading line_reading
     jobs_reading cut_at decimal_number set_reading five_fields field_reading items_reading item_reading side_reading value_reading
     step_reading
@@ -81,8 +85,8 @@ run_parts_hourly = simp has_value-values_where
 -- what a user's job runs is kept as it is written, without the blanks before it
 kept_as_written : map (λ text. parts_of (crontab_reading (codes "cron") User text))
     (codes " \t# * * * * x\n \n@daily\t a # b % \n" ∷ codes "\"A\"=x\n@daily a\r" ∷ [])
-    ≡ ((codes "cron:3", codes "a # b % ") ∷ [])
-    ∷ ((codes "cron:2", codes "a\r") ∷ [])
+    ≡ ((codes "cron:3", None, codes "a # b % ") ∷ [])
+    ∷ ((codes "cron:2", None, codes "a\r") ∷ [])
     ∷ []
 unfolding is_utf8 chars lib.Utf8.encode digits lines cut_word rule_in_front at_reading fields_in_front what_reading job_reading
     line_reading jobs_reading cut_at decimal_number set_reading five_fields field_reading items_reading item_reading side_reading

@@ -1,5 +1,5 @@
 -- Worked rows of timer files, read only by the definitions.
-use Rattle.std.proofs.Common.{◌≡◌, ℕ, Bool, true, false, List, [], ◌∷◌, ◌++◌, map, codes, Ok, Err, refl}
+use Rattle.std.proofs.Common.{◌≡◌, ℕ, Bool, true, false, List, [], ◌∷◌, ◌++◌, map, codes, None, Ok, Err, refl}
 use Rattle.std.specs.List.{enumerate_from}
 use Rattle.std.specs.Str.{chars, is_utf8}
 use Rattle.plan_sets.specs.declared.civil.Civil.{Civil}
@@ -42,8 +42,9 @@ joined_lines = refl
 
 -- the job with this name that starts a unit by the events of some texts
 abbrev job_of : List ℕ → List ℕ → List (List ℕ) → TextReading JobParts
-job_of name what texts =
-    on_line 1 (in_line (each event_reading texts)) >>= λ events. Ok (record { name = name; what = what; rule = Events events })
+job_of name unit texts =
+    on_line 1 (in_line (each event_reading texts)) >>= λ events.
+    Ok (record { name = name; user = None; command = unit; rule = Events events })
 
 -- a reset empties the list of events
 reset_empties :

@@ -55,7 +55,8 @@ user cut = grind (arith, nat_tests, command)
 
 what : (kind : Kind) (text : List ℕ) → IfErr (what_reading kind text) IsLineCause
 unfolding what_reading
-what kind text = grind (arith, nat_tests, command, user)
+what User text = err_steps IsLineCause (command_reading (after_blanks text)) _ (command (after_blanks text)) (λ c. tt)
+what System text = user (cut_word text)
 
 job : (label : List ℕ) (kind : Kind) (number : ℕ) (text : List ℕ) → IfErr (job_reading label kind number text) IsLineCause
 unfolding job_reading

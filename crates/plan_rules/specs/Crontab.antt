@@ -22,17 +22,23 @@ use Rattle.plan_rules.specs.Job.{JobParts}
 abbrev pub command_reading : List ℕ → LineReading (List ℕ)
 command_reading command = if length command == 0 then Err NoCommand else Ok command
 
--- a user, one space and the command; a missing user is reported as a missing command (agenda)
-abbrev pub user_and_command : Option (List ℕ × List ℕ) → LineReading (List ℕ)
+-- what a job runs: the user that runs it, if there is one, and the command
+abbrev pub Run : Type 0
+Run = Option (List ℕ) × List ℕ
+
+-- a user and the command; a missing user is reported as a missing command (agenda)
+abbrev pub user_and_command : Option (List ℕ × List ℕ) → LineReading Run
 user_and_command None = Err NoCommand
 user_and_command (Some cut) = do
   command ← command_reading (after_blanks (cut.1))
-  Ok (cut.0 ++ byte " " ∷ command)
+  Ok (Some (cut.0), command)
 
 -- what the job of a line runs, from the text that follows its rule; in the system's crontab a user comes first (crontab(5), the
 -- note on the system crontab)
-unfoldable pub what_reading : Kind → List ℕ → LineReading (List ℕ)
-what_reading User text = command_reading (after_blanks text)
+unfoldable pub what_reading : Kind → List ℕ → LineReading Run
+what_reading User text = do
+  command ← command_reading (after_blanks text)
+  Ok (None, command)
 what_reading System text = user_and_command (cut_word text)
 
 -- ---- a line
@@ -45,8 +51,8 @@ job_name label number = label ++ (codes ":" ++ decimal number)
 unfoldable pub job_reading : (label : List ℕ) → Kind → ℕ → List ℕ → LineReading JobParts
 job_reading label kind number text = do
   front ← in_line (rule_in_front text)
-  what ← what_reading kind (front.1)
-  Ok (record { name = job_name label number; what = what; rule = front.0 })
+  run ← what_reading kind (front.1)
+  Ok (record { name = job_name label number; user = run.0; command = run.1; rule = front.0 })
 
 -- the first characters of a setting: a letter, `_`, or a quote (agenda)
 abbrev pub begins_setting : ℕ → Bool

@@ -144,7 +144,7 @@ first_unit ((number, Nothing) ∷ more) = first_unit more
 abbrev pub job_with : Bool → List ℕ → Option (List ℕ) → List Calendar → TextReading JobParts
 job_with found name unit events =
     if found
-    then Ok (record { name = name; what = unwrap_or unit (service_name name); rule = Events events })
+    then Ok (record { name = name; user = None; command = unwrap_or unit (service_name name); rule = Events events })
     else on_line 0 (Err NoTimerSection)
 
 -- the job of a timer's whole lines, without blanks at their ends; a missing `[Timer]` section is the last error to be found (agenda)

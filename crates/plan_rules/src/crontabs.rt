@@ -1,6 +1,6 @@
 //! Crontabs, and the jobs of their lines (crontab(5)).
 
-ghost use Rattle.std.specs.Prelude.{◌≡◌, ◌≤◌, ◌↔◌, ℕ, List, Bool, false, Err, IfErr, IfOk, IsTrue, length, map, string_bytes};
+ghost use Rattle.std.specs.Prelude.{◌≡◌, ◌≤◌, ◌↔◌, ℕ, List, Bool, false, Err, IfErr, IfOk, IsTrue, length, map, option_map, string_bytes};
 ghost use Rattle.std.specs.Result.{result_map_both};
 ghost use Rattle.std.specs.Str.{is_utf8};
 ghost use Rattle.plan_texts.specs.Limits.{most_bytes};
@@ -176,22 +176,25 @@ fn job(alloc: Global, label: &str, kind: Kind, number: u32, line: &str) -> Resul
     ensures { GivesLine result (job_reading label.now kind number line.now) }
 {
     let (rule, rest) = rule_in_front(alloc, line)?;
-    let what = what(alloc, kind, rest)?;
+    let (user, command) = what(alloc, kind, rest)?;
     let name = name(alloc, label, number)?;
-    Ok(Job::new(alloc, name, what, Arc::new(alloc, rule)?)?)
+    Ok(Job::new(name, user, command, Arc::new(alloc, rule)?))
 }
 
-// Returns what the job of a line runs, from the text that follows its rule.
+// Returns what the job of a line runs, from the text that follows its rule: the user, if the line names one,
+// and the command.
 #[tactic(auto, unfolding(crate::specs::Crontab::what_reading))]
-fn what(alloc: Global, kind: Kind, text: &str) -> Result<String, LineCause>
-    ensures { GivesUnless LineCause.NoMemory string_bytes result (what_reading kind text.now) }
+fn what(alloc: Global, kind: Kind, text: &str) -> Result<(Option<String>, String), LineCause>
+    ensures { GivesUnless LineCause.NoMemory (λ run. (option_map (λ user. string_bytes user) run.0, string_bytes run.1)) result
+        (what_reading kind text.now) }
 {
     match kind {
-        Kind::User => Ok(String::from_str(alloc, command(text)?)?),
+        Kind::User => Ok((None, String::from_str(alloc, command(text)?)?)),
         Kind::System => {
             let (user, rest) = cut_word(text).ok_or(LineCause::NoCommand)?;
             let command = command(rest)?;
-            Ok(format!(in alloc; "{user} {command}")?)
+            let user = String::from_str(alloc, user)?;
+            Ok((Some(user), String::from_str(alloc, command)?))
         }
     }
 }

@@ -1,8 +1,7 @@
 //! A job: its name, what it runs, and the rule by which it starts.
 
-ghost use Rattle.std.specs.Prelude.{◌≡◌, string_bytes, IfOk, OnErr, OnOk};
+ghost use Rattle.std.specs.Prelude.{◌≡◌, option_map, string_bytes, OnErr, OnOk};
 ghost use Rattle.std.specs.Arc.{arc_value};
-ghost use Rattle.plan_rules.specs.Job.{line_end};
 ghost use Rattle.plan_rules.specs.Zone.{job_in};
 
 use plan_clock::Clock;
@@ -16,16 +15,15 @@ use std::sync::Arc;
 #[derive(Debug, Drop)]
 pub struct Job {
     name: String,
-    what: String,
-    // The end of each of the job's lines, after the time and a tab: its name, a tab, what it runs, and a newline.
-    end: String,
+    user: Option<String>,
+    command: String,
     rule: Arc<Rule>,
 }
 
 impl Model for Job {
-    ghost use Rattle.std.specs.Prelude.{◌≡◌, string_bytes};
+    ghost use Rattle.std.specs.Prelude.{option_map, string_bytes};
     ghost use Rattle.std.specs.Arc.{arc_value};
-    ghost use Rattle.plan_rules.specs.Job.{JobParts, job_code, line_end};
+    ghost use Rattle.plan_rules.specs.Job.{JobParts, job_code};
 
     ghost Value = { JobParts };
 
@@ -33,32 +31,26 @@ impl Model for Job {
 
     ghost view = { λ job. record {
       name = string_bytes job.name;
-      what = string_bytes job.what;
+      user = option_map (λ user. string_bytes user) job.user;
+      command = string_bytes job.command;
       rule = arc_value job.rule;
     } };
-
-    ghost invariant = { λ job. string_bytes job.end ≡ line_end (string_bytes job.name) (string_bytes job.what) };
 }
 
 impl Job {
-    // Makes a job of these parts. Fails if an allocation fails.
-    pub(crate) fn new(
-        alloc: Global,
-        name: String,
-        what: String,
-        rule: Arc<Rule>,
-    ) -> Result<Job, AllocError>
-        ensures name { IfOk result (λ job. job.name ≡ string_bytes name) }
-        ensures what { IfOk result (λ job. job.what ≡ string_bytes what) }
-        ensures rule { IfOk result (λ job. job.rule ≡ arc_value rule) }
+    // Makes a job of these parts.
+    pub(crate) fn new(name: String, user: Option<String>, command: String, rule: Arc<Rule>) -> Job
+        ensures name { result.name ≡ string_bytes name }
+        ensures user { result.user ≡ option_map (λ user. string_bytes user) user }
+        ensures command { result.command ≡ string_bytes command }
+        ensures rule { result.rule ≡ arc_value rule }
     {
-        let end = end_of_lines(alloc, name.as_str(), what.as_str())?;
-        Ok(Job {
+        Job {
             name,
-            what,
-            end,
+            user,
+            command,
             rule,
-        })
+        }
     }
 
     // Puts the job in the zone of a clock. If an allocation fails, the job is unchanged.
@@ -88,22 +80,20 @@ impl Job {
         Text::new(self.name)
     }
 
-    /// Returns what the job runs, as it was written.
-    ///
-    /// This is a command; in the system's crontab the user, a space and the command; for a timer the unit
-    /// that it starts.
-    pub fn what(&self) -> &str
-        ensures { result.now ≡ self.now.what }
+    /// Returns the user that runs the command, if the job's line names one. Only a line in the format of the
+    /// system's crontab does.
+    pub fn user(&self) -> Option<&str>
+        ensures { option_map (λ user. user.now) result ≡ self.now.user }
     {
-        self.what.as_str()
+        self.user.as_deref()
     }
 
-    /// Returns the end of each line that an agenda has for the job, after the time and its tab: the job's
-    /// name, a tab, what it runs, and a newline.
-    pub fn line_end(&self) -> &str
-        ensures { result.now ≡ line_end self.now.name self.now.what }
+    /// Returns the command of the job, as it was written. The command of a timer's job is the name of the unit
+    /// that the timer starts.
+    pub fn command(&self) -> &str
+        ensures { result.now ≡ self.now.command }
     {
-        self.end.as_str()
+        self.command.as_str()
     }
 
     /// Returns the rule by which the job starts.
@@ -112,17 +102,4 @@ impl Job {
     {
         &self.rule
     }
-}
-
-// Returns the end of each line of a job, after the time and its tab.
-fn end_of_lines(alloc: Global, name: &str, what: &str) -> Result<String, AllocError>
-    ensures { IfOk result (λ text. string_bytes text ≡ line_end name.now what.now) }
-{
-    let len = name.len().saturating_add(what.len()).saturating_add(2);
-    let mut text = String::with_capacity(alloc, len)?;
-    text.push_str(name)?;
-    text.push_str("\t")?;
-    text.push_str(what)?;
-    text.push_str("\n")?;
-    Ok(text)
 }

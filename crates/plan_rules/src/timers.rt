@@ -198,12 +198,12 @@ impl Settings {
         if !reader.has_section() {
             return Err(LineCause::NoTimerSection.on_line(0));
         }
-        let what = match unit {
+        let command = match unit {
             Some(unit) => unit,
             None => service_name(alloc, name)?,
         };
         let name = String::from_str(alloc, name)?;
         let rule = Arc::new(alloc, Rule::Events(events))?;
-        Ok(Job::new(alloc, name, what, rule)?)
+        Ok(Job::new(name, None, command, rule))
     }
 }

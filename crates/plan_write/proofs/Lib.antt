@@ -3,3 +3,4 @@ pub mod QuietLemmas
 pub mod QuietLaws
 pub mod NextLemmas
 pub mod ReplyRows
+pub mod EndLemmas

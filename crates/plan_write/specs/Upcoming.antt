@@ -14,7 +14,7 @@ moment_or_none second = if nat_lt second end_second then moment_text_of second e
 -- the line of a job: its next start, its name, and what it runs
 abbrev pub next_line : ℕ → Option JobParts → List ℕ
 next_line second None = []
-next_line second (Some job) = moment_or_none second ++ (codes "\t" ++ line_end job.name job.what)
+next_line second (Some job) = moment_or_none second ++ (codes "\t" ++ line_end job)
 
 -- the lines of next starts, in order
 abbrev pub upcoming_text : List (ℕ × ℕ) → List JobParts → List ℕ

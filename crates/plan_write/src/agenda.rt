@@ -3,17 +3,17 @@
 ghost use Rattle.std.specs.Prelude.{◌≡◌, ◌≤◌, length, slice_get};
 ghost use Rattle.plan_collect.specs.Agenda.{IsOfJobs};
 ghost use Rattle.plan_streams.specs.Stream.{Puts};
-ghost use Rattle.plan_write.specs.Texts.{agenda_text, header_of, line_of};
+ghost use Rattle.plan_write.specs.Texts.{header_of, line_of, text_by_ends};
 ghost use Rattle.plan_streams.specs.Writer.{Takes};
 
+use crate::line_ends::LineEnds;
 use crate::stamp::Stamp;
 use itoa::Buffer as Digits;
 use plan_collect::{Agenda, Start};
-use plan_rules::Jobs;
 use plan_sets::{END_SECOND, moment_text};
 use plan_streams::{Stream, TextWriter, WriteFault};
 
-/// Writes the text of an agenda of these jobs.
+/// Writes the text of an agenda, with the ends of the lines of its jobs.
 ///
 /// The header has `agenda 2`, the start of the span, its end, and the number of entries. Then comes one line
 /// for each entry: the time, the job's name, and what it runs. The parts of a line have tabs between them. This
@@ -24,16 +24,20 @@ use plan_streams::{Stream, TextWriter, WriteFault};
 /// `Device` if the stream fails. Then only the first bytes of the text were written.
 // Not inlined: its buffer of 64 KiB takes stack only while it runs.
 #[inline(never)]
-pub fn write_agenda<S: Stream>(agenda: &Agenda, jobs: &Jobs, out: &mut S) -> Result<(), WriteFault>
-    requires { IsOfJobs (length jobs.now) agenda.now.entries }
-    ensures { Puts S.takes_all result (S.holds out.old) (S.holds out.new) (agenda_text agenda.now jobs.now) }
+pub fn write_agenda<S: Stream>(
+    agenda: &Agenda,
+    ends: &LineEnds,
+    out: &mut S,
+) -> Result<(), WriteFault>
+    requires { IsOfJobs (length ends.now) agenda.now.entries }
+    ensures { Puts S.takes_all result (S.holds out.old) (S.holds out.new) (text_by_ends agenda.now ends.now) }
 {
     let mut lines = TextWriter::new(out);
     put_header(agenda, &mut lines);
     let mut stamp = Stamp::new(0);
     let entries = agenda.entries();
     for entry in entries {
-        put_line(*entry, jobs, &mut stamp, &mut lines);
+        put_line(*entry, ends, &mut stamp, &mut lines);
     }
     lines.finish()
 }
@@ -51,18 +55,18 @@ fn put_header<S: Stream>(agenda: &Agenda, lines: &mut TextWriter<'_, S>)
 
 // Puts the line of an entry.
 #[inline(always)]
-pub(crate) fn put_line<S: Stream>(
+fn put_line<S: Stream>(
     entry: Start,
-    jobs: &Jobs,
+    ends: &LineEnds,
     stamp: &mut Stamp,
     lines: &mut TextWriter<'_, S>,
 )
     requires { entry.0 ≤ END_SECOND }
-    ensures { Takes S.holds S.takes_all lines.old lines.new (line_of entry.0 (slice_get jobs.now entry.1)) }
+    ensures { Takes S.holds S.takes_all lines.old lines.new (line_of entry.0 (slice_get ends.now entry.1)) }
 {
-    let Some(job) = jobs.get(entry.job() as usize) else {
+    let Some(end) = ends.get(entry.job() as usize) else {
         return;
     };
     stamp.show(entry.second());
-    lines.put_both(stamp.text(), job.line_end().as_bytes());
+    lines.put_both(stamp.text(), end.as_str().as_bytes());
 }

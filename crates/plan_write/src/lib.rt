@@ -8,6 +8,7 @@
 
 mod agenda;
 mod findings;
+mod line_ends;
 mod next;
 mod quiet;
 mod replies;
@@ -16,6 +17,7 @@ mod upcoming;
 
 pub use agenda::write_agenda;
 pub use findings::write_findings;
+pub use line_ends::LineEnds;
 pub use next::write_next;
 pub use plan_collect::Upcoming;
 pub use quiet::{nothing_starts_in_gaps, write_quiet};

@@ -1,14 +1,14 @@
 //! The text of the next starts of jobs.
 
-ghost use Rattle.std.specs.Prelude.{◌≡◌, slice_get};
-ghost use Rattle.plan_write.specs.Upcoming.{next_line, upcoming_text};
+ghost use Rattle.std.specs.Prelude.{◌≡◌, ◌++◌, codes, slice_get};
+ghost use Rattle.plan_write.specs.Texts.{line_end, run_text};
+ghost use Rattle.plan_write.specs.Upcoming.{moment_or_none, next_line, upcoming_text};
 ghost use Rattle.plan_streams.specs.Stream.{Puts};
 ghost use Rattle.plan_streams.specs.Writer.{Takes};
 
-use crate::agenda::put_line;
 use crate::stamp::Stamp;
 use plan_collect::{Start, Upcoming};
-use plan_rules::Jobs;
+use plan_rules::{Job, Jobs};
 use plan_sets::END_SECOND;
 use plan_streams::{Stream, TextWriter, WriteFault};
 
@@ -42,10 +42,40 @@ pub fn write_upcoming<S: Stream>(
 fn put_next<S: Stream>(next: Start, jobs: &Jobs, stamp: &mut Stamp, lines: &mut TextWriter<'_, S>)
     ensures { Takes S.holds S.takes_all lines.old lines.new (next_line next.0 (slice_get jobs.now next.1)) }
 {
-    if next.second() < END_SECOND {
-        return put_line(next, jobs, stamp, lines);
+    let Some(job) = jobs.get(next.job() as usize) else {
+        return;
+    };
+    put_time(next.second(), stamp, lines);
+    put_end(job, lines);
+}
+
+// Puts the time of a next start, or `none`, and a tab.
+fn put_time<S: Stream>(second: u64, stamp: &mut Stamp, lines: &mut TextWriter<'_, S>)
+    ensures { Takes S.holds S.takes_all lines.old lines.new (moment_or_none second ++ codes "\t") }
+{
+    if second < END_SECOND {
+        stamp.show(second);
+        lines.put(stamp.text());
+    } else {
+        lines.put(b"none\t");
     }
-    if let Some(job) = jobs.get(next.job() as usize) {
-        lines.put_both(b"none\t", job.line_end().as_bytes());
+}
+
+// Puts the end of the line of a job: its name, a tab, what it runs, and a newline.
+fn put_end<S: Stream>(job: &Job, lines: &mut TextWriter<'_, S>)
+    ensures { Takes S.holds S.takes_all lines.old lines.new (line_end job.now) }
+{
+    lines.put_both(job.name().as_bytes(), b"\t");
+    put_run(job, lines);
+    lines.put(b"\n");
+}
+
+// Puts what a job runs: its user and a space, if it has a user, and its command.
+fn put_run<S: Stream>(job: &Job, lines: &mut TextWriter<'_, S>)
+    ensures { Takes S.holds S.takes_all lines.old lines.new (run_text job.now.user job.now.command) }
+{
+    if let Some(user) = job.user() {
+        lines.put_both(user.as_bytes(), b" ");
     }
+    lines.put(job.command().as_bytes());
 }

@@ -11,7 +11,7 @@ use plan_next::{next_from, next_start};
 use plan_rules::{Jobs, Kind, Rule, calendar_rule, cron_rule, crontab};
 use plan_serial::plan_serial;
 use plan_sets::civil_of;
-use plan_write::write_agenda;
+use plan_write::{LineEnds, write_agenda};
 use std::alloc::Global;
 use std::io;
 use std::io::Write;
@@ -136,6 +136,7 @@ fn an_agenda_is_written(rt: HostRuntime) -> Result<(), Fail> {
         jobs.add(job)?;
     }
     let agenda = plan_serial(rt.alloc(), &jobs, Span::new(0, 86_400)?, 10)?;
+    let line_ends = LineEnds::new(rt.alloc(), &jobs)?;
     let (mut out, mut err) = (
         Lines {
             bytes: [0; 128],
@@ -151,7 +152,7 @@ fn an_agenda_is_written(rt: HostRuntime) -> Result<(), Fail> {
     assert!(rt; span.since() == 5 && span.upto() == 86_400);
     assert!(rt; agenda.since() == 0 && agenda.upto() == 86_400);
     assert!(rt; agenda.len() == 1 && agenda.entry(0) == Some((0, 0)) && agenda.entry(1).is_none());
-    assert!(rt; write_agenda(&agenda, &jobs, &mut out).is_ok());
+    assert!(rt; write_agenda(&agenda, &line_ends, &mut out).is_ok());
     let text = "agenda 2\t1970-01-01T00:00:00Z\t1970-01-02T00:00:00Z\t1\n\
         1970-01-01T00:00:00Z\tcron:1\tb\n";
     assert_lines(&rt, &out, text);

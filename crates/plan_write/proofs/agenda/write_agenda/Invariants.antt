@@ -6,4 +6,4 @@ use Rattle.plan_write.proofs.agenda.write_agenda.Given as goal
 -- the writer took the lines of all entries so far
 abbrev pub invariant-loop-entry : goal.invariant-loop-entry
 invariant-loop-entry g l =
-    Takes g.S.Stream.holds g.S.Stream.takes_all l.initial.lines l.lines (lines_of (take l.entry-index l.entries) l.jobs)
+    Takes g.S.Stream.holds g.S.Stream.takes_all l.initial.lines l.lines (lines_of (take l.entry-index l.entries) l.ends)
