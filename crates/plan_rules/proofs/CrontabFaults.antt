@@ -6,6 +6,7 @@ use Rattle.std.proofs.lemmas.Bool.Decides.{nat_tests}
 use Rattle.std.proofs.lemmas.Bool.{cases_eq}
 use Rattle.std.specs.List.{enumerate_from, list_any}
 use Rattle.plan_rules.specs.declared.crontabs.Kind.{Kind}
+use Rattle.plan_rules.specs.declared.crontabs.Kind.TheVariants.{User, System}
 use Rattle.plan_grammar.specs.declared.fault.RuleFault.{RuleFault}
 use Rattle.plan_grammar.specs.declared.fault.RuleCause.{RuleCause}
 use Rattle.plan_grammar.specs.declared.fault.RuleCause.TheVariants as cause
