@@ -16,7 +16,7 @@ use Rattle.plan_rules.specs.declared.line_fault.LineFault.{LineFault}
 use Rattle.plan_texts.specs.EachLaws.{err_steps, err_each, err_choice}
 use Rattle.plan_texts.specs.Steps.{each, GivesUnless}
 use Rattle.plan_grammar.specs.Readings.{Reading}
-use Rattle.plan_texts.specs.Lines.{after_blanks}
+use Rattle.plan_texts.specs.Lines.{after_blanks, cut_word}
 use Rattle.plan_rules.specs.LineFaults.{LineReading, TextReading, IsOwnCause, cause_by_cause, in_line, on_line, fault_on_line, want_of_memory}
 use Rattle.plan_grammar.specs.Cron.{rule_in_front}
 use Rattle.plan_rules.specs.Crontab.{command_reading, user_and_command, what_reading, job_reading, begins_setting, entry_reading, line_reading, numbered_reading, jobs_reading}
