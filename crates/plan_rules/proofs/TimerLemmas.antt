@@ -43,7 +43,8 @@ unit_step (Some unit) number other more = refl
 abbrev pub rest_reading : List ℕ → Draft → List (ℕ × List ℕ) → TextReading JobParts
 rest_reading name draft lines =
     events_from draft.events (effects_from draft.reader.inside lines)
-    >>= λ events. job_with (draft.reader.found || has_timer lines) name (unit_from draft.unit (effects_from draft.reader.inside lines)) events
+    >>= λ events. job_with (draft.reader.found || has_timer lines) name
+    (unit_from draft.unit (effects_from draft.reader.inside lines)) events
 
 -- the count of a list of events, none of which was rejected
 abbrev pub counted : List Calendar → EventCount
@@ -63,7 +64,8 @@ event_step :
     (room : Bool) (name : List ℕ) (number : ℕ) (read : LineReading Calendar) (draft : Draft) (more : List (ℕ × List ℕ)) →
     ((on_line number (cond room read (Err TooManyLines))
     >>= λ event. events_from (draft.events ++ event ∷ []) (effects_from draft.reader.inside more))
-    >>= λ events. job_with (draft.reader.found || has_timer more) name (unit_from draft.unit (effects_from draft.reader.inside more)) events)
+    >>= λ events. job_with (draft.reader.found || has_timer more) name
+    (unit_from draft.unit (effects_from draft.reader.inside more)) events)
     ≡ (after_step draft (event_line number (cond room (Some read) (Some (Err TooManyLines)))) >>= λ next. rest_reading name next more)
 event_step true name number (Ok event) draft more = refl
 event_step true name number (Err cause) draft more = refl
@@ -100,7 +102,8 @@ rest_reading-line name draft line more counts =
 -- an event that is added is counted
 counted_event :
     (room : Bool) (number : ℕ) (read : LineReading Calendar) (draft : Draft) →
-    draft.reader.count ≡ cond room (record { held = length draft.events + 1; told = false }) (record { held = length draft.events; told = true }) →
+    draft.reader.count
+    ≡ cond room (record { held = length draft.events + 1; told = false }) (record { held = length draft.events; told = true }) →
     IfOk (after_step draft (event_line number (cond room (Some read) (Some (Err TooManyLines))))) IsCounted
 counted_event true number (Ok event) draft counts =
     counts ∙ ap (λ held. record { held = held; told = false }) (sym (length-append draft.events (event ∷ [])))

@@ -9,4 +9,7 @@ returns-in-NoMemory g c = rw c.in-NoMemory.is c.put.ensures
 pub returns-in_default : goal.returns-in_default
 returns-in_default g c =
     let name : c.name.result.now ≡ line_cause c.args.fault.cause = cc in
-    rw (source_line-refused c.args.source.now c.args.fault.line c.args.fault.cause c.in_default.not-NoMemory c.in_default.not-Rule, ← name) c.put_source_line.ensures
+    rw (
+      source_line-refused c.args.source.now c.args.fault.line c.args.fault.cause c.in_default.not-NoMemory c.in_default.not-Rule,
+      ← name,
+    ) c.put_source_line.ensures

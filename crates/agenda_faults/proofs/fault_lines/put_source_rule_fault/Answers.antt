@@ -10,4 +10,8 @@ pub returns-in_default : goal.returns-in_default
 returns-in_default g c =
     let part : c.from.result ≡ c.args.fault.part = cc in
     let name : c.name.result.now ≡ rule_cause c.args.fault.cause = cc in
-    rw (source_rule_line-refused c.args.source.now c.args.number c.args.fault.part c.args.fault.cause c.in_default.not-NoMemory, ← part, ← name) c.put_source_part.ensures
+    rw (
+      source_rule_line-refused c.args.source.now c.args.number c.args.fault.part c.args.fault.cause c.in_default.not-NoMemory,
+      ← part,
+      ← name,
+    ) c.put_source_part.ensures
