@@ -28,7 +28,8 @@ pub enum Verdict {
 /// is an error.
 ///
 /// A line has the path of the source, which is at the same place in `paths`, then the number of the line,
-/// unless the finding is about the whole file, then what is found.
+/// unless the finding is about the whole file, then whether it is an error or a warning, the message in words, and
+/// the code: `PATH:LINE: error: MESSAGE [CODE]`.
 ///
 /// # Errors
 ///
@@ -61,9 +62,9 @@ fn verdict_on(found: &[Found]) -> Verdict
 
 // Returns whether all findings are warnings.
 fn are_warnings(found: &[Found]) -> bool
-    ensures { result ≡ list_all (λ one. is_warning one.finding.what) found.now }
+    ensures { result ≡ list_all (λ one. is_warning one.quoted.finding.what) found.now }
 {
-    found.iter().all(|one| is_warning(one.finding.what))
+    found.iter().all(|one| is_warning(one.quoted.finding.what))
 }
 
 // Returns whether a finding is a warning, which is no error.

@@ -19,10 +19,11 @@ use Rattle.plan_check.specs.Finding.{is_clean}
 use Rattle.plan_check.specs.Form.{form_reading}
 use Rattle.plan_clock.specs.declared.row.Change.{Change}
 use Rattle.plan_check.specs.Names.{KnownNames, is_added, no_names}
+use Rattle.plan_check.specs.Quotes.{with_quote}
 use Rattle.agenda_sources.specs.declared.findings.Found.{Found}
 use Rattle.agenda_sources.specs.declared.sources.Source.{Source}
 use Rattle.agenda_sources.specs.Faults.{SourceReading, in_source}
-use Rattle.agenda_sources.specs.Findings.{found_at, found_from, is_all_clean, source_file, sources_findings}
+use Rattle.agenda_sources.specs.Findings.{found_at, found_from, is_all_clean, quoted_findings, source_file, sources_findings}
 use Rattle.agenda_sources.specs.Kind.{form_of}
 use Rattle.agenda_sources.specs.Sources.{sources_from, sources_reading, with_jobs, with_source}
 
@@ -31,20 +32,23 @@ use Rattle.agenda_sources.specs.Sources.{sources_from, sources_reading, with_job
 abbrev files_of : List Source → List File
 files_of sources = map source_file sources
 
-findings_back : (place : ℕ) (found : List Finding) → map (λ (one : Found). one.finding) (map (found_at place) found) ≡ found
-findings_back place [] = refl
-findings_back place (finding ∷ found) = ap (λ more. finding ∷ more) (findings_back place found)
+findings_back :
+    (place : ℕ) (file : File) (found : List Finding) →
+    map (λ (one : Found). one.quoted.finding) (map (found_at place) (map (with_quote file) found)) ≡ found
+findings_back place file [] = refl
+findings_back place file (finding ∷ found) = ap (λ more. finding ∷ more) (findings_back place file found)
 
 -- the findings of sources are those of the files that they are
 found_files :
     (place : ℕ) (known : KnownNames) (sources : List Source) →
-    map (λ (one : Found). one.finding) (found_from place known sources) ≡ files_findings known (files_of sources)
+    map (λ (one : Found). one.quoted.finding) (found_from place known sources) ≡ files_findings known (files_of sources)
 found_files place known [] = refl
 found_files place known (source ∷ more) =
-    let here = file_findings known (source_file source) in
-    let after = after_file known (source_file source) in
-    map-append (λ (one : Found). one.finding) (map (found_at place) here) (found_from (place + 1) after more)
-    ∙ (λ i. findings_back place here i ++ found_files (place + 1) after more i)
+    let file = source_file source in
+    let after = after_file known file in
+    map-append (λ (one : Found). one.quoted.finding) (map (found_at place) (quoted_findings known file))
+    (found_from (place + 1) after more)
+    ∙ (λ i. findings_back place file (file_findings known file) i ++ found_files (place + 1) after more i)
 
 -- ---- names and jobs
 

@@ -3,12 +3,12 @@
 -- The lemmas follow the definition from one source to all: a step, or a choice, keeps this if both parts do.
 -- Each source's error passes `fault_by_cause`, which turns it into `NoMemory` in that case. The last lemma is
 -- about the answer.
-use Rattle.std.proofs.Common.{◌≡◌, ◌≢◌, ℕ, ◌+◌, Bool, true, false, cond, nat_lt, is_some, List, [], ◌∷◌, ◌++◌, length, Result, Ok, Err, IfErr}
+use Rattle.std.proofs.Common.{◌≡◌, ◌≢◌, ℕ, ◌+◌, nat_lt, is_some, List, [], ◌∷◌, ◌++◌, length, Result, Ok, Err, IfErr}
 use Rattle.plan_rules.specs.declared.line_fault.LineCause.{LineCause}
 use Rattle.plan_rules.specs.declared.line_fault.LineCause.TheVariants as cause
 use Rattle.plan_rules.specs.declared.line_fault.LineFault.{LineFault}
 use Rattle.plan_texts.specs.EachLaws.{err_steps, err_choice}
-use Rattle.plan_texts.specs.Steps.{◌>>=◌, GivesUnless}
+use Rattle.plan_texts.specs.Steps.{GivesUnless}
 use Rattle.plan_rules.specs.LineFaults.{TextReading}
 use Rattle.plan_rules.specs.Limits.{most_jobs}
 use Rattle.plan_rules.specs.Job.{JobParts}

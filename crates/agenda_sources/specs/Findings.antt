@@ -1,10 +1,10 @@
 -- The findings of all sources, in the order of the sources (agenda).
 use Rattle.std.specs.Prelude.{ℕ, ◌+◌, Bool, List, [], ◌∷◌, ◌++◌, map}
 use Rattle.plan_clock.specs.declared.row.Change.{Change}
-use Rattle.plan_check.specs.declared.finding.Finding.{Finding}
 use Rattle.plan_check.specs.Files.{File, after_file, file_findings, file_of}
 use Rattle.plan_check.specs.Finding.{is_clean}
 use Rattle.plan_check.specs.Names.{KnownNames, no_names}
+use Rattle.plan_check.specs.Quotes.{QuotedFinding, with_quote}
 use Rattle.agenda_sources.specs.declared.findings.Found.{Found}
 use Rattle.agenda_sources.specs.declared.sources.Source.{Source}
 use Rattle.agenda_sources.specs.Kind.{form_of}
@@ -13,15 +13,19 @@ use Rattle.agenda_sources.specs.Kind.{form_of}
 abbrev pub source_file : Source → File
 source_file source = file_of (form_of source.kind) source.name source.bytes
 
+-- the findings of a file, each with the text that its message quotes
+abbrev pub quoted_findings : KnownNames → File → List QuotedFinding
+quoted_findings known file = map (with_quote file) (file_findings known file)
+
 -- a finding in the source at a place
-abbrev pub found_at : (place : ℕ) → Finding → Found
-found_at place finding = record { place = place; finding = finding }
+abbrev pub found_at : (place : ℕ) → QuotedFinding → Found
+found_at place quoted = record { place = place; quoted = quoted }
 
 -- the findings of sources in order. The first of them is at this place, and the jobs before have the known names
 abbrev pub found_from : (place : ℕ) → KnownNames → List Source → List Found
 found_from place known [] = []
 found_from place known (source ∷ more) =
-    map (found_at place) (file_findings known (source_file source))
+    map (found_at place) (quoted_findings known (source_file source))
     ++ found_from (place + 1) (after_file known (source_file source)) more
 
 -- the findings of all sources, whose jobs start by the clock of a zone
@@ -30,4 +34,4 @@ sources_findings clock sources = found_from 0 (no_names clock) sources
 
 -- whether no finding is an error
 abbrev pub is_all_clean : List Found → Bool
-is_all_clean found = is_clean (map (λ one. one.finding) found)
+is_all_clean found = is_clean (map (λ one. one.quoted.finding) found)

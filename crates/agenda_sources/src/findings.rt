@@ -1,28 +1,28 @@
 //! The findings of all sources, in the order of the sources.
 
 ghost use Rattle.std.specs.Prelude.{◌≡◌, ◌++◌, IfOk, OnOk, is_ok, map};
-ghost use Rattle.plan_check.specs.Files.{after_file, file_findings};
-ghost use Rattle.agenda_sources.specs.Findings.{found_at, is_all_clean, source_file, sources_findings};
+ghost use Rattle.plan_check.specs.Files.{after_file};
+ghost use Rattle.agenda_sources.specs.Findings.{found_at, is_all_clean, quoted_findings, source_file, sources_findings};
 ghost use Rattle.agenda_sources.specs.Sources.{sources_reading};
 
 use crate::sources::{Source, Sources};
-use plan_check::{Finding, Names, clean_where_jobs_are};
+use plan_check::{Names, Quoted, clean_where_jobs_are};
 use plan_clock::Clock;
 use std::alloc::{AllocError, Global};
 
 /// A finding in one of several sources.
-#[derive(Clone, Copy, Debug, PartialEq, Eq)]
+#[derive(Debug, Drop)]
 pub struct Found {
     /// The place of the source, from 0.
     pub place: usize,
-    /// The finding in that source.
-    pub finding: Finding,
+    /// The finding in that source, with the text that its message quotes.
+    pub quoted: Quoted,
 }
 
-/// Returns all findings of the sources, in the order of the sources.
+/// Returns all findings of the sources, in the order of the sources, each with the text that its message quotes.
 ///
-/// The findings of a source are those of `crontab_findings`, `named_crontab_findings` or `timer_findings` of
-/// plan_check: first those of the whole file, then those of its lines. Rules start by the clock of a zone.
+/// The findings of a source are those of `findings` of plan_check's `Form`, and the texts those of `with_quotes`. Rules
+/// start by the clock of a zone.
 ///
 /// # Errors
 ///
@@ -55,23 +55,25 @@ fn add_source(
     source: &Source,
 ) -> Result<(), AllocError>
     ensures found { OnOk result (found.new.items ≡ found.old.items
-        ++ map (found_at place) (file_findings names.old (source_file source.now))) }
+        ++ map (found_at place) (quoted_findings names.old (source_file source.now))) }
     ensures names { OnOk result (names.new ≡ after_file names.old (source_file source.now)) }
 {
     let form = source.kind.form();
-    let more = form.findings(alloc, names, source.name.as_str(), source.bytes.as_slice())?;
-    add_all(found, place, more.as_slice())
+    let (name, bytes) = (source.name.as_str(), source.bytes.as_slice());
+    let more = form.findings(alloc, names, name, bytes)?;
+    add_all(
+        found,
+        place,
+        form.with_quotes(alloc, name, bytes, more.as_slice())?,
+    )
 }
 
 // Adds findings of the source at a place.
-fn add_all(found: &mut Vec<Found>, place: usize, more: &[Finding]) -> Result<(), AllocError>
-    ensures { OnOk result (found.new.items ≡ found.old.items ++ map (found_at place) more.now) }
+fn add_all(found: &mut Vec<Found>, place: usize, more: Vec<Quoted>) -> Result<(), AllocError>
+    ensures { OnOk result (found.new.items ≡ found.old.items ++ map (found_at place) more.items) }
 {
-    for finding in more {
-        found.push(Found {
-            place,
-            finding: *finding,
-        })?;
+    for quoted in more {
+        found.push(Found { place, quoted })?;
     }
     Ok(())
 }

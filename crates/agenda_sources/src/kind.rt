@@ -68,8 +68,8 @@ impl SourceKind {
         self.label().is_none()
     }
 
-    // Returns the form of the sources of this kind.
-    pub(crate) fn form(self) -> Form
+    /// Returns the form of the sources of this kind.
+    pub fn form(self) -> Form
         ensures { result ≡ form_of self }
     {
         match self {

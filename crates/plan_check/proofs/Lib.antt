@@ -2,3 +2,4 @@ pub mod FirstLemmas
 pub mod CleanLemmas
 pub mod LinesLemmas
 pub mod NamesLemmas
+pub mod QuoteLemmas

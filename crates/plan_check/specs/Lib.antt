@@ -5,3 +5,4 @@ pub mod Crontabs
 pub mod Timers
 pub mod Form
 pub mod Files
+pub mod Quotes

@@ -154,7 +154,7 @@ impl Form {
 }
 
 // Returns the label of the jobs of the crontab of one user, or of the system.
-fn label_of(kind: Kind) -> &'static str
+pub(crate) fn label_of(kind: Kind) -> &'static str
     ensures { result.now ≡ label_of kind }
 {
     match kind {

@@ -2,7 +2,8 @@
 //!
 //! plan_rules reads each line by itself, and plan_next says whether a rule has a start. Read `finding` first,
 //! then `form`, which reads a file or finds what is wrong with it, and `crontabs` and `timers` for the lines.
-//! `names` is what is passed from file to file, and `laws` connects findings with jobs.
+//! `names` is what is passed from file to file, `quotes` finds the text that a message quotes, and `laws` connects
+//! findings with jobs.
 #![tactic(auto)]
 
 mod crontabs;
@@ -10,6 +11,7 @@ mod finding;
 mod form;
 mod laws;
 mod names;
+mod quotes;
 mod report;
 mod timers;
 mod warnings;
@@ -18,3 +20,4 @@ pub use finding::{Finding, Warning, What};
 pub use form::Form;
 pub use laws::clean_where_jobs_are;
 pub use names::Names;
+pub use quotes::Quoted;

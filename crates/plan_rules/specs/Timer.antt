@@ -58,6 +58,10 @@ setting_of text =
     then Some (trimmed (before_first is_equals text), trimmed (after_first is_equals text))
     else None
 
+-- the value of the setting on a line, which is empty if the line is no setting (systemd.syntax(7))
+abbrev pub value_of : List ℕ → List ℕ
+value_of text = option_map_or (λ setting. setting.1) (setting_of text) []
+
 -- ---- what a setting of the `[Timer]` section does
 
 -- the keys of monotonic timers (systemd.timer(5))

@@ -177,7 +177,7 @@ fn job(alloc: Global, label: &str, kind: Kind, number: u32, line: &str) -> Resul
 {
     let (rule, rest) = rule_in_front(alloc, line)?;
     let (user, command) = what(alloc, kind, rest)?;
-    let name = name(alloc, label, number)?;
+    let name = job_name(alloc, label, number)?;
     Ok(Job::new(name, user, command, Arc::new(alloc, rule)?))
 }
 
@@ -211,8 +211,12 @@ fn command(text: &str) -> Result<&str, LineCause>
     Ok(command)
 }
 
-// Returns the name of the job of a line.
-fn name(alloc: Global, label: &str, number: u32) -> Result<String, AllocError>
+/// Returns the name of the job of a crontab's line, `LABEL:n` for line n.
+///
+/// # Errors
+///
+/// `AllocError` if an allocation fails.
+pub fn job_name(alloc: Global, label: &str, number: u32) -> Result<String, AllocError>
     ensures { IfOk result (λ name. string_bytes name ≡ job_name label.now number) }
 {
     format!(in alloc; "{label}:{number}")

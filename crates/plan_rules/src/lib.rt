@@ -20,7 +20,7 @@ mod timer_events;
 mod timer_lines;
 mod timers;
 
-pub use crontabs::{Kind, crontab, crontab_entry, crontab_is_its_entries};
+pub use crontabs::{Kind, crontab, crontab_entry, crontab_is_its_entries, job_name};
 pub use entry::Entry;
 pub use file_text::text_of;
 pub use job::Job;
@@ -31,4 +31,5 @@ pub use plan_grammar::{RuleCause, RuleFault, calendar_event, calendar_rule, cron
 pub use plan_match::{Calendar, CronRule, DayCount, Events, Rule};
 pub use plan_texts::{Text, cut, lines, number};
 pub use timer_events::{TimerLine, TimerReader, timer_is_its_entries};
+pub use timer_lines::value_of;
 pub use timers::{MOST_EVENTS, is_timer_name, timer};

@@ -3,7 +3,7 @@
 ghost use Rattle.std.specs.Prelude.{◌≡◌, false, Some};
 ghost use Rattle.std.specs.Option.{option_map};
 ghost use Rattle.plan_texts.specs.WholeLines.{trimmed};
-ghost use Rattle.plan_rules.specs.Timer.{effect_of, key_of, line_effect, section_name, setting_of};
+ghost use Rattle.plan_rules.specs.Timer.{effect_of, key_of, line_effect, section_name, setting_of, value_of};
 ghost use Rattle.plan_rules.specs.TimerSteps.{effect_shown, sections_after};
 
 use plan_texts::whole_lines::trimmed;
@@ -112,6 +112,17 @@ fn setting_of(text: &str) -> Option<(&str, &str)>
 {
     let (key, value) = text.split_once('=')?;
     Some((trimmed(key), trimmed(value)))
+}
+
+/// Returns the value of the setting on a whole line of a timer file: what follows the first `=`, without blanks at its
+/// ends (systemd.syntax(7)). A line without `=` has the empty value.
+pub fn value_of(text: &str) -> &str
+    ensures { result.now ≡ value_of text.now }
+{
+    match setting_of(text) {
+        Some((_, value)) => value,
+        None => "",
+    }
 }
 
 // Returns which kind of setting has this key.

@@ -4,3 +4,4 @@ pub mod QuietLaws
 pub mod NextLemmas
 pub mod ReplyRows
 pub mod EndLemmas
+pub mod MessageLemmas

@@ -1,46 +1,38 @@
 -- The text of findings in sources (agenda).
-use Rattle.std.specs.Prelude.{ℕ, ◌==◌, if◌then◌else◌, List, [], ◌++◌, codes, decimal, Option, Some, None, slice_get}
+use Rattle.std.specs.Prelude.{ℕ, ◌==◌, if◌then◌else◌, List, [], ◌++◌, codes, decimal, Option, Some, None, slice_get, unwrap_or}
 use Rattle.std.specs.List.{flat_map}
-use Rattle.plan_grammar.specs.Causes.{rule_cause}
-use Rattle.plan_rules.specs.Causes.{line_cause}
-use Rattle.plan_rules.specs.declared.LineCause.{LineCause}
-use Rattle.plan_rules.specs.declared.LineCause.TheVariants.{Rule}
-use Rattle.plan_check.specs.Finding.{warning_name}
+use Rattle.plan_check.specs.Quotes.{QuotedFinding}
 use Rattle.plan_check.specs.declared.Finding.{Finding}
+use Rattle.plan_check.specs.declared.Form.{Form}
 use Rattle.plan_check.specs.declared.What.{What}
-use Rattle.plan_check.specs.declared.What.TheVariants.{Refused, SameName, Full, Warned}
+use Rattle.agenda_sources.specs.Kind.{form_of}
 use Rattle.agenda_sources.specs.declared.Found.{Found}
 use Rattle.agenda_sources.specs.declared.SourcePath.{SourcePath}
+use Rattle.plan_write.specs.Messages.{code_of, message, severity}
 
 -- the number of a line, after its path; a finding about the whole file has none
 abbrev pub line_mark : ℕ → List ℕ
 line_mark line = if line == 0 then [] else codes ":" ++ decimal line
 
--- why a line is rejected; for a rule also which of its parts
-abbrev pub cause_text : LineCause → List ℕ
-cause_text (Rule fault) = codes "part " ++ (decimal fault.part ++ (codes ": " ++ rule_cause fault.cause))
-cause_text cause = line_cause cause
+-- what comes before a message: the path, the line's number, and whether it is an error or a warning
+abbrev pub before_message : (path : List ℕ) → Finding → List ℕ
+before_message path finding = path ++ (line_mark finding.line ++ (codes ": " ++ (severity finding.what ++ codes ": ")))
 
--- what is found
-abbrev pub what_text : What → List ℕ
-what_text (Refused cause) = cause_text cause
-what_text SameName = codes "SameName"
-what_text Full = codes "Full"
-what_text (Warned note) = codes "note: " ++ warning_name note
+-- what comes after a message: the code in brackets
+abbrev pub after_message : What → List ℕ
+after_message what = codes " [" ++ (code_of what ++ codes "]\n")
 
--- the line of a finding: the path, the line's number, what is found
-abbrev pub finding_line : List ℕ → Finding → List ℕ
-finding_line path finding = path ++ (line_mark finding.line ++ (codes ": " ++ (what_text finding.what ++ codes "\n")))
+-- the line of a finding in a file of a form
+abbrev pub finding_line : (path : List ℕ) → Form → QuotedFinding → List ℕ
+finding_line path form one =
+    before_message path one.finding
+    ++ (message form one.finding.what (unwrap_or one.quote []) ++ after_message one.finding.what)
 
--- the path of a source, if the source exists
-abbrev pub path_in : Option SourcePath → List ℕ
-path_in None = []
-path_in (Some source) = source.path
+-- the same, if the source exists
+abbrev pub found_line : Option SourcePath → QuotedFinding → List ℕ
+found_line None one = []
+found_line (Some source) one = finding_line source.path (form_of source.kind) one
 
--- the path at a place, which is counted from 0
-abbrev pub path_at : List SourcePath → ℕ → List ℕ
-path_at paths place = path_in (slice_get paths place)
-
--- a line for each finding, in order, with the path of its source as it was given
+-- a line for each finding, in order, with the path of its source as it was given; places are counted from 0
 abbrev pub check_text : List SourcePath → List Found → List ℕ
-check_text paths found = flat_map (λ one. finding_line (path_at paths one.place) one.finding) found
+check_text paths found = flat_map (λ one. found_line (slice_get paths one.place) one.quoted) found

@@ -4,5 +4,6 @@ pub mod Stamp
 pub mod Upcoming
 pub mod Quiet
 pub mod Next
+pub mod Messages
 pub mod Findings
 pub mod Replies

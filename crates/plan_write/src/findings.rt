@@ -1,21 +1,21 @@
 //! The text of findings in sources.
 
-ghost use Rattle.std.specs.Prelude.{◌≡◌};
+ghost use Rattle.std.specs.Prelude.{◌≡◌, [], slice_get, unwrap_or};
 ghost use Rattle.plan_streams.specs.Stream.{Puts};
 ghost use Rattle.plan_streams.specs.Writer.{Takes};
-ghost use Rattle.plan_write.specs.Findings.{cause_text, check_text, finding_line, line_mark, path_at, what_text};
+ghost use Rattle.plan_write.specs.Findings.{after_message, before_message, check_text, finding_line, found_line, line_mark};
 
+use crate::messages::{code_of, put_message, severity};
 use agenda_sources::{Found, SourcePath};
 use itoa::Buffer as Digits;
-use plan_check::{Finding, What};
-use plan_rules::LineCause;
+use plan_check::{Finding, Form, Quoted, What};
 use plan_streams::{Stream, TextWriter, WriteFault};
 
-/// Writes findings, one line for each, in order.
+/// Writes findings, one line for each, in order: `PATH:LINE: error: MESSAGE [CODE]`.
 ///
 /// A line has the path of the source, which is at the same place in `paths`, then the number of the line,
-/// unless the finding is about the whole file, then what is found. This requests no memory. The stream is
-/// flushed once, at the end.
+/// unless the finding is about the whole file, then whether it is an error or a warning, the message in words, and the code.
+/// This requests no memory. The stream is flushed once, at the end.
 ///
 /// # Errors
 ///
@@ -31,34 +31,50 @@ pub fn write_findings<S: Stream>(
 {
     let mut lines = TextWriter::new(out);
     for one in found {
-        put_finding(path_at(paths, one.place), one.finding, &mut lines);
+        put_found(paths, one, &mut lines);
     }
     lines.finish()
 }
 
-// Returns the path at a place, which is counted from 0.
-fn path_at(paths: &[SourcePath], place: usize) -> &str
-    ensures { result.now ≡ path_at paths.now place }
+// Puts the line of a finding, if its source exists.
+fn put_found<S: Stream>(paths: &[SourcePath], one: &Found, lines: &mut TextWriter<'_, S>)
+    ensures { Takes S.holds S.takes_all lines.old lines.new (found_line (slice_get paths.now one.now.place) one.now.quoted) }
 {
-    match paths.get(place) {
-        Some(source) => source.path.as_str(),
-        None => "",
+    if let Some(source) = paths.get(one.place) {
+        put_finding(source.path.as_str(), source.kind.form(), &one.quoted, lines);
     }
 }
 
-// Puts the line of a finding.
-fn put_finding<S: Stream>(path: &str, finding: Finding, lines: &mut TextWriter<'_, S>)
-    ensures { Takes S.holds S.takes_all lines.old lines.new (finding_line path.now finding) }
+// Puts the line of a finding in a file of a form.
+fn put_finding<S: Stream>(path: &str, form: Form, one: &Quoted, lines: &mut TextWriter<'_, S>)
+    ensures { Takes S.holds S.takes_all lines.old lines.new (finding_line path.now form one.now) }
+{
+    let what = one.finding.what;
+    put_before_message(path, one.finding, lines);
+    put_message(form, what, quote_of(one), lines);
+    put_after_message(what, lines);
+}
+
+// Puts what comes before a message.
+fn put_before_message<S: Stream>(path: &str, finding: Finding, lines: &mut TextWriter<'_, S>)
+    ensures { Takes S.holds S.takes_all lines.old lines.new (before_message path.now finding) }
 {
     lines.put(path.as_bytes());
-    put_mark(finding.line, lines);
+    put_line_mark(finding.line, lines);
+    lines.put_both(b": ", severity(finding.what).as_bytes());
     lines.put(b": ");
-    put_what(finding.what, lines);
-    lines.put(b"\n");
+}
+
+// Puts what comes after a message: the code.
+fn put_after_message<S: Stream>(what: What, lines: &mut TextWriter<'_, S>)
+    ensures { Takes S.holds S.takes_all lines.old lines.new (after_message what) }
+{
+    lines.put_both(b" [", code_of(what).as_bytes());
+    lines.put(b"]\n");
 }
 
 // Puts the number of a line, unless it is 0, which means the whole file.
-fn put_mark<S: Stream>(line: u32, lines: &mut TextWriter<'_, S>)
+fn put_line_mark<S: Stream>(line: u32, lines: &mut TextWriter<'_, S>)
     ensures { Takes S.holds S.takes_all lines.old lines.new (line_mark line) }
 {
     if line != 0 {
@@ -66,27 +82,12 @@ fn put_mark<S: Stream>(line: u32, lines: &mut TextWriter<'_, S>)
     }
 }
 
-// Puts what is found.
-fn put_what<S: Stream>(what: What, lines: &mut TextWriter<'_, S>)
-    ensures { Takes S.holds S.takes_all lines.old lines.new (what_text what) }
+// Returns the text that a message quotes, or nothing if it quotes none.
+fn quote_of(one: &Quoted) -> &str
+    ensures { result.now ≡ unwrap_or one.now.quote [] }
 {
-    match what {
-        What::Refused(cause) => put_cause(cause, lines),
-        What::SameName => lines.put(b"SameName"),
-        What::Full => lines.put(b"Full"),
-        What::Warned(note) => lines.put_both(b"note: ", note.name().as_bytes()),
-    }
-}
-
-// Puts why a line is rejected.
-fn put_cause<S: Stream>(cause: LineCause, lines: &mut TextWriter<'_, S>)
-    ensures { Takes S.holds S.takes_all lines.old lines.new (cause_text cause) }
-{
-    match cause {
-        LineCause::Rule(fault) => {
-            lines.put_both(b"part ", Digits::new().format(fault.part).as_bytes());
-            lines.put_both(b": ", fault.cause.name().as_bytes());
-        }
-        cause => lines.put(cause.name().as_bytes()),
+    match &one.quote {
+        Some(quote) => quote.as_str(),
+        None => "",
     }
 }

@@ -9,6 +9,7 @@
 mod agenda;
 mod findings;
 mod line_ends;
+mod messages;
 mod next;
 mod quiet;
 mod replies;

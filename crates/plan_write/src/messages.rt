@@ -1,0 +1,406 @@
+//! The messages of findings, in words.
+
+ghost use Rattle.std.specs.Prelude.{◌≡◌, ◌<◌};
+ghost use Rattle.std.specs.Char.{digit_char};
+ghost use Rattle.std.specs.List.{flat_map};
+ghost use Rattle.plan_streams.specs.Writer.{Takes};
+ghost use Rattle.plan_write.specs.Messages.{around, code_of, cron_message, dots, escaped, event_message, expected_fields, field_message, field_name, field_values, full_message, message, missing_command, no_event, part_message, part_name, part_values, plain_message, problem, problem_text, quoted, range_of, rule_message, same_name, severity, shown, unknown_word, warning_message, whole_event, whole_rule, with_specifiers};
+
+use plan_check::{Form, Warning, What};
+use plan_grammar::{RuleCause, RuleFault};
+use plan_rules::{CrontabDirectory, Kind, LineCause};
+use plan_sets::SetFault;
+use plan_streams::{Stream, TextWriter};
+
+/// The maximum number of bytes of a quoted text that are shown.
+const MOST_SHOWN: usize = 64;
+
+// Returns whether a finding is an error or a warning.
+pub(crate) fn severity(what: What) -> &'static str
+    ensures { result.now ≡ severity what }
+{
+    match what {
+        What::Warned(_) => "warning",
+        What::Refused(_) | What::SameName | What::Full => "error",
+    }
+}
+
+// Returns the code of a finding: the name of its cause.
+pub(crate) fn code_of(what: What) -> &'static str
+    ensures { result.now ≡ code_of what }
+{
+    match what {
+        What::Refused(cause) => cause.name(),
+        What::SameName => "SameName",
+        What::Full => "Full",
+        What::Warned(warning) => warning.name(),
+    }
+}
+
+// Puts the message of a finding in a file of a form.
+pub(crate) fn put_message<S: Stream>(
+    form: Form,
+    what: What,
+    quote: &str,
+    lines: &mut TextWriter<'_, S>,
+)
+    ensures { Takes S.holds S.takes_all lines.old lines.new (message form what quote.now) }
+{
+    match what {
+        What::Refused(LineCause::Rule(fault)) => put_rule_message(form, fault, quote, lines),
+        What::Refused(cause) => lines.put(plain_message(form, cause).as_bytes()),
+        What::SameName => put_same_name(quote, lines),
+        What::Full => lines.put(full_message().as_bytes()),
+        What::Warned(warning) => lines.put(warning_message(warning).as_bytes()),
+    }
+}
+
+// Puts that another job has a name.
+fn put_same_name<S: Stream>(name: &str, lines: &mut TextWriter<'_, S>)
+    ensures { Takes S.holds S.takes_all lines.old lines.new (same_name name.now) }
+{
+    put_around("another job is named ", name, "", lines);
+}
+
+// Returns the message that there are too many jobs.
+fn full_message() -> &'static str
+    ensures { result.now ≡ full_message }
+{
+    "more than 1000 jobs"
+}
+
+// Returns the message of a warning.
+#[tactic(auto, unfolding(crate::specs::Messages::warning_message))]
+fn warning_message(warning: Warning) -> &'static str
+    ensures { result.now ≡ warning_message warning }
+{
+    match warning {
+        Warning::NeverStarts => "never starts",
+        Warning::EitherDay => "starts on days that match either day field, not both",
+        Warning::NoEvents => "no OnCalendar= event, so no start is planned",
+    }
+}
+
+// Returns the message of the error of a line, or of a whole file, that isn't the error of a rule.
+#[tactic(auto, unfolding(crate::specs::Messages::plain_message))]
+fn plain_message(form: Form, cause: LineCause) -> &'static str
+    ensures { result.now ≡ plain_message form cause }
+{
+    match cause {
+        LineCause::NoMemory => "out of memory",
+        LineCause::NotUtf8 => "not UTF-8",
+        LineCause::TooLarge => "larger than 1048576 bytes",
+        LineCause::BadSetting => "expected NAME=VALUE, or five fields and a command",
+        LineCause::Rule(_) => "",
+        LineCause::NoCommand => missing_command(form),
+        LineCause::BadTimerName => {
+            "not a timer's name: it must end in .timer and name no template"
+        }
+        LineCause::NoTimerSection => "no [Timer] section",
+        LineCause::TooManyLines => "more than 64 events",
+        LineCause::BadTabName => "not a name that cron reads",
+    }
+}
+
+// Returns what is missing after a rule.
+#[tactic(auto, unfolding(crate::specs::Messages::missing_command))]
+fn missing_command(form: Form) -> &'static str
+    ensures { result.now ≡ missing_command form }
+{
+    match form {
+        Form::Crontab(Kind::System) | Form::Named(CrontabDirectory::CronD) => {
+            "expected a user and a command"
+        }
+        _ => "no command",
+    }
+}
+
+// Puts the error of a rule in a file of a form.
+fn put_rule_message<S: Stream>(
+    form: Form,
+    fault: RuleFault,
+    quote: &str,
+    lines: &mut TextWriter<'_, S>,
+)
+    ensures { Takes S.holds S.takes_all lines.old lines.new (rule_message form fault quote.now) }
+{
+    match form {
+        Form::Crontab(_) | Form::Named(_) => put_cron_message(fault, quote, lines),
+        Form::Timer => put_event_message(fault, quote, lines),
+    }
+}
+
+// ---- cron rules
+
+// Puts the error of a cron rule.
+fn put_cron_message<S: Stream>(fault: RuleFault, quote: &str, lines: &mut TextWriter<'_, S>)
+    ensures { Takes S.holds S.takes_all lines.old lines.new (cron_message fault quote.now) }
+{
+    if fault.part == 0 {
+        put_whole_rule(fault.cause, quote, lines);
+    } else {
+        put_field_message(fault, quote, lines);
+    }
+}
+
+// Puts the error of a whole cron rule.
+fn put_whole_rule<S: Stream>(cause: RuleCause, quote: &str, lines: &mut TextWriter<'_, S>)
+    ensures { Takes S.holds S.takes_all lines.old lines.new (whole_rule cause quote.now) }
+{
+    match cause {
+        RuleCause::UnknownWord => put_unknown_word(quote, lines),
+        _ => lines.put(expected_fields().as_bytes()),
+    }
+}
+
+// Puts that a word that begins with `@` is unknown.
+fn put_unknown_word<S: Stream>(word: &str, lines: &mut TextWriter<'_, S>)
+    ensures { Takes S.holds S.takes_all lines.old lines.new (unknown_word word.now) }
+{
+    put_around("unknown word ", word, "", lines);
+}
+
+// Returns the message that fields are missing.
+fn expected_fields() -> &'static str
+    ensures { result.now ≡ expected_fields }
+{
+    "expected five fields and a command"
+}
+
+// Puts the error of a field of a cron rule.
+fn put_field_message<S: Stream>(fault: RuleFault, quote: &str, lines: &mut TextWriter<'_, S>)
+    ensures { Takes S.holds S.takes_all lines.old lines.new (field_message fault quote.now) }
+{
+    lines.put_both(field_name(fault.part).as_bytes(), b" ");
+    put_quoted(quote, lines);
+    lines.put(b": ");
+    let wrong = "empty value, or a step after a single value";
+    put_problem(fault.cause, field_values(fault.part), wrong, lines);
+}
+
+// Returns the name of a field, by its place from 1.
+#[tactic(auto, unfolding(crate::specs::Messages::field_name))]
+fn field_name(part: u8) -> &'static str
+    ensures { result.now ≡ field_name part }
+{
+    match part {
+        1 => "minute",
+        2 => "hour",
+        3 => "day of month",
+        4 => "month",
+        _ => "day of week",
+    }
+}
+
+// Returns the values of a field, by its place from 1.
+#[tactic(auto, unfolding(crate::specs::Messages::field_values))]
+fn field_values(part: u8) -> &'static str
+    ensures { result.now ≡ field_values part }
+{
+    match part {
+        1 => "0-59",
+        2 => "0-23",
+        3 => "1-31",
+        4 => "1-12",
+        _ => "0-7",
+    }
+}
+
+// ---- events
+
+// Puts the error of an event.
+fn put_event_message<S: Stream>(fault: RuleFault, quote: &str, lines: &mut TextWriter<'_, S>)
+    ensures { Takes S.holds S.takes_all lines.old lines.new (event_message fault quote.now) }
+{
+    if fault.part == 0 {
+        put_whole_event(fault.cause, quote, lines);
+    } else {
+        put_part_message(fault, quote, lines);
+    }
+}
+
+// Puts the error of a whole event.
+fn put_whole_event<S: Stream>(cause: RuleCause, quote: &str, lines: &mut TextWriter<'_, S>)
+    ensures { Takes S.holds S.takes_all lines.old lines.new (whole_event cause quote.now) }
+{
+    match cause {
+        RuleCause::Specifier => put_specifiers(quote, lines),
+        _ => put_no_event(quote, lines),
+    }
+}
+
+// Puts that an event contains specifiers.
+fn put_specifiers<S: Stream>(event: &str, lines: &mut TextWriter<'_, S>)
+    ensures { Takes S.holds S.takes_all lines.old lines.new (with_specifiers event.now) }
+{
+    put_around("specifiers in ", event, " are not expanded", lines);
+}
+
+// Puts that a text is no event.
+fn put_no_event<S: Stream>(event: &str, lines: &mut TextWriter<'_, S>)
+    ensures { Takes S.holds S.takes_all lines.old lines.new (no_event event.now) }
+{
+    put_around("", event, " is not a calendar event", lines);
+}
+
+// Puts the error of a part of an event.
+fn put_part_message<S: Stream>(fault: RuleFault, quote: &str, lines: &mut TextWriter<'_, S>)
+    ensures { Takes S.holds S.takes_all lines.old lines.new (part_message fault quote.now) }
+{
+    lines.put_both(part_name(fault.part).as_bytes(), b" in ");
+    put_quoted(quote, lines);
+    lines.put(b": ");
+    let wrong = "empty value, or a step after *";
+    put_problem(fault.cause, part_values(fault.part), wrong, lines);
+}
+
+// Returns the name of a part, by its place from 1.
+#[tactic(auto, unfolding(crate::specs::Messages::part_name))]
+fn part_name(part: u8) -> &'static str
+    ensures { result.now ≡ part_name part }
+{
+    match part {
+        1 => "weekday",
+        2 => "year",
+        3 => "month",
+        4 => "day",
+        5 => "hour",
+        6 => "minute",
+        7 => "second",
+        _ => "time zone",
+    }
+}
+
+// Returns the values of a part, by its place from 1.
+#[tactic(auto, unfolding(crate::specs::Messages::part_values))]
+fn part_values(part: u8) -> &'static str
+    ensures { result.now ≡ part_values part }
+{
+    match part {
+        2 => "1970-2999",
+        3 => "1-12",
+        4 => "1-31",
+        5 => "0-23",
+        _ => "0-59",
+    }
+}
+
+// ---- parts of rules
+
+// Puts what is wrong with a part, whose possible values are given, and what may not be there.
+fn put_problem<S: Stream>(
+    cause: RuleCause,
+    values: &str,
+    wrong: &str,
+    lines: &mut TextWriter<'_, S>,
+)
+    ensures { Takes S.holds S.takes_all lines.old lines.new (problem cause values.now wrong.now) }
+{
+    lines.put_both(
+        problem_text(cause, wrong).as_bytes(),
+        range_of(cause, values).as_bytes(),
+    );
+}
+
+// Returns what is wrong with a part, before its possible values.
+#[tactic(auto, unfolding(crate::specs::Messages::problem_text))]
+fn problem_text<'a>(cause: RuleCause, wrong: &'a str) -> &'a str
+    ensures { result.now ≡ problem_text cause wrong.now }
+{
+    match cause {
+        RuleCause::Values(SetFault::NoItem) => "no value",
+        RuleCause::Values(SetFault::OutOfRange) => "out of range ",
+        RuleCause::Values(SetFault::Backwards) => "range runs backwards",
+        RuleCause::Values(SetFault::ZeroStep) => "step of zero",
+        RuleCause::BadNumber => "not a number of one to four digits",
+        RuleCause::BadName => "unknown name",
+        RuleCause::Fraction => "fractions are not supported",
+        RuleCause::Zone => "only UTC is supported",
+        _ => wrong,
+    }
+}
+
+// Returns the possible values of a part, if a value is out of them.
+#[tactic(auto, unfolding(crate::specs::Messages::range_of))]
+fn range_of<'a>(cause: RuleCause, values: &'a str) -> &'a str
+    ensures { result.now ≡ range_of cause values.now }
+{
+    match cause {
+        RuleCause::Values(SetFault::OutOfRange) => values,
+        _ => "",
+    }
+}
+
+// ---- quoted text
+
+// Puts a text in quotes, with what comes before and after it.
+#[tactic(auto, unfolding(crate::specs::Messages::around))]
+fn put_around<S: Stream>(before: &str, text: &str, after: &str, lines: &mut TextWriter<'_, S>)
+    ensures { Takes S.holds S.takes_all lines.old lines.new (around before.now text.now after.now) }
+{
+    lines.put(before.as_bytes());
+    put_quoted(text, lines);
+    lines.put(after.as_bytes());
+}
+
+// Puts a text in quotes.
+#[tactic(auto, unfolding(crate::specs::Messages::quoted))]
+fn put_quoted<S: Stream>(text: &str, lines: &mut TextWriter<'_, S>)
+    ensures { Takes S.holds S.takes_all lines.old lines.new (quoted text.now) }
+{
+    lines.put(b"'");
+    put_escaped(shown(text).as_bytes(), lines);
+    lines.put_both(b"'", dots(text).as_bytes());
+}
+
+// Returns the first characters of a text that fit into 64 bytes.
+fn shown(text: &str) -> &str
+    ensures { result.now ≡ shown text.now }
+{
+    if text.len() <= MOST_SHOWN {
+        return text;
+    }
+    &text[..text.floor_char_boundary(MOST_SHOWN)]
+}
+
+// Returns what follows the closing quote of a text of which not all is shown.
+#[tactic(auto, unfolding(crate::specs::Messages::dots))]
+fn dots(text: &str) -> &'static str
+    ensures { result.now ≡ dots text.now }
+{
+    if text.len() <= MOST_SHOWN { "" } else { "..." }
+}
+
+// Puts the bytes of a text in quotes.
+fn put_escaped<S: Stream>(text: &[u8], lines: &mut TextWriter<'_, S>)
+    ensures { Takes S.holds S.takes_all lines.old lines.new (flat_map escaped text.now) }
+{
+    for byte in text {
+        put_byte(*byte, lines);
+    }
+}
+
+// Puts a byte of a text in quotes.
+fn put_byte<S: Stream>(byte: u8, lines: &mut TextWriter<'_, S>)
+    ensures { Takes S.holds S.takes_all lines.old lines.new (escaped byte) }
+{
+    if byte == b'\\' {
+        lines.put(b"\\\\");
+    } else if byte < 32 || byte == 127 {
+        lines.put_both(b"\\x", &[hex_digit(byte / 16), hex_digit(byte % 16)]);
+    } else {
+        lines.put(&[byte]);
+    }
+}
+
+// Returns the hexadecimal digit of a number below 16, in lower case.
+fn hex_digit(number: u8) -> u8
+    requires { number < 16 }
+    ensures { result ≡ digit_char number }
+{
+    if number < 10 {
+        b'0' + number
+    } else {
+        b'a' + (number - 10)
+    }
+}
