@@ -1,5 +1,6 @@
 pub mod Finding
 pub mod Names
+pub mod Skipped
 pub mod Warnings
 pub mod Crontabs
 pub mod Timers

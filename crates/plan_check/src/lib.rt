@@ -13,6 +13,7 @@ mod laws;
 mod names;
 mod quotes;
 mod report;
+mod skipped;
 mod timers;
 mod warnings;
 

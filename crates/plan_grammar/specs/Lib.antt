@@ -3,4 +3,5 @@ pub mod Elements
 pub mod Cron
 pub mod Shape
 pub mod Event
+pub mod EventItems
 pub mod Causes

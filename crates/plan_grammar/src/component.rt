@@ -155,7 +155,7 @@ impl Component {
 
     // Reads the elements of the component, which commas separate.
     #[tactic(auto, unfolding(crate::specs::Event::component_items))]
-    fn items(self, alloc: Global, text: &[u8]) -> Result<Vec<Item>, RuleFault>
+    pub(crate) fn items(self, alloc: Global, text: &[u8]) -> Result<Vec<Item>, RuleFault>
         ensures { GivesBy (λ items. items.items) result (component_items self text.now) }
     {
         let mut items = Vec::new(alloc);

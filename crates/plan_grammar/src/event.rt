@@ -111,7 +111,7 @@ fn has_zone(words: &[&[u8]]) -> bool
 
 // Returns the words before the zone. The last word is a zone if it isn't the first word and begins with a letter.
 #[tactic(auto, unfolding(crate::specs::Event::zone_dropped))]
-fn without_zone<'w, 't>(words: &'w [&'t [u8]]) -> Result<&'w [&'t [u8]], RuleFault>
+pub(crate) fn without_zone<'w, 't>(words: &'w [&'t [u8]]) -> Result<&'w [&'t [u8]], RuleFault>
     ensures { GivesBy (λ left. map (λ word. word.now) left.now) result
         (zone_dropped (map (λ word. word.now) words.now)) }
 {
@@ -245,7 +245,7 @@ fn weekdays_if_given(alloc: Global, text: Option<&[u8]>) -> Result<Option<ValueS
 }
 
 // Returns the component that reads the days: they count from the start or from the end of the month.
-fn day_component(count: DayCount) -> Component
+pub(crate) fn day_component(count: DayCount) -> Component
     ensures { result ≡ day_component count }
 {
     match count {

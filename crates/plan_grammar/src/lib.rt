@@ -1,7 +1,8 @@
 //! Parses the texts of cron rules and of calendar events, and reports why a text is not a rule.
 //!
 //! This crate uses plan_texts to cut a text, and makes the rules of plan_match. For cron rules read `cron`, then
-//! `field`. For calendar events read `event`, then `shape`, `component` and `places`. `fault` has the errors of both.
+//! `field`. For calendar events read `event`, then `shape`, `component` and `places`; `items` has the elements of an
+//! event, as they are written. `fault` has the errors of both.
 #![tactic(auto)]
 
 mod component;
@@ -10,6 +11,7 @@ mod element;
 mod event;
 mod fault;
 mod field;
+mod items;
 mod places;
 mod shape;
 mod weekdays;
@@ -17,3 +19,4 @@ mod weekdays;
 pub use cron::{cron_rule, rule_in_front};
 pub use event::{calendar_event, calendar_rule};
 pub use fault::{RuleCause, RuleFault};
+pub use items::{EventItems, event_items};
