@@ -1,13 +1,13 @@
 -- Files have no finding but warnings exactly if jobs can be made of them: for `clean_where_jobs_are`.
 -- `Agrees` says so of one file, or of its lines, with the names that follow; the rest is induction over the lists.
-use Rattle.std.proofs.Common.{◌≡◌, ℕ, Bool, true, false, not, ◌&&◌, eqb, nat_lt, cond, List, [], ◌∷◌, ◌++◌, length, map, Option, Some, None, is_none, is_some, option_map, Ok, Err, refl, ap, sym, ◌∙◌, subst, arith}
+use Rattle.std.proofs.Common.{◌≡◌, ℕ, ◌+◌, Bool, true, false, not, ◌&&◌, eqb, nat_lt, cond, List, [], ◌∷◌, ◌++◌, length, map, Option, Some, None, is_none, is_some, option_map, Ok, Err, refl, ap, sym, ◌∙◌, subst, arith}
 use Rattle.std.proofs.lemmas.Bool.Decides.{nat_tests}
 use Rattle.std.proofs.lemmas.List.Folds.{list_all-append}
-use Rattle.std.specs.List.{cons_option, flat_map}
+use Rattle.std.specs.List.{cons_option, enumerate_from, filter_map, flat_map}
+use Rattle.plan_texts.specs.Lines.{lines}
 use Rattle.plan_clock.specs.declared.row.Change.{Change}
 use Rattle.plan_match.specs.Zone.{rule_in}
 use Rattle.plan_match.specs.declared.event.Calendar.{Calendar}
-use Rattle.plan_match.specs.declared.rule.Rule.{Rule}
 use Rattle.plan_match.specs.declared.rule.Rule.TheVariants.{Events}
 use Rattle.plan_rules.specs.declared.crontabs.Kind.{Kind}
 use Rattle.plan_rules.specs.declared.entry.Entry.{Entry}
@@ -16,8 +16,8 @@ use Rattle.plan_rules.specs.declared.line_fault.LineCause.TheVariants.{BadTabNam
 use Rattle.plan_rules.specs.declared.line_fault.LineFault.{LineFault}
 use Rattle.plan_texts.specs.Steps.{◌>>=◌}
 use Rattle.plan_texts.specs.WholeLines.{whole_lines, trimmed}
-use Rattle.plan_rules.specs.Crontab.{crontab_entries, crontab_reading}
-use Rattle.plan_rules.specs.Entries.{refusals, refusal_on, given, unless_refused, meant_by}
+use Rattle.plan_rules.specs.Crontab.{crontab_reading, entries_of_lines, line_entry, line_reading}
+use Rattle.plan_rules.specs.Entries.{entry_on, refusals, refusal_on, given, unless_refused, meant_by}
 use Rattle.plan_rules.specs.FileText.{text_reading}
 use Rattle.plan_rules.specs.Job.{JobParts}
 use Rattle.plan_rules.specs.Limits.{most_jobs}
@@ -27,16 +27,16 @@ use Rattle.plan_rules.specs.Timer.{effects_from, first_unit, has_timer, is_timer
 use Rattle.plan_rules.specs.TimerEntries.{count_from, entries_from, events_after, lines_by_entries, no_events, parts_of_lines, timer_by_entries, timer_entries}
 use Rattle.plan_check.specs.declared.finding.Finding.{Finding}
 use Rattle.plan_check.specs.declared.finding.Warning.{Warning}
-use Rattle.plan_check.specs.declared.finding.Warning.TheVariants.{NeverStarts, EitherDay, NoEvents}
+use Rattle.plan_check.specs.declared.finding.Warning.TheVariants.{NeverStarts, EitherDay, NoEvents, Percent, CarriageReturn, ZoneSetting}
 use Rattle.plan_check.specs.declared.finding.What.TheVariants.{Refused, SameName, Full, Warned}
 use Rattle.plan_check.specs.declared.form.Form.{Form}
 use Rattle.plan_check.specs.declared.form.Form.TheVariants.{Crontab, Named, Timer}
-use Rattle.plan_check.specs.Crontabs.{line_findings, after_line, entries_findings, after_entries, crontab_findings, after_crontab}
+use Rattle.plan_check.specs.Crontabs.{after_crontab, after_line, after_lines, crontab_findings, line_findings, lines_findings}
 use Rattle.plan_check.specs.Finding.{is_clean, is_warning, finding_at, found_if, refused_at}
 use Rattle.plan_check.specs.Files.{File, file_findings, file_of, after_file, files_findings, files_names, names_by, names_with, names_then}
 use Rattle.plan_check.specs.Form.{alone, form_reading, label_of}
 use Rattle.plan_check.specs.Names.{KnownNames, is_added, names_after, no_names, with_jobs}
-use Rattle.plan_check.specs.Warnings.{rule_warnings, never_starts, is_reboot, is_either_day}
+use Rattle.plan_check.specs.Warnings.{command_warnings, ends_with_return, has_bare_percent, is_either_day, is_reboot, is_zone_setting, job_warnings, never_starts, rule_warnings}
 use Rattle.plan_check.specs.Timers as timers
 use Rattle.plan_check.proofs.FirstLemmas.{CrontabLaw}
 
@@ -59,14 +59,19 @@ warned_clean : (is_so : Bool) (line : ℕ) (warning : Warning) (more : List Find
 warned_clean is_so line warning more = grind (arith, nat_tests)
 
 two_clean :
-    (p q : Bool) (line : ℕ) (first second : Warning) (more : List Finding) →
-    is_clean ((found_if p line (Warned first) ++ found_if q line (Warned second)) ++ more) ≡ is_clean more
-two_clean p q line first second more = grind (arith, nat_tests)
+    (p q : Bool) (line : ℕ) (first second : Warning) → is_clean (found_if p line (Warned first) ++ found_if q line (Warned second)) ≡ true
+two_clean p q line first second = grind (arith, nat_tests)
 
-notes_clean : (clock : List Change) (line : ℕ) (rule : Rule) (more : List Finding) →
-    is_clean (rule_warnings clock line rule ++ more) ≡ is_clean more
-notes_clean clock line rule more =
-    two_clean (not (is_reboot rule) && never_starts (rule_in clock rule)) (is_either_day rule) line NeverStarts EitherDay more
+warnings_clean : (clock : List Change) (line : ℕ) (job : JobParts) → is_clean (job_warnings clock line job) ≡ true
+warnings_clean clock line job =
+    clean_append (rule_warnings clock line job.rule) (command_warnings line job.command)
+    ∙ (λ i. two_clean (not (is_reboot job.rule) && never_starts (rule_in clock job.rule)) (is_either_day job.rule) line NeverStarts EitherDay i
+    && two_clean (has_bare_percent job.command) (ends_with_return job.command) line Percent CarriageReturn i)
+
+notes_clean : (clock : List Change) (line : ℕ) (job : JobParts) (more : List Finding) →
+    is_clean (job_warnings clock line job ++ more) ≡ is_clean more
+notes_clean clock line job more =
+    clean_append (job_warnings clock line job) more ∙ ap (λ (b : Bool). b && is_clean more) (warnings_clean clock line job)
 
 agrees_by :
     (clock : List Change) (next : Option (List (List ℕ))) (found same : List Finding) (after : KnownNames) →
@@ -93,23 +98,23 @@ job_right :
     (G : KnownNames → KnownNames) →
     ((next : List (List ℕ)) → Agrees clock (names_with next jobs) (F (known_by clock next)) (G (known_by clock next))) →
     Agrees clock (cond a None (cond b (names_with (added ++ job.name ∷ []) jobs) None))
-    ((named_findings line a b ++ rule_warnings clock line job.rule) ++ F (named_after clock a b added job.name)) (G (named_after clock a b
+    ((named_findings line a b ++ job_warnings clock line job) ++ F (named_after clock a b added job.name)) (G (named_after clock a b
     added job.name))
 job_right clock true b added line job jobs F G later = refl
 job_right clock false true added line job jobs F G later =
-    agrees_by clock (names_with (added ++ job.name ∷ []) jobs) (rule_warnings clock line job.rule ++ F (known_by clock (added ++ job.name
+    agrees_by clock (names_with (added ++ job.name ∷ []) jobs) (job_warnings clock line job ++ F (known_by clock (added ++ job.name
     ∷ [])))
     (F (known_by clock (added ++ job.name ∷ []))) (G (known_by clock (added ++ job.name ∷ [])))
-    (notes_clean clock line job.rule (F (known_by clock (added ++ job.name ∷ [])))) (later (added ++ job.name ∷ []))
+    (notes_clean clock line job (F (known_by clock (added ++ job.name ∷ [])))) (later (added ++ job.name ∷ []))
 job_right clock false false added line job jobs F G later = refl
 
 job_before_fault :
     (clock : List Change) (a b : Bool) (added : List (List ℕ)) (line : ℕ) (job : JobParts) (F : KnownNames → List Finding) →
     ((next : List (List ℕ)) → is_clean (F (known_by clock next)) ≡ false) →
-    is_clean ((named_findings line a b ++ rule_warnings clock line job.rule) ++ F (named_after clock a b added job.name)) ≡ false
+    is_clean ((named_findings line a b ++ job_warnings clock line job) ++ F (named_after clock a b added job.name)) ≡ false
 job_before_fault clock true b added line job F later = refl
 job_before_fault clock false true added line job F later =
-    notes_clean clock line job.rule (F (known_by clock (added ++ job.name ∷ []))) ∙ later (added ++ job.name ∷ [])
+    notes_clean clock line job (F (known_by clock (added ++ job.name ∷ []))) ∙ later (added ++ job.name ∷ [])
 job_before_fault clock false false added line job F later = refl
 
 job_agrees :
@@ -119,7 +124,7 @@ job_agrees :
     ((next : List (List ℕ)) → Agrees clock (names_by next (unless_refused faults jobs)) (F (known_by clock next)) (G (known_by clock
     next))) →
     Agrees clock (names_by added (unless_refused faults (job ∷ jobs)))
-    ((named_findings line (is_added job.name added) (nat_lt (length added) most_jobs) ++ rule_warnings clock line job.rule)
+    ((named_findings line (is_added job.name added) (nat_lt (length added) most_jobs) ++ job_warnings clock line job)
     ++ F (named_after clock (is_added job.name added) (nat_lt (length added) most_jobs) added job.name))
     (G (named_after clock (is_added job.name added) (nat_lt (length added) most_jobs) added job.name))
 job_agrees clock [] added line job jobs F G later =
@@ -130,41 +135,47 @@ job_agrees clock (fault ∷ more) added line job jobs F G later =
 -- ---- a crontab
 
 line_agrees :
-    (clock : List Change) (added : List (List ℕ)) (line : ℕ) (read : LineReading JobParts) (more : List (Entry JobParts)) →
-    ((next : List (List ℕ)) → Agrees clock (names_by next (meant_by more)) (entries_findings (known_by clock next) more)
-    (after_entries (known_by clock next) more)) →
-    Agrees clock (names_by added (meant_by (record { line = line; read = read } ∷ more)))
-    (line_findings (known_by clock added) line read ++ entries_findings (after_line (known_by clock added) read) more)
-    (after_entries (after_line (known_by clock added) read) more)
-line_agrees clock added line (Ok job) more later =
-    job_agrees clock (refusals more) added line job (given more) (λ known. entries_findings known more)
-    (λ known. after_entries known more) later
-line_agrees clock added line (Err cause) more later = refl
+    (clock : List Change) (added : List (List ℕ)) (number : ℕ) (text : List ℕ) (read : LineReading (Option JobParts))
+    (more : List (Entry JobParts)) (F : KnownNames → List Finding) (G : KnownNames → KnownNames) →
+    ((next : List (List ℕ)) → Agrees clock (names_by next (meant_by more)) (F (known_by clock next)) (G (known_by clock next))) →
+    Agrees clock (names_by added (meant_by (cons_option (entry_on number read) more)))
+    (line_findings (known_by clock added) number text read ++ F (after_line (known_by clock added) read))
+    (G (after_line (known_by clock added) read))
+line_agrees clock added number text (Ok None) more F G later =
+    agrees_by clock (names_by added (meant_by more)) (found_if (is_zone_setting text) number (Warned ZoneSetting) ++ F (known_by clock added))
+    (F (known_by clock added)) (G (known_by clock added))
+    (warned_clean (is_zone_setting text) number ZoneSetting (F (known_by clock added))) (later added)
+line_agrees clock added number text (Ok (Some job)) more F G later = job_agrees clock (refusals more) added number job (given more) F G later
+line_agrees clock added number text (Err cause) more F G later = refl
 
-entries_agree :
-    (clock : List Change) (added : List (List ℕ)) (entries : List (Entry JobParts)) →
-    Agrees clock (names_by added (meant_by entries)) (entries_findings (known_by clock added) entries)
-    (after_entries (known_by clock added) entries)
-entries_agree clock added [] = (refl, refl)
-entries_agree clock added (entry ∷ more) = line_agrees clock added entry.line entry.read more (λ next. entries_agree clock next more)
+lines_agree :
+    (clock : List Change) (added : List (List ℕ)) (label : List ℕ) (kind : Kind) (lines : List (ℕ × List ℕ)) →
+    Agrees clock (names_by added (meant_by (filter_map (line_entry label kind) lines)))
+    (lines_findings (known_by clock added) label kind lines) (after_lines (known_by clock added) label kind lines)
+lines_agree clock added label kind [] = (refl, refl)
+lines_agree clock added label kind (line ∷ more) =
+    line_agrees clock added (line.0 + 1) line.1 (line_reading label kind (line.0 + 1) line.1) (filter_map (line_entry label kind) more)
+    (λ known. lines_findings known label kind more) (λ known. after_lines known label kind more)
+    (λ next. lines_agree clock next label kind more)
 
 text_agrees :
-    (clock : List Change) (added : List (List ℕ)) (text : TextReading (List (Entry JobParts))) →
-    Agrees clock (names_by added (text >>= λ entries. meant_by entries)) (crontab_findings (known_by clock added) text)
-    (after_crontab (known_by clock added) text)
-text_agrees clock added (Ok entries) = entries_agree clock added entries
-text_agrees clock added (Err fault) = refl
+    (clock : List Change) (added : List (List ℕ)) (label : List ℕ) (kind : Kind) (text : TextReading (List ℕ)) →
+    Agrees clock (names_by added ((text >>= λ t. Ok (entries_of_lines label kind (lines t))) >>= λ entries. meant_by entries))
+    (crontab_findings (known_by clock added) label kind text) (after_crontab (known_by clock added) label kind text)
+unfolding entries_of_lines
+text_agrees clock added label kind (Ok text) = lines_agree clock added label kind (enumerate_from 0 (lines text))
+text_agrees clock added label kind (Err fault) = refl
 
 crontab_agrees :
     (clock : List Change) → CrontabLaw → (added : List (List ℕ)) (label : List ℕ) (kind : Kind) (bytes : List ℕ) →
     Agrees clock (names_by added (crontab_reading label kind bytes))
-    (crontab_findings (known_by clock added) (crontab_entries label kind bytes))
-    (after_crontab (known_by clock added) (crontab_entries label kind bytes))
+    (crontab_findings (known_by clock added) label kind (text_reading bytes))
+    (after_crontab (known_by clock added) label kind (text_reading bytes))
 crontab_agrees clock law added label kind bytes =
-    let text = crontab_entries label kind bytes in
+    let text = text_reading bytes in
     let P : TextReading (List JobParts) → Type 0 = λ reading. Agrees clock (names_by added reading)
-    (crontab_findings (known_by clock added) text) (after_crontab (known_by clock added) text) in
-    subst P (sym (law label kind bytes)) (text_agrees clock added text)
+    (crontab_findings (known_by clock added) label kind text) (after_crontab (known_by clock added) label kind text) in
+    subst P (sym (law label kind bytes)) (text_agrees clock added label kind text)
 
 -- what is wrong with a name
 abbrev unless : Bool → LineCause → Option LineCause
@@ -262,9 +273,9 @@ form_agrees :
     (after_file (known_by clock added) (file_of form name bytes))
 form_agrees clock crontab timer added (Crontab kind) name bytes = crontab_agrees clock crontab added (label_of kind) kind bytes
 form_agrees clock crontab timer added (Named directory) name bytes =
-    let text = crontab_entries name (kind_in directory) bytes in
+    let text = text_reading bytes in
     named_agrees clock (is_crontab_name directory name) BadTabName added (crontab_reading name (kind_in directory) bytes)
-    (λ known. crontab_findings known text) (λ known. after_crontab known text)
+    (λ known. crontab_findings known name (kind_in directory) text) (λ known. after_crontab known name (kind_in directory) text)
     (crontab_agrees clock crontab added name (kind_in directory) bytes)
 form_agrees clock crontab timer added Timer name bytes =
     let found = file_findings (known_by clock added) (file_of Timer name bytes) in

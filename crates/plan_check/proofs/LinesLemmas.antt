@@ -1,70 +1,52 @@
--- The findings of lines, one after the other: for the loop of `add_lines`. What was found so far, with what the
--- remaining lines add to it, is what is found in all lines.
-use Rattle.std.proofs.Common.{◌≡◌, ℕ, ◌+◌, ◌<◌, ◌≤◌, List, [], ◌++◌, length, drop, get_or, map, Option, Some, None, refl, ap, sym, ◌∙◌, append-nil}
+-- The findings of lines, one after the other: for `add_line` and the loop of `add_lines`. What was found so far, with what
+-- the remaining lines add to it, is what is found in all lines.
+use Rattle.std.proofs.Common.{◌≡◌, ℕ, ◌+◌, ◌<◌, ◌≤◌, List, [], ◌∷◌, ◌++◌, length, drop, get_or, map, ap, sym, ◌∙◌}
 use Rattle.std.proofs.lemmas.List.{append_assoc, drop_more, drop_all}
-use Rattle.std.specs.List.{cons_option, enumerate_from, filter_map}
-use Rattle.plan_rules.specs.declared.entry.Entry.{Entry}
-use Rattle.plan_rules.specs.Job.{JobParts}
+use Rattle.std.specs.List.{enumerate_from}
+use Rattle.plan_rules.specs.declared.crontabs.Kind.{Kind}
+use Rattle.plan_rules.specs.Crontab.{line_reading}
 use Rattle.plan_check.specs.declared.finding.Finding.{Finding}
-use Rattle.plan_check.specs.Crontabs.{line_findings, after_line, entries_findings, after_entries}
+use Rattle.plan_check.specs.Crontabs.{after_line, after_lines, line_findings, lines_findings}
 use Rattle.plan_check.specs.Names.{KnownNames}
 
--- the entries of the lines from a place on
-abbrev pub entries_left : {A : Type 0} → (ℕ × List ℕ → Option (Entry JobParts)) → (A → List ℕ) → List A → ℕ → List (Entry JobParts)
-entries_left f v lines place = filter_map f (enumerate_from place (map v (drop place lines)))
+-- the lines from a place on, with their positions
+abbrev pub lines_left : {A : Type 0} → (A → List ℕ) → List A → ℕ → List (ℕ × List ℕ)
+lines_left v lines place = enumerate_from place (map v (drop place lines))
 
 left_more :
-    {A : Type 0} (f : ℕ × List ℕ → Option (Entry JobParts)) (v : A → List ℕ) (lines : List A) (place : ℕ) (d : A) → place < length lines →
-    entries_left f v lines place ≡ cons_option (f (place, v (get_or lines place d))) (entries_left f v lines (place + 1))
-left_more f v lines place d inside =
-    ap (λ left. filter_map f (enumerate_from place (map v left))) (drop_more lines place d inside)
-
-found_step :
-    (known : KnownNames) (entry : Option (Entry JobParts)) (more : List (Entry JobParts)) →
-    entries_findings known (cons_option entry more)
-    ≡ entries_findings known (cons_option entry []) ++ entries_findings (after_entries known (cons_option entry [])) more
-found_step known None more = refl
-found_step known (Some entry) more =
-    ap (λ here. here ++ entries_findings (after_line known entry.read) more) (sym (append-nil (line_findings known entry.line entry.read)))
-
-names_step :
-    (known : KnownNames) (entry : Option (Entry JobParts)) (more : List (Entry JobParts)) →
-    after_entries known (cons_option entry more) ≡ after_entries (after_entries known (cons_option entry [])) more
-names_step known None more = refl
-names_step known (Some entry) more = refl
+    {A : Type 0} (v : A → List ℕ) (lines : List A) (place : ℕ) (d : A) → place < length lines →
+    lines_left v lines place ≡ (place, v (get_or lines place d)) ∷ lines_left v lines (place + 1)
+left_more v lines place d inside = ap (λ left. enumerate_from place (map v left)) (drop_more lines place d inside)
 
 -- one more line
 pub found_more :
-    {A : Type 0} (known names : KnownNames) (f : ℕ × List ℕ → Option (Entry JobParts)) (v : A → List ℕ) (lines : List A) (place : ℕ)
+    {A : Type 0} (known names : KnownNames) (label : List ℕ) (kind : Kind) (v : A → List ℕ) (lines : List A) (place : ℕ)
     (d : A) (found next whole : List Finding) → place < length lines →
-    next ≡ found ++ entries_findings known (cons_option (f (place, v (get_or lines place d))) []) →
-    names ≡ after_entries known (cons_option (f (place, v (get_or lines place d))) []) →
-    found ++ entries_findings known (entries_left f v lines place) ≡ whole →
-    next ++ entries_findings names (entries_left f v lines (place + 1)) ≡ whole
-found_more known names f v lines place d found next whole inside is after so_far =
-    let entry = f (place, v (get_or lines place d)) in
-    let more = entries_left f v lines (place + 1) in
-    (λ i. is i ++ entries_findings (after i) more)
-    ∙ append_assoc found (entries_findings known (cons_option entry []))
-    (entries_findings (after_entries known (cons_option entry [])) more)
-    ∙ ap (λ left. found ++ left)
-    (sym (ap (entries_findings known) (left_more f v lines place d inside) ∙ found_step known entry more))
+    next ≡ found ++ line_findings known (place + 1) (v (get_or lines place d)) (line_reading label kind (place + 1) (v (get_or lines place d))) →
+    names ≡ after_line known (line_reading label kind (place + 1) (v (get_or lines place d))) →
+    found ++ lines_findings known label kind (lines_left v lines place) ≡ whole →
+    next ++ lines_findings names label kind (lines_left v lines (place + 1)) ≡ whole
+found_more known names label kind v lines place d found next whole inside is after so_far =
+    let text = v (get_or lines place d) in
+    let read = line_reading label kind (place + 1) text in
+    let more = lines_left v lines (place + 1) in
+    (λ i. is i ++ lines_findings (after i) label kind more)
+    ∙ append_assoc found (line_findings known (place + 1) text read) (lines_findings (after_line known read) label kind more)
+    ∙ ap (λ left. found ++ left) (sym (ap (lines_findings known label kind) (left_more v lines place d inside)))
     ∙ so_far
 
 pub names_more :
-    {A : Type 0} (known names : KnownNames) (f : ℕ × List ℕ → Option (Entry JobParts)) (v : A → List ℕ) (lines : List A) (place : ℕ)
+    {A : Type 0} (known names : KnownNames) (label : List ℕ) (kind : Kind) (v : A → List ℕ) (lines : List A) (place : ℕ)
     (d : A) (whole : KnownNames) → place < length lines →
-    names ≡ after_entries known (cons_option (f (place, v (get_or lines place d))) []) →
-    after_entries known (entries_left f v lines place) ≡ whole → after_entries names (entries_left f v lines (place + 1)) ≡ whole
-names_more known names f v lines place d whole inside after so_far =
-    let entry = f (place, v (get_or lines place d)) in
-    let more = entries_left f v lines (place + 1) in
-    ap (λ (k : KnownNames). after_entries k more) after
-    ∙ sym (ap (after_entries known) (left_more f v lines place d inside) ∙ names_step known entry more)
+    names ≡ after_line known (line_reading label kind (place + 1) (v (get_or lines place d))) →
+    after_lines known label kind (lines_left v lines place) ≡ whole →
+    after_lines names label kind (lines_left v lines (place + 1)) ≡ whole
+names_more known names label kind v lines place d whole inside after so_far =
+    ap (λ (k : KnownNames). after_lines k label kind (lines_left v lines (place + 1))) after
+    ∙ sym (ap (after_lines known label kind) (left_more v lines place d inside))
     ∙ so_far
 
 -- after the last line
 pub none_left :
-    {A : Type 0} (f : ℕ × List ℕ → Option (Entry JobParts)) (v : A → List ℕ) (lines : List A) (place : ℕ) → length lines ≤ place →
-    entries_left f v lines place ≡ []
-none_left f v lines place past = ap (λ left. filter_map f (enumerate_from place (map v left))) (drop_all place lines past)
+    {A : Type 0} (v : A → List ℕ) (lines : List A) (place : ℕ) → length lines ≤ place → lines_left v lines place ≡ []
+none_left v lines place past = ap (λ left. enumerate_from place (map v left)) (drop_all place lines past)

@@ -2,7 +2,7 @@
 use Rattle.std.specs.Prelude.{ℕ, nat_lt, if◌then◌else◌, List, [], ◌∷◌, ◌++◌, ◌≡◌, length, is_none, Option, Some, None, option_map, Ok, Err}
 use Rattle.std.specs.List.{cons_option}
 use Rattle.std.specs.Result.{result_err}
-use Rattle.plan_rules.specs.Crontab.{crontab_entries}
+use Rattle.plan_rules.specs.FileText.{text_reading}
 use Rattle.plan_rules.specs.Job.{JobParts}
 use Rattle.plan_rules.specs.Limits.{most_jobs}
 use Rattle.plan_rules.specs.LineFaults.{TextReading}
@@ -38,14 +38,14 @@ in_file known form name = with_jobs known (is_none (name_cause form name))
 
 -- the findings of a file's text
 abbrev pub text_findings : KnownNames → Form → (name bytes : List ℕ) → List Finding
-text_findings known (Crontab kind) name bytes = crontab_findings known (crontab_entries (label_of kind) kind bytes)
-text_findings known (Named directory) name bytes = crontab_findings known (crontab_entries name (kind_in directory) bytes)
+text_findings known (Crontab kind) name bytes = crontab_findings known (label_of kind) kind (text_reading bytes)
+text_findings known (Named directory) name bytes = crontab_findings known name (kind_in directory) (text_reading bytes)
 text_findings known Timer name bytes = timer_findings known name (timer_entries bytes)
 
 -- the names of jobs after a file's text
 abbrev pub after_text : KnownNames → Form → (name bytes : List ℕ) → KnownNames
-after_text known (Crontab kind) name bytes = after_crontab known (crontab_entries (label_of kind) kind bytes)
-after_text known (Named directory) name bytes = after_crontab known (crontab_entries name (kind_in directory) bytes)
+after_text known (Crontab kind) name bytes = after_crontab known (label_of kind) kind (text_reading bytes)
+after_text known (Named directory) name bytes = after_crontab known name (kind_in directory) (text_reading bytes)
 after_text known Timer name bytes = names_after known name
 
 -- the findings of a file: its name is checked first, and then its text, even if the name is bad

@@ -17,6 +17,9 @@ abbrev pub warning_name : Warning → List ℕ
 warning_name warning.NeverStarts = codes "NeverStarts"
 warning_name warning.EitherDay = codes "EitherDay"
 warning_name warning.NoEvents = codes "NoEvents"
+warning_name warning.Percent = codes "Percent"
+warning_name warning.CarriageReturn = codes "CarriageReturn"
+warning_name warning.ZoneSetting = codes "ZoneSetting"
 
 -- ---- one finding
 

@@ -1,13 +1,17 @@
--- The warnings on valid rules.
-use Rattle.std.specs.Prelude.{ℕ, Bool, true, false, not, ◌&&◌, List, ◌++◌, is_none, slice_get}
+-- The warnings on the lines of crontabs: on valid rules, on what they run, and on settings.
+use Rattle.std.specs.Prelude.{ℕ, ◌-◌, Bool, true, false, not, ◌&&◌, ◌||◌, ◌==◌, nat_eq, nat_lt, List, [], ◌∷◌, ◌++◌, length, codes, is_none, slice_get}
+use Rattle.std.specs.List.{before_first, ends_with, list_any, position_or_len, range_with_len, slice_index}
+use Rattle.std.specs.Str.{byte, bytes_eq}
 use Rattle.plan_sets.specs.Limits.{end_second}
 use Rattle.plan_clock.specs.declared.row.Change.{Change}
 use Rattle.plan_match.specs.Zone.{rule_in}
 use Rattle.plan_match.specs.declared.rule.Rule.{Rule}
 use Rattle.plan_match.specs.declared.rule.Rule.TheVariants.{Cron, Never, Events}
 use Rattle.plan_next.specs.Starts.{starts}
+use Rattle.plan_rules.specs.Job.{JobParts}
+use Rattle.plan_texts.specs.WholeLines.{trimmed}
 use Rattle.plan_check.specs.declared.finding.Finding.{Finding}
-use Rattle.plan_check.specs.declared.finding.Warning.TheVariants.{NeverStarts, EitherDay}
+use Rattle.plan_check.specs.declared.finding.Warning.TheVariants.{NeverStarts, EitherDay, Percent, CarriageReturn}
 use Rattle.plan_check.specs.declared.finding.What.TheVariants.{Warned}
 use Rattle.plan_check.specs.Finding.{found_if}
 
@@ -32,3 +36,40 @@ abbrev pub rule_warnings : List Change → ℕ → Rule → List Finding
 rule_warnings clock line rule =
     found_if (not (is_reboot rule) && never_starts (rule_in clock rule)) line (Warned NeverStarts)
     ++ found_if (is_either_day rule) line (Warned EitherDay)
+
+-- ---- what a line runs
+
+-- the byte at a position is a `%` that follows no backslash
+abbrev pub is_bare_percent : List ℕ → ℕ → Bool
+is_bare_percent command i =
+    (slice_index command i == byte "%") && ((i == 0) || not (slice_index command (i - 1) == byte "\\"))
+
+-- a command has such a `%`: cron ends the command there, and passes the rest as its input (crontab(5))
+abbrev pub has_bare_percent : List ℕ → Bool
+has_bare_percent command = list_any (is_bare_percent command) (range_with_len 0 (length command))
+
+-- a command ends with a carriage return, byte 13, as lines of other systems do (agenda)
+abbrev pub ends_with_return : List ℕ → Bool
+ends_with_return command = ends_with nat_eq command (13 ∷ [])
+
+-- the warnings on the command of a line, in this order (agenda)
+abbrev pub command_warnings : ℕ → List ℕ → List Finding
+command_warnings line command =
+    found_if (has_bare_percent command) line (Warned Percent) ++ found_if (ends_with_return command) line (Warned CarriageReturn)
+
+-- the warnings on the job of a line, in this order (agenda)
+abbrev pub job_warnings : List Change → ℕ → JobParts → List Finding
+job_warnings clock line job = rule_warnings clock line job.rule ++ command_warnings line job.command
+
+-- ---- settings
+
+-- the names of the setting that sets the zone of a crontab, which may have quotes around it (crontab(5) of cronie)
+abbrev pub zone_names : List (List ℕ)
+zone_names = codes "CRON_TZ" ∷ codes "\"CRON_TZ\"" ∷ codes "'CRON_TZ'" ∷ []
+
+-- a line has an `=`, and before the first one such a name, with blanks around it or without (crontab(5), environment settings)
+abbrev pub is_zone_setting : List ℕ → Bool
+is_zone_setting line =
+    let is_equals : ℕ → Bool = λ b. b == byte "=" in
+    nat_lt (position_or_len is_equals line) (length line)
+    && list_any (bytes_eq (trimmed (before_first is_equals line))) zone_names

@@ -1,16 +1,16 @@
 //! The findings of a crontab's text (crontab(5)).
 
-ghost use Rattle.std.specs.Prelude.{◌≡◌, ◌≤◌, ◌++◌, [], length, map, OnOk};
-ghost use Rattle.std.specs.List.{cons_option};
+ghost use Rattle.std.specs.Prelude.{◌≡◌, ◌≤◌, ◌++◌, length, map, OnOk};
+ghost use Rattle.std.specs.List.{enumerate_from};
 ghost use Rattle.plan_texts.specs.Limits.{most_bytes};
-ghost use Rattle.plan_rules.specs.Crontab.{crontab_entries, entries_of_lines, line_reading};
-ghost use Rattle.plan_rules.specs.Entries.{entry_on};
-ghost use Rattle.plan_check.specs.Crontabs.{after_crontab, after_entries, after_line, crontab_findings, entries_findings, line_findings};
+ghost use Rattle.plan_rules.specs.Crontab.{line_reading};
+ghost use Rattle.plan_rules.specs.FileText.{text_reading};
+ghost use Rattle.plan_check.specs.Crontabs.{after_crontab, after_entry, after_line, after_lines, crontab_findings, entry_findings, line_findings, lines_findings};
 
-use crate::finding::Finding;
+use crate::finding::{Finding, Warning, What};
 use crate::names::Names;
-use crate::report::{add_job, refuse};
-use crate::warnings::add_warnings;
+use crate::report::{add_if, add_job, refuse};
+use crate::warnings::{add_warnings, is_zone_setting};
 use plan_rules::lines::lines;
 use plan_rules::{Entry, Job, Kind, LineFault, crontab_entry, text_of};
 use std::alloc::{AllocError, Global};
@@ -25,8 +25,8 @@ pub(crate) fn add_crontab(
     bytes: &[u8],
 ) -> Result<(), AllocError>
     ensures found { OnOk result (found.new.items ≡ found.old.items
-        ++ crontab_findings names.old (crontab_entries label.now kind bytes.now)) }
-    ensures names { OnOk result (names.new ≡ after_crontab names.old (crontab_entries label.now kind bytes.now)) }
+        ++ crontab_findings names.old label.now kind (text_reading bytes.now)) }
+    ensures names { OnOk result (names.new ≡ after_crontab names.old label.now kind (text_reading bytes.now)) }
 {
     match text_of(bytes) {
         Ok(text) => {
@@ -38,7 +38,6 @@ pub(crate) fn add_crontab(
 }
 
 // Adds the findings of lines, in order. The job of a line is dropped before the next line is read.
-#[tactic(auto, unfolding(plan_rules::specs::Crontab::entries_of_lines))]
 fn add_lines(
     alloc: Global,
     names: &mut Names,
@@ -49,9 +48,9 @@ fn add_lines(
 ) -> Result<(), AllocError>
     requires { length lines.now ≤ most_bytes }
     ensures found { OnOk result (found.new.items ≡ found.old.items
-        ++ entries_findings names.old (entries_of_lines label.now kind (map (λ line. line.now) lines.now))) }
+        ++ lines_findings names.old label.now kind (enumerate_from 0 (map (λ line. line.now) lines.now))) }
     ensures names { OnOk result (names.new
-        ≡ after_entries names.old (entries_of_lines label.now kind (map (λ line. line.now) lines.now))) }
+        ≡ after_lines names.old label.now kind (enumerate_from 0 (map (λ line. line.now) lines.now))) }
 {
     for (place, line) in lines.iter().enumerate() {
         add_line(alloc, names, found, label, kind, place as u32 + 1, line)?;
@@ -70,13 +69,15 @@ fn add_line(
     line: &str,
 ) -> Result<(), AllocError>
     ensures found { OnOk result (found.new.items ≡ found.old.items
-        ++ entries_findings names.old (cons_option (entry_on number (line_reading label.now kind number line.now)) [])) }
-    ensures names { OnOk result (names.new
-        ≡ after_entries names.old (cons_option (entry_on number (line_reading label.now kind number line.now)) [])) }
+        ++ line_findings names.old number line.now (line_reading label.now kind number line.now)) }
+    ensures names { OnOk result (names.new ≡ after_line names.old (line_reading label.now kind number line.now)) }
 {
     match crontab_entry(alloc, label, kind, number, line)? {
         Some(entry) => add_entry(alloc, names, found, &entry),
-        None => Ok(()),
+        None => {
+            let zone = What::Warned(Warning::ZoneSetting);
+            add_if(found, is_zone_setting(line), number, zone)
+        }
     }
 }
 
@@ -88,14 +89,14 @@ fn add_entry(
     entry: &Entry<Job>,
 ) -> Result<(), AllocError>
     ensures found { OnOk result (found.new.items ≡ found.old.items
-        ++ line_findings names.old entry.now.line entry.now.read) }
-    ensures names { OnOk result (names.new ≡ after_line names.old entry.now.read) }
+        ++ entry_findings names.old entry.now.line entry.now.read) }
+    ensures names { OnOk result (names.new ≡ after_entry names.old entry.now.read) }
 {
     match &entry.read {
         Ok(job) => {
             let clock = names.clock()?;
             add_job(alloc, names, found, entry.line, job.name())?;
-            add_warnings(alloc, found, &clock, entry.line, job.rule())
+            add_warnings(alloc, found, &clock, entry.line, job)
         }
         Err(cause) => refuse(found, entry.line, *cause),
     }

@@ -14,6 +14,12 @@ pub enum Warning {
     EitherDay,
     /// The list of a timer's events is empty at the end of the file (systemd.timer(5)).
     NoEvents,
+    /// The command of a crontab's line has a `%` that doesn't follow a backslash, so cron ends it there (crontab(5)).
+    Percent,
+    /// The command of a crontab's line ends with a carriage return.
+    CarriageReturn,
+    /// A crontab's setting is that of a zone, `CRON_TZ`, which only cronie reads.
+    ZoneSetting,
 }
 
 /// The error or the warning of a finding.
@@ -47,6 +53,9 @@ impl Warning {
             Warning::NeverStarts => "NeverStarts",
             Warning::EitherDay => "EitherDay",
             Warning::NoEvents => "NoEvents",
+            Warning::Percent => "Percent",
+            Warning::CarriageReturn => "CarriageReturn",
+            Warning::ZoneSetting => "ZoneSetting",
         }
     }
 }

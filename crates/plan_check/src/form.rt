@@ -63,7 +63,9 @@ impl Form {
     /// - Any other line that isn't empty, a comment or a setting makes a job. If another job has its name, the
     ///   error is `SameName`. Else, if there are 1,000 jobs, it is `Full`, which is reported once for all files.
     ///   In both cases the job isn't added.
-    /// - The warnings on the job's rule come last: `NeverStarts`, unless it is `@reboot`, and then `EitherDay`.
+    /// - The warnings on the job come last: `NeverStarts`, unless it is `@reboot`, then `EitherDay`, `Percent` and
+    ///   `CarriageReturn`.
+    /// - A setting of a zone, `CRON_TZ`, has the warning `ZoneSetting`.
     ///
     /// The findings of a timer file are these, in this order (systemd.timer(5)):
     ///

@@ -1,18 +1,35 @@
-//! The warnings on valid rules.
+//! The warnings on the lines of crontabs, and on events that never start.
 
-ghost use Rattle.std.specs.Prelude.{◌≡◌, ◌++◌, IfOk, OnOk};
+ghost use Rattle.std.specs.Prelude.{◌≡◌, ◌++◌, ◌<◌, IfOk, OnOk, length};
+ghost use Rattle.std.specs.List.{list_any};
+ghost use Rattle.std.specs.Str.{bytes_eq};
 ghost use Rattle.plan_match.specs.Zone.{rule_in};
-ghost use Rattle.plan_check.specs.Warnings.{is_either_day, is_reboot, never_starts, rule_warnings};
+ghost use Rattle.plan_check.specs.Warnings.{command_warnings, ends_with_return, has_bare_percent, is_bare_percent, is_either_day, is_reboot, is_zone_setting, job_warnings, never_starts, rule_warnings, zone_names};
 
 use crate::finding::{Finding, Warning, What};
 use crate::report::add_if;
 use plan_clock::Clock;
 use plan_next::next_from;
-use plan_rules::Rule;
+use plan_rules::{Job, Rule};
+use plan_texts::whole_lines::trimmed;
 use std::alloc::{AllocError, Global};
 
-// Adds the warnings on the rule of a line.
+// Adds the warnings on the job of a line.
 pub(crate) fn add_warnings(
+    alloc: Global,
+    found: &mut Vec<Finding>,
+    clock: &Clock,
+    line: u32,
+    job: &Job,
+) -> Result<(), AllocError>
+    ensures { OnOk result (found.new.items ≡ found.old.items ++ job_warnings clock.now line job.now) }
+{
+    add_rule_warnings(alloc, found, clock, line, job.rule())?;
+    add_command_warnings(found, line, job.command())
+}
+
+// Adds the warnings on the rule of a line.
+fn add_rule_warnings(
     alloc: Global,
     found: &mut Vec<Finding>,
     clock: &Clock,
@@ -26,6 +43,20 @@ pub(crate) fn add_warnings(
     add_if(found, !is_reboot(rule) && never_starts, line, never)?;
     let either = What::Warned(Warning::EitherDay);
     add_if(found, is_either_day(rule), line, either)
+}
+
+// Adds the warnings on the command of a line.
+fn add_command_warnings(
+    found: &mut Vec<Finding>,
+    line: u32,
+    command: &str,
+) -> Result<(), AllocError>
+    ensures { OnOk result (found.new.items ≡ found.old.items ++ command_warnings line command.now) }
+{
+    let percent = What::Warned(Warning::Percent);
+    add_if(found, has_bare_percent(command.as_bytes()), line, percent)?;
+    let ending = What::Warned(Warning::CarriageReturn);
+    add_if(found, ends_with_return(command.as_bytes()), line, ending)
 }
 
 // Returns whether a rule never starts from 1970 to 2999, by the clock of a zone.
@@ -51,4 +82,43 @@ fn is_either_day(rule: &Rule) -> bool
         Rule::Cron(rule) => rule.month_days_restricted && rule.week_days_restricted,
         Rule::Never | Rule::Events(_) => false,
     }
+}
+
+// Returns whether a command has a `%` that follows no backslash.
+fn has_bare_percent(command: &[u8]) -> bool
+    ensures { result ≡ has_bare_percent command.now }
+{
+    (0..command.len()).any(|i| is_bare_percent(command, i))
+}
+
+// Returns whether the byte at a position is a `%` that follows no backslash.
+fn is_bare_percent(command: &[u8], i: usize) -> bool
+    requires { i < length command.now }
+    ensures { result ≡ is_bare_percent command.now i }
+{
+    command[i] == b'%' && (i == 0 || command[i - 1] != b'\\')
+}
+
+// Returns whether a command ends with a carriage return.
+fn ends_with_return(command: &[u8]) -> bool
+    ensures { result ≡ ends_with_return command.now }
+{
+    command.ends_with(b"\r")
+}
+
+// Returns whether a line sets the zone of a crontab.
+pub(crate) fn is_zone_setting(line: &str) -> bool
+    ensures { result ≡ is_zone_setting line.now }
+{
+    match line.split_once('=') {
+        Some((name, _)) => is_zone_name(trimmed(name)),
+        None => false,
+    }
+}
+
+// Returns whether this is the name of the setting of a zone, in quotes or without.
+fn is_zone_name(name: &str) -> bool
+    ensures { result ≡ list_any (bytes_eq name.now) zone_names }
+{
+    matches!(name, "CRON_TZ" | "\"CRON_TZ\"" | "'CRON_TZ'")
 }
