@@ -1,9 +1,9 @@
 -- Files have no finding but warnings exactly if jobs can be made of them: for `clean_where_jobs_are`.
 -- `Agrees` says so of one file, or of its lines, with the names that follow; the rest is induction over the lists.
-use Rattle.std.proofs.Common.{◌≡◌, ℕ, ◌+◌, Bool, true, false, not, ◌&&◌, eqb, nat_lt, cond, List, [], ◌∷◌, ◌++◌, length, map, Option, Some, None, is_none, is_some, option_map, Ok, Err, refl, ap, sym, ◌∙◌, subst, arith}
+use Rattle.std.proofs.Common.{◌≡◌, ℕ, ◌+◌, Bool, true, false, not, ◌&&◌, ◌==◌, nat_lt, cond, List, [], ◌∷◌, ◌++◌, length, map, Option, Some, None, is_none, is_some, option_map, Ok, Err, refl, ap, sym, ◌∙◌, subst, arith}
 use Rattle.std.proofs.lemmas.Bool.Decides.{nat_tests}
 use Rattle.std.proofs.lemmas.List.Folds.{list_all-append}
-use Rattle.std.specs.List.{cons_option, enumerate_from, filter_map, flat_map}
+use Rattle.std.specs.List.{cons_option, enumerate_from, filter_map}
 use Rattle.plan_texts.specs.Lines.{lines}
 use Rattle.plan_clock.specs.declared.row.Change.{Change}
 use Rattle.plan_match.specs.Zone.{rule_in}
@@ -23,11 +23,11 @@ use Rattle.plan_rules.specs.Job.{JobParts}
 use Rattle.plan_rules.specs.Limits.{most_jobs}
 use Rattle.plan_rules.specs.LineFaults.{LineReading, TextReading, fault_on_line, on_line}
 use Rattle.plan_rules.specs.NamedCrontabs.{is_crontab_name, kind_in}
-use Rattle.plan_rules.specs.Timer.{effects_from, first_unit, has_timer, is_timer_name, job_with, timer_reading}
-use Rattle.plan_rules.specs.TimerEntries.{count_from, entries_from, events_after, lines_by_entries, no_events, parts_of_lines, timer_by_entries, timer_entries}
+use Rattle.plan_rules.specs.Timer.{effects_from, first_unit, has_timer, is_timer_name, job_with, timer_reading, timer_setting}
+use Rattle.plan_rules.specs.TimerEntries.{LineStep, Idle, Empties, Has, Names, TimerState, entries_from, entry_of, events_after, held_after, line_in, lines_by_entries, no_events, no_lines, state_after, timer_by_entries, timer_lines}
 use Rattle.plan_check.specs.declared.finding.Finding.{Finding}
 use Rattle.plan_check.specs.declared.finding.Warning.{Warning}
-use Rattle.plan_check.specs.declared.finding.Warning.TheVariants.{NeverStarts, EitherDay, NoEvents, Percent, CarriageReturn, ZoneSetting}
+use Rattle.plan_check.specs.declared.finding.Warning.TheVariants.{NeverStarts, EitherDay, NoEvents, Percent, CarriageReturn, ZoneSetting, SkippedStarts, UnknownKey, Monotonic, Delayed}
 use Rattle.plan_check.specs.declared.finding.What.TheVariants.{Refused, SameName, Full, Warned}
 use Rattle.plan_check.specs.declared.form.Form.{Form}
 use Rattle.plan_check.specs.declared.form.Form.TheVariants.{Crontab, Named, Timer}
@@ -37,7 +37,10 @@ use Rattle.plan_check.specs.Files.{File, file_findings, file_of, after_file, fil
 use Rattle.plan_check.specs.Form.{alone, form_reading, label_of}
 use Rattle.plan_check.specs.Names.{KnownNames, is_added, names_after, no_names, with_jobs}
 use Rattle.plan_check.specs.Warnings.{command_warnings, ends_with_return, has_bare_percent, is_either_day, is_reboot, is_zone_setting, job_warnings, never_starts, rule_warnings}
+use Rattle.plan_check.specs.Settings.{Setting, is_delayed, is_monotonic, is_unknown_key, settings_from, value_of}
+use Rattle.plan_check.specs.Skipped.{may_skip_starts}
 use Rattle.plan_check.specs.Timers as timers
+use Rattle.plan_check.specs.Timers.{setting_findings, step_findings, timer_warnings}
 use Rattle.plan_check.proofs.FirstLemmas.{CrontabLaw}
 
 -- the names that are known as long as Full was not reported
@@ -65,7 +68,8 @@ two_clean p q line first second = grind (arith, nat_tests)
 warnings_clean : (clock : List Change) (line : ℕ) (job : JobParts) → is_clean (job_warnings clock line job) ≡ true
 warnings_clean clock line job =
     clean_append (rule_warnings clock line job.rule) (command_warnings line job.command)
-    ∙ (λ i. two_clean (not (is_reboot job.rule) && never_starts (rule_in clock job.rule)) (is_either_day job.rule) line NeverStarts EitherDay i
+    ∙ (λ i. two_clean (not (is_reboot job.rule) && never_starts (rule_in clock job.rule)) (is_either_day job.rule) line NeverStarts
+    EitherDay i
     && two_clean (has_bare_percent job.command) (ends_with_return job.command) line Percent CarriageReturn i)
 
 notes_clean : (clock : List Change) (line : ℕ) (job : JobParts) (more : List Finding) →
@@ -142,10 +146,12 @@ line_agrees :
     (line_findings (known_by clock added) number text read ++ F (after_line (known_by clock added) read))
     (G (after_line (known_by clock added) read))
 line_agrees clock added number text (Ok None) more F G later =
-    agrees_by clock (names_by added (meant_by more)) (found_if (is_zone_setting text) number (Warned ZoneSetting) ++ F (known_by clock added))
+    agrees_by clock (names_by added (meant_by more))
+    (found_if (is_zone_setting text) number (Warned ZoneSetting) ++ F (known_by clock added))
     (F (known_by clock added)) (G (known_by clock added))
     (warned_clean (is_zone_setting text) number ZoneSetting (F (known_by clock added))) (later added)
-line_agrees clock added number text (Ok (Some job)) more F G later = job_agrees clock (refusals more) added number job (given more) F G later
+line_agrees clock added number text (Ok (Some job)) more F G later =
+    job_agrees clock (refusals more) added number job (given more) F G later
 line_agrees clock added number text (Err cause) more F G later = refl
 
 lines_agree :
@@ -198,63 +204,107 @@ abbrev is_none_of : List LineFault → Bool
 is_none_of [] = true
 is_none_of (fault ∷ more) = false
 
-event_clean :
-    (clock : List Change) (line : ℕ) (read : LineReading Calendar) (found : List Finding) (more : List LineFault) →
-    is_clean found ≡ is_none_of more →
-    is_clean (timers.read_findings clock line read ++ found) ≡ is_none_of (cons_option (refusal_on line read) more)
-event_clean clock line (Ok event) found more is =
-    warned_clean (never_starts (rule_in clock (Events (event ∷ [])))) line NeverStarts found ∙ is
-event_clean clock line (Err cause) found more is = refl
+one_clean : (is_so : Bool) (line : ℕ) (warning : Warning) → is_clean (found_if is_so line (Warned warning)) ≡ true
+one_clean true line warning = refl
+one_clean false line warning = refl
 
-events_clean : (clock : List Change) (events : List (Entry Calendar)) →
-    is_clean (flat_map (timers.event_findings clock) events) ≡ is_none_of (refusals events)
-events_clean clock [] = refl
-events_clean clock (event ∷ more) =
-    event_clean clock event.line event.read (flat_map (timers.event_findings clock) more) (refusals more) (events_clean clock more)
+setting_clean : (line : ℕ) (setting : Option Setting) → is_clean (setting_findings line setting) ≡ true
+setting_clean line None = refl
+setting_clean line (Some setting) = one_clean (is_unknown_key setting.0) line UnknownKey
+
+-- warnings before what else is found
+parts_clean :
+    (xs ys found : List Finding) → is_clean xs ≡ true → is_clean ys ≡ true → is_clean ((xs ++ ys) ++ found) ≡ is_clean found
+parts_clean xs ys found first second =
+    clean_append (xs ++ ys) found
+    ∙ ap (λ (b : Bool). b && is_clean found) (clean_append xs ys ∙ (λ i. first i && second i))
+
+event_clean :
+    (clock : List Change) (line number : ℕ) (text : List ℕ) (setting : Option Setting) (read : LineReading Calendar)
+    (found : List Finding) (more : List LineFault) → is_clean found ≡ is_none_of more →
+    is_clean ((timers.read_findings clock line text read ++ setting_findings number setting) ++ found)
+    ≡ is_none_of (cons_option (refusal_on line read) more)
+event_clean clock line number text setting (Ok event) found more is =
+    parts_clean (timers.read_findings clock line text (Ok event)) (setting_findings number setting) found
+    (two_clean (never_starts (rule_in clock (Events (event ∷ [])))) (may_skip_starts text event) line NeverStarts SkippedStarts)
+    (setting_clean number setting)
+    ∙ is
+event_clean clock line number text setting (Err cause) found more is = refl
+
+step_clean :
+    (clock : List Change) (number : ℕ) (setting : Option Setting) (step : LineStep) (found : List Finding) (more : List (Entry Calendar)) →
+    is_clean found ≡ is_none_of (refusals more) →
+    is_clean ((step_findings clock setting step ++ setting_findings number setting) ++ found)
+    ≡ is_none_of (refusals (cons_option (entry_of step) more))
+step_clean clock number setting (Has entry) found more is =
+    event_clean clock entry.line number (value_of setting) setting entry.read found (refusals more) is
+step_clean clock number setting Idle found more is =
+    parts_clean [] (setting_findings number setting) found refl (setting_clean number setting) ∙ is
+step_clean clock number setting Empties found more is =
+    parts_clean [] (setting_findings number setting) found refl (setting_clean number setting) ∙ is
+step_clean clock number setting (Names unit) found more is =
+    parts_clean [] (setting_findings number setting) found refl (setting_clean number setting) ∙ is
+
+timer_lines_clean :
+    (clock : List Change) (state : TimerState) (lines : List (ℕ × List ℕ)) →
+    is_clean (timers.lines_findings clock state lines) ≡ is_none_of (refusals (entries_from state.count (effects_from state.inside lines)))
+timer_lines_clean clock state [] = refl
+timer_lines_clean clock state (line ∷ more) =
+    let next = state_after state line.1 in
+    step_clean clock line.0 (timer_setting state.inside line.1) (line_in state line) (timers.lines_findings clock next more)
+    (entries_from next.count (effects_from next.inside more)) (timer_lines_clean clock next more)
+
+timer_warnings_clean : (lines : List (ℕ × List ℕ)) (found : List Finding) → is_clean (timer_warnings lines ++ found) ≡ is_clean found
+timer_warnings_clean lines found =
+    let empty = found_if (has_timer lines && (held_after lines == 0)) 0 (Warned NoEvents) in
+    let later = found_if (is_monotonic (settings_from false lines)) 0 (Warned Monotonic)
+    ++ found_if (is_delayed (settings_from false lines)) 0 (Warned Delayed) in
+    parts_clean empty later found (one_clean (has_timer lines && (held_after lines == 0)) 0 NoEvents)
+    (two_clean (is_monotonic (settings_from false lines)) (is_delayed (settings_from false lines)) 0 Monotonic Delayed)
 
 timer_right :
-    (clock : List Change) (a b is_so : Bool) (added : List (List ℕ)) (name : List ℕ) (found : List Finding) → is_clean found ≡ true →
+    (clock : List Change) (a b : Bool) (added : List (List ℕ)) (name : List ℕ) (found : List Finding) → is_clean found ≡ true →
     Agrees clock (cond a None (cond b (Some (added ++ name ∷ [])) None))
-    (named_findings 0 a b ++ (found_if is_so 0 (Warned NoEvents) ++ found)) (named_after clock a b added name)
-timer_right clock true b is_so added name found clean = refl
-timer_right clock false true is_so added name found clean = (warned_clean is_so 0 NoEvents found ∙ clean, refl)
-timer_right clock false false is_so added name found clean = refl
+    (named_findings 0 a b ++ found) (named_after clock a b added name)
+timer_right clock true b added name found clean = refl
+timer_right clock false true added name found clean = (clean, refl)
+timer_right clock false false added name found clean = refl
 
 timer_wrong :
-    (has a b is_so : Bool) (found : List Finding) → is_clean found ≡ false →
-    is_clean (found_if (not has) 0 (Refused NoTimerSection) ++ (named_findings 0 a b ++ (found_if is_so 0 (Warned NoEvents) ++ found)))
-    ≡ false
-timer_wrong false a b is_so found faulty = refl
-timer_wrong true true b is_so found faulty = refl
-timer_wrong true false true is_so found faulty = warned_clean is_so 0 NoEvents found ∙ faulty
-timer_wrong true false false is_so found faulty = refl
+    (has a b : Bool) (found : List Finding) → is_clean found ≡ false →
+    is_clean (found_if (not has) 0 (Refused NoTimerSection) ++ (named_findings 0 a b ++ found)) ≡ false
+timer_wrong false a b found faulty = refl
+timer_wrong true true b found faulty = refl
+timer_wrong true false true found faulty = faulty
+timer_wrong true false false found faulty = refl
 
 timer_agrees :
-    (clock : List Change) (faults : List LineFault) (has is_so : Bool) (added : List (List ℕ)) (name : List ℕ) (unit : Option (List ℕ))
+    (clock : List Change) (faults : List LineFault) (has : Bool) (added : List (List ℕ)) (name : List ℕ) (unit : Option (List ℕ))
     (events : List Calendar)
     (found : List Finding) →
     is_clean found ≡ is_none_of faults →
     Agrees clock (names_by added ((unless_refused faults events >>= λ held. job_with has name unit held) >>= λ job. Ok (job ∷ [])))
     (found_if (not has) 0 (Refused NoTimerSection)
-    ++ (named_findings 0 (is_added name added) (nat_lt (length added) most_jobs) ++ (found_if is_so 0 (Warned NoEvents) ++ found)))
+    ++ (named_findings 0 (is_added name added) (nat_lt (length added) most_jobs) ++ found))
     (named_after clock (is_added name added) (nat_lt (length added) most_jobs) added name)
-timer_agrees clock [] true is_so added name unit events found clean =
-    timer_right clock (is_added name added) (nat_lt (length added) most_jobs) is_so added name found clean
-timer_agrees clock [] false is_so added name unit events found clean = refl
-timer_agrees clock (fault ∷ more) has is_so added name unit events found clean =
-    timer_wrong has (is_added name added) (nat_lt (length added) most_jobs) is_so found clean
+timer_agrees clock [] true added name unit events found clean =
+    timer_right clock (is_added name added) (nat_lt (length added) most_jobs) added name found clean
+timer_agrees clock [] false added name unit events found clean = refl
+timer_agrees clock (fault ∷ more) has added name unit events found clean =
+    timer_wrong has (is_added name added) (nat_lt (length added) most_jobs) found clean
 
 timer_text_agrees :
     (clock : List Change) (added : List (List ℕ)) (name : List ℕ) (text : TextReading (List ℕ)) (f : List ℕ → List (ℕ × List ℕ)) →
     Agrees clock (names_by added (alone (text >>= λ t. lines_by_entries name (f t))))
-    (timers.timer_findings (known_by clock added) name (text >>= λ t. Ok (parts_of_lines (f t))))
+    (timers.timer_findings (known_by clock added) name (text >>= λ t. Ok (f t)))
     (names_after (known_by clock added) name)
 timer_text_agrees clock added name (Err fault) f = refl
 timer_text_agrees clock added name (Ok text) f =
     let effects = effects_from false (f text) in
-    timer_agrees clock (refusals (entries_from no_events effects)) (has_timer (f text))
-    (has_timer (f text) && eqb (count_from no_events effects).held 0) added name (first_unit effects) (events_after [] effects)
-    (flat_map (timers.event_findings clock) (entries_from no_events effects)) (events_clean clock (entries_from no_events effects))
+    let found = timers.lines_findings clock no_lines (f text) in
+    timer_agrees clock (refusals (entries_from no_events effects)) (has_timer (f text)) added name (first_unit effects)
+    (events_after [] effects) (timer_warnings (f text) ++ found)
+    (timer_warnings_clean (f text) found ∙ timer_lines_clean clock no_lines (f text))
 
 alone_named :
     (good : Bool) (reading : TextReading JobParts) (fault : LineFault) →
@@ -285,7 +335,7 @@ form_agrees clock crontab timer added Timer name bytes =
     let P : TextReading (List JobParts) → Type 0 = λ reading. Agrees clock (names_by added reading) found after in
     subst P (sym (ap alone (timer name bytes) ∙ alone_named (is_timer_name name) reading (fault_on_line 0 BadTimerName)))
     (named_agrees clock (is_timer_name name) BadTimerName added (alone reading)
-    (λ known. timers.timer_findings known name (timer_entries bytes)) (λ known. names_after known name)
+    (λ known. timers.timer_findings known name (timer_lines bytes)) (λ known. names_after known name)
     (timer_text_agrees clock added name (text_reading bytes) lines))
 
 files_after :

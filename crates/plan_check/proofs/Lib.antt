@@ -1,5 +1,6 @@
 pub mod FirstLemmas
 pub mod CleanLemmas
 pub mod LinesLemmas
+pub mod TimerLinesLemmas
 pub mod NamesLemmas
 pub mod QuoteLemmas

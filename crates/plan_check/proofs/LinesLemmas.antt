@@ -22,7 +22,8 @@ left_more v lines place d inside = ap (λ left. enumerate_from place (map v left
 pub found_more :
     {A : Type 0} (known names : KnownNames) (label : List ℕ) (kind : Kind) (v : A → List ℕ) (lines : List A) (place : ℕ)
     (d : A) (found next whole : List Finding) → place < length lines →
-    next ≡ found ++ line_findings known (place + 1) (v (get_or lines place d)) (line_reading label kind (place + 1) (v (get_or lines place d))) →
+    next ≡ found
+    ++ line_findings known (place + 1) (v (get_or lines place d)) (line_reading label kind (place + 1) (v (get_or lines place d))) →
     names ≡ after_line known (line_reading label kind (place + 1) (v (get_or lines place d))) →
     found ++ lines_findings known label kind (lines_left v lines place) ≡ whole →
     next ++ lines_findings names label kind (lines_left v lines (place + 1)) ≡ whole

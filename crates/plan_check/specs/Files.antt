@@ -7,7 +7,7 @@ use Rattle.plan_rules.specs.Job.{JobParts}
 use Rattle.plan_rules.specs.Limits.{most_jobs}
 use Rattle.plan_rules.specs.LineFaults.{TextReading}
 use Rattle.plan_rules.specs.NamedCrontabs.{kind_in}
-use Rattle.plan_rules.specs.TimerEntries.{timer_entries}
+use Rattle.plan_rules.specs.TimerEntries.{timer_lines}
 use Rattle.plan_check.specs.declared.finding.Finding.{Finding}
 use Rattle.plan_check.specs.declared.form.Form.{Form}
 use Rattle.plan_check.specs.declared.form.Form.TheVariants.{Crontab, Named, Timer}
@@ -40,7 +40,7 @@ in_file known form name = with_jobs known (is_none (name_cause form name))
 abbrev pub text_findings : KnownNames → Form → (name bytes : List ℕ) → List Finding
 text_findings known (Crontab kind) name bytes = crontab_findings known (label_of kind) kind (text_reading bytes)
 text_findings known (Named directory) name bytes = crontab_findings known name (kind_in directory) (text_reading bytes)
-text_findings known Timer name bytes = timer_findings known name (timer_entries bytes)
+text_findings known Timer name bytes = timer_findings known name (timer_lines bytes)
 
 -- the names of jobs after a file's text
 abbrev pub after_text : KnownNames → Form → (name bytes : List ℕ) → KnownNames

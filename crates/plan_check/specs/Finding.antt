@@ -20,6 +20,10 @@ warning_name warning.NoEvents = codes "NoEvents"
 warning_name warning.Percent = codes "Percent"
 warning_name warning.CarriageReturn = codes "CarriageReturn"
 warning_name warning.ZoneSetting = codes "ZoneSetting"
+warning_name warning.SkippedStarts = codes "SkippedStarts"
+warning_name warning.UnknownKey = codes "UnknownKey"
+warning_name warning.Monotonic = codes "Monotonic"
+warning_name warning.Delayed = codes "Delayed"
 
 -- ---- one finding
 

@@ -3,6 +3,7 @@ pub mod Names
 pub mod Skipped
 pub mod Warnings
 pub mod Crontabs
+pub mod Settings
 pub mod Timers
 pub mod Form
 pub mod Files

@@ -6,7 +6,7 @@ use Rattle.plan_texts.specs.Lines.{cut_word, lines}
 use Rattle.plan_texts.specs.WholeLines.{trimmed, whole_lines}
 use Rattle.plan_rules.specs.Crontab.{job_name}
 use Rattle.plan_rules.specs.FileText.{text_reading}
-use Rattle.plan_rules.specs.Timer.{value_of}
+use Rattle.plan_rules.specs.Timer.{setting_value}
 use Rattle.plan_rules.specs.declared.line_fault.LineCause.TheVariants.{Rule}
 use Rattle.plan_check.specs.declared.finding.Finding.{Finding}
 use Rattle.plan_check.specs.declared.finding.What.{What}
@@ -68,7 +68,7 @@ text_on (line ∷ more) number = if line.0 == number then line.1 else text_on mo
 
 -- the text that a finding in a timer file quotes: the value of the line's setting, or the name of the file
 abbrev pub timer_quote : (name : List ℕ) → List (ℕ × List ℕ) → Finding → Option (List ℕ)
-timer_quote name lines finding = quote_by finding.what (λ part. value_of (trimmed (text_on lines finding.line))) name
+timer_quote name lines finding = quote_by finding.what (λ part. setting_value (trimmed (text_on lines finding.line))) name
 
 -- ---- files
 

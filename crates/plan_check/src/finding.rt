@@ -20,6 +20,14 @@ pub enum Warning {
     CarriageReturn,
     /// A crontab's setting is that of a zone, `CRON_TZ`, which only cronie reads.
     ZoneSetting,
+    /// systemd 252 may pass over starts of an event of a timer, since a step of the event has no end.
+    SkippedStarts,
+    /// The key of a setting in a `[Timer]` section isn't one of systemd.timer(5).
+    UnknownKey,
+    /// The timer also starts by `OnBootSec=` or the like, which isn't planned (systemd.timer(5)).
+    Monotonic,
+    /// The timer starts later than planned, by up to the value of `RandomizedDelaySec=` (systemd.timer(5)).
+    Delayed,
 }
 
 /// The error or the warning of a finding.
@@ -56,6 +64,10 @@ impl Warning {
             Warning::Percent => "Percent",
             Warning::CarriageReturn => "CarriageReturn",
             Warning::ZoneSetting => "ZoneSetting",
+            Warning::SkippedStarts => "SkippedStarts",
+            Warning::UnknownKey => "UnknownKey",
+            Warning::Monotonic => "Monotonic",
+            Warning::Delayed => "Delayed",
         }
     }
 }

@@ -72,7 +72,10 @@ impl Form {
     /// - `NoTimerSection`, if the text has lines.
     /// - `SameName` if another job has the file's name. Else `Full` if there are 1,000 jobs, once for all files.
     /// - The warning `NoEvents` if there is a `[Timer]` section and the list of events is empty at the end.
-    /// - Each event's error, or the warning `NeverStarts`, as `TimerReader` of plan_rules reads it.
+    /// - The warning `Monotonic` if a setting such as `OnBootSec=` has a value, and no later one empties the list.
+    /// - The warning `Delayed` if the last value of `RandomizedDelaySec=` is a delay.
+    /// - By line: each event's error, or the warnings `NeverStarts` and `SkippedStarts`, as `TimerReader` of
+    ///   plan_rules reads it; and the warning `UnknownKey` for each other key than those of systemd.timer(5).
     ///
     /// # Errors
     ///

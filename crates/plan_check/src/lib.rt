@@ -2,8 +2,8 @@
 //!
 //! plan_rules reads each line by itself, and plan_next says whether a rule has a start. Read `finding` first,
 //! then `form`, which reads a file or finds what is wrong with it, and `crontabs` and `timers` for the lines.
-//! `names` is what is passed from file to file, `quotes` finds the text that a message quotes, and `laws` connects
-//! findings with jobs.
+//! `warnings`, `settings` and `skipped` are what they warn about. `names` is what is passed from file to file, `quotes`
+//! finds the text that a message quotes, and `laws` connects findings with jobs.
 #![tactic(auto)]
 
 mod crontabs;
@@ -13,6 +13,7 @@ mod laws;
 mod names;
 mod quotes;
 mod report;
+mod settings;
 mod skipped;
 mod timers;
 mod warnings;

@@ -9,7 +9,7 @@ ghost use Rattle.plan_check.specs.Quotes.{Ascends, after_word, crontab_quote, cr
 use crate::finding::{Finding, What};
 use crate::form::{Form, label_of};
 use plan_rules::lines::lines;
-use plan_rules::{LineCause, job_name, text_of, value_of};
+use plan_rules::{LineCause, job_name, text_of, setting_value};
 use plan_texts::lines::cut_word;
 use plan_texts::whole_lines::{WholeLine, trimmed, whole_lines};
 use std::alloc::{AllocError, Global};
@@ -189,7 +189,7 @@ fn timer_quote(
 {
     match finding.what {
         What::Refused(LineCause::Rule(_)) => {
-            let value = value_of(trimmed(text_on(lines, finding.line)));
+            let value = setting_value(trimmed(text_on(lines, finding.line)));
             Ok(Some(String::from_str(alloc, value)?))
         }
         What::SameName => Ok(Some(String::from_str(alloc, name)?)),

@@ -1,10 +1,10 @@
 -- The events of a timer file, read in order and each by itself: for loops that feed a `TimerReader`, and for the law of a
 -- timer's entries.
 -- While no event is rejected, the list has as many events as were counted (`events_by_entries`). So both reach 64 at the same event.
-use Rattle.std.proofs.Common.{◌≡◌, ℕ, ◌+◌, ◌<◌, Bool, true, false, ◌||◌, cond, nat_lt, List, [], ◌∷◌, ◌++◌, length, drop, get_or, map, Option, Some, None, Ok, Err, refl, ap, sym, ◌∙◌, append-nil, length-append, append_assoc}
+use Rattle.std.proofs.Common.{◌≡◌, ℕ, ◌+◌, ◌<◌, Bool, true, false, ◌||◌, cond, nat_lt, List, [], ◌∷◌, ◌++◌, length, drop, get_or, map, Some, Ok, Err, refl, ap, sym, ◌∙◌, length-append}
 use Rattle.std.proofs.Math.Bool.{or_assoc}
 use Rattle.std.proofs.lemmas.List.{drop_more}
-use Rattle.std.specs.List.{cons_option, flat_map}
+use Rattle.std.specs.List.{cons_option}
 use Rattle.std.specs.Result.{result_ok}
 use Rattle.plan_match.specs.declared.event.Calendar.{Calendar}
 use Rattle.plan_rules.specs.declared.line_fault.LineCause.TheVariants.{BadTimerName, TooManyLines}
@@ -12,13 +12,12 @@ use Rattle.plan_rules.specs.Limits.{most_events}
 use Rattle.plan_texts.specs.Steps.{◌>>=◌}
 use Rattle.plan_grammar.specs.Event.{event_reading}
 use Rattle.plan_rules.specs.LineFaults.{LineReading, TextReading, in_line, on_line}
-use Rattle.plan_rules.specs.declared.entry.Entry.{Entry}
 use Rattle.plan_rules.specs.Entries.{refusals, unless_refused}
 use Rattle.plan_rules.specs.FileText.{text_reading}
 use Rattle.plan_rules.specs.Job.{JobParts}
 use Rattle.plan_texts.specs.WholeLines.{whole_lines, trimmed}
 use Rattle.plan_rules.specs.Timer.{Effect, Reset, Event, Starts, Nothing, effects_from, events_from, first_unit, has_timer, inside_after, is_timer_name, job_with, section_name, timer_of_lines, timer_reading}
-use Rattle.plan_rules.specs.TimerEntries.{EventCount, TimerState, count_from, entry_of, event_line, line_in, entries_from, events_after, lines_by_entries, parts_of_lines, state_after, timer_by_entries, timer_entries}
+use Rattle.plan_rules.specs.TimerEntries.{EventCount, TimerState, count_from, entry_of, event_line, entries_from, events_after, lines_by_entries, state_after, timer_by_entries, timer_lines}
 
 -- an event that is read, before those that follow
 event_read :
@@ -82,28 +81,6 @@ pub lines_more :
 lines_more v lines place line inside is =
     ap (map v) (drop_more lines place line inside ∙ ap (λ first. first ∷ drop (place + 1) lines) (sym is))
 
-flat_front :
-    {A B : Type 0} (f : A → List B) (o : Option A) (xs : List A) → flat_map f (cons_option o xs) ≡ flat_map f (cons_option o [])
-    ++ flat_map f xs
-flat_front f None xs = refl
-flat_front f (Some x) xs = ap (λ first. first ++ flat_map f xs) (sym (append-nil (f x)))
-
--- what is made of the entries after one more line
-pub entries_step :
-    {B : Type 0} (f : Entry Calendar → List B) (found next : List B) (state after : TimerState) (line : ℕ × List ℕ)
-    (more : List (ℕ × List ℕ)) (whole : List B) →
-    next ≡ found ++ flat_map f (cons_option (entry_of (line_in state line)) []) → after ≡ state_after state line.1 →
-    found ++ flat_map f (entries_from state.count (effects_from state.inside (line ∷ more))) ≡ whole →
-    next ++ flat_map f (entries_from after.count (effects_from after.inside more)) ≡ whole
-entries_step f found next state after line more whole is after_is so_far =
-    let here = entry_of (line_in state line) in
-    let rest = state_after state line.1 in
-    let left = entries_from rest.count (effects_from rest.inside more) in
-    (λ i. is i ++ flat_map f (entries_from (after_is i).count (effects_from (after_is i).inside more)))
-    ∙ append_assoc found (flat_map f (cons_option here [])) (flat_map f left)
-    ∙ ap (λ rest. found ++ rest) (sym (flat_front f here left))
-    ∙ so_far
-
 -- whether there is a section
 pub section_step :
     (state after : TimerState) (line : ℕ × List ℕ) (more : List (ℕ × List ℕ)) (whole : Bool) → after ≡ state_after state line.1 →
@@ -121,11 +98,10 @@ pub count_step :
 count_step state after line more whole after_is so_far =
     ap (λ (s : TimerState). count_from s.count (effects_from s.inside more)) after_is ∙ so_far
 
--- the meaning of a file, by its text and the whole lines of that text
-pub parts_of_file :
+-- the whole lines of a file, by its text
+pub lines_of_file :
     (bytes text : List ℕ) (lines : List (ℕ × List ℕ)) → Ok text ≡ text_reading bytes →
-    lines ≡ map {B = ℕ × List ℕ} (λ line. (line.0, trimmed line.1)) (whole_lines text) → timer_entries bytes ≡ Ok (parts_of_lines lines)
-parts_of_file bytes text lines read is =
-    ap (λ (t : TextReading (List ℕ)). t >>= λ found. Ok (parts_of_lines (map (λ line. (line.0, trimmed line.1)) (whole_lines found))))
-    (sym read)
-    ∙ ap (λ (whole : List (ℕ × List ℕ)). Ok (parts_of_lines whole)) (sym is)
+    lines ≡ map {B = ℕ × List ℕ} (λ line. (line.0, trimmed line.1)) (whole_lines text) → timer_lines bytes ≡ Ok lines
+lines_of_file bytes text lines read is =
+    ap (λ (t : TextReading (List ℕ)). t >>= λ found. Ok (map (λ line. (line.0, trimmed line.1)) (whole_lines found))) (sym read)
+    ∙ ap Ok (sym is)

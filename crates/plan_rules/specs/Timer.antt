@@ -1,5 +1,5 @@
 -- The meaning of a timer file (systemd.timer(5), systemd.syntax(7)): its job, or its first error with its line.
-use Rattle.std.specs.Prelude.{ℕ, ◌-◌, Bool, false, ◌&&◌, ◌||◌, ◌==◌, nat_le, nat_lt, nat_eq, if◌then◌else◌, List, [], ◌∷◌, ◌++◌, length, take, map, codes, Option, Some, None, Ok, Err, unwrap_or}
+use Rattle.std.specs.Prelude.{ℕ, ◌-◌, Bool, false, ◌&&◌, ◌||◌, ◌==◌, nat_le, nat_lt, nat_eq, if◌then◌else◌, List, [], ◌∷◌, ◌++◌, length, take, map, codes, Option, Some, None, is_none, Ok, Err, unwrap_or}
 use Rattle.std.specs.Char.{is_ascii_alphabetic, is_ascii_digit}
 use Rattle.std.specs.List.{list_any, list_all, slice_index, slice_range, ends_with, position_or_len, before_first, after_first}
 use Rattle.std.specs.Option.{option_map_or}
@@ -59,8 +59,8 @@ setting_of text =
     else None
 
 -- the value of the setting on a line, which is empty if the line is no setting (systemd.syntax(7))
-abbrev pub value_of : List ℕ → List ℕ
-value_of text = option_map_or (λ setting. setting.1) (setting_of text) []
+abbrev pub setting_value : List ℕ → List ℕ
+setting_value text = option_map_or (λ setting. setting.1) (setting_of text) []
 
 -- ---- what a setting of the `[Timer]` section does
 
@@ -104,6 +104,10 @@ abbrev pub line_effect : Bool → Option (List ℕ) → Option (List ℕ × List
 line_effect inside (Some section) setting = Nothing
 line_effect inside None None = Nothing
 line_effect inside None (Some setting) = if inside then effect_of (key_of (setting.0)) (setting.1) else Nothing
+
+-- the key and the value of a line in a `[Timer]` section; a line that begins a section has none (systemd.syntax(7))
+abbrev pub timer_setting : Bool → List ℕ → Option (List ℕ × List ℕ)
+timer_setting inside text = if inside && is_none (section_name text) then setting_of text else None
 
 -- what each line does, in order, with its number
 abbrev pub effects_from : Bool → List (ℕ × List ℕ) → List (ℕ × Effect)

@@ -122,26 +122,15 @@ state_after state text = record {
   count = count_after state.count (effect_in state text);
 }
 
--- the meaning of a timer file by itself: the entries of its events, whether it has a `[Timer]` section, and the number of events
--- in its list after the last line (agenda)
-pub record TimerParts : Type 0 where
-  pub events : List (Entry Calendar)
-  pub has_section : Bool
-  pub held : ℕ
+-- the number of events in the list after the last of the whole lines, without blanks at their ends
+abbrev pub held_after : List (ℕ × List ℕ) → ℕ
+held_after lines = (count_from no_events (effects_from false lines)).held
 
--- the same, of the whole lines, without blanks at their ends
-abbrev pub parts_of_lines : List (ℕ × List ℕ) → TimerParts
-parts_of_lines lines = record {
-  events = entries_from no_events (effects_from false lines);
-  has_section = has_timer lines;
-  held = (count_from no_events (effects_from false lines)).held;
-}
-
--- the same, of the bytes, which are checked first
-abbrev pub timer_entries : List ℕ → TextReading TimerParts
-timer_entries bytes = do
+-- the whole lines of a timer file, without blanks at their ends; its bytes are checked first
+abbrev pub timer_lines : List ℕ → TextReading (List (ℕ × List ℕ))
+timer_lines bytes = do
   text ← text_reading bytes
-  Ok (parts_of_lines (map (λ line. (line.0, trimmed (line.1))) (whole_lines text)))
+  Ok (map (λ line. (line.0, trimmed (line.1))) (whole_lines text))
 
 -- ---- the meaning of a timer file by its entries
 

@@ -55,6 +55,8 @@ impl Model for TimerReader {
 }
 
 impl TimerReader {
+    ghost use Rattle.std.specs.Option.{option_map};
+    ghost use Rattle.plan_rules.specs.Timer.{timer_setting};
     ghost use Rattle.plan_rules.specs.TimerEntries.{after_event_text, event_by, event_line, line_in, line_shown, no_events, no_lines, shown_line, state_after};
 
     /// Returns a reader that has read no line yet.
@@ -80,6 +82,15 @@ impl TimerReader {
         ensures { result ≡ self.now.count.held }
     {
         self.held
+    }
+
+    /// Returns the key and the value of the next whole line, if it is a setting in a `[Timer]` section
+    /// (systemd.syntax(7)). The line isn't read.
+    pub fn setting<'a>(&self, line: &'a WholeLine) -> Option<(&'a str, &'a str)>
+        ensures { option_map (λ setting. (setting.0.now, setting.1.now)) result
+            ≡ timer_setting self.now.inside (shown_line line.now).1 }
+    {
+        self.sections.setting(trimmed(line.text.as_str()))
     }
 
     /// Reads the next whole line, and returns what it does.

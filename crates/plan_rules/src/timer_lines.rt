@@ -3,7 +3,7 @@
 ghost use Rattle.std.specs.Prelude.{◌≡◌, false, Some};
 ghost use Rattle.std.specs.Option.{option_map};
 ghost use Rattle.plan_texts.specs.WholeLines.{trimmed};
-ghost use Rattle.plan_rules.specs.Timer.{effect_of, key_of, line_effect, section_name, setting_of, value_of};
+ghost use Rattle.plan_rules.specs.Timer.{effect_of, key_of, line_effect, section_name, setting_of, setting_value, timer_setting};
 ghost use Rattle.plan_rules.specs.TimerSteps.{effect_shown, sections_after};
 
 use plan_texts::whole_lines::trimmed;
@@ -73,6 +73,18 @@ impl Sections {
         }
     }
 
+    // Returns the key and the value of the next whole line, if it is a setting in a `[Timer]` section. The line has
+    // no blanks at its ends.
+    pub(crate) fn setting<'a>(&self, text: &'a str) -> Option<(&'a str, &'a str)>
+        ensures { option_map (λ setting. (setting.0.now, setting.1.now)) result
+            ≡ timer_setting self.now.inside text.now }
+    {
+        if !self.inside || section_name(text.as_bytes()).is_some() {
+            return None;
+        }
+        setting_of(text)
+    }
+
     // Enters the section with this name.
     fn begin(&mut self, section: &[u8])
         ensures { self.new ≡ sections_after self.old (Some section.now) }
@@ -116,8 +128,8 @@ fn setting_of(text: &str) -> Option<(&str, &str)>
 
 /// Returns the value of the setting on a whole line of a timer file: what follows the first `=`, without blanks at its
 /// ends (systemd.syntax(7)). A line without `=` has the empty value.
-pub fn value_of(text: &str) -> &str
-    ensures { result.now ≡ value_of text.now }
+pub fn setting_value(text: &str) -> &str
+    ensures { result.now ≡ setting_value text.now }
 {
     match setting_of(text) {
         Some((_, value)) => value,

@@ -1,9 +1,9 @@
 use Rattle.std.proofs.Common.{◌≡◌, ◌++◌, ℕ, List, OnOk, map, ap, subst, sym, ◌∙◌}
 use Rattle.plan_texts.specs.WholeLines.{whole_lines, trimmed}
 use Rattle.plan_rules.specs.LineFaults.{TextReading}
-use Rattle.plan_rules.specs.TimerEntries.{TimerParts, shown_line}
+use Rattle.plan_rules.specs.TimerEntries.{shown_line}
 use Rattle.plan_rules.proofs.TimerFaults.{trimmed_lines}
-use Rattle.plan_rules.proofs.TimerEntryLemmas.{parts_of_file}
+use Rattle.plan_rules.proofs.TimerEntryLemmas.{lines_of_file}
 use Rattle.plan_check.specs.Timers.{timer_findings}
 use Rattle.plan_check.proofs.timers.add_timer.Goals as goal
 
@@ -13,7 +13,7 @@ returns-in_ok-lines-in-Ok-clause-found c =
     map {B = ℕ × List ℕ} (λ line. (line.0, trimmed line.1)) (whole_lines c.in-Ok.text.now) =
     ap (map shown_line) c.as_slice.ensures.value ∙ trimmed_lines c.in_ok-lines-in-Ok.lines.items
     ∙ ap (map (λ line. (line.0, trimmed line.1))) c.in_ok-lines-in-Ok.ensures in
-    let P : TextReading TimerParts → Type 0 = λ reading. OnOk c.add_lines.result
+    let P : TextReading (List (ℕ × List ℕ)) → Type 0 = λ reading. OnOk c.add_lines.result
     (c.add_lines.new.found.items ≡ c.args.found.now.items ++ timer_findings c.args.names.now c.args.name.now reading) in
-    subst P (sym (parts_of_file c.args.bytes.now c.in-Ok.text.now (map shown_line c.as_slice.result.now) c.in-Ok.ensures.value lines))
+    subst P (sym (lines_of_file c.args.bytes.now c.in-Ok.text.now (map shown_line c.as_slice.result.now) c.in-Ok.ensures.value lines))
     c.add_lines.ensures.found

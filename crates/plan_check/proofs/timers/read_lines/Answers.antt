@@ -1,28 +1,39 @@
 -- Line by line: what was found so far, with what the remaining lines add to it, is what is found in all lines.
-use Rattle.std.proofs.Common.{◌+◌, ◌++◌, ◌||◌, drop, map, ap, sym, ◌∙◌}
-use Rattle.std.specs.List.{flat_map}
-use Rattle.plan_rules.specs.Timer.{effects_from, has_timer}
-use Rattle.plan_rules.specs.TimerEntries.{entries_from, count_from, shown_line}
-use Rattle.plan_rules.proofs.TimerEntryLemmas.{lines_more, entries_step, section_step, count_step}
-use Rattle.plan_check.specs.Timers.{event_findings}
+use Rattle.std.proofs.Common.{◌≡◌, ◌+◌, ◌++◌, ◌||◌, drop, map, ap, sym, ◌∙◌}
+use Rattle.plan_rules.specs.Timer.{effects_from, has_timer, timer_setting}
+use Rattle.plan_rules.specs.TimerEntries.{count_from, shown_line}
+use Rattle.plan_rules.proofs.TimerEntryLemmas.{lines_more, section_step, count_step}
+use Rattle.plan_check.specs.declared.settings.Standing.{Standing}
+use Rattle.plan_check.specs.Settings.{is_delay, is_long_delay, is_reset, is_span, settings_from, standing_after}
+use Rattle.plan_check.specs.Timers.{lines_findings}
+use Rattle.plan_check.proofs.TimerLinesLemmas.{lines_step, stands_step, stands_with}
 use Rattle.plan_check.proofs.timers.read_lines.Goals as goal
 
 pub loop-line-preserved : goal.loop-line-preserved
 loop-line-preserved c =
-    let f = event_findings c.args.clock.now in
     let line = shown_line c.line-item.result in
     let more = map shown_line (drop (c.loop-line.line-index + 1) c.args.lines.now) in
     let old = c.loop-line.reader in
     let new = c.add_line.new.reader in
+    let stood = c.loop-line.standing in
     let next =
     sym (lines_more shown_line c.args.lines.now c.loop-line.line-index c.line-item.result c.loop-line-test.true c.line-item.is) in
+    let stands : c.after-standing.result ≡ standing_after stood (timer_setting old.inside line.1) =
+    c.after-standing.ensures ∙ ap (standing_after stood) c.setting.ensures in
     record {
-      found = entries_step f c.loop-line.found.items c.add_line.new.found.items old new line more _ c.in_ok-add_line.ensures.found
-          c.in_ok-add_line.ensures.reader
-          (ap (λ left. c.loop-line.found.items ++ flat_map f (entries_from old.count (effects_from old.inside left))) next
-          ∙ c.loop-line.invariant.found);
+      found = lines_step c.args.clock.now c.loop-line.found.items c.add_line.new.found.items old new line more _
+          c.in_ok-add_line.ensures.found c.in_ok-add_line.ensures.reader
+          (ap (λ left. c.loop-line.found.items ++ lines_findings c.args.clock.now old left) next ∙ c.loop-line.invariant.found);
       section = section_step old new line more _ c.in_ok-add_line.ensures.reader
           (ap (λ left. old.found || has_timer left) next ∙ c.loop-line.invariant.section);
       count = count_step old new line more _ c.in_ok-add_line.ensures.reader
           (ap (λ left. count_from old.count (effects_from old.inside left)) next ∙ c.loop-line.invariant.count);
+      monotonic = stands_step is_span is_reset stood.monotonic c.after-standing.result.monotonic old new line more _
+          (ap (λ (s : Standing). s.monotonic) stands) c.in_ok-add_line.ensures.reader
+          (ap (λ left. stands_with is_span is_reset stood.monotonic (settings_from old.inside left)) next
+          ∙ c.loop-line.invariant.monotonic);
+      delayed = stands_step is_long_delay is_delay stood.delayed c.after-standing.result.delayed old new line more _
+          (ap (λ (s : Standing). s.delayed) stands) c.in_ok-add_line.ensures.reader
+          (ap (λ left. stands_with is_long_delay is_delay stood.delayed (settings_from old.inside left)) next
+          ∙ c.loop-line.invariant.delayed);
     }

@@ -1,18 +1,22 @@
 use Rattle.std.proofs.Common.{◌≡◌, false, ◌||◌, ◌++◌, map, drop}
-use Rattle.std.specs.List.{flat_map}
 use Rattle.plan_rules.specs.Timer.{effects_from, has_timer}
-use Rattle.plan_rules.specs.TimerEntries.{no_events, entries_from, count_from, shown_line}
-use Rattle.plan_check.specs.Timers.{event_findings}
+use Rattle.plan_rules.specs.TimerEntries.{no_events, no_lines, count_from, shown_line}
+use Rattle.plan_check.specs.Settings.{is_delay, is_delayed, is_long_delay, is_monotonic, is_reset, is_span, settings_from}
+use Rattle.plan_check.specs.Timers.{lines_findings}
+use Rattle.plan_check.proofs.TimerLinesLemmas.{stands_with}
 use Rattle.plan_check.proofs.timers.read_lines.Given as goal
 
 -- what was found, with what the remaining lines add to it, is what is found in all lines
 abbrev pub invariant-loop-line : goal.invariant-loop-line
-invariant-loop-line l = record {
-  found : l.found.items
-      ++ flat_map (event_findings l.clock)
-      (entries_from l.reader.count (effects_from l.reader.inside (map shown_line (drop l.line-index l.lines))))
-      ≡ flat_map (event_findings l.clock) (entries_from no_events (effects_from false (map shown_line l.lines)));
-  section : (l.reader.found || has_timer (map shown_line (drop l.line-index l.lines))) ≡ has_timer (map shown_line l.lines);
-  count : count_from l.reader.count (effects_from l.reader.inside (map shown_line (drop l.line-index l.lines)))
-      ≡ count_from no_events (effects_from false (map shown_line l.lines));
-}
+invariant-loop-line l =
+    let left = map shown_line (drop l.line-index l.lines) in
+    let all = map shown_line l.lines in
+    record {
+      found : l.found.items ++ lines_findings l.clock l.reader left ≡ l.fn.found.items ++ lines_findings l.clock no_lines all;
+      section : (l.reader.found || has_timer left) ≡ has_timer all;
+      count : count_from l.reader.count (effects_from l.reader.inside left) ≡ count_from no_events (effects_from false all);
+      monotonic : stands_with is_span is_reset l.standing.monotonic (settings_from l.reader.inside left)
+          ≡ is_monotonic (settings_from false all);
+      delayed : stands_with is_long_delay is_delay l.standing.delayed (settings_from l.reader.inside left)
+          ≡ is_delayed (settings_from false all);
+    }
