@@ -19,7 +19,7 @@ _agenda() {
     local at
     for ((at = 1; at < cword; at++)); do
         case ${words[at]} in
-            next | plan | upcoming | quiet | check | steps)
+            next | plan | upcoming | quiet | check | steps | explain)
                 command=${words[at]}
                 break
                 ;;
@@ -64,7 +64,7 @@ _agenda() {
             mapfile -t COMPREPLY < <(compgen -W '--help --version' -- "$cur")
             ;;
         :*)
-            mapfile -t COMPREPLY < <(compgen -W 'next plan upcoming quiet check steps' -- "$cur")
+            mapfile -t COMPREPLY < <(compgen -W 'next plan upcoming quiet check steps explain' -- "$cur")
             ;;
         next:*)
             mapfile -t COMPREPLY < <(compgen -W '--after= --zone= --count= --cron= --calendar= --help' -- "$cur")
@@ -94,6 +94,12 @@ _agenda() {
             ;;
         steps:*)
             _filedir
+            ;;
+        explain:-*)
+            mapfile -t COMPREPLY < <(compgen -W '--help' -- "$cur")
+            ;;
+        explain:*)
+            mapfile -t COMPREPLY < <(compgen -W "$(agenda explain 2>/dev/null | cut -f 1)" -- "$cur")
             ;;
     esac
 } && complete -F _agenda agenda

@@ -13,13 +13,14 @@ function __fish_agenda_zones
     end
 end
 
-set -l none 'not __fish_seen_subcommand_from next plan upcoming quiet check steps'
+set -l none 'not __fish_seen_subcommand_from next plan upcoming quiet check steps explain'
 complete -c agenda -n $none -a next -d 'Print the next starts of one rule'
 complete -c agenda -n $none -a plan -d 'Print every start in a span of time'
 complete -c agenda -n $none -a upcoming -d 'Print when each job of crontabs and timers starts next'
 complete -c agenda -n $none -a quiet -d 'Print the gaps in which no job starts'
 complete -c agenda -n $none -a check -d 'Print errors and likely mistakes in crontabs and timers'
 complete -c agenda -n $none -a steps -d 'Run a script of steps on a mailbox'
+complete -c agenda -n $none -a explain -d 'Explain the code of an error or a warning'
 complete -c agenda -s h -l help -d 'Print help'
 complete -c agenda -n $none -s V -l version -d 'Print the version'
 
@@ -57,3 +58,4 @@ complete -c agenda -n $sources -l spool -r -F -d 'A user\'s crontab, named by th
 complete -c agenda -n $sources -k -a '(__fish_complete_suffix .timer)'
 
 complete -c agenda -n '__fish_seen_subcommand_from steps' -F
+complete -c agenda -n '__fish_seen_subcommand_from explain' -a '(agenda explain 2>/dev/null)'

@@ -39,6 +39,7 @@ Commands:
   quiet     Prints the gaps in which no job of crontabs and timers starts
   check     Prints errors and likely mistakes in crontabs and timers
   steps     Runs a script of steps on a mailbox, for testing
+  explain   Explains a code, such as OutOfRange, and what to do about it
 
 Options:
   -h, --help     Print help
@@ -56,6 +57,7 @@ Examples:
   agenda quiet --since 2024-01-01T00:00:00Z --upto 2024-01-02T00:00:00Z --crontab jobs
   agenda check --crontab jobs backup.timer
   agenda steps script
+  agenda explain OutOfRange
 END
 }
 
@@ -258,6 +260,29 @@ Example:
 END
 }
 
+words_make_help_of_explain() {
+  cat >"$work/words/explain.text" <<'END'
+Explains a code, such as OutOfRange, and what to do about it
+
+Usage: agenda explain [CODE]
+
+Arguments:
+  [CODE]  The code of an error or a warning, in upper or lower case;
+          without it, all codes are listed
+
+Options:
+  -h, --help  Print help
+
+A code is the name that a line of an error or a warning ends with. Prints what the code
+means and what to do about it, for some codes with an example. Without a code, prints a
+line for each: the code and what it means in one sentence, separated by a tab. agenda(1)
+has the same texts.
+
+Example:
+  agenda explain OutOfRange
+END
+}
+
 words_make_version() {
   cat >"$work/words/version.text" <<'END'
 agenda 0.1.0
@@ -296,6 +321,9 @@ check check|--crontab|nothing|nothing|-h
 steps steps|--help
 steps steps|-h
 steps steps|script|-h
+explain explain|--help
+explain explain|-h
+explain explain|OutOfRange|-h
 END
 }
 
@@ -309,7 +337,7 @@ words_tell_usage() {
 words_tell_usage_of_agenda() {
   words_tell_usage '' <<'END'
 error: 'agenda' requires a subcommand but one was not provided
-  [subcommands: next, plan, upcoming, quiet, check, steps]
+  [subcommands: next, plan, upcoming, quiet, check, steps, explain]
 
 Usage: agenda <COMMAND>
 
@@ -386,7 +414,7 @@ words_begin_usage() {
   done
 }
 
-words_begin_usage_of_agenda_next_and_steps() {
+words_begin_usage_of_agenda_next_steps_and_explain() {
   local after="--after|2024-01-01T00:00:00Z" cron="--cron|30 4 1,15 * 5"
   words_begin_usage <<END
 version => error: unrecognized subcommand 'version'
@@ -395,6 +423,10 @@ steps => error: the following required arguments were not provided:\n  <FILE>
 steps|a|b => error: unexpected argument 'b' found
 steps|--version => error: unexpected argument '--version' found
 steps|$after => error: unexpected argument '--after' found
+explain|Zone|Full => error: unexpected argument 'Full' found
+explain|--version => error: unexpected argument '--version' found
+explain|$after => error: unexpected argument '--after' found
+explain|Zon => error: invalid value 'Zon' for '[CODE]'
 next => error: the following required arguments were not provided:\n  --after <T>
 next|--version => error: unexpected argument '--version' found
 next|$after|--cron => error: a value is required for '--cron <TEXT>' but none was supplied
@@ -734,11 +766,12 @@ words_make_help_of_upcoming
 words_make_help_of_quiet
 words_make_help_of_check
 words_make_help_of_steps
+words_make_help_of_explain
 words_make_version
 words_tell_help
 words_tell_usage_of_agenda
 words_tell_usage_of_commands
-words_begin_usage_of_agenda_next_and_steps
+words_begin_usage_of_agenda_next_steps_and_explain
 words_begin_usage_of_plan
 words_begin_usage_of_upcoming_and_quiet
 words_begin_usage_of_check

@@ -4,8 +4,9 @@ use Rattle.std.specs.Io.KnownBytes.{Appends, Keeps}
 use Rattle.plan_sets.specs.Limits.{end_second}
 use Rattle.plan_sets.specs.Moment.{HasFault, moment_text_of}
 use Rattle.plan_sets.specs.declared.MomentFault.{MomentFault}
+use Rattle.agenda_codes.specs.declared.Code.{Code}
 use Rattle.agenda_words.specs.declared.Ask.{Ask}
-use Rattle.agenda_words.specs.declared.Ask.TheVariants.{Next, Plan, Upcoming, Quiet, Check, Steps}
+use Rattle.agenda_words.specs.declared.Ask.TheVariants.{Next, Plan, Upcoming, Quiet, Check, Steps, Explain}
 use Rattle.agenda_words.specs.declared.PlanRequest.{PlanRequest}
 use Rattle.agenda_words.specs.declared.UsageFault.{UsageFault}
 use Rattle.agenda_words.specs.declared.UsageFault.TheVariants as usage
@@ -28,6 +29,7 @@ use Rattle.agenda_commands.specs.declared.Verdict.{Verdict}
 use Rattle.agenda_commands.specs.declared.Verdict.TheVariants.{Clean, Refused}
 use Rattle.agenda_commands.specs.Check.{check_output, sources_verdict}
 use Rattle.agenda_commands.specs.Command.{IsFaultOf, IsTextOf}
+use Rattle.agenda_commands.specs.Explain.{explain_output}
 use Rattle.agenda_commands.specs.Next.{next_output, valid_count}
 use Rattle.agenda_commands.specs.Plan.{plan_output}
 use Rattle.agenda_commands.specs.Quiet.{quiet_output, valid_least}
@@ -126,6 +128,10 @@ steps_ends held file = do
   script ← whole_of (held file) (File file)
   prints 0 (IsTextOfRun script) (RefusesRun script)
 
+-- `explain`: no file is read
+abbrev pub explain_ends : Option Code → Step Printed
+explain_ends code = outputs 0 (explain_output code)
+
 -- ---- the answer
 
 -- a request
@@ -136,6 +142,7 @@ ask_ends held (Upcoming after zone sources) = upcoming_ends held after zone sour
 ask_ends held (Quiet request least) = quiet_ends held request least
 ask_ends held (Check zone sources) = check_ends held zone sources
 ask_ends held (Steps file) = steps_ends held file
+ask_ends held (Explain code) = explain_ends code
 
 -- arguments that request no command: help is printed, and invalid arguments are a failure by themselves
 abbrev pub usage_ends : UsageFault → Step Printed

@@ -2,15 +2,16 @@
 
 ghost use Rattle.std.specs.Prelude.{◌≡◌, ◌≢◌, map, string_bytes};
 ghost use Rattle.agenda_answers.specs.Answer.{Answers, AnswersArguments, Ends, Leaves, SaysNotUtf8};
-ghost use Rattle.agenda_answers.specs.Answer.{ask_ends, check_ends, moment_of, next_ends, plan_ends, quiet_ends};
+ghost use Rattle.agenda_answers.specs.Answer.{ask_ends, check_ends, explain_ends, moment_of, next_ends, plan_ends, quiet_ends};
 ghost use Rattle.agenda_answers.specs.Answer.{sources_in, span_of, status_on, steps_ends, upcoming_ends, usage_ends};
 ghost use Rattle.agenda_faults.specs.declared.faults.Failure.TheVariants.{After};
 
 use crate::files::{Files, read_path};
 use crate::sources::read_input;
 use crate::zone::read_clock;
+use agenda_codes::Code;
 use agenda_commands::{
-    Verdict, run_check, run_next, run_plan, run_quiet, run_script, run_upcoming,
+    Verdict, run_check, run_explain, run_next, run_plan, run_quiet, run_script, run_upcoming,
 };
 use agenda_faults::{Failure, RunFault, fault_line};
 use agenda_sources::{Asked, SourcePath, SourcePaths};
@@ -73,7 +74,7 @@ pub fn answer<R: Threads + Wait + Sync, F: Files, O: Stream, E: Stream>(
             let done = carry_out(rt, alloc, &ask, files, out);
             end(done, sources_in(&ask), err)
         }
-        Err(fault) => end(explain(fault, out), &[], err),
+        Err(fault) => end(decline(fault, out), &[], err),
     }
 }
 
@@ -143,11 +144,12 @@ fn carry_out<R: Threads + Wait + Sync, F: Files, S: Stream>(
         Ask::Quiet { plan, least } => quiet(rt, alloc, plan, *least, files, out),
         Ask::Check { zone, sources } => check(alloc, zone, sources, files, out),
         Ask::Steps { file } => steps(alloc, file, files, out),
+        Ask::Explain(code) => explain(*code, out),
     }
 }
 
 // Prints help, or returns the failure of arguments that request no command.
-fn explain<S: Stream>(fault: UsageFault, out: &mut S) -> Result<u8, Failure>
+fn decline<S: Stream>(fault: UsageFault, out: &mut S) -> Result<u8, Failure>
     ensures { Leaves S.takes_all (usage_ends fault) result (S.holds out.old) (S.holds out.new) }
 {
     match fault {
@@ -264,6 +266,14 @@ fn steps<F: Files, S: Stream>(
 {
     let script = read_path(alloc, files, file.as_str())?;
     run_script(alloc, script.as_slice(), out)?;
+    Ok(DONE)
+}
+
+// Runs the command `explain`.
+fn explain<S: Stream>(code: Option<Code>, out: &mut S) -> Result<u8, Failure>
+    ensures { Leaves S.takes_all (explain_ends code) result (S.holds out.old) (S.holds out.new) }
+{
+    run_explain(code, out)?;
     Ok(DONE)
 }
 

@@ -1,5 +1,6 @@
 pub mod Check
 pub mod Command
+pub mod Explain
 pub mod Next
 pub mod Plan
 pub mod Quiet

@@ -1,14 +1,15 @@
 //! The commands: each of them writes its text to a stream.
 //!
 //! `next` writes the next starts of a rule, `plan` the agenda of all sources, `upcoming` when each of their jobs
-//! starts next, `quiet` the gaps without a start, `check` all errors of sources, and `steps`, whose module is
-//! `script`, the replies to a script.
+//! starts next, `quiet` the gaps without a start, `check` all errors of sources, `steps`, whose module is
+//! `script`, the replies to a script, and `explain` what a code of an error or a warning means.
 //!
-//! The crate uses plan_threads, agenda_sources and agenda_script, which do the work, and agenda_faults for
-//! the errors. There is a module for each command. Read `plan` first.
+//! The crate uses plan_threads, agenda_sources, agenda_script and agenda_codes, which do the work, and agenda_faults
+//! for the errors. There is a module for each command. Read `plan` first.
 #![tactic(auto)]
 
 mod check;
+mod explain;
 mod input;
 mod next;
 mod plan;
@@ -17,6 +18,7 @@ mod script;
 mod upcoming;
 
 pub use check::{Verdict, run_check};
+pub use explain::run_explain;
 pub use input::Input;
 pub use next::run_next;
 pub use plan::run_plan;

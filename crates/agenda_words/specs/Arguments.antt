@@ -12,7 +12,9 @@ use Rattle.clap.specs.declared.error.kind.ErrorKind.TheVariants.{DisplayHelp, Di
 use Rattle.plan_texts.specs.Steps.{◌>>=◌}
 use Rattle.plan_collect.specs.declared.Sizes.{Sizes}
 use Rattle.agenda_words.specs.declared.ask.Ask.{Ask}
-use Rattle.agenda_words.specs.declared.ask.Ask.TheVariants.{Next, Plan, Upcoming, Quiet, Check, Steps}
+use Rattle.agenda_words.specs.declared.ask.Ask.TheVariants.{Next, Plan, Upcoming, Quiet, Check, Steps, Explain}
+use Rattle.agenda_codes.specs.declared.Code.{Code}
+use Rattle.agenda_codes.specs.Codes.{code_named}
 use Rattle.agenda_sources.specs.declared.Asked.{Asked}
 use Rattle.agenda_sources.specs.declared.Asked.TheVariants.{Cron, Event}
 use Rattle.agenda_words.specs.declared.ask.PlanRequest.{PlanRequest}
@@ -125,6 +127,19 @@ asked_by_steps rows = do
   file ← wanted (first_of (codes "file") rows)
   Ok (Steps file)
 
+-- the code with an optional name; the name must be one of a code (agenda)
+abbrev pub code_in : Option (List ℕ) → Result (Option Code) Refusal
+code_in None = Ok None
+code_in (Some name) = do
+  code ← wanted (code_named name)
+  Ok (Some code)
+
+-- what `explain` requests, by its values (agenda)
+abbrev pub asked_by_explain : List Row → Result Ask Refusal
+asked_by_explain rows = do
+  code ← code_in (first_of (codes "code") rows)
+  Ok (Explain code)
+
 -- what the given subcommand requests, by its name and its values (agenda)
 abbrev pub asked_by_subcommand : Option (List ℕ × List Row) → Result Ask Refusal
 asked_by_subcommand None = Err is_usage
@@ -134,7 +149,8 @@ asked_by_subcommand (Some met) =
     else (if bytes_eq met.0 (codes "upcoming") then asked_by_upcoming met.1
     else (if bytes_eq met.0 (codes "quiet") then asked_by_quiet met.1
     else (if bytes_eq met.0 (codes "check") then asked_by_check met.1
-    else (if bytes_eq met.0 (codes "steps") then asked_by_steps met.1 else Err is_usage)))))
+    else (if bytes_eq met.0 (codes "steps") then asked_by_steps met.1
+    else (if bytes_eq met.0 (codes "explain") then asked_by_explain met.1 else Err is_usage))))))
 
 -- how an error of clap is answered: help and the version are printed, and all other errors are usage errors (agenda)
 abbrev pub refusal_of : ErrorKind → Refusal

@@ -35,6 +35,10 @@ number_option name default = record (option_named name) {
 abbrev pub file_argument : Rule
 file_argument = record (argument_named (codes "file")) { required = true }
 
+-- the optional argument `CODE` (agenda)
+abbrev pub code_argument : Rule
+code_argument = argument_named (codes "code")
+
 -- what names sources of a kind: `--crontab F`, `--system-crontab F`, and, any number of times, `--cron-d F`,
 -- `--spool F` and `TIMER` (agenda)
 abbrev pub source_rule : SourceKind → Rule
@@ -99,6 +103,10 @@ check = with_sources (subcommand_with (codes "check") (zone_option ∷ []))
 unfoldable pub steps : App
 steps = subcommand_with (codes "steps") (file_argument ∷ [])
 
+-- `explain [CODE]` (agenda)
+unfoldable pub explain : App
+explain = subcommand_with (codes "explain") (code_argument ∷ [])
+
 -- `agenda` without its subcommands; it requires a subcommand or `--version`, and has no subcommand `help`, so
 -- that each error of clap has only one answer (agenda)
 abbrev pub agenda_alone : App
@@ -108,8 +116,9 @@ agenda_alone = on_top (λ s. record s {
   disable_help_subcommand = true;
 }) (new_app (codes "agenda"))
 
--- `agenda next ..`, `agenda plan ..`, `agenda upcoming ..`, `agenda quiet ..`, `agenda check ..` or `agenda steps ..` (agenda)
+-- `agenda next ..`, `agenda plan ..`, `agenda upcoming ..`, `agenda quiet ..`, `agenda check ..`, `agenda steps ..` or
+-- `agenda explain ..` (agenda)
 unfoldable pub agenda : App
 agenda =
-    with_subcommand (with_subcommand (with_subcommand (with_subcommand (with_subcommand (with_subcommand agenda_alone next.top) plan.top)
-    upcoming.top) quiet.top) check.top) steps.top
+    with_subcommand (with_subcommand (with_subcommand (with_subcommand (with_subcommand (with_subcommand (with_subcommand
+    agenda_alone next.top) plan.top) upcoming.top) quiet.top) check.top) steps.top) explain.top

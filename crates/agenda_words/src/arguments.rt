@@ -1,11 +1,12 @@
 //! Reads the arguments of the command line.
 ghost use Rattle.std.specs.Prelude.{IfOk, map, string_bytes};
 ghost use Rattle.clap.specs.Words.{found_of, kind_of, rows_of, subcommand_rows_of};
-ghost use Rattle.agenda_words.specs.Arguments.{Gives, IsAnswerTo, asked_by, asked_by_check, asked_by_next};
+ghost use Rattle.agenda_words.specs.Arguments.{Gives, IsAnswerTo, asked_by, asked_by_check, asked_by_explain, asked_by_next};
 ghost use Rattle.agenda_words.specs.Arguments.{asked_by_plan, asked_by_quiet, asked_by_steps, asked_by_subcommand};
 ghost use Rattle.agenda_words.specs.Arguments.{asked_by_upcoming, plan_in, sizes_in};
 
 use crate::ask::{Ask, PlanRequest, UsageFault};
+use crate::codes::code_of;
 use crate::command::agenda_command;
 use crate::paths::sources_of;
 use crate::values::{number_argument, text, text_if_given, text_of};
@@ -56,8 +57,11 @@ fn asked_by_subcommand(alloc: Global, matches: &ArgMatches<'_>) -> Result<Ask, U
     if let Some(given) = matches.subcommand_matches("check") {
         return asked_by_check(alloc, given);
     }
-    match matches.subcommand_matches("steps") {
-        Some(given) => asked_by_steps(alloc, given),
+    if let Some(given) = matches.subcommand_matches("steps") {
+        return asked_by_steps(alloc, given);
+    }
+    match matches.subcommand_matches("explain") {
+        Some(given) => asked_by_explain(alloc, given),
         None => Err(UsageFault::Usage(text(alloc, NO_SUBCOMMAND)?)),
     }
 }
@@ -156,6 +160,14 @@ fn asked_by_steps(alloc: Global, given: &ArgMatches<'_>) -> Result<Ask, UsageFau
 {
     let file = text_of(alloc, given, "file")?;
     Ok(Ask::Steps { file })
+}
+
+fn asked_by_explain(alloc: Global, given: &ArgMatches<'_>) -> Result<Ask, UsageFault>
+    ensures { Gives result (asked_by_explain (rows_of (found_of given.now))) }
+{
+    let name = text_if_given(alloc, given, "code")?;
+    let code = code_of(alloc, &name)?;
+    Ok(Ask::Explain(code))
 }
 
 // Returns the error for an error of `clap`, with its text.

@@ -1,5 +1,6 @@
 //! What the arguments of the command line request.
 
+use agenda_codes::Code;
 use agenda_sources::{Asked, SourcePaths};
 use plan_collect::Sizes;
 use plan_texts::Text;
@@ -65,6 +66,8 @@ pub enum Ask {
         /// The path of the script.
         file: Text,
     },
+    /// Print what a code of an error or of a warning means, or the list of all codes if none is given.
+    Explain(Option<Code>),
 }
 
 /// Why the arguments request no command.

@@ -2,7 +2,7 @@
 ghost use Rattle.std.specs.Prelude.{◌≡◌, [], ◌∷◌, IfOk, false};
 ghost use Rattle.clap.specs.Words.{app_of, items_of, rule_of, with_rule, with_subcommand};
 ghost use Rattle.clap.specs.declared.builder.command.Command.TheViews.{out-Command};
-ghost use Rattle.agenda_words.specs.Command.{agenda, argument_named, check, file_argument, moment_option, next};
+ghost use Rattle.agenda_words.specs.Command.{agenda, argument_named, check, code_argument, explain, file_argument, moment_option, next};
 ghost use Rattle.agenda_words.specs.Command.{number_option, option_named, plan, quiet, steps, upcoming};
 ghost use Rattle.agenda_words.specs.Command.{source_rule, with_sizes, with_sources, zone_option};
 
@@ -37,6 +37,7 @@ pub(crate) fn agenda_command<'a>(alloc: Global) -> Result<Command<'a>, AllocErro
     let command = with_command(command, quiet_command(alloc)?)?;
     let command = with_command(command, check_command(alloc)?)?;
     let command = with_command(command, steps_command(alloc)?)?;
+    let command = with_command(command, explain_command(alloc)?)?;
     Ok(command)
 }
 
@@ -132,6 +133,18 @@ fn steps_command<'a>(alloc: Global) -> Result<Command<'a>, AllocError>
     Ok(command)
 }
 
+#[tactic(auto, unfolding(crate::specs::Command::explain))]
+fn explain_command<'a>(alloc: Global) -> Result<Command<'a>, AllocError>
+    ensures app { IfOk result (λ command. app_of command ≡ explain) }
+    ensures local { IfOk result (λ command. (out-Command command).has_globals ≡ false) }
+{
+    let command = Command::new(alloc, "explain")
+        .about(help::EXPLAIN)
+        .after_help(help::AFTER_EXPLAIN);
+    let command = with_argument(command, code_argument(alloc))?;
+    Ok(command)
+}
+
 // Adds a subcommand to the command.
 fn with_command<'a>(command: Command<'a>, below: Command<'a>) -> Result<Command<'a>, AllocError>
     requires local { (out-Command below).has_globals ≡ false }
@@ -189,6 +202,14 @@ fn file_argument<'a>(alloc: Global) -> Arg<'a>
     ensures local { result.global ≡ false }
 {
     argument(alloc, "file", "FILE", help::FILE).required(true)
+}
+
+// Returns the argument `CODE`, which is optional.
+fn code_argument<'a>(alloc: Global) -> Arg<'a>
+    ensures rule { rule_of result ≡ code_argument }
+    ensures local { result.global ≡ false }
+{
+    argument(alloc, "code", "CODE", help::CODE)
 }
 
 // Returns the option or argument for sources of a kind: `--crontab F`, `--system-crontab F`, or, any number

@@ -14,7 +14,8 @@ Examples:
   agenda upcoming --after 2024-01-01T00:00:00Z --crontab jobs backup.timer
   agenda quiet --since 2024-01-01T00:00:00Z --upto 2024-01-02T00:00:00Z --crontab jobs
   agenda check --crontab jobs backup.timer
-  agenda steps script";
+  agenda steps script
+  agenda explain OutOfRange";
 
 pub(super) const NEXT: &str = "Prints the next starts of one rule";
 
@@ -142,3 +143,18 @@ counts the senders from 0. agenda-steps(1) describes the replies.
 
 Example:
   agenda steps script";
+
+pub(super) const EXPLAIN: &str = "Explains a code, such as OutOfRange, and what to do about it";
+
+pub(super) const CODE: &str = "\
+The code of an error or a warning, in upper or lower case;
+without it, all codes are listed";
+
+pub(super) const AFTER_EXPLAIN: &str = "\
+A code is the name that a line of an error or a warning ends with. Prints what the code
+means and what to do about it, for some codes with an example. Without a code, prints a
+line for each: the code and what it means in one sentence, separated by a tab. agenda(1)
+has the same texts.
+
+Example:
+  agenda explain OutOfRange";

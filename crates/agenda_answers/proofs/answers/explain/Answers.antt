@@ -1,27 +1,8 @@
-use Rattle.std.proofs.Common.{Ok, Err, ap, refl}
-use Rattle.std.proofs.KnownBytes.{Keeps-refl}
-use Rattle.agenda_faults.specs.declared.faults.Failure.TheVariants.{Usage, Run}
-use Rattle.agenda_faults.specs.declared.faults.RunFault.TheVariants as run
+use Rattle.agenda_answers.proofs.StepLemmas.{printed, stopped}
 use Rattle.agenda_answers.proofs.answers.explain.Goals as goal
 
-pub returns-in-Ok : goal.returns-in-Ok
-returns-in-Ok g c =
-    rw c.in-Help.is (record {
-      end = Ok (record { text = c.in-Help.text; status = 0 });
-      ends = refl;
-      puts = (refl, rw (c.as_bytes.ensures.value, c.as_str.ensures) at c.in-Ok.ensures);
-    })
-
-pub returns-in-Help : goal.returns-in-Help
-returns-in-Help g c =
-    rw c.in-Help.is (record {
-      end = Ok (record { text = c.in-Help.text; status = 0 });
-      ends = refl;
-      puts = (ap Run c.from.ensures, rw (c.as_bytes.ensures.value, c.as_str.ensures) at c.in-Err.ensures);
-    })
-
-pub returns-in-Usage : goal.returns-in-Usage
-returns-in-Usage g c = rw c.in-Usage.is (record { end = Err (Usage c.in-Usage.text); ends = refl; puts = (refl, Keeps-refl _) })
+pub returns-in_err-run_explain : goal.returns-in_err-run_explain
+returns-in_err-run_explain g c = stopped _ _ _ _ _ _ _ _ c.in_err-run_explain.ensures.output c.from_residual.ensures.1
 
 pub returns : goal.returns
-returns g c = rw c.in-NoMemory.is (record { end = Err (Run run.NoMemory); ends = refl; puts = (refl, Keeps-refl _) })
+returns g c = printed _ _ _ _ _ _ c.in_ok-run_explain.ensures.output

@@ -1,0 +1,103 @@
+//! What is said about warnings.
+
+pub(crate) const CARRIAGE_RETURN: &str = "\
+The command of a line ends with a carriage return. The file was probably saved
+by an editor on Windows. cron hands the carriage return to the shell, which
+takes it as part of the last argument. Remove it from each line, for example
+with dos2unix(1).
+";
+
+pub(crate) const DELAYED: &str = "\
+The timer starts up to the time of 'RandomizedDelaySec=' later than planned. If
+that doesn't matter, do nothing. Otherwise remove the setting, or set it to 0.
+
+Before:
+    RandomizedDelaySec=1h
+After:
+    RandomizedDelaySec=0
+";
+
+pub(crate) const EITHER_DAY: &str = "\
+Both day fields are restricted, so the job starts on each day that either of
+them matches. For example, '0 9 13 * 5' starts on each 13th and on each Friday.
+If you meant this, do nothing. If you meant days that match both, write a timer,
+such as 'Fri *-*-13 09:00', or let the command check the day.
+
+Before:
+    0 9 13 * 5 report
+After:
+    0 9 13 * * test $(date +\\%u) != 5 || report
+";
+
+pub(crate) const MONOTONIC: &str = "\
+The timer also starts by 'OnBootSec=' or the like, which isn't planned. Such a
+start depends on when the machine was booted, or on when a unit was last active.
+If you need only the starts of 'OnCalendar=', do nothing. Otherwise expect more
+starts than agenda prints.
+";
+
+pub(crate) const NEVER_STARTS: &str = "\
+The rule of this line, or this event, has no start in any year. For example, it
+names the 30th of February, or a date that the zone skipped. Check whether the
+day fits the month, and the date the weekday. 'agenda next' prints the starts of
+a corrected rule.
+
+Before:
+    0 0 31 4,6,9,11 * close-month
+After:
+    0 0 30 4,6,9,11 * close-month
+";
+
+pub(crate) const NO_EVENTS: &str = "\
+The timer has a section '[Timer]', but no event is in it at the end. If the
+timer starts by other settings, such as 'OnBootSec=', do nothing. Otherwise look
+for an empty value after the events.
+
+Before:
+    OnCalendar=daily
+    OnCalendar=
+After:
+    OnCalendar=
+    OnCalendar=daily
+";
+
+pub(crate) const PERCENT: &str = "\
+The command has a '%' that doesn't follow a backslash, so cron ends the command
+there. cron passes the rest to the command as its input, with a newline for each
+further '%'. If you meant this, do nothing. Otherwise write '\\%' for each '%'.
+
+Before:
+    0 4 * * * backup --name $(date +%F)
+After:
+    0 4 * * * backup --name $(date +\\%F)
+";
+
+pub(crate) const SKIPPED_STARTS: &str = "\
+A step of the event has no end, and systemd 252 may skip starts because of it.
+systemd carries such a step past the limit of its component into the next larger
+one, and then skips the values before the carried one. For example, it never
+starts '*:0/25' at the full hour. Give the step an end.
+
+Before:
+    OnCalendar=*:0/25
+After:
+    OnCalendar=*:0..50/25
+";
+
+pub(crate) const UNKNOWN_KEY: &str = "\
+A setting in '[Timer]' isn't one of systemd.timer(5), so systemd ignores it.
+Check its spelling: upper and lower case differ. If it belongs to another
+section, move it there.
+
+Before:
+    OnCalender=daily
+After:
+    OnCalendar=daily
+";
+
+pub(crate) const ZONE_SETTING: &str = "\
+The line sets 'CRON_TZ', which only cronie reads. agenda reads all rules in one
+zone, that of --zone. If the crontab is for another cron, remove the line, and
+write the rules in the zone of the machine. If it is for cronie, plan this
+crontab alone, with the zone of the line as --zone.
+";

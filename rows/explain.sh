@@ -1,0 +1,251 @@
+# shellcheck shell=bash disable=SC2154
+# Rows of bin/check-examples: what `agenda explain` prints. Each code has a paragraph in agenda(1), and the program prints the same words. A
+# code that is not in that page, or that the page has and the program doesn't, is a failure.
+
+explain_folder="$work/explain"
+mkdir "$explain_folder"
+
+# What the manual page says: a code, a tab and its paragraph per line.
+awk -f "$top/rows/lib/codes-mdoc.awk" "$top/man/agenda.1" >"$explain_folder/page"
+
+# Explains the code $1, or prints all codes.
+explain_run() {
+  run_in "$explain_folder" agenda explain "$@"
+}
+
+# Rows from standard input: codes. They are all codes of the manual page, in order.
+explain_all_codes() {
+  local code
+  cut -f 1 "$explain_folder/page" >"$work/out"
+  cat >"$explain_folder/codes"
+  status=0
+  : >"$work/err"
+  compare "the codes of agenda(1)" "$explain_folder/codes" /dev/null 0
+  sort "$explain_folder/codes" >"$explain_folder/sorted"
+  explain_run
+  cut -f 1 "$work/out" >"$explain_folder/listed"
+  mv -- "$explain_folder/listed" "$work/out"
+  compare "the codes of agenda explain, sorted" "$explain_folder/sorted" /dev/null 0
+}
+
+# The list has the first sentence of each paragraph.
+explain_list() {
+  sed 's/\. .*/./' "$explain_folder/page" >"$explain_folder/list"
+  explain_run
+  compare "the list of all codes" "$explain_folder/list" /dev/null 0
+}
+
+# Each code, as it is, in lower and in upper case: the words of the manual page in lines of at most 80 columns, and perhaps an example.
+explain_each_code() {
+  local code text
+  while IFS=$tab read -r code text; do
+    explain_run "$code"
+    sed '/^$/,$d' "$work/out" >"$explain_folder/lines"
+    {
+      awk 'length > 80 { print "a line of " length " columns" }' "$work/out"
+      awk '{ for (i = 1; i <= NF; i++) print $i }' "$explain_folder/lines" >"$explain_folder/words"
+      printf '%s\n' "$text" | tr ' ' '\n' | diff -u --label "words of agenda(1)" --label "words of agenda explain" - "$explain_folder/words"
+      explain_is_wrapped "$explain_folder/lines"
+      sed '1,/^$/d' "$work/out" | explain_is_example
+      [ "$status" = 0 ] && [ ! -s "$work/err" ] || echo "status $status, or an error"
+    } >"$work/told" 2>&1
+    count "explain $code"
+    cp -- "$work/out" "$explain_folder/$code"
+    for text in "${code^^}" "${code,,}"; do
+      explain_run "$text"
+      compare "explain $text" "$explain_folder/$code" /dev/null 0
+    done
+  done <"$explain_folder/page"
+}
+
+# Reports each line of the file $1 to which the first word of the next line could be added.
+explain_is_wrapped() {
+  awk 'NR > 1 && length(before) + 1 + length($1) <= 80 { print "a short line: " before } { before = $0 }' "$1"
+}
+
+# Reports what is wrong with the form of an example on standard input. An explanation without one has no line here.
+explain_is_example() {
+  awk '
+    NR == 1 && !/^Before:$/ { print "the first line of the example: " $0 }
+    /^After:$/ { afters++; next }
+    NR > 1 && !/^    [^ ]/ { print "a line of the example: " $0 }
+    END { if (NR > 0 && (afters != 1 || /^After:$/)) print "the example has no lines after the correction" }'
+}
+
+# Rows from standard input: a code and the escaped answer, from the second line of the escaped text on.
+explain_texts() {
+  local code answer
+  while IFS='|' read -r code answer; do
+    explain_run "$code"
+    printf '%b' "$answer" >"$work/answer.wanted"
+    compare "explain $code: the whole text" "$work/answer.wanted" /dev/null 0
+  done
+}
+
+# Prints the lines of the example of the code $1 that are $2: before or after the correction.
+explain_example() {
+  sed -n "/^$2:$/,/^[A-Z].*:$/s/^    //p" "$explain_folder/$1"
+}
+
+# Rows from standard input: a code, and how its example is checked. Before the correction the program reports the code, and after it no
+# more. The lines are those of a user's crontab, a system's crontab, a timer or a script, the name of a file, or arguments.
+explain_examples() {
+  local code how when
+  while read -r code how; do
+    for when in Before After; do
+      explain_example "$code" "$when" >"$explain_folder/example"
+      explain_try "$how" >"$explain_folder/answer" 2>&1
+      {
+        [ -s "$explain_folder/example" ] || echo "no example"
+        if [ "$when" = Before ]; then
+          grep -qw "$code" "$explain_folder/answer" || { echo "the code isn't reported:" && cat "$explain_folder/answer"; }
+        else
+          cat "$explain_folder/answer"
+        fi
+      } >"$work/told" 2>&1
+      count "the example of $code, ${when,,} the correction"
+    done
+  done
+}
+
+# Prints what the program reports about the example, by the way $1.
+explain_try() {
+  local words name
+  cd "$explain_folder" || return
+  words=$(cat example)
+  name=${words##*/}
+  case $1 in
+    crontab) agenda check --crontab example ;;
+    system) agenda check --system-crontab example ;;
+    event) { echo '[Timer]' && cat example; } >example.timer && agenda check example.timer ;;
+    timer) cp -- example example.timer && agenda check example.timer ;;
+    step) { echo 'mailbox 1 1' && cat example; } >script && agenda steps script >/dev/null ;;
+    script) agenda steps example ;;
+    cron-d) printf '@daily root a\n' >"$name" && agenda check --cron-d "$name" ;;
+    timer-name) printf '[Timer]\nOnCalendar=daily\n' >"$name" && agenda check "$name" ;;
+    zone) eval "agenda next --after 2024-01-01T00:00:00Z --cron @daily $words" >/dev/null ;;
+    moment) printf '@daily a\n' >"jobs" && eval "$words" >/dev/null ;;
+    span) eval "agenda plan --since 2024-01-01T00:00:00Z $words" >/dev/null ;;
+  esac
+  cd "$top" || return
+}
+
+# No code has the name $1: the text of usage lists the codes.
+explain_unknown() {
+  explain_run "$1"
+  {
+    printf "error: invalid value '%s' for '[CODE]'\n\n  tip: the codes are " "$1"
+    paste -s -d, "$explain_folder/codes" | sed 's/,/, /g'
+    printf "\nFor more information, try '--help'.\n"
+  } >"$explain_folder/usage"
+  compare "explain '$1'" /dev/null "$explain_folder/usage" 2
+}
+
+# Standard output fails: the error is that of every command.
+explain_without_output() {
+  local words
+  for words in explain 'explain Device'; do
+    if [ -c /dev/full ]; then
+      run_in "$explain_folder" bash -c "exec agenda $words >/dev/full"
+      is_refused "agenda $words >/dev/full" Device 3
+    fi
+    run_in "$explain_folder" bash -c "exec agenda $words >&-"
+    is_refused "agenda $words, standard output closed" Device 3
+    # shellcheck disable=SC2016
+    run_in "$explain_folder" bash -c 'exec 3> >(exit); wait "$!"; exec agenda '"$words"' >&3'
+    is_refused "agenda $words, to a pipe that nobody reads" Device 3
+  done
+}
+
+explain_all_codes <<'ROWS'
+Backwards
+BadCount
+BadForm
+BadLeast
+BadLimit
+BadLine
+BadName
+BadNumber
+BadSetting
+BadSize
+BadTabName
+BadTimerName
+BadZone
+BadZoneName
+CarriageReturn
+Delayed
+Device
+EitherDay
+Fraction
+Full
+Monotonic
+NeverStarts
+NoCommand
+NoEvents
+NoMemory
+NoSuchDate
+NoSuchZone
+NoTimerSection
+NotSettled
+NotUtf8
+OutOfRange
+OutOfYears
+Percent
+SameName
+SkippedStarts
+Specifier
+TooLarge
+TooMany
+TooManyLines
+TooManySteps
+UnknownKey
+UnknownWord
+WrongParts
+ZeroStep
+Zone
+ZoneSetting
+ROWS
+
+explain_list
+explain_each_code
+
+# whole texts: without an example, with one, with lines that have a backslash, and with examples of several lines
+explain_texts <<'ROWS'
+TooMany|The span has more starts than the limit. Raise --limit up to 1,000,000, or\nchoose a shorter span.\n
+ZeroStep|A step is 0. Write at least 1, or remove the step.\n\nBefore:\n    */0 * * * * poll\nAfter:\n    */10 * * * * poll\n
+NoTimerSection|The file has no section '[Timer]'. Add it, or don't give the file.\n\nBefore:\n    OnCalendar=daily\nAfter:\n    [Timer]\n    OnCalendar=daily\n
+ROWS
+
+# a name that no code has: another word, the start of a name, a name with a blank, no name at all
+for code in Nonsense Bad 'Zone ' '' OutOfRange.; do
+  explain_unknown "$code"
+done
+
+explain_without_output
+
+# what each example shows
+explain_examples <<'ROWS'
+Backwards crontab
+BadForm moment
+BadLine step
+BadName crontab
+BadNumber crontab
+BadSetting crontab
+BadSize script
+BadTabName cron-d
+BadTimerName timer-name
+BadZoneName zone
+EitherDay crontab
+Fraction event
+NeverStarts crontab
+NoCommand system
+NoEvents event
+NoSuchDate span
+NoSuchZone zone
+NoTimerSection timer
+OutOfRange crontab
+Specifier event
+UnknownWord crontab
+WrongParts crontab
+ZeroStep crontab
+ROWS
