@@ -1,4 +1,5 @@
 pub mod Check
+pub mod CodeLaws
 pub mod Command
 pub mod Explain
 pub mod Next

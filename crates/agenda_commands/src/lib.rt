@@ -11,6 +11,7 @@
 mod check;
 mod explain;
 mod input;
+mod laws;
 mod next;
 mod plan;
 mod quiet;
@@ -20,6 +21,7 @@ mod upcoming;
 pub use check::{Verdict, run_check};
 pub use explain::run_explain;
 pub use input::Input;
+pub use laws::codes_are_explained;
 pub use next::run_next;
 pub use plan::run_plan;
 pub use quiet::run_quiet;

@@ -1,0 +1,185 @@
+-- Which code the line of each error ends with. There is a lemma for each kind of line, by the cases of its error.
+-- A line is put together from the front, and its end is a name and a newline: a text before that changes nothing (`longer`).
+use Rattle.std.proofs.Common.{◌∙◌, ℕ, List, ◌++◌, ap, refl, sym, append_assoc, codes}
+use Rattle.std.specs.Prelude.{decimal}
+use Rattle.plan_sets.specs.Causes.{moment_cause}
+use Rattle.plan_sets.specs.declared.MomentFault.{MomentFault}
+use Rattle.plan_sets.specs.declared.MomentFault.TheVariants as moment
+use Rattle.plan_sets.specs.declared.SetFault.TheVariants as set
+use Rattle.plan_zones.specs.Zones.{zone_fault_name}
+use Rattle.plan_zones.specs.declared.ZoneFault.{ZoneFault}
+use Rattle.plan_zones.specs.declared.ZoneFault.TheVariants as zone
+use Rattle.plan_grammar.specs.Causes.{rule_cause}
+use Rattle.plan_grammar.specs.declared.RuleCause.{RuleCause}
+use Rattle.plan_grammar.specs.declared.RuleCause.TheVariants as rule
+use Rattle.plan_rules.specs.Causes.{line_cause}
+use Rattle.plan_rules.specs.declared.LineCause.{LineCause}
+use Rattle.plan_rules.specs.declared.LineCause.TheVariants as line
+use Rattle.plan_check.specs.Finding.{warning_name}
+use Rattle.plan_check.specs.declared.Warning.{Warning}
+use Rattle.plan_check.specs.declared.Warning.TheVariants as warning
+use Rattle.plan_collect.specs.Span.{span_cause}
+use Rattle.plan_collect.specs.declared.CollectFault.TheVariants as collect
+use Rattle.plan_collect.specs.declared.PlanFault.{PlanFault}
+use Rattle.plan_collect.specs.declared.PlanFault.TheVariants as plan
+use Rattle.plan_collect.specs.declared.SpanFault.{SpanFault}
+use Rattle.plan_collect.specs.declared.SpanFault.TheVariants as span
+use Rattle.agenda_sources.specs.declared.SourcePath.{SourcePath}
+use Rattle.agenda_script.specs.Causes.{script_cause}
+use Rattle.agenda_script.specs.declared.ScriptCause.{ScriptCause}
+use Rattle.agenda_script.specs.declared.ScriptCause.TheVariants as script
+use Rattle.agenda_codes.specs.declared.Code.{Code}
+use Rattle.agenda_codes.specs.declared.Code.TheVariants as code
+use Rattle.agenda_codes.specs.Codes.{name_of}
+use Rattle.agenda_faults.specs.FaultLines.{caused_line, fault_text, memory_line, numbered_line, plan_line, rule_line, run_line, script_line, source_line, source_name, source_rule_line, text_of_line, text_of_part, zone_line}
+use Rattle.agenda_faults.specs.declared.faults.RunFault.{RunFault}
+use Rattle.agenda_faults.specs.declared.faults.RunFault.TheVariants as run
+use Rattle.agenda_faults.specs.declared.faults.Failure.{Failure}
+use Rattle.agenda_faults.specs.declared.faults.Failure.TheVariants as failure
+use Rattle.agenda_commands.specs.CodeLaws.{ComesInPlan, ComesInRule, ComesInRun, ComesOnLine, EndsWithCode, HasCode, HasLine}
+
+-- ---- the names of causes
+
+has : (code : Code) → HasCode (name_of code)
+has code = record { code = code; is = refl }
+
+moment_has : (cause : MomentFault) → HasCode (moment_cause cause)
+moment_has moment.BadForm = has code.BadForm
+moment_has moment.NoSuchDate = has code.NoSuchDate
+moment_has moment.OutOfYears = has code.OutOfYears
+
+span_has : (cause : SpanFault) → HasCode (span_cause cause)
+span_has span.Backwards = has code.Backwards
+span_has span.OutOfYears = has code.OutOfYears
+
+zone_has : (cause : ZoneFault) → HasCode (zone_fault_name cause)
+zone_has zone.NoMemory = has code.NoMemory
+zone_has zone.BadZoneName = has code.BadZoneName
+zone_has zone.NoSuchZone = has code.NoSuchZone
+zone_has zone.TooLarge = has code.TooLarge
+zone_has zone.BadZone = has code.BadZone
+
+rule_has : (cause : RuleCause) → ComesInRule cause → HasCode (rule_cause cause)
+rule_has rule.NoMemory comes = has code.NoMemory
+rule_has rule.WrongParts comes = has code.WrongParts
+rule_has rule.BadNumber comes = has code.BadNumber
+rule_has rule.BadName comes = has code.BadName
+rule_has (rule.Values set.NoItem) comes = absurd comes
+rule_has (rule.Values set.OutOfRange) comes = has code.OutOfRange
+rule_has (rule.Values set.Backwards) comes = has code.Backwards
+rule_has (rule.Values set.ZeroStep) comes = has code.ZeroStep
+rule_has rule.Fraction comes = has code.Fraction
+rule_has rule.Zone comes = has code.Zone
+rule_has rule.UnknownWord comes = has code.UnknownWord
+rule_has rule.Specifier comes = has code.Specifier
+
+pub line_has : (cause : LineCause) → ComesOnLine cause → HasCode (line_cause cause)
+line_has line.NoMemory comes = has code.NoMemory
+line_has line.NotUtf8 comes = has code.NotUtf8
+line_has line.TooLarge comes = has code.TooLarge
+line_has line.BadSetting comes = has code.BadSetting
+line_has (line.Rule fault) comes = rule_has fault.cause comes
+line_has line.NoCommand comes = has code.NoCommand
+line_has line.BadTimerName comes = has code.BadTimerName
+line_has line.NoTimerSection comes = has code.NoTimerSection
+line_has line.TooManyLines comes = has code.TooManyLines
+line_has line.BadTabName comes = has code.BadTabName
+
+pub warning_has : (warning : Warning) → HasCode (warning_name warning)
+warning_has warning.NeverStarts = has code.NeverStarts
+warning_has warning.EitherDay = has code.EitherDay
+warning_has warning.NoEvents = has code.NoEvents
+
+script_has : (cause : ScriptCause) → HasCode (script_cause cause)
+script_has script.NoMemory = has code.NoMemory
+script_has script.NotUtf8 = has code.NotUtf8
+script_has script.TooLarge = has code.TooLarge
+script_has script.BadLine = has code.BadLine
+script_has script.BadSize = has code.BadSize
+script_has script.TooManySteps = has code.TooManySteps
+
+-- ---- the forms of lines
+
+ends : (front : List ℕ) (code : Code) → EndsWithCode (front ++ (name_of code ++ codes "\n"))
+ends front code = record { front = front; code = code; is = refl }
+
+longer : (front text : List ℕ) → EndsWithCode text → EndsWithCode (front ++ text)
+longer front text end = record {
+  front = front ++ end.front;
+  code = end.code;
+  is = ap (λ t. front ++ t) end.is ∙ sym (append_assoc front end.front (name_of end.code ++ codes "\n"));
+}
+
+caused : (about name : List ℕ) → HasCode name → EndsWithCode (caused_line about name)
+caused about name has = record { front = about; code = has.code; is = ap (λ n. about ++ (n ++ codes "\n")) has.is }
+
+numbered : (about : List ℕ) (number : ℕ) (name : List ℕ) → HasCode name → EndsWithCode (numbered_line about number name)
+numbered about number name has = longer about _ (longer (decimal number) _ (caused (codes ": ") name has))
+
+on_line : (source : List ℕ) (number : ℕ) (name : List ℕ) → HasCode name → EndsWithCode (text_of_line source number name)
+on_line source number name has = longer (codes "agenda: ") _ (longer source _ (numbered (codes ": line ") number name has))
+
+in_part : (source : List ℕ) (number part : ℕ) (name : List ℕ) → HasCode name → EndsWithCode (text_of_part source number part name)
+in_part source number part name has = longer (codes "agenda: ") _ (longer source _ (longer (codes ": line ") _ (longer (decimal number) _
+    (numbered (codes ": part ") part name has))))
+
+memory : EndsWithCode memory_line
+memory = ends (codes "agenda: ") code.NoMemory
+
+-- ---- the lines of errors
+
+ends_rule : (part : ℕ) (cause : RuleCause) → ComesInRule cause → EndsWithCode (rule_line part cause)
+ends_rule part rule.NoMemory comes = memory
+ends_rule part other comes = numbered (codes "agenda: rule: part ") part (rule_cause other) (rule_has other comes)
+
+ends_script : (number : ℕ) (cause : ScriptCause) → EndsWithCode (script_line number cause)
+ends_script number script.NoMemory = memory
+ends_script number other = numbered (codes "agenda: script: line ") number (script_cause other) (script_has other)
+
+ends_source_rule :
+    (source : List ℕ) (number part : ℕ) (cause : RuleCause) → ComesInRule cause → EndsWithCode (source_rule_line source number part cause)
+ends_source_rule source number part rule.NoMemory comes = memory
+ends_source_rule source number part other comes = in_part source number part (rule_cause other) (rule_has other comes)
+
+ends_source : (source : List ℕ) (number : ℕ) (cause : LineCause) → ComesOnLine cause → EndsWithCode (source_line source number cause)
+ends_source source number line.NoMemory comes = memory
+ends_source source number (line.Rule fault) comes = ends_source_rule source number fault.part fault.cause comes
+ends_source source number other comes = on_line source number (line_cause other) (line_has other comes)
+
+ends_plan : (fault : PlanFault) → ComesInPlan fault → EndsWithCode (plan_line fault)
+ends_plan plan.NoMemory comes = memory
+ends_plan plan.BadSize comes = ends (codes "agenda: plan: ") code.BadSize
+ends_plan (plan.Collect collect.NoMemory) comes = memory
+ends_plan (plan.Collect collect.TooMany) comes = ends (codes "agenda: plan: ") code.TooMany
+ends_plan (plan.Collect collect.Stranger) comes = absurd comes
+ends_plan (plan.Collect collect.Gap) comes = absurd comes
+ends_plan (plan.Collect collect.AfterLast) comes = absurd comes
+ends_plan (plan.Collect collect.Missing) comes = absurd comes
+ends_plan (plan.NotSettled unsettled) comes = ends (codes "agenda: ") code.NotSettled
+ends_plan plan.BadLimit comes = ends (codes "agenda: plan: ") code.BadLimit
+
+ends_run : (sources : List SourcePath) (fault : RunFault) → ComesInRun fault → EndsWithCode (run_line sources fault)
+ends_run sources run.NoMemory comes = memory
+ends_run sources run.BadCount comes = ends (codes "agenda: count: ") code.BadCount
+ends_run sources (run.Rule fault) comes = ends_rule fault.part fault.cause comes
+ends_run sources (run.InSource place fault) comes = ends_source (source_name sources place) fault.line fault.cause comes
+ends_run sources (run.SameName name) comes = longer (codes "agenda: job ") _ (longer name _ (ends (codes ": ") code.SameName))
+ends_run sources run.Full comes = ends (codes "agenda: jobs: ") code.Full
+ends_run sources (run.Plan fault) comes = ends_plan fault comes
+ends_run sources (run.Script fault) comes = ends_script fault.line fault.cause
+ends_run sources run.Device comes = ends (codes "agenda: ") code.Device
+ends_run sources run.BadLeast comes = ends (codes "agenda: quiet: ") code.BadLeast
+
+ends_zone : (fault : ZoneFault) → EndsWithCode (zone_line fault)
+ends_zone zone.NoMemory = memory
+ends_zone other = caused (codes "agenda: zone: ") (zone_fault_name other) (zone_has other)
+
+pub ends_failure : (sources : List SourcePath) (fault : Failure) → HasLine fault → EndsWithCode (fault_text sources fault)
+ends_failure sources (failure.Usage text) has = absurd has
+ends_failure sources (failure.After fault) has = caused (codes "agenda: after: ") (moment_cause fault) (moment_has fault)
+ends_failure sources (failure.Since fault) has = caused (codes "agenda: since: ") (moment_cause fault) (moment_has fault)
+ends_failure sources (failure.Upto fault) has = caused (codes "agenda: upto: ") (moment_cause fault) (moment_has fault)
+ends_failure sources (failure.Span fault) has = caused (codes "agenda: span: ") (span_cause fault) (span_has fault)
+ends_failure sources (failure.Zone fault) has = ends_zone fault
+ends_failure sources (failure.Run fault) has = ends_run sources fault has
+ends_failure sources (failure.File path) has = longer (codes "agenda: ") _ (longer path _ (ends (codes ": ") code.Device))

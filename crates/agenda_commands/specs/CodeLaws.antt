@@ -1,0 +1,57 @@
+-- The codes that error lines and warnings show (agenda).
+use Rattle.std.specs.Prelude.{◌≡◌, ⊤, ℕ, List, ◌++◌, codes}
+use Rattle.plan_sets.specs.declared.SetFault.TheVariants as set
+use Rattle.plan_grammar.specs.declared.RuleCause.{RuleCause}
+use Rattle.plan_grammar.specs.declared.RuleCause.TheVariants as rule
+use Rattle.plan_rules.specs.declared.LineCause.{LineCause}
+use Rattle.plan_rules.specs.declared.LineCause.TheVariants as line
+use Rattle.plan_collect.specs.declared.CollectFault.TheVariants as collect
+use Rattle.plan_collect.specs.declared.PlanFault.{PlanFault}
+use Rattle.plan_collect.specs.declared.PlanFault.TheVariants as plan
+use Rattle.agenda_faults.specs.declared.faults.RunFault.{RunFault}
+use Rattle.agenda_faults.specs.declared.faults.RunFault.TheVariants as run
+use Rattle.agenda_faults.specs.declared.faults.Failure.{Failure}
+use Rattle.agenda_faults.specs.declared.faults.Failure.TheVariants as failure
+use Rattle.agenda_codes.specs.declared.Code.{Code}
+use Rattle.agenda_codes.specs.Codes.{name_of}
+
+-- the name is that of a code
+pub record HasCode (name : List ℕ) : Type 0 where
+  pub code : Code
+  pub is : name ≡ name_of code
+
+-- the line ends with the name of a code
+pub record EndsWithCode (line : List ℕ) : Type 0 where
+  pub front : List ℕ
+  pub code : Code
+  pub is : line ≡ front ++ (name_of code ++ codes "\n")
+
+-- the cause of a rule's error, apart from NoItem, which never comes: each list of a rule has an element
+abbrev pub ComesInRule : RuleCause → Type 0
+ComesInRule (rule.Values set.NoItem) = ⊥
+ComesInRule other = ⊤
+
+-- the cause of an error on a line
+abbrev pub ComesOnLine : LineCause → Type 0
+ComesOnLine (line.Rule fault) = ComesInRule fault.cause
+ComesOnLine other = ⊤
+
+-- the error of a plan, whose collector rejects nothing but too many starts
+abbrev pub ComesInPlan : PlanFault → Type 0
+ComesInPlan (plan.Collect collect.NoMemory) = ⊤
+ComesInPlan (plan.Collect collect.TooMany) = ⊤
+ComesInPlan (plan.Collect other) = ⊥
+ComesInPlan other = ⊤
+
+-- the error of a command
+abbrev pub ComesInRun : RunFault → Type 0
+ComesInRun (run.Rule fault) = ComesInRule fault.cause
+ComesInRun (run.InSource place fault) = ComesOnLine fault.cause
+ComesInRun (run.Plan fault) = ComesInPlan fault
+ComesInRun other = ⊤
+
+-- a failure that has a line, since it isn't a usage error, and that can come
+abbrev pub HasLine : Failure → Type 0
+HasLine (failure.Usage text) = ⊥
+HasLine (failure.Run fault) = ComesInRun fault
+HasLine other = ⊤
