@@ -1,9 +1,12 @@
 # shellcheck shell=bash disable=SC2154
 # Rows of bin/check-examples: what `agenda check` reports about crontabs and timers, in which order and with
-# which status. Its errors are compared with those of `agenda plan` for the same sources, too.
+# which status. Its errors are compared with those of `agenda plan` for the same sources, too. Findings are in
+# the short form of rows/lib/findings.sh; rows/messages.sh has their texts.
 
 # shellcheck source=/dev/null
 . "$top/rows/lib/questions.sh"
+# shellcheck source=/dev/null
+. "$top/rows/lib/findings.sh"
 
 check_folder="$work/check"
 mkdir -p "$check_folder"/{one,two,cron.d,spool,folder.timer}
@@ -18,10 +21,11 @@ check_run() {
 }
 
 # Compares the last run, with the name $1, with the lines of the file findings.wanted. The status is 1 if one
-# of them isn't a note.
+# of them is an error.
 check_compare() {
   local wanted=0
-  ! grep -qv ': note: ' "$work/findings.wanted" || wanted=1
+  ! grep -qv ': warning \[' "$work/findings.wanted" || wanted=1
+  shorten_findings <"$work/out" >"$work/findings" && mv -- "$work/findings" "$work/out"
   compare "$1" "$work/findings.wanted" /dev/null "$wanted"
 }
 
@@ -55,10 +59,10 @@ check_texts() {
   done
 }
 
-# Rows from standard input: rules of a crontab, or events if $1 is calendar, and after a bar the notes on
-# each, with blanks between them. All of them are in one file, so each note must be on its own line.
-check_notes() {
-  local rule notes note line=0 path=jobs words=(--crontab jobs)
+# Rows from standard input: rules of a crontab, or events if $1 is calendar, and after a bar the warnings about
+# each, with blanks between them. All of them are in one file, so each warning must be on its own line.
+check_warnings() {
+  local rule codes code line=0 path=jobs words=(--crontab jobs)
   : >"$work/findings.wanted"
   if [ "$1" = calendar ]; then
     path=a.timer words=(a.timer)
@@ -67,19 +71,19 @@ check_notes() {
   else
     check_file "$path" ''
   fi
-  while IFS='|' read -r rule notes; do
+  while IFS='|' read -r rule codes; do
     line=$((line + 1))
     if [ "$1" = calendar ]; then
       printf 'OnCalendar=%s\n' "$rule"
     else
       printf '%s x\n' "$rule"
     fi >>"$check_folder/$path"
-    for note in $notes; do
-      echo "$path:$line: note: $note" >>"$work/findings.wanted"
+    for code in $codes; do
+      echo "$path:$line: warning [$code]" >>"$work/findings.wanted"
     done
   done
   check_run "${words[@]}"
-  check_compare "the notes on $line lines of $path"
+  check_compare "the warnings about $line lines of $path"
 }
 
 # Makes the file $1 with the escaped text $3, filled with newlines up to $2 bytes.
@@ -121,8 +125,8 @@ check_as_plan() {
     [ "$planned" = 0 ] || [ "$planned" = 1 ] || tell "plan ended with status $planned"
     check_run "${words[@]}"
     [ "$status" = "$planned" ] || tell "status $status, and plan has $planned"
-    grep -qv ': note: ' "$work/out" && [ "$status" = 0 ] && tell "status 0, and something is refused"
-    [ "$status" = 0 ] || grep -qv ': note: ' "$work/out" || tell "status $status, and nothing is refused"
+    grep -q ': error: ' "$work/out" && [ "$status" = 0 ] && tell "status 0, and something is refused"
+    [ "$status" = 0 ] || grep -q ': error: ' "$work/out" || tell "status $status, and nothing is refused"
     [ ! -s "$work/err" ] || tell "standard error: $(cat "$work/err")"
     count "check as plan: $written"
   done
@@ -144,9 +148,9 @@ check_pairs_as_plan() {
 }
 
 # Rows from standard input: an option and an escaped text. The first error that `check` finds in this crontab
-# has the line and the name of the error of `plan`.
+# has the line, the field and the code of the error of `plan`.
 check_first_as_plan() {
-  local option text fault line
+  local option text fault line field fields=('' minute hour 'day of month' month 'day of week')
   while IFS='|' read -r option text; do
     check_file cron.d/jobs "$text"
     run_in "$check_folder" agenda plan --since 2024-01-01T00:00:00Z --upto 2024-01-01T00:00:00Z "$option" cron.d/jobs
@@ -154,9 +158,12 @@ check_first_as_plan() {
     fault=$(cat "$work/err")
     fault=${fault#*: line }
     line=:${fault%%:*}
+    fault=${fault#*: }
+    field=
+    [[ $fault != part* ]] || field=${fields[${fault:5:1}]}
     check_run "$option" cron.d/jobs
-    echo "cron.d/jobs${line#:0}: ${fault#*: }" >"$work/first.wanted"
-    grep -v ': note: ' "$work/out" | head -n 1 | diff -u --label plan --label check "$work/first.wanted" - >>"$work/told" 2>&1
+    echo "cron.d/jobs${line#:0}: error ${field:+$field }[${fault##*: }]" >"$work/first.wanted"
+    grep ': error: ' "$work/out" | head -n 1 | shorten_findings | diff -u --label plan --label check "$work/first.wanted" - >>"$work/told" 2>&1
     count "the first fault as plan has it: $option '$text'"
   done
 }
@@ -174,61 +181,61 @@ ROWS
 
 # A rejected line: its number, the part of its rule if there is one, and the one error that `plan` reports for it.
 check_texts <<'ROWS'
---crontab jobs|60 * * * * x\n|:1: part 1: OutOfRange
---crontab jobs|* 24 * * *\n|:1: part 2: OutOfRange
---crontab jobs|60 24 32 13 8 x\n|:1: part 1: OutOfRange
---crontab jobs|60 24 * *\n|:1: part 0: WrongParts
---crontab jobs|* * * *\n|:1: part 0: WrongParts
---crontab jobs|5/15 * * * * x\n|:1: part 1: WrongParts
---crontab jobs|1,,2 * * * * x\n|:1: part 1: WrongParts
---crontab jobs|12345 * * * * x\n|:1: part 1: BadNumber
---crontab jobs|* * x * * y\n|:1: part 3: BadName
---crontab jobs|* * * foo * y\n|:1: part 4: BadName
---crontab jobs|* * * * sat-sun y\n|:1: part 5: Backwards
---crontab jobs|*/0 * * * * x\n|:1: part 1: ZeroStep
---crontab jobs|@Daily x\n|:1: part 0: UnknownWord
---crontab jobs|@daily\n|:1: NoCommand
---crontab jobs|* * * * *  \n|:1: NoCommand
---crontab jobs|MAILTO\n|:1: BadSetting
---crontab jobs|\n# c\n \t\n \t60 * * * * x|:4: part 1: OutOfRange
---system-crontab jobs|@daily root x\n@daily root\n|:2: NoCommand
---cron-d jobs|@daily root x\n@daily root\n|:2: NoCommand
---spool jobs|@daily root x\n@daily\n|:2: NoCommand
-a.timer|[Timer]\nOnCalendar=%H\n|:2: part 0: Specifier
-a.timer|[Timer]\nOnCalendar=12\n|:2: part 0: WrongParts
-a.timer|[Timer]\nOnCalendar=fortnightly\n|:2: part 0: UnknownWord
-a.timer|[Timer]\nOnCalendar=Foo 12:00\n|:2: part 1: BadName
-a.timer|[Timer]\nOnCalendar=Fri..Mon\n|:2: part 1: Backwards
-a.timer|[Timer]\nOnCalendar=1969-1-1\n|:2: part 2: OutOfRange
-a.timer|[Timer]\nOnCalendar=*-13-1\n|:2: part 3: OutOfRange
-a.timer|[Timer]\nOnCalendar=*-*-5..3\n|:2: part 4: Backwards
-a.timer|[Timer]\nOnCalendar=25:00\n|:2: part 5: OutOfRange
-a.timer|[Timer]\nOnCalendar=*:0/0\n|:2: part 6: ZeroStep
-a.timer|[Timer]\nOnCalendar=12:00:00.5\n|:2: part 7: Fraction
-a.timer|[Timer]\nOnCalendar=12:00 Mars\n|:2: part 8: Zone
+--crontab jobs|60 * * * * x\n|:1: error minute [OutOfRange]
+--crontab jobs|* 24 * * *\n|:1: error hour [OutOfRange]
+--crontab jobs|60 24 32 13 8 x\n|:1: error minute [OutOfRange]
+--crontab jobs|60 24 * *\n|:1: error [WrongParts]
+--crontab jobs|* * * *\n|:1: error [WrongParts]
+--crontab jobs|5/15 * * * * x\n|:1: error minute [WrongParts]
+--crontab jobs|1,,2 * * * * x\n|:1: error minute [WrongParts]
+--crontab jobs|12345 * * * * x\n|:1: error minute [BadNumber]
+--crontab jobs|* * x * * y\n|:1: error day of month [BadName]
+--crontab jobs|* * * foo * y\n|:1: error month [BadName]
+--crontab jobs|* * * * sat-sun y\n|:1: error day of week [Backwards]
+--crontab jobs|*/0 * * * * x\n|:1: error minute [ZeroStep]
+--crontab jobs|@Daily x\n|:1: error [UnknownWord]
+--crontab jobs|@daily\n|:1: error [NoCommand]
+--crontab jobs|* * * * *  \n|:1: error [NoCommand]
+--crontab jobs|MAILTO\n|:1: error [BadSetting]
+--crontab jobs|\n# c\n \t\n \t60 * * * * x|:4: error minute [OutOfRange]
+--system-crontab jobs|@daily root x\n@daily root\n|:2: error [NoCommand]
+--cron-d jobs|@daily root x\n@daily root\n|:2: error [NoCommand]
+--spool jobs|@daily root x\n@daily\n|:2: error [NoCommand]
+a.timer|[Timer]\nOnCalendar=%H\n|:2: error [Specifier]
+a.timer|[Timer]\nOnCalendar=12\n|:2: error [WrongParts]
+a.timer|[Timer]\nOnCalendar=fortnightly\n|:2: error [UnknownWord]
+a.timer|[Timer]\nOnCalendar=Foo 12:00\n|:2: error weekday [BadName]
+a.timer|[Timer]\nOnCalendar=Fri..Mon\n|:2: error weekday [Backwards]
+a.timer|[Timer]\nOnCalendar=1969-1-1\n|:2: error year [OutOfRange]
+a.timer|[Timer]\nOnCalendar=*-13-1\n|:2: error month [OutOfRange]
+a.timer|[Timer]\nOnCalendar=*-*-5..3\n|:2: error day [Backwards]
+a.timer|[Timer]\nOnCalendar=25:00\n|:2: error hour [OutOfRange]
+a.timer|[Timer]\nOnCalendar=*:0/0\n|:2: error minute [ZeroStep]
+a.timer|[Timer]\nOnCalendar=12:00:00.5\n|:2: error second [Fraction]
+a.timer|[Timer]\nOnCalendar=12:00 Mars\n|:2: error time zone [Zone]
 ROWS
 
 # All errors of all lines, in order. Between them are lines without errors, settings and comments.
 check_texts <<'ROWS'
---crontab jobs|60 * * * * x\n@daily\nMAILTO\n# c\n* * * * * x\nA=b\n@never x\n* * * * * x|:1: part 1: OutOfRange;:2: NoCommand;:3: BadSetting;:7: part 0: UnknownWord
---spool jobs|@x\n@x\n@x|:1: part 0: UnknownWord;:2: part 0: UnknownWord;:3: part 0: UnknownWord
-a.timer|[Timer]\nOnCalendar=25:00\nOnCalendar=daily\n[Unit]\nOnCalendar=x\n[Timer]\nOnCalendar=x\n|:2: part 5: OutOfRange;:7: part 0: UnknownWord
+--crontab jobs|60 * * * * x\n@daily\nMAILTO\n# c\n* * * * * x\nA=b\n@never x\n* * * * * x|:1: error minute [OutOfRange];:2: error [NoCommand];:3: error [BadSetting];:7: error [UnknownWord]
+--spool jobs|@x\n@x\n@x|:1: error [UnknownWord];:2: error [UnknownWord];:3: error [UnknownWord]
+a.timer|[Timer]\nOnCalendar=25:00\nOnCalendar=daily\n[Unit]\nOnCalendar=x\n[Timer]\nOnCalendar=x\n|:2: error hour [OutOfRange];:7: error [UnknownWord]
 ROWS
 
 # A finding about a whole file has no line number.
 check_texts <<'ROWS'
---crontab jobs|@daily \xe4\n|: NotUtf8
---system-crontab jobs|\xff|: NotUtf8
---cron-d a.b|@daily u x\n|: BadTabName
---cron-d a~||: BadTabName
---spool .a|@daily x\n|: BadTabName
---spool a~|@daily x\n|: BadTabName
-jobs|[Timer]\nOnCalendar=daily\n|: BadTimerName
-a@.timer|[Timer]\nOnCalendar=daily\n|: BadTimerName
-a.timer||: NoTimerSection
-a.timer|[Unit]\nOnCalendar=x\n|: NoTimerSection
-a.timer|[timer]\nOnCalendar=x\n|: NoTimerSection
-a.timer|[Timer]\nOnCalendar=daily \xe4\n|: NotUtf8
+--crontab jobs|@daily \xe4\n|: error [NotUtf8]
+--system-crontab jobs|\xff|: error [NotUtf8]
+--cron-d a.b|@daily u x\n|: error [BadTabName]
+--cron-d a~||: error [BadTabName]
+--spool .a|@daily x\n|: error [BadTabName]
+--spool a~|@daily x\n|: error [BadTabName]
+jobs|[Timer]\nOnCalendar=daily\n|: error [BadTimerName]
+a@.timer|[Timer]\nOnCalendar=daily\n|: error [BadTimerName]
+a.timer||: error [NoTimerSection]
+a.timer|[Unit]\nOnCalendar=x\n|: error [NoTimerSection]
+a.timer|[timer]\nOnCalendar=x\n|: error [NoTimerSection]
+a.timer|[Timer]\nOnCalendar=daily \xe4\n|: error [NotUtf8]
 ROWS
 
 # --crontab and --system-crontab require no name.
@@ -239,24 +246,24 @@ ROWS
 
 # After a bad name the rest is checked in the same way as after a good one.
 check_texts <<'ROWS'
---cron-d a.b|60 * * * * u x\n0 0 31 2 * u x\n0 0 1 * 1 u x\n@daily u\n|: BadTabName;:1: part 1: OutOfRange;:2: note: NeverStarts;:3: note: EitherDay;:4: NoCommand
---cron-d a.b|\xff|: BadTabName;: NotUtf8
---spool .a|\n60 * * * * x\n0 0 31 2 * x\n|: BadTabName;:2: part 1: OutOfRange;:3: note: NeverStarts
---spool a~|60 * * * * x\n\xff|: BadTabName;: NotUtf8
-jobs|[Timer]\nOnCalendar=25:00\nOnCalendar=*-2-30\n|: BadTimerName;:2: part 5: OutOfRange;:3: note: NeverStarts
-jobs|[Timer]\n|: BadTimerName;: note: NoEvents
-jobs|[Unit]\n|: BadTimerName;: NoTimerSection
-jobs|\xff|: BadTimerName;: NotUtf8
-a@b.timer|[Timer]\nOnCalendar=%i\n|: BadTimerName;:2: part 0: Specifier
+--cron-d a.b|60 * * * * u x\n0 0 31 2 * u x\n0 0 1 * 1 u x\n@daily u\n|: error [BadTabName];:1: error minute [OutOfRange];:2: warning [NeverStarts];:3: warning [EitherDay];:4: error [NoCommand]
+--cron-d a.b|\xff|: error [BadTabName];: error [NotUtf8]
+--spool .a|\n60 * * * * x\n0 0 31 2 * x\n|: error [BadTabName];:2: error minute [OutOfRange];:3: warning [NeverStarts]
+--spool a~|60 * * * * x\n\xff|: error [BadTabName];: error [NotUtf8]
+jobs|[Timer]\nOnCalendar=25:00\nOnCalendar=*-2-30\n|: error [BadTimerName];:2: error hour [OutOfRange];:3: warning [NeverStarts]
+jobs|[Timer]\n|: error [BadTimerName];: warning [NoEvents]
+jobs|[Unit]\n|: error [BadTimerName];: error [NoTimerSection]
+jobs|\xff|: error [BadTimerName];: error [NotUtf8]
+a@b.timer|[Timer]\nOnCalendar=%i\n|: error [BadTimerName];:2: error [Specifier]
 ROWS
 
-# A text that isn't UTF-8 has no lines, and so no section and no notes either.
+# A text that isn't UTF-8 has no lines, and so no section and no warnings either.
 check_texts <<'ROWS'
---crontab jobs|60 * * * * x\n0 0 31 2 * x\n\xff\n|: NotUtf8
---crontab jobs|# \xc3\n60 * * * * x\n|: NotUtf8
-a.timer|[Unit]\n\xff\n|: NotUtf8
-a.timer|[Timer]\n\xff\n|: NotUtf8
-a.timer|[Timer]\nOnCalendar=25:00\nOnCalendar=*-2-30\n#\xff\n|: NotUtf8
+--crontab jobs|60 * * * * x\n0 0 31 2 * x\n\xff\n|: error [NotUtf8]
+--crontab jobs|# \xc3\n60 * * * * x\n|: error [NotUtf8]
+a.timer|[Unit]\n\xff\n|: error [NotUtf8]
+a.timer|[Timer]\n\xff\n|: error [NotUtf8]
+a.timer|[Timer]\nOnCalendar=25:00\nOnCalendar=*-2-30\n#\xff\n|: error [NotUtf8]
 ROWS
 
 # Nor has a text that is too large. It isn't checked for UTF-8 then. With one byte less, everything is read.
@@ -267,29 +274,29 @@ check_filled most.timer 1048576 '[Timer]\nOnCalendar=25:00\nOnCalendar=*-2-30\n'
 check_filled more.timer 1048577 '[Timer]\nOnCalendar=25:00\nOnCalendar=*-2-30\n'
 check_filled unit.timer 1048577 '[Unit]\n\xff\n'
 check_rows <<'ROWS'
---crontab most most.timer|most:1: part 1: OutOfRange;most:2: note: NeverStarts;most.timer:2: part 5: OutOfRange;most.timer:3: note: NeverStarts
---crontab more|more: TooLarge
---system-crontab more|more: TooLarge
---cron-d more|more: TooLarge
---cron-d more~|more~: BadTabName;more~: TooLarge
---spool more~|more~: BadTabName;more~: TooLarge
---crontab more~|more~: TooLarge
-more.timer|more.timer: TooLarge
-unit.timer|unit.timer: TooLarge
-more|more: BadTimerName;more: TooLarge
---crontab /dev/zero|/dev/zero: TooLarge
---cron-d /dev/zero /dev/zero|/dev/zero: TooLarge;/dev/zero: BadTimerName;/dev/zero: TooLarge
+--crontab most most.timer|most:1: error minute [OutOfRange];most:2: warning [NeverStarts];most.timer:2: error hour [OutOfRange];most.timer:3: warning [NeverStarts]
+--crontab more|more: error [TooLarge]
+--system-crontab more|more: error [TooLarge]
+--cron-d more|more: error [TooLarge]
+--cron-d more~|more~: error [BadTabName];more~: error [TooLarge]
+--spool more~|more~: error [BadTabName];more~: error [TooLarge]
+--crontab more~|more~: error [TooLarge]
+more.timer|more.timer: error [TooLarge]
+unit.timer|unit.timer: error [TooLarge]
+more|more: error [BadTimerName];more: error [TooLarge]
+--crontab /dev/zero|/dev/zero: error [TooLarge]
+--cron-d /dev/zero /dev/zero|/dev/zero: error [TooLarge];/dev/zero: error [BadTimerName];/dev/zero: error [TooLarge]
 ROWS
 
 # The error of an assignment is reported for the first line of its merged line, even if a later line empties
 # the list. Without a section [Timer] nothing is read.
 check_texts <<'ROWS'
-a.timer|[Timer]\nOnCalendar=Mon \\\n# note\n25:00\nOnCalendar=x\n|:2: part 5: OutOfRange;:5: part 0: UnknownWord
-a.timer|[Timer]\nUnit=a \\\nOnCalendar=x\nOnCalendar=\\\n\\\n25:00|:4: part 5: OutOfRange
-a.timer|[Timer]\r\nOnCalendar=Mon \\\r\n25:00\r\n|:2: part 5: OutOfRange
-a.timer|[Timer]\nOnCalendar=daily\nOnCalendar=fortnightly\nOnCalendar=\nOnCalendar=weekly\n|:3: part 0: UnknownWord
-a.timer|[Timer]\nOnCalendar=x\nOnActiveSec=\nOnCalendar=x\nOnBootSec=\nOnCalendar=x\nOnStartupSec=\nOnCalendar=daily|:2: part 0: UnknownWord;:4: part 0: UnknownWord;:6: part 0: UnknownWord
-a.timer|[Timer]\nOnCalendar=x\nOnUnitActiveSec=\nOnCalendar=x\nOnUnitInactiveSec=\n|: note: NoEvents;:2: part 0: UnknownWord;:4: part 0: UnknownWord
+a.timer|[Timer]\nOnCalendar=Mon \\\n# note\n25:00\nOnCalendar=x\n|:2: error hour [OutOfRange];:5: error [UnknownWord]
+a.timer|[Timer]\nUnit=a \\\nOnCalendar=x\nOnCalendar=\\\n\\\n25:00|:4: error hour [OutOfRange]
+a.timer|[Timer]\r\nOnCalendar=Mon \\\r\n25:00\r\n|:2: error hour [OutOfRange]
+a.timer|[Timer]\nOnCalendar=daily\nOnCalendar=fortnightly\nOnCalendar=\nOnCalendar=weekly\n|:3: error [UnknownWord]
+a.timer|[Timer]\nOnCalendar=x\nOnActiveSec=\nOnCalendar=x\nOnBootSec=\nOnCalendar=x\nOnStartupSec=\nOnCalendar=daily|:2: error [UnknownWord];:4: error [UnknownWord];:6: error [UnknownWord]
+a.timer|[Timer]\nOnCalendar=x\nOnUnitActiveSec=\nOnCalendar=x\nOnUnitInactiveSec=\n|: warning [NoEvents];:2: error [UnknownWord];:4: error [UnknownWord]
 a.timer|OnCalendar=x\n[Unit]\nOnCalendar=x\n[Timer]\nOnCalendar=daily\n[Install]\nOnCalendar=x\n|
 a.timer|[Timer]\noncalendar=x\nOnCalendar x\nOnBootSec=x\nUnit=\nOnCalendar=daily\n|
 ROWS
@@ -299,32 +306,32 @@ ROWS
 # them.
 check_lists <<'ROWS'
 64 daily|
-65 daily|:66: TooManyLines
-99 daily|:66: TooManyLines
-64 daily;1 25:00|:66: TooManyLines
-64 daily;1 *-2-30|:66: TooManyLines
-64 daily;1 daily;1 25:00;1 *-2-30|:66: TooManyLines
-1 25:00;63 daily|:2: part 5: OutOfRange
-1 25:00;63 daily;1 daily|:2: part 5: OutOfRange;:66: TooManyLines
-63 daily;1 x;2 y|:65: part 0: UnknownWord;:66: TooManyLines
-63 daily;1 *-2-30;2 y|:65: note: NeverStarts;:66: TooManyLines
+65 daily|:66: error [TooManyLines]
+99 daily|:66: error [TooManyLines]
+64 daily;1 25:00|:66: error [TooManyLines]
+64 daily;1 *-2-30|:66: error [TooManyLines]
+64 daily;1 daily;1 25:00;1 *-2-30|:66: error [TooManyLines]
+1 25:00;63 daily|:2: error hour [OutOfRange]
+1 25:00;63 daily;1 daily|:2: error hour [OutOfRange];:66: error [TooManyLines]
+63 daily;1 x;2 y|:65: error [UnknownWord];:66: error [TooManyLines]
+63 daily;1 *-2-30;2 y|:65: warning [NeverStarts];:66: error [TooManyLines]
 64 daily;1 ;64 daily|
-64 daily;1 ;65 daily|:131: TooManyLines
-65 daily;1 ;65 daily|:66: TooManyLines
-65 daily;1 ;1 x;1 *-2-30|:66: TooManyLines;:68: part 0: UnknownWord;:69: note: NeverStarts
-66 daily;1 ;64 daily;1 x;1 ;1 25:00|:66: TooManyLines;:135: part 5: OutOfRange
+64 daily;1 ;65 daily|:131: error [TooManyLines]
+65 daily;1 ;65 daily|:66: error [TooManyLines]
+65 daily;1 ;1 x;1 *-2-30|:66: error [TooManyLines];:68: error [UnknownWord];:69: warning [NeverStarts]
+66 daily;1 ;64 daily;1 x;1 ;1 25:00|:66: error [TooManyLines];:135: error hour [OutOfRange]
 40 daily;1 ;40 daily|
-65 daily;1 |: note: NoEvents;:66: TooManyLines
-64 daily;1 |: note: NoEvents
+65 daily;1 |: warning [NoEvents];:66: error [TooManyLines]
+64 daily;1 |: warning [NoEvents]
 ROWS
 { echo '[Timer]' && check_times 66 'OnCalendar=%i'; } >"$check_folder/a.timer"
-{ seq -f 'a.timer:%g: part 0: Specifier' 2 65 && echo 'a.timer:66: TooManyLines'; } >"$work/findings.wanted"
+{ seq -f 'a.timer:%g: error [Specifier]' 2 65 && echo 'a.timer:66: error [TooManyLines]'; } >"$work/findings.wanted"
 check_run a.timer
 check_compare "check a timer of 66 refused events"
 # a merged line
 { echo '[Timer]' && check_times 64 'OnCalendar=daily' && printf '%b' 'OnCalendar=\\\n#\nMon \\\n25:00\n'; } >"$check_folder/a.timer"
 check_run a.timer
-check_findings "check a joined line that finds 64 events" 'a.timer:66: TooManyLines'
+check_findings "check a joined line that finds 64 events" 'a.timer:66: error [TooManyLines]'
 
 # Two jobs with the same name: the second is reported with its line, or as a timer, and isn't added. A
 # rejected line makes no job, nor does a file with a bad name. A timer is a job whatever other errors it has.
@@ -352,35 +359,35 @@ check_filled one/h.timer 1048577 '[Timer]\n'
 check_file two/h.timer '[Timer]\nOnCalendar=daily\n'
 check_file a@b.timer '[Timer]\nOnCalendar=daily\n'
 check_rows <<'ROWS'
---cron-d one/x --cron-d two/x|two/x:2: SameName;two/x:3: part 1: OutOfRange
---cron-d one/x --cron-d one/x|one/x:2: SameName
---cron-d one/x --cron-d one/x --cron-d one/x|one/x:2: SameName;one/x:2: SameName
---spool one/y --spool one/y|one/y:1: SameName;one/y:3: SameName
---spool one/y --spool two/y|two/y:1: SameName;two/y:3: SameName
---cron-d two/y --spool one/y|two/y:1: NoCommand;two/y:3: NoCommand
+--cron-d one/x --cron-d two/x|two/x:2: error [SameName];two/x:3: error minute [OutOfRange]
+--cron-d one/x --cron-d one/x|one/x:2: error [SameName]
+--cron-d one/x --cron-d one/x --cron-d one/x|one/x:2: error [SameName];one/x:2: error [SameName]
+--spool one/y --spool one/y|one/y:1: error [SameName];one/y:3: error [SameName]
+--spool one/y --spool two/y|two/y:1: error [SameName];two/y:3: error [SameName]
+--cron-d two/y --spool one/y|two/y:1: error [NoCommand];two/y:3: error [NoCommand]
 --spool two/y --cron-d one/x|
---crontab daily --spool one/cron|one/cron:1: SameName
---crontab daily --cron-d one/cron|one/cron:1: NoCommand
---system-crontab system --cron-d one/system|one/system:1: SameName
+--crontab daily --spool one/cron|one/cron:1: error [SameName]
+--crontab daily --cron-d one/cron|one/cron:1: error [NoCommand]
+--system-crontab system --cron-d one/system|one/system:1: error [SameName]
 --system-crontab system --spool one/cron|
---cron-d one/z --cron-d two/z|one/z:1: part 1: OutOfRange
---cron-d two/z --cron-d one/z|one/z:1: part 1: OutOfRange
---cron-d one/a.b --spool two/a.b|one/a.b: BadTabName
---cron-d one/a.b --cron-d one/a.b|one/a.b: BadTabName;one/a.b: BadTabName
---spool one/.a --spool one/.a|one/.a: BadTabName;one/.a: BadTabName
---spool one/latin --spool two/latin|one/latin: NotUtf8
-d.timer d.timer|d.timer: SameName
-d.timer one/d.timer|one/d.timer: SameName;one/d.timer:2: part 5: OutOfRange
-one/d.timer d.timer|one/d.timer:2: part 5: OutOfRange;d.timer: SameName
-one/e.timer two/e.timer|one/e.timer: NoTimerSection;two/e.timer: SameName
-two/e.timer one/e.timer|one/e.timer: NoTimerSection;one/e.timer: SameName
-one/f.timer two/f.timer|one/f.timer: NotUtf8;two/f.timer: SameName
-two/f.timer one/f.timer|one/f.timer: NotUtf8;one/f.timer: SameName
-one/h.timer two/h.timer|one/h.timer: TooLarge;two/h.timer: SameName
-two/h.timer one/h.timer|one/h.timer: TooLarge;one/h.timer: SameName
-g.timer g.timer|g.timer: note: NoEvents;g.timer: SameName;g.timer: note: NoEvents
-daily daily|daily: BadTimerName;daily: NoTimerSection;daily: BadTimerName;daily: NoTimerSection
-a@b.timer a@b.timer|a@b.timer: BadTimerName;a@b.timer: BadTimerName
+--cron-d one/z --cron-d two/z|one/z:1: error minute [OutOfRange]
+--cron-d two/z --cron-d one/z|one/z:1: error minute [OutOfRange]
+--cron-d one/a.b --spool two/a.b|one/a.b: error [BadTabName]
+--cron-d one/a.b --cron-d one/a.b|one/a.b: error [BadTabName];one/a.b: error [BadTabName]
+--spool one/.a --spool one/.a|one/.a: error [BadTabName];one/.a: error [BadTabName]
+--spool one/latin --spool two/latin|one/latin: error [NotUtf8]
+d.timer d.timer|d.timer: error [SameName]
+d.timer one/d.timer|one/d.timer: error [SameName];one/d.timer:2: error hour [OutOfRange]
+one/d.timer d.timer|one/d.timer:2: error hour [OutOfRange];d.timer: error [SameName]
+one/e.timer two/e.timer|one/e.timer: error [NoTimerSection];two/e.timer: error [SameName]
+two/e.timer one/e.timer|one/e.timer: error [NoTimerSection];one/e.timer: error [SameName]
+one/f.timer two/f.timer|one/f.timer: error [NotUtf8];two/f.timer: error [SameName]
+two/f.timer one/f.timer|one/f.timer: error [NotUtf8];one/f.timer: error [SameName]
+one/h.timer two/h.timer|one/h.timer: error [TooLarge];two/h.timer: error [SameName]
+two/h.timer one/h.timer|one/h.timer: error [TooLarge];one/h.timer: error [SameName]
+g.timer g.timer|g.timer: warning [NoEvents];g.timer: error [SameName];g.timer: warning [NoEvents]
+daily daily|daily: error [BadTimerName];daily: error [NoTimerSection];daily: error [BadTimerName];daily: error [NoTimerSection]
+a@b.timer a@b.timer|a@b.timer: error [BadTimerName];a@b.timer: error [BadTimerName]
 ROWS
 
 # A thousand jobs are the maximum. The next one is Full, only once. Those after it aren't added either and
@@ -394,30 +401,30 @@ check_file n.timer '[Unit]\n'
 check_rows <<'ROWS'
 --crontab thousand|
 --crontab most999 d.timer|
---crontab most999 --spool one/a.b --spool one/.a a@b.timer d.timer|one/.a: BadTabName;a@b.timer: BadTimerName;d.timer: Full
---crontab most999 --cron-d one/a.b --spool one/.a a@b.timer d.timer|one/a.b: BadTabName;one/.a: BadTabName;a@b.timer: BadTimerName
---crontab most999 --cron-d one/z d.timer two/e.timer|one/z:1: part 1: OutOfRange;two/e.timer: Full
---crontab most999 --spool one/cron d.timer two/e.timer|one/cron:1: SameName;two/e.timer: Full
---crontab many|many:1001: Full;many:1001: note: NeverStarts;many:1003: note: EitherDay;many:1004: part 1: OutOfRange
---crontab thousand --system-crontab system|system:1: Full
---crontab thousand --spool one/y|one/y:1: Full
---crontab thousand --spool one/cron|one/cron:1: SameName
---crontab thousand --spool one/cron d.timer|one/cron:1: SameName;d.timer: Full
---crontab thousand d.timer two/e.timer two/e.timer|d.timer: Full
---crontab thousand bad.timer|bad.timer: Full;bad.timer:2: part 5: OutOfRange
---crontab thousand n.timer|n.timer: NoTimerSection;n.timer: Full
---crontab thousand one/f.timer|one/f.timer: NotUtf8;one/f.timer: Full
---crontab thousand g.timer|g.timer: Full;g.timer: note: NoEvents
---crontab thousand a@b.timer --spool one/.a|one/.a: BadTabName;a@b.timer: BadTimerName
---crontab thousand --cron-d one/z one/f.timer bad.timer|one/z:1: part 1: OutOfRange;one/f.timer: NotUtf8;one/f.timer: Full;bad.timer:2: part 5: OutOfRange
---crontab thousand --system-crontab system --cron-d one/x --spool one/cron|system:1: Full;one/cron:1: SameName
---crontab many --spool two/cron|many:1001: Full;many:1001: note: NeverStarts;many:1003: note: EitherDay;many:1004: part 1: OutOfRange
+--crontab most999 --spool one/a.b --spool one/.a a@b.timer d.timer|one/.a: error [BadTabName];a@b.timer: error [BadTimerName];d.timer: error [Full]
+--crontab most999 --cron-d one/a.b --spool one/.a a@b.timer d.timer|one/a.b: error [BadTabName];one/.a: error [BadTabName];a@b.timer: error [BadTimerName]
+--crontab most999 --cron-d one/z d.timer two/e.timer|one/z:1: error minute [OutOfRange];two/e.timer: error [Full]
+--crontab most999 --spool one/cron d.timer two/e.timer|one/cron:1: error [SameName];two/e.timer: error [Full]
+--crontab many|many:1001: error [Full];many:1001: warning [NeverStarts];many:1003: warning [EitherDay];many:1004: error minute [OutOfRange]
+--crontab thousand --system-crontab system|system:1: error [Full]
+--crontab thousand --spool one/y|one/y:1: error [Full]
+--crontab thousand --spool one/cron|one/cron:1: error [SameName]
+--crontab thousand --spool one/cron d.timer|one/cron:1: error [SameName];d.timer: error [Full]
+--crontab thousand d.timer two/e.timer two/e.timer|d.timer: error [Full]
+--crontab thousand bad.timer|bad.timer: error [Full];bad.timer:2: error hour [OutOfRange]
+--crontab thousand n.timer|n.timer: error [NoTimerSection];n.timer: error [Full]
+--crontab thousand one/f.timer|one/f.timer: error [NotUtf8];one/f.timer: error [Full]
+--crontab thousand g.timer|g.timer: error [Full];g.timer: warning [NoEvents]
+--crontab thousand a@b.timer --spool one/.a|one/.a: error [BadTabName];a@b.timer: error [BadTimerName]
+--crontab thousand --cron-d one/z one/f.timer bad.timer|one/z:1: error minute [OutOfRange];one/f.timer: error [NotUtf8];one/f.timer: error [Full];bad.timer:2: error hour [OutOfRange]
+--crontab thousand --system-crontab system --cron-d one/x --spool one/cron|system:1: error [Full];one/cron:1: error [SameName]
+--crontab many --spool two/cron|many:1001: error [Full];many:1001: warning [NeverStarts];many:1003: warning [EitherDay];many:1004: error minute [OutOfRange]
 ROWS
 
 # No start in all years: days that no month has, and dates with another weekday. 2100 has no leap day, and a
 # month has no more days from its end than from its start. 2024-01-02 is a Tuesday, 1970-01-01 a Thursday and
 # 2999-12-31 a Tuesday; all of these days are starts. `@reboot` never starts either, and is meant so.
-check_notes cron <<'ROWS'
+check_warnings cron <<'ROWS'
 0 0 31 2 *|NeverStarts
 0 0 30 2 *|NeverStarts
 0 0 30-31 feb *|NeverStarts
@@ -435,7 +442,7 @@ check_notes cron <<'ROWS'
 @monthly|
 @weekly|
 ROWS
-check_notes calendar <<'ROWS'
+check_warnings calendar <<'ROWS'
 *-2-30|NeverStarts
 *-02-30,31 12:00|NeverStarts
 *-4,6,9,11-31|NeverStarts
@@ -461,7 +468,7 @@ ROWS
 
 # Either day suffices if both day fields are restricted. A field is restricted if its first character isn't
 # `*`. Each month has every weekday, so such a line starts even if no month has its day.
-check_notes cron <<'ROWS'
+check_warnings cron <<'ROWS'
 0 0 1 * 1|EitherDay
 30 4 1,15 * 5|EitherDay
 0 0 1-31 * 0-7|EitherDay
@@ -482,42 +489,42 @@ ROWS
 # No events: the section exists, and the list is empty at the end. Only the list counts, and a rejected event
 # is in it too.
 check_texts <<'ROWS'
-a.timer|[Timer]\n|: note: NoEvents
-a.timer|[Timer]|: note: NoEvents
-a.timer|[Timer]\nOnBootSec=5\nUnit=x.service\n|: note: NoEvents
-a.timer|[Timer]\nOnCalendar=daily\nOnCalendar=\n|: note: NoEvents
-a.timer|[Timer]\nOnCalendar=daily\nOnUnitActiveSec=\n|: note: NoEvents
+a.timer|[Timer]\n|: warning [NoEvents]
+a.timer|[Timer]|: warning [NoEvents]
+a.timer|[Timer]\nOnBootSec=5\nUnit=x.service\n|: warning [NoEvents]
+a.timer|[Timer]\nOnCalendar=daily\nOnCalendar=\n|: warning [NoEvents]
+a.timer|[Timer]\nOnCalendar=daily\nOnUnitActiveSec=\n|: warning [NoEvents]
 a.timer|[Timer]\nOnCalendar=daily\nOnUnitActiveSec=5\n|
 a.timer|[Timer]\nOnCalendar=\nOnCalendar=daily\n|
 a.timer|[Timer]\n[Timer]\nOnCalendar=daily\n|
-a.timer|[Timer]\n[Unit]\nOnCalendar=daily\n|: note: NoEvents
-a.timer|[Timer]\nOnCalendar=25:00\n|:2: part 5: OutOfRange
-a.timer|[Timer]\nOnCalendar=25:00\nOnCalendar=\n|: note: NoEvents;:2: part 5: OutOfRange
-a.timer|[Timer]\nOnCalendar=*-2-30\nOnCalendar=\n|: note: NoEvents;:2: note: NeverStarts
-a.timer|[Unit]\n[Timer\n|: NoTimerSection
+a.timer|[Timer]\n[Unit]\nOnCalendar=daily\n|: warning [NoEvents]
+a.timer|[Timer]\nOnCalendar=25:00\n|:2: error hour [OutOfRange]
+a.timer|[Timer]\nOnCalendar=25:00\nOnCalendar=\n|: warning [NoEvents];:2: error hour [OutOfRange]
+a.timer|[Timer]\nOnCalendar=*-2-30\nOnCalendar=\n|: warning [NoEvents];:2: warning [NeverStarts]
+a.timer|[Unit]\n[Timer\n|: error [NoTimerSection]
 ROWS
 
-# A text without an error has its notes even if the name or the job is rejected. A rejected line has none. For
-# the same line, errors come first.
+# A text without an error has its warnings even if the name or the job is rejected. A rejected line has none.
+# For the same line, errors come first.
 check_file one/n '0 0 31 2 * u a\n0 0 1 * 1 u b\n'
 check_file two/n '0 0 31 2 * c\n0 0 1 * 1 d\n'
 check_file never '0 0 31 2 * x\n@reboot x\n'
 check_file one/never.timer '[Timer]\nOnCalendar=*-2-30\n'
 check_file two/never.timer '[Timer]\nOnCalendar=Mon 2024-1-2\n'
 check_rows <<'ROWS'
---cron-d one/n|one/n:1: note: NeverStarts;one/n:2: note: EitherDay
---cron-d one/n --spool two/n|one/n:1: note: NeverStarts;one/n:2: note: EitherDay;two/n:1: SameName;two/n:1: note: NeverStarts;two/n:2: SameName;two/n:2: note: EitherDay
---crontab thousand --spool two/n|two/n:1: Full;two/n:1: note: NeverStarts;two/n:2: note: EitherDay
---crontab never|never:1: note: NeverStarts
---crontab never one/never.timer|never:1: note: NeverStarts;one/never.timer:2: note: NeverStarts
-one/never.timer two/never.timer|one/never.timer:2: note: NeverStarts;two/never.timer: SameName;two/never.timer:2: note: NeverStarts
---crontab thousand one/never.timer|one/never.timer: Full;one/never.timer:2: note: NeverStarts
+--cron-d one/n|one/n:1: warning [NeverStarts];one/n:2: warning [EitherDay]
+--cron-d one/n --spool two/n|one/n:1: warning [NeverStarts];one/n:2: warning [EitherDay];two/n:1: error [SameName];two/n:1: warning [NeverStarts];two/n:2: error [SameName];two/n:2: warning [EitherDay]
+--crontab thousand --spool two/n|two/n:1: error [Full];two/n:1: warning [NeverStarts];two/n:2: warning [EitherDay]
+--crontab never|never:1: warning [NeverStarts]
+--crontab never one/never.timer|never:1: warning [NeverStarts];one/never.timer:2: warning [NeverStarts]
+one/never.timer two/never.timer|one/never.timer:2: warning [NeverStarts];two/never.timer: error [SameName];two/never.timer:2: warning [NeverStarts]
+--crontab thousand one/never.timer|one/never.timer: error [Full];one/never.timer:2: warning [NeverStarts]
 ROWS
 check_texts <<'ROWS'
---crontab jobs|0 0 31 2 *\n0 0 1 * 1\n0 0 31 2 1 x\n|:1: NoCommand;:2: NoCommand;:3: note: EitherDay
---system-crontab jobs|0 0 31 2 * u\n0 0 1 * 1 u\n0 0 31 2 * u x|:1: NoCommand;:2: NoCommand;:3: note: NeverStarts
---crontab jobs|60 0 1 * 1 x\n0 0 1 * 8 x\n|:1: part 1: OutOfRange;:2: part 5: OutOfRange
-a.timer|[Timer]\nOnCalendar=Mon \\\n2024-1-2\nOnCalendar=25:00\n|:2: note: NeverStarts;:4: part 5: OutOfRange
+--crontab jobs|0 0 31 2 *\n0 0 1 * 1\n0 0 31 2 1 x\n|:1: error [NoCommand];:2: error [NoCommand];:3: warning [EitherDay]
+--system-crontab jobs|0 0 31 2 * u\n0 0 1 * 1 u\n0 0 31 2 * u x|:1: error [NoCommand];:2: error [NoCommand];:3: warning [NeverStarts]
+--crontab jobs|60 0 1 * 1 x\n0 0 1 * 8 x\n|:1: error minute [OutOfRange];:2: error day of week [OutOfRange]
+a.timer|[Timer]\nOnCalendar=Mon \\\n2024-1-2\nOnCalendar=25:00\n|:2: warning [NeverStarts];:4: error hour [OutOfRange]
 ROWS
 
 # The sources are in the order of the options in the synopsis, and those of one option in the given order.
@@ -526,29 +533,29 @@ check_file cron.d/q '@x root a\n'
 check_file spool/u '60 * * * * x\n'
 check_file spool/v 'MAILTO\n'
 check_rows <<'ROWS'
-g.timer bad.timer --spool spool/v --cron-d cron.d/q --system-crontab cron.d/p --spool spool/u --cron-d cron.d/p --crontab spool/u|spool/u:1: part 1: OutOfRange;cron.d/p:1: NoCommand;cron.d/q:1: part 0: UnknownWord;cron.d/p:1: NoCommand;spool/v:1: BadSetting;spool/u:1: part 1: OutOfRange;g.timer: note: NoEvents;bad.timer:2: part 5: OutOfRange
-bad.timer g.timer n.timer|bad.timer:2: part 5: OutOfRange;g.timer: note: NoEvents;n.timer: NoTimerSection
+g.timer bad.timer --spool spool/v --cron-d cron.d/q --system-crontab cron.d/p --spool spool/u --cron-d cron.d/p --crontab spool/u|spool/u:1: error minute [OutOfRange];cron.d/p:1: error [NoCommand];cron.d/q:1: error [UnknownWord];cron.d/p:1: error [NoCommand];spool/v:1: error [BadSetting];spool/u:1: error minute [OutOfRange];g.timer: warning [NoEvents];bad.timer:2: error hour [OutOfRange]
+bad.timer g.timer n.timer|bad.timer:2: error hour [OutOfRange];g.timer: warning [NoEvents];n.timer: error [NoTimerSection]
 ROWS
 
 # The path is written as it was given.
 check_file 'a:7' '60 * * * * x\n'
 check_file '-' '@daily u\n'
 check_rows <<ROWS
---crontab ./spool/u|./spool/u:1: part 1: OutOfRange
---crontab=spool//u|spool//u:1: part 1: OutOfRange
---spool spool/../spool/u --spool=./spool/v|spool/../spool/u:1: part 1: OutOfRange;./spool/v:1: BadSetting
---crontab $check_folder/spool/u|$check_folder/spool/u:1: part 1: OutOfRange
---crontab a:7|a:7:1: part 1: OutOfRange
---spool a:7|a:7: BadTabName;a:7:1: part 1: OutOfRange
---cron-d -|-:1: NoCommand
-./bad.timer one/../g.timer|./bad.timer:2: part 5: OutOfRange;one/../g.timer: note: NoEvents
--- bad.timer -|bad.timer:2: part 5: OutOfRange;-: BadTimerName;-: NoTimerSection
+--crontab ./spool/u|./spool/u:1: error minute [OutOfRange]
+--crontab=spool//u|spool//u:1: error minute [OutOfRange]
+--spool spool/../spool/u --spool=./spool/v|spool/../spool/u:1: error minute [OutOfRange];./spool/v:1: error [BadSetting]
+--crontab $check_folder/spool/u|$check_folder/spool/u:1: error minute [OutOfRange]
+--crontab a:7|a:7:1: error minute [OutOfRange]
+--spool a:7|a:7: error [BadTabName];a:7:1: error minute [OutOfRange]
+--cron-d -|-:1: error [NoCommand]
+./bad.timer one/../g.timer|./bad.timer:2: error hour [OutOfRange];one/../g.timer: warning [NoEvents]
+-- bad.timer -|bad.timer:2: error hour [OutOfRange];-: error [BadTimerName];-: error [NoTimerSection]
 ROWS
 check_file 'one/a b: c' '@daily\n'
 check_run --spool 'one/a b: c' --crontab 'one/a b: c'
-check_findings "check a path with blanks" 'one/a b: c:1: NoCommand;one/a b: c: BadTabName;one/a b: c:1: NoCommand'
+check_findings "check a path with blanks" 'one/a b: c:1: error [NoCommand];one/a b: c: error [BadTabName];one/a b: c:1: error [NoCommand]'
 run_in "$check_folder" bash -c "printf '@daily a\n@daily' | agenda check --crontab /dev/stdin"
-check_findings "check a pipe as crontab" '/dev/stdin:2: NoCommand'
+check_findings "check a pipe as crontab" '/dev/stdin:2: error [NoCommand]'
 
 # A file that can't be read comes before every error in a text, and nothing else is written then.
 questions_folder=$check_folder questions_refused check <<'ROWS'

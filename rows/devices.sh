@@ -65,7 +65,8 @@ devices_untold() {
 devices_streams() {
   local start="2024-01-01T00:00:00Z"
   devices_run 'exec agenda check --crontab /dev/zero zero.timer <&- 2>&-'
-  compare_texts "a check of what has no end" $'/dev/zero: TooLarge\nzero.timer: TooLarge\n' '' 1
+  compare_texts "a check of what has no end" \
+    $'/dev/zero: error: larger than 1048576 bytes [TooLarge]\nzero.timer: error: larger than 1048576 bytes [TooLarge]\n' '' 1
   devices_run 'exec agenda steps script >&- 2>&- <&-'
   compare_texts "steps, all streams closed" '' '' 3
   devices_run 'exec agenda steps script >&- <&-'

@@ -116,21 +116,55 @@ largest_jobs() {
 # in each line of a timer.
 largest_checks() {
   yes '@' | largest_file faults 1048576
-  seq -f 'faults:%.0f: part 0: UnknownWord' 524288 >"$work/findings.wanted"
+  seq -f "faults:%.0f: error: unknown word '@' [UnknownWord]" 524288 >"$work/findings.wanted"
   largest_run faults 0 check --crontab faults
   compare "check of 524,288 faults" "$work/findings.wanted" /dev/null 1
   yes '* * * * * x' | largest_file checked 1048572
   largest_run checked 0 check --crontab checked
-  compare_texts "check of 87,381 jobs" $'checked:1001: Full\n' '' 1
+  compare_texts "check of 87,381 jobs" $'checked:1001: error: more than 1000 jobs [Full]\n' '' 1
   { yes '0 0 1 * 1 x' | head -n 87380 && printf '60 * * * * x'; } | largest_file checked 1048576
-  { seq -f 'checked:%.0f: note: EitherDay' 87380 | sed '1001i checked:1001: Full' && echo 'checked:87381: part 1: OutOfRange'; } \
-    >"$work/findings.wanted"
+  {
+    seq -f 'checked:%.0f: warning: starts on days that match either day field, not both [EitherDay]' 87380 |
+      sed '1001i checked:1001: error: more than 1000 jobs [Full]'
+    echo "checked:87381: error: minute '60': out of range 0-59 [OutOfRange]"
+  } >"$work/findings.wanted"
   largest_run checked 0 check --crontab checked
-  compare "check of 87,380 notes, and an error after them" "$work/findings.wanted" /dev/null 1
+  compare "check of 87,380 warnings, and an error after them" "$work/findings.wanted" /dev/null 1
   { echo '[Timer]' && yes 'OnCalendar=x'; } | largest_file events.timer 1048562
-  { seq -f 'events.timer:%.0f: part 0: UnknownWord' 2 65 && echo 'events.timer:66: TooManyLines'; } >"$work/findings.wanted"
+  {
+    seq -f "events.timer:%.0f: error: 'x' is not a calendar event [UnknownWord]" 2 65
+    echo 'events.timer:66: error: more than 64 events [TooManyLines]'
+  } >"$work/findings.wanted"
   largest_run events.timer 0 check events.timer
   compare "check of 80,658 events" "$work/findings.wanted" /dev/null 1
+  { echo '[Timer]' && yes $'OnCalendar=x\nOnCalendar='; } | largest_file events.timer 1048558
+  {
+    echo 'events.timer: warning: no OnCalendar= event, so no start is planned [NoEvents]'
+    seq -f "events.timer:%.0f: error: 'x' is not a calendar event [UnknownWord]" 2 2 83884
+  } >"$work/findings.wanted"
+  largest_run events.timer 0 check events.timer
+  compare "check of 41,942 events that are reset each" "$work/findings.wanted" /dev/null 1
+}
+
+# What `check` quotes of a text of 1,048,576 bytes.
+largest_quotes() {
+  local quoted=1111111111111111111111111111111111111111111111111111111111111111
+  { yes 1 | tr -d '\n' | head -c 1048566 && printf ' * * * * x'; } | largest_file digits 1048576
+  largest_run digits 0 check --crontab digits
+  compare_texts "check of a minute of 1,048,566 digits" \
+    "digits:1: error: minute '$quoted'...: not a number of one to four digits [BadNumber]"$'\n' '' 1
+  { printf '[Timer]\nOnCalendar=' && yes 1 | tr -d '\n'; } | largest_file on.timer 1048576
+  largest_run on.timer 0 check on.timer
+  compare_texts "check of an event of 1,048,557 digits" \
+    "on.timer:2: error: '$quoted'... is not a calendar event [WrongParts]"$'\n' '' 1
+  { printf '[Timer]\nOnCalendar=\\\n' && yes $'\\' | head -n 400000 && echo 25:00; } | largest_file on.timer 1048576
+  largest_run on.timer 0 check on.timer
+  compare_texts "check of 400,000 lines that go on, and a faulty hour" \
+    $'on.timer:2: error: hour in \'25:00\': out of range 0-23 [OutOfRange]\n' '' 1
+  { printf '[Timer]\nOnCalendar=Mon\\\n' && yes $'\\' | head -n 400000 && echo 25:00; } | largest_file on.timer 1048576
+  largest_run on.timer 0 check on.timer
+  compare_texts "check of a weekday, 400,000 lines that go on, and a faulty hour" \
+    "on.timer:2: error: hour in 'Mon$(printf '%61s' '')'...: out of range 0-23 [OutOfRange]"$'\n' '' 1
 }
 
 # Rows from standard input: the end of the span, the limit, further arguments, and the error of the plan by 1
@@ -210,6 +244,7 @@ largest_resets
 largest_continued
 largest_jobs
 largest_checks
+largest_quotes
 largest_agendas
 largest_gaps
 largest_bound

@@ -4,6 +4,8 @@
 
 # shellcheck source=/dev/null
 . "$top/rows/lib/machine.sh"
+# shellcheck source=/dev/null
+. "$top/rows/lib/findings.sh"
 
 # Each row: a root, its files or directories without permissions, its sources, and what is skipped.
 machine_locked() {
@@ -133,7 +135,8 @@ machine_faults() {
 }
 
 # Each row: a root, and the findings of `check` in it, with `;` between them. Their paths begin in the same
-# way as those of a root's description. The status is 1 if one of the findings isn't a note.
+# way as those of a root's description. They are in their short form if $1 is short. The status is 1 if one of
+# the findings is an error.
 machine_checks() {
   local root findings finding wanted path
   local -a list
@@ -146,8 +149,11 @@ machine_checks() {
       echo "$machine_root/$path:${finding#*:}" >>"$work/findings.wanted"
     done
     wanted=0
-    ! grep -qv ': note: ' "$work/findings.wanted" || wanted=1
+    ! grep -q ': error' "$work/findings.wanted" || wanted=1
     machine_run --root "$machine_root" check
+    if [ "$1" = short ]; then
+      shorten_findings <"$work/out" >"$work/findings" && mv -- "$work/findings" "$work/out"
+    fi
     machine_compare "check by agenda of '$root'" "$work/findings.wanted" /dev/null "$wanted"
   done
 }
@@ -212,27 +218,39 @@ C/a=@daily\x20root\x20a S/a=@daily\n|a.user: line 1: NoCommand
 ROWS
 # files as they are; one that gets another name; drop-ins, whose lines have their own numbers, and findings on
 # the whole; instances
-machine_checks <<'ROWS'
+machine_checks short <<'ROWS'
 x/|
 etc/crontab=@daily\x20root\x20a\n *a.timer U/a.timer=[Timer]\nOnCalendar=daily\n|
-etc/crontab=60\x20*\x20*\x20*\x20*\x20root\x20a\n@daily\x20root\n|etc/crontab:1: part 1: OutOfRange;etc/crontab:2: NoCommand
-C/b=@x C/a=\xff S/u=@daily etc/crontab=A|etc/crontab:1: BadSetting;C/a: NotUtf8;C/b:1: part 0: UnknownWord;S/u:1: NoCommand
-C/a=@daily\x20root\x20a S/a=\n@daily\n0\x200\x2031\x202\x20*\x20x|S/a:2: NoCommand;S/a:3: note: NeverStarts
-C/a=0\x200\x2013\x20*\x205\x20root\x20a *a.timer U/a.timer=[Timer]\n|C/a:1: note: EitherDay;U/a.timer: note: NoEvents
-*a.timer U/a.timer=[Unit]\n|U/a.timer: NoTimerSection
-*a.timer U/a.timer=[Timer]\nOnCalendar=25:00 E/a.timer.d/x.conf=[Timer]\nOnCalendar=x\n E/a.timer.d/y.conf=\n[Timer]\nOnCalendar=*-2-30|U/a.timer:2: part 5: OutOfRange;E/a.timer.d/x.conf:2: part 0: UnknownWord;E/a.timer.d/y.conf:3: note: NeverStarts
-*a.timer U/a.timer=[Timer]\nOnCalendar=daily\n E/a.timer.d/x.conf=[Timer]\nOnCalendar=\n|U/a.timer: note: NoEvents
-*a.timer U/a.timer=[Unit]\n E/a.timer.d/x.conf=OnCalendar=x|U/a.timer: NoTimerSection
-*a.timer U/a.timer=[Timer]\nOnCalendar=daily\n E/a.timer.d/x.conf=\xff|U/a.timer: NotUtf8
-*a.timer U/a.timer=[Timer]\nOnCalendar=Mon\\ E/a.timer.d/x.conf=[Timer]\nOnCalendar=Mon\\\n25:00|E/a.timer.d/x.conf:2: part 5: OutOfRange
-*a@b.timer U/a@.timer=[Timer]\nOnCalendar=%H|U/a@.timer:2: part 0: Specifier
-*a@4.timer *a@24.timer U/a@.timer=[Timer]\nOnCalendar=%i:00|U/a@.timer:2: part 5: OutOfRange
-*a@b.timer *a@c.timer U/a@.timer=[Timer]\n|U/a@.timer: note: NoEvents;U/a@.timer: note: NoEvents
+etc/crontab=60\x20*\x20*\x20*\x20*\x20root\x20a\n@daily\x20root\n|etc/crontab:1: error minute [OutOfRange];etc/crontab:2: error [NoCommand]
+C/b=@x C/a=\xff S/u=@daily etc/crontab=A|etc/crontab:1: error [BadSetting];C/a: error [NotUtf8];C/b:1: error [UnknownWord];S/u:1: error [NoCommand]
+C/a=@daily\x20root\x20a S/a=\n@daily\n0\x200\x2031\x202\x20*\x20x|S/a:2: error [NoCommand];S/a:3: warning [NeverStarts]
+C/a=0\x200\x2013\x20*\x205\x20root\x20a *a.timer U/a.timer=[Timer]\n|C/a:1: warning [EitherDay];U/a.timer: warning [NoEvents]
+*a.timer U/a.timer=[Unit]\n|U/a.timer: error [NoTimerSection]
+*a.timer U/a.timer=[Timer]\nOnCalendar=25:00 E/a.timer.d/x.conf=[Timer]\nOnCalendar=x\n E/a.timer.d/y.conf=\n[Timer]\nOnCalendar=*-2-30|U/a.timer:2: error hour [OutOfRange];E/a.timer.d/x.conf:2: error [UnknownWord];E/a.timer.d/y.conf:3: warning [NeverStarts]
+*a.timer U/a.timer=[Timer]\nOnCalendar=daily\n E/a.timer.d/x.conf=[Timer]\nOnCalendar=\n|U/a.timer: warning [NoEvents]
+*a.timer U/a.timer=[Unit]\n E/a.timer.d/x.conf=OnCalendar=x|U/a.timer: error [NoTimerSection]
+*a.timer U/a.timer=[Timer]\nOnCalendar=daily\n E/a.timer.d/x.conf=\xff|U/a.timer: error [NotUtf8]
+*a.timer U/a.timer=[Timer]\nOnCalendar=Mon\\ E/a.timer.d/x.conf=[Timer]\nOnCalendar=Mon\\\n25:00|E/a.timer.d/x.conf:2: error hour [OutOfRange]
+*a@b.timer U/a@.timer=[Timer]\nOnCalendar=%H|U/a@.timer:2: error [Specifier]
+*a@4.timer *a@24.timer U/a@.timer=[Timer]\nOnCalendar=%i:00|U/a@.timer:2: error hour [OutOfRange]
+*a@b.timer *a@c.timer U/a@.timer=[Timer]\n|U/a@.timer: warning [NoEvents];U/a@.timer: warning [NoEvents]
 ROWS
+# whole lines: the merged and expanded text is quoted, and the name that agenda gets
+machine_checks whole <<'ROWS'
+*a@24.timer U/a@.timer=[Timer]\nOnCalendar=%i:00|U/a@.timer:2: error: hour in '24:00': out of range 0-23 [OutOfRange]
+*a.timer U/a.timer=[Timer]\n E/a.timer.d/x.conf=[Timer]\nOnCalendar=Mon\\\n25:00\n|E/a.timer.d/x.conf:2: error: hour in 'Mon 25:00': out of range 0-23 [OutOfRange]
+C/a=a:1:\x20b S/a=@x\x01:\x20x|C/a:1: error: expected NAME=VALUE, or five fields and a command [BadSetting];S/a:1: error: unknown word '@x\x01:' [UnknownWord]
+*a@b.timer U/a@.timer=[Timer]\n|U/a@.timer: warning: no OnCalendar= event, so no start is planned [NoEvents]
+ROWS
+machine_make 'C/a=@daily\x20root\x20x S/a=@daily\x20x'
+mkdir -p "$machine_folder/more" && printf '@daily x\n' >"$machine_folder/more/a.user"
+echo "more/a.user:1: error: another job is named 'a.user:1' [SameName]" >"$work/findings.wanted"
+machine_run --root "$machine_root" check --spool more/a.user
+machine_compare "check by agenda of a name that is already used" "$work/findings.wanted" /dev/null 1
 # the caller's own file
 printf '@daily\n' >"$machine_folder/own"
 machine_make 'S/u=@daily'
-printf '%s\n' own:1:\ NoCommand "$machine_root/var/spool/cron/crontabs/u:1: NoCommand" >"$work/findings.wanted"
+printf '%s: error: no command [NoCommand]\n' own:1 "$machine_root/var/spool/cron/crontabs/u:1" >"$work/findings.wanted"
 machine_run --root "$machine_root" check --crontab own
 machine_compare "check by agenda of a further crontab" "$work/findings.wanted" /dev/null 1
 echo 'agenda: nothing: Device' >"$work/err.wanted"

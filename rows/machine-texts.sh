@@ -6,17 +6,31 @@
 # shellcheck source=/dev/null
 . "$top/rows/lib/machine.sh"
 
+# Prints the finding of the stub about the file $1, or about the line $2 of it, whose text is $3.
+machine_finding() {
+  if [ $# = 1 ]; then
+    echo "$1: error: no [Timer] section [NoTimerSection]"
+  else
+    echo "$1:$2: error: '$3' is not a calendar event [WrongParts]"
+  fi
+}
+
 # Each row: a root, and the findings of `check` on it, with `;` between them. The stub reports each file, and
-# each of its lines.
+# each of its lines: a finding is a path, or a path, a line and its text.
 machine_findings() {
-  local root findings finding path
+  local root findings finding path line
   local -a list
   while IFS='|' read -r root findings; do
     machine_make "$root"
     IFS=';' read -r -a list <<<"$findings"
     for finding in "${list[@]}"; do
       machine_path "$finding"
-      printf '%s\n' "$machine_root/$path"
+      line=${path%%: *}
+      if [ "$line" = "$path" ]; then
+        machine_finding "$machine_root/$path"
+      else
+        machine_finding "$machine_root/${line%:*}" "${line##*:}" "${path#*: }"
+      fi
     done >"$work/out.wanted"
     MACHINE_FINDS=yes MACHINE_STATUS=1 machine_run --root "$machine_root" check
     machine_compare "findings of '$root'" "$work/out.wanted" /dev/null 1
@@ -32,9 +46,15 @@ machine_odd_root() {
   machine_left_out 'C/c.d bad name'
   machine_run --root "$machine_root" sources
   machine_compare "sources of the folder '$1'" "$work/out.wanted" "$work/err.wanted" 0 none
-  printf '%s\n' "$1/etc/cron.d/b: NoTimerSection" "$1/etc/cron.d/b:1: r" "$1/var/spool/cron/crontabs/e: NoTimerSection" \
-    "$1/var/spool/cron/crontabs/e:1: # var/spool/cron/crontabs/e" "$1/usr/lib/systemd/system/a.timer: NoTimerSection" \
-    "$1/usr/lib/systemd/system/a.timer:1: p" "$1/usr/lib/systemd/system/a.timer.d/x.conf:1: q" >"$work/out.wanted"
+  {
+    machine_finding "$1/etc/cron.d/b"
+    machine_finding "$1/etc/cron.d/b" 1 r
+    machine_finding "$1/var/spool/cron/crontabs/e"
+    machine_finding "$1/var/spool/cron/crontabs/e" 1 '# var/spool/cron/crontabs/e'
+    machine_finding "$1/usr/lib/systemd/system/a.timer"
+    machine_finding "$1/usr/lib/systemd/system/a.timer" 1 p
+    machine_finding "$1/usr/lib/systemd/system/a.timer.d/x.conf" 1 q
+  } >"$work/out.wanted"
   MACHINE_FINDS=yes machine_run --root "$machine_root" check
   machine_compare "findings of the folder '$1'" "$work/out.wanted" "$work/err.wanted" 0 texts "$work/texts.wanted"
   rm -rf -- "${machine_folder:?}/$1"
@@ -129,21 +149,21 @@ ROWS
 
 # Findings on merged, renamed and other files, which are reported for the place where they were found.
 machine_findings <<'ROWS'
-etc/crontab=p\nq\n C/a=r\n S/b=s\n|etc/crontab: NoTimerSection;etc/crontab:1: p;etc/crontab:2: q;C/a: NoTimerSection;C/a:1: r;S/b: NoTimerSection;S/b:1: s
-C/a=r\n S/a=s\nt\n|C/a: NoTimerSection;C/a:1: r;S/a: NoTimerSection;S/a:1: s;S/a:2: t
-*a.timer U/a.timer=p\n\nq\n|U/a.timer: NoTimerSection;U/a.timer:1: p;U/a.timer:3: q
-*a.timer U/a.timer=p\nq\n E/a.timer.d/x.conf=r\n\ns\n|U/a.timer: NoTimerSection;U/a.timer:1: p;U/a.timer:2: q;E/a.timer.d/x.conf:1: r;E/a.timer.d/x.conf:3: s
-*a.timer U/a.timer=p E/a.timer.d/x.conf=r U/timer.d/y.conf=s\n B/a.timer.d/z.conf=\nt|U/a.timer: NoTimerSection;U/a.timer:1: p;E/a.timer.d/x.conf:1: r;U/timer.d/y.conf:1: s;B/a.timer.d/z.conf:2: t
-*a.timer U/a.timer=p\n\n\n E/a.timer.d/x.conf=r\n|U/a.timer: NoTimerSection;U/a.timer:1: p;E/a.timer.d/x.conf:1: r
-*a@b.timer U/a@.timer=p%i\n E/a@b.timer.d/x.conf=%n\n|U/a@.timer: NoTimerSection;U/a@.timer:1: pb;E/a@b.timer.d/x.conf:1: a@b.timer
-*a@b.timer *a@c.timer U/a@.timer=%i\n|U/a@.timer: NoTimerSection;U/a@.timer:1: b;U/a@.timer: NoTimerSection;U/a@.timer:1: c
-*a:1.timer *a.timer U/a:1.timer=p\n U/a.timer=q\n U/timer.d/x:2.conf=r\n|U/a.timer: NoTimerSection;U/a.timer:1: q;U/timer.d/x:2.conf:1: r;U/a:1.timer: NoTimerSection;U/a:1.timer:1: p;U/timer.d/x:2.conf:1: r
-etc/crontab>/opt/x opt/x=p\n C/a>../../opt/y opt/y=q\n S/b>/opt/y|etc/crontab: NoTimerSection;etc/crontab:1: p;C/a: NoTimerSection;C/a:1: q;S/b: NoTimerSection;S/b:1: q
-*a.timer E/a.timer>/opt/x opt/x=p\n|E/a.timer: NoTimerSection;E/a.timer:1: p
-*a.timer E/a.timer>../../../opt/x opt/x=p\n E/a.timer.d/x.conf>/opt/y opt/y=q\n|E/a.timer: NoTimerSection;E/a.timer:1: p;E/a.timer.d/x.conf:1: q
-*a.timer lib>usr/lib U/a.timer=p\n|B/a.timer: NoTimerSection;B/a.timer:1: p
-*a.timer U/a.timer=p:1:\x20q\n E/a.timer.d/x\x20y.conf=r:\x20s|U/a.timer: NoTimerSection;U/a.timer:1: p:1: q;E/a.timer.d/x\x20y.conf:1: r: s
-*a.timer U/a.timer=1\n2\n3\n4\n5\n6\n7\n8\n9\n10\n E/a.timer.d/x.conf=\n\n\n\n\n\n\n\n\n10\n|U/a.timer: NoTimerSection;U/a.timer:1: 1;U/a.timer:2: 2;U/a.timer:3: 3;U/a.timer:4: 4;U/a.timer:5: 5;U/a.timer:6: 6;U/a.timer:7: 7;U/a.timer:8: 8;U/a.timer:9: 9;U/a.timer:10: 10;E/a.timer.d/x.conf:10: 10
+etc/crontab=p\nq\n C/a=r\n S/b=s\n|etc/crontab;etc/crontab:1: p;etc/crontab:2: q;C/a;C/a:1: r;S/b;S/b:1: s
+C/a=r\n S/a=s\nt\n|C/a;C/a:1: r;S/a;S/a:1: s;S/a:2: t
+*a.timer U/a.timer=p\n\nq\n|U/a.timer;U/a.timer:1: p;U/a.timer:3: q
+*a.timer U/a.timer=p\nq\n E/a.timer.d/x.conf=r\n\ns\n|U/a.timer;U/a.timer:1: p;U/a.timer:2: q;E/a.timer.d/x.conf:1: r;E/a.timer.d/x.conf:3: s
+*a.timer U/a.timer=p E/a.timer.d/x.conf=r U/timer.d/y.conf=s\n B/a.timer.d/z.conf=\nt|U/a.timer;U/a.timer:1: p;E/a.timer.d/x.conf:1: r;U/timer.d/y.conf:1: s;B/a.timer.d/z.conf:2: t
+*a.timer U/a.timer=p\n\n\n E/a.timer.d/x.conf=r\n|U/a.timer;U/a.timer:1: p;E/a.timer.d/x.conf:1: r
+*a@b.timer U/a@.timer=p%i\n E/a@b.timer.d/x.conf=%n\n|U/a@.timer;U/a@.timer:1: pb;E/a@b.timer.d/x.conf:1: a@b.timer
+*a@b.timer *a@c.timer U/a@.timer=%i\n|U/a@.timer;U/a@.timer:1: b;U/a@.timer;U/a@.timer:1: c
+*a:1.timer *a.timer U/a:1.timer=p\n U/a.timer=q\n U/timer.d/x:2.conf=r\n|U/a.timer;U/a.timer:1: q;U/timer.d/x:2.conf:1: r;U/a:1.timer;U/a:1.timer:1: p;U/timer.d/x:2.conf:1: r
+etc/crontab>/opt/x opt/x=p\n C/a>../../opt/y opt/y=q\n S/b>/opt/y|etc/crontab;etc/crontab:1: p;C/a;C/a:1: q;S/b;S/b:1: q
+*a.timer E/a.timer>/opt/x opt/x=p\n|E/a.timer;E/a.timer:1: p
+*a.timer E/a.timer>../../../opt/x opt/x=p\n E/a.timer.d/x.conf>/opt/y opt/y=q\n|E/a.timer;E/a.timer:1: p;E/a.timer.d/x.conf:1: q
+*a.timer lib>usr/lib U/a.timer=p\n|B/a.timer;B/a.timer:1: p
+*a.timer U/a.timer=p:1:\x20q\n E/a.timer.d/x\x20y.conf=r:\x20s|U/a.timer;U/a.timer:1: p:1: q;E/a.timer.d/x\x20y.conf:1: r: s
+*a.timer U/a.timer=1\n2\n3\n4\n5\n6\n7\n8\n9\n10\n E/a.timer.d/x.conf=\n\n\n\n\n\n\n\n\n10\n|U/a.timer;U/a.timer:1: 1;U/a.timer:2: 2;U/a.timer:3: 3;U/a.timer:4: 4;U/a.timer:5: 5;U/a.timer:6: 6;U/a.timer:7: 7;U/a.timer:8: 8;U/a.timer:9: 9;U/a.timer:10: 10;E/a.timer.d/x.conf:10: 10
 ROWS
 
 while IFS= read -r machine_odd; do

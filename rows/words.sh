@@ -228,10 +228,10 @@ Options:
                             may be given more than once
   -h, --help                Print help
 
-Prints all errors of all files, one per line, as PATH:LINE: CAUSE, and notes on lines that
-are correct but may not mean what you intended, as PATH:LINE: note: NOTE. A finding about
-a whole file has no line number. The exit status is 1 if there is an error, otherwise 0.
-agenda(1) describes the causes and the notes.
+Prints all errors of all files, one per line, as PATH:LINE: error: TEXT [CODE], and
+warnings, as PATH:LINE: warning: TEXT [CODE], about lines that are valid but may not mean
+what you intended. A message about a whole file has no line number. The exit status is 1
+if there is an error, otherwise 0. agenda(1) describes each CODE and what to do about it.
 
 Example:
   agenda check --crontab jobs backup.timer
@@ -720,14 +720,14 @@ words_ask_for_check() {
   words_ask_for_text "check|--crontab|jobs" </dev/null
   words_ask_for_text "check|--crontab|jobs|--system-crontab=etc/crontab|--cron-d|jobs|b.timer|--spool|etc/crontab|--|--limit.timer" </dev/null
   words_ask_for_findings "check|b.timer|--cron-d=my jobs-ä|--|jobs|--limit" <<'END'
-my jobs-ä: BadTabName
-jobs: BadTimerName
-jobs: NoTimerSection
---limit: BadTimerName
+my jobs-ä: error: not a name that cron reads [BadTabName]
+jobs: error: not a timer's name: it must end in .timer and name no template [BadTimerName]
+jobs: error: no [Timer] section [NoTimerSection]
+--limit: error: not a timer's name: it must end in .timer and name no template [BadTimerName]
 END
   words_ask_for_findings "check|a.timer|a.timer|--spool|jobs|--spool=jobs|--cron-d|etc/crontab" <<'END'
-jobs:1: SameName
-a.timer: SameName
+jobs:1: error: another job is named 'jobs:1' [SameName]
+a.timer: error: another job is named 'a.timer' [SameName]
 END
 }
 

@@ -89,8 +89,11 @@ quiet|--since|2024-01-01T00:00:00Z|--upto|2024-01-02T00:00:00Z|--least|0>1>quiet
 check|d.timer|nothing>3>nothing: Device
 ROWS
   writes_run agenda check --crontab crontab --system-crontab system faulty.timer none.timer
-  compare_texts "findings of four sources" $'crontab:2: NoCommand\nsystem:1: NoCommand\nsystem:3: NoCommand
-faulty.timer:2: part 5: OutOfRange\nnone.timer: NoTimerSection\n' '' 1
+  compare_texts "findings of four sources" $'crontab:2: error: no command [NoCommand]
+system:1: error: expected a user and a command [NoCommand]
+system:3: error: expected a user and a command [NoCommand]
+faulty.timer:2: error: hour in \'25:00\': out of range 0-23 [OutOfRange]
+none.timer: error: no [Timer] section [NoTimerSection]\n' '' 1
   writes_between "findings of four sources by one write" 1 1
   writes_run agenda check d.timer
   writes_between "no finding without a write" 0 0

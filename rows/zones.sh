@@ -431,19 +431,19 @@ END
 END
   # a day that the zone skipped, and times that the zone has before 1970 or after 2999
   zones_print 0 check --zone Pacific/Apia --crontab checked skipped.timer <<'END'
-checked:3: note: EitherDay
-checked:4: note: NeverStarts
-skipped.timer:2: note: NeverStarts
+checked:3: warning: starts on days that match either day field, not both [EitherDay]
+checked:4: warning: never starts [NeverStarts]
+skipped.timer:2: warning: never starts [NeverStarts]
 END
   zones_print 0 check --crontab checked skipped.timer edges.timer <<'END'
-checked:3: note: EitherDay
-checked:4: note: NeverStarts
+checked:3: warning: starts on days that match either day field, not both [EitherDay]
+checked:4: warning: never starts [NeverStarts]
 END
   zones_print 0 check edges.timer --zone America/New_York <<'END'
-edges.timer:2: note: NeverStarts
+edges.timer:2: warning: never starts [NeverStarts]
 END
   zones_print 0 check --zone=Asia/Tokyo edges.timer <<'END'
-edges.timer:3: note: NeverStarts
+edges.timer:3: warning: never starts [NeverStarts]
 END
 }
 

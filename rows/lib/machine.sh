@@ -46,11 +46,11 @@ for word in "$@"; do
     [ "$option" != "$before" ] || option=timer
     { echo "== $option ${word##*/}" && cat -- "$word" && echo '<end>'; } >>"$MACHINE_LOG.texts"
     if [ -n "${MACHINE_FINDS:-}" ]; then
-      echo "$word: NoTimerSection"
+      echo "$word: error: no [Timer] section [NoTimerSection]"
       number=0
       while IFS= read -r line || [ -n "$line" ]; do
         number=$((number + 1))
-        [ -z "$line" ] || [ "$line" = '[Unit]' ] || echo "$word:$number: $line"
+        [ -z "$line" ] || [ "$line" = '[Unit]' ] || echo "$word:$number: error: '$line' is not a calendar event [WrongParts]"
       done <"$word"
     fi
   fi
