@@ -1,10 +1,12 @@
-" Goes to each entry of the error list, and writes where that is.
+" Goes to each entry of the error list, and writes where that is and what it says.
+let kinds = {'e': 'error', 'w': 'warning'}
 let places = []
 for entry in range(1, len(getqflist()))
   execute 'cc' entry
   let found = getqflist()[entry - 1]
   let place = found.lnum ? 'line ' . line('.') . ': ' . getline('.') : 'the whole file'
-  call add(places, trim(found.text) . ' at ' . bufname('%') . ', ' . place)
+  call add(places, bufname('%') . ', ' . place)
+  call add(places, '  ' . get(kinds, found.type, 'message') . ': ' . found.text)
 endfor
 call writefile(places, 'places')
 qall!
