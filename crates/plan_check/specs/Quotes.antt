@@ -1,35 +1,28 @@
 -- The text that the message of a finding quotes (agenda).
-use Rattle.std.specs.Prelude.{ℕ, zero, suc, ◌+◌, ◌-◌, ◌==◌, ◌≤◌, if◌then◌else◌, List, [], ◌∷◌, Option, Some, None, slice_get, unwrap_or}
+use Rattle.std.specs.Prelude.{ℕ, zero, suc, false, map, ◌+◌, ◌-◌, ◌==◌, ◌≤◌, if◌then◌else◌, List, [], ◌∷◌, Option, Some, None, slice_get, unwrap_or}
 use Rattle.std.specs.Option.{option_map_or}
 use Rattle.std.specs.Result.{result_ok}
 use Rattle.plan_texts.specs.Lines.{cut_word, lines}
 use Rattle.plan_texts.specs.WholeLines.{trimmed, whole_lines}
 use Rattle.plan_rules.specs.Crontab.{job_name}
 use Rattle.plan_rules.specs.FileText.{text_reading}
-use Rattle.plan_rules.specs.Timer.{setting_value}
+use Rattle.plan_rules.specs.Timer.{setting_of}
 use Rattle.plan_rules.specs.declared.line_fault.LineCause.TheVariants.{Rule}
 use Rattle.plan_check.specs.declared.finding.Finding.{Finding}
+use Rattle.plan_check.specs.declared.finding.Warning.{Warning}
+use Rattle.plan_check.specs.declared.finding.Warning.TheVariants.{SkippedStarts, UnknownKey, Delayed}
 use Rattle.plan_check.specs.declared.finding.What.{What}
 use Rattle.plan_check.specs.declared.finding.What.TheVariants.{Refused, SameName, Full, Warned}
 use Rattle.plan_check.specs.declared.form.Form.{Form}
 use Rattle.plan_check.specs.declared.form.Form.TheVariants.{Crontab, Named, Timer}
 use Rattle.plan_check.specs.Files.{File}
 use Rattle.plan_check.specs.Form.{label_of}
+use Rattle.plan_check.specs.Settings.{Setting, key_of, last_delay, settings_from, value_of}
 
 -- a finding, and the text that its message quotes
 pub record QuotedFinding : Type 0 where
   pub finding : Finding
   pub quote : Option (List ℕ)
-
--- ---- which text it is
-
--- an error of a rule quotes a text that depends on the part that it is about; that a name is taken quotes the name
-abbrev pub quote_by : What → (of_part : ℕ → List ℕ) → (name : List ℕ) → Option (List ℕ)
-quote_by (Refused (Rule fault)) of_part name = Some (of_part fault.part)
-quote_by (Refused other) of_part name = None
-quote_by SameName of_part name = Some name
-quote_by Full of_part name = None
-quote_by (Warned warning) of_part name = None
 
 -- ---- crontabs
 
@@ -54,21 +47,50 @@ after_words (suc count) text = after_word (after_words count text)
 abbrev pub word_at : List ℕ → ℕ → List ℕ
 word_at text place = first_word (after_words (place - 1) text)
 
--- the text that a finding in a crontab quotes: a field of its line, or the name of the line's job
+-- the text that a finding quotes: an error of a rule quotes a field of its line, and that a name is taken quotes the name
+abbrev pub field_or_name : What → (field : ℕ → List ℕ) → (name : List ℕ) → Option (List ℕ)
+field_or_name (Refused (Rule fault)) field name = Some (field fault.part)
+field_or_name (Refused other) field name = None
+field_or_name SameName field name = Some name
+field_or_name Full field name = None
+field_or_name (Warned warning) field name = None
+
+-- the text that a finding in a crontab quotes
 abbrev pub crontab_quote : (label : List ℕ) → List (List ℕ) → Finding → Option (List ℕ)
 crontab_quote label lines finding =
-    quote_by finding.what (word_at (line_at lines finding.line)) (job_name label finding.line)
+    field_or_name finding.what (word_at (line_at lines finding.line)) (job_name label finding.line)
 
--- ---- timers
+-- ---- timers, by their whole lines, without blanks at their ends
 
 -- the text of the whole line whose first line has a number
 abbrev pub text_on : List (ℕ × List ℕ) → ℕ → List ℕ
 text_on [] number = []
 text_on (line ∷ more) number = if line.0 == number then line.1 else text_on more number
 
--- the text that a finding in a timer file quotes: the value of the line's setting, or the name of the file
+-- the setting on this line
+abbrev pub setting_on : List (ℕ × List ℕ) → ℕ → Option Setting
+setting_on lines number = setting_of (text_on lines number)
+
+-- the text that a warning on a timer quotes: a value, a key, or the value of the random delay
+abbrev pub warned_text : Warning → (value key delay : List ℕ) → Option (List ℕ)
+warned_text SkippedStarts value key delay = Some value
+warned_text UnknownKey value key delay = Some key
+warned_text Delayed value key delay = Some delay
+warned_text other value key delay = None
+
+-- the text that a finding quotes: an error of an event quotes the value of `OnCalendar=`, and that a name is taken quotes the name
+abbrev pub timer_text : What → (value key delay name : List ℕ) → Option (List ℕ)
+timer_text (Refused (Rule fault)) value key delay name = Some value
+timer_text (Refused other) value key delay name = None
+timer_text SameName value key delay name = Some name
+timer_text Full value key delay name = None
+timer_text (Warned warning) value key delay name = warned_text warning value key delay
+
+-- the text that a finding in a timer file quotes
 abbrev pub timer_quote : (name : List ℕ) → List (ℕ × List ℕ) → Finding → Option (List ℕ)
-timer_quote name lines finding = quote_by finding.what (λ part. setting_value (trimmed (text_on lines finding.line))) name
+timer_quote name lines finding =
+    let setting = setting_on lines finding.line in
+    timer_text finding.what (value_of setting) (key_of setting) (last_delay (settings_from false lines)) name
 
 -- ---- files
 
@@ -76,22 +98,26 @@ timer_quote name lines finding = quote_by finding.what (λ part. setting_value (
 abbrev pub text_in : List ℕ → List ℕ
 text_in bytes = unwrap_or (result_ok (text_reading bytes)) []
 
+-- the whole lines of a timer's text, without blanks at their ends
+abbrev pub trimmed_lines : List ℕ → List (ℕ × List ℕ)
+trimmed_lines text = map (λ line. (line.0, trimmed (line.1))) (whole_lines text)
+
 -- the text that a finding in a file quotes
 abbrev pub quote_of : Form → (name text : List ℕ) → Finding → Option (List ℕ)
 quote_of (Crontab kind) name text finding = crontab_quote (label_of kind) (lines text) finding
 quote_of (Named directory) name text finding = crontab_quote name (lines text) finding
-quote_of Timer name text finding = timer_quote name (whole_lines text) finding
+quote_of Timer name text finding = timer_quote name (trimmed_lines text) finding
 
 -- a finding in a file with the text that it quotes
 abbrev pub with_quote : File → Finding → QuotedFinding
 with_quote file finding = record { finding = finding; quote = quote_of file.form file.name (text_in file.bytes) finding }
 
--- the same for a crontab whose jobs have a label, and for a timer
+-- the same for a crontab whose jobs have a label, and for a timer, by their lines
 abbrev pub crontab_quoted : (label text : List ℕ) → Finding → QuotedFinding
 crontab_quoted label text finding = record { finding = finding; quote = crontab_quote label (lines text) finding }
 
-abbrev pub timer_quoted : (name text : List ℕ) → Finding → QuotedFinding
-timer_quoted name text finding = record { finding = finding; quote = timer_quote name (whole_lines text) finding }
+abbrev pub timer_quoted : (name : List ℕ) → List (ℕ × List ℕ) → Finding → QuotedFinding
+timer_quoted name lines finding = record { finding = finding; quote = timer_quote name lines finding }
 
 -- ---- lines with numbers
 

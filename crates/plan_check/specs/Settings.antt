@@ -1,5 +1,5 @@
 -- The settings in the `[Timer]` sections of a timer file, and what they say of the whole timer (systemd.timer(5), systemd.syntax(7)).
-use Rattle.std.specs.Prelude.{ℕ, Bool, false, not, ◌&&◌, ◌||◌, ◌==◌, List, [], ◌∷◌, length, codes, Option, Some, None}
+use Rattle.std.specs.Prelude.{ℕ, Bool, false, not, ◌&&◌, ◌||◌, ◌==◌, if◌then◌else◌, List, [], ◌∷◌, filter, length, map, codes, Option, Some, None}
 use Rattle.std.specs.List.{cons_option, list_any}
 use Rattle.std.specs.Str.{byte, bytes_eq}
 use Rattle.plan_rules.specs.Timer.{inside_after, monotonic_keys, section_name, timer_setting}
@@ -15,6 +15,11 @@ Setting = List ℕ × List ℕ
 abbrev pub value_of : Option Setting → List ℕ
 value_of None = []
 value_of (Some setting) = setting.1
+
+-- the key of a setting, or nothing
+abbrev pub key_of : Option Setting → List ℕ
+key_of None = []
+key_of (Some setting) = setting.0
 
 -- the keys of the `[Timer]` section (systemd.timer(5), of systemd 252)
 abbrev pub timer_keys : List (List ℕ)
@@ -65,7 +70,21 @@ is_monotonic settings = stands is_span is_reset settings
 abbrev pub is_delayed : List Setting → Bool
 is_delayed settings = stands is_long_delay is_delay settings
 
+-- the last of some texts, or the given one if there are none
+abbrev pub last_or : List ℕ → List (List ℕ) → List ℕ
+last_or text [] = text
+last_or text (next ∷ more) = last_or next more
+
+-- the last value of the random delay
+abbrev pub last_delay : List Setting → List ℕ
+last_delay settings = last_or [] (map (λ setting. setting.1) (filter is_delay settings))
+
 -- ---- the settings so far
+
+-- the value of the random delay after one more line, by its value before
+abbrev pub delay_after : List ℕ → Option Setting → List ℕ
+delay_after before None = before
+delay_after before (Some setting) = if is_delay setting then setting.1 else before
 
 -- whether such a setting stands after one more setting, by whether one stands before it
 abbrev pub stands_after : (test revokes : Setting → Bool) → Bool → Option Setting → Bool

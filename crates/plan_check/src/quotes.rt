@@ -1,15 +1,17 @@
 //! The text that a finding is about, which its message quotes.
 
-ghost use Rattle.std.specs.Prelude.{◌≡◌, ◌≤◌, IfOk, length, map, option_map, string_bytes};
+ghost use Rattle.std.specs.Prelude.{◌≡◌, ◌≤◌, IfOk, false, length, map, option_map, string_bytes};
 ghost use Rattle.plan_texts.specs.Limits.{most_bytes};
-ghost use Rattle.plan_texts.specs.WholeLines.{whole_text};
+ghost use Rattle.plan_rules.specs.TimerEntries.{shown_line};
 ghost use Rattle.plan_check.specs.Files.{file_of};
-ghost use Rattle.plan_check.specs.Quotes.{Ascends, after_word, crontab_quote, crontab_quoted, first_word, line_at, text_in, text_on, timer_quote, timer_quoted, with_quote, word_at};
+ghost use Rattle.plan_check.specs.Quotes.{Ascends, after_word, crontab_quote, crontab_quoted, first_word, line_at, setting_on, text_in, text_on, timer_quote, timer_quoted, trimmed_lines, with_quote, word_at};
+ghost use Rattle.plan_check.specs.Settings.{last_delay, settings_from};
 
-use crate::finding::{Finding, What};
+use crate::finding::{Finding, Warning, What};
 use crate::form::{Form, label_of};
 use plan_rules::lines::lines;
-use plan_rules::{LineCause, job_name, text_of, setting_value};
+use crate::settings::{delay_after, key_of, value_of};
+use plan_rules::{LineCause, TimerReader, job_name, setting_of, text_of};
 use plan_texts::lines::cut_word;
 use plan_texts::whole_lines::{WholeLine, trimmed, whole_lines};
 use std::alloc::{AllocError, Global};
@@ -21,7 +23,7 @@ pub struct Quoted {
     /// The finding.
     pub finding: Finding,
     /// The text that the finding is about: a field, or the word that begins with `@`, of a crontab's line; the
-    /// value of `OnCalendar=`; or the name of a job. `None` if the message quotes nothing.
+    /// value or the key of a timer's setting; or the name of a job. `None` if the message quotes nothing.
     pub quote: Option<String>,
 }
 
@@ -37,8 +39,11 @@ impl Model for Quoted {
 impl Form {
     /// Returns findings of a file of this form, each with the text that its message quotes.
     ///
-    /// An error of a rule quotes the field that it is about, or the first word if it is about no field. An error of an event
-    /// quotes the value of `OnCalendar=`. `SameName` quotes the name of the job. The other findings quote nothing.
+    /// - An error of a rule quotes the field that it is about, or the first word if it is about no field.
+    /// - An error of an event, and `SkippedStarts`, quote the value of `OnCalendar=`.
+    /// - `SameName` quotes the name of the job, `UnknownKey` the key, and `Delayed` the value of
+    ///   `RandomizedDelaySec=`.
+    /// - The other findings quote nothing.
     ///
     /// # Errors
     ///
@@ -162,12 +167,25 @@ fn with_timer_quotes(
     found: &[Finding],
 ) -> Result<Vec<Quoted>, AllocError>
     requires { length text.now ≤ most_bytes }
-    ensures { IfOk result (λ quoted. quoted.items ≡ map (timer_quoted name.now text.now) found.now) }
+    ensures { IfOk result (λ quoted. quoted.items ≡ map (timer_quoted name.now (trimmed_lines text.now)) found.now) }
 {
     let lines = whole_lines(alloc, text)?;
+    timer_quotes(alloc, name, lines.as_slice(), found)
+}
+
+// Returns findings of the whole lines of a timer file, each with its quoted text.
+fn timer_quotes(
+    alloc: Global,
+    name: &str,
+    lines: &[WholeLine],
+    found: &[Finding],
+) -> Result<Vec<Quoted>, AllocError>
+    requires { Ascends 0 (map shown_line lines.now) }
+    ensures { IfOk result (λ quoted. quoted.items ≡ map (timer_quoted name.now (map shown_line lines.now)) found.now) }
+{
     let mut quoted = Vec::new(alloc);
     for finding in found {
-        let quote = timer_quote(alloc, name, lines.as_slice(), *finding)?;
+        let quote = timer_quote(alloc, name, lines, *finding)?;
         quoted.push(Quoted {
             finding: *finding,
             quote,
@@ -183,27 +201,50 @@ fn timer_quote(
     lines: &[WholeLine],
     finding: Finding,
 ) -> Result<Option<String>, AllocError>
-    requires { Ascends 0 (map whole_text lines.now) }
+    requires { Ascends 0 (map shown_line lines.now) }
     ensures { IfOk result (λ quote. option_map string_bytes quote
-        ≡ timer_quote name.now (map whole_text lines.now) finding) }
+        ≡ timer_quote name.now (map shown_line lines.now) finding) }
 {
-    match finding.what {
-        What::Refused(LineCause::Rule(_)) => {
-            let value = setting_value(trimmed(text_on(lines, finding.line)));
-            Ok(Some(String::from_str(alloc, value)?))
+    let quote = match finding.what {
+        What::Refused(LineCause::Rule(_)) | What::Warned(Warning::SkippedStarts) => {
+            value_of(setting_on(lines, finding.line))
         }
-        What::SameName => Ok(Some(String::from_str(alloc, name)?)),
-        _ => Ok(None),
+        What::Warned(Warning::UnknownKey) => key_of(setting_on(lines, finding.line)),
+        What::Warned(Warning::Delayed) => last_delay(alloc, lines)?,
+        What::SameName => name,
+        _ => return Ok(None),
+    };
+    Ok(Some(String::from_str(alloc, quote)?))
+}
+
+// Returns the setting on the whole line whose first line has a number.
+fn setting_on(lines: &[WholeLine], number: u32) -> Option<(&str, &str)>
+    requires { Ascends 0 (map shown_line lines.now) }
+    ensures { option_map (λ setting. (setting.0.now, setting.1.now)) result ≡ setting_on (map shown_line lines.now) number }
+{
+    setting_of(text_on(lines, number))
+}
+
+// Returns the text of the whole line whose first line has a number, without blanks at its ends.
+fn text_on(lines: &[WholeLine], number: u32) -> &str
+    requires { Ascends 0 (map shown_line lines.now) }
+    ensures { result.now ≡ text_on (map shown_line lines.now) number }
+{
+    match lines.binary_search_by_key(&number, |line| line.number) {
+        Ok(place) => trimmed(lines[place].text.as_str()),
+        Err(_) => "",
     }
 }
 
-// Returns the text of the whole line whose first line has a number.
-fn text_on(lines: &[WholeLine], number: u32) -> &str
-    requires { Ascends 0 (map whole_text lines.now) }
-    ensures { result.now ≡ text_on (map whole_text lines.now) number }
+// Returns the last value of the random delay.
+fn last_delay(alloc: Global, lines: &[WholeLine]) -> Result<&str, AllocError>
+    ensures { IfOk result (λ delay. delay.now ≡ last_delay (settings_from false (map shown_line lines.now))) }
 {
-    match lines.binary_search_by_key(&number, |line| line.number) {
-        Ok(place) => lines[place].text.as_str(),
-        Err(_) => "",
+    let mut reader = TimerReader::new();
+    let mut delay = "";
+    for line in lines {
+        delay = delay_after(delay, reader.setting(line));
+        reader.read(alloc, line)?;
     }
+    Ok(delay)
 }

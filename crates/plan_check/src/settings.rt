@@ -4,7 +4,7 @@ ghost use Rattle.std.specs.Prelude.{◌≡◌, ◌==◌, codes, false, not, opti
 ghost use Rattle.std.specs.List.{list_any};
 ghost use Rattle.std.specs.Str.{byte, bytes_eq};
 ghost use Rattle.plan_rules.specs.Timer.{monotonic_keys};
-ghost use Rattle.plan_check.specs.Settings.{is_long_delay, is_reset, is_span, is_unknown_key, standing_after, value_of};
+ghost use Rattle.plan_check.specs.Settings.{delay_after, is_long_delay, is_reset, is_span, is_unknown_key, key_of, standing_after, value_of};
 
 // What the settings so far say of the whole timer.
 #[derive(Clone, Copy)]
@@ -47,6 +47,26 @@ pub(crate) fn value_of<'a>(setting: Option<(&'a str, &'a str)>) -> &'a str
     match setting {
         Some((_, value)) => value,
         None => "",
+    }
+}
+
+// Returns the key of a setting, or an empty text.
+pub(crate) fn key_of<'a>(setting: Option<(&'a str, &'a str)>) -> &'a str
+    ensures { result.now ≡ key_of (option_map (λ setting. (setting.0.now, setting.1.now)) setting.entry) }
+{
+    match setting {
+        Some((key, _)) => key,
+        None => "",
+    }
+}
+
+// Returns the value of the random delay after one more line, by its value before.
+pub(crate) fn delay_after<'a>(before: &'a str, setting: Option<(&'a str, &'a str)>) -> &'a str
+    ensures { result.now ≡ delay_after before.now (option_map (λ setting. (setting.0.now, setting.1.now)) setting.entry) }
+{
+    match setting {
+        Some((key, value)) if is_delay(key) => value,
+        _ => before,
     }
 }
 

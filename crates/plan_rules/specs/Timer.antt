@@ -58,10 +58,6 @@ setting_of text =
     then Some (trimmed (before_first is_equals text), trimmed (after_first is_equals text))
     else None
 
--- the value of the setting on a line, which is empty if the line is no setting (systemd.syntax(7))
-abbrev pub setting_value : List ℕ → List ℕ
-setting_value text = option_map_or (λ setting. setting.1) (setting_of text) []
-
 -- ---- what a setting of the `[Timer]` section does
 
 -- the keys of monotonic timers (systemd.timer(5))

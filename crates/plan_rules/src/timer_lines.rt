@@ -3,7 +3,7 @@
 ghost use Rattle.std.specs.Prelude.{◌≡◌, false, Some};
 ghost use Rattle.std.specs.Option.{option_map};
 ghost use Rattle.plan_texts.specs.WholeLines.{trimmed};
-ghost use Rattle.plan_rules.specs.Timer.{effect_of, key_of, line_effect, section_name, setting_of, setting_value, timer_setting};
+ghost use Rattle.plan_rules.specs.Timer.{effect_of, key_of, line_effect, section_name, setting_of, timer_setting};
 ghost use Rattle.plan_rules.specs.TimerSteps.{effect_shown, sections_after};
 
 use plan_texts::whole_lines::trimmed;
@@ -117,24 +117,14 @@ fn section_name(text: &[u8]) -> Option<&[u8]>
     }
 }
 
-// Returns the key and the value of a setting.
+/// Returns the key and the value of the setting on a whole line of a timer file: what comes before and after the first
+/// `=`, without blanks at its ends (systemd.syntax(7)). Returns `None` if the line has no `=`.
 #[tactic(auto, unfolding(crate::specs::Timer::setting_of))]
-fn setting_of(text: &str) -> Option<(&str, &str)>
+pub fn setting_of(text: &str) -> Option<(&str, &str)>
     ensures { option_map (λ setting. (setting.0.now, setting.1.now)) result ≡ setting_of text.now }
 {
     let (key, value) = text.split_once('=')?;
     Some((trimmed(key), trimmed(value)))
-}
-
-/// Returns the value of the setting on a whole line of a timer file: what follows the first `=`, without blanks at its
-/// ends (systemd.syntax(7)). A line without `=` has the empty value.
-pub fn setting_value(text: &str) -> &str
-    ensures { result.now ≡ setting_value text.now }
-{
-    match setting_of(text) {
-        Some((_, value)) => value,
-        None => "",
-    }
 }
 
 // Returns which kind of setting has this key.

@@ -181,11 +181,35 @@ line_message form other quote = plain_message form other
 
 -- ---- all findings
 
+-- a warning that quotes nothing
+unfoldable pub plain_warning : Warning → List ℕ
+plain_warning warning.NeverStarts = codes "never starts"
+plain_warning warning.EitherDay = codes "starts on days that match either day field, not both"
+plain_warning warning.NoEvents = codes "no OnCalendar= event, so no start is planned"
+plain_warning warning.Percent = codes "cron ends the command at the first % and passes the rest as input"
+plain_warning warning.CarriageReturn = codes "the command ends with a carriage return"
+plain_warning warning.ZoneSetting = codes "CRON_TZ is read by cronie alone; agenda reads all rules in one zone"
+plain_warning warning.Monotonic = codes "also starts by OnBootSec= or the like, which is not planned"
+plain_warning other = []
+
+-- starts of an event may be passed over
+abbrev pub skipped_starts : (event : List ℕ) → List ℕ
+skipped_starts event = around (codes "systemd 252 may pass over starts of ") event (codes ": give the step an end")
+
+-- a key is unknown
+abbrev pub unknown_key : (key : List ℕ) → List ℕ
+unknown_key key = around (codes "unknown setting ") key (codes " in [Timer]")
+
+-- a timer has a random delay
+abbrev pub delayed : (delay : List ℕ) → List ℕ
+delayed delay = around (codes "starts up to ") delay (codes " later than planned (RandomizedDelaySec=)")
+
 -- a warning
-unfoldable pub warning_message : Warning → List ℕ
-warning_message warning.NeverStarts = codes "never starts"
-warning_message warning.EitherDay = codes "starts on days that match either day field, not both"
-warning_message warning.NoEvents = codes "no OnCalendar= event, so no start is planned"
+abbrev pub warning_message : Warning → (quote : List ℕ) → List ℕ
+warning_message warning.SkippedStarts quote = skipped_starts quote
+warning_message warning.UnknownKey quote = unknown_key quote
+warning_message warning.Delayed quote = delayed quote
+warning_message other quote = plain_warning other
 
 -- another job has the name of a job
 abbrev pub same_name : (name : List ℕ) → List ℕ
@@ -200,7 +224,7 @@ abbrev pub message : Form → What → (quote : List ℕ) → List ℕ
 message form (Refused cause) quote = line_message form cause quote
 message form SameName quote = same_name quote
 message form Full quote = full_message
-message form (Warned warning) quote = warning_message warning
+message form (Warned warning) quote = warning_message warning quote
 
 -- what was rejected is an error
 abbrev pub severity : What → List ℕ

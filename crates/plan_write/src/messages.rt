@@ -4,7 +4,7 @@ ghost use Rattle.std.specs.Prelude.{◌≡◌, ◌<◌};
 ghost use Rattle.std.specs.Char.{digit_char};
 ghost use Rattle.std.specs.List.{flat_map};
 ghost use Rattle.plan_streams.specs.Writer.{Takes};
-ghost use Rattle.plan_write.specs.Messages.{around, code_of, cron_message, dots, escaped, event_message, expected_fields, field_message, field_name, field_values, full_message, message, missing_command, no_event, part_message, part_name, part_values, plain_message, problem, problem_text, quoted, range_of, rule_message, same_name, severity, shown, unknown_word, warning_message, whole_event, whole_rule, with_specifiers};
+ghost use Rattle.plan_write.specs.Messages.{around, code_of, cron_message, delayed, dots, escaped, event_message, expected_fields, field_message, field_name, field_values, full_message, message, missing_command, no_event, part_message, part_name, part_values, plain_message, plain_warning, problem, problem_text, quoted, range_of, rule_message, same_name, severity, shown, skipped_starts, unknown_key, unknown_word, warning_message, whole_event, whole_rule, with_specifiers};
 
 use plan_check::{Form, Warning, What};
 use plan_grammar::{RuleCause, RuleFault};
@@ -51,7 +51,7 @@ pub(crate) fn put_message<S: Stream>(
         What::Refused(cause) => lines.put(plain_message(form, cause).as_bytes()),
         What::SameName => put_same_name(quote, lines),
         What::Full => lines.put(full_message().as_bytes()),
-        What::Warned(warning) => lines.put(warning_message(warning).as_bytes()),
+        What::Warned(warning) => put_warning(warning, quote, lines),
     }
 }
 
@@ -69,16 +69,54 @@ fn full_message() -> &'static str
     "more than 1000 jobs"
 }
 
-// Returns the message of a warning.
-#[tactic(auto, unfolding(crate::specs::Messages::warning_message))]
-fn warning_message(warning: Warning) -> &'static str
-    ensures { result.now ≡ warning_message warning }
+// Puts the message of a warning.
+fn put_warning<S: Stream>(warning: Warning, quote: &str, lines: &mut TextWriter<'_, S>)
+    ensures { Takes S.holds S.takes_all lines.old lines.new (warning_message warning quote.now) }
+{
+    match warning {
+        Warning::SkippedStarts => put_skipped_starts(quote, lines),
+        Warning::UnknownKey => put_unknown_key(quote, lines),
+        Warning::Delayed => put_delayed(quote, lines),
+        _ => lines.put(plain_warning(warning).as_bytes()),
+    }
+}
+
+// Returns the message of a warning that quotes nothing.
+#[tactic(auto, unfolding(crate::specs::Messages::plain_warning))]
+fn plain_warning(warning: Warning) -> &'static str
+    ensures { result.now ≡ plain_warning warning }
 {
     match warning {
         Warning::NeverStarts => "never starts",
         Warning::EitherDay => "starts on days that match either day field, not both",
         Warning::NoEvents => "no OnCalendar= event, so no start is planned",
+        Warning::Percent => "cron ends the command at the first % and passes the rest as input",
+        Warning::CarriageReturn => "the command ends with a carriage return",
+        Warning::ZoneSetting => "CRON_TZ is read by cronie alone; agenda reads all rules in one zone",
+        Warning::Monotonic => "also starts by OnBootSec= or the like, which is not planned",
+        Warning::SkippedStarts | Warning::UnknownKey | Warning::Delayed => "",
     }
+}
+
+// Puts that starts of an event may be passed over.
+fn put_skipped_starts<S: Stream>(event: &str, lines: &mut TextWriter<'_, S>)
+    ensures { Takes S.holds S.takes_all lines.old lines.new (skipped_starts event.now) }
+{
+    put_around("systemd 252 may pass over starts of ", event, ": give the step an end", lines);
+}
+
+// Puts that a key is unknown.
+fn put_unknown_key<S: Stream>(key: &str, lines: &mut TextWriter<'_, S>)
+    ensures { Takes S.holds S.takes_all lines.old lines.new (unknown_key key.now) }
+{
+    put_around("unknown setting ", key, " in [Timer]", lines);
+}
+
+// Puts that a timer has a random delay.
+fn put_delayed<S: Stream>(delay: &str, lines: &mut TextWriter<'_, S>)
+    ensures { Takes S.holds S.takes_all lines.old lines.new (delayed delay.now) }
+{
+    put_around("starts up to ", delay, " later than planned (RandomizedDelaySec=)", lines);
 }
 
 // Returns the message of the error of a line, or of a whole file, that isn't the error of a rule.
