@@ -236,6 +236,7 @@ BadSize script
 BadTabName cron-d
 BadTimerName timer-name
 BadZoneName zone
+Delayed setting
 EitherDay crontab
 Fraction event
 NeverStarts crontab
@@ -245,7 +246,10 @@ NoSuchDate span
 NoSuchZone zone
 NoTimerSection timer
 OutOfRange crontab
+Percent crontab
+SkippedStarts event
 Specifier event
+UnknownKey setting
 UnknownWord crontab
 WrongParts crontab
 ZeroStep crontab

@@ -89,6 +89,13 @@ pub warning_has : (warning : Warning) → HasCode (warning_name warning)
 warning_has warning.NeverStarts = has code.NeverStarts
 warning_has warning.EitherDay = has code.EitherDay
 warning_has warning.NoEvents = has code.NoEvents
+warning_has warning.Percent = has code.Percent
+warning_has warning.CarriageReturn = has code.CarriageReturn
+warning_has warning.ZoneSetting = has code.ZoneSetting
+warning_has warning.SkippedStarts = has code.SkippedStarts
+warning_has warning.UnknownKey = has code.UnknownKey
+warning_has warning.Monotonic = has code.Monotonic
+warning_has warning.Delayed = has code.Delayed
 
 script_has : (cause : ScriptCause) → HasCode (script_cause cause)
 script_has script.NoMemory = has code.NoMemory
