@@ -144,11 +144,16 @@ first_unit ((number, Nothing) ∷ more) = first_unit more
 
 -- ---- a timer file
 
--- the job of a timer, from its name, the unit that it names, and its events; a `[Timer]` section is required (systemd.timer(5))
+-- the job of a timer, from its name, the unit that it names, and its events (systemd.timer(5))
+abbrev pub timer_job : List ℕ → Option (List ℕ) → List Calendar → JobParts
+timer_job name unit events =
+    record { name = name; user = None; command = unwrap_or unit (service_name name); rule = Events events }
+
+-- the same; a `[Timer]` section is required (systemd.timer(5))
 abbrev pub job_with : Bool → List ℕ → Option (List ℕ) → List Calendar → TextReading JobParts
 job_with found name unit events =
     if found
-    then Ok (record { name = name; user = None; command = unwrap_or unit (service_name name); rule = Events events })
+    then Ok (timer_job name unit events)
     else on_line 0 (Err NoTimerSection)
 
 -- the job of a timer's whole lines, without blanks at their ends; a missing `[Timer]` section is the last error to be found (agenda)

@@ -8,7 +8,7 @@ ghost use Rattle.plan_texts.specs.Steps.{GivesUnless};
 ghost use Rattle.plan_rules.specs.LineFaults.{of_whole, on_line, want_of_memory, IsOwnCause};
 ghost use Rattle.plan_texts.specs.Lines.{is_too_large};
 ghost use Rattle.plan_rules.specs.TimerEntries.{shown_line};
-ghost use Rattle.plan_rules.specs.Timer.{is_name_byte, is_timer_name, service_name, timer_of_lines, timer_reading, job_with};
+ghost use Rattle.plan_rules.specs.Timer.{is_name_byte, is_timer_name, service_name, timer_job, timer_of_lines, timer_reading, job_with};
 
 use crate::entry::Entry;
 use crate::file_text::text_of;
@@ -110,6 +110,30 @@ fn timer_of_lines(alloc: Global, name: &str, lines: &[WholeLine]) -> Result<Job,
     settings.into_job(alloc, name)
 }
 
+/// Returns the job of the timer file with a valid name, from the unit that it names, if it does, and its list of
+/// events (systemd.timer(5)).
+///
+/// # Errors
+///
+/// `AllocError` if an allocation fails.
+pub fn timer_job(
+    alloc: Global,
+    name: &str,
+    unit: Option<String>,
+    events: Events,
+) -> Result<Job, AllocError>
+    requires { is_timer_name name.now ≡ true }
+    ensures { IfOk result (λ job. job ≡ timer_job name.now (option_map (λ unit. string_bytes unit) unit) events) }
+{
+    let command = match unit {
+        Some(unit) => unit,
+        None => service_name(alloc, name)?,
+    };
+    let name = String::from_str(alloc, name)?;
+    let rule = Arc::new(alloc, Rule::Events(events))?;
+    Ok(Job::new(name, None, command, rule))
+}
+
 // Returns the name of the service that a timer starts if it names no unit.
 fn service_name(alloc: Global, name: &str) -> Result<String, AllocError>
     requires { is_timer_name name.now ≡ true }
@@ -198,12 +222,6 @@ impl Settings {
         if !reader.has_section() {
             return Err(LineCause::NoTimerSection.on_line(0));
         }
-        let command = match unit {
-            Some(unit) => unit,
-            None => service_name(alloc, name)?,
-        };
-        let name = String::from_str(alloc, name)?;
-        let rule = Arc::new(alloc, Rule::Events(events))?;
-        Ok(Job::new(name, None, command, rule))
+        Ok(timer_job(alloc, name, unit, events)?)
     }
 }
