@@ -330,7 +330,7 @@ $(messages_repeat 65 '\x5c') * * * * x|error: minute '$(messages_repeat 64 "\\\\
 ROWS
 messages_of_events <<ROWS
 $(messages_repeat 30 0,)24:0|error: hour in '$(messages_repeat 30 0,)24:0': out of range 0-23 [OutOfRange]
-$(messages_repeat 30 0,)24:00|error: hour in '$(messages_repeat 30 0,)24:00'...: out of range 0-23 [OutOfRange]
+$(messages_repeat 30 0,)24:00|error: hour in '$(messages_repeat 30 0,)24:0'...: out of range 0-23 [OutOfRange]
 $(messages_repeat 30 0,)24:0:0|error: hour in '$(messages_repeat 30 0,)24:0'...: out of range 0-23 [OutOfRange]
 Mon  $(messages_repeat 59 x)|error: time zone in 'Mon  $(messages_repeat 59 x)': only UTC is supported [Zone]
 Mon  $(messages_repeat 60 x)|error: time zone in 'Mon  $(messages_repeat 59 x)'...: only UTC is supported [Zone]
