@@ -9,8 +9,8 @@ ghost use Rattle.plan_check.specs.Settings.{last_delay, settings_from};
 
 use crate::finding::{Finding, Warning, What};
 use crate::form::{Form, label_of};
-use plan_rules::lines::lines;
 use crate::settings::{delay_after, key_of, value_of};
+use plan_rules::lines::lines;
 use plan_rules::{LineCause, TimerReader, job_name, setting_of, text_of};
 use plan_texts::lines::cut_word;
 use plan_texts::whole_lines::{WholeLine, trimmed, whole_lines};

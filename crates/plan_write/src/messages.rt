@@ -92,7 +92,8 @@ fn plain_warning(warning: Warning) -> &'static str
         Warning::NoEvents => "no OnCalendar= event, so no start is planned",
         Warning::Percent => "cron ends the command at the first % and passes the rest as input",
         Warning::CarriageReturn => "the command ends with a carriage return",
-        Warning::ZoneSetting => "CRON_TZ is read by cronie alone; agenda reads all rules in one zone",
+        Warning::ZoneSetting =>
+            "CRON_TZ is read by cronie alone; agenda reads all rules in one zone",
         Warning::Monotonic => "also starts by OnBootSec= or the like, which is not planned",
         Warning::SkippedStarts | Warning::UnknownKey | Warning::Delayed => "",
     }
@@ -102,7 +103,12 @@ fn plain_warning(warning: Warning) -> &'static str
 fn put_skipped_starts<S: Stream>(event: &str, lines: &mut TextWriter<'_, S>)
     ensures { Takes S.holds S.takes_all lines.old lines.new (skipped_starts event.now) }
 {
-    put_around("systemd 252 may pass over starts of ", event, ": give the step an end", lines);
+    put_around(
+        "systemd 252 may pass over starts of ",
+        event,
+        ": give the step an end",
+        lines,
+    );
 }
 
 // Puts that a key is unknown.
@@ -116,7 +122,12 @@ fn put_unknown_key<S: Stream>(key: &str, lines: &mut TextWriter<'_, S>)
 fn put_delayed<S: Stream>(delay: &str, lines: &mut TextWriter<'_, S>)
     ensures { Takes S.holds S.takes_all lines.old lines.new (delayed delay.now) }
 {
-    put_around("starts up to ", delay, " later than planned (RandomizedDelaySec=)", lines);
+    put_around(
+        "starts up to ",
+        delay,
+        " later than planned (RandomizedDelaySec=)",
+        lines,
+    );
 }
 
 // Returns the message of the error of a line, or of a whole file, that isn't the error of a rule.

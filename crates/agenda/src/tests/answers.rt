@@ -150,7 +150,7 @@ fn fails_at_each_byte(
     let mut no_flush = Limited::ample();
     no_flush.flush_fails = true;
     writes_to(rt, words, held, no_flush, text, 3)?;
-    writes_to(rt, words, held, Limited::new(128, 1, End::Error), text, 0)
+    writes_to(rt, words, held, Limited::new(512, 1, End::Error), text, 0)
 }
 
 const FRIDAYS: &str = "agenda|next|--after|2024-01-01T00:00:00Z|--count|4|--cron|30 4 1,15 * 5";
@@ -186,20 +186,21 @@ fn answers_of_upcoming_and_quiet_that_fail_at_each_byte(rt: HostRuntime) -> Resu
     fails_at_each_byte(&rt, words, &NIGHTLY, QUIET_TEXT.as_bytes(), 48)
 }
 
-// A crontab and a timer without errors. `check` has a note on each line of the crontab, and on the timer.
+// A crontab and a timer without errors. `check` has a warning on each line of the crontab, and on the timer.
 const UNMEANT: [(&str, &[u8]); 2] = [
     ("crontab", b"0 0 31 2 * a\n0 0 1 * 1 b\n"),
     ("n.timer", b"[Timer]\n"),
 ];
 
-// Lines of 29, 27 and 24 bytes.
-const UNMEANT_TEXT: &str =
-    "crontab:1: note: NeverStarts\ncrontab:2: note: EitherDay\nn.timer: note: NoEvents\n";
+// Lines of 47, 85 and 74 bytes.
+const UNMEANT_TEXT: &str = "crontab:1: warning: never starts [NeverStarts]\n\
+    crontab:2: warning: starts on days that match either day field, not both [EitherDay]\n\
+    n.timer: warning: no OnCalendar= event, so no start is planned [NoEvents]\n";
 
 #[test]
 fn an_answer_of_check_that_fails_at_each_byte(rt: HostRuntime) -> Result<(), Fail> {
     let words = "agenda|check|--crontab|crontab|n.timer";
-    fails_at_each_byte(&rt, words, &UNMEANT, UNMEANT_TEXT.as_bytes(), 80)
+    fails_at_each_byte(&rt, words, &UNMEANT, UNMEANT_TEXT.as_bytes(), 206)
 }
 
 // Asserts that arguments write nothing to standard output, and end with this status if standard error fails
@@ -316,8 +317,10 @@ fn which_files_a_check_opens(rt: HostRuntime) -> Result<(), Fail> {
     leaves(&rt, words, files, 0, ("", ""), 2)?;
     let files = FewFiles::new(&NIGHTLY, 4_096, false);
     let words = "agenda|check|--cron-d|timers/rot.timer|crontab";
-    let text = "timers/rot.timer: BadTabName\ntimers/rot.timer:1: part 0: WrongParts\n\
-        crontab: BadTimerName\ncrontab: NoTimerSection\n";
+    let text = "timers/rot.timer: error: not a name that cron reads [BadTabName]\n\
+        timers/rot.timer:1: error: expected five fields and a command [WrongParts]\n\
+        crontab: error: not a timer's name: it must end in .timer and name no template [BadTimerName]\n\
+        crontab: error: no [Timer] section [NoTimerSection]\n";
     leaves(&rt, words, files, 1, (text, ""), 2)?;
     let files = FewFiles::new(&NIGHTLY, 4_096, false);
     let words = "agenda|check|--crontab|crontab|--system-crontab|a b|c.timer";

@@ -6,7 +6,7 @@ use std::process::Abort;
 #[derive(Drop)]
 pub struct Limited {
     /// What was written, in the first `len` bytes.
-    pub taken: [u8; 128],
+    pub taken: [u8; 512],
     /// How many bytes were written.
     pub len: usize,
     /// How many bytes are accepted in total.
@@ -35,7 +35,7 @@ impl Limited {
     /// Returns a writer that accepts `room` bytes, at most `at_a_call` per call.
     pub fn new(room: usize, at_a_call: usize, end: End) -> Limited {
         Limited {
-            taken: [0; 128],
+            taken: [0; 512],
             len: 0,
             room,
             at_a_call,
@@ -48,12 +48,12 @@ impl Limited {
 
     /// Returns a writer that accepts every text of these tests.
     pub fn ample() -> Limited {
-        Limited::new(128, 128, End::Error)
+        Limited::new(512, 512, End::Error)
     }
 
     /// Returns the bytes that were written.
     pub fn bytes(&self) -> &[u8] {
-        let len = self.len.min(128);
+        let len = self.len.min(512);
         &self.taken[..len]
     }
 }
@@ -71,7 +71,7 @@ impl Write for Limited {
             _ => {}
         }
         for byte in &bytes[..count] {
-            if self.len < 128 {
+            if self.len < 512 {
                 self.taken[self.len] = *byte;
                 self.len += 1;
             }
