@@ -24,7 +24,8 @@ floor_is text (suc most) at inside le boundary nearest =
     elim (cases_lt at (suc most)) as (λ _. floor_char_boundary text (suc most) ≡ at) [
       | inl before ↦
           let no_start : is_char_start (slice_index text (suc most)) ≡ false =
-          starts_not (slice_index text (suc most)) (λ start. nearest (suc most) before (omega arith) ((omega (arith, inside)), λ _. start)) in
+          starts_not (slice_index text (suc most))
+          (λ start. nearest (suc most) before (omega arith) ((omega (arith, inside)), λ _. start)) in
           ap (λ (start : Bool). if start then suc most else floor_char_boundary text most) no_start
           ∙ floor_is text most at (omega (arith, inside)) (omega (arith, before)) boundary
           (λ later after few. nearest later after (omega (arith, few)))

@@ -118,7 +118,9 @@ whole_rule other quote = expected_fields
 abbrev pub field_message : RuleFault → (quote : List ℕ) → List ℕ
 field_message fault quote =
     field_name fault.part
-    ++ (codes " " ++ (quoted quote ++ (codes ": " ++ problem fault.cause (field_values fault.part) (codes "empty value, or a step after a single value"))))
+    ++ (codes " "
+    ++ (quoted quote
+    ++ (codes ": " ++ problem fault.cause (field_values fault.part) (codes "empty value, or a step after a single value"))))
 
 -- the error of a cron rule; part 0 is the whole rule
 abbrev pub cron_message : RuleFault → (quote : List ℕ) → List ℕ
@@ -141,7 +143,8 @@ whole_event other quote = no_event quote
 abbrev pub part_message : RuleFault → (quote : List ℕ) → List ℕ
 part_message fault quote =
     part_name fault.part
-    ++ (codes " in " ++ (quoted quote ++ (codes ": " ++ problem fault.cause (part_values fault.part) (codes "empty value, or a step after *"))))
+    ++ (codes " in "
+    ++ (quoted quote ++ (codes ": " ++ problem fault.cause (part_values fault.part) (codes "empty value, or a step after *"))))
 
 -- the error of an event; part 0 is the whole event
 abbrev pub event_message : RuleFault → (quote : List ℕ) → List ℕ
