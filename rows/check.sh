@@ -298,7 +298,7 @@ a.timer|[Timer]\nOnCalendar=daily\nOnCalendar=fortnightly\nOnCalendar=\nOnCalend
 a.timer|[Timer]\nOnCalendar=x\nOnActiveSec=\nOnCalendar=x\nOnBootSec=\nOnCalendar=x\nOnStartupSec=\nOnCalendar=daily|:2: error [UnknownWord];:4: error [UnknownWord];:6: error [UnknownWord]
 a.timer|[Timer]\nOnCalendar=x\nOnUnitActiveSec=\nOnCalendar=x\nOnUnitInactiveSec=\n|: warning [NoEvents];:2: error [UnknownWord];:4: error [UnknownWord]
 a.timer|OnCalendar=x\n[Unit]\nOnCalendar=x\n[Timer]\nOnCalendar=daily\n[Install]\nOnCalendar=x\n|
-a.timer|[Timer]\noncalendar=x\nOnCalendar x\nOnBootSec=x\nUnit=\nOnCalendar=daily\n|
+a.timer|[Timer]\noncalendar=x\nOnCalendar x\nOnBootSec=x\nUnit=\nOnCalendar=daily\n|: warning [Monotonic];:2: warning [UnknownKey]
 ROWS
 
 # TooManyLines is reported for the first event that comes when 64 are in the list. The next such events have
@@ -491,10 +491,10 @@ ROWS
 check_texts <<'ROWS'
 a.timer|[Timer]\n|: warning [NoEvents]
 a.timer|[Timer]|: warning [NoEvents]
-a.timer|[Timer]\nOnBootSec=5\nUnit=x.service\n|: warning [NoEvents]
+a.timer|[Timer]\nOnBootSec=5\nUnit=x.service\n|: warning [NoEvents];: warning [Monotonic]
 a.timer|[Timer]\nOnCalendar=daily\nOnCalendar=\n|: warning [NoEvents]
 a.timer|[Timer]\nOnCalendar=daily\nOnUnitActiveSec=\n|: warning [NoEvents]
-a.timer|[Timer]\nOnCalendar=daily\nOnUnitActiveSec=5\n|
+a.timer|[Timer]\nOnCalendar=daily\nOnUnitActiveSec=5\n|: warning [Monotonic]
 a.timer|[Timer]\nOnCalendar=\nOnCalendar=daily\n|
 a.timer|[Timer]\n[Timer]\nOnCalendar=daily\n|
 a.timer|[Timer]\n[Unit]\nOnCalendar=daily\n|: warning [NoEvents]
@@ -502,6 +502,62 @@ a.timer|[Timer]\nOnCalendar=25:00\n|:2: error hour [OutOfRange]
 a.timer|[Timer]\nOnCalendar=25:00\nOnCalendar=\n|: warning [NoEvents];:2: error hour [OutOfRange]
 a.timer|[Timer]\nOnCalendar=*-2-30\nOnCalendar=\n|: warning [NoEvents];:2: warning [NeverStarts]
 a.timer|[Unit]\n[Timer\n|: error [NoTimerSection]
+ROWS
+
+# Starts that systemd 252 may pass over, since a step has no end. A step that has one, or that meets the limit,
+# is no reason, nor is one whose next larger component never has two values that follow each other.
+check_warnings calendar <<'ROWS'
+*:0/25|SkippedStarts
+*:0..50/25|
+*:0/15|
+*:0,25,50|
+*:*:0/25|SkippedStarts
+*:59,0:0/25|SkippedStarts
+*:30,40:0/25|
+0/10:00|SkippedStarts
+Mon,Wed 0/10:00|
+Sun,Mon 0/10:00|SkippedStarts
+*-*-1,15 0/10:00|
+*-*-1,31 0/10:00|SkippedStarts
+*-*~1 0/10:00|SkippedStarts
+*-*-6/16|SkippedStarts
+*-1/6-6/16|
+*-*~9/4|
+*-1/5-1|SkippedStarts
+2024,2026-1/5-1|
+3:0/25|
+0,23:0/25|SkippedStarts
+*:0/25,15|SkippedStarts
+*:0/25,5/20|SkippedStarts
+*:30/40|
+daily|
+ROWS
+
+# The settings of a [Timer] section: unknown keys by line, and for the whole file what also starts the timer,
+# or delays it. An empty value of a time setting empties the list, and the last delay counts.
+check_texts <<'ROWS'
+a.timer|[Timer]\nOnCalendar=daily\nPersistant=true\nPersistent=true\n|:3: warning [UnknownKey]
+a.timer|[Timer]\nOnCalendar=daily\nX \\\n=1\n[Install]\nX=1\n[Timer]\n=\n|:3: warning [UnknownKey];:8: warning [UnknownKey]
+a.timer|[Timer]\nOnCalendar=daily\nAccuracySec=1\nFixedRandomDelay=1\nOnClockChange=1\nOnTimezoneChange=1\nWakeSystem=1\nRemainAfterElapse=1\n|
+a.timer|[Timer]\nOnBootSec=5\nOnCalendar=\nOnCalendar=daily\n|
+a.timer|[Timer]\nOnBootSec=5\nOnStartupSec=\nOnCalendar=daily\nOnUnitInactiveSec=1h\n|: warning [Monotonic]
+a.timer|[Timer]\nOnCalendar=daily\nRandomizedDelaySec=5m\n|: warning [Delayed]
+a.timer|[Timer]\nOnCalendar=daily\nRandomizedDelaySec=5m\nRandomizedDelaySec=00\n|
+a.timer|[Timer]\nOnCalendar=daily\nRandomizedDelaySec=5m\nRandomizedDelaySec=\n|
+a.timer|[Timer]\nOnCalendar=daily\nRandomizedDelaySec=0\nRandomizedDelaySec=0s\n|: warning [Delayed]
+a.timer|[Timer]\nOnCalendar=*:0/25\nRandomizedDelaySec=1\nOnActiveSec=1\nx=1\n|: warning [Monotonic];: warning [Delayed];:2: warning [SkippedStarts];:5: warning [UnknownKey]
+ROWS
+
+# What cron makes of a command, and the setting of a zone. Only lines that are accepted have warnings.
+check_texts <<'ROWS'
+--crontab jobs|0 0 * * * date +%H\n|:1: warning [Percent]
+--crontab jobs|0 0 * * * date +\\%H\n|
+--crontab jobs|0 0 * * * %\n0 0 * * * \\%%\n|:1: warning [Percent];:2: warning [Percent]
+--system-crontab jobs|0 0 * * * a%b x\n|
+--crontab jobs|0 0 * * * x\r\n0 0 31 2 * x%\r\n|:1: warning [CarriageReturn];:2: warning [NeverStarts];:2: warning [Percent];:2: warning [CarriageReturn]
+--crontab jobs|60 0 * * * x%\r\nA=%\r\n# %\r\n|:1: error minute [OutOfRange]
+--crontab jobs|CRON_TZ=UTC\n  "CRON_TZ" = x\n'CRON_TZ'=\nCRON_TZX=\nA=CRON_TZ\n" CRON_TZ"=x\n|:1: warning [ZoneSetting];:2: warning [ZoneSetting];:3: warning [ZoneSetting]
+--crontab jobs|CRON_TZ\n|:1: BadSetting
 ROWS
 
 # A text without an error has its warnings even if the name or the job is rejected. A rejected line has none.
