@@ -504,60 +504,138 @@ a.timer|[Timer]\nOnCalendar=*-2-30\nOnCalendar=\n|: warning [NoEvents];:2: warni
 a.timer|[Unit]\n[Timer\n|: error [NoTimerSection]
 ROWS
 
-# Starts that systemd 252 may pass over, since a step has no end. A step that has one, or that meets the limit,
-# is no reason, nor is one whose next larger component never has two values that follow each other.
+# cron ends a command at a % that doesn't directly follow a backslash. A carriage return at the end of a command
+# is part of it. In the system's format the command comes after the user. Settings and rejected lines have no
+# command.
+check_texts <<'ROWS'
+--crontab jobs|@daily echo 50%\n|:1: warning [Percent]
+--crontab jobs|@daily %\n|:1: warning [Percent]
+--crontab jobs|@daily echo \\%\n|
+--crontab jobs|@daily echo \\\\%\n|
+--crontab jobs|@daily echo \\% %\n|:1: warning [Percent]
+--crontab jobs|@daily echo %\\%\n|:1: warning [Percent]
+--crontab jobs|@daily echo \\%%\n|:1: warning [Percent]
+--crontab jobs|@daily echo %% %\n|:1: warning [Percent]
+--crontab jobs|0 0 * * * a\n@reboot date +%%s\n|:2: warning [Percent]
+--crontab jobs|A=%\n# %\n@x %\n@daily\n|:3: error [UnknownWord];:4: error [NoCommand]
+--system-crontab jobs|@daily a%b x\n@daily root %\n|:2: warning [Percent]
+--crontab jobs|@daily x\r\n@daily x\n|:1: warning [CarriageReturn]
+--crontab jobs|@daily \r\n|:1: warning [CarriageReturn]
+--crontab jobs|@daily x\r\r|:1: warning [CarriageReturn]
+--crontab jobs|@daily x\ry\n@daily x\r \n|
+--crontab jobs|A=b\r\n# c\r\n@daily\r\n|:3: error [UnknownWord]
+--cron-d jobs|@daily root\r x\n@daily root x\r\n|:2: warning [CarriageReturn]
+--crontab jobs|0 0 1 * 1 %\r\n|:1: warning [EitherDay];:1: warning [Percent];:1: warning [CarriageReturn]
+--crontab jobs|0 0 31 2 * %\r\n|:1: warning [NeverStarts];:1: warning [Percent];:1: warning [CarriageReturn]
+ROWS
+
+# The setting of a zone: its name is CRON_TZ without blanks around it, and without one pair of equal quotes.
+check_texts <<'ROWS'
+--crontab jobs|CRON_TZ=UTC\n|:1: warning [ZoneSetting]
+--system-crontab jobs|@daily u x\n \tCRON_TZ \t= \n|:2: warning [ZoneSetting]
+--cron-d jobs|"CRON_TZ"=UTC\n'CRON_TZ' =UTC\n|:1: warning [ZoneSetting];:2: warning [ZoneSetting]
+--spool jobs|CRON_TZ==\nCRON_TZ=A=B\n|:1: warning [ZoneSetting];:2: warning [ZoneSetting]
+--crontab jobs|TZ=UTC\ncron_tz=UTC\nCRON_TZX=UTC\nXCRON_TZ=UTC\nCRON TZ=UTC\nA=CRON_TZ=UTC\n|
+--crontab jobs|"CRON_TZ'=UTC\n"CRON_TZ=UTC\nCRON_TZ"=UTC\n""CRON_TZ""=UTC\n'"CRON_TZ"'=UTC\n" CRON_TZ"=UTC\n|
+--crontab jobs|#CRON_TZ=UTC\n@daily CRON_TZ=UTC\nCRON_TZ\n|:3: error [BadSetting]
+ROWS
+
+# Keys of a section [Timer] that systemd.timer(5) doesn't have. Every such section counts, and of a merged line
+# the first line. Other sections have other keys.
+check_texts <<'ROWS'
+a.timer|[Timer]\nOnCalendar=daily\nOnClendar=daily\nPersistant=\n|:3: warning [UnknownKey];:4: warning [UnknownKey]
+a.timer|[Timer]\nOnCalendar=daily\nPersistent=yes\nAccuracySec=1\nFixedRandomDelay=no\nOnClockChange=no\nOnTimezoneChange=no\nUnit=x\nWakeSystem=no\nRemainAfterElapse=no\n|
+a.timer|[Timer]\nOnCalendar=daily\nOnActiveSec=\nOnBootSec=\nOnStartupSec=\nOnUnitActiveSec=\nOnUnitInactiveSec=\nRandomizedDelaySec=\nOnCalendar=daily\n|
+a.timer|[Timer]\nOnCalendar=daily\nPERSISTENT=yes\npersistent=yes\nUnit =x\n=x\n|:3: warning [UnknownKey];:4: warning [UnknownKey];:6: warning [UnknownKey]
+a.timer|A=b\n[Unit]\nDescription=x\n[Timer]\nOnCalendar=daily\n[Install]\nWantedBy=timers.target\n[Timer]\nWantedBy=x\n|:9: warning [UnknownKey]
+a.timer|[Timer]\nOnCalendar=daily\nDescription=a \\\n#A=b\nB=c\nD\\\n=e\n|:3: warning [UnknownKey];:6: warning [UnknownKey]
+a.timer|[Timer]\nOnCalendar=daily\n#A=b\n;A=b\nA\n[A=b]\nC=d\n|
+a.timer|[Timer]\nOnCalendar=25:00\nA=b\nOnCalendar=x\n|:2: error hour [OutOfRange];:3: warning [UnknownKey];:4: error [UnknownWord]
+ROWS
+
+# Monotonic settings with a value that no later setting takes away, and a delay. The last value of the delay
+# counts.
+check_texts <<'ROWS'
+a.timer|[Timer]\nOnCalendar=daily\nOnActiveSec=1\n|: warning [Monotonic]
+a.timer|[Timer]\nOnCalendar=daily\nOnBootSec=1\n|: warning [Monotonic]
+a.timer|[Timer]\nOnCalendar=daily\nOnStartupSec=1\n|: warning [Monotonic]
+a.timer|[Timer]\nOnUnitActiveSec=x\nOnCalendar=daily\n|: warning [Monotonic]
+a.timer|[Timer]\nOnUnitInactiveSec=1\nOnBootSec=2\nOnCalendar=daily\n|: warning [Monotonic]
+a.timer|[Timer]\nOnBootSec=1\nOnCalendar=\nOnCalendar=daily\n|
+a.timer|[Timer]\nOnBootSec=1\nOnActiveSec=\nOnCalendar=daily\n|
+a.timer|[Timer]\nOnBootSec=1\nOnCalendar=\nOnBootSec=2\nOnCalendar=daily\n|: warning [Monotonic]
+a.timer|[Timer]\nOnBootSec=1\nUnit=\nRandomizedDelaySec=\nOnCalendar=daily\n|: warning [Monotonic]
+a.timer|[Unit]\nOnBootSec=1\n[Timer]\nOnCalendar=daily\n[Install]\nOnBootSec=1\n|
+a.timer|[Timer]\nOnCalendar=daily\nRandomizedDelaySec=5\n|: warning [Delayed]
+a.timer|[Timer]\nOnCalendar=daily\nRandomizedDelaySec=0\n|
+a.timer|[Timer]\nOnCalendar=daily\nRandomizedDelaySec=000\n|
+a.timer|[Timer]\nOnCalendar=daily\nRandomizedDelaySec=0s\n|: warning [Delayed]
+a.timer|[Timer]\nOnCalendar=daily\nRandomizedDelaySec=1h\nRandomizedDelaySec=\n|
+a.timer|[Timer]\nOnCalendar=daily\nRandomizedDelaySec=1h\nRandomizedDelaySec=0\nOnCalendar=\nOnCalendar=weekly\n|
+a.timer|[Timer]\nRandomizedDelaySec=0\nOnCalendar=daily\n[Timer]\nRandomizedDelaySec=1\n|: warning [Delayed]
+a.timer|[Timer]\nOnBootSec=1\nRandomizedDelaySec=1\nA=b\n|: warning [NoEvents];: warning [Monotonic];: warning [Delayed];:4: warning [UnknownKey]
+a.timer|[Timer]\nOnCalendar=*:0/25\nRandomizedDelaySec=1\nOnActiveSec=1\nx=1\n|: warning [Monotonic];: warning [Delayed];:2: warning [SkippedStarts];:5: warning [UnknownKey]
+jobs|[Timer]\nOnCalendar=25:00\nOnBootSec=1\n|: error [BadTimerName];: warning [Monotonic];:2: error hour [OutOfRange]
+a.timer|[Timer]\nOnBootSec=1\n\xff\n|: error [NotUtf8]
+ROWS
+
+# A step without an end is carried into the next larger component if its next value leaves values of the
+# component behind. Minutes 0/25 are carried as 75, which is minute 15 of the next hour. But 0/15 are carried as
+# 60, which is the first minute. The next hour must be one of the event; for hours the next day and weekday.
 check_warnings calendar <<'ROWS'
 *:0/25|SkippedStarts
-*:0..50/25|
 *:0/15|
+*:0/7|SkippedStarts
+*:0..50/25|
 *:0,25,50|
-*:*:0/25|SkippedStarts
-*:59,0:0/25|SkippedStarts
-*:30,40:0/25|
-0/10:00|SkippedStarts
-Mon,Wed 0/10:00|
-Sun,Mon 0/10:00|SkippedStarts
-*-*-1,15 0/10:00|
-*-*-1,31 0/10:00|SkippedStarts
-*-*~1 0/10:00|SkippedStarts
-*-*-6/16|SkippedStarts
-*-1/6-6/16|
-*-*~9/4|
-*-1/5-1|SkippedStarts
-2024,2026-1/5-1|
-3:0/25|
-0,23:0/25|SkippedStarts
+*:20/25|
+*:5,0/25|SkippedStarts
 *:0/25,15|SkippedStarts
 *:0/25,5/20|SkippedStarts
-*:30/40|
+*:0/60|
+*:5/58|
+*:0/59|SkippedStarts
+12:0/25|
+12,13:0/25|SkippedStarts
+12,14:0/25|
+0,23:0/25|SkippedStarts
+*:*:0/40|SkippedStarts
+*:*:0/20|
+*:7:0/40|
+*:0,59:0/40|SkippedStarts
+*:30,40:0/25|
+0/5:00|SkippedStarts
+0/6:00|
+Mon 0/5:00|
+Mon,Tue 0/5:00|SkippedStarts
+Sun,Mon 0/5:00|SkippedStarts
+Mon,Wed 0/5:00|
+*-*-1 0/5:00|
+*-*-1,31 0/5:00|SkippedStarts
+*-*~1 0/5:00|SkippedStarts
+*-*-1/2|SkippedStarts
+*-*-1/3|SkippedStarts
+*-*~1/2|
+*-*~9/4|
+*-*-6/16|SkippedStarts
+*-1/6-6/16|
+*-5-1/2|
+*-5,6-1/2|SkippedStarts
+*-1,12-1/2|SkippedStarts
+*-1/2-1|
+*-2/5-1|SkippedStarts
+2024-2/5-1|
+2024,2025-2/5-1|SkippedStarts
+2024,2026-2/5-1|
+1970,2999-2/5-1|
+2024/5-1-1|
 daily|
+Mon *-2/5-1|SkippedStarts
 ROWS
-
-# The settings of a [Timer] section: unknown keys by line, and for the whole file what also starts the timer,
-# or delays it. An empty value of a time setting empties the list, and the last delay counts.
 check_texts <<'ROWS'
-a.timer|[Timer]\nOnCalendar=daily\nPersistant=true\nPersistent=true\n|:3: warning [UnknownKey]
-a.timer|[Timer]\nOnCalendar=daily\nX \\\n=1\n[Install]\nX=1\n[Timer]\n=\n|:3: warning [UnknownKey];:8: warning [UnknownKey]
-a.timer|[Timer]\nOnCalendar=daily\nAccuracySec=1\nFixedRandomDelay=1\nOnClockChange=1\nOnTimezoneChange=1\nWakeSystem=1\nRemainAfterElapse=1\n|
-a.timer|[Timer]\nOnBootSec=5\nOnCalendar=\nOnCalendar=daily\n|
-a.timer|[Timer]\nOnBootSec=5\nOnStartupSec=\nOnCalendar=daily\nOnUnitInactiveSec=1h\n|: warning [Monotonic]
-a.timer|[Timer]\nOnCalendar=daily\nRandomizedDelaySec=5m\n|: warning [Delayed]
-a.timer|[Timer]\nOnCalendar=daily\nRandomizedDelaySec=5m\nRandomizedDelaySec=00\n|
-a.timer|[Timer]\nOnCalendar=daily\nRandomizedDelaySec=5m\nRandomizedDelaySec=\n|
-a.timer|[Timer]\nOnCalendar=daily\nRandomizedDelaySec=0\nRandomizedDelaySec=0s\n|: warning [Delayed]
-a.timer|[Timer]\nOnCalendar=*:0/25\nRandomizedDelaySec=1\nOnActiveSec=1\nx=1\n|: warning [Monotonic];: warning [Delayed];:2: warning [SkippedStarts];:5: warning [UnknownKey]
-ROWS
-
-# What cron makes of a command, and the setting of a zone. Only lines that are accepted have warnings.
-check_texts <<'ROWS'
---crontab jobs|0 0 * * * date +%H\n|:1: warning [Percent]
---crontab jobs|0 0 * * * date +\\%H\n|
---crontab jobs|0 0 * * * %\n0 0 * * * \\%%\n|:1: warning [Percent];:2: warning [Percent]
---system-crontab jobs|0 0 * * * a%b x\n|
---crontab jobs|0 0 * * * x\r\n0 0 31 2 * x%\r\n|:1: warning [CarriageReturn];:2: warning [NeverStarts];:2: warning [Percent];:2: warning [CarriageReturn]
---crontab jobs|60 0 * * * x%\r\nA=%\r\n# %\r\n|:1: error minute [OutOfRange]
---crontab jobs|CRON_TZ=UTC\n  "CRON_TZ" = x\n'CRON_TZ'=\nCRON_TZX=\nA=CRON_TZ\n" CRON_TZ"=x\n|:1: warning [ZoneSetting];:2: warning [ZoneSetting];:3: warning [ZoneSetting]
---crontab jobs|CRON_TZ\n|:1: BadSetting
+a.timer|[Timer]\nOnCalendar=*:0/25\nOnCalendar=\nOnCalendar=daily\n|:2: warning [SkippedStarts]
+a.timer|[Timer]\nOnCalendar=Mon 2024-1-2 *:0/25\n|:2: warning [NeverStarts];:2: warning [SkippedStarts]
+a.timer|[Timer]\nOnCalendar=*:0/25:60\n|:2: error second [OutOfRange]
 ROWS
 
 # A text without an error has its warnings even if the name or the job is rejected. A rejected line has none.

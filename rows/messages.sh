@@ -157,10 +157,13 @@ messages_of_lines --cron-d <<'ROWS'
 @daily www-data|error: expected a user and a command [NoCommand]
 ROWS
 
-# Warnings about lines of a crontab.
+# Warnings about lines of a crontab. They quote nothing.
 messages_of_lines --crontab <<'ROWS'
 0 0 30 2 * x|warning: never starts [NeverStarts]
 0 9 13 * 5 x|warning: starts on days that match either day field, not both [EitherDay]
+@daily date +%F|warning: cron ends the command at the first % and passes the rest as input [Percent]
+@daily x\r|warning: the command ends with a carriage return [CarriageReturn]
+CRON_TZ=Europe/Oslo|warning: CRON_TZ is read by cronie alone; agenda reads all rules in one zone [ZoneSetting]
 ROWS
 messages_of_lines --cron-d <<'ROWS'
 0 0 31 2,4,6,9,11 * root x|warning: never starts [NeverStarts]
@@ -243,6 +246,9 @@ ROWS
 messages_of_events <<'ROWS'
 *-2-30|warning: never starts [NeverStarts]
 Mon 2024-1-2|warning: never starts [NeverStarts]
+*:0/25|warning: systemd 252 may pass over starts of '*:0/25': give the step an end [SkippedStarts]
+  *-*-* \\\n\t*:0/25 |warning: systemd 252 may pass over starts of '*-*-*  *:0/25': give the step an end [SkippedStarts]
+*:0/25\tUTC|warning: systemd 252 may pass over starts of '*:0/25\x09UTC': give the step an end [SkippedStarts]
 ROWS
 
 # The value without blanks at its ends, with those inside it. A merged line is one value: the backslash at the end
@@ -346,8 +352,45 @@ $(messages_repeat 64 1)%|error: specifiers in '$(messages_repeat 64 1)'... are n
 %$(messages_repeat 61 1)é|error: specifiers in '%$(messages_repeat 61 1)é' are not expanded [Specifier]
 %$(messages_repeat 62 1)é|error: specifiers in '%$(messages_repeat 62 1)'... are not expanded [Specifier]
 Mon\\\\\n$(messages_repeat 58 ' ')\\\\\n25:00|error: hour in 'Mon  25:00': out of range 0-23 [OutOfRange]
+*:0/25$(messages_repeat 55 ' ')UTC|warning: systemd 252 may pass over starts of '*:0/25$(messages_repeat 55 ' ')UTC': give the step an end [SkippedStarts]
+*:0/25$(messages_repeat 56 ' ')UTC|warning: systemd 252 may pass over starts of '*:0/25$(messages_repeat 56 ' ')UT'...: give the step an end [SkippedStarts]
 Mon$(messages_repeat 56 ' ')24:00|error: hour in 'Mon$(messages_repeat 56 ' ')24:00': out of range 0-23 [OutOfRange]
 Mon$(messages_repeat 56 ' ')\\\\\n24:00|error: hour in 'Mon$(messages_repeat 57 ' ')24:0'...: out of range 0-23 [OutOfRange]
+ROWS
+
+# Rows from standard input: the escaped text of a setting of a timer, and what is reported about it after the
+# number of its line, or after the path if $1 is whole. Each of them is in a timer of its own.
+messages_of_settings() {
+  local setting finding mark=:3
+  [ "$1" != whole ] || mark=
+  while IFS='|' read -r setting finding; do
+    printf '[Timer]\nOnCalendar=daily\n%b\n' "$setting" >"$messages_folder/a.timer"
+    echo "a.timer$mark: warning: $finding" >"$work/findings.wanted"
+    messages_compare "the message about the setting '$setting'" a.timer
+  done
+}
+
+# Warnings about settings. They quote the key, or the value of the delay.
+messages_of_settings line <<ROWS
+OnClendar=weekly|unknown setting 'OnClendar' in [Timer] [UnknownKey]
+ \tPersistant\t = \ttrue|unknown setting 'Persistant' in [Timer] [UnknownKey]
+=x|unknown setting '' in [Timer] [UnknownKey]
+A B\tC=x=y|unknown setting 'A B\x09C' in [Timer] [UnknownKey]
+A\\\\\nB=x|unknown setting 'A B' in [Timer] [UnknownKey]
+\x01\x5c\x7fé'=x|unknown setting '\x01\\\\\x7fé'' in [Timer] [UnknownKey]
+$(messages_repeat 64 k)=x|unknown setting '$(messages_repeat 64 k)' in [Timer] [UnknownKey]
+$(messages_repeat 65 k)=x|unknown setting '$(messages_repeat 64 k)'... in [Timer] [UnknownKey]
+$(messages_repeat 63 k)é=x|unknown setting '$(messages_repeat 63 k)'... in [Timer] [UnknownKey]
+ROWS
+messages_of_settings whole <<ROWS
+OnBootSec=5min|also starts by OnBootSec= or the like, which is not planned [Monotonic]
+OnUnitInactiveSec=\x01|also starts by OnBootSec= or the like, which is not planned [Monotonic]
+RandomizedDelaySec=5min|starts up to '5min' later than planned (RandomizedDelaySec=) [Delayed]
+RandomizedDelaySec=1\nRandomizedDelaySec = 1h\t30min |starts up to '1h\x0930min' later than planned (RandomizedDelaySec=) [Delayed]
+RandomizedDelaySec=1h\\\\\n  \x5cé'\x7f|starts up to '1h \\\\é'\x7f' later than planned (RandomizedDelaySec=) [Delayed]
+RandomizedDelaySec=$(messages_repeat 64 1)|starts up to '$(messages_repeat 64 1)' later than planned (RandomizedDelaySec=) [Delayed]
+RandomizedDelaySec=$(messages_repeat 65 1)|starts up to '$(messages_repeat 64 1)'... later than planned (RandomizedDelaySec=) [Delayed]
+RandomizedDelaySec=$(messages_repeat 62 1)€|starts up to '$(messages_repeat 62 1)'... later than planned (RandomizedDelaySec=) [Delayed]
 ROWS
 
 # Whole files.
