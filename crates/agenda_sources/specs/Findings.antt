@@ -1,28 +1,30 @@
--- The findings of all sources, in the order of the sources (agenda).
-use Rattle.std.specs.Prelude.{ℕ, ◌+◌, Bool, List, [], ◌∷◌, ◌++◌, map}
+-- The findings of all sources, in the order of the sources, and the jobs without what is rejected (agenda).
+use Rattle.std.specs.Prelude.{ℕ, ◌+◌, Bool, not, List, [], ◌∷◌, ◌++◌, filter, map, Some}
+use Rattle.plan_rules.specs.Job.{JobParts}
 use Rattle.plan_clock.specs.declared.row.Change.{Change}
 use Rattle.plan_check.specs.Files.{File, after_file, file_findings, file_of}
-use Rattle.plan_check.specs.Finding.{is_clean}
-use Rattle.plan_check.specs.Names.{KnownNames, no_names}
+use Rattle.plan_check.specs.Finding.{is_clean, is_warning}
+use Rattle.plan_check.specs.Known.{KnownJobs, no_jobs}
 use Rattle.plan_check.specs.Quotes.{QuotedFinding, with_quote}
 use Rattle.agenda_sources.specs.declared.findings.Found.{Found}
 use Rattle.agenda_sources.specs.declared.sources.Source.{Source}
 use Rattle.agenda_sources.specs.Kind.{form_of}
+use Rattle.agenda_sources.specs.Sources.{zoned}
 
 -- a source as a file
 abbrev pub source_file : Source → File
 source_file source = file_of (form_of source.kind) source.name source.bytes
 
 -- the findings of a file, each with the text that its message quotes
-abbrev pub quoted_findings : KnownNames → File → List QuotedFinding
+abbrev pub quoted_findings : KnownJobs → File → List QuotedFinding
 quoted_findings known file = map (with_quote file) (file_findings known file)
 
 -- a finding in the source at a place
 abbrev pub found_at : (place : ℕ) → QuotedFinding → Found
 found_at place quoted = record { place = place; quoted = quoted }
 
--- the findings of sources in order. The first of them is at this place, and the jobs before have the known names
-abbrev pub found_from : (place : ℕ) → KnownNames → List Source → List Found
+-- the findings of sources in order. The first of them is at this place, after this is known
+abbrev pub found_from : (place : ℕ) → KnownJobs → List Source → List Found
 found_from place known [] = []
 found_from place known (source ∷ more) =
     map (found_at place) (quoted_findings known (source_file source))
@@ -30,8 +32,23 @@ found_from place known (source ∷ more) =
 
 -- the findings of all sources, whose jobs start by the clock of a zone
 abbrev pub sources_findings : List Change → List Source → List Found
-sources_findings clock sources = found_from 0 (no_names clock) sources
+sources_findings clock sources = found_from 0 (no_jobs (Some clock)) sources
 
 -- whether no finding is an error
 abbrev pub is_all_clean : List Found → Bool
 is_all_clean found = is_clean (map (λ one. one.quoted.finding) found)
+
+-- ---- without what is rejected
+
+-- the errors of all sources
+abbrev pub sources_errors : List Change → List Source → List Found
+sources_errors clock sources = filter (λ one. not (is_warning one.quoted.finding.what)) (sources_findings clock sources)
+
+-- what is known after sources
+abbrev pub after_sources : KnownJobs → List Source → KnownJobs
+after_sources known [] = known
+after_sources known (source ∷ more) = after_sources (after_file known (source_file source)) more
+
+-- the jobs of all sources of which nothing is rejected, in the zone of a clock
+abbrev pub kept_jobs : List Change → List Source → List JobParts
+kept_jobs clock sources = zoned clock (after_sources (no_jobs (Some clock)) sources).jobs

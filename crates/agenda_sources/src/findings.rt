@@ -1,13 +1,16 @@
-//! The findings of all sources, in the order of the sources.
+//! The findings of all sources, in the order of the sources, and the jobs that are left without what is rejected.
 
-ghost use Rattle.std.specs.Prelude.{◌≡◌, ◌++◌, IfOk, OnOk, is_ok, map};
+ghost use Rattle.std.specs.Prelude.{◌≡◌, ◌++◌, [], IfOk, Ok, OnOk, is_ok, map};
 ghost use Rattle.plan_check.specs.Files.{after_file};
-ghost use Rattle.agenda_sources.specs.Findings.{found_at, is_all_clean, quoted_findings, source_file, sources_findings};
-ghost use Rattle.agenda_sources.specs.Sources.{sources_reading};
+ghost use Rattle.plan_check.specs.Known.{no_jobs};
+ghost use Rattle.agenda_sources.specs.Findings.{after_sources, found_at, found_from, is_all_clean, kept_jobs, quoted_findings, source_file, sources_errors, sources_findings};
+ghost use Rattle.agenda_sources.specs.Sources.{jobs_reading, sources_reading};
 
+use crate::reading::in_zone;
 use crate::sources::{Source, Sources};
-use plan_check::{Names, Quoted, clean_where_jobs_are};
+use plan_check::{Known, Quoted, clean_where_jobs_are, errors_need_no_clock};
 use plan_clock::Clock;
+use plan_rules::Jobs;
 use std::alloc::{AllocError, Global};
 
 /// A finding in one of several sources.
@@ -17,6 +20,15 @@ pub struct Found {
     pub place: usize,
     /// The finding in that source, with the text that its message quotes.
     pub quoted: Quoted,
+}
+
+/// What is left of sources if all that is rejected is left out.
+#[derive(Drop)]
+pub struct Kept {
+    /// The errors, in the order of the sources, without any warnings.
+    pub errors: Vec<Found>,
+    /// The jobs of which nothing is rejected, in the order of the sources.
+    pub jobs: Jobs,
 }
 
 /// Returns all findings of the sources, in the order of the sources, each with the text that its message quotes.
@@ -37,30 +49,69 @@ pub fn findings_of_sources(
     ensures clean { IfOk result (λ found. is_all_clean found.items ≡ is_ok (sources_reading sources.now)) }
 {
     clean_where_jobs_are();
-    let mut names = Names::new(alloc, clock.try_clone()?);
+    let (found, _) = read_sources(alloc, sources, Some(clock.try_clone()?))?;
+    Ok(found)
+}
+
+/// Returns the errors of the sources, as `findings_of_sources` finds them, and the jobs that are left if all that is
+/// rejected is left out. Rules start by the clock of a zone.
+///
+/// The jobs are those that `findings` of plan_check's `Form` adds: of a crontab each valid line with a name of its own,
+/// and each timer that isn't rejected as a whole, with the events that are valid. Warnings aren't looked for, since to
+/// find that a rule never starts takes longer than to read it.
+///
+/// # Errors
+///
+/// `AllocError` if an allocation fails.
+pub fn kept_of_sources(alloc: Global, sources: &Sources, clock: &Clock) -> Result<Kept, AllocError>
+    ensures errors { IfOk result (λ kept. kept.errors.items ≡ sources_errors clock.now sources.now) }
+    ensures jobs { IfOk result (λ kept. kept.jobs ≡ kept_jobs clock.now sources.now) }
+    // If there is no error, the jobs are those of `jobs_of_sources`.
+    ensures same { IfOk result (λ kept. kept.errors.items ≡ [] → jobs_reading clock.now sources.now ≡ Ok kept.jobs) }
+{
+    clean_where_jobs_are();
+    errors_need_no_clock();
+    let (errors, known) = read_sources(alloc, sources, None)?;
+    let jobs = in_zone(alloc, known.into_jobs(), clock)?;
+    Ok(Kept { errors, jobs })
+}
+
+// Returns the findings of the sources, and what is known after the last one. Without a clock there are no warnings.
+fn read_sources(
+    alloc: Global,
+    sources: &Sources,
+    clock: Option<Clock>,
+) -> Result<(Vec<Found>, Known), AllocError>
+    ensures found { IfOk result (λ read. read.0.items ≡ found_from 0 (no_jobs clock) sources.now) }
+    ensures known { IfOk result (λ read. read.1 ≡ after_sources (no_jobs clock) sources.now) }
+{
+    let mut known = Known::new(alloc, clock);
     let mut found = Vec::new(alloc);
     let sources = sources.as_slice();
     for (place, source) in sources.iter().enumerate() {
-        add_source(alloc, &mut names, &mut found, place, source)?;
+        add_source(alloc, &mut known, &mut found, place, source)?;
     }
-    Ok(found)
+    Ok((found, known))
 }
 
 // Adds the findings of the source at a place.
 fn add_source(
     alloc: Global,
-    names: &mut Names,
+    known: &mut Known,
     found: &mut Vec<Found>,
     place: usize,
     source: &Source,
 ) -> Result<(), AllocError>
     ensures found { OnOk result (found.new.items ≡ found.old.items
-        ++ map (found_at place) (quoted_findings names.old (source_file source.now))) }
-    ensures names { OnOk result (names.new ≡ after_file names.old (source_file source.now)) }
+        ++ map (found_at place) (quoted_findings known.old (source_file source.now))) }
+    ensures known { OnOk result (known.new ≡ after_file known.old (source_file source.now)) }
 {
     let form = source.kind.form();
     let (name, bytes) = (source.name.as_str(), source.bytes.as_slice());
-    let more = form.findings(alloc, names, name, bytes)?;
+    let more = form.findings(alloc, known, name, bytes)?;
+    if more.is_empty() {
+        return Ok(());
+    }
     add_all(
         found,
         place,

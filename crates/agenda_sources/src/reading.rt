@@ -1,17 +1,17 @@
 //! The jobs of all sources of a plan, read one source after another.
 
-ghost use Rattle.std.specs.Prelude.{◌≡◌, ◌≤◌, [], IfErr, IfSome, Ok, Err, length};
+ghost use Rattle.std.specs.Prelude.{◌≡◌, ◌≤◌, [], IfErr, IfOk, IfSome, Ok, Err, length};
 ghost use Rattle.plan_texts.specs.Steps.{GivesUnless};
 ghost use Rattle.plan_rules.specs.Limits.{most_jobs};
 ghost use Rattle.agenda_sources.specs.AtOnce.{fault_at_once, source_at_once};
 ghost use Rattle.agenda_sources.specs.Faults.{IsOwnFault};
-ghost use Rattle.agenda_sources.specs.Sources.{jobs_reading, with_job, with_jobs, with_source, sources_reading};
+ghost use Rattle.agenda_sources.specs.Sources.{jobs_reading, with_job, with_jobs, with_source, sources_reading, zoned};
 
 use crate::fault::SourceFault;
 use crate::sources::{Source, Sources};
 use plan_clock::Clock;
 use plan_rules::{AddFault, Job, Jobs};
-use std::alloc::Global;
+use std::alloc::{AllocError, Global};
 
 /// Returns the jobs of the sources, in the order of the sources: one for each command line of a crontab, and
 /// one for each timer. Their rules start by the clock of a zone.
@@ -36,16 +36,21 @@ pub fn jobs_of_sources(alloc: Global, sources: &Sources, clock: &Clock) -> Resul
     ensures no_source { sources.now ≡ [] → result ≡ Ok [] }
 {
     let jobs = read_jobs(alloc, sources)?;
-    if clock.is_utc() {
-        return Ok(jobs);
-    }
-    if jobs.is_empty() {
-        return Ok(jobs);
-    }
-    match jobs.in_zone(alloc, clock) {
+    match in_zone(alloc, jobs, clock) {
         Ok(jobs) => Ok(jobs),
         Err(_) => Err(SourceFault::NoMemory),
     }
+}
+
+// Returns jobs with the rule of each in the zone of a clock. In UTC, and without jobs, this allocates nothing.
+pub(crate) fn in_zone(alloc: Global, jobs: Jobs, clock: &Clock) -> Result<Jobs, AllocError>
+    ensures zone { IfOk result (λ placed. placed ≡ zoned clock.now jobs) }
+    ensures none { jobs ≡ [] → result ≡ Ok [] }
+{
+    if clock.is_utc() || jobs.is_empty() {
+        return Ok(jobs);
+    }
+    jobs.in_zone(alloc, clock)
 }
 
 // Returns the same jobs, all in UTC.

@@ -1,7 +1,7 @@
 -- The first error among the findings of a crontab: for the clause `first` of `findings`.
 -- The errors among the findings of lines are those of their entries (`faults_of_lines`), the first of which
 -- decides.
-use Rattle.std.proofs.Common.{◌≡◌, ℕ, ◌+◌, Bool, true, false, not, ◌&&◌, nat_lt, cond, List, [], ◌∷◌, ◌++◌, length, Option, Some, None, option_map, Ok, Err, refl, ap, sym, ◌∙◌, arith}
+use Rattle.std.proofs.Common.{◌≡◌, ℕ, ◌+◌, Bool, true, false, not, ◌&&◌, cond, List, [], ◌∷◌, ◌++◌, Option, Some, None, option_map, is_some, Ok, Err, refl, ap, sym, ◌∙◌, arith}
 use Rattle.std.proofs.lemmas.Bool.Decides.{nat_tests}
 use Rattle.std.proofs.lemmas.List.Elements.{filter_map-append}
 use Rattle.std.specs.List.{filter_map, cons_option, enumerate_from}
@@ -19,7 +19,6 @@ use Rattle.plan_rules.specs.Crontab.{crontab_by_entries, crontab_reading, entrie
 use Rattle.plan_rules.specs.Entries.{entry_on, refusals, given, unless_refused, meant_by}
 use Rattle.plan_rules.specs.FileText.{text_reading}
 use Rattle.plan_rules.specs.Job.{JobParts}
-use Rattle.plan_rules.specs.Limits.{most_jobs}
 use Rattle.plan_rules.specs.LineFaults.{LineReading, TextReading, fault_on_line, on_line}
 use Rattle.plan_rules.specs.NamedCrontabs.{is_crontab_name, kind_in}
 use Rattle.plan_check.specs.declared.finding.Warning.{Warning}
@@ -32,8 +31,8 @@ use Rattle.plan_check.specs.Crontabs.{after_line, crontab_findings, entry_findin
 use Rattle.plan_check.specs.Files.{HasFirst, file_findings, file_of, in_file}
 use Rattle.plan_check.specs.Finding.{fault_of, finding_at, first_of, first_fault, found_if, refused_at}
 use Rattle.plan_check.specs.Form.{form_reading, label_of}
-use Rattle.plan_check.specs.Names.{KnownNames, is_added, name_fault}
-use Rattle.plan_check.specs.Warnings.{command_warnings, ends_with_return, has_bare_percent, is_either_day, is_reboot, is_zone_setting, job_warnings, never_starts, rule_warnings}
+use Rattle.plan_check.specs.Known.{KnownJobs, has_room, is_taken, name_fault}
+use Rattle.plan_check.specs.Warnings.{command_warnings, ends_with_return, has_bare_percent, is_either_day, is_reboot, is_zone_setting, job_warnings, never_starts, rule_warnings, warnings_by}
 
 -- ---- lines
 
@@ -49,6 +48,10 @@ no_fault_in_warnings clock line job =
     EitherDay i
     ++ no_fault_noted (has_bare_percent job.command) (ends_with_return job.command) line Percent CarriageReturn i)
 
+no_fault_by : (clock : Option (List Change)) (line : ℕ) (job : JobParts) → filter_map fault_of (warnings_by clock line job) ≡ []
+no_fault_by None line job = refl
+no_fault_by (Some clock) line job = no_fault_in_warnings clock line job
+
 no_fault_in_setting : (is_so : Bool) (line : ℕ) → filter_map fault_of (found_if is_so line (Warned ZoneSetting)) ≡ []
 no_fault_in_setting true line = refl
 no_fault_in_setting false line = refl
@@ -61,32 +64,32 @@ no_fault_named :
 no_fault_named m a b c line = grind (arith, nat_tests)
 
 no_fault_of_job :
-    (known : KnownNames) (line : ℕ) (name : List ℕ) →
+    (known : KnownJobs) (line : ℕ) (name : List ℕ) →
     filter_map fault_of (cons_option (option_map (λ what. finding_at line what) (name_fault known name)) []) ≡ []
 no_fault_of_job known line name =
-    no_fault_named known.makes_jobs (is_added name known.added) (nat_lt (length known.added) most_jobs) known.told line
+    no_fault_named known.makes_jobs (is_taken name known) (has_room known) known.told line
 
 faults_of_job :
-    (known : KnownNames) (line : ℕ) (job : JobParts) → filter_map fault_of (entry_findings known line (Ok job)) ≡ []
+    (known : KnownJobs) (line : ℕ) (job : JobParts) → filter_map fault_of (entry_findings known line (Ok job)) ≡ []
 faults_of_job known line job =
     filter_map-append fault_of (cons_option (option_map (λ what. finding_at line what) (name_fault known job.name)) [])
-    (job_warnings known.clock line job)
-    ∙ (λ i. no_fault_of_job known line job.name i ++ no_fault_in_warnings known.clock line job i)
+    (warnings_by known.clock line job)
+    ∙ (λ i. no_fault_of_job known line job.name i ++ no_fault_by known.clock line job i)
 
 -- the errors of a line with those of the lines after it
 faults_then :
-    (known : KnownNames) (line : ℕ) (text : List ℕ) (read : LineReading (Option JobParts)) (found : List Finding)
+    (known : KnownJobs) (line : ℕ) (text : List ℕ) (read : LineReading (Option JobParts)) (found : List Finding)
     (more : List (Entry JobParts)) → filter_map fault_of found ≡ refusals more →
     filter_map fault_of (line_findings known line text read ++ found) ≡ refusals (cons_option (entry_on line read) more)
 faults_then known line text (Ok None) found more later =
-    filter_map-append fault_of (found_if (is_zone_setting text) line (Warned ZoneSetting)) found
-    ∙ (λ i. no_fault_in_setting (is_zone_setting text) line i ++ later i)
+    let is_so = is_some known.clock && is_zone_setting text in
+    filter_map-append fault_of (found_if is_so line (Warned ZoneSetting)) found ∙ (λ i. no_fault_in_setting is_so line i ++ later i)
 faults_then known line text (Ok (Some job)) found more later =
     filter_map-append fault_of (entry_findings known line (Ok job)) found ∙ (λ i. faults_of_job known line job i ++ later i)
 faults_then known line text (Err cause) found more later = ap (λ faults. fault_on_line line cause ∷ faults) later
 
 pub faults_of_lines :
-    (known : KnownNames) (label : List ℕ) (kind : Kind) (lines : List (ℕ × List ℕ)) →
+    (known : KnownJobs) (label : List ℕ) (kind : Kind) (lines : List (ℕ × List ℕ)) →
     filter_map fault_of (lines_findings known label kind lines) ≡ refusals (filter_map (line_entry label kind) lines)
 faults_of_lines known label kind [] = refl
 faults_of_lines known label kind (line ∷ more) =
@@ -96,7 +99,7 @@ faults_of_lines known label kind (line ∷ more) =
     (faults_of_lines next label kind more)
 
 faults_of_text :
-    (known : KnownNames) (label : List ℕ) (kind : Kind) (texts : List (List ℕ)) →
+    (known : KnownJobs) (label : List ℕ) (kind : Kind) (texts : List (List ℕ)) →
     filter_map fault_of (lines_findings known label kind (enumerate_from 0 texts)) ≡ refusals (entries_of_lines label kind texts)
 unfolding entries_of_lines
 faults_of_text known label kind texts = faults_of_lines known label kind (enumerate_from 0 texts)
@@ -111,7 +114,7 @@ first_refused : {A : Type 0} (faults : List LineFault) (x : A) → first_of faul
 first_refused faults x = grind (arith, nat_tests)
 
 of_bytes :
-    (large utf8 : Bool) (bytes : List ℕ) (known : KnownNames) (label : List ℕ) (kind : Kind) →
+    (large utf8 : Bool) (bytes : List ℕ) (known : KnownJobs) (label : List ℕ) (kind : Kind) →
     first_fault (crontab_findings known label kind (on_line 0 (cond large (Err TooLarge) (cond utf8 (Ok bytes) (Err NotUtf8)))))
     ≡ result_err ((on_line 0 (cond large (Err TooLarge) (cond utf8 (Ok bytes) (Err NotUtf8)))
     >>= λ text. Ok (entries_of_lines label kind (lines text)))
@@ -123,7 +126,7 @@ of_bytes false true bytes known label kind =
 of_bytes false false bytes known label kind = refl
 
 of_crontab :
-    CrontabLaw → (known : KnownNames) (label : List ℕ) (kind : Kind) (bytes : List ℕ) →
+    CrontabLaw → (known : KnownJobs) (label : List ℕ) (kind : Kind) (bytes : List ℕ) →
     first_fault (crontab_findings known label kind (text_reading bytes)) ≡ result_err (crontab_reading label kind bytes)
 of_crontab law known label kind bytes =
     of_bytes (is_too_large bytes) (is_utf8 bytes) bytes known label kind ∙ ap result_err (sym (law label kind bytes))
@@ -137,7 +140,7 @@ of_named true found reading is = is
 of_named false found reading is = refl
 
 pub first_of_file :
-    CrontabLaw → (known : KnownNames) (form : Form) (name bytes : List ℕ) →
+    CrontabLaw → (known : KnownJobs) (form : Form) (name bytes : List ℕ) →
     HasFirst form (file_findings known (file_of form name bytes)) (form_reading form name bytes)
 first_of_file law known (Crontab kind) name bytes = of_crontab law (in_file known (Crontab kind) name) (label_of kind) kind bytes
 first_of_file law known (Named directory) name bytes =

@@ -1,6 +1,7 @@
 pub mod FirstLemmas
 pub mod CleanLemmas
+pub mod ErrorLemmas
 pub mod LinesLemmas
 pub mod TimerLinesLemmas
-pub mod NamesLemmas
+pub mod KnownLemmas
 pub mod QuoteLemmas

@@ -7,7 +7,7 @@ use Rattle.plan_rules.specs.declared.crontabs.Kind.{Kind}
 use Rattle.plan_rules.specs.Crontab.{line_reading}
 use Rattle.plan_check.specs.declared.finding.Finding.{Finding}
 use Rattle.plan_check.specs.Crontabs.{after_line, after_lines, line_findings, lines_findings}
-use Rattle.plan_check.specs.Names.{KnownNames}
+use Rattle.plan_check.specs.Known.{KnownJobs}
 
 -- the lines from a place on, with their positions
 abbrev pub lines_left : {A : Type 0} → (A → List ℕ) → List A → ℕ → List (ℕ × List ℕ)
@@ -20,14 +20,14 @@ left_more v lines place d inside = ap (λ left. enumerate_from place (map v left
 
 -- one more line
 pub found_more :
-    {A : Type 0} (known names : KnownNames) (label : List ℕ) (kind : Kind) (v : A → List ℕ) (lines : List A) (place : ℕ)
+    {A : Type 0} (known next_known : KnownJobs) (label : List ℕ) (kind : Kind) (v : A → List ℕ) (lines : List A) (place : ℕ)
     (d : A) (found next whole : List Finding) → place < length lines →
     next ≡ found
     ++ line_findings known (place + 1) (v (get_or lines place d)) (line_reading label kind (place + 1) (v (get_or lines place d))) →
-    names ≡ after_line known (line_reading label kind (place + 1) (v (get_or lines place d))) →
+    next_known ≡ after_line known (line_reading label kind (place + 1) (v (get_or lines place d))) →
     found ++ lines_findings known label kind (lines_left v lines place) ≡ whole →
-    next ++ lines_findings names label kind (lines_left v lines (place + 1)) ≡ whole
-found_more known names label kind v lines place d found next whole inside is after so_far =
+    next ++ lines_findings next_known label kind (lines_left v lines (place + 1)) ≡ whole
+found_more known next_known label kind v lines place d found next whole inside is after so_far =
     let text = v (get_or lines place d) in
     let read = line_reading label kind (place + 1) text in
     let more = lines_left v lines (place + 1) in
@@ -36,14 +36,14 @@ found_more known names label kind v lines place d found next whole inside is aft
     ∙ ap (λ left. found ++ left) (sym (ap (lines_findings known label kind) (left_more v lines place d inside)))
     ∙ so_far
 
-pub names_more :
-    {A : Type 0} (known names : KnownNames) (label : List ℕ) (kind : Kind) (v : A → List ℕ) (lines : List A) (place : ℕ)
-    (d : A) (whole : KnownNames) → place < length lines →
-    names ≡ after_line known (line_reading label kind (place + 1) (v (get_or lines place d))) →
+pub known_more :
+    {A : Type 0} (known next_known : KnownJobs) (label : List ℕ) (kind : Kind) (v : A → List ℕ) (lines : List A) (place : ℕ)
+    (d : A) (whole : KnownJobs) → place < length lines →
+    next_known ≡ after_line known (line_reading label kind (place + 1) (v (get_or lines place d))) →
     after_lines known label kind (lines_left v lines place) ≡ whole →
-    after_lines names label kind (lines_left v lines (place + 1)) ≡ whole
-names_more known names label kind v lines place d whole inside after so_far =
-    ap (λ (k : KnownNames). after_lines k label kind (lines_left v lines (place + 1))) after
+    after_lines next_known label kind (lines_left v lines (place + 1)) ≡ whole
+known_more known next_known label kind v lines place d whole inside after so_far =
+    ap (λ (k : KnownJobs). after_lines k label kind (lines_left v lines (place + 1))) after
     ∙ sym (ap (after_lines known label kind) (left_more v lines place d inside))
     ∙ so_far
 

@@ -1,9 +1,10 @@
 -- The findings of several files, and whether jobs can be made of them (agenda).
-use Rattle.std.specs.Prelude.{ℕ, nat_lt, if◌then◌else◌, List, [], ◌∷◌, ◌++◌, ◌≡◌, length, is_none, Option, Some, None, option_map, Ok, Err}
+use Rattle.std.specs.Prelude.{ℕ, nat_lt, if◌then◌else◌, List, [], ◌∷◌, ◌++◌, ◌≡◌, length, is_none, Option, Some, None, option_map, is_some, Ok, Err}
 use Rattle.std.specs.List.{cons_option}
 use Rattle.std.specs.Result.{result_err}
 use Rattle.plan_rules.specs.FileText.{text_reading}
 use Rattle.plan_rules.specs.Job.{JobParts}
+use Rattle.plan_rules.specs.Jobs.{number_of}
 use Rattle.plan_rules.specs.Limits.{most_jobs}
 use Rattle.plan_rules.specs.LineFaults.{TextReading}
 use Rattle.plan_rules.specs.NamedCrontabs.{kind_in}
@@ -14,8 +15,8 @@ use Rattle.plan_check.specs.declared.form.Form.TheVariants.{Crontab, Named, Time
 use Rattle.plan_check.specs.Crontabs.{crontab_findings, after_crontab}
 use Rattle.plan_check.specs.Finding.{first_fault, refused_at}
 use Rattle.plan_check.specs.Form.{form_reading, label_of, name_cause}
-use Rattle.plan_check.specs.Names.{KnownNames, is_added, names_after, with_jobs}
-use Rattle.plan_check.specs.Timers.{timer_findings}
+use Rattle.plan_check.specs.Known.{KnownJobs, with_jobs}
+use Rattle.plan_check.specs.Timers.{after_timer, timer_findings}
 
 -- a file
 pub record File : Type 0 where
@@ -33,32 +34,32 @@ abbrev pub name_findings : Form → (name : List ℕ) → List Finding
 name_findings form name = cons_option (option_map (refused_at 0) (name_cause form name)) []
 
 -- what is known in a file: if its name is bad, it makes no jobs
-abbrev pub in_file : KnownNames → Form → (name : List ℕ) → KnownNames
+abbrev pub in_file : KnownJobs → Form → (name : List ℕ) → KnownJobs
 in_file known form name = with_jobs known (is_none (name_cause form name))
 
 -- the findings of a file's text
-abbrev pub text_findings : KnownNames → Form → (name bytes : List ℕ) → List Finding
+abbrev pub text_findings : KnownJobs → Form → (name bytes : List ℕ) → List Finding
 text_findings known (Crontab kind) name bytes = crontab_findings known (label_of kind) kind (text_reading bytes)
 text_findings known (Named directory) name bytes = crontab_findings known name (kind_in directory) (text_reading bytes)
 text_findings known Timer name bytes = timer_findings known name (timer_lines bytes)
 
--- the names of jobs after a file's text
-abbrev pub after_text : KnownNames → Form → (name bytes : List ℕ) → KnownNames
+-- what is known after a file's text
+abbrev pub after_text : KnownJobs → Form → (name bytes : List ℕ) → KnownJobs
 after_text known (Crontab kind) name bytes = after_crontab known (label_of kind) kind (text_reading bytes)
 after_text known (Named directory) name bytes = after_crontab known name (kind_in directory) (text_reading bytes)
-after_text known Timer name bytes = names_after known name
+after_text known Timer name bytes = after_timer known name (timer_lines bytes)
 
 -- the findings of a file: its name is checked first, and then its text, even if the name is bad
-abbrev pub file_findings : KnownNames → File → List Finding
+abbrev pub file_findings : KnownJobs → File → List Finding
 file_findings known file =
     name_findings file.form file.name ++ text_findings (in_file known file.form file.name) file.form file.name file.bytes
 
--- the names of jobs after a file
-abbrev pub after_file : KnownNames → File → KnownNames
+-- what is known after a file
+abbrev pub after_file : KnownJobs → File → KnownJobs
 after_file known file = after_text (in_file known file.form file.name) file.form file.name file.bytes
 
 -- the findings of files, in order
-abbrev pub files_findings : KnownNames → List File → List Finding
+abbrev pub files_findings : KnownJobs → List File → List Finding
 files_findings known [] = []
 files_findings known (file ∷ more) = file_findings known file ++ files_findings (after_file known file) more
 
@@ -68,26 +69,31 @@ HasFirst (Crontab kind) found reading = first_fault found ≡ result_err reading
 HasFirst (Named directory) found reading = first_fault found ≡ result_err reading
 HasFirst Timer found reading = Unit {0}
 
+-- what is known after files
+abbrev pub after_files : KnownJobs → List File → KnownJobs
+after_files known [] = known
+after_files known (file ∷ more) = after_files (after_file known file) more
+
 -- ---- the jobs that are made
 
--- the names after jobs are added, if no two have the same name and there are at most 1,000
-abbrev pub names_with : List (List ℕ) → List JobParts → Option (List (List ℕ))
-names_with added [] = Some added
-names_with added (job ∷ more) =
-    if is_added job.name added then None
-    else (if nat_lt (length added) most_jobs then names_with (added ++ job.name ∷ []) more else None)
+-- jobs with more jobs after them, if no two have the same name and there are at most 1,000
+abbrev pub jobs_with : List JobParts → List JobParts → Option (List JobParts)
+jobs_with jobs [] = Some jobs
+jobs_with jobs (job ∷ more) =
+    if is_some (number_of job.name jobs) then None
+    else (if nat_lt (length jobs) most_jobs then jobs_with (jobs ++ job ∷ []) more else None)
 
--- the names after the jobs of a reading are added
-abbrev pub names_by : List (List ℕ) → TextReading (List JobParts) → Option (List (List ℕ))
-names_by added (Ok jobs) = names_with added jobs
-names_by added (Err fault) = None
+-- the same with the jobs of a reading after them
+abbrev pub jobs_by : List JobParts → TextReading (List JobParts) → Option (List JobParts)
+jobs_by jobs (Ok more) = jobs_with jobs more
+jobs_by jobs (Err fault) = None
 
--- names, if there are any, and what follows them
-abbrev pub names_then : Option (List (List ℕ)) → (List (List ℕ) → Option (List (List ℕ))) → Option (List (List ℕ))
-names_then None next = None
-names_then (Some added) next = next added
+-- jobs, if there are any, and what follows them
+abbrev pub jobs_then : Option (List JobParts) → (List JobParts → Option (List JobParts)) → Option (List JobParts)
+jobs_then None next = None
+jobs_then (Some jobs) next = next jobs
 
--- the names of the jobs of files, if jobs can be made of all of them
-abbrev pub files_names : List (List ℕ) → List File → Option (List (List ℕ))
-files_names added [] = Some added
-files_names added (file ∷ more) = names_then (names_by added (form_reading file.form file.name file.bytes)) (λ next. files_names next more)
+-- the jobs of files after other jobs, if jobs can be made of all of them
+abbrev pub files_jobs : List JobParts → List File → Option (List JobParts)
+files_jobs jobs [] = Some jobs
+files_jobs jobs (file ∷ more) = jobs_then (jobs_by jobs (form_reading file.form file.name file.bytes)) (λ next. files_jobs next more)

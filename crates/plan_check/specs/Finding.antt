@@ -1,5 +1,5 @@
 -- Findings of lines and of whole files (agenda).
-use Rattle.std.specs.Prelude.{ℕ, Bool, true, false, List, [], ◌∷◌, codes, Option, Some, None}
+use Rattle.std.specs.Prelude.{ℕ, Bool, true, false, not, List, [], ◌∷◌, codes, filter, Option, Some, None}
 use Rattle.std.specs.List.{filter_map, list_all}
 use Rattle.plan_rules.specs.declared.line_fault.LineCause.{LineCause}
 use Rattle.plan_rules.specs.declared.line_fault.LineFault.{LineFault}
@@ -72,3 +72,7 @@ is_warning (Warned warning) = true
 -- whether nothing is rejected
 abbrev pub is_clean : List Finding → Bool
 is_clean found = list_all (λ finding. is_warning finding.what) found
+
+-- the errors among findings
+abbrev pub errors_of : List Finding → List Finding
+errors_of found = filter (λ finding. not (is_warning finding.what)) found

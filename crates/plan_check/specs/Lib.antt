@@ -1,5 +1,5 @@
 pub mod Finding
-pub mod Names
+pub mod Known
 pub mod Skipped
 pub mod Warnings
 pub mod Crontabs

@@ -1,53 +1,61 @@
 -- The findings of a timer file (systemd.timer(5)). Which findings there are, and their order, is our choice (agenda).
-use Rattle.std.specs.Prelude.{ℕ, false, not, ◌&&◌, ◌==◌, List, [], ◌∷◌, ◌++◌, Option, Some, None, option_map, Ok, Err}
+use Rattle.std.specs.Prelude.{ℕ, false, not, ◌&&◌, ◌==◌, if◌then◌else◌, List, [], ◌∷◌, ◌++◌, Option, Some, None, option_map, is_some, string_bytes, Ok, Err}
 use Rattle.std.specs.List.{cons_option}
+use Rattle.std.specs.Result.{result_ok}
 use Rattle.plan_clock.specs.declared.row.Change.{Change}
 use Rattle.plan_match.specs.Zone.{rule_in}
 use Rattle.plan_match.specs.declared.event.Calendar.{Calendar}
 use Rattle.plan_match.specs.declared.rule.Rule.TheVariants.{Events}
 use Rattle.plan_rules.specs.declared.line_fault.LineCause.TheVariants.{NoTimerSection}
+use Rattle.plan_rules.specs.Job.{JobParts}
 use Rattle.plan_rules.specs.LineFaults.{LineReading, TextReading}
-use Rattle.plan_rules.specs.Timer.{has_timer, timer_setting}
+use Rattle.plan_rules.specs.Timer.{effects_from, first_unit, has_timer, is_timer_name, timer_job, timer_setting}
 use Rattle.plan_rules.specs.TimerEntries.{LineStep, Idle, Empties, Has, Names, TimerState, held_after, line_in, no_lines, state_after}
+use Rattle.plan_check.specs.declared.draft.Draft.{Draft}
 use Rattle.plan_check.specs.declared.finding.Finding.{Finding}
 use Rattle.plan_check.specs.declared.finding.Warning.TheVariants.{NeverStarts, NoEvents, SkippedStarts, UnknownKey, Monotonic, Delayed}
 use Rattle.plan_check.specs.declared.finding.What.TheVariants.{Refused, Warned}
 use Rattle.plan_check.specs.Finding.{finding_at, found_if, refused_at}
-use Rattle.plan_check.specs.Names.{KnownNames, name_fault}
+use Rattle.plan_check.specs.Known.{KnownJobs, after_job, after_other, name_fault}
 use Rattle.plan_check.specs.Settings.{Setting, is_delayed, is_monotonic, is_unknown_key, settings_from, value_of}
 use Rattle.plan_check.specs.Skipped.{may_skip_starts}
 use Rattle.plan_check.specs.Warnings.{never_starts}
 
 -- ---- one line
 
--- the findings of an event: its error, or that a job with only this event never starts, by the clock of a zone, and that systemd may
--- pass over its starts
-abbrev pub read_findings : List Change → ℕ → (text : List ℕ) → LineReading Calendar → List Finding
-read_findings clock line text (Ok event) =
+-- the warnings on an event: a job with only this event never starts, by the clock of a zone, and systemd may pass over its
+-- starts. Without a clock there are no warnings
+abbrev pub event_warnings : Option (List Change) → ℕ → (text : List ℕ) → Calendar → List Finding
+event_warnings None line text event = []
+event_warnings (Some clock) line text event =
     found_if (never_starts (rule_in clock (Events (event ∷ [])))) line (Warned NeverStarts)
     ++ found_if (may_skip_starts text event) line (Warned SkippedStarts)
+
+-- the findings of an event: its error, or the warnings on it
+abbrev pub read_findings : Option (List Change) → ℕ → (text : List ℕ) → LineReading Calendar → List Finding
+read_findings clock line text (Ok event) = event_warnings clock line text event
 read_findings clock line text (Err cause) = refused_at line cause ∷ []
 
 -- the findings of what a line does, with its setting: those of its event
-abbrev pub step_findings : List Change → Option Setting → LineStep → List Finding
+abbrev pub step_findings : Option (List Change) → Option Setting → LineStep → List Finding
 step_findings clock setting (Has entry) = read_findings clock entry.line (value_of setting) entry.read
 step_findings clock setting Idle = []
 step_findings clock setting Empties = []
 step_findings clock setting (Names unit) = []
 
--- the finding of a line's setting
-abbrev pub setting_findings : ℕ → Option Setting → List Finding
-setting_findings line None = []
-setting_findings line (Some setting) = found_if (is_unknown_key setting.0) line (Warned UnknownKey)
+-- the finding of a line's setting, if there are to be warnings
+abbrev pub setting_findings : Option (List Change) → ℕ → Option Setting → List Finding
+setting_findings clock line None = []
+setting_findings clock line (Some setting) = found_if (is_some clock && is_unknown_key setting.0) line (Warned UnknownKey)
 
 -- the findings of a line, in the state before it
-abbrev pub line_findings : List Change → TimerState → ℕ × List ℕ → List Finding
+abbrev pub line_findings : Option (List Change) → TimerState → ℕ × List ℕ → List Finding
 line_findings clock state line =
     step_findings clock (timer_setting state.inside line.1) (line_in state line)
-    ++ setting_findings line.0 (timer_setting state.inside line.1)
+    ++ setting_findings clock line.0 (timer_setting state.inside line.1)
 
 -- the findings of lines, in order
-abbrev pub lines_findings : List Change → TimerState → List (ℕ × List ℕ) → List Finding
+abbrev pub lines_findings : Option (List Change) → TimerState → List (ℕ × List ℕ) → List Finding
 lines_findings clock state [] = []
 lines_findings clock state (line ∷ more) = line_findings clock state line ++ lines_findings clock (state_after state line.1) more
 
@@ -55,20 +63,57 @@ lines_findings clock state (line ∷ more) = line_findings clock state line ++ l
 
 -- what is wrong with the name of the timer's job. Each timer makes a job, whatever else is rejected, unless the file's
 -- name is bad
-abbrev pub job_findings : KnownNames → List ℕ → List Finding
+abbrev pub job_findings : KnownJobs → List ℕ → List Finding
 job_findings known name = cons_option (option_map (λ what. finding_at 0 what) (name_fault known name)) []
 
--- the warnings on the whole file, in this order
-abbrev pub timer_warnings : List (ℕ × List ℕ) → List Finding
-timer_warnings lines =
+-- the warnings on the whole file, in this order. Without a clock there are none
+abbrev pub timer_warnings : Option (List Change) → List (ℕ × List ℕ) → List Finding
+timer_warnings None lines = []
+timer_warnings (Some clock) lines =
     found_if (has_timer lines && (held_after lines == 0)) 0 (Warned NoEvents)
     ++ (found_if (is_monotonic (settings_from false lines)) 0 (Warned Monotonic)
     ++ found_if (is_delayed (settings_from false lines)) 0 (Warned Delayed))
 
 -- the findings of the whole lines of a text: first those of the whole file, then those of its lines. A text that is too large
 -- or not UTF-8 has no lines, and no missing section is reported
-abbrev pub timer_findings : KnownNames → List ℕ → TextReading (List (ℕ × List ℕ)) → List Finding
+abbrev pub timer_findings : KnownJobs → List ℕ → TextReading (List (ℕ × List ℕ)) → List Finding
 timer_findings known name (Ok lines) =
     found_if (not (has_timer lines)) 0 (Refused NoTimerSection)
-    ++ (job_findings known name ++ (timer_warnings lines ++ lines_findings known.clock no_lines lines))
+    ++ (job_findings known name ++ (timer_warnings known.clock lines ++ lines_findings known.clock no_lines lines))
 timer_findings known name (Err fault) = refused_at fault.line fault.cause ∷ job_findings known name
+
+-- ---- the job that is kept
+
+-- the events in the list after a line: an event that is rejected is left out, and so is one that would be the 65th
+abbrev pub events_with : List Calendar → LineStep → List Calendar
+events_with held (Has entry) = held ++ cons_option (result_ok entry.read) []
+events_with held Empties = []
+events_with held Idle = held
+events_with held (Names unit) = held
+
+-- the events in the list after lines, from a state and the events that the list already has
+abbrev pub right_events : TimerState → List Calendar → List (ℕ × List ℕ) → List Calendar
+right_events state held [] = held
+right_events state held (line ∷ more) = right_events (state_after state line.1) (events_with held (line_in state line)) more
+
+-- the unit that is named after a line: the first one counts
+abbrev pub unit_with : Option (List ℕ) → LineStep → Option (List ℕ)
+unit_with (Some first) step = Some first
+unit_with None (Names unit) = Some unit
+unit_with None Idle = None
+unit_with None Empties = None
+unit_with None (Has entry) = None
+
+-- the unit that the lines so far name
+abbrev pub unit_of : Draft → Option (List ℕ)
+unit_of draft = option_map (λ unit. string_bytes unit) draft.unit
+
+-- the job of a timer with the events that are right, whatever else is rejected
+abbrev pub right_job : List ℕ → List (ℕ × List ℕ) → JobParts
+right_job name lines = timer_job name (first_unit (effects_from false lines)) (right_events no_lines [] lines)
+
+-- what is known after a timer: its job is kept if nothing of the whole file is rejected
+abbrev pub after_timer : KnownJobs → List ℕ → TextReading (List (ℕ × List ℕ)) → KnownJobs
+after_timer known name (Ok lines) =
+    if is_timer_name name && has_timer lines then after_job known (right_job name lines) else after_other known name
+after_timer known name (Err fault) = after_other known name

@@ -1,5 +1,5 @@
 -- The warnings on the lines of crontabs: on valid rules, on what they run, and on settings.
-use Rattle.std.specs.Prelude.{ℕ, ◌-◌, Bool, true, false, not, ◌&&◌, ◌||◌, ◌==◌, nat_eq, nat_lt, List, [], ◌∷◌, ◌++◌, length, codes, is_none, slice_get}
+use Rattle.std.specs.Prelude.{ℕ, ◌-◌, Bool, true, false, not, ◌&&◌, ◌||◌, ◌==◌, nat_eq, nat_lt, List, [], ◌∷◌, ◌++◌, length, codes, Option, Some, None, is_none, slice_get}
 use Rattle.std.specs.List.{before_first, ends_with, list_any, position_or_len, range_with_len, slice_index}
 use Rattle.std.specs.Str.{byte, bytes_eq}
 use Rattle.plan_sets.specs.Limits.{end_second}
@@ -60,6 +60,11 @@ command_warnings line command =
 -- the warnings on the job of a line, in this order (agenda)
 abbrev pub job_warnings : List Change → ℕ → JobParts → List Finding
 job_warnings clock line job = rule_warnings clock line job.rule ++ command_warnings line job.command
+
+-- the same, if there is a clock: without one there are no warnings
+abbrev pub warnings_by : Option (List Change) → ℕ → JobParts → List Finding
+warnings_by None line job = []
+warnings_by (Some clock) line job = job_warnings clock line job
 
 -- ---- settings
 

@@ -8,7 +8,7 @@ ghost use Rattle.plan_check.specs.Form.{cause_at_once, form_reading, label_of, n
 
 use crate::crontabs::add_crontab;
 use crate::finding::Finding;
-use crate::names::Names;
+use crate::known::Known;
 use crate::report::refuse;
 use crate::timers::add_timer;
 use plan_rules::{
@@ -48,8 +48,8 @@ impl Form {
         }
     }
 
-    /// Returns all findings of a file of this form, in order. Adds the names of its jobs to `names`, which has
-    /// the names of the jobs before them.
+    /// Returns all findings of a file of this form, in order. Adds the jobs of which nothing is rejected to `known`,
+    /// which has the jobs before them.
     ///
     /// The first finding is that the name is bad: `BadTabName`, see `is_crontab_name`, or `BadTimerName`, see
     /// `is_timer_name`. A file whose name is bad makes no jobs, so it has no findings about their names. If the text has
@@ -77,40 +77,43 @@ impl Form {
     /// - By line: each event's error, or the warnings `NeverStarts` and `SkippedStarts`, as `TimerReader` of
     ///   plan_rules reads it; and the warning `UnknownKey` for each other key than those of systemd.timer(5).
     ///
+    /// A job is added if it has no such error as `SameName` or `Full`. A timer's job is added if no error is one of the
+    /// whole file. Its rule is the list of the events that aren't rejected. If `known` has no clock, there are no warnings.
+    ///
     /// # Errors
     ///
-    /// `AllocError` if an allocation fails. The contract doesn't say what `names` has then.
+    /// `AllocError` if an allocation fails. The contract doesn't say what `known` has then.
     pub fn findings(
         self,
         alloc: Global,
-        names: &mut Names,
+        known: &mut Known,
         name: &str,
         bytes: &[u8],
     ) -> Result<Vec<Finding>, AllocError>
-        ensures found { IfOk result (λ found. found.items ≡ file_findings names.old (file_of self name.now bytes.now)) }
-        ensures names { OnOk result (names.new ≡ after_file names.old (file_of self name.now bytes.now)) }
+        ensures found { IfOk result (λ found. found.items ≡ file_findings known.old (file_of self name.now bytes.now)) }
+        ensures known { OnOk result (known.new ≡ after_file known.old (file_of self name.now bytes.now)) }
         // The first error among the findings of a crontab is the one that `read` returns.
         ensures first { IfOk result (λ found. HasFirst self found.items (form_reading self name.now bytes.now)) }
     {
         crontab_is_its_entries();
         let mut found = Vec::new(alloc);
-        self.add_name(names, &mut found, name)?;
-        self.add_text(alloc, names, &mut found, name, bytes)?;
+        self.add_name(known, &mut found, name)?;
+        self.add_text(alloc, known, &mut found, name, bytes)?;
         Ok(found)
     }
 
     // Begins the file with a name, and adds what is wrong with the name.
     fn add_name(
         self,
-        names: &mut Names,
+        known: &mut Known,
         found: &mut Vec<Finding>,
         name: &str,
     ) -> Result<(), AllocError>
         ensures found { OnOk result (found.new.items ≡ found.old.items ++ name_findings self name.now) }
-        ensures names { names.new ≡ in_file names.old self name.now }
+        ensures known { known.new ≡ in_file known.old self name.now }
     {
         let cause = self.name_cause(name);
-        names.begin_file(cause.is_none());
+        known.begin_file(cause.is_none());
         match cause {
             Some(cause) => refuse(found, 0, cause),
             None => Ok(()),
@@ -134,26 +137,26 @@ impl Form {
     fn add_text(
         self,
         alloc: Global,
-        names: &mut Names,
+        known: &mut Known,
         found: &mut Vec<Finding>,
         name: &str,
         bytes: &[u8],
     ) -> Result<(), AllocError>
         ensures found { OnOk result (found.new.items ≡ found.old.items
-            ++ text_findings names.old self name.now bytes.now) }
-        ensures names { OnOk result (names.new ≡ after_text names.old self name.now bytes.now) }
+            ++ text_findings known.old self name.now bytes.now) }
+        ensures known { OnOk result (known.new ≡ after_text known.old self name.now bytes.now) }
     {
         match self {
-            Form::Crontab(kind) => add_crontab(alloc, names, found, label_of(kind), kind, bytes),
+            Form::Crontab(kind) => add_crontab(alloc, known, found, label_of(kind), kind, bytes),
             Form::Named(directory) => add_crontab(
                 alloc,
-                names,
+                known,
                 found,
                 name,
                 kind_in(directory),
                 bytes,
             ),
-            Form::Timer => add_timer(alloc, names, found, name, bytes),
+            Form::Timer => add_timer(alloc, known, found, name, bytes),
         }
     }
 }

@@ -1,10 +1,10 @@
 //! The law that connects the findings of files with the jobs that files make.
 
-ghost use Rattle.std.specs.Prelude.{◌≡◌, List, [], is_some};
+ghost use Rattle.std.specs.Prelude.{◌≡◌, List, [], IfSome, Option, is_some};
 ghost use Rattle.plan_clock.specs.declared.row.Change.{Change};
-ghost use Rattle.plan_check.specs.Finding.{is_clean};
-ghost use Rattle.plan_check.specs.Names.{no_names};
-ghost use Rattle.plan_check.specs.Files.{File, files_findings, files_names};
+ghost use Rattle.plan_check.specs.Finding.{errors_of, is_clean};
+ghost use Rattle.plan_check.specs.Known.{KnownJobs, no_jobs, without_warnings};
+ghost use Rattle.plan_check.specs.Files.{File, after_file, after_files, file_findings, files_findings, files_jobs};
 
 use plan_rules::{crontab_is_its_entries, timer_is_its_entries};
 
@@ -14,8 +14,19 @@ use plan_rules::{crontab_is_its_entries, timer_is_its_entries};
 ///
 /// The function does nothing: its contract is the law.
 pub fn clean_where_jobs_are()
-    ensures { (clock : List Change) (files : List File) → is_clean (files_findings (no_names clock) files) ≡ is_some (files_names [] files) }
+    ensures clean { (clock : Option (List Change)) (files : List File) → is_clean (files_findings (no_jobs clock) files) ≡ is_some (files_jobs [] files) }
+    // Then these are the jobs that are kept.
+    ensures kept { (clock : Option (List Change)) (files : List File) → IfSome (files_jobs [] files) (λ jobs. (after_files (no_jobs clock) files).jobs ≡ jobs) }
 {
     crontab_is_its_entries();
     timer_is_its_entries();
 }
+
+/// States the law of errors: without a clock, the findings of a file are the errors among those with one, and the same
+/// jobs are kept.
+///
+/// The function does nothing: its contract is the law.
+pub fn errors_need_no_clock()
+    ensures found { (known : KnownJobs) (file : File) → file_findings (without_warnings known) file ≡ errors_of (file_findings known file) }
+    ensures known { (known : KnownJobs) (file : File) → after_file (without_warnings known) file ≡ without_warnings (after_file known file) }
+{}

@@ -2,15 +2,16 @@
 //!
 //! plan_rules reads each line by itself, and plan_next says whether a rule has a start. Read `finding` first,
 //! then `form`, which reads a file or finds what is wrong with it, and `crontabs` and `timers` for the lines.
-//! `warnings`, `settings` and `skipped` are what they warn about. `names` is what is passed from file to file, `quotes`
+//! `warnings`, `settings` and `skipped` are what they warn about. `known` is what is passed from file to file, `quotes`
 //! finds the text that a message quotes, and `laws` connects findings with jobs.
 #![tactic(auto)]
 
 mod crontabs;
+mod draft;
 mod finding;
 mod form;
+mod known;
 mod laws;
-mod names;
 mod quotes;
 mod report;
 mod settings;
@@ -20,6 +21,6 @@ mod warnings;
 
 pub use finding::{Finding, Warning, What};
 pub use form::Form;
-pub use laws::clean_where_jobs_are;
-pub use names::Names;
+pub use known::Known;
+pub use laws::{clean_where_jobs_are, errors_need_no_clock};
 pub use quotes::Quoted;

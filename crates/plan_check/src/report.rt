@@ -3,12 +3,12 @@
 ghost use Rattle.std.specs.Prelude.{◌≡◌, ◌++◌, ◌∷◌, [], OnOk, option_map};
 ghost use Rattle.std.specs.List.{cons_option};
 ghost use Rattle.plan_check.specs.Finding.{finding_at, found_if, refused_at};
-ghost use Rattle.plan_check.specs.Names.{name_fault, names_after};
+ghost use Rattle.plan_check.specs.Known.{name_fault};
 
 use crate::finding::{Finding, What};
-use crate::names::Names;
+use crate::known::Known;
 use plan_rules::LineCause;
-use std::alloc::{AllocError, Global};
+use std::alloc::AllocError;
 
 // Adds a finding of a line, or of the whole file, which is line 0, if `is_so`.
 pub(crate) fn add_if(
@@ -38,19 +38,17 @@ pub(crate) fn refuse(
     Ok(())
 }
 
-// Adds the name of a line's job to the names, and what is wrong with it to the findings.
-pub(crate) fn add_job(
-    alloc: Global,
-    names: &mut Names,
+// Adds what is wrong with the name of a job of a line, or of the whole file, which is line 0.
+pub(crate) fn add_name_fault(
+    known: &Known,
     found: &mut Vec<Finding>,
     line: u32,
     name: &str,
 ) -> Result<(), AllocError>
-    ensures found { OnOk result (found.new.items ≡ found.old.items
-        ++ cons_option (option_map (λ what. finding_at line what) (name_fault names.old name.now)) []) }
-    ensures names { OnOk result (names.new ≡ names_after names.old name.now) }
+    ensures { OnOk result (found.new.items ≡ found.old.items
+        ++ cons_option (option_map (λ what. finding_at line what) (name_fault known.now name.now)) []) }
 {
-    if let Some(what) = names.add(alloc, name)? {
+    if let Some(what) = known.name_fault(name) {
         found.push(Finding { line, what })?;
     }
     Ok(())

@@ -1,75 +1,102 @@
 //! The findings of the text of a timer file (systemd.timer(5)).
 
-ghost use Rattle.std.specs.Prelude.{◌≡◌, ◌++◌, false, IfOk, OnOk, Ok, map, option_map};
-ghost use Rattle.plan_rules.specs.Timer.{has_timer, timer_setting};
-ghost use Rattle.plan_rules.specs.TimerEntries.{held_after, line_shown, no_lines, shown_line, state_after, timer_lines};
-ghost use Rattle.plan_check.specs.Names.{names_after};
+ghost use Rattle.std.specs.Prelude.{◌≡◌, ◌++◌, ◌∷◌, ◌&&◌, [], if◌then◌else◌, false, IfOk, OnOk, Ok, map, option_map};
+ghost use Rattle.std.specs.List.{cons_option};
+ghost use Rattle.std.specs.Result.{result_ok};
+ghost use Rattle.plan_match.specs.Zone.{rule_in};
+ghost use Rattle.plan_match.specs.declared.rule.Rule.TheVariants as rule;
+ghost use Rattle.plan_rules.specs.Timer.{effects_from, first_unit, has_timer, is_timer_name, timer_job, timer_setting};
+ghost use Rattle.plan_rules.specs.TimerEntries.{held_after, line_in, line_shown, no_lines, shown_line, state_after, timer_lines};
+ghost use Rattle.plan_check.specs.Known.{after_job, after_other};
 ghost use Rattle.plan_check.specs.Settings.{is_delayed, is_monotonic, settings_from, standing_after};
-ghost use Rattle.plan_check.specs.Timers.{line_findings, lines_findings, read_findings, setting_findings, step_findings, timer_findings, timer_warnings};
+ghost use Rattle.plan_check.specs.Timers.{after_timer, event_warnings, events_with, line_findings, lines_findings, read_findings, right_events, setting_findings, step_findings, timer_findings, timer_warnings, unit_of, unit_with};
+ghost use Rattle.plan_check.specs.Warnings.{never_starts};
 
+use crate::draft::Draft;
 use crate::finding::{Finding, Warning, What};
-use crate::names::Names;
-use crate::report::{add_if, add_job, refuse};
+use crate::known::Known;
+use crate::report::{add_if, add_name_fault, refuse};
 use crate::settings::{Standing, is_unknown_key, value_of};
 use crate::skipped::may_skip_starts;
-use crate::warnings::never_starts;
 use plan_clock::Clock;
+use plan_next::next_from;
 use plan_rules::{
-    Calendar, Entry, Events, LineCause, LineFault, Rule, TimerLine, TimerReader, text_of,
+    Calendar, Entry, Events, LineCause, LineFault, Rule, TimerLine, TimerReader, is_timer_name,
+    text_of, timer_job,
 };
 use plan_texts::whole_lines::{WholeLine, whole_lines};
 use std::alloc::{AllocError, Global};
 
-// Adds the findings of a timer's text.
+// Adds the findings of a timer's text, and its job.
 pub(crate) fn add_timer(
     alloc: Global,
-    names: &mut Names,
+    known: &mut Known,
     found: &mut Vec<Finding>,
     name: &str,
     bytes: &[u8],
 ) -> Result<(), AllocError>
     ensures found { OnOk result (found.new.items ≡ found.old.items
-        ++ timer_findings names.old name.now (timer_lines bytes.now)) }
-    ensures names { OnOk result (names.new ≡ names_after names.old name.now) }
+        ++ timer_findings known.old name.now (timer_lines bytes.now)) }
+    ensures known { OnOk result (known.new ≡ after_timer known.old name.now (timer_lines bytes.now)) }
 {
     match text_of(bytes) {
         Ok(text) => {
             let lines = whole_lines(alloc, text)?;
-            add_lines(alloc, names, found, name, lines.as_slice())
+            add_lines(alloc, known, found, name, lines.as_slice())
         }
         Err(LineFault { line, cause }) => {
             refuse(found, line, cause)?;
-            add_job(alloc, names, found, 0, name)
+            add_name_fault(known, found, 0, name)?;
+            known.add_other(alloc, name)
         }
     }
 }
 
-// Adds the findings of the whole file, whose lines are given, and then those of its lines.
+// Adds the findings of the whole file, whose lines are given, then those of its lines, and then its job.
 fn add_lines(
     alloc: Global,
-    names: &mut Names,
+    known: &mut Known,
     found: &mut Vec<Finding>,
     name: &str,
     lines: &[WholeLine],
 ) -> Result<(), AllocError>
     ensures found { OnOk result (found.new.items ≡ found.old.items
-        ++ timer_findings names.old name.now (Ok (map shown_line lines.now))) }
-    ensures names { OnOk result (names.new ≡ names_after names.old name.now) }
+        ++ timer_findings known.old name.now (Ok (map shown_line lines.now))) }
+    ensures known { OnOk result (known.new ≡ after_timer known.old name.now (Ok (map shown_line lines.now))) }
 {
-    let clock = names.clock()?;
     let mut later = Vec::new(alloc);
-    let (reader, standing) = read_lines(alloc, &mut later, &clock, lines)?;
+    let (reader, standing, draft) = read_lines(alloc, &mut later, known.clock(), lines)?;
+    let has_section = reader.has_section();
     let missing = What::Refused(LineCause::NoTimerSection);
-    add_if(found, !reader.has_section(), 0, missing)?;
-    add_job(alloc, names, found, 0, name)?;
-    add_timer_warnings(found, &reader, standing, lines)?;
+    add_if(found, !has_section, 0, missing)?;
+    add_name_fault(known, found, 0, name)?;
+    add_timer_warnings(found, known.clock(), &reader, standing, lines)?;
     found.append(&mut later)?;
-    Ok(())
+    add_timer_job(alloc, known, name, has_section, draft)
 }
 
-// Adds the warnings on the whole file.
+// Adds the job of a timer, unless the whole timer is rejected.
+fn add_timer_job(
+    alloc: Global,
+    known: &mut Known,
+    name: &str,
+    has_section: bool,
+    draft: Draft,
+) -> Result<(), AllocError>
+    ensures { OnOk result (known.new ≡ (if is_timer_name name.now && has_section
+        then after_job known.old (timer_job name.now (unit_of draft) draft.events) else after_other known.old name.now)) }
+{
+    if is_timer_name(name.as_bytes()) && has_section {
+        let job = timer_job(alloc, name, draft.unit, draft.events)?;
+        return known.add(job);
+    }
+    known.add_other(alloc, name)
+}
+
+// Adds the warnings on the whole file, if there is a clock.
 fn add_timer_warnings(
     found: &mut Vec<Finding>,
+    clock: &Option<Clock>,
     reader: &TimerReader,
     standing: Standing,
     lines: &[WholeLine],
@@ -78,8 +105,11 @@ fn add_timer_warnings(
     requires held { reader.now.count.held ≡ held_after (map shown_line lines.now) }
     requires monotonic { standing.monotonic ≡ is_monotonic (settings_from false (map shown_line lines.now)) }
     requires delayed { standing.delayed ≡ is_delayed (settings_from false (map shown_line lines.now)) }
-    ensures { OnOk result (found.new.items ≡ found.old.items ++ timer_warnings (map shown_line lines.now)) }
+    ensures { OnOk result (found.new.items ≡ found.old.items ++ timer_warnings clock.now (map shown_line lines.now)) }
 {
+    if clock.is_none() {
+        return Ok(());
+    }
     let empty = What::Warned(Warning::NoEvents);
     add_if(found, reader.has_section() && reader.held() == 0, 0, empty)?;
     let monotonic = What::Warned(Warning::Monotonic);
@@ -88,103 +118,149 @@ fn add_timer_warnings(
     add_if(found, standing.delayed, 0, delayed)
 }
 
-// Adds the findings of lines, in order. Returns the reader after the last line, and what stands then.
+// Adds the findings of lines, in order. Returns the reader after the last line, what stands then, and what the lines
+// say of the job.
 fn read_lines(
     alloc: Global,
     found: &mut Vec<Finding>,
-    clock: &Clock,
+    clock: &Option<Clock>,
     lines: &[WholeLine],
-) -> Result<(TimerReader, Standing), AllocError>
+) -> Result<(TimerReader, Standing, Draft), AllocError>
     ensures section { IfOk result (λ read. read.0.found ≡ has_timer (map shown_line lines.now)) }
     ensures held { IfOk result (λ read. read.0.count.held ≡ held_after (map shown_line lines.now)) }
     ensures monotonic { IfOk result (λ read. read.1.monotonic ≡ is_monotonic (settings_from false (map shown_line lines.now))) }
     ensures delayed { IfOk result (λ read. read.1.delayed ≡ is_delayed (settings_from false (map shown_line lines.now))) }
+    ensures unit { IfOk result (λ read. unit_of read.2 ≡ first_unit (effects_from false (map shown_line lines.now))) }
+    ensures events { IfOk result (λ read. read.2.events ≡ right_events no_lines [] (map shown_line lines.now)) }
     ensures found { OnOk result (found.new.items ≡ found.old.items ++ lines_findings clock.now no_lines (map shown_line lines.now)) }
 {
     let mut reader = TimerReader::new();
     let mut standing = Standing::new();
+    let mut draft = Draft::new(alloc);
     for line in lines {
         standing = standing.after(reader.setting(line));
-        add_line(alloc, &mut reader, found, clock, line)?;
+        add_line(alloc, &mut reader, &mut draft, found, clock, line)?;
     }
-    Ok((reader, standing))
+    Ok((reader, standing, draft))
 }
 
-// Adds the findings of a line.
+// Adds the findings of a line, and what it says of the job.
 fn add_line(
     alloc: Global,
     reader: &mut TimerReader,
+    draft: &mut Draft,
     found: &mut Vec<Finding>,
-    clock: &Clock,
+    clock: &Option<Clock>,
     line: &WholeLine,
 ) -> Result<(), AllocError>
     ensures found { OnOk result (found.new.items ≡ found.old.items ++ line_findings clock.now reader.old (shown_line line.now)) }
     ensures reader { OnOk result (reader.new ≡ state_after reader.old (shown_line line.now).1) }
+    ensures unit { OnOk result (unit_of draft.new ≡ unit_with (unit_of draft.old) (line_in reader.old (shown_line line.now))) }
+    ensures events { OnOk result (draft.new.events ≡ events_with draft.old.events (line_in reader.old (shown_line line.now))) }
 {
     let setting = reader.setting(line);
     let step = reader.read(alloc, line)?;
-    add_step(alloc, found, clock, setting, step)?;
-    add_setting(found, line.number, setting)
+    add_step(alloc, draft, found, clock, setting, step)?;
+    add_setting(found, clock, line.number, setting)
 }
 
-// Adds the findings of what a line does, with its setting: those of its event, if there is one.
+// Adds the findings of what a line does, with its setting: those of its event, if there is one. Adds to the job what
+// the line says of it.
 fn add_step(
     alloc: Global,
+    draft: &mut Draft,
     found: &mut Vec<Finding>,
-    clock: &Clock,
+    clock: &Option<Clock>,
     setting: Option<(&str, &str)>,
     step: TimerLine<'_>,
 ) -> Result<(), AllocError>
-    ensures { OnOk result (found.new.items ≡ found.old.items ++ step_findings clock.now
+    ensures found { OnOk result (found.new.items ≡ found.old.items ++ step_findings clock.now
         (option_map (λ setting. (setting.0.now, setting.1.now)) setting.entry) (line_shown step.entry)) }
+    ensures unit { OnOk result (unit_of draft.new ≡ unit_with (unit_of draft.old) (line_shown step.entry)) }
+    ensures events { OnOk result (draft.new.events ≡ events_with draft.old.events (line_shown step.entry)) }
 {
     match step {
         TimerLine::Event(Entry { line, read }) => {
-            add_event(alloc, found, clock, line, value_of(setting), read)
+            add_event(alloc, draft, found, clock, line, value_of(setting), read)
         }
-        TimerLine::Nothing | TimerLine::Empties | TimerLine::Starts(_) => Ok(()),
+        TimerLine::Empties => {
+            draft.empty();
+            Ok(())
+        }
+        TimerLine::Starts(unit) => draft.name_unit(alloc, unit),
+        TimerLine::Nothing => Ok(()),
     }
 }
 
 // Adds the finding of a line's setting, if there is one.
 fn add_setting(
     found: &mut Vec<Finding>,
+    clock: &Option<Clock>,
     line: u32,
     setting: Option<(&str, &str)>,
 ) -> Result<(), AllocError>
-    ensures { OnOk result (found.new.items ≡ found.old.items ++ setting_findings line
+    ensures { OnOk result (found.new.items ≡ found.old.items ++ setting_findings clock.now line
         (option_map (λ setting. (setting.0.now, setting.1.now)) setting.entry)) }
 {
     match setting {
         Some((key, _)) => {
+            let is_warned = clock.is_some() && is_unknown_key(key);
             let unknown = What::Warned(Warning::UnknownKey);
-            add_if(found, is_unknown_key(key), line, unknown)
+            add_if(found, is_warned, line, unknown)
         }
         None => Ok(()),
     }
 }
 
-// Adds the findings of an event with this text.
+// Adds the findings of an event with this text, and the event to the job, unless it is rejected.
 fn add_event(
     alloc: Global,
+    draft: &mut Draft,
     found: &mut Vec<Finding>,
-    clock: &Clock,
+    clock: &Option<Clock>,
     line: u32,
     text: &str,
     read: Result<Calendar, LineCause>,
 ) -> Result<(), AllocError>
-    ensures { OnOk result (found.new.items ≡ found.old.items ++ read_findings clock.now line text.now read) }
+    ensures found { OnOk result (found.new.items ≡ found.old.items ++ read_findings clock.now line text.now read) }
+    ensures unit { OnOk result (unit_of draft.new ≡ unit_of draft.old) }
+    ensures events { OnOk result (draft.new.events ≡ draft.old.events ++ cons_option (result_ok read) []) }
 {
     match read {
         Ok(event) => {
-            let may_skip = may_skip_starts(alloc, text, &event)?;
-            let rule = Rule::Events(Events::one(alloc, event)?);
-            let never_starts = never_starts(alloc, clock, &rule)?;
-            let never = What::Warned(Warning::NeverStarts);
-            add_if(found, never_starts, line, never)?;
-            let skipped = What::Warned(Warning::SkippedStarts);
-            add_if(found, may_skip, line, skipped)
+            add_event_warnings(alloc, found, clock, line, text, &event)?;
+            draft.push(event)
         }
         Err(cause) => refuse(found, line, cause),
     }
+}
+
+// Adds the warnings on an event with this text, if there is a clock.
+fn add_event_warnings(
+    alloc: Global,
+    found: &mut Vec<Finding>,
+    clock: &Option<Clock>,
+    line: u32,
+    text: &str,
+    event: &Calendar,
+) -> Result<(), AllocError>
+    ensures { OnOk result (found.new.items ≡ found.old.items ++ event_warnings clock.now line text.now event.now) }
+{
+    let Some(clock) = clock else {
+        return Ok(());
+    };
+    let may_skip = may_skip_starts(alloc, text, event)?;
+    let never_starts = event_never_starts(alloc, clock, event)?;
+    let never = What::Warned(Warning::NeverStarts);
+    add_if(found, never_starts, line, never)?;
+    let skipped = What::Warned(Warning::SkippedStarts);
+    add_if(found, may_skip, line, skipped)
+}
+
+// Returns whether a job with only this event never starts from 1970 to 2999, by the clock of a zone.
+fn event_never_starts(alloc: Global, clock: &Clock, event: &Calendar) -> Result<bool, AllocError>
+    ensures { IfOk result (λ never. never ≡ never_starts (rule_in clock.now (rule.Events (event.now ∷ [])))) }
+{
+    let events = Events::one(alloc, event.in_zone(clock)?)?;
+    Ok(next_from(&Rule::Events(events), 0).is_none())
 }

@@ -4,7 +4,7 @@ ghost use Rattle.std.specs.Prelude.{◌≡◌, ◌++◌, ◌<◌, IfOk, OnOk, le
 ghost use Rattle.std.specs.List.{list_any};
 ghost use Rattle.std.specs.Str.{bytes_eq};
 ghost use Rattle.plan_match.specs.Zone.{rule_in};
-ghost use Rattle.plan_check.specs.Warnings.{command_warnings, ends_with_return, has_bare_percent, is_bare_percent, is_either_day, is_reboot, is_zone_setting, job_warnings, never_starts, rule_warnings, zone_names};
+ghost use Rattle.plan_check.specs.Warnings.{command_warnings, ends_with_return, has_bare_percent, is_bare_percent, is_either_day, is_reboot, is_zone_setting, job_warnings, never_starts, rule_warnings, warnings_by, zone_names};
 
 use crate::finding::{Finding, Warning, What};
 use crate::report::add_if;
@@ -14,8 +14,24 @@ use plan_rules::{Job, Rule};
 use plan_texts::whole_lines::trimmed;
 use std::alloc::{AllocError, Global};
 
-// Adds the warnings on the job of a line.
+// Adds the warnings on the job of a line, if there is a clock.
 pub(crate) fn add_warnings(
+    alloc: Global,
+    found: &mut Vec<Finding>,
+    clock: &Option<Clock>,
+    line: u32,
+    job: &Job,
+) -> Result<(), AllocError>
+    ensures { OnOk result (found.new.items ≡ found.old.items ++ warnings_by clock.now line job.now) }
+{
+    match clock {
+        Some(clock) => add_job_warnings(alloc, found, clock, line, job),
+        None => Ok(()),
+    }
+}
+
+// Adds the warnings on the job of a line.
+fn add_job_warnings(
     alloc: Global,
     found: &mut Vec<Finding>,
     clock: &Clock,

@@ -1,12 +1,13 @@
 -- Line by line: what was found so far, with what the remaining lines add to it, is what is found in all lines.
 use Rattle.std.proofs.Common.{◌≡◌, ◌+◌, ◌++◌, ◌||◌, drop, map, ap, sym, ◌∙◌}
-use Rattle.plan_rules.specs.Timer.{effects_from, has_timer, timer_setting}
+use Rattle.std.specs.Option.{option_or}
+use Rattle.plan_rules.specs.Timer.{effects_from, first_unit, has_timer, timer_setting}
 use Rattle.plan_rules.specs.TimerEntries.{count_from, shown_line}
 use Rattle.plan_rules.proofs.TimerEntryLemmas.{lines_more, section_step, count_step}
 use Rattle.plan_check.specs.declared.settings.Standing.{Standing}
 use Rattle.plan_check.specs.Settings.{is_delay, is_long_delay, is_reset, is_span, settings_from, standing_after}
-use Rattle.plan_check.specs.Timers.{lines_findings}
-use Rattle.plan_check.proofs.TimerLinesLemmas.{lines_step, stands_step, stands_with}
+use Rattle.plan_check.specs.Timers.{lines_findings, right_events, unit_of}
+use Rattle.plan_check.proofs.TimerLinesLemmas.{events_step, lines_step, stands_step, stands_with, unit_step}
 use Rattle.plan_check.proofs.timers.read_lines.Goals as goal
 
 pub loop-line-preserved : goal.loop-line-preserved
@@ -36,4 +37,11 @@ loop-line-preserved c =
           (ap (λ (s : Standing). s.delayed) stands) c.in_ok-add_line.ensures.reader
           (ap (λ left. stands_with is_long_delay is_delay stood.delayed (settings_from old.inside left)) next
           ∙ c.loop-line.invariant.delayed);
+      unit = unit_step (unit_of c.loop-line.draft) (unit_of c.add_line.new.draft) old new line more _ c.in_ok-add_line.ensures.unit
+          c.in_ok-add_line.ensures.reader
+          (ap (λ left. option_or (unit_of c.loop-line.draft) (first_unit (effects_from old.inside left))) next
+          ∙ c.loop-line.invariant.unit);
+      events = events_step c.loop-line.draft.events c.add_line.new.draft.events old new line more _ c.in_ok-add_line.ensures.events
+          c.in_ok-add_line.ensures.reader
+          (ap (λ left. right_events old c.loop-line.draft.events left) next ∙ c.loop-line.invariant.events);
     }

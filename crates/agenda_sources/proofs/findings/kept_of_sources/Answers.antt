@@ -1,0 +1,30 @@
+-- Without a clock the findings are the errors, and the same jobs are kept.
+use Rattle.std.proofs.Common.{◌≡◌, None, Some, Ok, ap, sym, ◌∙◌}
+use Rattle.plan_check.specs.Known.{KnownJobs, no_jobs, without_warnings}
+use Rattle.agenda_sources.specs.Findings.{after_sources}
+use Rattle.agenda_sources.specs.Sources.{zoned}
+use Rattle.agenda_sources.proofs.FindingLemmas.{errors_from, kept_sources, known_from}
+use Rattle.agenda_sources.proofs.findings.kept_of_sources.Goals as goal
+
+pub returns-clause-errors : goal.returns-clause-errors
+returns-clause-errors c =
+    c.in_ok-errors.ensures.found
+    ∙ errors_from c.errors_need_no_clock.ensures.found c.errors_need_no_clock.ensures.known 0 (no_jobs (Some c.args.clock.now))
+    c.args.sources.now
+
+pub returns-clause-jobs : goal.returns-clause-jobs
+returns-clause-jobs c =
+    let after : c.in_ok-errors.known ≡ without_warnings (after_sources (no_jobs (Some c.args.clock.now)) c.args.sources.now) =
+    c.in_ok-errors.ensures.known
+    ∙ known_from c.errors_need_no_clock.ensures.known (no_jobs (Some c.args.clock.now)) c.args.sources.now in
+    c.in_ok-jobs.ensures.zone
+    ∙ ap (zoned c.args.clock.now) (c.into_jobs.ensures ∙ ap (λ (known : KnownJobs). known.jobs) after)
+
+pub returns-clause-same : goal.returns-clause-same
+returns-clause-same c = λ none.
+    let placed : c.in_ok-jobs.jobs ≡ zoned c.args.clock.now (after_sources (no_jobs None) c.args.sources.now).jobs =
+    c.in_ok-jobs.ensures.zone
+    ∙ ap (zoned c.args.clock.now) (c.into_jobs.ensures ∙ ap (λ (known : KnownJobs). known.jobs) c.in_ok-errors.ensures.known) in
+    kept_sources c.clean_where_jobs_are.ensures.clean c.clean_where_jobs_are.ensures.kept c.args.clock.now c.args.sources.now
+    (sym c.in_ok-errors.ensures.found ∙ none)
+    ∙ ap Ok (sym placed)
