@@ -33,8 +33,8 @@ pub struct Kept {
 
 /// Returns all findings of the sources, in the order of the sources, each with the text that its message quotes.
 ///
-/// The findings of a source are those of `findings` of plan_check's `Form`, and the texts those of `with_quotes`. Rules
-/// start by the clock of a zone.
+/// The findings of a source are those of `findings` of plan_check's `Form`, and the texts those of `with_quotes`.
+/// Rules start by the clock of a zone.
 ///
 /// # Errors
 ///
@@ -56,9 +56,10 @@ pub fn findings_of_sources(
 /// Returns the errors of the sources, as `findings_of_sources` finds them, and the jobs that are left if all that is
 /// rejected is left out. Rules start by the clock of a zone.
 ///
-/// The jobs are those that `findings` of plan_check's `Form` adds: of a crontab each valid line with a name of its own,
-/// and each timer that isn't rejected as a whole, with the events that are valid. Warnings aren't looked for, since to
-/// find that a rule never starts takes longer than to read it.
+/// The jobs are those that `findings` of plan_check's `Form` adds: of a crontab each valid line, and each timer that
+/// isn't rejected as a whole, with its valid events; but no job that is rejected as `SameName` or `Full`.
+///
+/// No warnings are looked for, since to find that a rule never starts can take longer than to read it.
 ///
 /// # Errors
 ///

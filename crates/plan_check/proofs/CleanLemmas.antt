@@ -126,9 +126,8 @@ job_before_fault clock false true added line job F later =
 job_before_fault clock false false added line job F later = refl
 
 job_agrees :
-    (clock : Option (List Change)) (faults : List LineFault) (added : List JobParts) (n line : ℕ) (job : JobParts) (jobs : List JobParts) (F :
-    KnownJobs → List Finding)
-    (G : KnownJobs → KnownJobs) →
+    (clock : Option (List Change)) (faults : List LineFault) (added : List JobParts) (n line : ℕ) (job : JobParts)
+    (jobs : List JobParts) (F : KnownJobs → List Finding) (G : KnownJobs → KnownJobs) →
     n ≡ length added →
     ((next : List JobParts) → Agrees clock (jobs_by next (unless_refused faults jobs)) (F (known_by clock next)) (G (known_by clock
     next))) →
@@ -244,7 +243,8 @@ event_clean clock line number text setting (Ok event) found more is =
 event_clean clock line number text setting (Err cause) found more is = refl
 
 step_clean :
-    (clock : Option (List Change)) (number : ℕ) (setting : Option Setting) (step : LineStep) (found : List Finding) (more : List (Entry Calendar)) →
+    (clock : Option (List Change)) (number : ℕ) (setting : Option Setting) (step : LineStep) (found : List Finding)
+    (more : List (Entry Calendar)) →
     is_clean found ≡ is_none_of (refusals more) →
     is_clean ((step_findings clock setting step ++ setting_findings clock number setting) ++ found)
     ≡ is_none_of (refusals (cons_option (entry_of step) more))
@@ -354,7 +354,8 @@ timer_wrong true false false found faulty = refl
 timer_agrees :
     (clock : Option (List Change)) (faults : List LineFault) (good has : Bool) (added : List JobParts) (name : List ℕ)
     (unit : Option (List ℕ)) (events : List Calendar) (kept : JobParts) (found : List Finding) →
-    (n : ℕ) → n ≡ length added → good ≡ true → (is_none_of faults ≡ true → kept ≡ timer_job name unit events) → is_clean found ≡ is_none_of faults →
+    (n : ℕ) → n ≡ length added → good ≡ true → (is_none_of faults ≡ true → kept ≡ timer_job name unit events) →
+    is_clean found ≡ is_none_of faults →
     Agrees clock (jobs_by added ((unless_refused faults events >>= λ held. job_with has name unit held) >>= λ job. Ok (job ∷ [])))
     (found_if (not has) 0 (Refused NoTimerSection)
     ++ (named_findings 0 (is_some (number_of name added)) (nat_lt n most_jobs) ++ found))

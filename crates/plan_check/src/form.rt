@@ -52,8 +52,8 @@ impl Form {
     /// which has the jobs before them.
     ///
     /// The first finding is that the name is bad: `BadTabName`, see `is_crontab_name`, or `BadTimerName`, see
-    /// `is_timer_name`. A file whose name is bad makes no jobs, so it has no findings about their names. If the text has
-    /// more than 1,048,576 bytes, the next finding is `TooLarge`; else, if it isn't UTF-8, it is `NotUtf8`. Such
+    /// `is_timer_name`. A file whose name is bad makes no jobs, so it has no findings about their names. If the text
+    /// has more than 1,048,576 bytes, the next finding is `TooLarge`; else, if it isn't UTF-8, it is `NotUtf8`. Such
     /// a text has no lines.
     ///
     /// The findings of a crontab are those of its lines, in order (crontab(5)):
@@ -77,8 +77,10 @@ impl Form {
     /// - By line: each event's error, or the warnings `NeverStarts` and `SkippedStarts`, as `TimerReader` of
     ///   plan_rules reads it; and the warning `UnknownKey` for each other key than those of systemd.timer(5).
     ///
-    /// A job is added if it has no such error as `SameName` or `Full`. A timer's job is added if no error is one of the
-    /// whole file. Its rule is the list of the events that aren't rejected. If `known` has no clock, there are no warnings.
+    /// A job is added unless another job has its name or there are 1,000 jobs. A timer's job is added only if no error
+    /// is one of the whole file. Its rule is the list of the events that aren't rejected.
+    ///
+    /// If `known` has no clock, there are no warnings.
     ///
     /// # Errors
     ///
