@@ -231,7 +231,7 @@ Options:
 Prints all errors of all files, one per line, as PATH:LINE: error: TEXT [CODE], and
 warnings, as PATH:LINE: warning: TEXT [CODE], about lines that are valid but may not mean
 what you intended. A message about a whole file has no line number. The exit status is 1
-if there is an error, otherwise 0. agenda(1) describes each CODE and what to do about it.
+if there is an error, otherwise 0. `agenda explain CODE` says what to do about each CODE.
 
 Example:
   agenda check --crontab jobs backup.timer

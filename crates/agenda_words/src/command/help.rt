@@ -122,10 +122,10 @@ Example:
 pub(super) const CHECK: &str = "Prints errors and likely mistakes in crontabs and timers";
 
 pub(super) const AFTER_CHECK: &str = "\
-Prints all errors of all files, one per line, as PATH:LINE: error: MESSAGE [CODE], and
-warnings about lines that are correct but may not mean what you intended, as PATH:LINE:
-warning: MESSAGE [CODE]. A finding about a whole file has no line number. The exit status
-is 1 if there is an error, otherwise 0. `agenda explain CODE` says what a code means.
+Prints all errors of all files, one per line, as PATH:LINE: error: TEXT [CODE], and
+warnings, as PATH:LINE: warning: TEXT [CODE], about lines that are valid but may not mean
+what you intended. A message about a whole file has no line number. The exit status is 1
+if there is an error, otherwise 0. `agenda explain CODE` says what to do about each CODE.
 
 Example:
   agenda check --crontab jobs backup.timer";
