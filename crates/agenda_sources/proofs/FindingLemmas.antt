@@ -1,9 +1,7 @@
 -- No finding in the sources is an error exactly if they make a list of jobs: for `findings_of_sources`. The law
 -- of plan_check says so of files. Here sources are such files, and their jobs the same (`same_with`, `same_from`).
--- Then these jobs are kept, and without a clock the findings are the errors (`errors_from`): for `kept_of_sources`.
--- No finding in the sources is an error exactly if they make a list of jobs: for `findings_of_sources`. The law
--- of plan_check says so of files. Here sources are such files, and their jobs the same (`same_with`, `same_from`).
--- Then these jobs are kept, and without a clock the findings are the errors (`errors_from`): for `kept_of_sources`.
+-- Without a clock the findings are the errors (`errors_from`): for `kept_of_sources`. If there are none, all jobs
+-- are kept (`all_kept`): for the law `without_errors_all_is_kept`.
 use Rattle.std.proofs.Common.{◌≡◌, ℕ, zero, suc, ◌+◌, Bool, true, false, not, cond, List, [], ◌∷◌, ◌++◌, length, map, drop, filter, Option, None, Some, IfSome, Ok, Err}
 use Rattle.std.proofs.Common.{inl, inr, refl, ap, sym, ◌∙◌, subst, arith, ◌≤◌, append-nil, true≢false}
 use Rattle.std.specs.Prelude.{is_ok, is_some, nat_lt}
@@ -26,7 +24,7 @@ use Rattle.plan_check.specs.Quotes.{with_quote}
 use Rattle.agenda_sources.specs.declared.findings.Found.{Found}
 use Rattle.agenda_sources.specs.declared.sources.Source.{Source}
 use Rattle.agenda_sources.specs.Faults.{SourceReading, in_source}
-use Rattle.agenda_sources.specs.Findings.{after_sources, found_at, found_from, is_all_clean, quoted_findings, source_file, sources_findings}
+use Rattle.agenda_sources.specs.Findings.{after_sources, found_at, found_from, is_all_clean, kept_jobs, quoted_findings, source_file, sources_errors, sources_findings}
 use Rattle.agenda_sources.specs.Kind.{form_of}
 use Rattle.agenda_sources.specs.Sources.{jobs_reading, sources_from, sources_reading, with_jobs, with_source, zoned}
 
@@ -180,7 +178,7 @@ kept_by clock (Ok jobs) kept same ok = ap (λ jobs. Ok (zoned clock jobs)) (sym 
 kept_by clock (Err fault) kept same ok = absurd (true≢false ok)
 
 -- without errors the jobs that are kept are those of the sources
-pub kept_sources :
+kept_sources :
     CleanLaw → KeptLaw → (clock : List Change) (sources : List Source) → found_from 0 (no_jobs None) sources ≡ [] →
     jobs_reading clock sources ≡ Ok (zoned clock (after_sources (no_jobs None) sources).jobs)
 kept_sources clean kept clock sources none =
@@ -192,6 +190,15 @@ kept_sources clean kept clock sources none =
     ∙ ap is_some (same_from 0 sources []) ∙ some_where_ok (sources_reading sources) in
     kept_by clock (sources_reading sources) (after_files (no_jobs None) files).jobs same ok
     ∙ ap (λ (known : KnownJobs). Ok (zoned clock known.jobs)) (sym (known_files (no_jobs None) sources))
+
+-- if there are no errors, all jobs are kept
+pub all_kept :
+    CleanLaw → KeptLaw → ErrorLaw → KnownLaw → (clock : List Change) (sources : List Source) → sources_errors clock sources ≡ [] →
+    jobs_reading clock sources ≡ Ok (kept_jobs clock sources)
+all_kept clean kept errors known_law clock sources none =
+    let known = no_jobs (Some clock) in
+    kept_sources clean kept clock sources (errors_from errors known_law 0 known sources ∙ none)
+    ∙ ap (λ (last : KnownJobs). Ok (zoned clock last.jobs)) (known_from known_law known sources)
 
 -- ---- the loop
 

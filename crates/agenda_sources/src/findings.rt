@@ -1,8 +1,10 @@
 //! The findings of all sources, in the order of the sources, and the jobs that are left without what is rejected.
 
-ghost use Rattle.std.specs.Prelude.{◌≡◌, ◌++◌, [], IfOk, Ok, OnOk, is_ok, map};
+ghost use Rattle.std.specs.Prelude.{◌≡◌, List, [], ◌++◌, IfOk, Ok, OnOk, is_ok, map};
+ghost use Rattle.plan_clock.specs.declared.row.Change.{Change};
 ghost use Rattle.plan_check.specs.Files.{after_file};
 ghost use Rattle.plan_check.specs.Known.{no_jobs};
+ghost use Rattle.agenda_sources.specs.declared.sources.Source.{Source};
 ghost use Rattle.agenda_sources.specs.Findings.{after_sources, found_at, found_from, is_all_clean, kept_jobs, quoted_findings, source_file, sources_errors, sources_findings};
 ghost use Rattle.agenda_sources.specs.Sources.{jobs_reading, sources_reading};
 
@@ -70,11 +72,22 @@ pub fn kept_of_sources(alloc: Global, sources: &Sources, clock: &Clock) -> Resul
     // If there is no error, the jobs are those of `jobs_of_sources`.
     ensures same { IfOk result (λ kept. kept.errors.items ≡ [] → jobs_reading clock.now sources.now ≡ Ok kept.jobs) }
 {
-    clean_where_jobs_are();
     errors_need_no_clock();
+    without_errors_all_is_kept();
     let (errors, known) = read_sources(alloc, sources, None)?;
     let jobs = in_zone(alloc, known.into_jobs(), clock)?;
     Ok(Kept { errors, jobs })
+}
+
+/// States the law of keeping: if the sources have no errors, all their jobs are kept. The jobs that
+/// `kept_of_sources` returns are then those of `jobs_of_sources`.
+///
+/// The function does nothing: its contract is the law.
+pub fn without_errors_all_is_kept()
+    ensures { (clock : List Change) → (sources : List Source) → sources_errors clock sources ≡ [] → jobs_reading clock sources ≡ Ok (kept_jobs clock sources) }
+{
+    clean_where_jobs_are();
+    errors_need_no_clock();
 }
 
 // Returns the findings of the sources, and what is known after the last one. Without a clock there are no warnings.

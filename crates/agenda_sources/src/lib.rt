@@ -19,7 +19,7 @@ mod sources;
 pub use asked::Asked;
 pub use bytes::Bytes;
 pub use fault::SourceFault;
-pub use findings::{Found, Kept, findings_of_sources, kept_of_sources};
+pub use findings::{Found, Kept, findings_of_sources, kept_of_sources, without_errors_all_is_kept};
 pub use kind::SourceKind;
 pub use name::file_name;
 pub use paths::{SourcePath, SourcePaths};

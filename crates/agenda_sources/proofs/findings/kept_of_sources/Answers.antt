@@ -1,9 +1,9 @@
 -- Without a clock the findings are the errors, and the same jobs are kept.
-use Rattle.std.proofs.Common.{◌≡◌, None, Some, Ok, ap, sym, ◌∙◌}
+use Rattle.std.proofs.Common.{◌≡◌, Some, Ok, ap, sym, ◌∙◌}
 use Rattle.plan_check.specs.Known.{KnownJobs, no_jobs, without_warnings}
 use Rattle.agenda_sources.specs.Findings.{after_sources}
 use Rattle.agenda_sources.specs.Sources.{zoned}
-use Rattle.agenda_sources.proofs.FindingLemmas.{errors_from, kept_sources, known_from}
+use Rattle.agenda_sources.proofs.FindingLemmas.{errors_from, known_from}
 use Rattle.agenda_sources.proofs.findings.kept_of_sources.Goals as goal
 
 pub returns-clause-errors : goal.returns-clause-errors
@@ -22,9 +22,5 @@ returns-clause-jobs c =
 
 pub returns-clause-same : goal.returns-clause-same
 returns-clause-same c = λ none.
-    let placed : c.in_ok-jobs.jobs ≡ zoned c.args.clock.now (after_sources (no_jobs None) c.args.sources.now).jobs =
-    c.in_ok-jobs.ensures.zone
-    ∙ ap (zoned c.args.clock.now) (c.into_jobs.ensures ∙ ap (λ (known : KnownJobs). known.jobs) c.in_ok-errors.ensures.known) in
-    kept_sources c.clean_where_jobs_are.ensures.clean c.clean_where_jobs_are.ensures.kept c.args.clock.now c.args.sources.now
-    (sym c.in_ok-errors.ensures.found ∙ none)
-    ∙ ap Ok (sym placed)
+    c.without_errors_all_is_kept.ensures c.args.clock.now c.args.sources.now (sym (returns-clause-errors c) ∙ none)
+    ∙ ap Ok (sym (returns-clause-jobs c))
