@@ -6,4 +6,5 @@ pub mod Quiet
 pub mod Next
 pub mod Messages
 pub mod Findings
+pub mod Skipped
 pub mod Replies

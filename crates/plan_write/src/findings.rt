@@ -14,8 +14,8 @@ use plan_streams::{Stream, TextWriter, WriteFault};
 /// Writes findings, one line for each, in order: `PATH:LINE: error: MESSAGE [CODE]`.
 ///
 /// A line has the path of the source, which is at the same place in `paths`, then the number of the line,
-/// unless the finding is about the whole file, then whether it is an error or a warning, the message in words, and the code.
-/// This requests no memory. The stream is flushed once, at the end.
+/// unless the finding is about the whole file, then whether it is an error or a warning, the message in words, and
+/// the code. This requests no memory. The stream is flushed once, at the end.
 ///
 /// # Errors
 ///
@@ -30,10 +30,21 @@ pub fn write_findings<S: Stream>(
     ensures { Puts S.takes_all result (S.holds out.old) (S.holds out.new) (check_text paths.now found.now) }
 {
     let mut lines = TextWriter::new(out);
-    for one in found {
-        put_found(paths, one, &mut lines);
-    }
+    put_all_found(paths, found, &mut lines);
     lines.finish()
+}
+
+// Puts the lines of findings, in order.
+pub(crate) fn put_all_found<S: Stream>(
+    paths: &[SourcePath],
+    found: &[Found],
+    lines: &mut TextWriter<'_, S>,
+)
+    ensures { Takes S.holds S.takes_all lines.old lines.new (check_text paths.now found.now) }
+{
+    for one in found {
+        put_found(paths, one, lines);
+    }
 }
 
 // Puts the line of a finding, if its source exists.

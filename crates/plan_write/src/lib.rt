@@ -1,5 +1,5 @@
-//! The texts of the answers: of agendas, their gaps, the next starts of jobs and of one rule, findings, and the
-//! replies of a mailbox.
+//! The texts of the answers: of agendas, their gaps, the next starts of jobs and of one rule, findings, what a plan
+//! skips, and the replies of a mailbox.
 //!
 //! The agendas come from plan_collect, the jobs from plan_rules and the findings from agenda_sources. Each text
 //! goes to a stream by a `TextWriter` of plan_streams. Read `agenda` first. Each other module has the text that
@@ -13,6 +13,7 @@ mod messages;
 mod next;
 mod quiet;
 mod replies;
+mod skipped;
 mod stamp;
 mod upcoming;
 
@@ -23,4 +24,5 @@ pub use next::write_next;
 pub use plan_collect::Upcoming;
 pub use quiet::{nothing_starts_in_gaps, write_quiet};
 pub use replies::write_replies;
+pub use skipped::write_skipped;
 pub use upcoming::write_upcoming;

@@ -1,7 +1,7 @@
 use Rattle.std.proofs.Common.{take}
 use Rattle.plan_streams.specs.Writer.{Takes}
 use Rattle.plan_write.specs.Findings.{check_text}
-use Rattle.plan_write.proofs.findings.write_findings.Given as goal
+use Rattle.plan_write.proofs.findings.put_all_found.Given as goal
 
 -- the writer took the lines of all findings so far
 abbrev pub invariant-loop-one : goal.invariant-loop-one
