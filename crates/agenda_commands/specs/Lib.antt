@@ -2,6 +2,7 @@ pub mod Check
 pub mod CodeLaws
 pub mod Command
 pub mod Explain
+pub mod Goal
 pub mod Next
 pub mod Plan
 pub mod Quiet

@@ -2,6 +2,7 @@
 use Rattle.std.specs.Prelude.{ℕ, List, Result, Ok}
 use Rattle.plan_clock.specs.declared.row.Change.{Change}
 use Rattle.plan_texts.specs.Steps.{◌>>=◌}
+use Rattle.plan_rules.specs.Job.{JobParts}
 use Rattle.plan_collect.specs.Agenda.{rules_of}
 use Rattle.plan_collect.specs.Planning.{plan_answer}
 use Rattle.plan_collect.specs.Span.{Bounds}
@@ -13,9 +14,14 @@ use Rattle.agenda_faults.specs.declared.faults.RunFault.{RunFault}
 use Rattle.agenda_faults.specs.Faults.{fault_of_plan, fault_of_sources}
 use Rattle.agenda_commands.specs.Command.{step}
 
+-- what `plan` writes for jobs: their agenda
+abbrev pub planned_output : List JobParts → Bounds → Sizes → Result (List ℕ) RunFault
+planned_output jobs span sizes = do
+  made ← step fault_of_plan (plan_answer (rules_of jobs) span sizes)
+  Ok (agenda_text made jobs)
+
 -- what `plan` writes for sources: the agenda of their jobs, by the clock of a zone
 abbrev pub plan_output : List Change → List Source → Bounds → Sizes → Result (List ℕ) RunFault
 plan_output clock sources span sizes = do
   jobs ← step fault_of_sources (jobs_reading clock sources)
-  made ← step fault_of_plan (plan_answer (rules_of jobs) span sizes)
-  Ok (agenda_text made jobs)
+  planned_output jobs span sizes

@@ -2,6 +2,7 @@
 use Rattle.std.specs.Prelude.{ℕ, ◌==◌, if◌then◌else◌, List, Result, Ok, Err}
 use Rattle.plan_clock.specs.declared.row.Change.{Change}
 use Rattle.plan_texts.specs.Steps.{◌>>=◌}
+use Rattle.plan_rules.specs.Job.{JobParts}
 use Rattle.plan_collect.specs.Agenda.{rules_of}
 use Rattle.plan_collect.specs.Planning.{plan_answer}
 use Rattle.plan_collect.specs.Span.{Bounds}
@@ -18,10 +19,15 @@ use Rattle.agenda_commands.specs.Command.{step}
 abbrev pub valid_least : ℕ → Result ℕ RunFault
 valid_least least = if least == 0 then Err BadLeast else Ok least
 
--- what `quiet` writes for sources: the gaps of the plan of their jobs that last at least `least` seconds
+-- what `quiet` writes for jobs: the gaps of their plan that last at least `least` seconds
+abbrev pub gaps_output : List JobParts → Bounds → Sizes → (least : ℕ) → Result (List ℕ) RunFault
+gaps_output jobs span sizes least = do
+  made ← step fault_of_plan (plan_answer (rules_of jobs) span sizes)
+  Ok (quiet_text least made)
+
+-- what `quiet` writes for sources: the gaps of the plan of their jobs
 abbrev pub quiet_output : List Change → List Source → Bounds → Sizes → (least : ℕ) → Result (List ℕ) RunFault
 quiet_output clock sources span sizes least = do
   wide ← valid_least least
   jobs ← step fault_of_sources (jobs_reading clock sources)
-  made ← step fault_of_plan (plan_answer (rules_of jobs) span sizes)
-  Ok (quiet_text wide made)
+  gaps_output jobs span sizes wide
