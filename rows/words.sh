@@ -103,6 +103,7 @@ Options:
                             at this time isn't included
       --zone <ZONE>         The time zone of the rules, such as Europe/Berlin,
                             or the path of a TZif file; UTC if it isn't given
+      --keep-going          Skip what is invalid or can't be read, and report it
       --crontab <F>         A user's crontab, as 'crontab -l' prints it
       --system-crontab <F>  A crontab whose lines name a user, such as
                             /etc/crontab
@@ -144,6 +145,7 @@ Options:
                             2024-01-01T00:00:00Z; the years are 1970 to 2999
       --zone <ZONE>         The time zone of the rules, such as Europe/Berlin,
                             or the path of a TZif file; UTC if it isn't given
+      --keep-going          Skip what is invalid or can't be read, and report it
       --crontab <F>         A user's crontab, as 'crontab -l' prints it
       --system-crontab <F>  A crontab whose lines name a user, such as
                             /etc/crontab
@@ -179,6 +181,7 @@ Options:
                             at this time isn't included
       --zone <ZONE>         The time zone of the rules, such as Europe/Berlin,
                             or the path of a TZif file; UTC if it isn't given
+      --keep-going          Skip what is invalid or can't be read, and report it
       --crontab <F>         A user's crontab, as 'crontab -l' prints it
       --system-crontab <F>  A crontab whose lines name a user, such as
                             /etc/crontab
@@ -231,7 +234,7 @@ Options:
 Prints all errors of all files, one per line, as PATH:LINE: error: TEXT [CODE], and
 warnings, as PATH:LINE: warning: TEXT [CODE], about lines that are valid but may not mean
 what you intended. A message about a whole file has no line number. The exit status is 1
-if there is an error, otherwise 0. `agenda explain CODE` says what to do about each CODE.
+if there is an error, otherwise 0. 'agenda explain CODE' says what to do about each CODE.
 
 Example:
   agenda check --crontab jobs backup.timer

@@ -7,10 +7,10 @@ use Rattle.plan_sets.specs.declared.MomentFault.{MomentFault}
 use Rattle.agenda_codes.specs.declared.Code.{Code}
 use Rattle.agenda_words.specs.declared.Ask.{Ask}
 use Rattle.agenda_words.specs.declared.Ask.TheVariants.{Next, Plan, Upcoming, Quiet, Check, Steps, Explain}
+use Rattle.agenda_words.specs.declared.JobsRequest.{JobsRequest}
 use Rattle.agenda_words.specs.declared.PlanRequest.{PlanRequest}
 use Rattle.agenda_words.specs.declared.UsageFault.{UsageFault}
 use Rattle.agenda_words.specs.declared.UsageFault.TheVariants as usage
-use Rattle.agenda_words.specs.Arguments.{Gives, asked_by}
 use Rattle.agenda_faults.specs.declared.faults.RunFault.{RunFault}
 use Rattle.agenda_faults.specs.declared.faults.RunFault.TheVariants as run
 use Rattle.agenda_faults.specs.declared.faults.Failure.{Failure}
@@ -94,21 +94,21 @@ next_ends held after zone count rule = do
 abbrev pub plan_ends : Held → PlanRequest → Step Printed
 plan_ends held request = do
   span ← span_of request.since request.upto
-  input ← input_of held request.zone request.sources
+  input ← input_of held request.jobs.zone request.jobs.sources
   outputs 0 (plan_output input.clock input.sources span request.sizes)
 
 -- `upcoming`: the timestamp is read first, then the zone, then the files, and then their texts
-abbrev pub upcoming_ends : Held → List ℕ → Option (List ℕ) → List SourcePath → Step Printed
-upcoming_ends held after zone paths = do
+abbrev pub upcoming_ends : Held → List ℕ → JobsRequest → Step Printed
+upcoming_ends held after jobs = do
   moment ← moment_of After after
-  input ← input_of held zone paths
+  input ← input_of held jobs.zone jobs.sources
   prints 0 (IsTextOfUpcoming input.clock input.sources moment) (RefusesUpcoming input.clock input.sources)
 
 -- `quiet`: in the same order as `plan`
 abbrev pub quiet_ends : Held → PlanRequest → (least : ℕ) → Step Printed
 quiet_ends held request least = do
   span ← span_of request.since request.upto
-  input ← input_of held request.zone request.sources
+  input ← input_of held request.jobs.zone request.jobs.sources
   outputs_if (valid_least least) (quiet_output input.clock input.sources span request.sizes least)
 
 -- the exit status of `check`
@@ -138,7 +138,7 @@ explain_ends code = outputs 0 (explain_output code)
 abbrev pub ask_ends : Held → Ask → Step Printed
 ask_ends held (Next after zone count rule) = next_ends held after zone count rule
 ask_ends held (Plan request) = plan_ends held request
-ask_ends held (Upcoming after zone sources) = upcoming_ends held after zone sources
+ask_ends held (Upcoming after jobs) = upcoming_ends held after jobs
 ask_ends held (Quiet request least) = quiet_ends held request least
 ask_ends held (Check zone sources) = check_ends held zone sources
 ask_ends held (Steps file) = steps_ends held file
@@ -178,20 +178,8 @@ Ends sources (Err failure) found err =
 
 -- the paths of the sources that a request names
 abbrev pub sources_in : Ask → List SourcePath
-sources_in (Plan request) = request.sources
-sources_in (Upcoming _ _ sources) = sources
-sources_in (Quiet request _) = request.sources
+sources_in (Plan request) = request.jobs.sources
+sources_in (Upcoming _ jobs) = jobs.sources
+sources_in (Quiet request _) = request.jobs.sources
 sources_in (Check _ sources) = sources
 sources_in other = []
-
--- the program's answer: what the request leaves on standard output, and how it ends
-abbrev pub Answers : Held → Result Ask UsageFault → ℕ → (out err : Stream) → Type 0
-Answers held (Ok ask) status out err =
-    (done : Result ℕ Failure) × Leaves out.takes_all (ask_ends held ask) done out.old out.new × Ends (sources_in ask) done status err
-Answers held (Err fault) status out err =
-    (done : Result ℕ Failure) × Leaves out.takes_all (usage_ends fault) done out.old out.new × Ends [] done status err
-
--- the same, by the arguments of the command line
-abbrev pub AnswersArguments : Held → List (List ℕ) → ℕ → (out err : Stream) → Type 0
-AnswersArguments held words status out err =
-    (request : Result Ask UsageFault) × Gives request (asked_by words) × Answers held request status out err

@@ -1,11 +1,13 @@
 -- The sources of a plan, by the given paths. All of it is our choice (agenda).
-use Rattle.std.specs.Prelude.{ℕ, Option, List, [], ◌∷◌}
+use Rattle.std.specs.Prelude.{◌≡◌, ℕ, Option, None, Some, List, [], ◌∷◌, ◌++◌, Ok, Err}
 use Rattle.agenda_sources.specs.declared.Source.{Source}
 use Rattle.agenda_sources.specs.declared.SourcePath.{SourcePath}
 use Rattle.agenda_sources.specs.Name.{file_name}
-use Rattle.agenda_faults.specs.declared.faults.Failure.TheVariants.{File}
+use Rattle.agenda_faults.specs.declared.faults.Failure.TheVariants.{File, Run}
+use Rattle.agenda_faults.specs.declared.faults.RunFault.TheVariants.{NoMemory}
 use Rattle.agenda_commands.specs.declared.Input.{Input}
-use Rattle.agenda_answers.specs.Files.{Held, front_of}
+use Rattle.agenda_answers.specs.declared.keeping.Tried.{Tried}
+use Rattle.agenda_answers.specs.Files.{Held, IsUnsure, front_of}
 use Rattle.agenda_answers.specs.Steps.{Step, gives, ◌>>=◌}
 use Rattle.agenda_answers.specs.Zone.{clock_of}
 
@@ -29,3 +31,27 @@ input_of held zone paths = do
   clock ← clock_of held zone
   sources ← sources_of held paths
   gives (record { clock = clock; sources = sources })
+
+-- ---- sources that may be unreadable
+
+-- a source is tried: there is none if its file may fail
+abbrev pub tried_of : Held → SourcePath → Step (Option Source)
+tried_of held given (Ok (Some source)) = source_of held given (Ok source)
+tried_of held given (Ok None) = IsUnsure (held given.path)
+tried_of held given (Err failure) = failure ≡ Run NoMemory
+
+-- these sources, then the one with a path, or the path among those of unreadable files
+abbrev pub with_tried : Tried → SourcePath → Option Source → Tried
+with_tried tried given (Some source) = record tried { sources = tried.sources ++ source ∷ []; paths = tried.paths ++ given ∷ [] }
+with_tried tried given None = record tried { unread = tried.unread ++ given ∷ [] }
+
+-- these sources, then those with paths, in order
+unfoldable pub tries_from : Held → Tried → List SourcePath → Step Tried
+tries_from held tried [] = gives tried
+tries_from held tried (given ∷ paths) = do
+  source ← tried_of held given
+  tries_from held (with_tried tried given source) paths
+
+-- the sources are tried in the order of their paths
+abbrev pub tries_of : Held → List SourcePath → Step Tried
+tries_of held paths = tries_from held (record { sources = []; paths = []; unread = [] }) paths

@@ -1,21 +1,24 @@
 //! Does what the arguments request, over any files and streams.
 
 ghost use Rattle.std.specs.Prelude.{◌≡◌, ◌≢◌, map, string_bytes};
-ghost use Rattle.agenda_answers.specs.Answer.{Answers, AnswersArguments, Ends, Leaves, SaysNotUtf8};
+ghost use Rattle.agenda_answers.specs.Answer.{Ends, Leaves, SaysNotUtf8};
 ghost use Rattle.agenda_answers.specs.Answer.{ask_ends, check_ends, explain_ends, moment_of, next_ends, plan_ends, quiet_ends};
 ghost use Rattle.agenda_answers.specs.Answer.{sources_in, span_of, status_on, steps_ends, upcoming_ends, usage_ends};
+ghost use Rattle.agenda_answers.specs.Program.{Answers, AnswersArguments, AnswersAsk};
+ghost use Rattle.agenda_answers.specs.Keeping.{plan_goal, quiet_goal, upcoming_goal};
 ghost use Rattle.agenda_faults.specs.declared.faults.Failure.TheVariants.{After};
 
 use crate::files::{Files, read_path};
+use crate::keeping::keep_going;
 use crate::sources::read_input;
 use crate::zone::read_clock;
 use agenda_codes::Code;
 use agenda_commands::{
-    Verdict, run_check, run_explain, run_next, run_plan, run_quiet, run_script, run_upcoming,
+    Goal, Verdict, run_check, run_explain, run_next, run_plan, run_quiet, run_script, run_upcoming,
 };
 use agenda_faults::{Failure, RunFault, fault_line};
 use agenda_sources::{Asked, SourcePath, SourcePaths};
-use agenda_words::{Ask, PlanRequest, UsageFault, read_words};
+use agenda_words::{Ask, JobsRequest, PlanRequest, UsageFault, read_words};
 use plan_collect::Span;
 use plan_rules::Text;
 use plan_sets::read_moment;
@@ -70,12 +73,86 @@ pub fn answer<R: Threads + Wait + Sync, F: Files, O: Stream, E: Stream>(
         (record { takes_all = E.takes_all; old = E.holds err.old; new = E.holds err.new }) }
 {
     match asked {
-        Ok(ask) => {
-            let done = carry_out(rt, alloc, &ask, files, out);
-            end(done, sources_in(&ask), err)
-        }
+        Ok(ask) => answer_ask(rt, alloc, &ask, files, out, err),
         Err(fault) => end(decline(fault, out), &[], err),
     }
+}
+
+// Does what is requested.
+fn answer_ask<R: Threads + Wait + Sync, F: Files, O: Stream, E: Stream>(
+    rt: &R,
+    alloc: Global,
+    ask: &Ask,
+    files: &mut F,
+    out: &mut O,
+    err: &mut E,
+) -> u8
+    ensures { AnswersAsk (F.held files.old) ask.now result
+        (record { takes_all = O.takes_all; old = O.holds out.old; new = O.holds out.new })
+        (record { takes_all = E.takes_all; old = E.holds err.old; new = E.holds err.new }) }
+{
+    match ask {
+        Ask::Plan(request) if request.jobs.keep_going => {
+            keep_going(
+                rt,
+                alloc,
+                plan_goal(request),
+                &request.jobs,
+                files,
+                out,
+                err,
+            )
+        }
+        Ask::Upcoming { after, jobs } if jobs.keep_going => {
+            keep_going(rt, alloc, upcoming_goal(after), jobs, files, out, err)
+        }
+        Ask::Quiet { plan, least } if plan.jobs.keep_going => {
+            keep_going(
+                rt,
+                alloc,
+                quiet_goal(plan, *least),
+                &plan.jobs,
+                files,
+                out,
+                err,
+            )
+        }
+        _ => {
+            let done = carry_out(rt, alloc, ask, files, out);
+            end(done, sources_in(ask), err)
+        }
+    }
+}
+
+// Returns what `plan` makes of jobs.
+fn plan_goal(request: &PlanRequest) -> Result<Goal, Failure>
+    ensures { plan_goal request.now result }
+{
+    let span = span_between(&request.since, &request.upto)?;
+    Ok(Goal::Plan {
+        span,
+        sizes: request.sizes,
+    })
+}
+
+// Returns what `upcoming` makes of jobs.
+fn upcoming_goal(after: &Text) -> Result<Goal, Failure>
+    ensures { upcoming_goal after.now result }
+{
+    let after = moment_after(after)?;
+    Ok(Goal::Upcoming { after })
+}
+
+// Returns what `quiet` makes of jobs.
+fn quiet_goal(request: &PlanRequest, least: u32) -> Result<Goal, Failure>
+    ensures { quiet_goal request.now least result }
+{
+    let span = span_between(&request.since, &request.upto)?;
+    Ok(Goal::Quiet {
+        span,
+        sizes: request.sizes,
+        least,
+    })
 }
 
 /// Returns the error for arguments that could not be read: a usage error if one isn't UTF-8, and out of
@@ -95,7 +172,7 @@ pub fn unread_arguments(alloc: Global, kind: ErrorKind) -> UsageFault
 
 // Returns the exit status after a request, and writes the line of its error. `sources` are the paths of the
 // sources that it names.
-fn end<S: Stream>(done: Result<u8, Failure>, sources: &[SourcePath], err: &mut S) -> u8
+pub(crate) fn end<S: Stream>(done: Result<u8, Failure>, sources: &[SourcePath], err: &mut S) -> u8
     ensures { Ends sources.now done result
         (record { takes_all = S.takes_all; old = S.holds err.old; new = S.holds err.new }) }
 {
@@ -110,9 +187,9 @@ fn sources_in(ask: &Ask) -> &[SourcePath]
     ensures { result.now ≡ sources_in ask.now }
 {
     match ask {
-        Ask::Plan(request) => request.sources.as_slice(),
-        Ask::Upcoming { sources, .. } => sources.as_slice(),
-        Ask::Quiet { plan, .. } => plan.sources.as_slice(),
+        Ask::Plan(request) => request.jobs.sources.as_slice(),
+        Ask::Upcoming { jobs, .. } => jobs.sources.as_slice(),
+        Ask::Quiet { plan, .. } => plan.jobs.sources.as_slice(),
         Ask::Check { sources, .. } => sources.as_slice(),
         _ => &[],
     }
@@ -136,11 +213,7 @@ fn carry_out<R: Threads + Wait + Sync, F: Files, S: Stream>(
             rule,
         } => next(alloc, after, zone, *count, rule, files, out),
         Ask::Plan(request) => plan(rt, alloc, request, files, out),
-        Ask::Upcoming {
-            after,
-            zone,
-            sources,
-        } => upcoming(alloc, after, zone, sources, files, out),
+        Ask::Upcoming { after, jobs } => upcoming(alloc, after, jobs, files, out),
         Ask::Quiet { plan, least } => quiet(rt, alloc, plan, *least, files, out),
         Ask::Check { zone, sources } => check(alloc, zone, sources, files, out),
         Ask::Steps { file } => steps(alloc, file, files, out),
@@ -191,7 +264,7 @@ fn plan<R: Threads + Wait + Sync, F: Files, S: Stream>(
     ensures { Leaves S.takes_all (plan_ends (F.held files.old) request.now) result (S.holds out.old) (S.holds out.new) }
 {
     let span = span_between(&request.since, &request.upto)?;
-    let input = read_input(alloc, files, &request.zone, &request.sources)?;
+    let input = read_input(alloc, files, &request.jobs.zone, &request.jobs.sources)?;
     run_plan(rt, alloc, &input, span, request.sizes, out)?;
     Ok(DONE)
 }
@@ -200,15 +273,14 @@ fn plan<R: Threads + Wait + Sync, F: Files, S: Stream>(
 fn upcoming<F: Files, S: Stream>(
     alloc: Global,
     after: &Text,
-    zone: &Option<Text>,
-    paths: &SourcePaths,
+    jobs: &JobsRequest,
     files: &mut F,
     out: &mut S,
 ) -> Result<u8, Failure>
-    ensures { Leaves S.takes_all (upcoming_ends (F.held files.old) after.now zone.now paths.now) result (S.holds out.old) (S.holds out.new) }
+    ensures { Leaves S.takes_all (upcoming_ends (F.held files.old) after.now jobs.now) result (S.holds out.old) (S.holds out.new) }
 {
     let moment = moment_after(after)?;
-    let input = read_input(alloc, files, zone, paths)?;
+    let input = read_input(alloc, files, &jobs.zone, &jobs.sources)?;
     run_upcoming(alloc, &input, moment, out)?;
     Ok(DONE)
 }
@@ -225,7 +297,7 @@ fn quiet<R: Threads + Wait + Sync, F: Files, S: Stream>(
     ensures { Leaves S.takes_all (quiet_ends (F.held files.old) request.now least) result (S.holds out.old) (S.holds out.new) }
 {
     let span = span_between(&request.since, &request.upto)?;
-    let input = read_input(alloc, files, &request.zone, &request.sources)?;
+    let input = read_input(alloc, files, &request.jobs.zone, &request.jobs.sources)?;
     run_quiet(rt, alloc, &input, span, request.sizes, least, out)?;
     Ok(DONE)
 }

@@ -6,8 +6,10 @@
 
 mod answers;
 mod files;
+mod keeping;
 mod sources;
 mod zone;
 
 pub use answers::{answer, answer_arguments, unread_arguments};
 pub use files::{Files, read_front};
+pub use keeping::keeping_going_changes_nothing;

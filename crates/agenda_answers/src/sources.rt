@@ -31,7 +31,7 @@ pub(crate) fn read_input<F: Files>(
 }
 
 // Reads the sources with these paths, in order, each path once.
-fn read_sources<F: Files>(
+pub(crate) fn read_sources<F: Files>(
     alloc: Global,
     files: &mut F,
     paths: &[SourcePath],
@@ -47,7 +47,7 @@ fn read_sources<F: Files>(
 }
 
 // Reads a source. Its name comes from its path.
-fn read_source<F: Files>(
+pub(crate) fn read_source<F: Files>(
     alloc: Global,
     files: &mut F,
     given: &SourcePath,

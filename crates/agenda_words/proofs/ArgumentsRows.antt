@@ -1,12 +1,13 @@
 -- Worked rows of the command line: what the arguments request, by the definition.
 -- They answer the goals of no function, but test `asked_by`, which is unfolded with clap's definitions and
 -- computed. One row holds for any two plain words (`any_moment_and_rule`). It depends on how clap reads them.
-use Rattle.std.proofs.Common.{◌≡◌, List, ℕ, [], ◌∷◌, false, None, Some, Ok, Err, codes, refl}
+use Rattle.std.proofs.Common.{◌≡◌, Bool, List, ℕ, [], ◌∷◌, false, true, None, Some, Ok, Err, codes, refl}
 use Rattle.std.specs.Str.{bytes_eq}
 use Rattle.clap.specs.Lexer.{long_of, short_of}
 use Rattle.clap.proofs.OnLiterals.{clap_on_literals}
 use Rattle.plan_collect.specs.declared.Sizes.{Sizes}
 use Rattle.agenda_words.specs.declared.ask.Ask.TheVariants.{Next, Plan, Upcoming, Quiet, Steps}
+use Rattle.agenda_words.specs.declared.ask.JobsRequest.{JobsRequest}
 use Rattle.agenda_words.specs.declared.ask.PlanRequest.{PlanRequest}
 use Rattle.agenda_sources.specs.declared.Asked.TheVariants.{Cron, Event}
 use Rattle.agenda_sources.specs.declared.SourceKind.TheVariants.{Crontab, System, CronD, Spool, Timer}
@@ -135,15 +136,18 @@ plan_with words = codes "agenda" ∷ codes "plan" ∷ codes "--since" ∷ moment
 abbrev sized : (planners room limit : ℕ) → Sizes
 sized planners room limit = record { planners = planners; room = room; limit = limit }
 
+abbrev jobs_from : List SourcePath → (keep_going : Bool) → JobsRequest
+jobs_from sources keep_going = record { zone = None; sources = sources; keep_going = keep_going }
+
 abbrev planned : (upto : List ℕ) → List SourcePath → Sizes → PlanRequest
-planned upto sources sizes = record { since = moment; upto = upto; zone = None; sources = sources; sizes = sizes }
+planned upto sources sizes = record { since = moment; upto = upto; jobs = jobs_from sources false; sizes = sizes }
 
 -- only a span: no crontab, no timer, and the default of each number
 a_span_is_given : asked_by (plan_with []) ≡ Ok (Plan (planned (codes "u") [] (sized 2 16 10000)))
 unfolding asked_by clap_on_literals agenda_on_literals
 a_span_is_given = refl
 
--- every option
+-- every option with a value
 all_is_given : asked_by (plan_with (codes "--crontab" ∷ codes "c" ∷ codes "--system-crontab" ∷ codes "s" ∷ codes "--planners" ∷ codes "3"
     ∷ codes "--room" ∷ codes "4" ∷ codes "--limit" ∷ codes "5" ∷ []))
     ≡ Ok (Plan (planned (codes "u") (path_of Crontab (codes "c") ∷ path_of System (codes "s") ∷ []) (sized 3 4 5)))
@@ -156,6 +160,27 @@ timers_are_given : asked_by (plan_with (codes "b.timer" ∷ codes "--room=1" ∷
     (sized 2 1 10000)))
 unfolding asked_by clap_on_literals agenda_on_literals
 timers_are_given = refl
+
+-- `--keep-going`; the argument after it is a timer
+plan_that_keeps_going : asked_by (plan_with (codes "--keep-going" ∷ codes "a.timer" ∷ []))
+    ≡ Ok (Plan (record (planned (codes "u") [] (sized 2 16 10000)) { jobs = jobs_from (path_of Timer (codes "a.timer") ∷ []) true }))
+unfolding asked_by clap_on_literals agenda_on_literals
+plan_that_keeps_going = refl
+
+-- a value for `--keep-going`
+keep_going_with_a_value : asked_by (plan_with (codes "--keep-going=true" ∷ [])) ≡ Err is_usage
+unfolding asked_by clap_on_literals agenda_on_literals
+keep_going_with_a_value = refl
+
+-- `--keep-going` twice
+keep_going_twice : asked_by (plan_with (codes "--keep-going" ∷ codes "--keep-going" ∷ [])) ≡ Err is_usage
+unfolding asked_by clap_on_literals agenda_on_literals
+keep_going_twice = refl
+
+-- `check` has no `--keep-going`
+check_keeps_no_going : asked_by (codes "agenda" ∷ codes "check" ∷ codes "--keep-going" ∷ []) ≡ Err is_usage
+unfolding asked_by clap_on_literals agenda_on_literals
+check_keeps_no_going = refl
 
 -- no `--since`
 no_beginning_is_given : asked_by (codes "agenda" ∷ codes "plan" ∷ codes "--upto" ∷ moment ∷ []) ≡ Err is_usage
@@ -209,15 +234,29 @@ no_version_of_next = refl
 -- `upcoming` with a crontab and a timer
 upcoming_of_two :
     asked_by (codes "agenda" ∷ codes "upcoming" ∷ codes "a.timer" ∷ codes "--crontab" ∷ codes "c" ∷ codes "--after" ∷ moment ∷ [])
-    ≡ Ok (Upcoming moment None (path_of Crontab (codes "c") ∷ path_of Timer (codes "a.timer") ∷ []))
+    ≡ Ok (Upcoming moment (jobs_from (path_of Crontab (codes "c") ∷ path_of Timer (codes "a.timer") ∷ []) false))
 unfolding asked_by clap_on_literals agenda_on_literals
 upcoming_of_two = refl
+
+-- `upcoming` with `--keep-going`, before the other options
+upcoming_that_keeps_going :
+    asked_by (codes "agenda" ∷ codes "upcoming" ∷ codes "--keep-going" ∷ codes "a.timer" ∷ codes "--after" ∷ moment ∷ [])
+    ≡ Ok (Upcoming moment (jobs_from (path_of Timer (codes "a.timer") ∷ []) true))
+unfolding asked_by clap_on_literals agenda_on_literals
+upcoming_that_keeps_going = refl
 
 -- `quiet` with all defaults: gaps of half an hour, and a limit of 1,000,000
 quiet_by_default : asked_by (codes "agenda" ∷ codes "quiet" ∷ codes "--since" ∷ moment ∷ codes "--upto" ∷ codes "z" ∷ [])
     ≡ Ok (Quiet (planned (codes "z") [] (sized 2 16 1000000)) 1800)
 unfolding asked_by clap_on_literals agenda_on_literals
 quiet_by_default = refl
+
+-- `quiet` with `--keep-going`
+quiet_that_keeps_going :
+    asked_by (codes "agenda" ∷ codes "quiet" ∷ codes "--since" ∷ moment ∷ codes "--upto" ∷ codes "z" ∷ codes "--keep-going" ∷ [])
+    ≡ Ok (Quiet (record (planned (codes "z") [] (sized 2 16 1000000)) { jobs = jobs_from [] true }) 1800)
+unfolding asked_by clap_on_literals agenda_on_literals
+quiet_that_keeps_going = refl
 
 -- a negative gap
 quiet_of_less :

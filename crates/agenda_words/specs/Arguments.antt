@@ -1,7 +1,8 @@
 -- What the arguments of the command line request.
-use Rattle.std.specs.Prelude.{◌≡◌, ⊤, ℕ, false, List, [], ◌∷◌, Option, Some, None, Result, Ok, Err}
+use Rattle.std.specs.Prelude.{◌≡◌, ⊤, ℕ, Bool, false, List, [], ◌∷◌, Option, Some, None, Result, Ok, Err}
 use Rattle.std.specs.Prelude.{codes, if◌then◌else◌, map, option_and_then, unwrap_or}
 use Rattle.std.specs.List.{flat_map}
+use Rattle.std.specs.Option.{option_map_or}
 use Rattle.std.specs.Str.{bytes_eq}
 use Rattle.std.specs.Str.Parse.{digits_value, without_leading_plus}
 use Rattle.clap.specs.ValueTests.{accepts}
@@ -17,6 +18,7 @@ use Rattle.agenda_codes.specs.declared.Code.{Code}
 use Rattle.agenda_codes.specs.Codes.{code_named}
 use Rattle.agenda_sources.specs.declared.Asked.{Asked}
 use Rattle.agenda_sources.specs.declared.Asked.TheVariants.{Cron, Event}
+use Rattle.agenda_words.specs.declared.ask.JobsRequest.{JobsRequest}
 use Rattle.agenda_words.specs.declared.ask.PlanRequest.{PlanRequest}
 use Rattle.agenda_words.specs.declared.ask.UsageFault.{UsageFault}
 use Rattle.agenda_words.specs.declared.ask.UsageFault.TheVariants.{NoMemory, Usage, Help}
@@ -55,6 +57,10 @@ one_rule None None = Err is_usage
 abbrev pub zone_in : List Row → Option (List ℕ)
 zone_in rows = first_of (codes "zone") rows
 
+-- whether a flag is given: the first value of its option is `true` then, and `false` otherwise (agenda)
+abbrev pub is_given : (name : List ℕ) → List Row → Bool
+is_given name rows = option_map_or (λ value. bytes_eq value (codes "true")) (first_of name rows) false
+
 -- what `next` requests, by its values (agenda)
 abbrev pub asked_by_next : List Row → Result Ask Refusal
 asked_by_next rows = do
@@ -90,13 +96,17 @@ paths_in kind rows =
 abbrev pub sources_in : List Row → List SourcePath
 sources_in rows = flat_map (λ kind. map (path_of kind) (paths_in kind rows)) kinds
 
--- what a plan is made from, by its values; there may be no source (agenda)
+-- what jobs are read from, by the values; there may be no source (agenda)
+abbrev pub jobs_in : List Row → JobsRequest
+jobs_in rows = record { zone = zone_in rows; sources = sources_in rows; keep_going = is_given (codes "keep-going") rows }
+
+-- what a plan is made from, by its values (agenda)
 unfoldable pub plan_in : List Row → Result PlanRequest Refusal
 plan_in rows = do
   since ← wanted (first_of (codes "since") rows)
   upto ← wanted (first_of (codes "upto") rows)
   sizes ← sizes_in rows
-  Ok (record { since = since; upto = upto; zone = zone_in rows; sources = sources_in rows; sizes = sizes })
+  Ok (record { since = since; upto = upto; jobs = jobs_in rows; sizes = sizes })
 
 -- what `plan` requests, by its values (agenda)
 abbrev pub asked_by_plan : List Row → Result Ask Refusal
@@ -104,11 +114,11 @@ asked_by_plan rows = do
   plan ← plan_in rows
   Ok (Plan plan)
 
--- what `upcoming` requests, by its values; there may be no source (agenda)
+-- what `upcoming` requests, by its values (agenda)
 abbrev pub asked_by_upcoming : List Row → Result Ask Refusal
 asked_by_upcoming rows = do
   after ← wanted (first_of (codes "after") rows)
-  Ok (Upcoming after (zone_in rows) (sources_in rows))
+  Ok (Upcoming after (jobs_in rows))
 
 -- what `quiet` requests, by its values (agenda)
 abbrev pub asked_by_quiet : List Row → Result Ask Refusal

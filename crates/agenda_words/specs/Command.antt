@@ -2,7 +2,7 @@
 use Rattle.std.specs.Prelude.{ℕ, true, pos, List, [], ◌∷◌, ◌++◌, map, Some, codes}
 use Rattle.clap.specs.Words.{App, Rule, new_app, new_rule, with_rule, with_subcommand}
 use Rattle.clap.specs.Simple.{on_top}
-use Rattle.clap.specs.declared.builder.action.ArgAction.TheVariants.{Append}
+use Rattle.clap.specs.declared.builder.action.ArgAction.TheVariants.{Append, SetTrue}
 use Rattle.clap.specs.declared.builder.value_parser.ValueParser.TheVariants as parser
 use Rattle.agenda_sources.specs.declared.SourceKind.{SourceKind}
 use Rattle.agenda_sources.specs.declared.SourceKind.TheVariants.{Crontab, System, CronD, Spool, Timer}
@@ -16,6 +16,10 @@ argument_named name = record (new_rule name) { value_names = 1 }
 abbrev pub option_named : List ℕ → Rule
 option_named name = record (argument_named name) { long = Some name }
 
+-- a flag `--name`: an option without a value (agenda)
+abbrev pub flag_option : List ℕ → Rule
+flag_option name = record (new_rule name) { long = Some name; action = Some SetTrue }
+
 -- an option for a timestamp, which is required (agenda)
 abbrev pub moment_option : List ℕ → Rule
 moment_option name = record (option_named name) { required = true }
@@ -23,6 +27,10 @@ moment_option name = record (option_named name) { required = true }
 -- the option `--zone ZONE`, which is optional (agenda)
 abbrev pub zone_option : Rule
 zone_option = option_named (codes "zone")
+
+-- the flag `--keep-going` (agenda)
+abbrev pub keep_going_option : Rule
+keep_going_option = flag_option (codes "keep-going")
 
 -- an option for a whole number of 32 bits, which has a default (agenda)
 abbrev pub number_option : List ℕ → List ℕ → Rule
@@ -77,19 +85,19 @@ unfoldable pub with_sizes : App → (default : List ℕ) → App
 with_sizes app default = with_rules app (number_option (codes "planners") (codes "2") ∷ number_option (codes "room") (codes "16")
     ∷ number_option (codes "limit") default ∷ [])
 
--- the span of a plan, and the zone: `--since T --upto T [--zone ZONE]` (agenda)
+-- the span of a plan, the zone, and whether to keep going: `--since T --upto T [--zone ZONE] [--keep-going]` (agenda)
 abbrev pub span_rules : List Rule
-span_rules = moment_option (codes "since") ∷ moment_option (codes "upto") ∷ zone_option ∷ []
+span_rules = moment_option (codes "since") ∷ moment_option (codes "upto") ∷ zone_option ∷ keep_going_option ∷ []
 
--- `plan --since T --upto T [--zone ZONE]`, the sources and the sizes (agenda)
+-- `plan --since T --upto T [--zone ZONE] [--keep-going]`, the sources and the sizes (agenda)
 unfoldable pub plan : App
 plan = with_sizes (with_sources (subcommand_with (codes "plan") span_rules)) (codes "10000")
 
--- `upcoming --after T [--zone ZONE]` and the sources (agenda)
+-- `upcoming --after T [--zone ZONE] [--keep-going]` and the sources (agenda)
 unfoldable pub upcoming : App
-upcoming = with_sources (subcommand_with (codes "upcoming") (moment_option (codes "after") ∷ zone_option ∷ []))
+upcoming = with_sources (subcommand_with (codes "upcoming") (moment_option (codes "after") ∷ zone_option ∷ keep_going_option ∷ []))
 
--- `quiet --since T --upto T [--zone ZONE]`, the sources, `[--least N]` and the sizes (agenda)
+-- `quiet --since T --upto T [--zone ZONE] [--keep-going]`, the sources, `[--least N]` and the sizes (agenda)
 unfoldable pub quiet : App
 quiet = with_sizes
     (with_rules (with_sources (subcommand_with (codes "quiet") span_rules)) (number_option (codes "least") (codes "1800") ∷ []))

@@ -1,15 +1,15 @@
 //! Reads the arguments of the command line.
-ghost use Rattle.std.specs.Prelude.{IfOk, map, string_bytes};
+ghost use Rattle.std.specs.Prelude.{◌≡◌, IfOk, map, string_bytes};
 ghost use Rattle.clap.specs.Words.{found_of, kind_of, rows_of, subcommand_rows_of};
 ghost use Rattle.agenda_words.specs.Arguments.{Gives, IsAnswerTo, asked_by, asked_by_check, asked_by_explain, asked_by_next};
 ghost use Rattle.agenda_words.specs.Arguments.{asked_by_plan, asked_by_quiet, asked_by_steps, asked_by_subcommand};
-ghost use Rattle.agenda_words.specs.Arguments.{asked_by_upcoming, plan_in, sizes_in};
+ghost use Rattle.agenda_words.specs.Arguments.{asked_by_upcoming, jobs_in, plan_in, sizes_in};
 
-use crate::ask::{Ask, PlanRequest, UsageFault};
+use crate::ask::{Ask, JobsRequest, PlanRequest, UsageFault};
 use crate::codes::code_of;
 use crate::command::agenda_command;
 use crate::paths::sources_of;
-use crate::values::{number_argument, text, text_if_given, text_of};
+use crate::values::{is_given, number_argument, text, text_if_given, text_of};
 use agenda_sources::Asked;
 use clap::ArgMatches;
 use clap::error::ErrorKind;
@@ -97,13 +97,8 @@ fn asked_by_upcoming(alloc: Global, given: &ArgMatches<'_>) -> Result<Ask, Usage
     ensures { Gives result (asked_by_upcoming (rows_of (found_of given.now))) }
 {
     let after = text_of(alloc, given, "after")?;
-    let zone = text_if_given(alloc, given, "zone")?;
-    let sources = sources_of(alloc, given)?;
-    Ok(Ask::Upcoming {
-        after,
-        zone,
-        sources,
-    })
+    let jobs = jobs_of(alloc, given)?;
+    Ok(Ask::Upcoming { after, jobs })
 }
 
 fn asked_by_quiet(alloc: Global, given: &ArgMatches<'_>) -> Result<Ask, UsageFault>
@@ -121,15 +116,27 @@ fn plan_of(alloc: Global, given: &ArgMatches<'_>) -> Result<PlanRequest, UsageFa
 {
     let since = text_of(alloc, given, "since")?;
     let upto = text_of(alloc, given, "upto")?;
-    let zone = text_if_given(alloc, given, "zone")?;
     let sizes = sizes_of(alloc, given)?;
-    let sources = sources_of(alloc, given)?;
+    let jobs = jobs_of(alloc, given)?;
     Ok(PlanRequest {
         since,
         upto,
+        jobs,
+        sizes,
+    })
+}
+
+// Returns what the jobs of a plan or of `upcoming` are read from.
+fn jobs_of(alloc: Global, given: &ArgMatches<'_>) -> Result<JobsRequest, AllocError>
+    ensures { IfOk result (λ jobs. jobs ≡ jobs_in (rows_of (found_of given.now))) }
+{
+    let zone = text_if_given(alloc, given, "zone")?;
+    let sources = sources_of(alloc, given)?;
+    let keep_going = is_given(given, "keep-going");
+    Ok(JobsRequest {
         zone,
         sources,
-        sizes,
+        keep_going,
     })
 }
 

@@ -7,6 +7,17 @@ use plan_texts::Text;
 use std::alloc::AllocError;
 use thiserror::Error;
 
+/// What jobs are read from.
+#[derive(Debug, Drop)]
+pub struct JobsRequest {
+    /// The text of the time zone of the rules. It is UTC if this is missing.
+    pub zone: Option<Text>,
+    /// The paths of the sources, in the order of their kinds. Those of one kind are in the order of the arguments.
+    pub sources: SourcePaths,
+    /// Whether what is invalid or can't be read is skipped and reported.
+    pub keep_going: bool,
+}
+
 /// What a plan is made from.
 #[derive(Debug, Drop)]
 pub struct PlanRequest {
@@ -14,10 +25,8 @@ pub struct PlanRequest {
     pub since: Text,
     /// The text of a timestamp, the end of the span. It is outside the span.
     pub upto: Text,
-    /// The text of the time zone of the rules. It is UTC if this is missing.
-    pub zone: Option<Text>,
-    /// The paths of the sources, in the order of their kinds. Those of one kind are in the order of the arguments.
-    pub sources: SourcePaths,
+    /// The jobs.
+    pub jobs: JobsRequest,
     /// The number of planners, the capacity of each one's ring, and the maximum number of starts.
     pub sizes: Sizes,
 }
@@ -42,10 +51,8 @@ pub enum Ask {
     Upcoming {
         /// The text of a timestamp. The starts are later.
         after: Text,
-        /// The text of the time zone of the rules. It is UTC if this is missing.
-        zone: Option<Text>,
-        /// The paths of the sources, in the same order as for a plan.
-        sources: SourcePaths,
+        /// The jobs.
+        jobs: JobsRequest,
     },
     /// Print the gaps in which no job of crontabs and timers starts.
     Quiet {

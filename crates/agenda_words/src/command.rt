@@ -3,7 +3,7 @@ ghost use Rattle.std.specs.Prelude.{◌≡◌, [], ◌∷◌, IfOk, false};
 ghost use Rattle.clap.specs.Words.{app_of, items_of, rule_of, with_rule, with_subcommand};
 ghost use Rattle.clap.specs.declared.builder.command.Command.TheViews.{out-Command};
 ghost use Rattle.agenda_words.specs.Command.{agenda, argument_named, check, code_argument, explain, file_argument, moment_option, next};
-ghost use Rattle.agenda_words.specs.Command.{number_option, option_named, plan, quiet, steps, upcoming};
+ghost use Rattle.agenda_words.specs.Command.{keep_going_option, number_option, option_named, plan, quiet, steps, upcoming};
 ghost use Rattle.agenda_words.specs.Command.{source_rule, with_sizes, with_sources, zone_option};
 
 mod help;
@@ -72,6 +72,7 @@ fn plan_command<'a>(alloc: Global) -> Result<Command<'a>, AllocError>
     let command = with_argument(command, moment_option(alloc, "since", help::SINCE))?;
     let command = with_argument(command, moment_option(alloc, "upto", help::UPTO))?;
     let command = with_argument(command, zone_option(alloc))?;
+    let command = with_argument(command, keep_going_option(alloc))?;
     let command = with_sources(alloc, command)?;
     let command = with_sizes(alloc, command, "10000")?;
     Ok(command)
@@ -87,6 +88,7 @@ fn upcoming_command<'a>(alloc: Global) -> Result<Command<'a>, AllocError>
         .after_help(help::AFTER_UPCOMING);
     let command = with_argument(command, moment_option(alloc, "after", help::AFTER))?;
     let command = with_argument(command, zone_option(alloc))?;
+    let command = with_argument(command, keep_going_option(alloc))?;
     let command = with_sources(alloc, command)?;
     Ok(command)
 }
@@ -102,6 +104,7 @@ fn quiet_command<'a>(alloc: Global) -> Result<Command<'a>, AllocError>
     let command = with_argument(command, moment_option(alloc, "since", help::SINCE))?;
     let command = with_argument(command, moment_option(alloc, "upto", help::UPTO))?;
     let command = with_argument(command, zone_option(alloc))?;
+    let command = with_argument(command, keep_going_option(alloc))?;
     let command = with_sources(alloc, command)?;
     let command = with_argument(command, number_option(alloc, "least", "1800", help::LEAST))?;
     let command = with_sizes(alloc, command, "1000000")?;
@@ -247,6 +250,17 @@ fn zone_option<'a>(alloc: Global) -> Arg<'a>
     ensures local { result.global ≡ false }
 {
     text_option(alloc, "zone", "ZONE", help::ZONE)
+}
+
+// Returns the option `--keep-going`, which has no value.
+fn keep_going_option<'a>(alloc: Global) -> Arg<'a>
+    ensures rule { rule_of result ≡ keep_going_option }
+    ensures local { result.global ≡ false }
+{
+    Arg::new(alloc, "keep-going")
+        .long("keep-going")
+        .help(help::KEEP_GOING)
+        .action(ArgAction::SetTrue)
 }
 
 // Returns the option `--name N`, a whole number of 32 bits, with a default.

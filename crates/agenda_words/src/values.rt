@@ -1,7 +1,7 @@
 //! The values of a subcommand's options and arguments.
 ghost use Rattle.std.specs.Prelude.{◌≡◌, IfOk};
 ghost use Rattle.clap.specs.Words.{first_of, found_of, one_of, rows_of};
-ghost use Rattle.agenda_words.specs.Arguments.{Gives, number_in, wanted};
+ghost use Rattle.agenda_words.specs.Arguments.{Gives, is_given, number_in, wanted};
 
 use crate::ask::UsageFault;
 use clap::ArgMatches;
@@ -61,6 +61,16 @@ pub(crate) fn number_argument(
     match given.get_one::<u32>(option) {
         Some(number) => Ok(number),
         None => Err(UsageFault::Usage(missing(alloc, option)?)),
+    }
+}
+
+/// Returns whether a flag, an option without a value, is given. The value of the flag is `true` if it is.
+pub(crate) fn is_given(given: &ArgMatches<'_>, option: &str) -> bool
+    ensures { result ≡ is_given option.now (rows_of (found_of given.now)) }
+{
+    match given.get_str(option) {
+        Some(value) => value == "true",
+        None => false,
     }
 }
 

@@ -30,6 +30,8 @@ pub(super) const ZONE: &str = "\
 The time zone of the rules, such as Europe/Berlin,
 or the path of a TZif file; UTC if it isn't given";
 
+pub(super) const KEEP_GOING: &str = "Skip what is invalid or can't be read, and report it";
+
 pub(super) const COUNT: &str = "How many starts, from 1 to 1000";
 
 pub(super) const CRON: &str = "\
@@ -125,7 +127,7 @@ pub(super) const AFTER_CHECK: &str = "\
 Prints all errors of all files, one per line, as PATH:LINE: error: TEXT [CODE], and
 warnings, as PATH:LINE: warning: TEXT [CODE], about lines that are valid but may not mean
 what you intended. A message about a whole file has no line number. The exit status is 1
-if there is an error, otherwise 0. `agenda explain CODE` says what to do about each CODE.
+if there is an error, otherwise 0. 'agenda explain CODE' says what to do about each CODE.
 
 Example:
   agenda check --crontab jobs backup.timer";

@@ -1,0 +1,229 @@
+-- If nothing is skipped, a request that keeps going ends as one that doesn't.
+use Rattle.std.proofs.Common.{◌≡◌, ◌≢◌, ◌⊎◌, inl, inr, ℕ, Bool, List, [], ◌∷◌, ◌++◌, Option, None, Some, Result, Ok, Err, refl, ap, sym, subst, ◌∙◌, append_assoc, append-nil, take}
+use Rattle.std.specs.Io.KnownBytes.{Appends, Keeps}
+use Rattle.std.proofs.KnownBytes.{Appends-kept, Appends-trans}
+use Rattle.plan_clock.specs.declared.row.Change.{Change}
+use Rattle.plan_texts.specs.Steps.{◌>>=◌}
+use Rattle.plan_rules.specs.Job.{JobParts}
+use Rattle.plan_write.specs.Skipped.{skipped_text}
+use Rattle.agenda_sources.specs.declared.Source.{Source}
+use Rattle.agenda_sources.specs.declared.SourcePath.{SourcePath}
+use Rattle.agenda_sources.specs.Findings.{kept_jobs, sources_errors}
+use Rattle.agenda_sources.specs.Sources.{jobs_reading}
+use Rattle.agenda_words.specs.declared.Ask.TheVariants.{Plan, Upcoming, Quiet}
+use Rattle.agenda_words.specs.declared.JobsRequest.{JobsRequest}
+use Rattle.agenda_words.specs.declared.PlanRequest.{PlanRequest}
+use Rattle.agenda_faults.specs.declared.faults.RunFault.{RunFault}
+use Rattle.agenda_faults.specs.declared.faults.Failure.{Failure}
+use Rattle.agenda_faults.specs.Faults.{fault_of_sources}
+use Rattle.agenda_faults.specs.FaultLines.{fault_text}
+use Rattle.agenda_commands.specs.declared.Goal.{Goal}
+use Rattle.agenda_commands.specs.declared.Goal.TheVariants as goal
+use Rattle.agenda_commands.specs.Command.{IsFaultOf, IsTextOf, step}
+use Rattle.agenda_commands.specs.Plan.{plan_output, planned_output}
+use Rattle.agenda_commands.specs.Quiet.{gaps_output, quiet_output, valid_least}
+use Rattle.agenda_commands.specs.Upcoming.{IsTextOfUpcoming, RefusesUpcoming}
+use Rattle.agenda_answers.specs.declared.keeping.Tried.{Tried}
+use Rattle.agenda_answers.specs.Answer.{Ends, HoldsAfter, Leaves, Printed, Stream, outputs, outputs_if, plan_ends, prints, quiet_ends, upcoming_ends}
+use Rattle.agenda_answers.specs.Files.{Held}
+use Rattle.agenda_answers.specs.Keeping.{AnswersBy, KeptAnswer, Tells, answer_of, kept_by, lines_of_skipped, plan_goal, printed, quiet_goal, skipped_status, upcoming_goal}
+use Rattle.agenda_answers.specs.Program.{ChangesNothing, SkipsNothing}
+use Rattle.agenda_answers.specs.Sources.{source_of, sources_of, tried_of, tries_from, with_tried}
+use Rattle.agenda_answers.specs.Steps.{Step, stops, goes}
+use Rattle.agenda_answers.specs.Zone.{clock_of}
+
+-- ---- the sources
+
+not_nil : {X : Type 0} (xs : List X) (x : X) → xs ++ x ∷ [] ≡ [] → ⊥
+not_nil [] x is = absurd cc
+not_nil (y ∷ xs) x is = absurd cc
+
+-- a path among those of unreadable files stays there
+kept_unread :
+    (held : Held) (tried end : Tried) (paths : List SourcePath) → tries_from held tried paths (Ok end) → end.unread ≡ [] → tried.unread ≡ []
+unfolding tries_from
+kept_unread held tried end [] are none = let same : end ≡ tried = cc in ap (λ t. t.unread) (sym same) ∙ none
+kept_unread held tried end (given ∷ paths) (stops failure is same) none = absurd cc
+kept_unread held tried end (given ∷ paths) (goes None is are) none =
+    absurd (not_nil tried.unread given (kept_unread held (with_tried tried given None) end paths are none))
+kept_unread held tried end (given ∷ paths) (goes (Some source) is are) none =
+    kept_unread held (with_tried tried given (Some source)) end paths are none
+
+-- the sources that were read, if all can be read
+pub record AllRead (held : Held) (paths : List SourcePath) (before all : List Source) : Type 0 where
+  pub sources : List Source
+  pub read : sources_of held paths (Ok sources)
+  pub are : all ≡ before ++ sources
+
+pub all_read :
+    (held : Held) (tried end : Tried) (paths : List SourcePath) → tries_from held tried paths (Ok end) → end.unread ≡ [] →
+    AllRead held paths tried.sources end.sources
+unfolding tries_from sources_of
+all_read held tried end [] are none =
+    let same : end ≡ tried = cc in record { sources = []; read = refl; are = ap (λ t. t.sources) same ∙ sym (append-nil tried.sources) }
+all_read held tried end (given ∷ paths) (stops failure is same) none = absurd cc
+all_read held tried end (given ∷ paths) (goes None is are) none =
+    absurd (not_nil tried.unread given (kept_unread held (with_tried tried given None) end paths are none))
+all_read held tried end (given ∷ paths) (goes (Some source) is are) none =
+    let more = all_read held (with_tried tried given (Some source)) end paths are none in record {
+      sources = source ∷ more.sources;
+      read = goes source is (goes more.sources more.read refl);
+      are = more.are ∙ append_assoc tried.sources (source ∷ []) more.sources;
+    }
+
+-- what is known of an answer for which nothing is skipped
+record Parts (held : Held) (wanted : Goal) (jobs : JobsRequest) (answer : Result (List ℕ) RunFault) : Type 0 where
+  clock : List Change
+  sources : List Source
+  zone : clock_of held jobs.zone (Ok clock)
+  read : sources_of held jobs.sources (Ok sources)
+  all_kept : jobs_reading clock sources ≡ Ok (kept_jobs clock sources)
+  answered : answer_of wanted (kept_jobs clock sources) (Ok answer)
+
+-- the law of agenda_sources: without errors all jobs are kept
+abbrev pub KeepsAll : Type 0
+KeepsAll = (clock : List Change) → (sources : List Source) → sources_errors clock sources ≡ [] →
+    jobs_reading clock sources ≡ Ok (kept_jobs clock sources)
+
+parts_of :
+    (law : KeepsAll) (held : Held) (wanted : Goal) (jobs : JobsRequest) (kept : KeptAnswer) → kept_by held wanted jobs (Ok kept) →
+    SkipsNothing kept → Parts held wanted jobs kept.answer
+parts_of law held wanted jobs kept (goes clock zone (goes tried read (goes answer answered is))) none =
+    let same : kept ≡ record { unread = tried.unread; paths = tried.paths; errors = sources_errors clock tried.sources; answer = answer } = cc in
+    let all = all_read held (record { sources = []; paths = []; unread = [] }) tried jobs.sources read
+    (ap (λ k. k.unread) (sym same) ∙ none.0) in
+    let are : tried.sources ≡ all.sources = all.are in
+    record {
+      clock = clock;
+      sources = tried.sources;
+      zone = zone;
+      read = subst (λ s. sources_of held jobs.sources (Ok s)) (sym are) all.read;
+      all_kept = law clock tried.sources (ap (λ k. k.errors) (sym same) ∙ none.1);
+      answered = subst (λ a. answer_of wanted (kept_jobs clock tried.sources) (Ok a)) (sym (ap (λ k. k.answer) same)) answered;
+    }
+parts_of law held wanted jobs kept (goes clock zone (goes tried read (stops failure _ is))) none = absurd cc
+parts_of law held wanted jobs kept (goes clock zone (stops failure _ is)) none = absurd cc
+parts_of law held wanted jobs kept (stops failure _ is) none = absurd cc
+
+-- ---- what is printed
+
+-- an answer of the jobs is one of the sources, if both have the same output
+same_output :
+    (output of_jobs : Result (List ℕ) RunFault) (answer : Result (List ℕ) RunFault) → output ≡ of_jobs →
+    AnswersBy (IsTextOf of_jobs) (IsFaultOf of_jobs) answer → outputs 0 output (printed answer 0)
+same_output output of_jobs (Ok text) same is = (same ∙ is, refl)
+same_output output of_jobs (Err fault) same is = λ other. same ∙ is.1 other
+
+-- the same of a command that checks a number first
+same_output_if :
+    (number : Result ℕ RunFault) (output : Result (List ℕ) RunFault) (next : ℕ → Result (List ℕ) RunFault) (answer : Result (List ℕ) RunFault) →
+    output ≡ number >>= next → AnswersBy (IsTextOf (number >>= next)) (IsFaultOf (number >>= next)) answer →
+    outputs_if number output (printed answer 0)
+same_output_if number output next (Ok text) same is = (same ∙ is, refl)
+same_output_if (Ok n) output next (Err fault) same is = (λ other. same ∙ is.1 other, tt)
+same_output_if (Err found) output next (Err fault) same is = (λ other. same ∙ is.1 other, let no : Err found ≡ Err fault = is.1 is.0 in cc)
+
+plan_same :
+    (law : KeepsAll) (held : Held) (request : PlanRequest) (wanted : Goal) (kept : KeptAnswer) → plan_goal request (Ok wanted) →
+    kept_by held wanted request.jobs (Ok kept) → SkipsNothing kept → plan_ends held request (printed kept.answer 0)
+plan_same law held request wanted kept (stops failure _ is) by none = absurd cc
+plan_same law held request wanted kept (goes span spanned is) by none =
+    let goal_is : wanted ≡ goal.Plan span request.sizes = cc in
+    let parts = parts_of law held (goal.Plan span request.sizes) request.jobs kept
+    (subst (λ w. kept_by held w request.jobs (Ok kept)) goal_is by) none in
+    let same : plan_output parts.clock parts.sources span request.sizes ≡ planned_output (kept_jobs parts.clock parts.sources) span request.sizes =
+    ap (λ r. step fault_of_sources r >>= (λ jobs. planned_output jobs span request.sizes)) parts.all_kept in
+    goes span spanned (goes (record { clock = parts.clock; sources = parts.sources }) (goes parts.clock parts.zone (goes parts.sources parts.read refl))
+    (same_output _ (planned_output (kept_jobs parts.clock parts.sources) span request.sizes) kept.answer same parts.answered))
+
+quiet_same :
+    (law : KeepsAll) (held : Held) (request : PlanRequest) (least : ℕ) (wanted : Goal) (kept : KeptAnswer) →
+    quiet_goal request least (Ok wanted) → kept_by held wanted request.jobs (Ok kept) → SkipsNothing kept →
+    quiet_ends held request least (printed kept.answer 0)
+quiet_same law held request least wanted kept (stops failure _ is) by none = absurd cc
+quiet_same law held request least wanted kept (goes span spanned is) by none =
+    let goal_is : wanted ≡ goal.Quiet span request.sizes least = cc in
+    let parts = parts_of law held (goal.Quiet span request.sizes least) request.jobs kept
+    (subst (λ w. kept_by held w request.jobs (Ok kept)) goal_is by) none in
+    let jobs = kept_jobs parts.clock parts.sources in
+    let next : ℕ → Result (List ℕ) RunFault = λ wide. gaps_output jobs span request.sizes wide in
+    let same : quiet_output parts.clock parts.sources span request.sizes least ≡ (valid_least least >>= next) =
+    ap (λ r. valid_least least >>= (λ wide. step fault_of_sources r >>= (λ js. gaps_output js span request.sizes wide))) parts.all_kept in
+    goes span spanned (goes (record { clock = parts.clock; sources = parts.sources }) (goes parts.clock parts.zone (goes parts.sources parts.read refl))
+    (same_output_if (valid_least least) _ next kept.answer same parts.answered))
+
+-- the next starts of jobs have no error but that an allocation failed
+upcoming_printed :
+    (clock : List Change) (sources : List Source) (jobs : List JobParts) (after : ℕ) (answer : Result (List ℕ) RunFault) →
+    jobs_reading clock sources ≡ Ok jobs → answer_of (goal.Upcoming after) jobs (Ok answer) →
+    prints 0 (IsTextOfUpcoming clock sources after) (RefusesUpcoming clock sources) (printed answer 0)
+upcoming_printed clock sources jobs after (Ok text) same is = ((jobs, same, is), refl)
+upcoming_printed clock sources jobs after (Err fault) same is = absurd (is.0 is.1)
+
+upcoming_same :
+    (law : KeepsAll) (held : Held) (after : List ℕ) (jobs : JobsRequest) (wanted : Goal) (kept : KeptAnswer) →
+    upcoming_goal after (Ok wanted) → kept_by held wanted jobs (Ok kept) → SkipsNothing kept → upcoming_ends held after jobs (printed kept.answer 0)
+upcoming_same law held after jobs wanted kept (stops failure _ is) by none = absurd cc
+upcoming_same law held after jobs wanted kept (goes moment read is) by none =
+    let goal_is : wanted ≡ goal.Upcoming moment = cc in
+    let parts = parts_of law held (goal.Upcoming moment) jobs kept (subst (λ w. kept_by held w jobs (Ok kept)) goal_is by) none in
+    goes moment read (goes (record { clock = parts.clock; sources = parts.sources }) (goes parts.clock parts.zone (goes parts.sources parts.read refl))
+    (upcoming_printed parts.clock parts.sources _ moment kept.answer parts.all_kept parts.answered))
+
+-- ---- the streams
+
+nothing_appended : (old new : Option (List ℕ)) → Appends old new [] → Keeps old new
+nothing_appended None new is = tt
+nothing_appended (Some xs) None is = absurd is
+nothing_appended (Some xs) (Some ys) is = is ∙ append-nil xs
+
+ends_same :
+    (sources : List SourcePath) (done : Result ℕ Failure) (status : ℕ) (takes_all : Bool) (old mid new : Option (List ℕ)) → Appends old mid [] →
+    Ends sources done status (record { takes_all = takes_all; old = mid; new = new }) →
+    Ends sources done status (record { takes_all = takes_all; old = old; new = new })
+ends_same sources (Ok found) status takes_all old mid new none is =
+    (is.0, nothing_appended old new (Appends-kept old mid new [] none is.1))
+ends_same sources (Err failure) status takes_all old mid new none (is, inl whole) =
+    (is, inl (Appends-trans old mid new [] (fault_text sources failure) none whole))
+ends_same sources (Err failure) status takes_all old mid new none (is, inr (fails, (k, within, part))) =
+    (is, inr (fails, (k, within, Appends-trans old mid new [] (take k (fault_text sources failure)) none part)))
+
+told_same :
+    (ask_step : Step Printed) (sources : List SourcePath) (kept : KeptAnswer) (status : ℕ) (out err : Stream) → SkipsNothing kept →
+    ask_step (printed kept.answer 0) → Tells sources kept status out err →
+    (done : Result ℕ Failure) × Leaves out.takes_all ask_step done out.old out.new × Ends sources done status err
+told_same ask_step sources kept status out err none ends (inl (inl unread, _, _, _)) = absurd (unread none.0)
+told_same ask_step sources kept status out err none ends (inl (inr errors, _, _, _)) = absurd (errors none.1)
+told_same ask_step sources kept status out err none ends (inr (mid, taken, (done, holds, ended))) =
+    let lines : lines_of_skipped kept ≡ [] =
+    ap (λ l. skipped_text l kept.paths kept.errors) none.0 ∙ ap (λ l. skipped_text [] kept.paths l) none.1 in
+    let zero : skipped_status kept.unread kept.errors ≡ 0 = ap (λ l. skipped_status l kept.errors) none.0 ∙ ap (skipped_status []) none.1 in (
+      done,
+      record {
+        end = printed kept.answer 0;
+        ends = ends;
+        puts = subst (λ n. HoldsAfter out.takes_all (printed kept.answer n) done out.old out.new) zero holds;
+      },
+      ends_same sources done status err.takes_all err.old mid err.new (subst (Appends err.old mid) lines taken) ended,
+    )
+
+-- ---- the law
+
+pub plan_unchanged : KeepsAll → (held : Held) → (request : PlanRequest) → ChangesNothing held (plan_goal request) request.jobs (Plan request)
+plan_unchanged law held request (Ok wanted) is kept by none status out err told =
+    told_same (plan_ends held request) request.jobs.sources kept status out err none (plan_same law held request wanted kept is by none) told
+plan_unchanged law held request (Err failure) is kept by none status out err told = absurd cc
+
+pub upcoming_unchanged :
+    KeepsAll → (held : Held) → (after : List ℕ) → (jobs : JobsRequest) → ChangesNothing held (upcoming_goal after) jobs (Upcoming after jobs)
+upcoming_unchanged law held after jobs (Ok wanted) is kept by none status out err told =
+    told_same (upcoming_ends held after jobs) jobs.sources kept status out err none (upcoming_same law held after jobs wanted kept is by none) told
+upcoming_unchanged law held after jobs (Err failure) is kept by none status out err told = absurd cc
+
+pub quiet_unchanged :
+    KeepsAll → (held : Held) → (request : PlanRequest) → (least : ℕ) →
+    ChangesNothing held (quiet_goal request least) request.jobs (Quiet request least)
+quiet_unchanged law held request least (Ok wanted) is kept by none status out err told =
+    told_same (quiet_ends held request least) request.jobs.sources kept status out err none
+    (quiet_same law held request least wanted kept is by none) told
+quiet_unchanged law held request least (Err failure) is kept by none status out err told = absurd cc

@@ -1,0 +1,32 @@
+use Rattle.std.proofs.Common.{refl}
+use Rattle.agenda_faults.specs.declared.faults.Failure.TheVariants.{Run}
+use Rattle.agenda_faults.specs.declared.faults.RunFault.TheVariants as run
+use Rattle.agenda_answers.specs.Steps.{goes}
+use Rattle.agenda_answers.proofs.StepLemmas.{failed}
+use Rattle.agenda_answers.proofs.keeping.make_outcome.Goals as goal
+
+pub returns-in_err-clock : goal.returns-in_err-clock
+returns-in_err-clock g c = rw c.in_ok-goal.was (failed _ _ c.in_err-clock.ensures.read c.from_residual-in_err-clock.ensures.1)
+
+pub returns-in_err-tried : goal.returns-in_err-tried
+returns-in_err-tried g c =
+    rw c.in_ok-goal.was (goes _ c.in_ok-clock.ensures.read
+    (failed _ _ (rw (c.in_ok-clock.ensures.same, c.as_slice.ensures) at c.in_err-tried.ensures) c.from_residual-in_err-tried.ensures.1))
+
+pub returns-in_err-kept : goal.returns-in_err-kept
+returns-in_err-kept g c =
+    rw c.in_ok-goal.was (goes _ c.in_ok-clock.ensures.read
+    (goes _ (rw (c.in_ok-clock.ensures.same, c.as_slice.ensures) at c.in_ok-tried.ensures)
+    (failed _ (Run run.NoMemory) refl c.from_residual-in_err-kept.ensures.1)))
+
+pub returns-in_err-answer : goal.returns-in_err-answer
+returns-in_err-answer g c =
+    rw c.in_ok-goal.was (goes _ c.in_ok-clock.ensures.read
+    (goes _ (rw (c.in_ok-clock.ensures.same, c.as_slice.ensures) at c.in_ok-tried.ensures)
+    (failed _ _ c.in_err-answer.ensures c.from_residual-in_err-answer.ensures.1)))
+
+pub returns : goal.returns
+returns g c =
+    rw c.in_ok-goal.was (goes _ c.in_ok-clock.ensures.read
+    (goes _ (rw (c.in_ok-clock.ensures.same, c.as_slice.ensures) at c.in_ok-tried.ensures)
+    (goes _ (rw c.in_ok-kept.ensures.jobs at c.in_ok-answer.ensures) (rw c.in_ok-kept.ensures.errors refl))))

@@ -1,0 +1,276 @@
+//! Answers a request that keeps going: what is invalid or can't be read is skipped and reported.
+//!
+//! The answer is made before a byte is written, so if an allocation fails, only its line is written. Then the lines of
+//! what is skipped go to standard error, and after them the answer to standard output.
+
+ghost use Rattle.std.specs.Prelude.{◌≡◌, ℕ, IfErr, IfOk, List, OnOk};
+ghost use Rattle.agenda_answers.specs.Answer.{HoldsAfter};
+ghost use Rattle.agenda_answers.specs.Files.{Held};
+ghost use Rattle.agenda_answers.specs.Keeping.{AnswersKept, Tells, answer_of, kept_of, plan_goal, printed, quiet_goal, skipped_status, upcoming_goal};
+ghost use Rattle.agenda_answers.specs.Program.{ChangesNothing};
+ghost use Rattle.agenda_answers.specs.Sources.{tried_of, tries_of, with_tried};
+ghost use Rattle.agenda_faults.specs.declared.faults.Failure.TheVariants.{Run};
+ghost use Rattle.agenda_faults.specs.declared.faults.RunFault.TheVariants.{NoMemory};
+ghost use Rattle.agenda_words.specs.declared.Ask.TheVariants.{Plan, Quiet, Upcoming};
+ghost use Rattle.agenda_words.specs.declared.JobsRequest.{JobsRequest};
+ghost use Rattle.agenda_words.specs.declared.PlanRequest.{PlanRequest};
+
+use crate::answers::end;
+use crate::files::Files;
+use crate::sources::read_source;
+use crate::zone::read_clock;
+use agenda_commands::{Answer, Goal, make_answer};
+use agenda_faults::{Failure, RunFault};
+use agenda_sources::{
+    Found, Source, SourcePath, SourcePaths, Sources, kept_of_sources, without_errors_all_is_kept,
+};
+use agenda_words::JobsRequest;
+use plan_rules::{Jobs, Text};
+use plan_streams::Stream;
+use plan_write::write_skipped;
+use std::alloc::{AllocError, Global};
+use std::marker::Model;
+use std::sync::Wait;
+use std::thread::Threads;
+
+// The exit status if nothing is skipped.
+const DONE: u8 = 0;
+
+// The exit status if an error is skipped.
+const REFUSED: u8 = 1;
+
+// The exit status if a file can't be read, or if standard error fails.
+const FAILED: u8 = 3;
+
+// Sources, some of which can't be read.
+#[derive(Drop)]
+struct Tried {
+    // The sources that were read.
+    sources: Sources,
+    // Their paths, at the same places.
+    paths: SourcePaths,
+    // The paths of the files that can't be opened or read.
+    unread: SourcePaths,
+}
+
+// What is skipped, and the answer without it.
+#[derive(Drop)]
+struct Outcome {
+    // The paths of the files that can't be opened or read.
+    unread: SourcePaths,
+    // The paths of the other sources.
+    paths: SourcePaths,
+    // The errors of those sources.
+    errors: Vec<Found>,
+    // The answer of the jobs that are left, or its error, which isn't `NoMemory`.
+    answer: Result<Answer, RunFault>,
+}
+
+impl Model for Outcome {
+    ghost use Rattle.agenda_answers.specs.Keeping.{KeptAnswer};
+
+    ghost Value = { KeptAnswer };
+
+    ghost view = { λ outcome. record { unread = outcome.unread; paths = outcome.paths; errors = outcome.errors.items; answer = outcome.answer } };
+}
+
+/// Answers a request that keeps going, and returns the exit status. Without a goal nothing is read.
+///
+/// The status is 3 if a file can't be read, 1 if there is an error, and 0 otherwise; if the answer isn't made, it is that
+/// of the error. If standard error fails, it is 3, and nothing is written to standard output.
+pub(crate) fn keep_going<R: Threads + Wait + Sync, F: Files, O: Stream, E: Stream>(
+    rt: &R,
+    alloc: Global,
+    goal: Result<Goal, Failure>,
+    jobs: &JobsRequest,
+    files: &mut F,
+    out: &mut O,
+    err: &mut E,
+) -> u8
+    ensures { AnswersKept (F.held files.old) goal jobs.now result
+        (record { takes_all = O.takes_all; old = O.holds out.old; new = O.holds out.new })
+        (record { takes_all = E.takes_all; old = E.holds err.old; new = E.holds err.new }) }
+{
+    match make_outcome(rt, alloc, goal, jobs, files) {
+        Ok(outcome) => tell(outcome, jobs.sources.as_slice(), out, err),
+        Err(failure) => end(Err(failure), jobs.sources.as_slice(), err),
+    }
+}
+
+// Reads the sources that can be read, and makes the answer of their jobs.
+fn make_outcome<R: Threads + Wait + Sync, F: Files>(
+    rt: &R,
+    alloc: Global,
+    goal: Result<Goal, Failure>,
+    jobs: &JobsRequest,
+    files: &mut F,
+) -> Result<Outcome, Failure>
+    ensures { kept_of (F.held files.old) goal jobs.now result }
+{
+    let goal = goal?;
+    let clock = read_clock(alloc, files, &jobs.zone)?;
+    let tried = try_sources(alloc, files, jobs.sources.as_slice())?;
+    let kept = kept_of_sources(alloc, &tried.sources, &clock)?;
+    let answer = answer_jobs(rt, alloc, kept.jobs, &goal)?;
+    Ok(Outcome {
+        unread: tried.unread,
+        paths: tried.paths,
+        errors: kept.errors,
+        answer,
+    })
+}
+
+// Makes the answer of jobs, or its error. Running out of memory is a failure.
+fn answer_jobs<R: Threads + Wait + Sync>(
+    rt: &R,
+    alloc: Global,
+    jobs: Jobs,
+    goal: &Goal,
+) -> Result<Result<Answer, RunFault>, Failure>
+    ensures { answer_of goal.now jobs result }
+{
+    match make_answer(rt, alloc, jobs, goal) {
+        Ok(answer) => Ok(Ok(answer)),
+        Err(RunFault::NoMemory) => Err(Failure::Run(RunFault::NoMemory)),
+        Err(fault) => Ok(Err(fault)),
+    }
+}
+
+// Reads the sources with these paths, in order, each path once. Those that can't be read are skipped.
+fn try_sources<F: Files>(
+    alloc: Global,
+    files: &mut F,
+    given: &[SourcePath],
+) -> Result<Tried, Failure>
+    ensures { tries_of (F.held files.old) given.now result }
+{
+    let mut sources = Vec::new(alloc);
+    let mut paths = SourcePaths::new(alloc);
+    let mut unread = SourcePaths::new(alloc);
+    for path in given {
+        let copy = copy_of(alloc, path)?;
+        let source = try_source(alloc, files, path)?;
+        add_tried(&mut sources, &mut paths, &mut unread, copy, source)?;
+    }
+    Ok(Tried {
+        sources: Sources::new(sources),
+        paths,
+        unread,
+    })
+}
+
+// Adds a source with its path, or a path among those of unreadable files if there is no source.
+fn add_tried(
+    sources: &mut Vec<Source>,
+    paths: &mut SourcePaths,
+    unread: &mut SourcePaths,
+    path: SourcePath,
+    source: Option<Source>,
+) -> Result<(), Failure>
+    ensures added { OnOk result (record { sources = sources.new.items; paths = paths.new; unread = unread.new }
+        ≡ with_tried (record { sources = sources.old.items; paths = paths.old; unread = unread.old }) path source) }
+    ensures memory { IfErr result (λ failure. failure ≡ Run NoMemory) }
+{
+    match source {
+        Some(source) => {
+            sources.push(source)?;
+            paths.push(path)?;
+        }
+        None => unread.push(path)?,
+    }
+    Ok(())
+}
+
+// Reads a source, if its file can be opened and read.
+fn try_source<F: Files>(
+    alloc: Global,
+    files: &mut F,
+    given: &SourcePath,
+) -> Result<Option<Source>, Failure>
+    ensures read { tried_of (F.held files.old) given.now result }
+    ensures same { F.held files.new ≡ F.held files.old }
+{
+    match read_source(alloc, files, given) {
+        Ok(source) => Ok(Some(source)),
+        Err(Failure::File(_)) => Ok(None),
+        Err(failure) => Err(failure),
+    }
+}
+
+// Returns a copy of a path.
+fn copy_of(alloc: Global, given: &SourcePath) -> Result<SourcePath, AllocError>
+    ensures { IfOk result (λ copy. copy ≡ given.now) }
+{
+    Ok(SourcePath {
+        kind: given.kind,
+        path: Text::new(String::from_str(alloc, given.path.as_str())?),
+    })
+}
+
+// Writes what is skipped, then the answer, and returns the exit status. `sources` are the paths that the request names.
+fn tell<O: Stream, E: Stream>(
+    outcome: Outcome,
+    sources: &[SourcePath],
+    out: &mut O,
+    err: &mut E,
+) -> u8
+    ensures { Tells sources.now outcome result
+        (record { takes_all = O.takes_all; old = O.holds out.old; new = O.holds out.new })
+        (record { takes_all = E.takes_all; old = E.holds err.old; new = E.holds err.new }) }
+{
+    let Outcome {
+        unread,
+        paths,
+        errors,
+        answer,
+    } = outcome;
+    let (unread, errors) = (unread.as_slice(), errors.as_slice());
+    if write_skipped(unread, paths.as_slice(), errors, err).is_err() {
+        return FAILED;
+    }
+    let done = print_answer(answer, skipped_status(unread, errors), out);
+    end(done, sources, err)
+}
+
+// Returns the exit status of an answer after what is skipped.
+fn skipped_status(unread: &[SourcePath], errors: &[Found]) -> u8
+    ensures { result ≡ skipped_status unread.now errors.now }
+{
+    if !unread.is_empty() {
+        FAILED
+    } else if !errors.is_empty() {
+        REFUSED
+    } else {
+        DONE
+    }
+}
+
+// Prints an answer, which has this exit status, or returns the failure if there is none.
+fn print_answer<S: Stream>(
+    answer: Result<Answer, RunFault>,
+    status: u8,
+    out: &mut S,
+) -> Result<u8, Failure>
+    ensures { HoldsAfter S.takes_all (printed answer status) result (S.holds out.old) (S.holds out.new) }
+{
+    match answer {
+        Ok(answer) => match answer.write(out) {
+            Ok(()) => Ok(status),
+            Err(fault) => Err(Failure::Run(RunFault::from(fault))),
+        },
+        Err(fault) => Err(Failure::Run(fault)),
+    }
+}
+
+/// States the law of keeping going: if nothing is skipped, a request is answered as it may be without `keep_going`.
+///
+/// The function does nothing: its contract is the law.
+pub fn keeping_going_changes_nothing()
+    ensures plan { (held : Held) → (request : PlanRequest) → ChangesNothing held (plan_goal request) request.jobs (Plan request) }
+    ensures upcoming { (held : Held) → (after : List ℕ) → (jobs : JobsRequest)
+        → ChangesNothing held (upcoming_goal after) jobs (Upcoming after jobs) }
+    ensures quiet { (held : Held) → (request : PlanRequest) → (least : ℕ)
+        → ChangesNothing held (quiet_goal request least) request.jobs (Quiet request least) }
+{
+    without_errors_all_is_kept();
+}
