@@ -103,7 +103,8 @@ fleet_machines() {
   fleet_make 'two 2' 'C/p=0\x201,2\x20*\x20*\x20*\x20root\x20d\n
     *t.timer U/t.timer=[Timer]\nOnCalendar=3:00\n E/t.timer.d/x.conf=[Timer]\nOnCalendar=1:00\n'
   fleet_make none x/
-  fleet_make bad 'etc/crontab=@daily\x20root\x20x\n C/c=0\x2024\x20*\x20*\x20*\x20root\x20x\n'
+  fleet_make bad 'etc/crontab=@daily\x20root\x20x\n C/c=0\x2024\x20*\x20*\x20*\x20root\x20x\n S/d=A'
+  fleet_make unread 'C/a/ C/b=0\x206\x20*\x20*\x20*\x20root\x20x\n'
   fleet_make many 'etc/crontab=*\x20*\x20*\x20*\x20*\x20root\x20x\n'
   fleet_make left 'C/a.b C/a=0\x204\x20*\x20*\x20*\x20root\x20e\n etc/localtime>nowhere'
   fleet_make sub/one 'etc/crontab=0\x205\x20*\x20*\x20*\x20root\x20f\n'
@@ -153,21 +154,25 @@ LINES
 LINES
 }
 
-# Machines that fail: the others are in the answer.
+# Machines with errors: the others are in the answer, and so is what is valid.
 fleet_faults() {
   local fleet_words=(--limit 1439)
-  fleet_day "machines that fail in four ways" 1 gone one file bad many sub/one <<'LINES'
+  fleet_day "machines that fail in five ways" 1 gone one file bad many unread sub/one <<'LINES'
 ! gone: agenda-machine: gone: no folder
 ! file: agenda-machine: file: no folder
-! bad: agenda: c: line 1: part 2: OutOfRange
+! bad: bad/etc/cron.d/c:1: error: hour '24': out of range 0-23 [OutOfRange]
+! bad: bad/var/spool/cron/crontabs/d:1: error: expected NAME=VALUE, or five fields and a command [BadSetting]
 ! many: agenda: plan: TooMany
+! unread: agenda-machine: left out unread/etc/cron.d/a: not readable
+00:00|bad|system:1|root x
 01:00|one|system:1|root b
 01:00|one|system:2|root a
 03:00|one|system:3|root c
 05:00|one|system:1|root f
+06:00|unread|b:1|root x
 LINES
-  fleet_day "machines that fail alone" 1 bad many <<'LINES'
-! bad: agenda: c: line 1: part 2: OutOfRange
+  fleet_day "machines that fail alone" 1 gone many <<'LINES'
+! gone: agenda-machine: gone: no folder
 ! many: agenda: plan: TooMany
 LINES
   fleet_day "folders that name no machine" 1 '' sub/one $'a\tb' / $'a\nb' <<'LINES'
@@ -178,8 +183,10 @@ LINES
 05:00|one|system:1|root f
 LINES
   fleet_words=(--limit 1440)
-  fleet_day "a fault that comes last" 1 one bad <<'LINES'
-! bad: agenda: c: line 1: part 2: OutOfRange
+  fleet_day "errors that come last" 1 one bad <<'LINES'
+! bad: bad/etc/cron.d/c:1: error: hour '24': out of range 0-23 [OutOfRange]
+! bad: bad/var/spool/cron/crontabs/d:1: error: expected NAME=VALUE, or five fields and a command [BadSetting]
+00:00|bad|system:1|root x
 01:00|one|system:1|root b
 01:00|one|system:2|root a
 03:00|one|system:3|root c
@@ -238,7 +245,7 @@ fleet_forty() {
         printf '2024-01-01T%s:00:00Z\tm%s\tsystem:1\troot h\n' "$hour" "$number" >>"$work/out.wanted"
     done
   done
-  printf 'm%s: agenda: system crontab: line 1: part 2: OutOfRange\n' 33 07 >"$work/err.wanted"
+  printf "m%s: m%s/etc/crontab:1: error: hour '1,24': out of range 0-23 [OutOfRange]\n" 33 33 07 07 >"$work/err.wanted"
   fleet_run 2024-01-01T00:00:00Z 2024-01-02T00:00:00Z "${folders[@]}"
   fleet_compare "40 machines" 1 "$fleet_by"
 }
@@ -278,7 +285,8 @@ fleet_stubs() {
   fleet_make 'half' 'etc/crontab=printf\x20"2024-01-01T07:00:00Z\\tx\\ty\\n"\nexit\x2077\n'
   fleet_make 'noisy' 'etc/crontab=echo\x20c\x20>&2\n'
   fleet_day "what agenda may say" 1 two-lines half well noisy <<'LINES'
-! two-lines: a b
+! two-lines: a
+! two-lines: b
 ! half: status 77
 ! noisy: c
 07:00|well|x|y|z

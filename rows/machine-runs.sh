@@ -7,9 +7,10 @@
 # shellcheck source=/dev/null
 . "$top/rows/lib/findings.sh"
 
-# Each row: a root, its files or directories without permissions, its sources, and what is skipped.
+# Each row: a root, its files or directories without permissions, its sources, and what is skipped. If something
+# isn't readable, the status of the plan is 1, unless it is strict.
 machine_locked() {
-  local root locked path sources left
+  local root locked path sources left wanted
   while IFS='|' read -r root locked sources left; do
     machine_make "$root"
     for path in $locked; do
@@ -22,9 +23,14 @@ machine_locked() {
     machine_run --root "$machine_root" sources
     machine_compare "sources of '$root' without rights" "$work/out.wanted" "$work/err.wanted" 0 none
     grep -a '^== ' "$work/texts.wanted" >"$work/names.wanted"
+    wanted=0
+    [[ $left != *' not readable'* ]] || wanted=1
     machine_run --root "$machine_root" plan
     grep -a '^== ' "$MACHINE_LOG.texts" >"$MACHINE_LOG.names"
-    machine_compare "plan of '$root' without rights" /dev/null "$work/err.wanted" 0 names "$work/names.wanted"
+    machine_compare "plan of '$root' without rights" /dev/null "$work/err.wanted" "$wanted" names "$work/names.wanted"
+    machine_run --root "$machine_root" --strict plan
+    grep -a '^== ' "$MACHINE_LOG.texts" >"$MACHINE_LOG.names"
+    machine_compare "strict plan of '$root' without rights" /dev/null "$work/err.wanted" 0 names "$work/names.wanted"
     chmod -R u+rwX "$machine_folder/$machine_root"
   done
 }
@@ -54,6 +60,40 @@ machine_signals() {
     closed "$machine_bin/agenda-machine"
   ls -A "$machine_temporary" >"$work/told"
   count "agenda-machine: its reader goes away"
+}
+
+# The answer is passed on while agenda runs, and what is skipped is printed after it. If that can't be printed,
+# the status is 3.
+machine_errors() {
+  local machine_by
+  machine_make etc/crontab
+  machine_by=(timeout -s TERM 1.5)
+  MACHINE_SAYS='one\n' MACHINE_SLEEPS=4 machine_run --root root plan
+  [ "$(cat "$work/out")" = one ] || tell "nothing on standard output while agenda runs"
+  count "agenda-machine: the answer while agenda runs"
+  machine_by=(bash -c 'exec "$@" 2>&1' both)
+  MACHINE_COMPLAINS='b\na\n' MACHINE_SAYS='one\n' run_in "$machine_folder" "${machine_by[@]}" "$machine_bin/agenda-machine" --root root plan
+  printf '%s\n' one b a >"$work/out.wanted"
+  machine_compare "what is skipped, after the answer" "$work/out.wanted" /dev/null 0
+  echo one >"$work/out.wanted"
+  machine_by=(bash -c 'exec "$@" 2>&-' closed)
+  MACHINE_COMPLAINS='a\n' MACHINE_SAYS='one\n' machine_run --root root plan
+  machine_compare "standard error that is closed" "$work/out.wanted" /dev/null 3
+  MACHINE_SAYS='one\n' machine_run --root root plan
+  machine_compare "standard error that is closed, and isn't needed" "$work/out.wanted" /dev/null 0
+  if [ -c /dev/full ]; then
+    machine_by=(bash -c 'exec "$@" 2>/dev/full' full)
+    MACHINE_COMPLAINS='a\n' MACHINE_STATUS=1 machine_run --root root plan
+    machine_compare "standard error that is full" /dev/null /dev/null 3
+    MACHINE_SAYS='one\n' machine_run --root root plan
+    machine_compare "standard error that is full, and isn't needed" "$work/out.wanted" /dev/null 0
+  fi
+  machine_by=()
+  # agenda couldn't write why it failed
+  MACHINE_STATUS=3 machine_run --root root plan
+  sed -i "s, below $machine_temporary/.*, below TMP," "$work/err"
+  echo "agenda-machine: can't write below TMP" >"$work/err.wanted"
+  machine_compare "an error without a message" /dev/null "$work/err.wanted" 3
 }
 
 # It needs only the programs of bash, coreutils and findutils.
@@ -123,14 +163,37 @@ machine_answers() {
   done
 }
 
-# Each row: a root, and the line of the error of its plan.
+# Each row: a root, and the line of the error of its plan, if that is strict.
 machine_faults() {
   local root fault
   while IFS='|' read -r root fault; do
     machine_make "$root"
     echo "agenda: $fault" >"$work/err.wanted"
+    machine_run --root root --strict plan "${day[@]}"
+    machine_compare "strict plan by agenda of '$root'" /dev/null "$work/err.wanted" 1
+  done
+}
+
+# Each row: a root, the lines of its plan of a day, as in machine_plans, what is skipped, and the errors, with
+# `;` between them, as in machine_checks.
+machine_partial() {
+  local root plan left errors error path
+  local -a list
+  while IFS='|' read -r root plan left errors; do
+    machine_make "$root"
+    machine_left_out "$left"
+    IFS=';' read -r -a list <<<"$errors"
+    for error in "${list[@]}"; do
+      machine_path "${error%%:*}"
+      echo "$machine_root/$path:${error#*:}"
+    done >>"$work/err.wanted"
+    sort -o "$work/err.wanted" "$work/err.wanted"
+    printf '%b' "${plan//;/\\n}" >"$work/lines.wanted"
+    [ ! -s "$work/lines.wanted" ] || echo >>"$work/lines.wanted"
+    sed -i 's/^/2024-01-01T/' "$work/lines.wanted"
     machine_run --root root plan "${day[@]}"
-    machine_compare "fault by agenda of '$root'" /dev/null "$work/err.wanted" 1
+    headed "${day[@]}" <"$work/lines.wanted" >"$work/agenda.headed"
+    machine_compare "partial plan by agenda of '$root'" "$work/agenda.headed" "$work/err.wanted" 1
   done
 }
 
@@ -158,6 +221,46 @@ machine_checks() {
   done
 }
 
+# Compares the last run of agenda, with the name $1, with the escaped output $2, the escaped lines $3 of standard
+# error in any order, and the status $4.
+machine_rest() {
+  printf '%b' "$2" >"$work/answer.wanted"
+  printf '%b' "$3" | sort >"$work/err.wanted"
+  machine_compare "$1" "$work/answer.wanted" "$work/err.wanted" "$4"
+}
+
+# The other commands that skip what is invalid, and errors after what is skipped.
+machine_rests() {
+  local words error='root/etc/cron.d/a:1: error: expected NAME=VALUE, or five fields and a command [BadSetting]\n'
+  machine_make 'C/a=A\n@daily\x20root\x20a'
+  for words in '' --strict; do
+    machine_run --root root ${words:+"$words"} upcoming --after 2024-01-01T00:00:00Z ${words:+--keep-going}
+    machine_rest "what upcoming $words skips" '2024-01-02T00:00:00Z\ta:2\troot a\n' "$error" 1
+    machine_run --root root ${words:+"$words"} quiet --since 2024-01-01T00:00:00Z ${words:+--keep-going}
+    machine_rest "what quiet $words skips" '2024-01-01T00:00:00Z\t2024-01-02T00:00:00Z\t86400\n' "$error" 1
+  done
+  machine_run --root root --strict upcoming
+  machine_rest "upcoming with --strict" '' 'agenda: a: line 1: BadSetting\n' 1
+  machine_run --root root --strict check
+  machine_rest "check with --strict" "$error" '' 1
+  machine_run --root root plan --since 2024-01-01T00:00:00Z --upto 2024-01-03T00:00:00Z --limit 1
+  machine_rest "too many starts after an error" '' "${error}agenda: plan: TooMany\n" 1
+  machine_run --root root quiet --least 0
+  machine_rest "a gap of 0 seconds after an error" '' "${error}agenda: quiet: BadLeast\n" 1
+  machine_run --root root upcoming --after 2024-01-01T00:00:00Z --crontab nothing
+  machine_rest "a further crontab that can't be read" '2024-01-02T00:00:00Z\ta:2\troot a\n' "agenda: nothing: Device\n$error" 3
+  machine_make 'C/a/ S/b=@daily\x20x'
+  machine_run --root root upcoming --after 2024-01-01T00:00:00Z --crontab nothing
+  machine_rest "two files that can't be read" '2024-01-02T00:00:00Z\tb:1\tx\n' \
+    'agenda-machine: left out root/etc/cron.d/a: not readable\nagenda: nothing: Device\n' 3
+  machine_make 'C/a=@daily\x20root\x20x S/a=@daily\x20x'
+  mkdir -p "$machine_folder/more" && printf '@daily x\n' >"$machine_folder/more/a.user"
+  machine_run --root root plan "${day[@]}" --spool more/a.user
+  machine_rest "a name that is already used" \
+    'agenda 2\t2024-01-01T00:00:00Z\t2024-01-02T00:00:00Z\t2\n2024-01-01T00:00:00Z\ta:1\troot x\n2024-01-01T00:00:00Z\ta.user:1\tx\n' \
+    "more/a.user:1: error: another job is named 'a.user:1' [SameName]\n" 1
+}
+
 if machine_as_nobody; then
   machine_locked <<'ROWS'
 etc/crontab C/a S/b *a.timer *b.timer U/a.timer U/b.timer|etc/crontab C/a S/b U/a.timer|U/b.timer|etc/crontab not readable,C/a not readable,S/b not readable,U/a.timer not readable
@@ -179,6 +282,7 @@ else
 fi
 machine_by=()
 machine_signals
+machine_errors
 machine_alone
 machine_settings
 
@@ -216,6 +320,22 @@ C/a=@daily\x20root\x20a S/a=@daily\n|a.user: line 1: NoCommand
 *a@b.timer U/a@.timer=[Timer]\nOnCalendar=%H\n|a-b.timer: line 2: part 0: Specifier
 *a.timer U/a.timer=[Timer]\nOnCalendar=daily\\\n E/a.timer.d/x.conf=[Timer]\nOnCalendar=%i\n|a.timer: line 6: part 0: Specifier
 ROWS
+# errors in lines, in whole files, in drop-ins and in instances; files that can't be read
+machine_partial <<'ROWS'
+C/a=@daily\n C/b=@daily\x20root\x20b\n|00:00:00Z\tb:1\troot b||C/a:1: error: expected a user and a command [NoCommand]
+S/u=\n@daily\n@daily\x20x|00:00:00Z\tu:3\tx||S/u:2: error: no command [NoCommand]
+C/a=@daily\x20root\x20a S/a=@daily\n@daily\x20b|00:00:00Z\ta:1\troot a;00:00:00Z\ta.user:2\tb||S/a:1: error: no command [NoCommand]
+etc/crontab=60\x20*\x20*\x20*\x20*\x20root\x20a\n0\x206\x20*\x20*\x20*\x20root\x20b S/u=\xff|06:00:00Z\tsystem:2\troot b||etc/crontab:1: error: minute '60': out of range 0-59 [OutOfRange];S/u: error: not UTF-8 [NotUtf8]
+*a.timer *b.timer U/a.timer=[Unit]\n U/b.timer=[Timer]\nOnCalendar=daily|00:00:00Z\tb.timer\tb.service||U/a.timer: error: no [Timer] section [NoTimerSection]
+*a.timer U/a.timer=[Timer]\nOnCalendar=daily\n E/a.timer.d/x.conf=[Timer]\nOnCalendar=fortnightly\nOnCalendar=6:00|00:00:00Z\ta.timer\ta.service;06:00:00Z\ta.timer\ta.service||E/a.timer.d/x.conf:2: error: 'fortnightly' is not a calendar event [UnknownWord]
+*a.timer *b.timer U/a.timer=[Timer]\nOnCalendar=daily\n E/a.timer.d/x.conf=\xff U/b.timer=[Timer]\nOnCalendar=6:00|06:00:00Z\tb.timer\tb.service||U/a.timer: error: not UTF-8 [NotUtf8]
+*a@4.timer *a@24.timer U/a@.timer=[Timer]\nOnCalendar=%i:00\n|04:00:00Z\ta-4.timer\ta-4.service||U/a@.timer:2: error: hour in '24:00': out of range 0-23 [OutOfRange]
+C/a/ C/b=@daily\x20root\x20b|00:00:00Z\tb:1\troot b|C/a not readable|
+C/a! C/b=@daily\n@daily\x20root\x20b|00:00:00Z\tb:2\troot b|C/a not readable|C/b:1: error: expected a user and a command [NoCommand]
+C/a=A|||C/a:1: error: expected NAME=VALUE, or five fields and a command [BadSetting]
+*a.timer E/a.timer/ U/a.timer=[Timer]\nOnCalendar=daily E/a.timer.d/x.conf!|00:00:00Z\ta.timer\ta.service|E/a.timer.d/x.conf not readable|
+ROWS
+machine_rests
 # files as they are; one that gets another name; drop-ins, whose lines have their own numbers, and findings on
 # the whole; instances
 machine_checks short <<'ROWS'

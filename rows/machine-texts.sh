@@ -15,8 +15,19 @@ machine_finding() {
   fi
 }
 
+# Compares what a plan of the root $1 skips with the findings in out.wanted.
+machine_skips() {
+  sort "$work/out.wanted" >"$work/err.wanted"
+  MACHINE_FINDS=yes MACHINE_STATUS=1 machine_run --root "$machine_root" plan
+  machine_compare "what a plan of '$1' skips" /dev/null "$work/err.wanted" 1
+  sed -nE 's/^(.*): error: no \[Timer\] section .*/agenda: \1: Device/p' "$work/out.wanted" | sort >"$work/err.wanted"
+  MACHINE_UNREAD=yes MACHINE_STATUS=3 machine_run --root "$machine_root" plan
+  machine_compare "what a plan of '$1' can't read" /dev/null "$work/err.wanted" 3
+}
+
 # Each row: a root, and the findings of `check` on it, with `;` between them. The stub reports each file, and
-# each of its lines: a finding is a path, or a path, a line and its text.
+# each of its lines: a finding is a path, or a path, a line and its text. A plan reports the same on standard
+# error, and a file that it can't read has the path of the finding about the whole file.
 machine_findings() {
   local root findings finding path line
   local -a list
@@ -34,6 +45,7 @@ machine_findings() {
     done >"$work/out.wanted"
     MACHINE_FINDS=yes MACHINE_STATUS=1 machine_run --root "$machine_root" check
     machine_compare "findings of '$root'" "$work/out.wanted" /dev/null 1
+    machine_skips "$root"
   done
 }
 
@@ -57,6 +69,8 @@ machine_odd_root() {
   } >"$work/out.wanted"
   MACHINE_FINDS=yes machine_run --root "$machine_root" check
   machine_compare "findings of the folder '$1'" "$work/out.wanted" "$work/err.wanted" 0 texts "$work/texts.wanted"
+  rm -- "$machine_folder/$machine_root/etc/cron.d/c.d"
+  machine_skips "$1"
   rm -rf -- "${machine_folder:?}/$1"
 }
 

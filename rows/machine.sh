@@ -25,7 +25,7 @@ machine_helps() {
     IFS='|' read -r -a words <<<"$row"
     machine_run "${words[@]}"
     cp "$work/out" "$work/out.wanted"
-    for word in agenda-machine --root --all plan upcoming quiet check sources; do
+    for word in agenda-machine --root --all --strict plan upcoming quiet check sources; do
       grep -qe "$word" "$work/out" || echo "no word of $word" >>"$work/out.wanted"
     done
     machine_compare "help by '$row'" "$work/out.wanted" /dev/null 0 none
@@ -175,6 +175,10 @@ next|--cron|@daily
 --root|root
 --root=root|sources
 --all
+--strict
+--strict=yes|sources
+--all|--strict|--root|root
+--root|root|strict|plan
 --all|--root|root
 --frob|plan
 --|sources
@@ -182,6 +186,7 @@ next|--cron|@daily
 --root|root||
 --root|root|sources|x
 --root|root|sources|--all
+--root|root|sources|--strict
 --root|root|sources|--help
 --root|root|sources|--
 --root|root|sources|--since|2024-01-01T00:00:00Z
@@ -204,6 +209,7 @@ ROWS
 machine_helps <<'ROWS'
 --help
 --all|--help
+--strict|--help
 --root|root|--help
 --root|missing|--help
 ROWS
@@ -239,8 +245,33 @@ check>check|FILES
 check|--since|yesterday|x.timer>check|FILES|--since|yesterday|x.timer
 check|--|--upto>check|FILES|--|--upto
 check|--help>check|FILES|--help
-plan|--since|2024-01-01T00:00:00Z|--upto|2024-01-02T00:00:00Z>plan|FILES|--since|2024-01-01T00:00:00Z|--upto|2024-01-02T00:00:00Z
-plan|--limit|5|--since=2024-01-01T00:00:00Z|x y|--upto=2024-01-02T00:00:00Z|z>plan|FILES|--limit|5|--since=2024-01-01T00:00:00Z|x y|--upto=2024-01-02T00:00:00Z|z
-quiet|--least|9|--since|2024-01-01T00:00:00Z>quiet|FILES|--upto|2024-01-02T00:00:00Z|--least|9|--since|2024-01-01T00:00:00Z
-upcoming|x|--after|2024-01-01T00:00:00Z|--|y>upcoming|FILES|x|--after|2024-01-01T00:00:00Z|--|y
+plan|--since|2024-01-01T00:00:00Z|--upto|2024-01-02T00:00:00Z>plan|FILES|--keep-going|--since|2024-01-01T00:00:00Z|--upto|2024-01-02T00:00:00Z
+plan|--limit|5|--since=2024-01-01T00:00:00Z|x y|--upto=2024-01-02T00:00:00Z|z>plan|FILES|--keep-going|--limit|5|--since=2024-01-01T00:00:00Z|x y|--upto=2024-01-02T00:00:00Z|z
+quiet|--least|9|--since|2024-01-01T00:00:00Z>quiet|FILES|--keep-going|--upto|2024-01-02T00:00:00Z|--least|9|--since|2024-01-01T00:00:00Z
+upcoming|x|--after|2024-01-01T00:00:00Z|--|y>upcoming|FILES|--keep-going|x|--after|2024-01-01T00:00:00Z|--|y
 ROWS
+
+# The caller's own --keep-going, which agenda accepts once, and --strict. After a `--`, and as the value of
+# another option, the text is no option.
+machine_words <<'ROWS'
+plan|--keep-going|--since|2024-01-01T00:00:00Z>plan|FILES|--upto|2024-01-02T00:00:00Z|--keep-going|--since|2024-01-01T00:00:00Z
+quiet|--since|2024-01-01T00:00:00Z|x|--keep-going>quiet|FILES|--upto|2024-01-02T00:00:00Z|--since|2024-01-01T00:00:00Z|x|--keep-going
+upcoming|--after|2024-01-01T00:00:00Z|--keep-going=x>upcoming|FILES|--after|2024-01-01T00:00:00Z|--keep-going=x
+upcoming|--keep-going|--keep-going|--after|2024-01-01T00:00:00Z>upcoming|FILES|--keep-going|--keep-going|--after|2024-01-01T00:00:00Z
+upcoming|--after|2024-01-01T00:00:00Z|--|--keep-going>upcoming|FILES|--keep-going|--after|2024-01-01T00:00:00Z|--|--keep-going
+upcoming|--after|2024-01-01T00:00:00Z|--keep-goings|keep-going>upcoming|FILES|--keep-going|--after|2024-01-01T00:00:00Z|--keep-goings|keep-going
+upcoming|--after|2024-01-01T00:00:00Z|--zone|--keep-going>upcoming|FILES|--keep-going|--after|2024-01-01T00:00:00Z|--zone|--keep-going
+--strict|plan|--since|2024-01-01T00:00:00Z>plan|FILES|--upto|2024-01-02T00:00:00Z|--since|2024-01-01T00:00:00Z
+--strict|quiet|--since|2024-01-01T00:00:00Z|--upto|2024-01-02T00:00:00Z>quiet|FILES|--since|2024-01-01T00:00:00Z|--upto|2024-01-02T00:00:00Z
+--strict|--strict|upcoming|--after|2024-01-01T00:00:00Z>upcoming|FILES|--after|2024-01-01T00:00:00Z
+--strict|upcoming|--after|2024-01-01T00:00:00Z|--keep-going>upcoming|FILES|--after|2024-01-01T00:00:00Z|--keep-going
+--strict|check>check|FILES
+check|--keep-going>check|FILES|--keep-going
+ROWS
+
+# --strict changes nothing about sources.
+machine_make 'C/a S/b!'
+printf 'cron-d\ta\troot/etc/cron.d/a\n' >"$work/out.wanted"
+machine_left_out 'S/b not readable'
+machine_run --root root --strict sources
+machine_compare "sources with --strict" "$work/out.wanted" "$work/err.wanted" 0 none

@@ -9,9 +9,10 @@
 # header. A machine has the name of its directory. Lines with the same time are in the order of the directories, and lines of one machine
 # stay in its order.
 #
-# Messages about a machine go to standard error, each line after the machine's name. A machine that fails has one line that says why, and
-# no line in the agenda. The status is 1 if a machine failed, 2 for a usage error, and 3 if the answers can't be kept or merged. An error of
-# the span or of the limit ends the script with the status of agenda-machine.
+# Messages about a machine go to standard error, each line after the machine's name. What is invalid or can't be read is skipped, and the
+# agenda has the other starts of the machine. If a machine has no answer, a line says why. The status is 1 if there was an error on any
+# machine, 2 for a usage error, and 3 if the answers can't be kept or merged. An error of the span or of the limit ends the script with the
+# status of agenda-machine.
 set -uf -o pipefail
 export LC_ALL=C
 
@@ -31,29 +32,31 @@ find_name() {
   return 1
 }
 
-# Writes the agenda of the machine in the directory $1, with its name in each line and without the header.
+# Writes the agenda of the machine in the directory $1, with its name in each line and without the header. Makes the file $2 if there is a
+# header: then the machine has an answer, even if something was skipped.
 write_lines() {
   agenda-machine --root "$1" plan --limit "$limit" --since "$since" --upto "$upto" |
-    NAME=$name awk 'NR > 1 { print substr($0, 1, 21) ENVIRON["NAME"] substr($0, 21) }'
+    NAME=$name HEADED=$2 awk '
+      NR == 1 { printf "" >(ENVIRON["HEADED"]) }
+      NR > 1 { print substr($0, 1, 21) ENVIRON["NAME"] substr($0, 21) }'
 }
 
-# Writes the messages about a machine whose plan ended with status $1, from standard input: a line for each source that was left out, and
-# one line for the error.
+# Writes the messages about a machine, which are on standard input. If there are none and its plan didn't end with status 0, a line has the
+# status, $1.
 write_said() {
-  local line fault=
+  local line said=no
   while IFS= read -r line; do
-    case $line in
-      'agenda-machine: left out '* | 'agenda-machine: the zone is '*) printf '%s: %s\n' "$name" "$line" ;;
-      *) fault+=${fault:+ }$line ;;
-    esac
+    printf '%s: %s\n' "$name" "$line"
+    said=yes
   done
-  [[ $1 = 0 && -z $fault ]] || printf '%s: %s\n' "$name" "${fault:-status $1}"
+  [[ $1 = 0 || $said = yes ]] || printf '%s: status %s\n' "$name" "$1"
 }
 
 # Plans machine number $5, whose files are in the directory $6. Its lines go to $1/$5/lines, and the messages about it to $1/$5/said. If it
-# didn't fail, there is a file $1/$5/done. The span is $2 to $3, and the limit is $4.
+# has an answer, there is a file $1/$5/done. If there was no error, there is also a file $1/$5/whole. The span is $2 to $3, and the limit is
+# $4.
 plan_machine() {
-  local own=$1/$5 folder=$6 name fault='' status=1
+  local own=$1/$5 folder=$6 name status=1
   since=$2 upto=$3 limit=$4
   mkdir -- "$own" && exec 2>"$own/errors" || return
   if ! find_name "$folder"; then
@@ -61,11 +64,13 @@ plan_machine() {
   elif [[ -d $folder && ! (-r $folder && -x $folder) ]]; then
     echo "$folder: not readable" >&2
   else
-    write_lines "$folder" >"$own/lines"
+    write_lines "$folder" "$own/headed" >"$own/lines"
     status=$?
   fi
   write_said "$status" <"$own/errors" >"$own/said"
-  [[ $status != 0 ]] || : >"$own/done"
+  # with status 1 or 3 an answer lacks what was skipped; any other status is a plan that was cut off
+  [[ $status != [013] || ! -e $own/headed ]] || : >"$own/done"
+  [[ $status != 0 ]] || : >"$own/whole"
 }
 
 # Reports a usage error, and ends the script.
@@ -145,15 +150,13 @@ list_answers() {
   local number=0 folder own name
   for folder in "$@"; do
     own=$work/$((++number))
+    [[ -e $own/whole ]] || failed=yes
     if [[ -e $own/done ]]; then
       printf '%s\0' "$own/lines" >&3
-    else
-      failed=yes
-      if [[ ! -s $own/said ]]; then
-        # its process was ended
-        find_name "$folder"
-        mkdir -p -- "$own" && printf '%s: no answer\n' "$name" >"$own/said"
-      fi
+    elif [[ ! -s $own/said ]]; then
+      # its process was ended
+      find_name "$folder"
+      mkdir -p -- "$own" && printf '%s: no answer\n' "$name" >"$own/said"
     fi
     [[ ! -s $own/said ]] || printf '%s\0' "$own/said" >&4
   done 3>"$work/answers" 4>"$work/said"

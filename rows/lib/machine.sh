@@ -29,13 +29,16 @@ declare -A machine_short=(
 
 # The stub records its arguments, one per line, and for each file except that of a zone its option, the end of
 # its path and its text. A path in the temporary directory is written as TMP and its end. If it has to report
-# findings, there is one for each file, and one for each of its lines.
+# findings, there is one for each file, and one for each of its lines. If it can't read files, there is a line
+# for each of them. These go to standard error if it has to keep going.
 machine_write_stub() {
   cat >"$machine_folder/bin/agenda" <<'STUB'
 #!/usr/bin/env bash
 : >"$MACHINE_LOG.texts"
 : >"$MACHINE_LOG.words"
 before=
+out=1
+[[ " $* " != *' --keep-going '* ]] || out=2
 for word in "$@"; do
   case $word in
     "${TMPDIR:-/tmp}"/*) echo "TMP/${word##*/}" ;;
@@ -46,13 +49,14 @@ for word in "$@"; do
     [ "$option" != "$before" ] || option=timer
     { echo "== $option ${word##*/}" && cat -- "$word" && echo '<end>'; } >>"$MACHINE_LOG.texts"
     if [ -n "${MACHINE_FINDS:-}" ]; then
-      echo "$word: error: no [Timer] section [NoTimerSection]"
+      echo "$word: error: no [Timer] section [NoTimerSection]" >&$out
       number=0
       while IFS= read -r line || [ -n "$line" ]; do
         number=$((number + 1))
-        [ -z "$line" ] || [ "$line" = '[Unit]' ] || echo "$word:$number: error: '$line' is not a calendar event [WrongParts]"
+        [ -z "$line" ] || [ "$line" = '[Unit]' ] || echo "$word:$number: error: '$line' is not a calendar event [WrongParts]" >&$out
       done <"$word"
     fi
+    [ -z "${MACHINE_UNREAD:-}" ] || echo "agenda: $word: Device" >&$out
   fi
   before=$word
 done
@@ -224,9 +228,10 @@ machine_text() {
 
 # Rows from standard input: a root, its sources, and what is skipped, as in machine_listing and
 # machine_left_out. The options $@ come before the command. Of several sources, the program gets the same in
-# the same order, and, if no file is a link, their texts merged.
+# the same order, and, if no file is a link, their texts merged. If something isn't readable, the status of the
+# plan is 1.
 machine_sources() {
-  local root sources left
+  local root sources left wanted
   while IFS='|' read -r root sources left; do
     machine_make "$root"
     machine_left_out "$left"
@@ -236,13 +241,15 @@ machine_sources() {
     machine_compare "$* sources of '$root'" "$work/out.wanted" "$work/err.wanted" 0 none
     # one source without a drop-in has no order
     [[ $sources = *' '* || $sources = *=* ]] || continue
+    wanted=0
+    [[ $left != *' not readable'* ]] || wanted=1
     machine_run --root "$machine_root" "$@" plan --since 2024-01-01T00:00:00Z --upto 2024-01-02T00:00:00Z
     if [ "$machine_links" = no ]; then
-      machine_compare "$* plan of '$root'" /dev/null "$work/err.wanted" 0 texts "$work/texts.wanted"
+      machine_compare "$* plan of '$root'" /dev/null "$work/err.wanted" "$wanted" texts "$work/texts.wanted"
     else
       grep -a '^== ' "$work/texts.wanted" >"$work/names.wanted"
       grep -a '^== ' "$MACHINE_LOG.texts" >"$MACHINE_LOG.names"
-      machine_compare "$* plan of '$root'" /dev/null "$work/err.wanted" 0 names "$work/names.wanted"
+      machine_compare "$* plan of '$root'" /dev/null "$work/err.wanted" "$wanted" names "$work/names.wanted"
     fi
   done
 }

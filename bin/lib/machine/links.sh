@@ -8,6 +8,8 @@
 
 declare -A link_texts=() said=() walk_ends=() walk_links=()
 most_links=40
+# Whether something was skipped because it can't be read.
+unreadable=no
 
 # Sets `shown` to the path $1 on one line: if it has control characters, it is quoted for bash.
 show() {
@@ -17,6 +19,7 @@ show() {
 
 # Reports once that the path $1 is skipped, and why: $2.
 left_out() {
+  [[ $2 != 'not readable' ]] || unreadable=yes
   show "$dir/$1"
   local line="agenda-machine: left out $shown: $2"
   [[ -z ${said[$line]-} ]] || return 0

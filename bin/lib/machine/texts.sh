@@ -171,10 +171,20 @@ give_sources() {
   done
 }
 
-# Sets `finding` to the line $1 of agenda's output, with the file and the line that its text came from.
+# Sets `finding` to the line $1 of agenda's output, with the file and the line that its text came from. The line
+# is a finding, or says which file can't be read.
 translate() {
   local front='' rest=$1
   finding=$1
+  if [[ $1 = 'agenda: '?*': Device' ]]; then
+    front=${1#agenda: }
+    front=${front%: Device}
+    if [[ -n ${ranges_of[$front]-} ]]; then
+      name_place ' Device' "${ranges_of[$front]}"
+      finding="agenda: $finding"
+    fi
+    return
+  fi
   while [[ $rest = *:* ]]; do
     front+=${rest%%:*}
     rest=${rest#*:}
