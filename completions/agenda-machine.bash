@@ -62,7 +62,7 @@ _agenda_machine() {
     local sources='--zone= --crontab= --system-crontab= --cron-d= --spool= --help'
     case $command:$cur in
         :-*)
-            mapfile -t COMPREPLY < <(compgen -W '--root --all --help' -- "$cur")
+            mapfile -t COMPREPLY < <(compgen -W '--root --all --strict --help' -- "$cur")
             ;;
         :*)
             mapfile -t COMPREPLY < <(compgen -W 'plan upcoming quiet check sources' -- "$cur")

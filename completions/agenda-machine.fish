@@ -11,6 +11,7 @@ complete -c agenda-machine -n $none -a sources -d 'Print the sources that were f
 complete -c agenda-machine -n $none -l root -x -d 'The directory that has the files of the machine' \
     -a '(__fish_complete_directories)'
 complete -c agenda-machine -n $none -l all -d 'Include timers that are not enabled'
+complete -c agenda-machine -n $none -l strict -d 'Let one invalid file stop plan, upcoming and quiet'
 complete -c agenda-machine -l help -d 'Print help'
 
 set -l span '__fish_seen_subcommand_from plan quiet'

@@ -59,6 +59,7 @@ _agenda() {
     $split && return
 
     local sources='--zone= --crontab= --system-crontab= --cron-d= --spool= --help'
+    local jobs="--keep-going $sources"
     case $command:$cur in
         :-*)
             mapfile -t COMPREPLY < <(compgen -W '--help --version' -- "$cur")
@@ -71,15 +72,15 @@ _agenda() {
             [[ ${COMPREPLY-} == *= ]] && compopt -o nospace
             ;;
         plan:-*)
-            mapfile -t COMPREPLY < <(compgen -W "--since= --upto= --planners= --room= --limit= $sources" -- "$cur")
+            mapfile -t COMPREPLY < <(compgen -W "--since= --upto= --planners= --room= --limit= $jobs" -- "$cur")
             [[ ${COMPREPLY-} == *= ]] && compopt -o nospace
             ;;
         upcoming:-*)
-            mapfile -t COMPREPLY < <(compgen -W "--after= $sources" -- "$cur")
+            mapfile -t COMPREPLY < <(compgen -W "--after= $jobs" -- "$cur")
             [[ ${COMPREPLY-} == *= ]] && compopt -o nospace
             ;;
         quiet:-*)
-            mapfile -t COMPREPLY < <(compgen -W "--since= --upto= --least= --planners= --room= --limit= $sources" -- "$cur")
+            mapfile -t COMPREPLY < <(compgen -W "--since= --upto= --least= --planners= --room= --limit= $jobs" -- "$cur")
             [[ ${COMPREPLY-} == *= ]] && compopt -o nospace
             ;;
         check:-*)

@@ -50,6 +50,9 @@ set -l quiet '__fish_seen_subcommand_from quiet'
 complete -c agenda -n $quiet -l limit -x -d 'The maximum number of starts, from 1 to 1000000 [1000000]'
 complete -c agenda -n $quiet -l least -x -d 'The minimum length of a gap in seconds [1800]'
 
+set -l jobs '__fish_seen_subcommand_from plan upcoming quiet'
+complete -c agenda -n $jobs -l keep-going -d 'Skip what is invalid or can\'t be read, and report it'
+
 set -l sources '__fish_seen_subcommand_from plan upcoming quiet check'
 complete -c agenda -n $sources -l crontab -r -F -d 'A user\'s crontab'
 complete -c agenda -n $sources -l system-crontab -r -F -d 'The system\'s crontab'
