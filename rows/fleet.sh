@@ -297,7 +297,6 @@ LINES
   fleet_want <<<'07:00|well|x|y|z'
   fleet_run 2024-01-01T00:00:00Z 2024-01-02T00:00:00Z killed well
   sed 's/^\(killed: \).*/\1/' "$work/err" | uniq >"$work/err.one"
-  [ "$(wc -l <"$work/err")" = 1 ] || echo "not one line" >>"$work/err.one"
   cp "$work/err.one" "$work/err"
   echo 'killed: ' >"$work/err.wanted"
   fleet_compare "a machine that is killed" 1 "$fleet_by"

@@ -36,9 +36,7 @@ find_name() {
 # header: then the machine has an answer, even if something was skipped.
 write_lines() {
   agenda-machine --root "$1" plan --limit "$limit" --since "$since" --upto "$upto" |
-    NAME=$name HEADED=$2 awk '
-      NR == 1 { printf "" >(ENVIRON["HEADED"]) }
-      NR > 1 { print substr($0, 1, 21) ENVIRON["NAME"] substr($0, 21) }'
+    NAME=$name HEADED=$2 awk 'NR == 1 { printf "" >(ENVIRON["HEADED"]); next } { print substr($0, 1, 21) ENVIRON["NAME"] substr($0, 21) }'
 }
 
 # Writes the messages about a machine, which are on standard input. If there are none and its plan didn't end with status 0, a line has the
@@ -68,7 +66,7 @@ plan_machine() {
     status=$?
   fi
   write_said "$status" <"$own/errors" >"$own/said"
-  # with status 1 or 3 an answer lacks what was skipped; any other status is a plan that was cut off
+  # with status 1 or 3 an answer is without what was skipped; any other status is a plan that was cut off
   [[ $status != [013] || ! -e $own/headed ]] || : >"$own/done"
   [[ $status != 0 ]] || : >"$own/whole"
 }
