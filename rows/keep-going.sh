@@ -121,7 +121,8 @@ keep_as_check() {
   mapfile -t sources
   for source in "${sources[@]}"; do
     for other in '' "${sources[@]}"; do
-      [[ $source$other != *--crontab*--crontab* ]] || continue
+      # of these kinds there is at most one source
+      [[ $source$other != *--crontab*--crontab* && $source$other != *--system*--system* ]] || continue
       read -r -a words <<<"$source $other"
       run_in "$questions_folder" agenda check "${words[@]}"
       grep ': error: ' "$work/out" >"$work/errors.wanted"

@@ -8,7 +8,7 @@
 . "$top/rows/lib/findings.sh"
 
 # Each row: a root, its files or directories without permissions, its sources, and what is skipped. If something
-# isn't readable, the status of the plan is 1, unless it is strict.
+# isn't readable, the status of plan and check is 1, also with --strict.
 machine_locked() {
   local root locked path sources left wanted
   while IFS='|' read -r root locked sources left; do
@@ -28,9 +28,12 @@ machine_locked() {
     machine_run --root "$machine_root" plan
     grep -a '^== ' "$MACHINE_LOG.texts" >"$MACHINE_LOG.names"
     machine_compare "plan of '$root' without rights" /dev/null "$work/err.wanted" "$wanted" names "$work/names.wanted"
-    machine_run --root "$machine_root" --strict plan
-    grep -a '^== ' "$MACHINE_LOG.texts" >"$MACHINE_LOG.names"
-    machine_compare "strict plan of '$root' without rights" /dev/null "$work/err.wanted" 0 names "$work/names.wanted"
+    for path in 'plan --strict' check 'check --strict'; do
+      # shellcheck disable=SC2086
+      machine_run --root "$machine_root" ${path#"${path%% *}"} "${path%% *}"
+      grep -a '^== ' "$MACHINE_LOG.texts" >"$MACHINE_LOG.names"
+      machine_compare "$path of '$root' without rights" /dev/null "$work/err.wanted" "$wanted" names "$work/names.wanted"
+    done
     chmod -R u+rwX "$machine_folder/$machine_root"
   done
 }

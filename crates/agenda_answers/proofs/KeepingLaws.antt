@@ -1,5 +1,5 @@
 -- If nothing is skipped, a request that keeps going ends as one that doesn't.
-use Rattle.std.proofs.Common.{◌≡◌, ◌≢◌, ◌⊎◌, inl, inr, ℕ, Bool, List, [], ◌∷◌, ◌++◌, Option, None, Some, Result, Ok, Err, refl, ap, sym, subst, ◌∙◌, append_assoc, append-nil, take}
+use Rattle.std.proofs.Common.{◌≡◌, inl, inr, ℕ, Bool, List, [], ◌∷◌, ◌++◌, Option, None, Some, Result, Ok, Err, refl, ap, sym, subst, ◌∙◌, append_assoc, append-nil, take}
 use Rattle.std.specs.Io.KnownBytes.{Appends, Keeps}
 use Rattle.std.proofs.KnownBytes.{Appends-kept, Appends-trans}
 use Rattle.plan_clock.specs.declared.row.Change.{Change}
@@ -17,6 +17,7 @@ use Rattle.agenda_faults.specs.declared.faults.RunFault.{RunFault}
 use Rattle.agenda_faults.specs.declared.faults.Failure.{Failure}
 use Rattle.agenda_faults.specs.Faults.{fault_of_sources}
 use Rattle.agenda_faults.specs.FaultLines.{fault_text}
+use Rattle.agenda_commands.specs.declared.Input.{Input}
 use Rattle.agenda_commands.specs.declared.Goal.{Goal}
 use Rattle.agenda_commands.specs.declared.Goal.TheVariants as goal
 use Rattle.agenda_commands.specs.Command.{IsFaultOf, IsTextOf, step}
@@ -28,7 +29,7 @@ use Rattle.agenda_answers.specs.Answer.{Ends, HoldsAfter, Leaves, Printed, Strea
 use Rattle.agenda_answers.specs.Files.{Held}
 use Rattle.agenda_answers.specs.Keeping.{AnswersBy, KeptAnswer, Tells, answer_of, kept_by, lines_of_skipped, plan_goal, printed, quiet_goal, skipped_status, upcoming_goal}
 use Rattle.agenda_answers.specs.Program.{ChangesNothing, SkipsNothing}
-use Rattle.agenda_answers.specs.Sources.{source_of, sources_of, tried_of, tries_from, with_tried}
+use Rattle.agenda_answers.specs.Sources.{input_of, sources_of, tries_from, with_tried}
 use Rattle.agenda_answers.specs.Steps.{Step, stops, goes}
 use Rattle.agenda_answers.specs.Zone.{clock_of}
 
@@ -89,7 +90,12 @@ parts_of :
     (law : KeepsAll) (held : Held) (wanted : Goal) (jobs : JobsRequest) (kept : KeptAnswer) → kept_by held wanted jobs (Ok kept) →
     SkipsNothing kept → Parts held wanted jobs kept.answer
 parts_of law held wanted jobs kept (goes clock zone (goes tried read (goes answer answered is))) none =
-    let same : kept ≡ record { unread = tried.unread; paths = tried.paths; errors = sources_errors clock tried.sources; answer = answer } = cc in
+    let same : kept ≡ record {
+      unread = tried.unread;
+      paths = tried.paths;
+      errors = sources_errors clock tried.sources;
+      answer = answer;
+    } = cc in
     let all = all_read held (record { sources = []; paths = []; unread = [] }) tried jobs.sources read
     (ap (λ k. k.unread) (sym same) ∙ none.0) in
     let are : tried.sources ≡ all.sources = all.are in
@@ -105,6 +111,16 @@ parts_of law held wanted jobs kept (goes clock zone (goes tried read (stops fail
 parts_of law held wanted jobs kept (goes clock zone (stops failure _ is)) none = absurd cc
 parts_of law held wanted jobs kept (stops failure _ is) none = absurd cc
 
+-- what the jobs are made from
+abbrev input_in :
+    {held : Held} {wanted : Goal} {jobs : JobsRequest} {answer : Result (List ℕ) RunFault} → Parts held wanted jobs answer → Input
+input_in parts = record { clock = parts.clock; sources = parts.sources }
+
+input_read :
+    {held : Held} {wanted : Goal} {jobs : JobsRequest} {answer : Result (List ℕ) RunFault} (parts : Parts held wanted jobs answer) →
+    input_of held jobs.zone jobs.sources (Ok (input_in parts))
+input_read parts = goes parts.clock parts.zone (goes parts.sources parts.read refl)
+
 -- ---- what is printed
 
 -- an answer of the jobs is one of the sources, if both have the same output
@@ -116,12 +132,14 @@ same_output output of_jobs (Err fault) same is = λ other. same ∙ is.1 other
 
 -- the same of a command that checks a number first
 same_output_if :
-    (number : Result ℕ RunFault) (output : Result (List ℕ) RunFault) (next : ℕ → Result (List ℕ) RunFault) (answer : Result (List ℕ) RunFault) →
-    output ≡ number >>= next → AnswersBy (IsTextOf (number >>= next)) (IsFaultOf (number >>= next)) answer →
+    (number : Result ℕ RunFault) (output : Result (List ℕ) RunFault) (next : ℕ → Result (List ℕ) RunFault)
+    (answer : Result (List ℕ) RunFault) → output ≡ number >>= next →
+    AnswersBy (IsTextOf (number >>= next)) (IsFaultOf (number >>= next)) answer →
     outputs_if number output (printed answer 0)
 same_output_if number output next (Ok text) same is = (same ∙ is, refl)
 same_output_if (Ok n) output next (Err fault) same is = (λ other. same ∙ is.1 other, tt)
-same_output_if (Err found) output next (Err fault) same is = (λ other. same ∙ is.1 other, let no : Err found ≡ Err fault = is.1 is.0 in cc)
+same_output_if (Err found) output next (Err fault) same is =
+    (λ other. same ∙ is.1 other, let same_fault : Err found ≡ Err fault = is.1 is.0 in cc)
 
 plan_same :
     (law : KeepsAll) (held : Held) (request : PlanRequest) (wanted : Goal) (kept : KeptAnswer) → plan_goal request (Ok wanted) →
@@ -131,10 +149,11 @@ plan_same law held request wanted kept (goes span spanned is) by none =
     let goal_is : wanted ≡ goal.Plan span request.sizes = cc in
     let parts = parts_of law held (goal.Plan span request.sizes) request.jobs kept
     (subst (λ w. kept_by held w request.jobs (Ok kept)) goal_is by) none in
-    let same : plan_output parts.clock parts.sources span request.sizes ≡ planned_output (kept_jobs parts.clock parts.sources) span request.sizes =
-    ap (λ r. step fault_of_sources r >>= (λ jobs. planned_output jobs span request.sizes)) parts.all_kept in
-    goes span spanned (goes (record { clock = parts.clock; sources = parts.sources }) (goes parts.clock parts.zone (goes parts.sources parts.read refl))
-    (same_output _ (planned_output (kept_jobs parts.clock parts.sources) span request.sizes) kept.answer same parts.answered))
+    let jobs = kept_jobs parts.clock parts.sources in
+    let same : plan_output parts.clock parts.sources span request.sizes ≡ planned_output jobs span request.sizes =
+    ap (λ r. step fault_of_sources r >>= (λ js. planned_output js span request.sizes)) parts.all_kept in
+    goes span spanned (goes (input_in parts) (input_read parts)
+    (same_output _ (planned_output jobs span request.sizes) kept.answer same parts.answered))
 
 quiet_same :
     (law : KeepsAll) (held : Held) (request : PlanRequest) (least : ℕ) (wanted : Goal) (kept : KeptAnswer) →
@@ -149,7 +168,7 @@ quiet_same law held request least wanted kept (goes span spanned is) by none =
     let next : ℕ → Result (List ℕ) RunFault = λ wide. gaps_output jobs span request.sizes wide in
     let same : quiet_output parts.clock parts.sources span request.sizes least ≡ (valid_least least >>= next) =
     ap (λ r. valid_least least >>= (λ wide. step fault_of_sources r >>= (λ js. gaps_output js span request.sizes wide))) parts.all_kept in
-    goes span spanned (goes (record { clock = parts.clock; sources = parts.sources }) (goes parts.clock parts.zone (goes parts.sources parts.read refl))
+    goes span spanned (goes (input_in parts) (input_read parts)
     (same_output_if (valid_least least) _ next kept.answer same parts.answered))
 
 -- the next starts of jobs have no error but that an allocation failed
@@ -162,12 +181,13 @@ upcoming_printed clock sources jobs after (Err fault) same is = absurd (is.0 is.
 
 upcoming_same :
     (law : KeepsAll) (held : Held) (after : List ℕ) (jobs : JobsRequest) (wanted : Goal) (kept : KeptAnswer) →
-    upcoming_goal after (Ok wanted) → kept_by held wanted jobs (Ok kept) → SkipsNothing kept → upcoming_ends held after jobs (printed kept.answer 0)
+    upcoming_goal after (Ok wanted) → kept_by held wanted jobs (Ok kept) → SkipsNothing kept →
+    upcoming_ends held after jobs (printed kept.answer 0)
 upcoming_same law held after jobs wanted kept (stops failure _ is) by none = absurd cc
 upcoming_same law held after jobs wanted kept (goes moment read is) by none =
     let goal_is : wanted ≡ goal.Upcoming moment = cc in
     let parts = parts_of law held (goal.Upcoming moment) jobs kept (subst (λ w. kept_by held w jobs (Ok kept)) goal_is by) none in
-    goes moment read (goes (record { clock = parts.clock; sources = parts.sources }) (goes parts.clock parts.zone (goes parts.sources parts.read refl))
+    goes moment read (goes (input_in parts) (input_read parts)
     (upcoming_printed parts.clock parts.sources _ moment kept.answer parts.all_kept parts.answered))
 
 -- ---- the streams
@@ -178,8 +198,8 @@ nothing_appended (Some xs) None is = absurd is
 nothing_appended (Some xs) (Some ys) is = is ∙ append-nil xs
 
 ends_same :
-    (sources : List SourcePath) (done : Result ℕ Failure) (status : ℕ) (takes_all : Bool) (old mid new : Option (List ℕ)) → Appends old mid [] →
-    Ends sources done status (record { takes_all = takes_all; old = mid; new = new }) →
+    (sources : List SourcePath) (done : Result ℕ Failure) (status : ℕ) (takes_all : Bool) (old mid new : Option (List ℕ)) →
+    Appends old mid [] → Ends sources done status (record { takes_all = takes_all; old = mid; new = new }) →
     Ends sources done status (record { takes_all = takes_all; old = old; new = new })
 ends_same sources (Ok found) status takes_all old mid new none is =
     (is.0, nothing_appended old new (Appends-kept old mid new [] none is.1))
@@ -197,7 +217,8 @@ told_same ask_step sources kept status out err none ends (inl (inr errors, _, _,
 told_same ask_step sources kept status out err none ends (inr (mid, taken, (done, holds, ended))) =
     let lines : lines_of_skipped kept ≡ [] =
     ap (λ l. skipped_text l kept.paths kept.errors) none.0 ∙ ap (λ l. skipped_text [] kept.paths l) none.1 in
-    let zero : skipped_status kept.unread kept.errors ≡ 0 = ap (λ l. skipped_status l kept.errors) none.0 ∙ ap (skipped_status []) none.1 in (
+    let zero : skipped_status kept.unread kept.errors ≡ 0 =
+    ap (λ l. skipped_status l kept.errors) none.0 ∙ ap (skipped_status []) none.1 in (
       done,
       record {
         end = printed kept.answer 0;
@@ -209,15 +230,19 @@ told_same ask_step sources kept status out err none ends (inr (mid, taken, (done
 
 -- ---- the law
 
-pub plan_unchanged : KeepsAll → (held : Held) → (request : PlanRequest) → ChangesNothing held (plan_goal request) request.jobs (Plan request)
+pub plan_unchanged :
+    KeepsAll → (held : Held) → (request : PlanRequest) → ChangesNothing held (plan_goal request) request.jobs (Plan request)
 plan_unchanged law held request (Ok wanted) is kept by none status out err told =
-    told_same (plan_ends held request) request.jobs.sources kept status out err none (plan_same law held request wanted kept is by none) told
+    told_same (plan_ends held request) request.jobs.sources kept status out err none
+    (plan_same law held request wanted kept is by none) told
 plan_unchanged law held request (Err failure) is kept by none status out err told = absurd cc
 
 pub upcoming_unchanged :
-    KeepsAll → (held : Held) → (after : List ℕ) → (jobs : JobsRequest) → ChangesNothing held (upcoming_goal after) jobs (Upcoming after jobs)
+    KeepsAll → (held : Held) → (after : List ℕ) → (jobs : JobsRequest) →
+    ChangesNothing held (upcoming_goal after) jobs (Upcoming after jobs)
 upcoming_unchanged law held after jobs (Ok wanted) is kept by none status out err told =
-    told_same (upcoming_ends held after jobs) jobs.sources kept status out err none (upcoming_same law held after jobs wanted kept is by none) told
+    told_same (upcoming_ends held after jobs) jobs.sources kept status out err none
+    (upcoming_same law held after jobs wanted kept is by none) told
 upcoming_unchanged law held after jobs (Err failure) is kept by none status out err told = absurd cc
 
 pub quiet_unchanged :

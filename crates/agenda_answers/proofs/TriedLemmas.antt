@@ -1,5 +1,5 @@
 -- Sources that are tried one after another: for the loop of `try_sources`, by the place of the next path.
-use Rattle.std.proofs.Common.{◌≡◌, ℕ, ◌+◌, ◌<◌, ◌≤◌, List, [], ◌∷◌, length, drop, get_or, Option, Result, Ok, Err, refl, subst, sym, ap}
+use Rattle.std.proofs.Common.{ℕ, ◌+◌, ◌<◌, ◌≤◌, List, length, drop, get_or, Option, Result, Ok, Err, refl, subst, sym}
 use Rattle.std.proofs.lemmas.List.{drop_more, at_drop_all}
 use Rattle.agenda_sources.specs.declared.Source.{Source}
 use Rattle.agenda_sources.specs.declared.SourcePath.{SourcePath}

@@ -27,7 +27,8 @@ pub returns-in_err-add_tried : goal.returns-in_err-add_tried
 returns-in_err-add_tried g c =
     let held = g.F.Files.held c.args.files.now in
     let within : c.loop-path.path-index < length c.args.given.now = omega arith in
-    passed_on (tries_of held c.args.given.now) _ _ (rw c.in_err-add_tried.ensures.memory (c.loop-path.invariant.left (Err (Run run.NoMemory))
+    passed_on (tries_of held c.args.given.now) _ _ (rw c.in_err-add_tried.ensures.memory
+    (c.loop-path.invariant.left (Err (Run run.NoMemory))
     (tries_fail held _ c.args.given.now c.loop-path.path-index c.path-item.result (Run run.NoMemory) within refl)))
     c.from_residual-in_err-add_tried.ensures.1
 
