@@ -57,10 +57,10 @@ zone_is() {
     fi
     sort "$work/err.further" "$work/err.zone" >"$work/err.wanted"
     wanted=0
+    [ "$command" = sources ] || ! grep -q ': not readable$' "$work/err.further" || wanted=1
     if [ ${#words[@]} = 0 ]; then
       printf '%s\n' "$command" "${zone[@]}"
     else
-      ! grep -q ': not readable$' "$work/err.further" || wanted=1
       printf '%s\n' "$command" "${zone[@]}" --keep-going "${words[@]}"
     fi >"$work/words.wanted"
     machine_run --root "$2" "$command" "${words[@]}"
