@@ -14,7 +14,7 @@ pub enum Code {
     Backwards,
     /// The number of --count isn't 1 to 1,000.
     BadCount,
-    /// A time doesn`t have the form `2024-01-01T00:00:00Z'.
+    /// A time doesn't have the form `2024-01-01T00:00:00Z`.
     BadForm,
     /// The number of --least is 0.
     BadLeast,
@@ -22,7 +22,7 @@ pub enum Code {
     BadLimit,
     /// A line of a script has none of the forms that are allowed.
     BadLine,
-    /// A month or weekday has a name that isn`t known, or a part has a name and can`t have one.
+    /// A month or weekday has a name that isn't known, or a part has a name and can't have one.
     BadName,
     /// A value isn't a number of 1 to 4 digits.
     BadNumber,
@@ -32,7 +32,7 @@ pub enum Code {
     BadSize,
     /// The name of a file of --cron-d or --spool isn't allowed there.
     BadTabName,
-    /// The file`s name isn`t one of a timer.
+    /// The file's name isn't one of a timer.
     BadTimerName,
     /// The file of the zone isn't a valid TZif file.
     BadZone,
@@ -42,7 +42,7 @@ pub enum Code {
     CarriageReturn,
     /// The timer starts up to the time of `RandomizedDelaySec=` later than planned.
     Delayed,
-    /// A file can`t be opened or read, or standard output can`t be written.
+    /// A file can't be opened or read, or standard output can't be written.
     Device,
     /// Both day fields are restricted, so the job starts on each day that either of them matches.
     EitherDay,
