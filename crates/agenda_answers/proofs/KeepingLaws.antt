@@ -15,23 +15,25 @@ use Rattle.agenda_words.specs.declared.JobsRequest.{JobsRequest}
 use Rattle.agenda_words.specs.declared.PlanRequest.{PlanRequest}
 use Rattle.agenda_faults.specs.declared.faults.RunFault.{RunFault}
 use Rattle.agenda_faults.specs.declared.faults.Failure.{Failure}
+use Rattle.agenda_faults.specs.declared.faults.Failure.TheVariants.{After}
 use Rattle.agenda_faults.specs.Faults.{fault_of_sources}
 use Rattle.agenda_faults.specs.FaultLines.{fault_text}
 use Rattle.agenda_commands.specs.declared.Input.{Input}
 use Rattle.agenda_commands.specs.declared.Goal.{Goal}
-use Rattle.agenda_commands.specs.declared.Goal.TheVariants as goal
+use Rattle.agenda_commands.specs.declared.Goal.TheVariants as of_jobs
 use Rattle.agenda_commands.specs.Command.{IsFaultOf, IsTextOf, step}
 use Rattle.agenda_commands.specs.Plan.{plan_output, planned_output}
 use Rattle.agenda_commands.specs.Quiet.{gaps_output, quiet_output, valid_least}
 use Rattle.agenda_commands.specs.Upcoming.{IsTextOfUpcoming, RefusesUpcoming}
 use Rattle.agenda_answers.specs.declared.keeping.Tried.{Tried}
-use Rattle.agenda_answers.specs.Answer.{Ends, HoldsAfter, Leaves, Printed, Stream, outputs, outputs_if, plan_ends, prints, quiet_ends, upcoming_ends}
+use Rattle.agenda_answers.specs.Answer.{Ends, HoldsAfter, Leaves, Printed, Stream, moment_of, outputs, outputs_if, plan_ends, prints, quiet_ends, span_of, upcoming_ends}
 use Rattle.agenda_answers.specs.Files.{Held}
-use Rattle.agenda_answers.specs.Keeping.{AnswersBy, KeptAnswer, Tells, answer_of, kept_by, lines_of_skipped, plan_goal, printed, quiet_goal, skipped_status, upcoming_goal}
+use Rattle.agenda_answers.specs.Keeping.{AnswersBy, Outcome, Reports, answer_of, kept_by, lines_of_skipped, plan_goal, printed, quiet_goal, skipped_status, upcoming_goal}
 use Rattle.agenda_answers.specs.Program.{ChangesNothing, SkipsNothing}
 use Rattle.agenda_answers.specs.Sources.{input_of, sources_of, tries_from, with_tried}
 use Rattle.agenda_answers.specs.Steps.{Step, stops, goes}
 use Rattle.agenda_answers.specs.Zone.{clock_of}
+use Rattle.agenda_answers.proofs.FailureLemmas.{failed_same, fails_first, fails_same}
 
 -- ---- the sources
 
@@ -73,13 +75,13 @@ all_read held tried end (given ∷ paths) (goes (Some source) is are) none =
     }
 
 -- what is known of an answer for which nothing is skipped
-record Parts (held : Held) (wanted : Goal) (jobs : JobsRequest) (answer : Result (List ℕ) RunFault) : Type 0 where
+record Parts (held : Held) (goal : Goal) (jobs : JobsRequest) (answer : Result (List ℕ) RunFault) : Type 0 where
   clock : List Change
   sources : List Source
   zone : clock_of held jobs.zone (Ok clock)
   read : sources_of held jobs.sources (Ok sources)
   all_kept : jobs_reading clock sources ≡ Ok (kept_jobs clock sources)
-  answered : answer_of wanted (kept_jobs clock sources) (Ok answer)
+  answered : answer_of goal (kept_jobs clock sources) (Ok answer)
 
 -- the law of agenda_sources: without errors all jobs are kept
 abbrev pub KeepsAll : Type 0
@@ -87,9 +89,9 @@ KeepsAll = (clock : List Change) → (sources : List Source) → sources_errors 
     jobs_reading clock sources ≡ Ok (kept_jobs clock sources)
 
 parts_of :
-    (law : KeepsAll) (held : Held) (wanted : Goal) (jobs : JobsRequest) (kept : KeptAnswer) → kept_by held wanted jobs (Ok kept) →
-    SkipsNothing kept → Parts held wanted jobs kept.answer
-parts_of law held wanted jobs kept (goes clock zone (goes tried read (goes answer answered is))) none =
+    (law : KeepsAll) (held : Held) (goal : Goal) (jobs : JobsRequest) (kept : Outcome) → kept_by held goal jobs (Ok kept) →
+    SkipsNothing (Ok kept) → Parts held goal jobs kept.answer
+parts_of law held goal jobs kept (goes clock zone (goes tried read (goes answer answered is))) none =
     let same : kept ≡ record {
       unread = tried.unread;
       paths = tried.paths;
@@ -105,19 +107,19 @@ parts_of law held wanted jobs kept (goes clock zone (goes tried read (goes answe
       zone = zone;
       read = subst (λ s. sources_of held jobs.sources (Ok s)) (sym are) all.read;
       all_kept = law clock tried.sources (ap (λ k. k.errors) (sym same) ∙ none.1);
-      answered = subst (λ a. answer_of wanted (kept_jobs clock tried.sources) (Ok a)) (sym (ap (λ k. k.answer) same)) answered;
+      answered = subst (λ a. answer_of goal (kept_jobs clock tried.sources) (Ok a)) (sym (ap (λ k. k.answer) same)) answered;
     }
-parts_of law held wanted jobs kept (goes clock zone (goes tried read (stops failure _ is))) none = absurd cc
-parts_of law held wanted jobs kept (goes clock zone (stops failure _ is)) none = absurd cc
-parts_of law held wanted jobs kept (stops failure _ is) none = absurd cc
+parts_of law held goal jobs kept (goes clock zone (goes tried read (stops failure _ is))) none = absurd cc
+parts_of law held goal jobs kept (goes clock zone (stops failure _ is)) none = absurd cc
+parts_of law held goal jobs kept (stops failure _ is) none = absurd cc
 
 -- what the jobs are made from
 abbrev input_in :
-    {held : Held} {wanted : Goal} {jobs : JobsRequest} {answer : Result (List ℕ) RunFault} → Parts held wanted jobs answer → Input
+    {held : Held} {goal : Goal} {jobs : JobsRequest} {answer : Result (List ℕ) RunFault} → Parts held goal jobs answer → Input
 input_in parts = record { clock = parts.clock; sources = parts.sources }
 
 input_read :
-    {held : Held} {wanted : Goal} {jobs : JobsRequest} {answer : Result (List ℕ) RunFault} (parts : Parts held wanted jobs answer) →
+    {held : Held} {goal : Goal} {jobs : JobsRequest} {answer : Result (List ℕ) RunFault} (parts : Parts held goal jobs answer) →
     input_of held jobs.zone jobs.sources (Ok (input_in parts))
 input_read parts = goes parts.clock parts.zone (goes parts.sources parts.read refl)
 
@@ -142,12 +144,12 @@ same_output_if (Err found) output next (Err fault) same is =
     (λ other. same ∙ is.1 other, let same_fault : Err found ≡ Err fault = is.1 is.0 in cc)
 
 plan_same :
-    (law : KeepsAll) (held : Held) (request : PlanRequest) (wanted : Goal) (kept : KeptAnswer) → plan_goal request (Ok wanted) →
-    kept_by held wanted request.jobs (Ok kept) → SkipsNothing kept → plan_ends held request (printed kept.answer 0)
-plan_same law held request wanted kept (stops failure _ is) by none = absurd cc
-plan_same law held request wanted kept (goes span spanned is) by none =
-    let goal_is : wanted ≡ goal.Plan span request.sizes = cc in
-    let parts = parts_of law held (goal.Plan span request.sizes) request.jobs kept
+    (law : KeepsAll) (held : Held) (request : PlanRequest) (goal : Goal) (kept : Outcome) → plan_goal request (Ok goal) →
+    kept_by held goal request.jobs (Ok kept) → SkipsNothing (Ok kept) → plan_ends held request (printed kept.answer 0)
+plan_same law held request goal kept (stops failure _ is) by none = absurd cc
+plan_same law held request goal kept (goes span spanned is) by none =
+    let goal_is : goal ≡ of_jobs.Plan span request.sizes = cc in
+    let parts = parts_of law held (of_jobs.Plan span request.sizes) request.jobs kept
     (subst (λ w. kept_by held w request.jobs (Ok kept)) goal_is by) none in
     let jobs = kept_jobs parts.clock parts.sources in
     let same : plan_output parts.clock parts.sources span request.sizes ≡ planned_output jobs span request.sizes =
@@ -156,13 +158,13 @@ plan_same law held request wanted kept (goes span spanned is) by none =
     (same_output _ (planned_output jobs span request.sizes) kept.answer same parts.answered))
 
 quiet_same :
-    (law : KeepsAll) (held : Held) (request : PlanRequest) (least : ℕ) (wanted : Goal) (kept : KeptAnswer) →
-    quiet_goal request least (Ok wanted) → kept_by held wanted request.jobs (Ok kept) → SkipsNothing kept →
+    (law : KeepsAll) (held : Held) (request : PlanRequest) (least : ℕ) (goal : Goal) (kept : Outcome) →
+    quiet_goal request least (Ok goal) → kept_by held goal request.jobs (Ok kept) → SkipsNothing (Ok kept) →
     quiet_ends held request least (printed kept.answer 0)
-quiet_same law held request least wanted kept (stops failure _ is) by none = absurd cc
-quiet_same law held request least wanted kept (goes span spanned is) by none =
-    let goal_is : wanted ≡ goal.Quiet span request.sizes least = cc in
-    let parts = parts_of law held (goal.Quiet span request.sizes least) request.jobs kept
+quiet_same law held request least goal kept (stops failure _ is) by none = absurd cc
+quiet_same law held request least goal kept (goes span spanned is) by none =
+    let goal_is : goal ≡ of_jobs.Quiet span request.sizes least = cc in
+    let parts = parts_of law held (of_jobs.Quiet span request.sizes least) request.jobs kept
     (subst (λ w. kept_by held w request.jobs (Ok kept)) goal_is by) none in
     let jobs = kept_jobs parts.clock parts.sources in
     let next : ℕ → Result (List ℕ) RunFault = λ wide. gaps_output jobs span request.sizes wide in
@@ -174,19 +176,19 @@ quiet_same law held request least wanted kept (goes span spanned is) by none =
 -- the next starts of jobs have no error but that an allocation failed
 upcoming_printed :
     (clock : List Change) (sources : List Source) (jobs : List JobParts) (after : ℕ) (answer : Result (List ℕ) RunFault) →
-    jobs_reading clock sources ≡ Ok jobs → answer_of (goal.Upcoming after) jobs (Ok answer) →
+    jobs_reading clock sources ≡ Ok jobs → answer_of (of_jobs.Upcoming after) jobs (Ok answer) →
     prints 0 (IsTextOfUpcoming clock sources after) (RefusesUpcoming clock sources) (printed answer 0)
 upcoming_printed clock sources jobs after (Ok text) same is = ((jobs, same, is), refl)
 upcoming_printed clock sources jobs after (Err fault) same is = absurd (is.0 is.1)
 
 upcoming_same :
-    (law : KeepsAll) (held : Held) (after : List ℕ) (jobs : JobsRequest) (wanted : Goal) (kept : KeptAnswer) →
-    upcoming_goal after (Ok wanted) → kept_by held wanted jobs (Ok kept) → SkipsNothing kept →
+    (law : KeepsAll) (held : Held) (after : List ℕ) (jobs : JobsRequest) (goal : Goal) (kept : Outcome) →
+    upcoming_goal after (Ok goal) → kept_by held goal jobs (Ok kept) → SkipsNothing (Ok kept) →
     upcoming_ends held after jobs (printed kept.answer 0)
-upcoming_same law held after jobs wanted kept (stops failure _ is) by none = absurd cc
-upcoming_same law held after jobs wanted kept (goes moment read is) by none =
-    let goal_is : wanted ≡ goal.Upcoming moment = cc in
-    let parts = parts_of law held (goal.Upcoming moment) jobs kept (subst (λ w. kept_by held w jobs (Ok kept)) goal_is by) none in
+upcoming_same law held after jobs goal kept (stops failure _ is) by none = absurd cc
+upcoming_same law held after jobs goal kept (goes moment read is) by none =
+    let goal_is : goal ≡ of_jobs.Upcoming moment = cc in
+    let parts = parts_of law held (of_jobs.Upcoming moment) jobs kept (subst (λ w. kept_by held w jobs (Ok kept)) goal_is by) none in
     goes moment read (goes (input_in parts) (input_read parts)
     (upcoming_printed parts.clock parts.sources _ moment kept.answer parts.all_kept parts.answered))
 
@@ -208,13 +210,13 @@ ends_same sources (Err failure) status takes_all old mid new none (is, inl whole
 ends_same sources (Err failure) status takes_all old mid new none (is, inr (fails, (k, within, part))) =
     (is, inr (fails, (k, within, Appends-trans old mid new [] (take k (fault_text sources failure)) none part)))
 
-told_same :
-    (ask_step : Step Printed) (sources : List SourcePath) (kept : KeptAnswer) (status : ℕ) (out err : Stream) → SkipsNothing kept →
-    ask_step (printed kept.answer 0) → Tells sources kept status out err →
+reported_same :
+    (ask_step : Step Printed) (sources : List SourcePath) (kept : Outcome) (status : ℕ) (out err : Stream) → SkipsNothing (Ok kept) →
+    ask_step (printed kept.answer 0) → Reports sources kept status out err →
     (done : Result ℕ Failure) × Leaves out.takes_all ask_step done out.old out.new × Ends sources done status err
-told_same ask_step sources kept status out err none ends (inl (inl unread, _, _, _)) = absurd (unread none.0)
-told_same ask_step sources kept status out err none ends (inl (inr errors, _, _, _)) = absurd (errors none.1)
-told_same ask_step sources kept status out err none ends (inr (mid, taken, (done, holds, ended))) =
+reported_same ask_step sources kept status out err none ends (inl (inl unread, _, _, _)) = absurd (unread none.0)
+reported_same ask_step sources kept status out err none ends (inl (inr errors, _, _, _)) = absurd (errors none.1)
+reported_same ask_step sources kept status out err none ends (inr (mid, taken, (done, holds, ended))) =
     let lines : lines_of_skipped kept ≡ [] =
     ap (λ l. skipped_text l kept.paths kept.errors) none.0 ∙ ap (λ l. skipped_text [] kept.paths l) none.1 in
     let zero : skipped_status kept.unread kept.errors ≡ 0 =
@@ -232,23 +234,40 @@ told_same ask_step sources kept status out err none ends (inr (mid, taken, (done
 
 pub plan_unchanged :
     KeepsAll → (held : Held) → (request : PlanRequest) → ChangesNothing held (plan_goal request) request.jobs (Plan request)
-plan_unchanged law held request (Ok wanted) is kept by none status out err told =
-    told_same (plan_ends held request) request.jobs.sources kept status out err none
-    (plan_same law held request wanted kept is by none) told
-plan_unchanged law held request (Err failure) is kept by none status out err told = absurd cc
+plan_unchanged law held request (Ok goal) is (Ok kept) by none status out err ends =
+    reported_same (plan_ends held request) request.jobs.sources kept status out err none
+    (plan_same law held request goal kept is by none) ends
+plan_unchanged law held request (Err failure) is (Ok kept) by none status out err ends = absurd cc
+plan_unchanged law held request goal is (Err failure) by other status out err ends =
+    failed_same (plan_ends held request) request.jobs.sources failure status out err
+    (fails_same (span_of request.since request.upto) (λ span. of_jobs.Plan span request.sizes) held request.jobs
+    (λ span input. outputs 0 (plan_output input.clock input.sources span request.sizes)) goal failure is
+    (fails_first held goal request.jobs failure by other)) ends
 
 pub upcoming_unchanged :
     KeepsAll → (held : Held) → (after : List ℕ) → (jobs : JobsRequest) →
     ChangesNothing held (upcoming_goal after) jobs (Upcoming after jobs)
-upcoming_unchanged law held after jobs (Ok wanted) is kept by none status out err told =
-    told_same (upcoming_ends held after jobs) jobs.sources kept status out err none
-    (upcoming_same law held after jobs wanted kept is by none) told
-upcoming_unchanged law held after jobs (Err failure) is kept by none status out err told = absurd cc
+upcoming_unchanged law held after jobs (Ok goal) is (Ok kept) by none status out err ends =
+    reported_same (upcoming_ends held after jobs) jobs.sources kept status out err none
+    (upcoming_same law held after jobs goal kept is by none) ends
+upcoming_unchanged law held after jobs (Err failure) is (Ok kept) by none status out err ends = absurd cc
+upcoming_unchanged law held after jobs goal is (Err failure) by other status out err ends =
+    failed_same (upcoming_ends held after jobs) jobs.sources failure status out err
+    (fails_same (moment_of After after) of_jobs.Upcoming held jobs
+    (λ moment input. prints 0 (IsTextOfUpcoming input.clock input.sources moment) (RefusesUpcoming input.clock input.sources)) goal
+    failure is
+    (fails_first held goal jobs failure by other)) ends
 
 pub quiet_unchanged :
     KeepsAll → (held : Held) → (request : PlanRequest) → (least : ℕ) →
     ChangesNothing held (quiet_goal request least) request.jobs (Quiet request least)
-quiet_unchanged law held request least (Ok wanted) is kept by none status out err told =
-    told_same (quiet_ends held request least) request.jobs.sources kept status out err none
-    (quiet_same law held request least wanted kept is by none) told
-quiet_unchanged law held request least (Err failure) is kept by none status out err told = absurd cc
+quiet_unchanged law held request least (Ok goal) is (Ok kept) by none status out err ends =
+    reported_same (quiet_ends held request least) request.jobs.sources kept status out err none
+    (quiet_same law held request least goal kept is by none) ends
+quiet_unchanged law held request least (Err failure) is (Ok kept) by none status out err ends = absurd cc
+quiet_unchanged law held request least goal is (Err failure) by other status out err ends =
+    failed_same (quiet_ends held request least) request.jobs.sources failure status out err
+    (fails_same (span_of request.since request.upto) (λ span. of_jobs.Quiet span request.sizes least) held request.jobs
+    (λ span input. outputs_if (valid_least least) (quiet_output input.clock input.sources span request.sizes least)) goal
+    failure is
+    (fails_first held goal request.jobs failure by other)) ends

@@ -1,3 +1,4 @@
+pub mod FailureLemmas
 pub mod FileLemmas
 pub mod KeepingLaws
 pub mod KeepingLemmas

@@ -1,4 +1,5 @@
--- The answer to a request that keeps going: what is invalid or can't be read is skipped and reported. All of it is our choice (agenda).
+-- The answer to a request that keeps going: what is invalid or can't be read is skipped and reported.
+-- All of it is our choice (agenda).
 use Rattle.std.specs.Prelude.{◌≡◌, ◌≢◌, ◌⊎◌, ℕ, List, [], ◌∷◌, Option, Result, Ok, Err}
 use Rattle.std.specs.Io.KnownBytes.{Appends, Keeps}
 use Rattle.agenda_words.specs.declared.JobsRequest.{JobsRequest}
@@ -15,7 +16,7 @@ use Rattle.plan_rules.specs.Job.{JobParts}
 use Rattle.plan_write.specs.Skipped.{skipped_text}
 use Rattle.plan_streams.specs.Stream.{BreaksOff}
 use Rattle.agenda_commands.specs.declared.Goal.{Goal}
-use Rattle.agenda_commands.specs.declared.Goal.TheVariants as goal
+use Rattle.agenda_commands.specs.declared.Goal.TheVariants.{Plan, Quiet, Upcoming}
 use Rattle.agenda_commands.specs.Goal.{IsFaultOfGoal, IsTextOfGoal}
 use Rattle.agenda_answers.specs.Answer.{Ends, HoldsAfter, Printed, Stream, moment_of, span_of}
 use Rattle.agenda_answers.specs.Files.{Held}
@@ -23,26 +24,30 @@ use Rattle.agenda_answers.specs.Sources.{tries_of}
 use Rattle.agenda_answers.specs.Steps.{Step, fails, gives, ◌>>=◌}
 use Rattle.agenda_answers.specs.Zone.{clock_of}
 
--- ---- what is wanted of jobs: the timestamps are read first
+-- ---- the goals of requests: the timestamps are read first
 
+-- the goal of `plan` is the agenda over the span
 abbrev pub plan_goal : PlanRequest → Step Goal
 plan_goal request = do
   span ← span_of request.since request.upto
-  gives (goal.Plan span request.sizes)
+  gives (Plan span request.sizes)
 
+-- the goal of `upcoming` is the next start of each job
 abbrev pub upcoming_goal : List ℕ → Step Goal
 upcoming_goal after = do
   moment ← moment_of After after
-  gives (goal.Upcoming moment)
+  gives (Upcoming moment)
 
+-- the goal of `quiet` is the gaps of the span
 abbrev pub quiet_goal : PlanRequest → (least : ℕ) → Step Goal
 quiet_goal request least = do
   span ← span_of request.since request.upto
-  gives (goal.Quiet span request.sizes least)
+  gives (Quiet span request.sizes least)
 
 -- ---- what is skipped, and the answer without it
 
-pub record KeptAnswer : Type 0 where
+-- the paths of files that can't be read and those of the others, the errors in these, and the answer of the jobs that are left
+pub record Outcome : Type 0 where
   pub unread : List SourcePath
   pub paths : List SourcePath
   pub errors : List Found
@@ -55,30 +60,30 @@ AnswersBy IsText IsRefused (Err fault) = (fault ≢ NoMemory) × IsRefused fault
 
 -- the answer of jobs; if an allocation failed, the whole request fails
 abbrev pub answer_of : Goal → List JobParts → Step (Result (List ℕ) RunFault)
-answer_of wanted jobs (Ok answer) = AnswersBy (IsTextOfGoal jobs wanted) (IsFaultOfGoal jobs wanted) answer
-answer_of wanted jobs (Err failure) = failure ≡ Run NoMemory
+answer_of goal jobs (Ok answer) = AnswersBy (IsTextOfGoal jobs goal) (IsFaultOfGoal jobs goal) answer
+answer_of goal jobs (Err failure) = failure ≡ Run NoMemory
 
 -- the zone is read first, then the files; then come the errors of the sources and the answer of the jobs that are left
-abbrev pub kept_by : Held → Goal → JobsRequest → Step KeptAnswer
-kept_by held wanted jobs = do
+abbrev pub kept_by : Held → Goal → JobsRequest → Step Outcome
+kept_by held goal jobs = do
   clock ← clock_of held jobs.zone
   tried ← tries_of held jobs.sources
-  answer ← answer_of wanted (kept_jobs clock tried.sources)
+  answer ← answer_of goal (kept_jobs clock tried.sources)
   gives (record { unread = tried.unread; paths = tried.paths; errors = sources_errors clock tried.sources; answer = answer })
 
 -- the same, unless the timestamps are rejected
-abbrev pub kept_of : Held → Result Goal Failure → JobsRequest → Step KeptAnswer
-kept_of held (Ok wanted) jobs = kept_by held wanted jobs
+abbrev pub kept_of : Held → Result Goal Failure → JobsRequest → Step Outcome
+kept_of held (Ok goal) jobs = kept_by held goal jobs
 kept_of held (Err failure) jobs = fails failure
 
 -- ---- the streams
 
 -- something is skipped
-abbrev pub HasSkipped : KeptAnswer → Type 0
+abbrev pub HasSkipped : Outcome → Type 0
 HasSkipped kept = (kept.unread ≢ []) ⊎ (kept.errors ≢ [])
 
 -- the lines of what is skipped
-abbrev pub lines_of_skipped : KeptAnswer → List ℕ
+abbrev pub lines_of_skipped : Outcome → List ℕ
 lines_of_skipped kept = skipped_text kept.unread kept.paths kept.errors
 
 -- the exit status of an answer: whether a file can't be read, and whether there is an error
@@ -97,19 +102,20 @@ abbrev pub EndsWith : List SourcePath → Result Printed Failure → ℕ → (ou
 EndsWith sources end status out err =
     (done : Result ℕ Failure) × HoldsAfter out.takes_all end done out.old out.new × Ends sources done status err
 
--- standard error breaks off in the lines of what is skipped, and nothing is printed; or it takes them, and the answer follows
-abbrev pub Tells : List SourcePath → KeptAnswer → ℕ → (out err : Stream) → Type 0
-Tells sources kept status out err =
+-- standard error breaks off in the lines of what is skipped, and nothing is printed; or it takes them, and the
+-- answer follows
+abbrev pub Reports : List SourcePath → Outcome → ℕ → (out err : Stream) → Type 0
+Reports sources kept status out err =
     (HasSkipped kept × BreaksOff err.takes_all err.old err.new (lines_of_skipped kept) × (status ≡ failed_status) × Keeps out.old out.new)
     ⊎ ((mid : Option (List ℕ)) × Appends err.old mid (lines_of_skipped kept)
     × EndsWith sources (printed kept.answer (skipped_status kept.unread kept.errors)) status out (record err { old = mid }))
 
 -- the same, unless the request failed, with nothing but its line
-abbrev pub TellsOrFails : List SourcePath → Result KeptAnswer Failure → ℕ → (out err : Stream) → Type 0
-TellsOrFails sources (Ok kept) status out err = Tells sources kept status out err
-TellsOrFails sources (Err failure) status out err = EndsWith sources (Err failure) status out err
+abbrev pub ReportsOrFails : List SourcePath → Result Outcome Failure → ℕ → (out err : Stream) → Type 0
+ReportsOrFails sources (Ok kept) status out err = Reports sources kept status out err
+ReportsOrFails sources (Err failure) status out err = EndsWith sources (Err failure) status out err
 
 -- the answer to a request that keeps going
 abbrev pub AnswersKept : Held → Result Goal Failure → JobsRequest → ℕ → (out err : Stream) → Type 0
-AnswersKept held wanted jobs status out err =
-    (end : Result KeptAnswer Failure) × kept_of held wanted jobs end × TellsOrFails jobs.sources end status out err
+AnswersKept held goal jobs status out err =
+    (end : Result Outcome Failure) × kept_of held goal jobs end × ReportsOrFails jobs.sources end status out err

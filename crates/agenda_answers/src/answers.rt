@@ -11,6 +11,7 @@ ghost use Rattle.agenda_faults.specs.declared.faults.Failure.TheVariants.{After}
 use crate::files::{Files, read_path};
 use crate::keeping::keep_going;
 use crate::sources::read_input;
+use crate::status::{DONE, REFUSED};
 use crate::zone::read_clock;
 use agenda_codes::Code;
 use agenda_commands::{
@@ -27,12 +28,6 @@ use std::alloc::Global;
 use std::io::ErrorKind;
 use std::sync::Wait;
 use std::thread::Threads;
-
-// The exit status after success, and after help.
-const DONE: u8 = 0;
-
-// The exit status if `check` finds an error.
-const REFUSED: u8 = 1;
 
 // The text of usage if an argument isn't UTF-8.
 const NOT_UTF8: &str = "a word of the command line is not UTF-8\n";
@@ -93,29 +88,16 @@ fn answer_ask<R: Threads + Wait + Sync, F: Files, O: Stream, E: Stream>(
 {
     match ask {
         Ask::Plan(request) if request.jobs.keep_going => {
-            keep_going(
-                rt,
-                alloc,
-                plan_goal(request),
-                &request.jobs,
-                files,
-                out,
-                err,
-            )
+            let goal = plan_goal(request);
+            keep_going(rt, alloc, goal, &request.jobs, files, out, err)
         }
         Ask::Upcoming { after, jobs } if jobs.keep_going => {
-            keep_going(rt, alloc, upcoming_goal(after), jobs, files, out, err)
+            let goal = upcoming_goal(after);
+            keep_going(rt, alloc, goal, jobs, files, out, err)
         }
         Ask::Quiet { plan, least } if plan.jobs.keep_going => {
-            keep_going(
-                rt,
-                alloc,
-                quiet_goal(plan, *least),
-                &plan.jobs,
-                files,
-                out,
-                err,
-            )
+            let goal = quiet_goal(plan, *least);
+            keep_going(rt, alloc, goal, &plan.jobs, files, out, err)
         }
         _ => {
             let done = carry_out(rt, alloc, ask, files, out);

@@ -6,7 +6,7 @@
 ghost use Rattle.std.specs.Prelude.{◌≡◌, ℕ, IfErr, IfOk, List, OnOk};
 ghost use Rattle.agenda_answers.specs.Answer.{HoldsAfter};
 ghost use Rattle.agenda_answers.specs.Files.{Held};
-ghost use Rattle.agenda_answers.specs.Keeping.{AnswersKept, Tells, answer_of, kept_of, plan_goal, printed, quiet_goal, skipped_status, upcoming_goal};
+ghost use Rattle.agenda_answers.specs.Keeping.{AnswersKept, Reports, answer_of, kept_of, plan_goal, printed, quiet_goal, skipped_status, upcoming_goal};
 ghost use Rattle.agenda_answers.specs.Program.{ChangesNothing};
 ghost use Rattle.agenda_answers.specs.Sources.{tried_of, tries_of, with_tried};
 ghost use Rattle.agenda_faults.specs.declared.faults.Failure.TheVariants.{Run};
@@ -18,8 +18,9 @@ ghost use Rattle.agenda_words.specs.declared.PlanRequest.{PlanRequest};
 use crate::answers::end;
 use crate::files::Files;
 use crate::sources::read_source;
+use crate::status::{DONE, FAILED, REFUSED};
 use crate::zone::read_clock;
-use agenda_commands::{Answer, Goal, make_answer};
+use agenda_commands::{Goal, PreparedAnswer, prepare_answer};
 use agenda_faults::{Failure, RunFault};
 use agenda_sources::{
     Found, Source, SourcePath, SourcePaths, Sources, kept_of_sources, without_errors_all_is_kept,
@@ -33,15 +34,6 @@ use std::marker::Model;
 use std::sync::Wait;
 use std::thread::Threads;
 
-// The exit status if nothing is skipped.
-const DONE: u8 = 0;
-
-// The exit status if an error is skipped.
-const REFUSED: u8 = 1;
-
-// The exit status if a file can't be read, or if standard error fails.
-const FAILED: u8 = 3;
-
 // Sources, some of which can't be read.
 #[derive(Drop)]
 struct Tried {
@@ -53,7 +45,7 @@ struct Tried {
     unread: SourcePaths,
 }
 
-// What is skipped, and the answer without it.
+// What is skipped, and the answer without it. Contracts see this value as a record of the same name.
 #[derive(Drop)]
 struct Outcome {
     // The paths of the files that can't be opened or read.
@@ -63,20 +55,20 @@ struct Outcome {
     // The errors of those sources.
     errors: Vec<Found>,
     // The answer of the jobs that are left, or its error, which isn't `NoMemory`.
-    answer: Result<Answer, RunFault>,
+    answer: Result<PreparedAnswer, RunFault>,
 }
 
 impl Model for Outcome {
-    ghost use Rattle.agenda_answers.specs.Keeping.{KeptAnswer};
+    ghost use Rattle.agenda_answers.specs.Keeping.{Outcome};
 
-    ghost Value = { KeptAnswer };
+    ghost Value = { Outcome };
 
-    ghost view = { λ outcome. record { unread = outcome.unread; paths = outcome.paths; errors = outcome.errors.items; answer = outcome.answer } };
+    ghost view = { λ kept. record { unread = kept.unread; paths = kept.paths; errors = kept.errors.items; answer = kept.answer } };
 }
 
-/// Answers a request that keeps going, and returns the exit status. Without a goal nothing is read.
+/// Answers a request that keeps going, and returns the exit status.
 ///
-/// The status is 3 if a file can't be read, 1 if there is an error, and 0 otherwise; if the answer isn't made, it is that
+/// The status is 3 if a file can't be read, 1 if there is an error, and 0 otherwise. If there is no answer, it is that
 /// of the error. If standard error fails, it is 3, and nothing is written to standard output.
 pub(crate) fn keep_going<R: Threads + Wait + Sync, F: Files, O: Stream, E: Stream>(
     rt: &R,
@@ -92,7 +84,7 @@ pub(crate) fn keep_going<R: Threads + Wait + Sync, F: Files, O: Stream, E: Strea
         (record { takes_all = E.takes_all; old = E.holds err.old; new = E.holds err.new }) }
 {
     match make_outcome(rt, alloc, goal, jobs, files) {
-        Ok(outcome) => tell(outcome, jobs.sources.as_slice(), out, err),
+        Ok(outcome) => report(outcome, jobs.sources.as_slice(), out, err),
         Err(failure) => end(Err(failure), jobs.sources.as_slice(), err),
     }
 }
@@ -126,10 +118,10 @@ fn answer_jobs<R: Threads + Wait + Sync>(
     alloc: Global,
     jobs: Jobs,
     goal: &Goal,
-) -> Result<Result<Answer, RunFault>, Failure>
+) -> Result<Result<PreparedAnswer, RunFault>, Failure>
     ensures { answer_of goal.now jobs result }
 {
-    match make_answer(rt, alloc, jobs, goal) {
+    match prepare_answer(rt, alloc, jobs, goal) {
         Ok(answer) => Ok(Ok(answer)),
         Err(RunFault::NoMemory) => Err(Failure::Run(RunFault::NoMemory)),
         Err(fault) => Ok(Err(fault)),
@@ -207,14 +199,15 @@ fn copy_of(alloc: Global, given: &SourcePath) -> Result<SourcePath, AllocError>
     })
 }
 
-// Writes what is skipped, then the answer, and returns the exit status. `sources` are the paths that the request names.
-fn tell<O: Stream, E: Stream>(
+// Reports what is skipped, then writes the answer, and returns the exit status. `sources` are the paths that the
+// request names.
+fn report<O: Stream, E: Stream>(
     outcome: Outcome,
     sources: &[SourcePath],
     out: &mut O,
     err: &mut E,
 ) -> u8
-    ensures { Tells sources.now outcome result
+    ensures { Reports sources.now outcome result
         (record { takes_all = O.takes_all; old = O.holds out.old; new = O.holds out.new })
         (record { takes_all = E.takes_all; old = E.holds err.old; new = E.holds err.new }) }
 {
@@ -247,7 +240,7 @@ fn skipped_status(unread: &[SourcePath], errors: &[Found]) -> u8
 
 // Prints an answer, which has this exit status, or returns the failure if there is none.
 fn print_answer<S: Stream>(
-    answer: Result<Answer, RunFault>,
+    answer: Result<PreparedAnswer, RunFault>,
     status: u8,
     out: &mut S,
 ) -> Result<u8, Failure>
@@ -263,6 +256,7 @@ fn print_answer<S: Stream>(
 }
 
 /// States the law of keeping going: if nothing is skipped, a request is answered as it may be without `keep_going`.
+/// So is a request whose times, span or zone are rejected.
 ///
 /// The function does nothing: its contract is the law.
 pub fn keeping_going_changes_nothing()

@@ -8,6 +8,7 @@ mod answers;
 mod files;
 mod keeping;
 mod sources;
+mod status;
 mod zone;
 
 pub use answers::{answer, answer_arguments, unread_arguments};

@@ -31,7 +31,7 @@ pub(crate) fn read_input<F: Files>(
 }
 
 // Reads the sources with these paths, in order, each path once.
-pub(crate) fn read_sources<F: Files>(
+fn read_sources<F: Files>(
     alloc: Global,
     files: &mut F,
     paths: &[SourcePath],

@@ -1,4 +1,4 @@
--- What is made of jobs, its text and its errors. All of it is our choice (agenda).
+-- The answer of jobs by its goal: its text and its errors. All of it is our choice (agenda).
 use Rattle.std.specs.Prelude.{◌≡◌, ⊤, ℕ, List, length, Result}
 use Rattle.plan_texts.specs.Steps.{◌>>=◌}
 use Rattle.plan_collect.specs.Agenda.{IsOfJobs}
@@ -7,7 +7,7 @@ use Rattle.plan_collect.specs.declared.Sizes.{Sizes}
 use Rattle.plan_rules.specs.Job.{JobParts}
 use Rattle.plan_write.specs.Quiet.{quiet_text}
 use Rattle.plan_write.specs.Texts.{text_by_ends}
-use Rattle.plan_write.specs.Upcoming.{AreUpcoming, upcoming_text}
+use Rattle.plan_write.specs.Upcoming.{upcoming_text}
 use Rattle.agenda_faults.specs.declared.faults.RunFault.{RunFault}
 use Rattle.agenda_faults.specs.declared.faults.RunFault.TheVariants.{NoMemory}
 use Rattle.agenda_commands.specs.declared.goal.Goal.{Goal}
@@ -17,6 +17,7 @@ use Rattle.agenda_commands.specs.declared.goal.Made.TheVariants as made
 use Rattle.agenda_commands.specs.Command.{IsFaultOf, IsTextOf}
 use Rattle.agenda_commands.specs.Plan.{planned_output}
 use Rattle.agenda_commands.specs.Quiet.{gaps_output, valid_least}
+use Rattle.agenda_commands.specs.Upcoming.{IsTextOfNexts}
 
 -- the gaps of at least `least` seconds, if that is a length of a gap
 abbrev pub wide_output : List JobParts → Bounds → Sizes → (least : ℕ) → Result (List ℕ) RunFault
@@ -24,10 +25,10 @@ wide_output jobs span sizes least = do
   wide ← valid_least least
   gaps_output jobs span sizes wide
 
--- the text of what is wanted of jobs
+-- the text of the answer
 abbrev pub IsTextOfGoal : List JobParts → Goal → List ℕ → Type 0
 IsTextOfGoal jobs (goal.Plan span sizes) = IsTextOf (planned_output jobs span sizes)
-IsTextOfGoal jobs (goal.Upcoming after) = λ text. (nexts : List (ℕ × ℕ)) × AreUpcoming jobs after nexts × (text ≡ upcoming_text nexts jobs)
+IsTextOfGoal jobs (goal.Upcoming after) = IsTextOfNexts jobs after
 IsTextOfGoal jobs (goal.Quiet span sizes least) = IsTextOf (wide_output jobs span sizes least)
 
 -- why there is no such text, unless an allocation failed. The next starts of jobs have no other error
@@ -36,7 +37,7 @@ IsFaultOfGoal jobs (goal.Plan span sizes) = IsFaultOf (planned_output jobs span 
 IsFaultOfGoal jobs (goal.Upcoming after) = λ fault. fault ≡ NoMemory
 IsFaultOfGoal jobs (goal.Quiet span sizes least) = IsFaultOf (wide_output jobs span sizes least)
 
--- the text of what was made of jobs
+-- the text of a result
 abbrev pub text_of : Made → List ℕ
 text_of (made.Plan agenda ends) = text_by_ends agenda ends
 text_of (made.Upcoming nexts jobs) = upcoming_text nexts jobs

@@ -10,11 +10,14 @@ use Rattle.agenda_faults.specs.declared.faults.RunFault.{RunFault}
 use Rattle.agenda_faults.specs.declared.faults.RunFault.TheVariants.{NoMemory}
 use Rattle.agenda_faults.specs.Faults.{fault_of_sources}
 
+-- what is printed for jobs: when each of them starts next
+abbrev pub IsTextOfNexts : List JobParts → (after : ℕ) → List ℕ → Type 0
+IsTextOfNexts jobs after text = (nexts : List (ℕ × ℕ)) × AreUpcoming jobs after nexts × (text ≡ upcoming_text nexts jobs)
+
 -- what is printed for sources: when each of their jobs starts next
 abbrev pub IsTextOfUpcoming : List Change → List Source → (after : ℕ) → List ℕ → Type 0
 IsTextOfUpcoming clock sources after text =
-    (jobs : List JobParts) × (jobs_reading clock sources ≡ Ok jobs)
-    × ((nexts : List (ℕ × ℕ)) × AreUpcoming jobs after nexts × (text ≡ upcoming_text nexts jobs))
+    (jobs : List JobParts) × (jobs_reading clock sources ≡ Ok jobs) × IsTextOfNexts jobs after text
 
 -- when `upcoming` is rejected, and why: only if the sources are, with their error
 abbrev pub RefusesUpcoming : List Change → List Source → RunFault → Type 0

@@ -1,4 +1,4 @@
-//! What is made of jobs, and only has to be written then.
+//! Prepares the answer of jobs, before a byte of it is written.
 
 ghost use Rattle.std.specs.Prelude.{◌≡◌, IfErr, IfOk};
 ghost use Rattle.agenda_commands.specs.Goal.{CanBeWritten, IsFaultOfGoal, IsTextOfGoal, text_of};
@@ -15,7 +15,7 @@ use std::marker::Model;
 use std::sync::Wait;
 use std::thread::Threads;
 
-/// What is made of jobs.
+/// What a command makes of its jobs.
 #[derive(Clone, Copy, Debug)]
 pub enum Goal {
     /// The agenda.
@@ -41,7 +41,7 @@ pub enum Goal {
     },
 }
 
-// What was made of jobs.
+// The result, which has a text.
 #[derive(Drop)]
 enum Made {
     // An agenda, with the ends of its lines.
@@ -52,13 +52,13 @@ enum Made {
     Quiet(Agenda, u32),
 }
 
-/// What was made of jobs, and only has to be written. Contracts see this value as its text.
+/// An answer before it is written. Contracts see this value as its text.
 #[derive(Drop)]
-pub struct Answer {
+pub struct PreparedAnswer {
     made: Made,
 }
 
-impl Model for Answer {
+impl Model for PreparedAnswer {
     ghost use Rattle.std.specs.Prelude.{ℕ, List};
     ghost use Rattle.agenda_commands.specs.Goal.{CanBeWritten, text_of};
 
@@ -69,19 +69,19 @@ impl Model for Answer {
     ghost invariant = { λ answer. CanBeWritten answer.made };
 }
 
-/// Makes from jobs what is wanted of them. Nothing is written. The function waits for the planners of a plan.
+/// Prepares the answer of jobs that `goal` requests. Nothing is written. The function waits for the planners of a plan.
 ///
 /// # Errors
 ///
 /// `BadLeast` if the minimum length of a gap is 0; `Plan(BadSize)` if the number of planners or their capacity is out
 /// of range; `Plan(BadLimit)` if the limit is; `Plan(Collect(TooMany))` if the agenda has more entries than the limit.
 /// `NoMemory` may come in place of each of them if an allocation failed.
-pub fn make_answer<R: Threads + Wait + Sync>(
+pub fn prepare_answer<R: Threads + Wait + Sync>(
     rt: &R,
     alloc: Global,
     jobs: Jobs,
     goal: &Goal,
-) -> Result<Answer, RunFault>
+) -> Result<PreparedAnswer, RunFault>
     ensures text { IfOk result (IsTextOfGoal jobs goal.now) }
     ensures refused { IfErr result (IsFaultOfGoal jobs goal.now) }
 {
@@ -101,10 +101,10 @@ pub fn make_answer<R: Threads + Wait + Sync>(
             Made::Quiet(agenda, *least)
         }
     };
-    Ok(Answer { made })
+    Ok(PreparedAnswer { made })
 }
 
-impl Answer {
+impl PreparedAnswer {
     /// Writes the text of the answer.
     ///
     /// # Errors

@@ -5,8 +5,8 @@
 //! `script`, the replies to a script, and `explain` what a code of an error or a warning means.
 //!
 //! The crate uses plan_threads, agenda_sources, agenda_script and agenda_codes, which do the work, and agenda_faults
-//! for the errors. There is a module for each command. Read `plan` first. The module `goal` makes an answer before a
-//! byte of it is written.
+//! for the errors. There is a module for each command. Read `plan` first. The module `goal` prepares an answer before
+//! a byte of it is written.
 #![tactic(auto)]
 
 mod check;
@@ -22,7 +22,7 @@ mod upcoming;
 
 pub use check::{Verdict, run_check};
 pub use explain::run_explain;
-pub use goal::{Answer, Goal, make_answer};
+pub use goal::{Goal, PreparedAnswer, prepare_answer};
 pub use input::Input;
 pub use laws::codes_are_explained;
 pub use next::run_next;
