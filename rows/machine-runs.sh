@@ -38,11 +38,13 @@ machine_locked() {
   done
 }
 
-# The script ends by a signal, $1, with the option of timeout in $2, while agenda runs: the temporary
-# directory is removed.
+# The script ends by a signal, $1, with the option of timeout in $2, while agenda runs: what agenda has reported
+# is printed, and the temporary directory is removed.
 machine_signalled() {
   local machine_by=(timeout ${2:+"$2"} -s "$1" 0.4)
-  MACHINE_SLEEPS=1.5 machine_run --root root plan
+  MACHINE_COMPLAINS='a\nb\n' MACHINE_SLEEPS=1.5 machine_run --root root plan
+  printf '%s\n' a b >"$work/err.wanted"
+  diff -u --label "standard error wanted" --label "standard error" "$work/err.wanted" "$work/err" >>"$work/told"
   [ -e "$MACHINE_LOG.words" ] || tell "agenda wasn't run"
   [ "$status" != 0 ] || tell "status 0"
   [ -z "$machine_left" ] || tell "left in the temporary folder: $machine_left"
@@ -84,10 +86,16 @@ machine_errors() {
   machine_compare "standard error that is closed" "$work/out.wanted" /dev/null 3
   MACHINE_SAYS='one\n' machine_run --root root plan
   machine_compare "standard error that is closed, and isn't needed" "$work/out.wanted" /dev/null 0
+  MACHINE_COMPLAINS='a\n' MACHINE_STATUS=1 machine_run --root root plan
+  machine_compare "an error, and standard error that is closed" /dev/null /dev/null 3
+  MACHINE_COMPLAINS='a\n' MACHINE_STATUS=2 machine_run --root root plan
+  machine_compare "a usage error, and standard error that is closed" /dev/null /dev/null 2
   if [ -c /dev/full ]; then
     machine_by=(bash -c 'exec "$@" 2>/dev/full' full)
     MACHINE_COMPLAINS='a\n' MACHINE_STATUS=1 machine_run --root root plan
     machine_compare "standard error that is full" /dev/null /dev/null 3
+    MACHINE_COMPLAINS='a\n' MACHINE_STATUS=2 machine_run --root root plan
+    machine_compare "a usage error, and standard error that is full" /dev/null /dev/null 2
     MACHINE_SAYS='one\n' machine_run --root root plan
     machine_compare "standard error that is full, and isn't needed" "$work/out.wanted" /dev/null 0
   fi
@@ -97,6 +105,41 @@ machine_errors() {
   sed -i "s, below $machine_temporary/.*, below TMP," "$work/err"
   echo "agenda-machine: can't write below TMP" >"$work/err.wanted"
   machine_compare "an error without a message" /dev/null "$work/err.wanted" 3
+  # a part of it
+  MACHINE_COMPLAINS='a\nb' MACHINE_STATUS=3 machine_run --root root plan
+  sed -i "s, below $machine_temporary/.*, below TMP," "$work/err"
+  printf '%s\n' a "agenda-machine: can't write below TMP" b >"$work/err.wanted"
+  machine_compare "an error with a part of a message" /dev/null "$work/err.wanted" 3
+  MACHINE_COMPLAINS='a\nb\n' MACHINE_STATUS=3 machine_run --root root plan
+  printf '%s\n' a b >"$work/err.wanted"
+  machine_compare "an error with its message" /dev/null "$work/err.wanted" 3
+}
+
+# Files of at most 1,024 bytes can be written: what agenda reports is cut, so there is no answer. The script's
+# own output goes to a pipe.
+machine_cut() {
+  # shellcheck disable=SC2016
+  local machine_by=(bash -c 'set -o pipefail; { ulimit -f 1; trap "" XFSZ; "$@" 2>&1; } | cat' cut)
+  machine_make "C/a=$(printf 'A\\n%.0s' {1..30})"
+  seq -f 'root/etc/cron.d/a:%g: error: expected NAME=VALUE, or five fields and a command [BadSetting]' 1 30 |
+    head -c 1024 >"$work/out.wanted"
+  printf '\n%s\n' "agenda-machine: can't write below TMP" >>"$work/out.wanted"
+  machine_run --root root plan
+  sed -i "s, below $machine_temporary/.*, below TMP," "$work/out"
+  machine_compare "a temporary directory that is full" "$work/out.wanted" /dev/null 3
+}
+
+# The help of agenda is no answer, so nothing is missing in it.
+machine_helps() {
+  local written wanted
+  local -a words
+  machine_make 'C/a/'
+  machine_left_out 'C/a not readable'
+  while IFS='|' read -r written wanted; do
+    read -r -a words <<<"$written"
+    machine_run --root root "${words[@]}"
+    machine_compare "$written, and a file that can't be read" /dev/null "$work/err.wanted" "$wanted"
+  done
 }
 
 # It needs only the programs of bash, coreutils and findutils.
@@ -256,6 +299,9 @@ machine_rests() {
   machine_run --root root upcoming --after 2024-01-01T00:00:00Z --crontab nothing
   machine_rest "two files that can't be read" '2024-01-02T00:00:00Z\tb:1\tx\n' \
     'agenda-machine: left out root/etc/cron.d/a: not readable\nagenda: nothing: Device\n' 3
+  machine_run --root root --strict upcoming --after 2024-01-01T00:00:00Z
+  machine_rest "a file that can't be read, with --strict" '2024-01-02T00:00:00Z\tb:1\tx\n' \
+    'agenda-machine: left out root/etc/cron.d/a: not readable\n' 1
   machine_make 'C/a=@daily\x20root\x20x S/a=@daily\x20x'
   mkdir -p "$machine_folder/more" && printf '@daily x\n' >"$machine_folder/more/a.user"
   machine_run --root root plan "${day[@]}" --spool more/a.user
@@ -286,6 +332,14 @@ fi
 machine_by=()
 machine_signals
 machine_errors
+machine_helps <<'ROWS'
+plan --help|0
+check -h|0
+upcoming --keep-going --help|0
+quiet -hx|0
+plan -- --help|1
+plan --crontab x|1
+ROWS
 machine_alone
 machine_settings
 
@@ -339,6 +393,7 @@ C/a=A|||C/a:1: error: expected NAME=VALUE, or five fields and a command [BadSett
 *a.timer E/a.timer/ U/a.timer=[Timer]\nOnCalendar=daily E/a.timer.d/x.conf!|00:00:00Z\ta.timer\ta.service|E/a.timer.d/x.conf not readable|
 ROWS
 machine_rests
+machine_cut
 # files as they are; one that gets another name; drop-ins, whose lines have their own numbers, and findings on
 # the whole; instances
 machine_checks short <<'ROWS'
