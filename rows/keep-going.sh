@@ -187,14 +187,38 @@ keep_shell() {
   compare "$1" "$work/agenda.headed" "$work/err.wanted" "$wanted"
 }
 
-# Rows from standard input: arguments that are a usage error.
+# Standard error that takes 1,024 bytes. If it fails while what is skipped is written, the status is 3 and nothing
+# is answered. If it fails later, in the line of another error, that error's status remains.
+keep_cut() {
+  local written bytes code path
+  while IFS='|' read -r written bytes code; do
+    # the line of a file that can't be read has 17 bytes besides its path
+    printf -v path '%*s' "$((bytes - 17))" ''
+    path=${path// /x}
+    run_in "$keep_folder" bash -c "ulimit -f 1; trap '' XFSZ; exec agenda ${written//DAY/${day[*]}} --keep-going $path"
+    printf 'agenda: %s: Device\nagenda: plan: %s\n' "$path" "$([[ $written = *--crontab* ]] && echo TooMany || echo BadLimit)" |
+      head -c 1024 >"$work/err.wanted"
+    compare "$written --keep-going with $bytes of 1,024 bytes for what is skipped" /dev/null "$work/err.wanted" "$code"
+  done
+}
+
+# More than 65,536 bytes are reported: all of them are, before the answer.
+keep_long() {
+  local reported
+  { yes '60 * * * * x' | head -n 1200 && echo '@daily a'; } >"$keep_folder/long"
+  reported=$(seq -f "long:%g: error: minute '60': out of range 0-59 [OutOfRange]" 1 1200 | paste -s -d ';')
+  [ ${#reported} -gt 65536 ] || tell "only ${#reported} bytes are reported"
+  count "--keep-going with many errors"
+  keep_three "cron:1201 a" "$reported" --crontab long
+}
+
+# Rows from standard input: arguments that are a usage error, and its escaped text before the last line.
 keep_usage() {
-  local written words
-  while IFS= read -r written; do
+  local written text words
+  while IFS='|' read -r written text; do
     read -r -a words <<<"${written//DAY/${day[*]}}"
     run_in "$keep_folder" agenda "${words[@]}"
-    cp "$work/err" "$work/err.wanted"
-    [ -s "$work/err" ] || tell "nothing on standard error"
+    printf '%b\n\nFor more information, try '\''--help'\''.\n' "$text" >"$work/err.wanted"
     compare "usage: $written" /dev/null "$work/err.wanted" 2
   done
 }
@@ -410,6 +434,17 @@ upcoming --after 2024-01-01T00:00:00Z --zone ./nothing --keep-going --crontab pa
 quiet DAY --zone ./nothing --keep-going --crontab part --least 0|3|!./nothing
 ROWS
 
+# No file is opened then: one that is opened here would wait for a writer.
+rm -f "$keep_folder/wait.timer"
+mkfifo "$keep_folder/wait.timer"
+keep_refused <<'ROWS'
+plan --since x --upto 2024-01-02T00:00:00Z --keep-going wait.timer|1|agenda: since: BadForm
+plan --since 2024-01-01T00:00:00Z --upto x --keep-going --crontab wait.timer|1|agenda: upto: BadForm
+plan DAY --zone Nowhere/City --keep-going --system-crontab wait.timer|1|agenda: zone: NoSuchZone
+quiet --since 2024-01-02T00:00:00Z --upto 2024-01-01T00:00:00Z --keep-going --cron-d wait.timer|1|agenda: span: Backwards
+upcoming --after x --keep-going --spool wait.timer|1|agenda: after: BadForm
+ROWS
+
 # Pipes, each of which is read once, and paths with odd names.
 keep_shell "printf '@daily a\\nx\\n' | agenda plan ${day[*]} --keep-going --crontab /dev/stdin" \
   "cron:1 a" "/dev/stdin:2: error: expected NAME=VALUE, or five fields and a command [BadSetting]"
@@ -425,13 +460,13 @@ keep_shell "agenda plan ${day[*]} --keep-going -- nothing.timer d.timer" "d.time
 
 # The option has no value and is given at most once. Other commands don't have it. After `--` it is a file.
 keep_usage <<'ROWS'
-plan DAY --keep-going --keep-going
-plan DAY --keep-going=yes
-quiet DAY --keep-going --crontab daily --keep-going
-upcoming --after 2024-01-01T00:00:00Z --keep
-check --keep-going --crontab daily
-next --after 2024-01-01T00:00:00Z --cron @daily --keep-going
-plan --keep-going --crontab daily
+plan DAY --keep-going --keep-going|error: the argument '--keep-going' cannot be used multiple times\n\nUsage: agenda plan [OPTIONS] --since <T> --upto <T> [TIMER]...
+plan DAY --keep-going=yes|error: unexpected value 'yes' for '--keep-going' found; no more were expected\n\nUsage: agenda plan --since <T> --upto <T> --keep-going [TIMER]...
+quiet DAY --keep-going --crontab daily --keep-going|error: the argument '--keep-going' cannot be used multiple times\n\nUsage: agenda quiet [OPTIONS] --since <T> --upto <T> [TIMER]...
+upcoming --after 2024-01-01T00:00:00Z --keep|error: unexpected argument '--keep' found\n\n  tip: a similar argument exists: '--keep-going'\n\nUsage: agenda upcoming --after <T> --keep-going [TIMER]...
+check --keep-going --crontab daily|error: unexpected argument '--keep-going' found\n\n  tip: to pass '--keep-going' as a value, use '-- --keep-going'\n\nUsage: agenda check [OPTIONS] [TIMER]...
+next --after 2024-01-01T00:00:00Z --cron @daily --keep-going|error: unexpected argument '--keep-going' found\n\nUsage: agenda next --after <T> [--zone <ZONE>] [--count <N>] (--cron <TEXT> | --calendar <TEXT>)
+plan --keep-going --crontab daily|error: the following required arguments were not provided:\n  --since <T>\n  --upto <T>\n\nUsage: agenda plan --since <T> --upto <T> --keep-going --crontab <F> [TIMER]...
 ROWS
 keep_refused <<'ROWS'
 plan DAY -- --keep-going|3|!--keep-going
@@ -440,6 +475,17 @@ plan DAY --crontab part|1|agenda: crontab: line 1: part 1: OutOfRange
 ROWS
 
 keep_streams
+keep_cut <<'ROWS'
+plan DAY --limit 0|1024|1
+plan DAY --limit 0|1023|1
+plan DAY --limit 0|1010|1
+plan DAY --limit 0|1025|3
+quiet DAY --limit 0|1024|1
+plan DAY --system-crontab system --crontab daily --limit 1|1024|1
+quiet DAY --system-crontab system --crontab daily --limit 1|1020|1
+plan DAY --system-crontab system --crontab daily --limit 1|1025|3
+ROWS
+keep_long
 
 # The errors are those of `check`, for the files of other rows.
 keep_as_check <<'ROWS'
