@@ -1,18 +1,18 @@
 #!/usr/bin/env bash
-# Makes one agenda of many machines: plans a span for each directory with a machine's files, several in parallel, and merges the answers
-# by time.
+# Makes one agenda of many machines: plans a span for each directory with a machine's files, several in parallel, and
+# merges the answers by time.
 #
 # Usage: fleet.sh [--limit COUNT] SINCE UPTO DIRECTORY ..
 #
-# SINCE and UPTO are times as agenda-machine reads them. COUNT is the maximum number of starts of a machine. Texts of times are read in UTC,
-# and rules in the time zone of their machine. A line has the time, the machine, the job and what it runs, separated by tabs. There is no
-# header. A machine has the name of its directory. Lines with the same time are in the order of the directories, and lines of one machine
-# stay in its order.
+# SINCE and UPTO are times as agenda-machine reads them. COUNT is the maximum number of starts of a machine. Texts of
+# times are read in UTC, and rules in the time zone of their machine. A line has the time, the machine, the job and
+# what it runs, separated by tabs. There is no header. A machine has the name of its directory. Lines with the same
+# time are in the order of the directories, and lines of one machine stay in its order.
 #
-# Messages about a machine go to standard error, each line after the machine's name. What is invalid or can't be read is skipped, and the
-# agenda has the other starts of the machine. If a machine has no answer, a line says why. The status is 1 if there was an error on any
-# machine, 2 for a usage error, and 3 if the answers can't be kept or merged. An error of the span or of the limit ends the script with the
-# status of agenda-machine.
+# Messages about a machine go to standard error, each line after the machine's name. What is invalid or can't be read
+# is skipped, and the agenda has the other starts of the machine. If a machine has no answer, a line says why. The
+# status is 1 if there was an error on any machine, 2 for a usage error, and 3 if the answers can't be kept or merged.
+# An error of the span or of the limit ends the script with the status of agenda-machine.
 set -uf -o pipefail
 export LC_ALL=C
 
@@ -32,15 +32,17 @@ find_name() {
   return 1
 }
 
-# Writes the agenda of the machine in the directory $1, with its name in each line and without the header. Makes the file $2 if there is a
-# header: then the machine has an answer, even if something was skipped.
+# Writes the agenda of the machine in the directory $1, with its name in each line and without the header. Makes the
+# file $2 if there is a header: then the machine has an answer, even if something was skipped.
 write_lines() {
   agenda-machine --root "$1" plan --limit "$limit" --since "$since" --upto "$upto" |
-    NAME=$name HEADED=$2 awk 'NR == 1 { printf "" >(ENVIRON["HEADED"]); next } { print substr($0, 1, 21) ENVIRON["NAME"] substr($0, 21) }'
+    NAME=$name HEADED=$2 awk '
+      NR == 1 { printf "" >(ENVIRON["HEADED"]); next }
+      { print substr($0, 1, 21) ENVIRON["NAME"] substr($0, 21) }'
 }
 
-# Writes the messages about a machine, which are on standard input. If there are none and its plan didn't end with status 0, a line has the
-# status, $1.
+# Writes the messages about a machine, which are on standard input. If there are none and its plan didn't end with
+# status 0, a line has the status, $1.
 write_said() {
   local line said=no
   while IFS= read -r line; do
@@ -50,9 +52,9 @@ write_said() {
   [[ $1 = 0 || $said = yes ]] || printf '%s: status %s\n' "$name" "$1"
 }
 
-# Plans machine number $5, whose files are in the directory $6. Its lines go to $1/$5/lines, and the messages about it to $1/$5/said. If it
-# has an answer, there is a file $1/$5/done. If there was no error, there is also a file $1/$5/whole. The span is $2 to $3, and the limit is
-# $4.
+# Plans machine number $5, whose files are in the directory $6. Its lines go to $1/$5/lines, and the messages about it
+# to $1/$5/said. If it has an answer, there is a file $1/$5/done. If there was no error, there is also a file
+# $1/$5/whole. The span is $2 to $3, and the limit is $4.
 plan_machine() {
   local own=$1/$5 folder=$6 name status=1
   since=$2 upto=$3 limit=$4
@@ -126,7 +128,8 @@ run() {
   return "$status"
 }
 
-# Sets `since` and `upto` to the timestamps of the span, the same for all machines. They are those in the agenda of a machine without files.
+# Sets `since` and `upto` to the timestamps of the span, the same for all machines. They are those in the agenda of a
+# machine without files.
 settle_span() {
   local header
   header=$(agenda-machine --root "$work/none" plan --limit "$limit" --since "$since" --upto "$upto") || exit
