@@ -20,6 +20,7 @@ agendas_files() {
   printf '# no job\n' >"$agendas_folder/none"
   printf '* * * * * x' >"$agendas_folder/minutes"
   yes '* * * * * x' | head -n 1000 >"$agendas_folder/thousand"
+  yes '@daily x' | head -n 100 >"$agendas_folder/hundred"
   printf '[Timer]\nOnCalendar=*:*:*\n' >"$agendas_folder/s.timer"
   # a reset empties the list, and two events at the same second are one start
   printf '[Timer]\nOnCalendar=hourly\nOnCalendar=\nOnCalendar=daily\nOnCalendar=*-*-* 00:00:00\n' \
@@ -178,7 +179,8 @@ agendas_of_a_thousand_jobs
 agendas_of_a_long_line
 
 # Sizes are checked before limits, and both before the plan. One start more than the limit is rejected. The
-# last row has a minute more than the largest agenda.
+# limit may be exceeded long before the planners have sent all starts. The last row has a minute more than the
+# largest agenda.
 agendas_refused <<'END'
 2024-01-02T00:00:00Z|--limit 0 --planners 0 --room 1 --crontab nightly rot.timer|BadSize
 2024-01-02T00:00:00Z|--limit 0 --planners 9 --room 1 --crontab nightly rot.timer|BadSize
@@ -191,6 +193,14 @@ agendas_refused <<'END'
 2024-01-01T01:00:00Z|--limit 1 --crontab minutes|TooMany
 2024-01-01T01:00:00Z|--limit 0 --crontab minutes|BadLimit
 2024-01-01T01:00:00Z|--limit 1000001 --crontab minutes|BadLimit
+2024-01-01T00:01:00Z|--limit 2 --planners 1 --room 1 --crontab thousand|TooMany
+2024-01-01T00:01:00Z|--limit 2 --planners 2 --room 1 --crontab thousand|TooMany
+2024-01-01T00:01:00Z|--limit 2 --planners 8 --room 1 --crontab thousand|TooMany
+2024-01-01T00:01:00Z|--limit 999 --planners 2 --room 1024 --crontab thousand|TooMany
+2024-01-02T00:00:00Z|--limit 40 --crontab hundred|TooMany
+2024-01-02T00:00:00Z|--limit 40 --planners 1 --room 1 --crontab hundred|TooMany
+2024-01-02T00:00:00Z|--limit 40 --planners 2 --room 1 --crontab hundred|TooMany
+2024-01-02T00:00:00Z|--limit 99 --planners 8 --room 1 --crontab hundred|TooMany
 2024-01-02T00:00:00Z|--limit 86399 s.timer|TooMany
 2024-01-01T16:41:00Z|--limit 1000000 --crontab thousand|TooMany
 END
