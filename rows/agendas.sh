@@ -125,13 +125,18 @@ agendas_of_a_thousand_jobs() {
   compare_texts "the bytes of the largest agenda" $'31893059 agenda.headed\n' '' 0
 }
 
-# A command that is longer than the output buffer, between two short ones.
+# A long command, between two short ones. The output buffer holds 65,536 bytes. A line has 29 bytes besides
+# its command, and what comes after the time and its tab has 8. So the commands make a line of exactly the
+# buffer's size, one that is longer by a byte, the same for what comes after the time, and a line of three
+# buffers.
 agendas_of_a_long_line() {
-  local long moment="2024-01-01T00:00:00Z"
-  long=$(printf 'x%.0s' {1..9000})
-  printf '@daily a\n@daily %s\n@daily c\n' "$long" >"$agendas_folder/long"
-  printf '%s\tcron:%d\t%s\n' "$moment" 1 a "$moment" 2 "$long" "$moment" 3 c >"$work/agenda.wanted"
-  agendas_same 2024-01-02T00:00:00Z "1 2 8" 1 --limit 3 --crontab long
+  local long bytes moment="2024-01-01T00:00:00Z"
+  for bytes in 65507 65508 65528 65529 196579; do
+    long=$(head -c "$bytes" /dev/zero | tr '\0' x)
+    printf '@daily a\n@daily %s\n@daily c\n' "$long" >"$agendas_folder/long-$bytes"
+    printf '%s\tcron:%d\t%s\n' "$moment" 1 a "$moment" 2 "$long" "$moment" 3 c >"$work/agenda.wanted"
+    agendas_same 2024-01-02T00:00:00Z "1 2 8" 1 --limit 3 --crontab "long-$bytes"
+  done
 }
 
 agendas_files
