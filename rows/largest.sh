@@ -49,7 +49,7 @@ largest_newlines() {
 
 # One line has all 1,048,576 bytes, or as many as remain.
 largest_lines() {
-  local long
+  local long name
   long=$(yes x | tr -d '\n' | head -c 1048569)
   printf '@daily %s' "$long" >"$largest_folder/line"
   largest_run line 1 plan "${largest_day[@]}" --crontab line
@@ -59,6 +59,12 @@ largest_lines() {
   largest_run line.timer 1 plan "${largest_day[@]}" line.timer
   printf '%s\tline.timer\t%s\n' "$largest_since" "${long:0:1048546}" >"$work/agenda.wanted"
   compare_agenda "a timer of 1,048,576 bytes, most of them the unit" "$work/agenda.wanted"
+  # the longest name: this takes memory for the sum of the two lengths, and not for their product
+  name=$(printf 'n%.0s' {1..249})
+  cp "$largest_folder/line.timer" "$largest_folder/$name.timer"
+  largest_run line.timer 1 plan "${largest_day[@]}" "$name.timer"
+  printf '%s\t%s\t%s\n' "$largest_since" "$name.timer" "${long:0:1048546}" >"$work/agenda.wanted"
+  compare_agenda "a timer of 1,048,576 bytes with a name of 255" "$work/agenda.wanted"
   yes 1 | tr -d '\n' | largest_file digits 1048576
   largest_text "a line of 1,048,576 digits" digits "agenda: crontab: line 1: part 0: WrongParts"
   { yes 1 | tr -d '\n' | head -c 1048566 && printf ' * * * * x'; } | largest_file digits 1048576
@@ -110,6 +116,26 @@ largest_jobs() {
   compare "the next starts of 1,000 jobs of 1,048,576 bytes" "$work/upcoming.wanted" /dev/null 0
   yes '@daily x' | largest_file jobs 1048572
   largest_text "116,508 jobs" jobs "agenda: jobs: Full"
+}
+
+# 100 timers of 25 bytes each: a small file doesn't take the memory of a large one.
+largest_files() {
+  local number files=()
+  for number in {001..100}; do
+    files+=("$number.timer")
+    printf '[Timer]\nOnCalendar=daily\n' >"$largest_folder/$number.timer"
+    printf '%s\t%s.timer\t%s.service\n' "$largest_since" "$number" "$number"
+  done >"$work/agenda.wanted"
+  largest_run 001.timer 100 plan "${largest_day[@]}" --limit 100 "${files[@]}"
+  compare_agenda "100 small timers" "$work/agenda.wanted"
+  sed 's/^[^\t]*/2024-01-02T00:00:00Z/' "$work/agenda.wanted" >"$work/upcoming.wanted"
+  largest_run 001.timer 0 upcoming --after "$largest_since" "${files[@]}"
+  compare "the next starts of 100 small timers" "$work/upcoming.wanted" /dev/null 0
+  printf '%s\t2024-01-02T00:00:00Z\t86400\n' "$largest_since" >"$work/gaps.wanted"
+  largest_run 001.timer 100 quiet "${largest_day[@]}" "${files[@]}"
+  compare "the gaps of 100 small timers" "$work/gaps.wanted" /dev/null 0
+  largest_run 001.timer 0 check "${files[@]}"
+  compare "check of 100 small timers" /dev/null /dev/null 0
 }
 
 # What `check` reports about texts of 1,048,576 bytes: an error in each line, a job in each line, or an event
@@ -243,6 +269,7 @@ largest_lines
 largest_resets
 largest_continued
 largest_jobs
+largest_files
 largest_checks
 largest_quotes
 largest_agendas
