@@ -91,6 +91,41 @@ devices_streams() {
     $'agenda: Device\n' 3
 }
 
+# The help of each command, most of which is longer than 1,024 bytes: to a pipe it is whole, and to a device
+# that is full it is an error.
+devices_help() {
+  local command to
+  for command in '' next plan upcoming quiet check steps explain; do
+    devices_run "exec agenda $command --help"
+    cp "$work/out" "$work/help.wanted"
+    [ -s "$work/out" ] || tell "nothing on standard output"
+    compare "agenda $command --help" "$work/help.wanted" /dev/null 0
+    devices_run "agenda $command --help | cat; exit \"\${PIPESTATUS[0]}\""
+    compare "agenda $command --help to a pipe" "$work/help.wanted" /dev/null 0
+    for to in '>/dev/full' '>&-'; do
+      [[ $to != *full ]] || [ -c /dev/full ] || continue
+      devices_run "exec agenda $command --help $to"
+      is_refused "agenda $command --help $to" Device 3
+    done
+  done
+}
+
+# Rows from standard input: arguments before a path of 2,000 bytes, whose error is longer than 1,024 bytes. To a
+# pipe it is whole, and the status doesn't depend on standard error.
+devices_long_paths() {
+  local path words to
+  path=$(printf 'p%.0s' {1..2000})
+  while IFS= read -r words; do
+    devices_run "agenda $words $path 2>&1 >/dev/null | cat; exit \"\${PIPESTATUS[0]}\""
+    compare_texts "agenda $words PATH to a pipe" "agenda: $path: Device"$'\n' '' 3
+    for to in '2>/dev/full' '2>&-'; do
+      [[ $to != *full ]] || [ -c /dev/full ] || continue
+      devices_run "exec agenda $words $path $to"
+      compare_texts "agenda $words PATH $to" '' '' 3
+    done
+  done
+}
+
 devices_refused <<'ROWS'
 plan --crontab /dev/zero|1|crontab: line 0: TooLarge
 plan --system-crontab /dev/zero|1|system crontab: line 0: TooLarge
@@ -145,3 +180,10 @@ check loop.timer|3
 ROWS
 fi
 devices_streams
+devices_help
+devices_long_paths <<'ROWS'
+steps
+plan --since 2024-01-01T00:00:00Z --upto 2024-01-02T00:00:00Z --crontab
+upcoming --after 2024-01-01T00:00:00Z --cron-d
+check --crontab jobs --spool
+ROWS
