@@ -142,6 +142,26 @@ machine_helps() {
   done
 }
 
+# Standard output fails: the status of each command is 3, and standard error says so. The crontab has a warning,
+# so that check would end with 0.
+machine_streams() {
+  local to strict command machine_by machine_bin=$machine_folder/whole
+  machine_make 'C/a=0\x200\x2031\x202\x20*\x20root\x20x\n'
+  for to in '>&-' '>/dev/full'; do
+    [[ $to != *full ]] || [ -c /dev/full ] || continue
+    machine_by=(bash -c "exec \"\$@\" $to" streams)
+    for strict in '' --strict; do
+      for command in sources check plan upcoming quiet; do
+        machine_run --root root ${strict:+"$strict"} "$command"
+        [ "$status" = 3 ] || tell "status $status"
+        [ -s "$work/err" ] || tell "nothing on standard error"
+        [ -z "$machine_left" ] || tell "left in the temporary folder: $machine_left"
+        count "agenda-machine: ${strict:+$strict }$command $to"
+      done
+    done
+  done
+}
+
 # It needs only the programs of bash, coreutils and findutils.
 machine_alone() {
   local path folder=$machine_folder/programs
@@ -340,6 +360,7 @@ quiet -hx|0
 plan -- --help|1
 plan --crontab x|1
 ROWS
+machine_streams
 machine_alone
 machine_settings
 
