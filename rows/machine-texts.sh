@@ -119,6 +119,34 @@ etc/cron.d>$machine_folder/out.d||etc/cron.d not readable
 *a.timer U/a.timer E/a.timer.d/x.conf>$machine_folder/outside|U/a.timer|E/a.timer.d/x.conf not readable
 ROWS
 
+# Prints a root in which the path $1 leads to /x by $2 links. $3 are its other entries.
+machine_chain() {
+  local number
+  printf '%s %s>/l/2' "$3" "$1"
+  for ((number = 2; number < $2; number++)); do
+    printf ' l/%d>%d' "$number" $((number + 1))
+  done
+  printf ' l/%d>/x' "$2"
+}
+
+# Rows from standard input: a path that is found by 40 links and not by 41, the other entries of the root, and
+# the option and the name of the source.
+machine_chains() {
+  local path others name
+  while IFS='|' read -r path others name; do
+    machine_texts < <(printf '%s|%s|A\\n\n' "$(machine_chain "$path" 40 "$others")" "$name")
+    machine_sources < <(printf '%s||%s not readable\n' "$(machine_chain "$path" 41 "$others")" "$path")
+  done
+}
+
+machine_chains <<'ROWS'
+etc/crontab|x=A\n|system-crontab crontab
+C/a|x=A\n|cron-d a
+S/a|x=A\n|spool a
+E/a.timer|x=A\n *a.timer|timer a.timer
+etc/cron.d|x/a=A\n|cron-d a
+ROWS
+
 # How files are merged: an empty line and a line [Unit] between them, and a newline at the end of each file.
 machine_texts <<'ROWS'
 *a.timer U/a.timer=A|timer a.timer|A
