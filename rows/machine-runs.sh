@@ -430,6 +430,8 @@ C/a=0\x200\x2013\x20*\x205\x20root\x20a *a.timer U/a.timer=[Timer]\n|C/a:1: warn
 *a.timer U/a.timer=[Unit]\n E/a.timer.d/x.conf=OnCalendar=x|U/a.timer: error [NoTimerSection]
 *a.timer U/a.timer=[Timer]\nOnCalendar=daily\n E/a.timer.d/x.conf=\xff|U/a.timer: error [NotUtf8]
 *a.timer U/a.timer=[Timer]\nOnCalendar=Mon\\ E/a.timer.d/x.conf=[Timer]\nOnCalendar=Mon\\\n25:00|E/a.timer.d/x.conf:2: error hour [OutOfRange]
+*a.timer U/a.timer=[Timer]\nOnCalendar=daily\n#\0 E/a.timer.d/x.conf=[Timer]\nOnCalendar=x|E/a.timer.d/x.conf:2: error [UnknownWord]
+*a.timer E/a.timer>/opt/x opt/x=[Timer]\nOnCalendar=daily E/a.timer.d/x.conf=[Timer]\nOnCalendar=x|E/a.timer.d/x.conf:2: error [UnknownWord]
 *a@b.timer U/a@.timer=[Timer]\nOnCalendar=%H|U/a@.timer:2: error [Specifier]
 *a@4.timer *a@24.timer U/a@.timer=[Timer]\nOnCalendar=%i:00|U/a@.timer:2: error hour [OutOfRange]
 *a@b.timer *a@c.timer U/a@.timer=[Timer]\n|U/a@.timer: warning [NoEvents];U/a@.timer: warning [NoEvents]

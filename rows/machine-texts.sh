@@ -189,7 +189,8 @@ machine_texts <<'ROWS'
 *a@b.timer U/a@.timer=A\0%i\0\n|timer a-b.timer|A\0b\0\n
 ROWS
 
-# Findings on merged, renamed and other files, which are reported for the place where they were found.
+# Findings on merged, renamed and other files, which are reported for the place where they were found. A file
+# may end without a newline, have a NUL byte, or be at the end of a link.
 machine_findings <<'ROWS'
 etc/crontab=p\nq\n C/a=r\n S/b=s\n|etc/crontab;etc/crontab:1: p;etc/crontab:2: q;C/a;C/a:1: r;S/b;S/b:1: s
 C/a=r\n S/a=s\nt\n|C/a;C/a:1: r;S/a;S/a:1: s;S/a:2: t
@@ -200,6 +201,13 @@ C/a=r\n S/a=s\nt\n|C/a;C/a:1: r;S/a;S/a:1: s;S/a:2: t
 *a@b.timer U/a@.timer=p%i\n E/a@b.timer.d/x.conf=%n\n|U/a@.timer;U/a@.timer:1: pb;E/a@b.timer.d/x.conf:1: a@b.timer
 *a@b.timer *a@c.timer U/a@.timer=%i\n|U/a@.timer;U/a@.timer:1: b;U/a@.timer;U/a@.timer:1: c
 *a:1.timer *a.timer U/a:1.timer=p\n U/a.timer=q\n U/timer.d/x:2.conf=r\n|U/a.timer;U/a.timer:1: q;U/timer.d/x:2.conf:1: r;U/a:1.timer;U/a:1.timer:1: p;U/timer.d/x:2.conf:1: r
+*a.timer U/a.timer=p\0 E/a.timer.d/x.conf=r\n|U/a.timer;U/a.timer:1: p;E/a.timer.d/x.conf:1: r
+*a.timer U/a.timer=p\n\0q E/a.timer.d/x.conf=\nr|U/a.timer;U/a.timer:1: p;U/a.timer:2: q;E/a.timer.d/x.conf:2: r
+*a.timer U/a.timer=\0p\n E/a.timer.d/x.conf=r\n|U/a.timer;U/a.timer:1: p;E/a.timer.d/x.conf:1: r
+*a.timer U/a.timer=p\n E/a.timer.d/x.conf=q\0 E/a.timer.d/y.conf=r|U/a.timer;U/a.timer:1: p;E/a.timer.d/x.conf:1: q;E/a.timer.d/y.conf:1: r
+*a.timer E/a.timer>/opt/x opt/x=p E/a.timer.d/x.conf=r\n|E/a.timer;E/a.timer:1: p;E/a.timer.d/x.conf:1: r
+*a.timer U/a.timer=p E/a.timer.d/x.conf>/opt/x opt/x=q E/a.timer.d/y.conf=r|U/a.timer;U/a.timer:1: p;E/a.timer.d/x.conf:1: q;E/a.timer.d/y.conf:1: r
+*a@b.timer U/a@.timer=%i\0 E/a@.timer.d/x.conf=r|U/a@.timer;U/a@.timer:1: b;E/a@.timer.d/x.conf:1: r
 etc/crontab>/opt/x opt/x=p\n C/a>../../opt/y opt/y=q\n S/b>/opt/y|etc/crontab;etc/crontab:1: p;C/a;C/a:1: q;S/b;S/b:1: q
 *a.timer E/a.timer>/opt/x opt/x=p\n|E/a.timer;E/a.timer:1: p
 *a.timer E/a.timer>../../../opt/x opt/x=p\n E/a.timer.d/x.conf>/opt/y opt/y=q\n|E/a.timer;E/a.timer:1: p;E/a.timer.d/x.conf:1: q
