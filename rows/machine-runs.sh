@@ -162,6 +162,22 @@ machine_streams() {
   done
 }
 
+# The help, and a check that finds an error, without an output.
+machine_unsaid() {
+  local to machine_by machine_bin=$machine_folder/whole
+  machine_make 'C/a=A\n'
+  for to in '>&-' '>/dev/full'; do
+    [[ $to != *full ]] || [ -c /dev/full ] || continue
+    machine_by=(bash -c "exec \"\$@\" $to" streams)
+    machine_run --help
+    [ "$status" = 3 ] || tell "status $status"
+    count "agenda-machine: --help $to"
+    machine_run --root root check
+    [ "$status" = 3 ] || tell "status $status"
+    count "agenda-machine: check of an error $to"
+  done
+}
+
 # It needs only the programs of bash, coreutils and findutils.
 machine_alone() {
   local path folder=$machine_folder/programs
@@ -361,6 +377,7 @@ plan -- --help|1
 plan --crontab x|1
 ROWS
 machine_streams
+machine_unsaid
 machine_alone
 machine_settings
 
