@@ -204,21 +204,35 @@ fn an_answer_of_check_that_fails_at_each_byte(rt: HostRuntime) -> Result<(), Fai
 }
 
 // Asserts that arguments write nothing to standard output, and end with this status if standard error fails
-// at any byte of their line.
+// after this number of bytes of their line.
+fn faults_after(
+    rt: &(impl Threads + Wait + Sync + Abort + AllocGlobal),
+    words: &str,
+    held: &[(&str, &[u8])],
+    line: &[u8],
+    room: usize,
+    wanted: u8,
+) -> Result<(), Fail> {
+    let mut files = FewFiles::new(held, 4_096, false);
+    let mut out = Limited::ample();
+    let mut err = Limited::new(room, 5, End::TakesNothing);
+    let status = run(rt, words, &mut files, &mut out, &mut err)?;
+    assert_eq!(rt; status, wanted, "{room}");
+    assert_eq!(rt; out.calls, 0);
+    assert_eq!(rt; Some(err.bytes()), line.get(..room));
+    Ok(())
+}
+
+// Asserts the same for each number of bytes.
 fn faults_at_each_byte(
     rt: &(impl Threads + Wait + Sync + Abort + AllocGlobal),
     words: &str,
+    held: &[(&str, &[u8])],
     line: &[u8],
     wanted: u8,
 ) -> Result<(), Fail> {
     for room in 0..line.len() {
-        let mut files = FewFiles::new(&STEPS, 4_096, false);
-        let mut out = Limited::ample();
-        let mut err = Limited::new(room, 5, End::TakesNothing);
-        let status = run(rt, words, &mut files, &mut out, &mut err)?;
-        assert_eq!(rt; status, wanted, "{room}");
-        assert_eq!(rt; out.calls, 0);
-        assert_eq!(rt; err.bytes(), &line[..room]);
+        faults_after(rt, words, held, line, room, wanted)?;
     }
     Ok(())
 }
@@ -228,16 +242,66 @@ fn standard_error_that_fails_at_each_byte(rt: HostRuntime) -> Result<(), Fail> {
     faults_at_each_byte(
         &rt,
         "agenda|next|--after|2024-01-01T00:00:00Z|--cron|60 * * * *",
+        &STEPS,
         b"agenda: rule: part 1: OutOfRange\n",
         1,
     )?;
     faults_at_each_byte(
         &rt,
         "agenda|next|--after|2024-01-01T00:00:00Z",
+        &STEPS,
         b"exactly one of --cron and --calendar\n",
         2,
     )?;
-    faults_at_each_byte(&rt, "agenda|steps|b", b"agenda: b: Device\n", 3)
+    let line = b"agenda: b: Device\n";
+    faults_at_each_byte(&rt, "agenda|steps|b", &STEPS, line, 3)
+}
+
+// A crontab with a job and an error. The other source of `SKIPPING` is missing.
+const BROKEN: [(&str, &[u8]); 1] = [("crontab", b"@daily b\n@dayly c\n")];
+
+const SKIPPING: &str =
+    "agenda|upcoming|--after|2024-01-01T00:00:00Z|--keep-going|--crontab|crontab|a b.timer";
+
+const SKIPPED_TEXT: &str = "agenda: a b.timer: Device\n\
+    crontab:2: error: unknown word '@dayly' [UnknownWord]\n";
+
+// Each path is opened once, and each stream gets its text by one write.
+#[test]
+fn a_request_that_keeps_going(rt: HostRuntime) -> Result<(), Fail> {
+    let files = FewFiles::new(&BROKEN, 4_096, false);
+    let answer = "2024-01-02T00:00:00Z\tcron:1\tb\n";
+    leaves(&rt, SKIPPING, files, 3, (answer, SKIPPED_TEXT), 2)
+}
+
+// If what is skipped can't be reported, nothing goes to standard output.
+#[test]
+fn skipped_lines_that_fail_at_each_byte(rt: HostRuntime) -> Result<(), Fail> {
+    faults_at_each_byte(&rt, SKIPPING, &BROKEN, SKIPPED_TEXT.as_bytes(), 3)?;
+    let mut files = FewFiles::new(&BROKEN, 4_096, false);
+    let (mut out, mut err) = (Limited::ample(), Limited::ample());
+    err.flush_fails = true;
+    let status = run(&rt, SKIPPING, &mut files, &mut out, &mut err)?;
+    assert_eq!(rt; status, 3);
+    assert_eq!(rt; out.calls, 0);
+    Ok(())
+}
+
+// The texts of help are longer than what a writer of these tests keeps.
+#[test]
+fn help_that_is_not_flushed(rt: HostRuntime) -> Result<(), Fail> {
+    for words in ["agenda|--help", "agenda|plan|--help", "agenda|--version"] {
+        for (flush_fails, wanted, line) in [(false, 0, ""), (true, 3, "agenda: Device\n")] {
+            let mut files = FewFiles::new(&[], 4_096, false);
+            let mut out = Limited::new(65_536, 65_536, End::Error);
+            let mut err = Limited::ample();
+            out.flush_fails = flush_fails;
+            let status = run(&rt, words, &mut files, &mut out, &mut err)?;
+            assert_eq!(rt; status, wanted, "{words}");
+            assert_eq!(rt; err.bytes(), line.as_bytes());
+        }
+    }
+    Ok(())
 }
 
 // A crontab with one job that starts at midnight, and a timer that does.
