@@ -7,11 +7,10 @@ use Rattle.agenda_faults.specs.declared.faults.Failure.TheVariants.{Run}
 use Rattle.agenda_faults.specs.declared.faults.RunFault.TheVariants.{NoMemory}
 use Rattle.agenda_commands.specs.declared.Input.{Input}
 use Rattle.agenda_commands.specs.declared.Goal.{Goal}
-use Rattle.agenda_answers.specs.declared.keeping.Tried.{Tried}
 use Rattle.agenda_answers.specs.Answer.{Ends, Leaves, Printed, Stream}
 use Rattle.agenda_answers.specs.Files.{Held}
 use Rattle.agenda_answers.specs.Keeping.{EndsWith, kept_of}
-use Rattle.agenda_answers.specs.Sources.{input_of, tries_from, with_tried}
+use Rattle.agenda_answers.specs.Sources.{input_of, tries_of}
 use Rattle.agenda_answers.specs.Steps.{Step, gives, stops, goes, ◌>>=◌}
 use Rattle.agenda_answers.specs.Zone.{clock_of}
 
@@ -21,13 +20,13 @@ pub data FailsFirst (held : Held) (goal : Result Goal Failure) (jobs : JobsReque
   of_zone : (found : Goal) → goal ≡ Ok found → clock_of held jobs.zone (Err failure) → FailsFirst held goal jobs failure
 
 no_memory_in_tries :
-    (held : Held) (tried : Tried) (paths : List SourcePath) (failure : Failure) → tries_from held tried paths (Err failure) →
-    failure ≡ Run NoMemory
-unfolding tries_from
-no_memory_in_tries held tried [] failure is = absurd cc
-no_memory_in_tries held tried (given ∷ paths) failure (stops found is same) = let one : failure ≡ found = cc in one ∙ is
-no_memory_in_tries held tried (given ∷ paths) failure (goes source is more) =
-    no_memory_in_tries held (with_tried tried given source) paths failure more
+    (held : Held) (paths : List SourcePath) (failure : Failure) → tries_of held paths (Err failure) → failure ≡ Run NoMemory
+unfolding tries_of
+no_memory_in_tries held [] failure is = absurd cc
+no_memory_in_tries held (given ∷ paths) failure (stops found is same) = let one : failure ≡ found = cc in one ∙ is
+no_memory_in_tries held (given ∷ paths) failure (goes source is (stops found more same)) =
+    let one : failure ≡ found = cc in one ∙ no_memory_in_tries held paths found more
+no_memory_in_tries held (given ∷ paths) failure (goes source is (goes others are same)) = absurd cc
 
 pub fails_first :
     (held : Held) (goal : Result Goal Failure) (jobs : JobsRequest) (failure : Failure) → kept_of held goal jobs (Err failure) →
@@ -36,7 +35,7 @@ fails_first held (Err found) jobs failure is other = of_goal (let same : failure
 fails_first held (Ok found) jobs failure (stops first zone is) other =
     of_zone found refl (let same : failure ≡ first = cc in subst (λ f. clock_of held jobs.zone (Err f)) (sym same) zone)
 fails_first held (Ok found) jobs failure (goes clock zone (stops first tried is)) other =
-    absurd (other (let same : failure ≡ first = cc in same ∙ no_memory_in_tries held _ jobs.sources first tried))
+    absurd (other (let same : failure ≡ first = cc in same ∙ no_memory_in_tries held jobs.sources first tried))
 fails_first held (Ok found) jobs failure (goes clock zone (goes tried read (stops first answer is))) other =
     absurd (other (let same : failure ≡ first = cc in same ∙ answer))
 fails_first held (Ok found) jobs failure (goes clock zone (goes tried read (goes answer is done))) other = absurd cc

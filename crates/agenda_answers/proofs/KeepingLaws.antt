@@ -1,5 +1,5 @@
 -- If nothing is skipped, a request that keeps going ends as one that doesn't.
-use Rattle.std.proofs.Common.{◌≡◌, inl, inr, ℕ, Bool, List, [], ◌∷◌, ◌++◌, Option, None, Some, Result, Ok, Err, refl, ap, sym, subst, ◌∙◌, append_assoc, append-nil, take}
+use Rattle.std.proofs.Common.{◌≡◌, inl, inr, ℕ, Bool, List, [], ◌∷◌, Option, None, Some, Result, Ok, Err, refl, ap, sym, subst, ◌∙◌, append-nil, take}
 use Rattle.std.specs.Io.KnownBytes.{Appends, Keeps}
 use Rattle.std.proofs.KnownBytes.{Appends-kept, Appends-trans}
 use Rattle.plan_clock.specs.declared.row.Change.{Change}
@@ -30,49 +30,28 @@ use Rattle.agenda_answers.specs.Answer.{Ends, HoldsAfter, Leaves, Printed, Strea
 use Rattle.agenda_answers.specs.Files.{Held}
 use Rattle.agenda_answers.specs.Keeping.{AnswersBy, Outcome, Reports, answer_of, kept_by, lines_of_skipped, plan_goal, printed, quiet_goal, skipped_status, upcoming_goal}
 use Rattle.agenda_answers.specs.Program.{ChangesNothing, SkipsNothing}
-use Rattle.agenda_answers.specs.Sources.{input_of, sources_of, tries_from, with_tried}
+use Rattle.agenda_answers.specs.Sources.{input_of, sources_of, tries_of, with_first}
 use Rattle.agenda_answers.specs.Steps.{Step, stops, goes}
 use Rattle.agenda_answers.specs.Zone.{clock_of}
 use Rattle.agenda_answers.proofs.FailureLemmas.{failed_same, fails_first, fails_same}
 
 -- ---- the sources
 
-not_nil : {X : Type 0} (xs : List X) (x : X) → xs ++ x ∷ [] ≡ [] → ⊥
-not_nil [] x is = absurd cc
-not_nil (y ∷ xs) x is = absurd cc
-
--- a path among those of unreadable files stays there
-kept_unread :
-    (held : Held) (tried end : Tried) (paths : List SourcePath) → tries_from held tried paths (Ok end) → end.unread ≡ [] → tried.unread ≡ []
-unfolding tries_from
-kept_unread held tried end [] are none = let same : end ≡ tried = cc in ap (λ t. t.unread) (sym same) ∙ none
-kept_unread held tried end (given ∷ paths) (stops failure is same) none = absurd cc
-kept_unread held tried end (given ∷ paths) (goes None is are) none =
-    absurd (not_nil tried.unread given (kept_unread held (with_tried tried given None) end paths are none))
-kept_unread held tried end (given ∷ paths) (goes (Some source) is are) none =
-    kept_unread held (with_tried tried given (Some source)) end paths are none
-
--- the sources that were read, if all can be read
-pub record AllRead (held : Held) (paths : List SourcePath) (before all : List Source) : Type 0 where
-  pub sources : List Source
-  pub read : sources_of held paths (Ok sources)
-  pub are : all ≡ before ++ sources
-
-pub all_read :
-    (held : Held) (tried end : Tried) (paths : List SourcePath) → tries_from held tried paths (Ok end) → end.unread ≡ [] →
-    AllRead held paths tried.sources end.sources
-unfolding tries_from sources_of
-all_read held tried end [] are none =
-    let same : end ≡ tried = cc in record { sources = []; read = refl; are = ap (λ t. t.sources) same ∙ sym (append-nil tried.sources) }
-all_read held tried end (given ∷ paths) (stops failure is same) none = absurd cc
-all_read held tried end (given ∷ paths) (goes None is are) none =
-    absurd (not_nil tried.unread given (kept_unread held (with_tried tried given None) end paths are none))
-all_read held tried end (given ∷ paths) (goes (Some source) is are) none =
-    let more = all_read held (with_tried tried given (Some source)) end paths are none in record {
-      sources = source ∷ more.sources;
-      read = goes source is (goes more.sources more.read refl);
-      are = more.are ∙ append_assoc tried.sources (source ∷ []) more.sources;
-    }
+-- if all files can be read, so can the sources
+all_read :
+    (held : Held) (paths : List SourcePath) (end : Tried) → tries_of held paths (Ok end) → end.unread ≡ [] →
+    sources_of held paths (Ok end.sources)
+unfolding tries_of sources_of
+all_read held [] end is none = let same : end ≡ record { sources = []; paths = []; unread = [] } = cc in ap (λ t. Ok t.sources) same
+all_read held (given ∷ paths) end (stops failure _ same) none = absurd cc
+all_read held (given ∷ paths) end (goes None is (goes others are same)) none =
+    let first : end ≡ with_first given None others = cc in
+    let no_path : given ∷ others.unread ≡ [] = sym (ap (λ t. t.unread) first) ∙ none in absurd cc
+all_read held (given ∷ paths) end (goes (Some source) is (goes others are same)) none =
+    let first : end ≡ with_first given (Some source) others = cc in
+    goes source is (goes others.sources (all_read held paths others are (sym (ap (λ t. t.unread) first) ∙ none))
+    (ap (λ t. Ok t.sources) first))
+all_read held (given ∷ paths) end (goes source is (stops failure _ same)) none = absurd cc
 
 -- what is known of an answer for which nothing is skipped
 record Parts (held : Held) (goal : Goal) (jobs : JobsRequest) (answer : Result (List ℕ) RunFault) : Type 0 where
@@ -98,14 +77,11 @@ parts_of law held goal jobs kept (goes clock zone (goes tried read (goes answer 
       errors = sources_errors clock tried.sources;
       answer = answer;
     } = cc in
-    let all = all_read held (record { sources = []; paths = []; unread = [] }) tried jobs.sources read
-    (ap (λ k. k.unread) (sym same) ∙ none.0) in
-    let are : tried.sources ≡ all.sources = all.are in
     record {
       clock = clock;
       sources = tried.sources;
       zone = zone;
-      read = subst (λ s. sources_of held jobs.sources (Ok s)) (sym are) all.read;
+      read = all_read held jobs.sources tried read (ap (λ k. k.unread) (sym same) ∙ none.0);
       all_kept = law clock tried.sources (ap (λ k. k.errors) (sym same) ∙ none.1);
       answered = subst (λ a. answer_of goal (kept_jobs clock tried.sources) (Ok a)) (sym (ap (λ k. k.answer) same)) answered;
     }

@@ -46,7 +46,8 @@ quiet_goal request least = do
 
 -- ---- what is skipped, and the answer without it
 
--- the paths of files that can't be read and those of the others, the errors in these, and the answer of the jobs that are left
+-- the paths of files that can't be read and those of the others, the errors in these, and the answer of the jobs
+-- that are left
 pub record Outcome : Type 0 where
   pub unread : List SourcePath
   pub paths : List SourcePath

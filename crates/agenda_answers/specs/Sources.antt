@@ -40,18 +40,20 @@ tried_of held given (Ok (Some source)) = source_of held given (Ok source)
 tried_of held given (Ok None) = IsUnsure (held given.path)
 tried_of held given (Err failure) = failure ≡ Run NoMemory
 
--- these sources, then the one with a path, or the path among those of unreadable files
-abbrev pub with_tried : Tried → SourcePath → Option Source → Tried
-with_tried tried given (Some source) = record tried { sources = tried.sources ++ source ∷ []; paths = tried.paths ++ given ∷ [] }
-with_tried tried given None = record tried { unread = tried.unread ++ given ∷ [] }
-
--- these sources, then those with paths, in order
-unfoldable pub tries_from : Held → Tried → List SourcePath → Step Tried
-tries_from held tried [] = gives tried
-tries_from held tried (given ∷ paths) = do
-  source ← tried_of held given
-  tries_from held (with_tried tried given source) paths
+-- the first path and its source, or the first unreadable path, before the others
+abbrev pub with_first : SourcePath → Option Source → Tried → Tried
+with_first given (Some source) others = record others { sources = source ∷ others.sources; paths = given ∷ others.paths }
+with_first given None others = record others { unread = given ∷ others.unread }
 
 -- the sources are tried in the order of their paths
-abbrev pub tries_of : Held → List SourcePath → Step Tried
-tries_of held paths = tries_from held (record { sources = []; paths = []; unread = [] }) paths
+unfoldable pub tries_of : Held → List SourcePath → Step Tried
+tries_of held [] = gives (record { sources = []; paths = []; unread = [] })
+tries_of held (given ∷ paths) = do
+  source ← tried_of held given
+  others ← tries_of held paths
+  gives (with_first given source others)
+
+-- the same for one more path at the end
+abbrev pub with_last : Tried → SourcePath → Option Source → Tried
+with_last tried given (Some source) = record tried { sources = tried.sources ++ source ∷ []; paths = tried.paths ++ given ∷ [] }
+with_last tried given None = record tried { unread = tried.unread ++ given ∷ [] }

@@ -8,7 +8,7 @@ ghost use Rattle.agenda_answers.specs.Answer.{HoldsAfter};
 ghost use Rattle.agenda_answers.specs.Files.{Held};
 ghost use Rattle.agenda_answers.specs.Keeping.{AnswersKept, Reports, answer_of, kept_of, plan_goal, printed, quiet_goal, skipped_status, upcoming_goal};
 ghost use Rattle.agenda_answers.specs.Program.{ChangesNothing};
-ghost use Rattle.agenda_answers.specs.Sources.{tried_of, tries_of, with_tried};
+ghost use Rattle.agenda_answers.specs.Sources.{tried_of, tries_of, with_last};
 ghost use Rattle.agenda_faults.specs.declared.faults.Failure.TheVariants.{Run};
 ghost use Rattle.agenda_faults.specs.declared.faults.RunFault.TheVariants.{NoMemory};
 ghost use Rattle.agenda_words.specs.declared.Ask.TheVariants.{Plan, Quiet, Upcoming};
@@ -160,7 +160,7 @@ fn add_tried(
     source: Option<Source>,
 ) -> Result<(), Failure>
     ensures added { OnOk result (record { sources = sources.new.items; paths = paths.new; unread = unread.new }
-        ≡ with_tried (record { sources = sources.old.items; paths = paths.old; unread = unread.old }) path source) }
+        ≡ with_last (record { sources = sources.old.items; paths = paths.old; unread = unread.old }) path source) }
     ensures memory { IfErr result (λ failure. failure ≡ Run NoMemory) }
 {
     match source {
