@@ -99,7 +99,7 @@ pub enum Code {
     WrongParts,
     /// A step is 0.
     ZeroStep,
-    /// A calendar event ends with a zone other than UTC.
+    /// A calendar event ends with an unknown time zone, or `--event-zones` isn't given.
     Zone,
     /// The line sets `CRON_TZ`, which only cronie reads.
     ZoneSetting,

@@ -97,6 +97,13 @@ After:
 ";
 
 pub(crate) const ZONE: &str = "\
-A calendar event ends with a zone other than UTC. Remove that zone, and give it
-with --zone. Or write the event in UTC.
+A calendar event ends with an unknown time zone, or --event-zones isn't given.
+Without that option, UTC is the only zone that an event may name. With it, an
+event may name any zone of the time zone database: see 'timedatectl
+list-timezones' for the names, and mind upper and lower case.
+
+Before:
+    OnCalendar=Mon..Fri 09:00 europe/berlin
+After:
+    OnCalendar=Mon..Fri 09:00 Europe/Berlin
 ";

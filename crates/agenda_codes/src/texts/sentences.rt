@@ -106,6 +106,7 @@ pub(crate) const WRONG_PARTS: &str = "A part is missing, is empty, or is one too
 
 pub(crate) const ZERO_STEP: &str = "A step is 0.";
 
-pub(crate) const ZONE: &str = "A calendar event ends with a zone other than UTC.";
+pub(crate) const ZONE: &str =
+    "A calendar event ends with an unknown time zone, or --event-zones isn't given.";
 
 pub(crate) const ZONE_SETTING: &str = "The line sets 'CRON_TZ', which only cronie reads.";
