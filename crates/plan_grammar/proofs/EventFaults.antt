@@ -9,9 +9,10 @@ use Rattle.plan_grammar.specs.declared.component.Component.{Component}
 use Rattle.plan_grammar.specs.declared.component.Component.TheVariants.{Year, Month, Hour, Minute, Second}
 use Rattle.plan_texts.specs.Text.{pieces, cut_at}
 use Rattle.plan_grammar.specs.Shape.{ShapeText, cut_date, date_reading, time_of_pieces, time_reading, is_time, one_word, two_words, dated, shape_reading}
-use Rattle.plan_grammar.specs.Event.{component_part, component_number, component_value, component_side, component_item_of, component_item, component_items, component_set, component_reading, weekday_reading, weekday_span, weekday_item, without_comma, weekday_items, weekdays_reading, weekdays_if_given, day_component, event_of, spelled_out, zone_dropped, lone_word, zoneless, words_reading}
+use Rattle.plan_grammar.specs.Event.{component_part, component_number, component_value, component_side, component_item_of, component_item, component_items, component_set, component_reading, weekday_reading, weekday_span, weekday_item, without_comma, weekday_items, weekdays_reading, weekdays_if_given, day_component, event_of, spelled_out, zone_cut, lone_word, zoneless, cut_reading, words_reading}
+use Rattle.plan_grammar.specs.EventZones.{Zones, zone_clock}
 use Rattle.plan_texts.specs.EachLaws.{err_steps, err_each, err_choice}
-use Rattle.plan_grammar.proofs.TextFaults.{IsTextFault, side_of, cut_item, list_values}
+use Rattle.plan_grammar.proofs.TextFaults.{IsTextFault, or_fault, side_of, cut_item, list_values}
 
 -- a component's number
 digits : (component : Component) (text : List ℕ) → IsTextFault (component_number component text)
@@ -117,9 +118,9 @@ spelled : (texts : List (List ℕ)) → IsTextFault (spelled_out texts)
 unfolding spelled_out
 spelled texts = err_steps _ (shape_reading texts) _ (shape texts) parts
 
-zone : (texts : List (List ℕ)) → IsTextFault (zone_dropped texts)
-unfolding zone_dropped
-zone texts = grind (arith, nat_tests)
+zone : (zones : Zones) (name : List ℕ) → IsTextFault (zone_clock zones name)
+unfolding zone_clock
+zone zones name = grind (arith, nat_tests, or_fault)
 
 lone : (word : List ℕ) (expression : Option (List ℕ)) → IsTextFault (lone_word word expression)
 lone word expression = grind (arith, nat_tests, spelled)
@@ -128,7 +129,12 @@ no_zone : (texts : List (List ℕ)) → IsTextFault (zoneless texts)
 unfolding zoneless
 no_zone texts = grind (arith, nat_tests, spelled, lone)
 
+cut_words : (zones : Zones) (texts : List (List ℕ)) (zone : Option (List ℕ)) → IsTextFault (cut_reading zones texts zone)
+cut_words zones texts None = no_zone texts
+cut_words zones texts (Some name) =
+    err_steps _ (zone_clock zones name) _ (zone zones name) (λ clock. err_steps _ (zoneless texts) _ (no_zone texts) (λ event. tt))
+
 -- the error of an event's words has a cause that words may have
-pub all_words : (texts : List (List ℕ)) → IsTextFault (words_reading texts)
+pub all_words : (zones : Zones) (texts : List (List ℕ)) → IsTextFault (words_reading zones texts)
 unfolding words_reading
-all_words texts = err_steps _ (zone_dropped texts) _ (zone texts) (λ left. err_steps _ (zoneless left) _ (no_zone left) (λ event. tt))
+all_words zones texts = cut_words zones (zone_cut texts).0 (zone_cut texts).1

@@ -19,6 +19,7 @@ use Rattle.plan_grammar.specs.Readings.{Reading, Gives}
 use Rattle.plan_grammar.specs.Elements.{set_in_part, values_by}
 use Rattle.plan_texts.specs.Text.{words}
 use Rattle.plan_texts.specs.WholeLines.{trimmed}
+use Rattle.plan_clock.specs.declared.row.Change.{Change}
 use Rattle.plan_match.specs.declared.event.Calendar.{Calendar}
 use Rattle.plan_match.specs.declared.event.DayCount.{DayCount}
 use Rattle.plan_match.specs.declared.event.DayCount.TheVariants.{FromStart, FromEnd}
@@ -28,7 +29,8 @@ use Rattle.plan_grammar.specs.declared.field.Field.TheVariants.{Minute, Hour, Mo
 use Rattle.plan_grammar.specs.declared.component.Component.TheVariants as component
 use Rattle.plan_grammar.specs.Cron.{lowest, highest, items_reading, field_reading, has_week_day, week_days_of, five_fields, fields_alone, at_word, found_reading, at_reading, rule_reading, cron_reading}
 use Rattle.plan_grammar.specs.Shape.{ShapeText, shape_reading}
-use Rattle.plan_grammar.specs.Event.{component_items, component_set, component_reading, first_place_fault, is_listed_place, places_reading, weekday_items, weekdays_reading, weekdays_if_given, day_component, event_of, spelled_out, has_zone, zone_dropped, lone_word, zoneless, with_own_zone, words_reading, has_specifier, event_reading}
+use Rattle.plan_grammar.specs.EventZones.{Zones, zone_clock}
+use Rattle.plan_grammar.specs.Event.{component_items, component_set, component_reading, first_place_fault, is_listed_place, places_reading, weekday_items, weekdays_reading, weekdays_if_given, day_component, event_of, spelled_out, zone_cut, lone_word, zoneless, in_own_zone, cut_reading, words_reading, has_specifier, event_reading}
 
 -- ---- readings
 
@@ -211,14 +213,19 @@ no_zone : (texts : List (List ℕ)) → IfOk (zoneless texts) EventIsWithinLimit
 unfolding zoneless
 no_zone texts = grind (arith, nat_tests, spelled, lone)
 
-named : (names_zone : Bool) (event : Calendar) → EventIsWithinLimits event → EventIsWithinLimits (with_own_zone names_zone event)
-named names_zone event own = grind (arith, nat_tests)
+placed : (clock : List Change) (event : Calendar) → EventIsWithinLimits event → EventIsWithinLimits (in_own_zone clock event)
+placed clock event own = grind (arith, nat_tests)
 
-all_words : (texts : List (List ℕ)) → IfOk (words_reading texts) EventIsWithinLimits
+cut_words :
+    (zones : Zones) (texts : List (List ℕ)) (zone : Option (List ℕ)) → IfOk (cut_reading zones texts zone) EventIsWithinLimits
+cut_words zones texts None = no_zone texts
+cut_words zones texts (Some name) = then EventIsWithinLimits (zone_clock zones name) _
+    (λ clock. ok_steps EventIsWithinLimits EventIsWithinLimits (zoneless texts) _ (no_zone texts) (placed clock))
+
+all_words : (zones : Zones) (texts : List (List ℕ)) → IfOk (words_reading zones texts) EventIsWithinLimits
 unfolding words_reading
-all_words texts = then EventIsWithinLimits (zone_dropped texts) _
-    (λ left. ok_steps EventIsWithinLimits EventIsWithinLimits (zoneless left) _ (no_zone left) (named (has_zone texts)))
+all_words zones texts = cut_words zones (zone_cut texts).0 (zone_cut texts).1
 
 -- the sets of a calendar event that was read are within the limits of their components
-pub event : (text : List ℕ) → IfOk (event_reading text) EventIsWithinLimits
-event text = ok_choice EventIsWithinLimits (has_specifier text) _ _ tt (all_words (words text))
+pub event : (zones : Zones) (text : List ℕ) → IfOk (event_reading zones text) EventIsWithinLimits
+event zones text = ok_choice EventIsWithinLimits (has_specifier text) _ _ tt (all_words zones (words text))

@@ -1,12 +1,15 @@
--- How a name is found in a table.
+-- How a name is found in a table, and that a name in ASCII is UTF-8.
 -- For `named_value` of a field, and for `at_word`. The code searches a table of borrowed texts, the definition a table of
 -- texts. By induction over the table both find the same place or row.
-use Rattle.std.proofs.Common.{◌≡◌, ℕ, ◌+◌, arith, Bool, cond, List, [], ◌∷◌, map, find, position, Option, refl, ap, sym, ◌∙◌}
+use Rattle.std.proofs.Common.{◌≡◌, ℕ, ◌+◌, arith, Bool, cond, List, [], ◌∷◌, map, find, position, Option, true, zero, suc, ltb-true, refl, ap, sym, ◌∙◌}
 use Rattle.std.proofs.lemmas.Bool.Decides.{nat_tests}
 use Rattle.std.proofs.lemmas.List.{length-map}
-use Rattle.std.specs.List.{prefix_len}
+use Rattle.std.proofs.lemmas.Bool.{and_parts}
+use Rattle.std.proofs.lemmas.Str.{IsUtf8-from_ascii}
+use Rattle.std.specs.Char.{is_ascii}
+use Rattle.std.specs.List.{list_all, prefix_len}
 use Rattle.std.specs.Option.{option_map}
-use Rattle.std.specs.Str.{bytes_eq, str_eq_ignore_ascii_case}
+use Rattle.std.specs.Str.{bytes_eq, str_eq_ignore_ascii_case, IsAscii, IsUtf8}
 use Rattle.plan_grammar.specs.declared.field.Field.{Field}
 use Rattle.plan_grammar.specs.Cron.{lowest, names_of, named_value, at_words, at_word}
 
@@ -42,3 +45,13 @@ found_by_word v word known found shown is =
     twice v (λ row. row.1) found
     ∙ ap (option_map (λ row. row.1))
     (ap (option_map v) is ∙ find-map (λ row. bytes_eq (row.0) word) v known ∙ ap (find (λ row. bytes_eq (row.0) word)) shown)
+
+-- each byte of a text in ASCII is below 128
+each_below : (text : List ℕ) → list_all is_ascii text ≡ true → IsAscii text
+each_below [] all k = omega arith
+each_below (b ∷ more) all zero = ltb-true b 128 (and_parts (is_ascii b) (list_all is_ascii more) all).0
+each_below (b ∷ more) all (suc k) = each_below more (and_parts (is_ascii b) (list_all is_ascii more) all).1 k
+
+-- a text in ASCII is UTF-8
+pub ascii_is_utf8 : (text : List ℕ) → list_all is_ascii text ≡ true → IsUtf8 text
+ascii_is_utf8 text all = IsUtf8-from_ascii text (each_below text all)

@@ -13,5 +13,6 @@ rule_cause rule.BadName = codes "BadName"
 rule_cause (rule.Values cause) = set_cause cause
 rule_cause rule.Fraction = codes "Fraction"
 rule_cause rule.Zone = codes "Zone"
+rule_cause rule.UnknownZone = codes "Zone"
 rule_cause rule.UnknownWord = codes "UnknownWord"
 rule_cause rule.Specifier = codes "Specifier"

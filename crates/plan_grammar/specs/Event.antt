@@ -1,5 +1,5 @@
 -- The meaning of the text of a calendar event (systemd.time(7), calendar events): an event, or the first error with its part.
-use Rattle.std.specs.Prelude.{ℕ, ◌+◌, ◌-◌, ◌%◌, Bool, false, not, ◌&&◌, ◌||◌, ◌==◌, nat_le, nat_lt, if◌then◌else◌, List, [], ◌∷◌, length, take, drop, min, max, find, position, slice_index_or, codes, Option, Some, None, Result, Ok, is_some, ok_or}
+use Rattle.std.specs.Prelude.{ℕ, ◌+◌, ◌-◌, ◌%◌, Bool, true, false, not, ◌&&◌, ◌||◌, ◌==◌, nat_le, nat_lt, if◌then◌else◌, List, [], ◌∷◌, length, take, drop, min, max, find, position, slice_index_or, codes, Option, Some, None, option_and_then, Result, Ok, is_some, ok_or}
 use Rattle.std.specs.Char.{is_ascii_alphabetic}
 use Rattle.std.specs.List.{list_any, list_all}
 use Rattle.std.specs.Option.{option_map}
@@ -11,11 +11,12 @@ use Rattle.plan_sets.specs.declared.item.SetFault.TheVariants.{OutOfRange, ZeroS
 use Rattle.plan_sets.specs.Limits.{first_year, last_year}
 use Rattle.plan_sets.specs.Values.{Values as SetOfValues, values_where}
 use Rattle.plan_sets.specs.Items.{is_within, fault_or, values_or_fault, set_reading}
-use Rattle.plan_grammar.specs.declared.fault.RuleCause.TheVariants.{WrongParts, BadName, Fraction, Zone, UnknownWord, Specifier}
+use Rattle.plan_grammar.specs.declared.fault.RuleCause.TheVariants.{WrongParts, BadName, Fraction, UnknownWord, Specifier}
 use Rattle.plan_grammar.specs.declared.element.Side.{Side}
 use Rattle.plan_grammar.specs.declared.element.Side.TheVariants.{Star, Value, Between}
 use Rattle.plan_grammar.specs.declared.component.Component.{Component}
 use Rattle.plan_grammar.specs.declared.component.Component.TheVariants.{Year, Month, Day, Place, Hour, Minute, Second}
+use Rattle.plan_clock.specs.declared.row.Change.{Change}
 use Rattle.plan_match.specs.declared.event.DayCount.{DayCount}
 use Rattle.plan_match.specs.declared.event.DayCount.TheVariants.{FromStart, FromEnd}
 use Rattle.plan_match.specs.declared.event.Calendar.{Calendar}
@@ -24,6 +25,7 @@ use Rattle.plan_match.specs.declared.rule.Rule.TheVariants.{Events}
 use Rattle.plan_texts.specs.Text.{words, pieces, begins_with, cut_at}
 use Rattle.plan_texts.specs.Steps.{◌>>=◌, each}
 use Rattle.plan_grammar.specs.Readings.{Reading, refused}
+use Rattle.plan_grammar.specs.EventZones.{Zones, name_in_database, zone_clock}
 use Rattle.plan_grammar.specs.Elements.{number_reading, side_by, cut_item_by, values_by}
 use Rattle.plan_grammar.specs.Shape.{ShapeText, shape_reading}
 
@@ -249,14 +251,17 @@ last_word texts = slice_index_or texts (length texts - 1) []
 abbrev pub has_zone : List (List ℕ) → Bool
 has_zone texts = nat_lt 1 (length texts) && begins_with is_ascii_alphabetic (last_word texts)
 
--- the words before the zone, which must be UTC, in any case (agenda)
-unfoldable pub zone_dropped : List (List ℕ) → Reading (List (List ℕ))
-zone_dropped texts =
-    if has_zone texts
-    then (if str_eq_ignore_ascii_case (last_word texts) (codes "utc")
-    then Ok (take (length texts - 1) texts)
-    else refused 8 Zone)
-    else Ok texts
+-- the words without the zone, and the zone, if the last word is one (systemd.time(7))
+unfoldable pub zone_cut : List (List ℕ) → List (List ℕ) × Option (List ℕ)
+zone_cut texts = if has_zone texts then (take (length texts - 1) texts, Some (last_word texts)) else (texts, None)
+
+-- the words without the zone
+abbrev pub without_zone : List (List ℕ) → List (List ℕ)
+without_zone texts = (zone_cut texts).0
+
+-- the name by which the zone of an event is looked up, if the event's text ends with a zone other than UTC
+abbrev pub zone_name : List ℕ → Option (List ℕ)
+zone_name text = option_and_then name_in_database ((zone_cut (words text)).1)
 
 -- the words that abbreviate an event, each with its expression (systemd.time(7))
 abbrev pub event_words : List (List ℕ × List ℕ)
@@ -292,27 +297,32 @@ zoneless [] = spelled_out []
 zoneless (word ∷ []) = lone_word word (expression_of word)
 zoneless (first ∷ second ∷ others) = spelled_out (first ∷ second ∷ others)
 
--- the event, with whether it names its own zone
-abbrev pub with_own_zone : Bool → Calendar → Calendar
-with_own_zone names_zone event = record event { names_zone = names_zone }
+-- an event that names its own zone has the clock of that zone (systemd.time(7))
+abbrev pub in_own_zone : List Change → Calendar → Calendar
+in_own_zone clock event = record event { names_zone = true; clock = clock }
 
--- the event of a text's words; it names its own zone if they end with one
-unfoldable pub words_reading : List (List ℕ) → Reading Calendar
-words_reading texts = do
-  left ← zone_dropped texts
-  event ← zoneless left
-  Ok (with_own_zone (has_zone texts) event)
+-- the event of words without their zone; the zone is read first (agenda)
+abbrev pub cut_reading : Zones → List (List ℕ) → Option (List ℕ) → Reading Calendar
+cut_reading zones texts None = zoneless texts
+cut_reading zones texts (Some zone) = do
+  clock ← zone_clock zones zone
+  event ← zoneless texts
+  Ok (in_own_zone clock event)
+
+-- the event of a text's words
+unfoldable pub words_reading : Zones → List (List ℕ) → Reading Calendar
+words_reading zones texts = let cut = zone_cut texts in cut_reading zones (cut.0) (cut.1)
 
 -- a specifier begins with `%` (systemd.unit(5), specifiers)
 abbrev pub has_specifier : List ℕ → Bool
 has_specifier text = holds_byte (byte "%") text
 
--- the meaning of a text; a specifier anywhere is rejected, since none is known (agenda)
-abbrev pub event_reading : List ℕ → Reading Calendar
-event_reading text = if has_specifier text then refused 0 Specifier else words_reading (words text)
+-- the meaning of a text, which may name these zones; a specifier anywhere is rejected, since none is known (agenda)
+abbrev pub event_reading : Zones → List ℕ → Reading Calendar
+event_reading zones text = if has_specifier text then refused 0 Specifier else words_reading zones (words text)
 
 -- the rule of this one event
-abbrev pub event_rule_reading : List ℕ → Reading Rule
-event_rule_reading text = do
-  event ← event_reading text
+abbrev pub event_rule_reading : Zones → List ℕ → Reading Rule
+event_rule_reading zones text = do
+  event ← event_reading zones text
   Ok (Events (event ∷ []))

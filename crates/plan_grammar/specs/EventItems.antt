@@ -7,7 +7,7 @@ use Rattle.plan_grammar.specs.declared.component.Component.TheVariants.{Month, H
 use Rattle.plan_grammar.specs.declared.items.EventItems.{EventItems}
 use Rattle.plan_grammar.specs.Readings.{Reading}
 use Rattle.plan_grammar.specs.Shape.{ShapeText, shape_reading}
-use Rattle.plan_grammar.specs.Event.{component_items, day_component, zone_dropped}
+use Rattle.plan_grammar.specs.Event.{component_items, day_component, without_zone}
 
 -- the elements of the components that are smaller than a year, each in the order of the text
 pub record ItemLists : Type 0 where
@@ -37,9 +37,8 @@ items_of shape = do
   seconds ← component_items Second shape.time.second
   Ok (record { months = months; days = days; hours = hours; minutes = minutes; seconds = seconds })
 
--- the elements of an event's text; a word such as `daily` counts as a weekday part here, since its expression has no step (agenda)
+-- the elements of an event's text, whatever its zone is; a word such as `daily` counts as a weekday part here, since its expression has no step (agenda)
 unfoldable pub event_items_reading : List ℕ → Reading ItemLists
 event_items_reading text = do
-  left ← zone_dropped (words text)
-  shape ← shape_reading left
+  shape ← shape_reading (without_zone (words text))
   items_of shape

@@ -1,17 +1,18 @@
 //! Parses calendar events (systemd.time(7)).
 
-ghost use Rattle.std.specs.Prelude.{◌≡◌, ◌↔◌, IfErr, IfOk, IsTrue, codes, map};
-ghost use Rattle.std.specs.Char.{is_ascii_alphabetic};
+ghost use Rattle.std.specs.Prelude.{◌≡◌, ◌↔◌, IfErr, IfOk, IsTrue, map};
+ghost use Rattle.std.specs.Char.{is_ascii, is_ascii_alphabetic};
 ghost use Rattle.std.specs.List.{list_all};
 ghost use Rattle.std.specs.Option.{option_map};
-ghost use Rattle.std.specs.Str.{str_eq_ignore_ascii_case};
-ghost use Rattle.plan_grammar.specs.Readings.{Gives, GivesBy};
+ghost use Rattle.plan_grammar.specs.EventZones.{name_in_database};
+ghost use Rattle.plan_grammar.specs.Readings.{Gives};
 ghost use Rattle.plan_grammar.specs.Shape.{shape_text};
 ghost use Rattle.plan_texts.specs.Text.{words};
 ghost use Rattle.plan_match.specs.WithinLimits.{EventIsWithinLimits, RuleIsWithinLimits};
-ghost use Rattle.plan_grammar.specs.Event.{weekdays_if_given, day_component, event_of, spelled_out, zone_dropped, has_zone, with_own_zone, expression_of, is_unknown_word, zoneless, words_reading, has_specifier, event_reading, event_rule_reading};
+ghost use Rattle.plan_grammar.specs.Event.{weekdays_if_given, day_component, event_of, spelled_out, zone_cut, zone_name, in_own_zone, expression_of, is_unknown_word, zoneless, words_reading, has_specifier, event_reading, event_rule_reading};
 
 use crate::component::Component;
+use crate::event_zones::{EventZones, is_utc};
 use crate::fault::{RuleCause, RuleFault};
 use crate::shape::{Shape, shape_of};
 use crate::weekdays::{weekday_of, weekdays};
@@ -19,12 +20,13 @@ use plan_clock::Clock;
 use plan_match::{Calendar, DayCount, Events, Rule};
 use plan_sets::ValueSet;
 use plan_texts::{begins_with_letter, words};
-use std::alloc::Global;
+use std::alloc::{AllocError, Global};
 
 /// Parses a calendar event (systemd.time(7)).
 ///
-/// The text has weekdays, a date, a time of day and the zone `UTC`. Each may be missing. Or it is one of the words
-/// `minutely`, `hourly`, `daily`, `weekly`, `monthly`, `quarterly`, `semiannually`, `yearly` and `annually`.
+/// The text has weekdays, a date, a time of day and a time zone: `UTC`, in upper or lower case, or one of `zones`. Each
+/// may be missing. Instead of weekdays, date and time, it may have one of the words `minutely`, `hourly`, `daily`,
+/// `weekly`, `monthly`, `quarterly`, `semiannually`, `yearly` and `annually`.
 ///
 /// # Errors
 ///
@@ -32,7 +34,8 @@ use std::alloc::Global;
 ///
 /// - `Specifier`, part 0: a `%` anywhere.
 /// - `WrongParts`, part 0: no word.
-/// - `Zone`, part 8: there are several words, and the last begins with a letter and isn't `UTC`.
+/// - `Zone` or `UnknownZone`, part 8: there are several words, and the last begins with a letter, but isn't `UTC` nor
+///   one of the zones. It is `Zone` if events may name no zone but UTC.
 /// - `UnknownWord`, part 0: one word of letters only, which is neither one of those words nor a weekday.
 /// - `WrongParts`, part 0: any other shape.
 /// - The errors of the weekdays, part 1, and then of the year, month, day, hour, minute and second, parts 2
@@ -45,8 +48,8 @@ use std::alloc::Global;
 /// days from the end of the month may run in either direction.
 ///
 /// `NoMemory`, part 0, means that an allocation failed. It can come before an error that isn't found yet.
-pub fn calendar_event(alloc: Global, text: &str) -> Result<Calendar, RuleFault>
-    ensures meaning { Gives result (event_reading text.now) }
+pub fn calendar_event(alloc: Global, text: &str, zones: &EventZones) -> Result<Calendar, RuleFault>
+    ensures meaning { Gives result (event_reading zones.now text.now) }
     ensures within { IfOk result EventIsWithinLimits }
     // A specifier is found before any memory is requested.
     ensures specifier { (result ≡ Err (record { part = 0; cause = RuleCause.Specifier }))
@@ -60,81 +63,102 @@ pub fn calendar_event(alloc: Global, text: &str) -> Result<Calendar, RuleFault>
         });
     }
     let words = words(alloc, text.as_bytes())?;
-    event_of_words(alloc, words.as_slice())
+    event_of_words(alloc, words.as_slice(), zones)
 }
 
-/// Returns the rule of one calendar event.
+/// Returns the rule of one calendar event, which may name these zones.
 ///
 /// # Errors
 ///
 /// Those of `calendar_event`.
-pub fn calendar_rule(alloc: Global, text: &str) -> Result<Rule, RuleFault>
-    ensures meaning { Gives result (event_rule_reading text.now) }
+pub fn calendar_rule(alloc: Global, text: &str, zones: &EventZones) -> Result<Rule, RuleFault>
+    ensures meaning { Gives result (event_rule_reading zones.now text.now) }
     ensures within { IfOk result RuleIsWithinLimits }
     ensures specifier { (result ≡ Err (record { part = 0; cause = RuleCause.Specifier }))
         ↔ IsTrue (has_specifier text.now) }
     ensures memory { IfErr result (λ fault. fault.cause ≡ RuleCause.NoMemory → fault.part ≡ 0) }
 {
-    let event = calendar_event(alloc, text)?;
+    let event = calendar_event(alloc, text, zones)?;
     Ok(Rule::Events(Events::one(alloc, event)?))
 }
 
-// Parses the words of an event.
-#[tactic(auto, unfolding(crate::specs::Event::words_reading))]
-fn event_of_words(alloc: Global, words: &[&[u8]]) -> Result<Calendar, RuleFault>
-    ensures { Gives result (words_reading (map (λ word. word.now) words.now)) }
+/// Returns the name of the time zone that the text of a calendar event ends with, if it is to be looked up in the time
+/// zone database (systemd.time(7)). Returns `None` for UTC, and for a text that ends with no zone.
+///
+/// The rest of the text isn't checked, nor whether the database has such a zone.
+///
+/// # Errors
+///
+/// `AllocError` if an allocation fails.
+pub fn zone_name(alloc: Global, text: &str) -> Result<Option<&str>, AllocError>
+    ensures { IfOk result (λ name. option_map (λ name. name.now) name ≡ zone_name text.now) }
 {
-    let left = without_zone(words)?;
-    let event = zoneless(alloc, left)?;
-    Ok(with_own_zone(event, has_zone(words)))
+    let words = words(alloc, text.as_bytes())?;
+    match cut_zone(words.as_slice()) {
+        (_, Some(zone)) => Ok(name_in_database(zone)),
+        (_, None) => Ok(None),
+    }
 }
 
-// Sets whether the event names its own zone.
-fn with_own_zone(event: Calendar, names_zone: bool) -> Calendar
-    ensures { result ≡ with_own_zone names_zone event }
+// Returns the name by which a zone is looked up in the time zone database, where names are ASCII.
+fn name_in_database(zone: &[u8]) -> Option<&str>
+    ensures { option_map (λ name. name.now) result ≡ name_in_database zone.now }
+{
+    if is_utc(zone) || !is_ascii(zone) {
+        return None;
+    }
+    match str::from_utf8(zone) {
+        Ok(name) => Some(name),
+        Err(_) => None,
+    }
+}
+
+// Returns whether a word has only ASCII characters.
+fn is_ascii(word: &[u8]) -> bool
+    ensures { result ≡ list_all is_ascii word.now }
+{
+    word.iter().all(|byte| byte.is_ascii())
+}
+
+// Parses the words of an event, which may name these zones.
+#[tactic(auto, unfolding(crate::specs::Event::words_reading))]
+fn event_of_words(alloc: Global, words: &[&[u8]], zones: &EventZones) -> Result<Calendar, RuleFault>
+    ensures { Gives result (words_reading zones.now (map (λ word. word.now) words.now)) }
+{
+    let (left, zone) = cut_zone(words);
+    let Some(zone) = zone else {
+        return zoneless(alloc, left);
+    };
+    let clock = zones.clock(zone)?;
+    let event = zoneless(alloc, left)?;
+    Ok(in_own_zone(event, clock))
+}
+
+// Returns the event with the clock of the zone that it names.
+fn in_own_zone(event: Calendar, clock: Clock) -> Calendar
+    ensures { result ≡ in_own_zone clock event }
 {
     Calendar {
-        names_zone,
+        names_zone: true,
+        clock,
         ..event
     }
 }
 
-// Returns whether the last word is a zone: it isn't the first word, and begins with a letter.
-fn has_zone(words: &[&[u8]]) -> bool
-    ensures { result ≡ has_zone (map (λ word. word.now) words.now) }
-{
-    match words {
-        [_, .., zone] => begins_with_letter(zone),
-        _ => false,
-    }
-}
-
-// Returns the words before the zone. The last word is a zone if it isn't the first word and begins with a letter.
-#[tactic(auto, unfolding(crate::specs::Event::zone_dropped))]
-pub(crate) fn without_zone<'w, 't>(words: &'w [&'t [u8]]) -> Result<&'w [&'t [u8]], RuleFault>
-    ensures { GivesBy (λ left. map (λ word. word.now) left.now) result
-        (zone_dropped (map (λ word. word.now) words.now)) }
+// Returns the words without the zone, and the zone. The last word is a zone if it isn't the first word and begins with a
+// letter.
+#[tactic(auto, unfolding(crate::specs::Event::zone_cut))]
+pub(crate) fn cut_zone<'w, 't>(words: &'w [&'t [u8]]) -> (&'w [&'t [u8]], Option<&'t [u8]>)
+    ensures { (map (λ word. word.now) result.0.now, option_map (λ zone. zone.now) result.1)
+        ≡ zone_cut (map (λ word. word.now) words.now) }
 {
     let [before @ .., zone] = words else {
-        return Ok(words);
+        return (words, None);
     };
     if before.is_empty() || !begins_with_letter(zone) {
-        return Ok(words);
+        return (words, None);
     }
-    if is_utc(zone) {
-        return Ok(before);
-    }
-    Err(RuleFault {
-        part: 8,
-        cause: RuleCause::Zone,
-    })
-}
-
-// Returns whether a zone is UTC. Upper and lower case are the same.
-fn is_utc(zone: &[u8]) -> bool
-    ensures { result ≡ str_eq_ignore_ascii_case zone.now (codes "utc") }
-{
-    zone.eq_ignore_ascii_case(b"utc")
+    (before, Some(*zone))
 }
 
 // Parses words without a zone. A single word may abbreviate an expression.

@@ -20,8 +20,10 @@ pub enum RuleCause {
     Values(SetFault),
     /// A second, or its step, has a fraction.
     Fraction,
-    /// The time zone isn't UTC.
+    /// The time zone isn't UTC, and other zones may not be named.
     Zone,
+    /// The time zone is unknown. Error lines show this cause as `Zone`.
+    UnknownZone,
     /// A word that abbreviates a whole rule, such as `@daily`, is unknown.
     UnknownWord,
     /// The text contains a specifier, which begins with `%`.
@@ -43,7 +45,7 @@ impl RuleCause {
             RuleCause::BadName => "BadName",
             RuleCause::Values(cause) => cause.name(),
             RuleCause::Fraction => "Fraction",
-            RuleCause::Zone => "Zone",
+            RuleCause::Zone | RuleCause::UnknownZone => "Zone",
             RuleCause::UnknownWord => "UnknownWord",
             RuleCause::Specifier => "Specifier",
         }

@@ -6,7 +6,7 @@ ghost use Rattle.plan_grammar.specs.Shape.{shape_text};
 ghost use Rattle.plan_grammar.specs.EventItems.{event_items_reading, item_lists, items_of};
 
 use crate::component::Component;
-use crate::event::{day_component, without_zone};
+use crate::event::{cut_zone, day_component};
 use crate::fault::RuleFault;
 use crate::shape::{Shape, shape_of};
 use plan_sets::Item;
@@ -30,19 +30,19 @@ pub struct EventItems {
 
 /// Returns the elements of the text of a calendar event (systemd.time(7)).
 ///
-/// The weekday part, the year and the values' limits aren't checked: see `calendar_event`. One of the words that
+/// The weekday part, the year, the zone and the values' limits aren't checked: see `calendar_event`. One of the words that
 /// abbreviate an event counts as a weekday part, so it has the elements of each day at midnight.
 ///
 /// # Errors
 ///
-/// The first error of `calendar_event` but for those of the limits, of the weekday part and of the year. `NoMemory`,
-/// part 0, if an allocation fails.
+/// The first error of `calendar_event` but for those of the limits, of the weekday part, of the year and of the zone.
+/// `NoMemory`, part 0, if an allocation fails.
 #[tactic(auto, unfolding(crate::specs::EventItems::event_items_reading))]
 pub fn event_items(alloc: Global, text: &str) -> Result<EventItems, RuleFault>
     ensures { GivesBy item_lists result (event_items_reading text.now) }
 {
     let words = words(alloc, text.as_bytes())?;
-    let left = without_zone(words.as_slice())?;
+    let (left, _) = cut_zone(words.as_slice());
     let shape = shape_of(alloc, left)?;
     items_of(alloc, shape)
 }

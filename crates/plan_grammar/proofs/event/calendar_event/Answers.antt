@@ -9,14 +9,14 @@ use Rattle.plan_grammar.proofs.event.calendar_event.Goals as goal
 
 pub returns-clause-within : goal.returns-clause-within
 returns-clause-within c =
-    let meant : Gives c.event_of_words.result (event_reading c.args.text.now) = search rules in
-    limits.answered EventIsWithinLimits c.event_of_words.result (event_reading c.args.text.now) meant (limits.event c.args.text.now)
+    let meant : Gives c.event_of_words.result (event_reading c.args.zones.now c.args.text.now) = search rules in
+    limits.answered EventIsWithinLimits c.event_of_words.result (event_reading c.args.zones.now c.args.text.now) meant (limits.event c.args.zones.now c.args.text.now)
 
 pub returns-clause-memory : goal.returns-clause-memory
-returns-clause-memory c = part_of_memory _ _ c.event_of_words.ensures (all_words _)
+returns-clause-memory c = part_of_memory _ _ c.event_of_words.ensures (all_words _ _)
 
 pub returns-clause-specifier : goal.returns-clause-specifier
 returns-clause-specifier c = (
-  λ is. absurd (no_specifier _ _ _ c.event_of_words.ensures (all_words _) refl is),
+  λ is. absurd (no_specifier _ _ _ c.event_of_words.ensures (all_words _ _) refl is),
   λ has. let no : has_specifier c.args.text.now ≡ false = search rules in absurd (true≢false (sym has ∙ no)),
 )
