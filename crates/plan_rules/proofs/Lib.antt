@@ -8,3 +8,4 @@ pub mod TimerLemmas
 pub mod TimerFaults
 pub mod TimerEntryLemmas
 pub mod ZoneLemmas
+pub mod NamesLemmas

@@ -11,6 +11,7 @@ use Rattle.plan_rules.specs.declared.line_fault.LineCause.TheVariants.{BadTimerN
 use Rattle.plan_rules.specs.Limits.{most_events}
 use Rattle.plan_texts.specs.Steps.{◌>>=◌}
 use Rattle.plan_grammar.specs.Event.{event_reading}
+use Rattle.plan_grammar.specs.EventZones.{Zones}
 use Rattle.plan_rules.specs.LineFaults.{LineReading, TextReading, in_line, on_line}
 use Rattle.plan_rules.specs.Entries.{refusals, unless_refused}
 use Rattle.plan_rules.specs.FileText.{text_reading}
@@ -21,56 +22,56 @@ use Rattle.plan_rules.specs.TimerEntries.{EventCount, TimerState, count_from, en
 
 -- an event that is read, before those that follow
 event_read :
-    (number : ℕ) (held : List Calendar) (r : LineReading Calendar) (more : List (ℕ × Effect)) →
-    ((next : List Calendar) → length next ≡ length held + 1 → events_from next more
-    ≡ unless_refused (refusals (entries_from (record { held = length held + 1; told = false }) more)) (events_after next more)) →
-    (on_line number r >>= λ event. events_from (held ++ event ∷ []) more)
+    (zones : Zones) (number : ℕ) (held : List Calendar) (r : LineReading Calendar) (more : List (ℕ × Effect)) →
+    ((next : List Calendar) → length next ≡ length held + 1 → events_from zones next more
+    ≡ unless_refused (refusals (entries_from zones (record { held = length held + 1; told = false }) more)) (events_after zones next more)) →
+    (on_line number r >>= λ event. events_from zones (held ++ event ∷ []) more)
     ≡ unless_refused
-    (refusals (cons_option (entry_of (event_line number (Some r))) (entries_from (record { held = length held + 1; told = false }) more)))
-    (events_after (held ++ cons_option (result_ok r) []) more)
-event_read number held (Ok event) more later = later (held ++ event ∷ []) (length-append held (event ∷ []))
-event_read number held (Err cause) more later = refl
+    (refusals (cons_option (entry_of (event_line number (Some r))) (entries_from zones (record { held = length held + 1; told = false }) more)))
+    (events_after zones (held ++ cons_option (result_ok r) []) more)
+event_read zones number held (Ok event) more later = later (held ++ event ∷ []) (length-append held (event ∷ []))
+event_read zones number held (Err cause) more later = refl
 
 -- an event, whether the list is full or not
 event_held :
-    (room : Bool) (number : ℕ) (held : List Calendar) (r : LineReading Calendar) (more : List (ℕ × Effect)) →
-    ((next : List Calendar) → length next ≡ length held + 1 → events_from next more
-    ≡ unless_refused (refusals (entries_from (record { held = length held + 1; told = false }) more)) (events_after next more)) →
-    (on_line number (cond room r (Err TooManyLines)) >>= λ event. events_from (held ++ event ∷ []) more)
+    (zones : Zones) (room : Bool) (number : ℕ) (held : List Calendar) (r : LineReading Calendar) (more : List (ℕ × Effect)) →
+    ((next : List Calendar) → length next ≡ length held + 1 → events_from zones next more
+    ≡ unless_refused (refusals (entries_from zones (record { held = length held + 1; told = false }) more)) (events_after zones next more)) →
+    (on_line number (cond room r (Err TooManyLines)) >>= λ event. events_from zones (held ++ event ∷ []) more)
     ≡ unless_refused (refusals (cons_option (entry_of (event_line number (cond room (Some r) (Some (Err TooManyLines)))))
-    (entries_from (cond room (record { held = length held + 1; told = false }) (record { held = length held; told = true })) more)))
-    (events_after (held ++ cons_option (result_ok r) []) more)
-event_held true number held r more later = event_read number held r more later
-event_held false number held r more later = refl
+    (entries_from zones (cond room (record { held = length held + 1; told = false }) (record { held = length held; told = true })) more)))
+    (events_after zones (held ++ cons_option (result_ok r) []) more)
+event_held zones true number held r more later = event_read zones number held r more later
+event_held zones false number held r more later = refl
 
 pub events_by_entries :
-    (count : ℕ) (held : List Calendar) (effects : List (ℕ × Effect)) → length held ≡ count →
-    events_from held effects
-    ≡ unless_refused (refusals (entries_from (record { held = count; told = false }) effects)) (events_after held effects)
-events_by_entries count held [] same = refl
-events_by_entries count held ((number, Reset) ∷ more) same = events_by_entries 0 [] more refl
-events_by_entries count held ((number, Event text) ∷ more) same =
-    rw (← same) (event_held (nat_lt (length held) most_events) number held (in_line (event_reading text)) more
-    (λ next long. events_by_entries (length held + 1) next more long))
-events_by_entries count held ((number, Starts unit) ∷ more) same = events_by_entries count held more same
-events_by_entries count held ((number, Nothing) ∷ more) same = events_by_entries count held more same
+    (zones : Zones) (count : ℕ) (held : List Calendar) (effects : List (ℕ × Effect)) → length held ≡ count →
+    events_from zones held effects
+    ≡ unless_refused (refusals (entries_from zones (record { held = count; told = false }) effects)) (events_after zones held effects)
+events_by_entries zones count held [] same = refl
+events_by_entries zones count held ((number, Reset) ∷ more) same = events_by_entries zones 0 [] more refl
+events_by_entries zones count held ((number, Event text) ∷ more) same =
+    rw (← same) (event_held zones (nat_lt (length held) most_events) number held (in_line (event_reading zones text)) more
+    (λ next long. events_by_entries zones (length held + 1) next more long))
+events_by_entries zones count held ((number, Starts unit) ∷ more) same = events_by_entries zones count held more same
+events_by_entries zones count held ((number, Nothing) ∷ more) same = events_by_entries zones count held more same
 
-of_lines : (name : List ℕ) (lines : List (ℕ × List ℕ)) → timer_of_lines name lines ≡ lines_by_entries name lines
-of_lines name lines =
+of_lines : (zones : Zones) (name : List ℕ) (lines : List (ℕ × List ℕ)) → timer_of_lines zones name lines ≡ lines_by_entries zones name lines
+of_lines zones name lines =
     ap (λ (events : TextReading (List Calendar)). events
     >>= λ held. job_with (has_timer lines) name (first_unit (effects_from false lines)) held)
-    (events_by_entries 0 [] (effects_from false lines) refl)
+    (events_by_entries zones 0 [] (effects_from false lines) refl)
 
 of_text :
-    (name : List ℕ) (text : TextReading (List ℕ)) →
-    (text >>= λ t. timer_of_lines name (map (λ line. (line.0, trimmed line.1)) (whole_lines t)))
-    ≡ (text >>= λ t. lines_by_entries name (map (λ line. (line.0, trimmed line.1)) (whole_lines t)))
-of_text name (Ok text) = of_lines name (map (λ line. (line.0, trimmed line.1)) (whole_lines text))
-of_text name (Err fault) = refl
+    (zones : Zones) (name : List ℕ) (text : TextReading (List ℕ)) →
+    (text >>= λ t. timer_of_lines zones name (map (λ line. (line.0, trimmed line.1)) (whole_lines t)))
+    ≡ (text >>= λ t. lines_by_entries zones name (map (λ line. (line.0, trimmed line.1)) (whole_lines t)))
+of_text zones name (Ok text) = of_lines zones name (map (λ line. (line.0, trimmed line.1)) (whole_lines text))
+of_text zones name (Err fault) = refl
 
-pub timer_law : (name bytes : List ℕ) → timer_reading name bytes ≡ timer_by_entries name bytes
-timer_law name bytes =
-    ap (λ (read : TextReading JobParts). cond (is_timer_name name) read (on_line 0 (Err BadTimerName))) (of_text name (text_reading bytes))
+pub timer_law : (zones : Zones) (name bytes : List ℕ) → timer_reading zones name bytes ≡ timer_by_entries zones name bytes
+timer_law zones name bytes =
+    ap (λ (read : TextReading JobParts). cond (is_timer_name name) read (on_line 0 (Err BadTimerName))) (of_text zones name (text_reading bytes))
 
 -- ---- the loop
 

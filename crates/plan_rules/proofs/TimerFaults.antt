@@ -12,6 +12,7 @@ use Rattle.plan_rules.specs.declared.line_fault.LineCause.TheVariants.{NoTimerSe
 use Rattle.plan_rules.specs.Limits.{most_events}
 use Rattle.plan_texts.specs.declared.whole_lines.WholeLine.{WholeLine}
 use Rattle.plan_grammar.specs.Event.{event_reading}
+use Rattle.plan_grammar.specs.EventZones.{Zones}
 use Rattle.plan_rules.specs.LineFaults.{in_line, on_line}
 use Rattle.plan_rules.specs.FileText.{text_reading}
 use Rattle.plan_rules.specs.Job.{JobParts}
@@ -43,19 +44,20 @@ boundary_of_name name is =
 
 -- ---- the lines
 
-event_fault : (held : List Calendar) (text : List ℕ) → IfErr (added_event held text) IsLineCause
-event_fault held text =
-    err_choice IsLineCause (nat_lt (length held) most_events) (in_line (event_reading text)) (Err TooManyLines)
-    (rule_in (event_reading text)) tt
+event_fault : (zones : Zones) (held : List Calendar) (text : List ℕ) → IfErr (added_event zones held text) IsLineCause
+event_fault zones held text =
+    err_choice IsLineCause (nat_lt (length held) most_events) (in_line (event_reading zones text)) (Err TooManyLines)
+    (rule_in (event_reading zones text)) tt
 
-events_fault : (held : List Calendar) (effects : List (ℕ × Effect)) → IfErr (events_from held effects) IsOwnFault
-events_fault held [] = tt
-events_fault held ((number, Reset) ∷ more) = events_fault [] more
-events_fault held ((number, Event text) ∷ more) =
-    err_steps IsOwnFault (on_line number (added_event held text)) _ (on number (added_event held text) (event_fault held text))
-    (λ event. events_fault (held ++ event ∷ []) more)
-events_fault held ((number, Starts unit) ∷ more) = events_fault held more
-events_fault held ((number, Nothing) ∷ more) = events_fault held more
+events_fault :
+    (zones : Zones) (held : List Calendar) (effects : List (ℕ × Effect)) → IfErr (events_from zones held effects) IsOwnFault
+events_fault zones held [] = tt
+events_fault zones held ((number, Reset) ∷ more) = events_fault zones [] more
+events_fault zones held ((number, Event text) ∷ more) =
+    err_steps IsOwnFault (on_line number (added_event zones held text)) _ (on number (added_event zones held text) (event_fault zones held text))
+    (λ event. events_fault zones (held ++ event ∷ []) more)
+events_fault zones held ((number, Starts unit) ∷ more) = events_fault zones held more
+events_fault zones held ((number, Nothing) ∷ more) = events_fault zones held more
 
 job_fault :
     (found : Bool) (name : List ℕ) (unit : Option (List ℕ)) (events : List Calendar) → IfErr (job_with found name unit events) IsOwnFault
@@ -63,18 +65,18 @@ job_fault true name unit events = tt
 job_fault false name unit events = on {A = JobParts} 0 (Err NoTimerSection) tt
 
 -- every error of a timer's lines is of a line
-pub lines_fault : (name : List ℕ) (lines : List (ℕ × List ℕ)) → IfErr (timer_of_lines name lines) IsOwnFault
-lines_fault name lines =
-    err_steps IsOwnFault (events_from [] (effects_from false lines)) _ (events_fault [] (effects_from false lines))
+pub lines_fault : (zones : Zones) (name : List ℕ) (lines : List (ℕ × List ℕ)) → IfErr (timer_of_lines zones name lines) IsOwnFault
+lines_fault zones name lines =
+    err_steps IsOwnFault (events_from zones [] (effects_from false lines)) _ (events_fault zones [] (effects_from false lines))
     (λ events. job_fault (has_timer lines) name (first_unit (effects_from false lines)) events)
 
 -- ---- the bytes
 
 -- the meaning of a file whose name and text are valid
 pub timer_of_text :
-    (name bytes text : List ℕ) → is_timer_name name ≡ true → Ok text ≡ text_reading bytes →
-    timer_reading name bytes ≡ timer_of_lines name (map (λ line. (line.0, trimmed line.1)) (whole_lines text))
-timer_of_text name bytes text named read = rw (named, sym read) refl
+    (zones : Zones) (name bytes text : List ℕ) → is_timer_name name ≡ true → Ok text ≡ text_reading bytes →
+    timer_reading zones name bytes ≡ timer_of_lines zones name (map (λ line. (line.0, trimmed line.1)) (whole_lines text))
+timer_of_text zones name bytes text named read = rw (named, sym read) refl
 
 -- the whole lines as the code keeps them, without blanks at their ends
 pub trimmed_lines :

@@ -7,6 +7,7 @@ use Rattle.std.proofs.lemmas.List.{drop_more, drop_all}
 use Rattle.plan_match.specs.declared.event.Calendar.{Calendar}
 use Rattle.plan_texts.specs.Steps.{◌>>=◌}
 use Rattle.plan_grammar.specs.Event.{event_reading}
+use Rattle.plan_grammar.specs.EventZones.{Zones}
 use Rattle.plan_rules.specs.declared.line_fault.LineCause.TheVariants.{TooManyLines}
 use Rattle.plan_rules.specs.Limits.{most_events}
 use Rattle.plan_rules.specs.LineFaults.{LineReading, TextReading, in_line, on_line}
@@ -42,7 +43,7 @@ unit_step (Some unit) number other more = refl
 -- the meaning of a file, from the state and the remaining lines
 abbrev pub rest_reading : List ℕ → Draft → List (ℕ × List ℕ) → TextReading JobParts
 rest_reading name draft lines =
-    events_from draft.events (effects_from draft.reader.inside lines)
+    events_from draft.reader.zones draft.events (effects_from draft.reader.inside lines)
     >>= λ events. job_with (draft.reader.found || has_timer lines) name
     (unit_from draft.unit (effects_from draft.reader.inside lines)) events
 
@@ -56,14 +57,14 @@ IsCounted draft = draft.reader.count ≡ counted draft.events
 
 -- before the first line
 pub rest_reading-none :
-    (name : List ℕ) (lines : List (ℕ × List ℕ)) → rest_reading name no_settings lines ≡ timer_of_lines name lines
-rest_reading-none name lines = refl
+    (zones : Zones) (name : List ℕ) (lines : List (ℕ × List ℕ)) → rest_reading name (no_settings zones) lines ≡ timer_of_lines zones name lines
+rest_reading-none zones name lines = refl
 
 -- an event, whether the list is full or not
 event_step :
     (room : Bool) (name : List ℕ) (number : ℕ) (read : LineReading Calendar) (draft : Draft) (more : List (ℕ × List ℕ)) →
     ((on_line number (cond room read (Err TooManyLines))
-    >>= λ event. events_from (draft.events ++ event ∷ []) (effects_from draft.reader.inside more))
+    >>= λ event. events_from draft.reader.zones (draft.events ++ event ∷ []) (effects_from draft.reader.inside more))
     >>= λ events. job_with (draft.reader.found || has_timer more) name
     (unit_from draft.unit (effects_from draft.reader.inside more)) events)
     ≡ (after_step draft (event_line number (cond room (Some read) (Some (Err TooManyLines)))) >>= λ next. rest_reading name next more)
@@ -74,13 +75,13 @@ event_step false name number read draft more = refl
 -- what a line does
 effect_step :
     (name : List ℕ) (number : ℕ) (effect : Effect) (draft : Draft) (more : List (ℕ × List ℕ)) →
-    (events_from draft.events ((number, effect) ∷ effects_from draft.reader.inside more) >>=
+    (events_from draft.reader.zones draft.events ((number, effect) ∷ effects_from draft.reader.inside more) >>=
     λ events. job_with (draft.reader.found || has_timer more) name
     (unit_from (unit_after draft.unit effect) (effects_from draft.reader.inside more)) events)
-    ≡ (after_step draft (line_by number (counted draft.events) effect) >>= λ next. rest_reading name next more)
+    ≡ (after_step draft (line_by draft.reader.zones number (counted draft.events) effect) >>= λ next. rest_reading name next more)
 effect_step name number Reset draft more = refl
 effect_step name number (Event text) draft more =
-    event_step (nat_lt (length draft.events) most_events) name number (in_line (event_reading text)) draft more
+    event_step (nat_lt (length draft.events) most_events) name number (in_line (event_reading draft.reader.zones text)) draft more
 effect_step name number (Starts unit) draft more = refl
 effect_step name number Nothing draft more = refl
 
@@ -93,11 +94,11 @@ rest_reading-line name draft line more counts =
     let effect = line_effect draft.reader.inside section (setting_of line.1) in
     let left = effects_from (inside_after draft.reader.inside section) more in
     let after = record draft { reader = state_after draft.reader line.1 } in
-    ap (λ (end : Bool × Option (List ℕ)). events_from draft.events ((line.0, effect) ∷ left) >>=
+    ap (λ (end : Bool × Option (List ℕ)). events_from draft.reader.zones draft.events ((line.0, effect) ∷ left) >>=
     λ events. job_with end.0 name end.1 events)
     (λ i. (sym (or_assoc draft.reader.found (inside_after false section) (has_timer more)) i, unit_step draft.unit line.0 effect left i))
     ∙ effect_step name line.0 effect after more
-    ∙ ap (λ count. after_step after (line_by line.0 count effect) >>= λ next. rest_reading name next more) (sym counts)
+    ∙ ap (λ count. after_step after (line_by after.reader.zones line.0 count effect) >>= λ next. rest_reading name next more) (sym counts)
 
 -- an event that is added is counted
 counted_event :
@@ -112,10 +113,10 @@ counted_event false number read draft counts = tt
 
 counted_step :
     (number : ℕ) (effect : Effect) (draft : Draft) → draft.reader.count ≡ count_after (counted draft.events) effect →
-    IfOk (after_step draft (line_by number (counted draft.events) effect)) IsCounted
+    IfOk (after_step draft (line_by draft.reader.zones number (counted draft.events) effect)) IsCounted
 counted_step number Reset draft counts = counts
 counted_step number (Event text) draft counts =
-    counted_event (nat_lt (length draft.events) most_events) number (in_line (event_reading text)) draft counts
+    counted_event (nat_lt (length draft.events) most_events) number (in_line (event_reading draft.reader.zones text)) draft counts
 counted_step number (Starts unit) draft counts = counts
 counted_step number Nothing draft counts = counts
 
@@ -124,7 +125,7 @@ pub counted_line : (draft : Draft) (line : ℕ × List ℕ) → IsCounted draft 
 counted_line draft line counts =
     let effect = effect_in draft.reader line.1 in
     let after = record draft { reader = state_after draft.reader line.1 } in
-    subst (λ (count : EventCount). IfOk (after_step after (line_by line.0 count effect)) IsCounted) (sym counts)
+    subst (λ (count : EventCount). IfOk (after_step after (line_by after.reader.zones line.0 count effect)) IsCounted) (sym counts)
     (counted_step line.0 effect after (ap (λ count. count_after count effect) counts))
 
 -- the line at a position

@@ -8,6 +8,7 @@ pub use Rattle.plan_match.specs.WithinLimits
 pub use Rattle.plan_match.specs.Equal
 pub use Rattle.plan_grammar.specs.Readings
 pub use Rattle.plan_grammar.specs.Cron
+pub use Rattle.plan_grammar.specs.EventZones
 pub use Rattle.plan_grammar.specs.Event
 pub mod Limits
 pub mod LineFaults
@@ -21,4 +22,6 @@ pub mod Zone
 pub mod Timer
 pub mod TimerEntries
 pub mod TimerSteps
+pub mod Names
+pub mod TimerZones
 pub mod Causes

@@ -13,6 +13,7 @@ use Rattle.plan_rules.specs.Limits.{least_name, most_name, most_events}
 use Rattle.plan_texts.specs.Text.{begins_with}
 use Rattle.plan_texts.specs.Steps.{◌>>=◌}
 use Rattle.plan_grammar.specs.Event.{event_reading}
+use Rattle.plan_grammar.specs.EventZones.{Zones}
 use Rattle.plan_rules.specs.LineFaults.{LineReading, TextReading, in_line, on_line}
 use Rattle.plan_rules.specs.FileText.{text_reading}
 use Rattle.plan_rules.specs.Job.{JobParts}
@@ -118,21 +119,22 @@ has_timer lines = list_any (λ line. inside_after false (section_name (line.1)))
 
 -- ---- the events, and the unit that is started
 
--- the event that a text adds to a list; a list that already has 64 is an error, before the text is read (agenda)
-abbrev pub added_event : List Calendar → List ℕ → LineReading Calendar
-added_event held text =
-    if nat_lt (length held) most_events then in_line (event_reading text) else Err TooManyLines
+-- the event that a text adds to a list, where events may name these zones; a list that already has 64 is an error, before the
+-- text is read (agenda)
+abbrev pub added_event : Zones → List Calendar → List ℕ → LineReading Calendar
+added_event zones held text =
+    if nat_lt (length held) most_events then in_line (event_reading zones text) else Err TooManyLines
 
 -- the events that lines add to a list: those after the last reset (systemd.timer(5), `OnCalendar=`); the first error decides,
 -- even if a later line empties the list (agenda)
-abbrev pub events_from : List Calendar → List (ℕ × Effect) → TextReading (List Calendar)
-events_from held [] = Ok held
-events_from held ((number, Reset) ∷ more) = events_from [] more
-events_from held ((number, Event text) ∷ more) = do
-  event ← on_line number (added_event held text)
-  events_from (held ++ event ∷ []) more
-events_from held ((number, Starts unit) ∷ more) = events_from held more
-events_from held ((number, Nothing) ∷ more) = events_from held more
+abbrev pub events_from : Zones → List Calendar → List (ℕ × Effect) → TextReading (List Calendar)
+events_from zones held [] = Ok held
+events_from zones held ((number, Reset) ∷ more) = events_from zones [] more
+events_from zones held ((number, Event text) ∷ more) = do
+  event ← on_line number (added_event zones held text)
+  events_from zones (held ++ event ∷ []) more
+events_from zones held ((number, Starts unit) ∷ more) = events_from zones held more
+events_from zones held ((number, Nothing) ∷ more) = events_from zones held more
 
 -- the first unit that is named (agenda)
 abbrev pub first_unit : List (ℕ × Effect) → Option (List ℕ)
@@ -157,16 +159,17 @@ job_with found name unit events =
     else on_line 0 (Err NoTimerSection)
 
 -- the job of a timer's whole lines, without blanks at their ends; a missing `[Timer]` section is the last error to be found (agenda)
-abbrev pub timer_of_lines : List ℕ → List (ℕ × List ℕ) → TextReading JobParts
-timer_of_lines name lines = do
-  events ← events_from [] (effects_from false lines)
+abbrev pub timer_of_lines : Zones → (name : List ℕ) → List (ℕ × List ℕ) → TextReading JobParts
+timer_of_lines zones name lines = do
+  events ← events_from zones [] (effects_from false lines)
   job_with (has_timer lines) name (first_unit (effects_from false lines)) events
 
--- the meaning of a timer file: its name is checked first, then its bytes, then its lines are read (agenda)
-abbrev pub timer_reading : List ℕ → List ℕ → TextReading JobParts
-timer_reading name bytes =
+-- the meaning of a timer file whose events may name these zones: its name is checked first, then its bytes, then its lines are
+-- read (agenda)
+abbrev pub timer_reading : Zones → (name bytes : List ℕ) → TextReading JobParts
+timer_reading zones name bytes =
     if is_timer_name name
     then (do
       text ← text_reading bytes
-      timer_of_lines name (map (λ line. (line.0, trimmed (line.1))) (whole_lines text)))
+      timer_of_lines zones name (map (λ line. (line.0, trimmed (line.1))) (whole_lines text)))
     else on_line 0 (Err BadTimerName)

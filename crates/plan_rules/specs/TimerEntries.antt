@@ -12,6 +12,7 @@ use Rattle.plan_texts.specs.Steps.{◌>>=◌}
 use Rattle.plan_texts.specs.declared.whole_lines.WholeLine.{WholeLine}
 use Rattle.plan_texts.specs.WholeLines.{whole_lines, trimmed}
 use Rattle.plan_grammar.specs.Event.{event_reading}
+use Rattle.plan_grammar.specs.EventZones.{Zones}
 use Rattle.plan_rules.specs.Entries.{entry_at, refusals, unless_refused}
 use Rattle.plan_rules.specs.FileText.{text_reading}
 use Rattle.plan_rules.specs.Job.{JobParts}
@@ -29,10 +30,11 @@ pub record EventCount : Type 0 where
 abbrev pub no_events : EventCount
 no_events = record { held = 0; told = false }
 
--- the meaning of an event; if the list already has 64, the event isn't read, and the first such event of a file gets an error (agenda)
-abbrev pub event_by : EventCount → List ℕ → Option (LineReading Calendar)
-event_by count text =
-    if nat_lt count.held most_events then Some (in_line (event_reading text))
+-- the meaning of an event, which may name these zones; if the list already has 64, the event isn't read, and the first such event
+-- of a file gets an error (agenda)
+abbrev pub event_by : Zones → EventCount → List ℕ → Option (LineReading Calendar)
+event_by zones count text =
+    if nat_lt count.held most_events then Some (in_line (event_reading zones text))
     else (if count.told then None else Some (Err TooManyLines))
 
 -- the state after an event
@@ -54,11 +56,11 @@ event_line number None = Idle
 event_line number (Some reading) = Has (entry_at number reading)
 
 -- the same, by its effect
-abbrev pub line_by : ℕ → EventCount → Effect → LineStep
-line_by number count Reset = Empties
-line_by number count (Event text) = event_line number (event_by count text)
-line_by number count (Starts unit) = Names unit
-line_by number count Nothing = Idle
+abbrev pub line_by : Zones → ℕ → EventCount → Effect → LineStep
+line_by zones number count Reset = Empties
+line_by zones number count (Event text) = event_line number (event_by zones count text)
+line_by zones number count (Starts unit) = Names unit
+line_by zones number count Nothing = Idle
 
 -- the entry of a line's event, if it has one
 abbrev pub entry_of : LineStep → Option (Entry Calendar)
@@ -75,10 +77,10 @@ count_after count Nothing = count
 -- ---- all lines
 
 -- the entries of lines, by what the lines do, from a state of the list
-abbrev pub entries_from : EventCount → List (ℕ × Effect) → List (Entry Calendar)
-entries_from count [] = []
-entries_from count ((number, effect) ∷ more) =
-    cons_option (entry_of (line_by number count effect)) (entries_from (count_after count effect) more)
+abbrev pub entries_from : Zones → EventCount → List (ℕ × Effect) → List (Entry Calendar)
+entries_from zones count [] = []
+entries_from zones count ((number, effect) ∷ more) =
+    cons_option (entry_of (line_by zones number count effect)) (entries_from zones (count_after count effect) more)
 
 -- the state after lines
 abbrev pub count_from : EventCount → List (ℕ × Effect) → EventCount
@@ -89,15 +91,17 @@ count_from count ((number, effect) ∷ more) = count_from (count_after count eff
 abbrev pub shown_line : WholeLine → ℕ × List ℕ
 shown_line line = (line.number, trimmed (string_bytes line.text))
 
--- the state between two lines: whether the next line is in a `[Timer]` section, whether there was one, and the list of events
+-- the state between two lines: the zones that events may name, whether the next line is in a `[Timer]` section, whether there was
+-- one, and the list of events
 pub record TimerState : Type 0 where
+  pub zones : Zones
   pub inside : Bool
   pub found : Bool
   pub count : EventCount
 
 -- the state before the first line
-abbrev pub no_lines : TimerState
-no_lines = record { inside = false; found = false; count = no_events }
+abbrev pub no_lines : Zones → TimerState
+no_lines zones = record { zones = zones; inside = false; found = false; count = no_events }
 
 -- what a line does in a state
 abbrev pub effect_in : TimerState → List ℕ → Effect
@@ -105,7 +109,7 @@ effect_in state text = line_effect state.inside (section_name text) (setting_of 
 
 -- what a line with its number does to the job
 abbrev pub line_in : TimerState → ℕ × List ℕ → LineStep
-line_in state line = line_by line.0 state.count (effect_in state line.1)
+line_in state line = line_by state.zones line.0 state.count (effect_in state line.1)
 
 -- the same, as the code says it
 abbrev pub line_shown : TimerLine → LineStep
@@ -117,6 +121,7 @@ line_shown (does.Starts unit) = Names unit.now
 -- the state after a line
 abbrev pub state_after : TimerState → List ℕ → TimerState
 state_after state text = record {
+  zones = state.zones;
   inside = inside_after state.inside (section_name text);
   found = state.found || inside_after false (section_name text);
   count = count_after state.count (effect_in state text);
@@ -135,25 +140,26 @@ timer_lines bytes = do
 -- ---- the meaning of a timer file by its entries
 
 -- the events in the list after lines, from the events that it already has, if none is rejected
-abbrev pub events_after : List Calendar → List (ℕ × Effect) → List Calendar
-events_after held [] = held
-events_after held ((number, Reset) ∷ more) = events_after [] more
-events_after held ((number, Event text) ∷ more) =
-    events_after (held ++ cons_option (result_ok (in_line (event_reading text))) []) more
-events_after held ((number, Starts unit) ∷ more) = events_after held more
-events_after held ((number, Nothing) ∷ more) = events_after held more
+abbrev pub events_after : Zones → List Calendar → List (ℕ × Effect) → List Calendar
+events_after zones held [] = held
+events_after zones held ((number, Reset) ∷ more) = events_after zones [] more
+events_after zones held ((number, Event text) ∷ more) =
+    events_after zones (held ++ cons_option (result_ok (in_line (event_reading zones text))) []) more
+events_after zones held ((number, Starts unit) ∷ more) = events_after zones held more
+events_after zones held ((number, Nothing) ∷ more) = events_after zones held more
 
 -- the job of whole lines: the first rejected event decides (agenda)
-abbrev pub lines_by_entries : List ℕ → List (ℕ × List ℕ) → TextReading JobParts
-lines_by_entries name lines = do
-  events ← unless_refused (refusals (entries_from no_events (effects_from false lines))) (events_after [] (effects_from false lines))
+abbrev pub lines_by_entries : Zones → (name : List ℕ) → List (ℕ × List ℕ) → TextReading JobParts
+lines_by_entries zones name lines = do
+  events ← unless_refused (refusals (entries_from zones no_events (effects_from false lines)))
+      (events_after zones [] (effects_from false lines))
   job_with (has_timer lines) name (first_unit (effects_from false lines)) events
 
 -- the job of a timer file, by its entries (agenda)
-abbrev pub timer_by_entries : List ℕ → List ℕ → TextReading JobParts
-timer_by_entries name bytes =
+abbrev pub timer_by_entries : Zones → (name bytes : List ℕ) → TextReading JobParts
+timer_by_entries zones name bytes =
     if is_timer_name name
     then (do
       text ← text_reading bytes
-      lines_by_entries name (map (λ line. (line.0, trimmed (line.1))) (whole_lines text)))
+      lines_by_entries zones name (map (λ line. (line.0, trimmed (line.1))) (whole_lines text)))
     else on_line 0 (Err BadTimerName)

@@ -7,6 +7,7 @@ use Rattle.plan_rules.specs.declared.timer_lines.LineEffect.TheVariants as does
 use Rattle.plan_rules.specs.declared.timer_lines.Sections.{Sections}
 use Rattle.plan_rules.specs.declared.timers.Settings.{Settings}
 use Rattle.plan_texts.specs.Steps.{◌>>=◌}
+use Rattle.plan_grammar.specs.EventZones.{Zones}
 use Rattle.plan_rules.specs.LineFaults.{LineReading, TextReading, on_line}
 use Rattle.plan_rules.specs.Timer.{Effect, Reset, Event, Starts, Nothing, inside_after}
 use Rattle.plan_rules.specs.TimerEntries.{TimerState, LineStep, Idle, Empties, Has, Names, line_in, no_lines, state_after}
@@ -36,8 +37,8 @@ pub record Draft : Type 0 where
   pub unit : Option (List ℕ)
 
 -- the state before the first line
-abbrev pub no_settings : Draft
-no_settings = record { reader = no_lines; events = []; unit = None }
+abbrev pub no_settings : Zones → Draft
+no_settings zones = record { reader = no_lines zones; events = []; unit = None }
 
 -- the same, as the code keeps it
 abbrev pub draft_of : Settings → Draft

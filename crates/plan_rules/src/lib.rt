@@ -4,7 +4,7 @@
 //! (systemd.timer(5), systemd.syntax(7)). Each takes its text from `file_text` and makes a `job` of each rule. `jobs`
 //! is the list of all jobs, by their names. An `entry` is what one line says by itself. `timer_events` reads the
 //! lines of a timer one after the other, and `crontabs` those of a crontab, so that a caller can report all errors
-//! of a file.
+//! of a file. `timer_zones` finds the `names` of the time zones that the events of a timer end with.
 //!
 //! The crate also re-exports names of three crates below it: plan_texts, plan_match and plan_grammar.
 #![tactic(auto)]
@@ -16,8 +16,10 @@ mod job;
 mod jobs;
 mod line_fault;
 mod named_crontabs;
+mod names;
 mod timer_events;
 mod timer_lines;
+mod timer_zones;
 mod timers;
 
 pub use crontabs::{Kind, crontab, crontab_entry, crontab_is_its_entries, job_name};
@@ -27,9 +29,14 @@ pub use job::Job;
 pub use jobs::{AddFault, Jobs, MOST_JOBS};
 pub use line_fault::{LineCause, LineFault};
 pub use named_crontabs::{CrontabDirectory, is_crontab_name, kind_in, named_crontab};
-pub use plan_grammar::{RuleCause, RuleFault, calendar_event, calendar_rule, cron_rule};
+pub use names::Names;
+pub use plan_grammar::{
+    EventZones, NamedZone, RuleCause, RuleFault, calendar_event, calendar_rule, cron_rule,
+    zone_name,
+};
 pub use plan_match::{Calendar, CronRule, DayCount, Events, Rule};
 pub use plan_texts::{Text, cut, lines, number};
 pub use timer_events::{TimerLine, TimerReader, timer_is_its_entries};
 pub use timer_lines::setting_of;
+pub use timer_zones::add_timer_zones;
 pub use timers::{MOST_EVENTS, is_timer_name, timer, timer_job};

@@ -2,6 +2,7 @@
 
 ghost use Rattle.std.specs.Prelude.{◌≡◌, ℕ, List, IfOk, OnOk};
 ghost use Rattle.plan_grammar.specs.Event.{event_reading};
+ghost use Rattle.plan_grammar.specs.EventZones.{Zones};
 ghost use Rattle.plan_rules.specs.LineFaults.{in_line};
 ghost use Rattle.plan_rules.specs.Timer.{timer_reading};
 ghost use Rattle.plan_rules.specs.TimerEntries.{timer_by_entries};
@@ -10,7 +11,7 @@ use crate::entry::Entry;
 use crate::line_fault::LineCause;
 use crate::timer_lines::{LineEffect, Sections};
 use crate::timers::MOST_EVENTS;
-use plan_grammar::calendar_event;
+use plan_grammar::{EventZones, calendar_event};
 use plan_match::Calendar;
 use plan_texts::whole_lines::{WholeLine, trimmed};
 use std::alloc::{AllocError, Global};
@@ -34,7 +35,9 @@ pub enum TimerLine<'a> {
 /// A rejected event counts in the list like a valid one. While the list has 64 events, no further event is
 /// read. The first event of the file that isn't read gets the entry `TooManyLines`; the others get none.
 #[derive(Drop)]
-pub struct TimerReader {
+pub struct TimerReader<'z> {
+    // The zones that events may name.
+    zones: &'z EventZones,
     sections: Sections,
     // The number of events in the list.
     held: usize,
@@ -42,28 +45,30 @@ pub struct TimerReader {
     told: bool,
 }
 
-impl Model for TimerReader {
+impl<'z> Model for TimerReader<'z> {
     ghost use Rattle.plan_rules.specs.TimerEntries.{TimerState};
 
     ghost Value = { TimerState };
 
     ghost view = { λ reader. record {
+      zones = reader.zones.now;
       inside = reader.sections.inside;
       found = reader.sections.found;
       count = record { held = reader.held; told = reader.told };
     } };
 }
 
-impl TimerReader {
+impl<'z> TimerReader<'z> {
     ghost use Rattle.std.specs.Option.{option_map};
     ghost use Rattle.plan_rules.specs.Timer.{timer_setting};
     ghost use Rattle.plan_rules.specs.TimerEntries.{after_event_text, event_by, event_line, line_in, line_shown, no_events, no_lines, shown_line, state_after};
 
-    /// Returns a reader that has read no line yet.
-    pub fn new() -> TimerReader
-        ensures { result ≡ no_lines }
+    /// Returns a reader that has read no line yet. Events may name these zones.
+    pub fn new(zones: &'z EventZones) -> TimerReader<'z>
+        ensures { result ≡ no_lines zones.now }
     {
         TimerReader {
+            zones,
             sections: Sections::new(),
             held: 0,
             told: false,
@@ -131,11 +136,11 @@ impl TimerReader {
         number: u32,
         text: &str,
     ) -> Result<TimerLine<'a>, AllocError>
-        ensures line { IfOk result (λ read. line_shown read ≡ event_line number (event_by self.old.count text.now)) }
+        ensures line { IfOk result (λ read. line_shown read ≡ event_line number (event_by self.old.zones self.old.count text.now)) }
         ensures after { OnOk result (self.new ≡ record self.old { count = after_event_text self.old.count }) }
     {
         if self.held < MOST_EVENTS {
-            let read = event_in_line(alloc, text)?;
+            let read = event_in_line(alloc, text, self.zones)?;
             self.held += 1;
             return Ok(TimerLine::Event(Entry { line: number, read }));
         }
@@ -155,14 +160,19 @@ impl TimerReader {
 ///
 /// The function does nothing; its contract is the law.
 pub fn timer_is_its_entries()
-    ensures { (name bytes : List ℕ) → timer_reading name bytes ≡ timer_by_entries name bytes }
+    ensures { (zones : Zones) → (name bytes : List ℕ) → timer_reading zones name bytes ≡ timer_by_entries zones name bytes }
 {}
 
-// Returns the event of a text in a line, or what is wrong with it. The outer error is a failed allocation.
-fn event_in_line(alloc: Global, text: &str) -> Result<Result<Calendar, LineCause>, AllocError>
-    ensures { IfOk result (λ read. read ≡ in_line (event_reading text.now)) }
+// Returns the event of a text in a line, or what is wrong with it. The event may name these zones. The outer error is a
+// failed allocation.
+fn event_in_line(
+    alloc: Global,
+    text: &str,
+    zones: &EventZones,
+) -> Result<Result<Calendar, LineCause>, AllocError>
+    ensures { IfOk result (λ read. read ≡ in_line (event_reading zones.now text.now)) }
 {
-    match calendar_event(alloc, text) {
+    match calendar_event(alloc, text, zones) {
         Ok(event) => Ok(Ok(event)),
         Err(fault) => match LineCause::from(fault) {
             LineCause::NoMemory => Err(AllocError),

@@ -15,6 +15,7 @@ use crate::file_text::text_of;
 use crate::job::Job;
 use crate::line_fault::{LineCause, LineFault};
 use crate::timer_events::{TimerLine, TimerReader};
+use plan_grammar::EventZones;
 use plan_match::{Calendar, Events, Rule};
 use plan_texts::whole_lines::{WholeLine, whole_lines};
 use std::alloc::{AllocError, Global};
@@ -32,7 +33,7 @@ const MOST_NAME: usize = 255;
 /// The maximum number of events in the list of a timer.
 pub const MOST_EVENTS: usize = 64;
 
-/// Returns the job of a timer file, whose name is the file's name (systemd.timer(5)).
+/// Returns the job of a timer file, whose name is the file's name (systemd.timer(5)). Its events may name these zones.
 ///
 /// Its rule is the list of the events of `OnCalendar=` in its `[Timer]` sections. An empty value of a time
 /// setting, such as `OnCalendar=` or `OnBootSec=`, empties the list. The job starts the first unit that
@@ -51,8 +52,8 @@ pub const MOST_EVENTS: usize = 64;
 ///
 /// If a line is continued with a backslash, its number is that of its first line. The errors that are not of
 /// a line have line 0, and so has `NoMemory`, if an allocation fails.
-pub fn timer(alloc: Global, name: &str, bytes: &[u8]) -> Result<Job, LineFault>
-    ensures meaning { GivesUnless want_of_memory (λ job. job) result (timer_reading name.now bytes.now) }
+pub fn timer(alloc: Global, name: &str, bytes: &[u8], zones: &EventZones) -> Result<Job, LineFault>
+    ensures meaning { GivesUnless want_of_memory (λ job. job) result (timer_reading zones.now name.now bytes.now) }
     // These three are found before the first allocation.
     ensures bad_name { (result ≡ Err (of_whole LineCause.BadTimerName)) ↔ (is_timer_name name.now ≡ false) }
     ensures too_large { (result ≡ Err (of_whole LineCause.TooLarge))
@@ -67,7 +68,7 @@ pub fn timer(alloc: Global, name: &str, bytes: &[u8]) -> Result<Job, LineFault>
     }
     let text = text_of(bytes)?;
     let lines = whole_lines(alloc, text)?;
-    timer_of_lines(alloc, name, lines.as_slice())
+    timer_of_lines(alloc, name, lines.as_slice(), zones)
 }
 
 /// Returns whether a file with this name is a timer file: the name has 7 to 255 bytes, ends in `.timer`, and
@@ -99,11 +100,17 @@ fn is_name_byte(byte: u8) -> bool
 }
 
 // Returns the job of the whole lines of a timer file.
-fn timer_of_lines(alloc: Global, name: &str, lines: &[WholeLine]) -> Result<Job, LineFault>
+fn timer_of_lines(
+    alloc: Global,
+    name: &str,
+    lines: &[WholeLine],
+    zones: &EventZones,
+) -> Result<Job, LineFault>
     requires { is_timer_name name.now ≡ true }
-    ensures { GivesUnless want_of_memory (λ job. job) result (timer_of_lines name.now (map shown_line lines.now)) }
+    ensures { GivesUnless want_of_memory (λ job. job) result
+        (timer_of_lines zones.now name.now (map shown_line lines.now)) }
 {
-    let mut settings = Settings::new(alloc);
+    let mut settings = Settings::new(alloc, zones);
     for line in lines {
         settings.read(alloc, line)?;
     }
@@ -145,24 +152,24 @@ fn service_name(alloc: Global, name: &str) -> Result<String, AllocError>
 
 // The settings of a timer file that were read so far.
 #[derive(Drop)]
-struct Settings {
-    reader: TimerReader,
+struct Settings<'z> {
+    reader: TimerReader<'z>,
     // The list of events, as many as the reader counted.
     events: Events,
     // The first unit that was named.
     unit: Option<String>,
 }
 
-impl Settings {
+impl<'z> Settings<'z> {
     ghost use Rattle.plan_rules.specs.TimerEntries.{shown_line};
     ghost use Rattle.plan_rules.specs.TimerSteps.{draft_of, after_event, after_line, after_unit, no_settings};
 
-    // Returns the settings before the first line.
-    fn new(alloc: Global) -> Settings
-        ensures { draft_of result ≡ no_settings }
+    // Returns the settings before the first line. Events may name these zones.
+    fn new(alloc: Global, zones: &'z EventZones) -> Settings<'z>
+        ensures { draft_of result ≡ no_settings zones.now }
     {
         Settings {
-            reader: TimerReader::new(),
+            reader: TimerReader::new(zones),
             events: Events::new(alloc),
             unit: None,
         }
@@ -212,7 +219,8 @@ impl Settings {
     fn into_job(self, alloc: Global, name: &str) -> Result<Job, LineFault>
         requires { is_timer_name name.now ≡ true }
         ensures { GivesUnless want_of_memory (λ job. job) result
-            (job_with self.reader.found name.now (option_map (λ unit. string_bytes unit) self.unit) self.events) }
+            (job_with self.entry.reader.found name.now (option_map (λ unit. string_bytes unit) self.entry.unit)
+            self.entry.events) }
     {
         let Settings {
             reader,

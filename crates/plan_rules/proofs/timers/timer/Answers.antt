@@ -22,27 +22,27 @@ returns-clause-meaning c =
     ∙ ap (map (λ line. (line.0, trimmed line.1))) c.in_ok-lines.ensures in
     let P : TextReading JobParts → Type 0 = λ reading. GivesUnless want_of_memory (λ job. job) c.timer_of_lines.result reading in
     subst P
-    (ap (timer_of_lines c.args.name.now) lines
-    ∙ sym (timer_of_text c.args.name.now c.args.bytes.now c.in_ok-text.text.now named c.in_ok-text.ensures.value))
+    (ap (timer_of_lines c.args.zones.now c.args.name.now) lines
+    ∙ sym (timer_of_text c.args.zones.now c.args.name.now c.args.bytes.now c.in_ok-text.text.now named c.in_ok-text.ensures.value))
     c.timer_of_lines.ensures
 
 pub returns-clause-memory : goal.returns-clause-memory
 returns-clause-memory c =
     IfErr-weaker c.timer_of_lines.result IsOwnFault (λ fault. fault.cause ≡ NoMemory → fault.line ≡ 0) (λ fault own. own.0)
     (answered (λ job. job) c.timer_of_lines.result _ c.timer_of_lines.ensures
-    (lines_fault c.args.name.now (map (λ line. (line.number, trimmed (string_bytes line.text))) c.as_slice.result.now)))
+    (lines_fault c.args.zones.now c.args.name.now (map (λ line. (line.number, trimmed (string_bytes line.text))) c.as_slice.result.now)))
 
 pub returns-clause-own_cause : goal.returns-clause-own_cause
 returns-clause-own_cause c =
     IfErr-weaker c.timer_of_lines.result IsOwnFault (λ fault. IsOwnCause fault.cause) (λ fault own. own_cause fault.cause own.1)
     (answered (λ job. job) c.timer_of_lines.result _ c.timer_of_lines.ensures
-    (lines_fault c.args.name.now (map (λ line. (line.number, trimmed (string_bytes line.text))) c.as_slice.result.now)))
+    (lines_fault c.args.zones.now c.args.name.now (map (λ line. (line.number, trimmed (string_bytes line.text))) c.as_slice.result.now)))
 
 pub returns-clause-bad_name : goal.returns-clause-bad_name
 returns-clause-bad_name c = (
   λ is. absurd (no_other c.timer_of_lines.result (of_whole BadTimerName)
       (answered (λ job. job) c.timer_of_lines.result _ c.timer_of_lines.ensures
-      (lines_fault c.args.name.now (map (λ line. (line.number, trimmed (string_bytes line.text))) c.as_slice.result.now))) (λ no. no) is),
+      (lines_fault c.args.zones.now c.args.name.now (map (λ line. (line.number, trimmed (string_bytes line.text))) c.as_slice.result.now))) (λ no. no) is),
   λ other. let named : is_timer_name c.args.name.now ≡ true = search rules in absurd (true≢false (sym named ∙ other)),
 )
 
@@ -51,7 +51,7 @@ returns-clause-too_large c =
     let named : is_timer_name c.args.name.now ≡ true = search rules in
     let both = too_large c.timer_of_lines.result c.args.bytes.now c.in_ok-text.text.now c.in_ok-text.ensures.value
     (answered (λ job. job) c.timer_of_lines.result _ c.timer_of_lines.ensures
-    (lines_fault c.args.name.now (map (λ line. (line.number, trimmed (string_bytes line.text))) c.as_slice.result.now))) in
+    (lines_fault c.args.zones.now c.args.name.now (map (λ line. (line.number, trimmed (string_bytes line.text))) c.as_slice.result.now))) in
     (λ is. (named, both.0 is), λ is. both.1 is.1)
 
 pub returns-clause-not_utf8 : goal.returns-clause-not_utf8
@@ -59,5 +59,5 @@ returns-clause-not_utf8 c =
     let named : is_timer_name c.args.name.now ≡ true = search rules in
     let both = not_utf8 c.timer_of_lines.result c.args.bytes.now c.in_ok-text.text.now c.in_ok-text.ensures.value
     (answered (λ job. job) c.timer_of_lines.result _ c.timer_of_lines.ensures
-    (lines_fault c.args.name.now (map (λ line. (line.number, trimmed (string_bytes line.text))) c.as_slice.result.now))) in
+    (lines_fault c.args.zones.now c.args.name.now (map (λ line. (line.number, trimmed (string_bytes line.text))) c.as_slice.result.now))) in
     (λ is. (named, both.0 is), λ is. both.1 is.1)

@@ -12,7 +12,7 @@ use Rattle.plan_rules.proofs.timers.timer_of_lines.Goals as goal
 pub loop-line-init : goal.loop-line-init
 loop-line-init c = (
   ap (λ draft. rest_reading c.args.name.now draft (map shown_line c.args.lines.now)) c.new-settings.ensures
-      ∙ rest_reading-none c.args.name.now (map shown_line c.args.lines.now),
+      ∙ rest_reading-none c.args.zones.now c.args.name.now (map shown_line c.args.lines.now),
   ap (λ (draft : Draft). draft.reader.count) c.new-settings.ensures
       ∙ ap counted (sym (ap (λ (draft : Draft). draft.events) c.new-settings.ensures)),
 )

@@ -1,0 +1,61 @@
+//! The time zones that the events of timer files end with (systemd.time(7)).
+
+ghost use Rattle.std.specs.Prelude.{◌≡◌, OnOk, false, map};
+ghost use Rattle.plan_rules.specs.Names.{with_found, with_names};
+ghost use Rattle.plan_rules.specs.TimerEntries.{shown_line};
+ghost use Rattle.plan_rules.specs.TimerSteps.{effect_shown};
+ghost use Rattle.plan_rules.specs.TimerZones.{effect_zone, timer_zones, zones_from};
+
+use crate::file_text::text_of;
+use crate::names::Names;
+use crate::timer_lines::{LineEffect, Sections};
+use plan_grammar::zone_name;
+use plan_texts::whole_lines::{WholeLine, trimmed, whole_lines};
+use std::alloc::{AllocError, Global};
+
+/// Adds the names of the time zones that the events of a timer file end with, but for UTC (systemd.time(7)).
+///
+/// These are the names by which zones are looked up, as `zone_name` returns them. The events are those of
+/// `OnCalendar=` in `[Timer]` sections, even if they are rejected. A text that is too large or not UTF-8 has none.
+///
+/// # Errors
+///
+/// `AllocError` if an allocation fails. The contract doesn't say which names are there then.
+pub fn add_timer_zones(alloc: Global, names: &mut Names, bytes: &[u8]) -> Result<(), AllocError>
+    ensures { OnOk result (names.new ≡ with_names names.old (timer_zones bytes.now)) }
+{
+    let Ok(text) = text_of(bytes) else {
+        return Ok(());
+    };
+    let lines = whole_lines(alloc, text)?;
+    add_lines_zones(alloc, names, lines.as_slice())
+}
+
+// Adds the names of the zones that the events of whole lines end with.
+fn add_lines_zones(alloc: Global, names: &mut Names, lines: &[WholeLine]) -> Result<(), AllocError>
+    ensures { OnOk result (names.new ≡ with_names names.old (zones_from false (map shown_line lines.now))) }
+{
+    let mut sections = Sections::new();
+    for line in lines {
+        let effect = sections.effect(trimmed(line.text.as_str()));
+        add_effect_zone(alloc, names, effect)?;
+    }
+    Ok(())
+}
+
+// Adds the name of the zone that the event of a line ends with, if it does.
+fn add_effect_zone(
+    alloc: Global,
+    names: &mut Names,
+    effect: LineEffect<'_>,
+) -> Result<(), AllocError>
+    ensures { OnOk result (names.new ≡ with_found names.old (effect_zone (effect_shown effect.entry))) }
+{
+    let LineEffect::Event(text) = effect else {
+        return Ok(());
+    };
+    match zone_name(alloc, text)? {
+        Some(name) => names.add(alloc, name),
+        None => Ok(()),
+    }
+}
