@@ -10,6 +10,7 @@ use Rattle.plan_clock.specs.declared.row.Change.{Change}
 use Rattle.plan_match.specs.Zone.{rule_in}
 use Rattle.plan_match.specs.declared.event.Calendar.{Calendar}
 use Rattle.plan_match.specs.declared.rule.Rule.TheVariants.{Events}
+use Rattle.plan_grammar.specs.EventZones.{Zones}
 use Rattle.plan_rules.specs.declared.crontabs.Kind.{Kind}
 use Rattle.plan_rules.specs.declared.entry.Entry.{Entry}
 use Rattle.plan_rules.specs.declared.line_fault.LineCause.{LineCause}
@@ -259,24 +260,24 @@ step_clean clock number setting (Names unit) found more is =
 
 timer_lines_clean :
     (clock : Option (List Change)) (state : TimerState) (lines : List (ℕ × List ℕ)) →
-    is_clean (timers.lines_findings clock state lines) ≡ is_none_of (refusals (entries_from state.count (effects_from state.inside lines)))
+    is_clean (timers.lines_findings clock state lines) ≡ is_none_of (refusals (entries_from state.zones state.count (effects_from state.inside lines)))
 timer_lines_clean clock state [] = refl
 timer_lines_clean clock state (line ∷ more) =
     let next = state_after state line.1 in
     step_clean clock line.0 (timer_setting state.inside line.1) (line_in state line) (timers.lines_findings clock next more)
-    (entries_from next.count (effects_from next.inside more)) (timer_lines_clean clock next more)
+    (entries_from next.zones next.count (effects_from next.inside more)) (timer_lines_clean clock next more)
 
 -- ---- the events that are right
 
 -- the same list by what the lines do
-abbrev right_by : EventCount → List Calendar → List (ℕ × Effect) → List Calendar
-right_by count held [] = held
-right_by count held ((number, effect) ∷ more) =
-    right_by (count_after count effect) (events_with held (line_by number count effect)) more
+abbrev right_by : Zones → EventCount → List Calendar → List (ℕ × Effect) → List Calendar
+right_by zones count held [] = held
+right_by zones count held ((number, effect) ∷ more) =
+    right_by zones (count_after count effect) (events_with held (line_by zones number count effect)) more
 
 right_by_effects :
     (state : TimerState) (held : List Calendar) (lines : List (ℕ × List ℕ)) →
-    right_events state held lines ≡ right_by state.count held (effects_from state.inside lines)
+    right_events state held lines ≡ right_by state.zones state.count held (effects_from state.inside lines)
 right_by_effects state held [] = refl
 right_by_effects state held (line ∷ more) = right_by_effects (state_after state line.1) (events_with held (line_in state line)) more
 
@@ -286,35 +287,35 @@ held_so_far n = record { held = n; told = false }
 
 -- an event, whether the list is full or not
 event_right :
-    (room : Bool) (number n : ℕ) (held : List Calendar) (r : LineReading Calendar) (more : List (ℕ × Effect)) →
-    ((next : List Calendar) → is_none_of (refusals (entries_from (held_so_far (n + 1)) more)) ≡ true →
-    right_by (held_so_far (n + 1)) next more ≡ events_after next more) →
+    (zones : Zones) (room : Bool) (number n : ℕ) (held : List Calendar) (r : LineReading Calendar) (more : List (ℕ × Effect)) →
+    ((next : List Calendar) → is_none_of (refusals (entries_from zones (held_so_far (n + 1)) more)) ≡ true →
+    right_by zones (held_so_far (n + 1)) next more ≡ events_after zones next more) →
     is_none_of (refusals (cons_option (entry_of (event_line number (cond room (Some r) (Some (Err TooManyLines)))))
-    (entries_from (cond room (held_so_far (n + 1)) (record { held = n; told = true })) more))) ≡ true →
-    right_by (cond room (held_so_far (n + 1)) (record { held = n; told = true }))
+    (entries_from zones (cond room (held_so_far (n + 1)) (record { held = n; told = true })) more))) ≡ true →
+    right_by zones (cond room (held_so_far (n + 1)) (record { held = n; told = true }))
     (events_with held (event_line number (cond room (Some r) (Some (Err TooManyLines))))) more
-    ≡ events_after (held ++ cons_option (result_ok r) []) more
-event_right true number n held (Ok event) more later none = later (held ++ event ∷ []) none
-event_right true number n held (Err cause) more later none = absurd (true≢false (sym none))
-event_right false number n held r more later none = absurd (true≢false (sym none))
+    ≡ events_after zones (held ++ cons_option (result_ok r) []) more
+event_right zones true number n held (Ok event) more later none = later (held ++ event ∷ []) none
+event_right zones true number n held (Err cause) more later none = absurd (true≢false (sym none))
+event_right zones false number n held r more later none = absurd (true≢false (sym none))
 
 -- if no event is rejected, all are right
 all_right :
-    (n : ℕ) (held : List Calendar) (effects : List (ℕ × Effect)) →
-    is_none_of (refusals (entries_from (held_so_far n) effects)) ≡ true →
-    right_by (held_so_far n) held effects ≡ events_after held effects
-all_right n held [] none = refl
-all_right n held ((number, Reset) ∷ more) none = all_right 0 [] more none
-all_right n held ((number, Event text) ∷ more) none =
-    event_right (nat_lt n most_events) number n held (in_line (event_reading text)) more
-    (λ next later. all_right (n + 1) next more later) none
-all_right n held ((number, Starts unit) ∷ more) none = all_right n held more none
-all_right n held ((number, Nothing) ∷ more) none = all_right n held more none
+    (zones : Zones) (n : ℕ) (held : List Calendar) (effects : List (ℕ × Effect)) →
+    is_none_of (refusals (entries_from zones (held_so_far n) effects)) ≡ true →
+    right_by zones (held_so_far n) held effects ≡ events_after zones held effects
+all_right zones n held [] none = refl
+all_right zones n held ((number, Reset) ∷ more) none = all_right zones 0 [] more none
+all_right zones n held ((number, Event text) ∷ more) none =
+    event_right zones (nat_lt n most_events) number n held (in_line (event_reading zones text)) more
+    (λ next later. all_right zones (n + 1) next more later) none
+all_right zones n held ((number, Starts unit) ∷ more) none = all_right zones n held more none
+all_right zones n held ((number, Nothing) ∷ more) none = all_right zones n held more none
 
 right_of_lines :
-    (lines : List (ℕ × List ℕ)) → is_none_of (refusals (entries_from no_events (effects_from false lines))) ≡ true →
-    right_events no_lines [] lines ≡ events_after [] (effects_from false lines)
-right_of_lines lines none = right_by_effects no_lines [] lines ∙ all_right 0 [] (effects_from false lines) none
+    (zones : Zones) (lines : List (ℕ × List ℕ)) → is_none_of (refusals (entries_from zones no_events (effects_from false lines))) ≡ true →
+    right_events (no_lines zones) [] lines ≡ events_after zones [] (effects_from false lines)
+right_of_lines zones lines none = right_by_effects (no_lines zones) [] lines ∙ all_right zones 0 [] (effects_from false lines) none
 
 -- ---- the whole timer
 
@@ -374,20 +375,20 @@ timer_agrees clock (fault ∷ more) good has added name unit events kept found n
     timer_wrong has (is_some (number_of name added)) (nat_lt n most_jobs) found clean
 
 timer_text_agrees :
-    (clock : Option (List Change)) (added : List JobParts) (name : List ℕ) (text : TextReading (List ℕ))
+    (zones : Zones) (clock : Option (List Change)) (added : List JobParts) (name : List ℕ) (text : TextReading (List ℕ))
     (f : List ℕ → List (ℕ × List ℕ)) → is_timer_name name ≡ true →
-    Agrees clock (jobs_by added (alone (text >>= λ t. lines_by_entries name (f t))))
-    (timers.timer_findings (known_by clock added) name (text >>= λ t. Ok (f t)))
-    (after_timer (known_by clock added) name (text >>= λ t. Ok (f t)))
-timer_text_agrees clock added name (Err fault) f good = refl
-timer_text_agrees clock added name (Ok text) f good =
+    Agrees clock (jobs_by added (alone (text >>= λ t. lines_by_entries zones name (f t))))
+    (timers.timer_findings zones (known_by clock added) name (text >>= λ t. Ok (f t)))
+    (after_timer zones (known_by clock added) name (text >>= λ t. Ok (f t)))
+timer_text_agrees zones clock added name (Err fault) f good = refl
+timer_text_agrees zones clock added name (Ok text) f good =
     let lines = f text in
     let effects = effects_from false lines in
-    let found = timers.lines_findings clock no_lines lines in
-    timer_agrees clock (refusals (entries_from no_events effects)) (is_timer_name name) (has_timer lines) added name (first_unit effects)
-    (events_after [] effects) (right_job name lines) (timer_warnings clock lines ++ found) (0 + length added) (omega arith) good
-    (λ none. ap (timer_job name (first_unit effects)) (right_of_lines lines none))
-    (timer_warnings_clean clock lines found ∙ timer_lines_clean clock no_lines lines)
+    let found = timers.lines_findings clock (no_lines zones) lines in
+    timer_agrees clock (refusals (entries_from zones no_events effects)) (is_timer_name name) (has_timer lines) added name (first_unit effects)
+    (events_after zones [] effects) (right_job zones name lines) (timer_warnings clock lines ++ found) (0 + length added) (omega arith) good
+    (λ none. ap (timer_job name (first_unit effects)) (right_of_lines zones lines none))
+    (timer_warnings_clean clock lines found ∙ timer_lines_clean clock (no_lines zones) lines)
 
 alone_named :
     (good : Bool) (reading : TextReading JobParts) (fault : LineFault) →
@@ -398,74 +399,74 @@ alone_named good reading fault = grind (arith, nat_tests)
 
 -- the law of a timer's entries, as plan_rules offers it
 abbrev pub TimerLaw : Type 0
-TimerLaw = (name bytes : List ℕ) → timer_reading name bytes ≡ timer_by_entries name bytes
+TimerLaw = (zones : Zones) → (name bytes : List ℕ) → timer_reading zones name bytes ≡ timer_by_entries zones name bytes
 
 form_agrees :
-    (clock : Option (List Change)) → CrontabLaw → TimerLaw → (added : List JobParts) (form : Form) (name bytes : List ℕ) →
-    Agrees clock (jobs_by added (form_reading form name bytes)) (file_findings (known_by clock added) (file_of form name bytes))
-    (after_file (known_by clock added) (file_of form name bytes))
-form_agrees clock crontab timer added (Crontab kind) name bytes = crontab_agrees clock crontab added (label_of kind) kind bytes
-form_agrees clock crontab timer added (Named directory) name bytes =
+    (zones : Zones) (clock : Option (List Change)) → CrontabLaw → TimerLaw → (added : List JobParts) (form : Form) (name bytes : List ℕ) →
+    Agrees clock (jobs_by added (form_reading zones form name bytes)) (file_findings zones (known_by clock added) (file_of form name bytes))
+    (after_file zones (known_by clock added) (file_of form name bytes))
+form_agrees zones clock crontab timer added (Crontab kind) name bytes = crontab_agrees clock crontab added (label_of kind) kind bytes
+form_agrees zones clock crontab timer added (Named directory) name bytes =
     let text = text_reading bytes in
     named_agrees clock (is_crontab_name directory name) BadTabName added (crontab_reading name (kind_in directory) bytes)
     (λ known. crontab_findings known name (kind_in directory) text) (λ known. after_crontab known name (kind_in directory) text)
     (λ good. crontab_agrees clock crontab added name (kind_in directory) bytes)
-form_agrees clock crontab timer added Timer name bytes =
-    let found = file_findings (known_by clock added) (file_of Timer name bytes) in
-    let after = after_file (known_by clock added) (file_of Timer name bytes) in
+form_agrees zones clock crontab timer added Timer name bytes =
+    let found = file_findings zones (known_by clock added) (file_of Timer name bytes) in
+    let after = after_file zones (known_by clock added) (file_of Timer name bytes) in
     let lines : List ℕ → List (ℕ × List ℕ) = λ t. map (λ line. (line.0, trimmed line.1)) (whole_lines t) in
-    let reading : TextReading JobParts = text_reading bytes >>= λ t. lines_by_entries name (lines t) in
+    let reading : TextReading JobParts = text_reading bytes >>= λ t. lines_by_entries zones name (lines t) in
     let P : TextReading (List JobParts) → Type 0 = λ reading. Agrees clock (jobs_by added reading) found after in
-    subst P (sym (ap alone (timer name bytes) ∙ alone_named (is_timer_name name) reading (fault_on_line 0 BadTimerName)))
+    subst P (sym (ap alone (timer zones name bytes) ∙ alone_named (is_timer_name name) reading (fault_on_line 0 BadTimerName)))
     (named_agrees clock (is_timer_name name) BadTimerName added (alone reading)
-    (λ known. timers.timer_findings known name (timer_lines bytes)) (λ known. after_timer known name (timer_lines bytes))
-    (timer_text_agrees clock added name (text_reading bytes) lines))
+    (λ known. timers.timer_findings zones known name (timer_lines bytes)) (λ known. after_timer zones known name (timer_lines bytes))
+    (timer_text_agrees zones clock added name (text_reading bytes) lines))
 
 files_after :
-    (clock : Option (List Change)) (next : Option (List JobParts)) (found : List Finding) (after : KnownJobs) (more : List File) →
+    (zones : Zones) (clock : Option (List Change)) (next : Option (List JobParts)) (found : List Finding) (after : KnownJobs) (more : List File) →
     Agrees clock next found after →
-    ((added : List JobParts) → is_clean (files_findings (known_by clock added) more) ≡ is_some (files_jobs added more)) →
-    is_clean (found ++ files_findings after more) ≡ is_some (jobs_then next (λ added. files_jobs added more))
-files_after clock None found after more agrees later =
-    clean_append found (files_findings after more) ∙ ap (λ (b : Bool). b && is_clean (files_findings after more)) agrees
-files_after clock (Some next) found after more agrees later =
-    clean_append found (files_findings after more)
-    ∙ ap (λ (b : Bool). b && is_clean (files_findings after more)) agrees.0
-    ∙ ap (λ (known : KnownJobs). is_clean (files_findings known more)) agrees.1
+    ((added : List JobParts) → is_clean (files_findings zones (known_by clock added) more) ≡ is_some (files_jobs zones added more)) →
+    is_clean (found ++ files_findings zones after more) ≡ is_some (jobs_then next (λ added. files_jobs zones added more))
+files_after zones clock None found after more agrees later =
+    clean_append found (files_findings zones after more) ∙ ap (λ (b : Bool). b && is_clean (files_findings zones after more)) agrees
+files_after zones clock (Some next) found after more agrees later =
+    clean_append found (files_findings zones after more)
+    ∙ ap (λ (b : Bool). b && is_clean (files_findings zones after more)) agrees.0
+    ∙ ap (λ (known : KnownJobs). is_clean (files_findings zones known more)) agrees.1
     ∙ later next
 
 files_agree :
-    (clock : Option (List Change)) → CrontabLaw → TimerLaw → (added : List JobParts) (files : List File) →
-    is_clean (files_findings (known_by clock added) files) ≡ is_some (files_jobs added files)
-files_agree clock crontab timer added [] = refl
-files_agree clock crontab timer added (file ∷ more) =
-    files_after clock (jobs_by added (form_reading file.form file.name file.bytes)) (file_findings (known_by clock added) file)
-    (after_file (known_by clock added) file) more
-    (form_agrees clock crontab timer added file.form file.name file.bytes) (λ next. files_agree clock crontab timer next more)
+    (zones : Zones) (clock : Option (List Change)) → CrontabLaw → TimerLaw → (added : List JobParts) (files : List File) →
+    is_clean (files_findings zones (known_by clock added) files) ≡ is_some (files_jobs zones added files)
+files_agree zones clock crontab timer added [] = refl
+files_agree zones clock crontab timer added (file ∷ more) =
+    files_after zones clock (jobs_by added (form_reading zones file.form file.name file.bytes)) (file_findings zones (known_by clock added) file)
+    (after_file zones (known_by clock added) file) more
+    (form_agrees zones clock crontab timer added file.form file.name file.bytes) (λ next. files_agree zones clock crontab timer next more)
 
-pub clean_law : (clock : Option (List Change)) → CrontabLaw → TimerLaw → (files : List File) →
-    is_clean (files_findings (no_jobs clock) files) ≡ is_some (files_jobs [] files)
-clean_law clock crontab timer files = files_agree clock crontab timer [] files
+pub clean_law : (zones : Zones) (clock : Option (List Change)) → CrontabLaw → TimerLaw → (files : List File) →
+    is_clean (files_findings zones (no_jobs clock) files) ≡ is_some (files_jobs zones [] files)
+clean_law zones clock crontab timer files = files_agree zones clock crontab timer [] files
 
 -- the jobs that are kept
 kept_after :
-    (clock : Option (List Change)) (next : Option (List JobParts)) (found : List Finding) (after : KnownJobs) (more : List File) →
+    (zones : Zones) (clock : Option (List Change)) (next : Option (List JobParts)) (found : List Finding) (after : KnownJobs) (more : List File) →
     Agrees clock next found after →
-    ((added : List JobParts) → IfSome (files_jobs added more) (λ jobs. (after_files (known_by clock added) more).jobs ≡ jobs)) →
-    IfSome (jobs_then next (λ added. files_jobs added more)) (λ jobs. (after_files after more).jobs ≡ jobs)
-kept_after clock None found after more agrees later = tt
-kept_after clock (Some next) found after more agrees later =
-    subst (λ (known : KnownJobs). IfSome (files_jobs next more) (λ jobs. (after_files known more).jobs ≡ jobs)) (sym agrees.1) (later next)
+    ((added : List JobParts) → IfSome (files_jobs zones added more) (λ jobs. (after_files zones (known_by clock added) more).jobs ≡ jobs)) →
+    IfSome (jobs_then next (λ added. files_jobs zones added more)) (λ jobs. (after_files zones after more).jobs ≡ jobs)
+kept_after zones clock None found after more agrees later = tt
+kept_after zones clock (Some next) found after more agrees later =
+    subst (λ (known : KnownJobs). IfSome (files_jobs zones next more) (λ jobs. (after_files zones known more).jobs ≡ jobs)) (sym agrees.1) (later next)
 
 files_kept :
-    (clock : Option (List Change)) → CrontabLaw → TimerLaw → (added : List JobParts) (files : List File) →
-    IfSome (files_jobs added files) (λ jobs. (after_files (known_by clock added) files).jobs ≡ jobs)
-files_kept clock crontab timer added [] = refl
-files_kept clock crontab timer added (file ∷ more) =
-    kept_after clock (jobs_by added (form_reading file.form file.name file.bytes)) (file_findings (known_by clock added) file)
-    (after_file (known_by clock added) file) more
-    (form_agrees clock crontab timer added file.form file.name file.bytes) (λ next. files_kept clock crontab timer next more)
+    (zones : Zones) (clock : Option (List Change)) → CrontabLaw → TimerLaw → (added : List JobParts) (files : List File) →
+    IfSome (files_jobs zones added files) (λ jobs. (after_files zones (known_by clock added) files).jobs ≡ jobs)
+files_kept zones clock crontab timer added [] = refl
+files_kept zones clock crontab timer added (file ∷ more) =
+    kept_after zones clock (jobs_by added (form_reading zones file.form file.name file.bytes)) (file_findings zones (known_by clock added) file)
+    (after_file zones (known_by clock added) file) more
+    (form_agrees zones clock crontab timer added file.form file.name file.bytes) (λ next. files_kept zones clock crontab timer next more)
 
-pub kept_law : (clock : Option (List Change)) → CrontabLaw → TimerLaw → (files : List File) →
-    IfSome (files_jobs [] files) (λ jobs. (after_files (no_jobs clock) files).jobs ≡ jobs)
-kept_law clock crontab timer files = files_kept clock crontab timer [] files
+pub kept_law : (zones : Zones) (clock : Option (List Change)) → CrontabLaw → TimerLaw → (files : List File) →
+    IfSome (files_jobs zones [] files) (λ jobs. (after_files zones (no_jobs clock) files).jobs ≡ jobs)
+kept_law zones clock crontab timer files = files_kept zones clock crontab timer [] files

@@ -5,6 +5,7 @@ use Rattle.std.proofs.lemmas.List.Elements.{filter-append}
 use Rattle.std.specs.List.{cons_option, enumerate_from}
 use Rattle.plan_clock.specs.declared.row.Change.{Change}
 use Rattle.plan_match.specs.declared.event.Calendar.{Calendar}
+use Rattle.plan_grammar.specs.EventZones.{Zones}
 use Rattle.plan_rules.specs.declared.crontabs.Kind.{Kind}
 use Rattle.plan_rules.specs.declared.line_fault.LineCause.{LineCause}
 use Rattle.plan_rules.specs.declared.line_fault.LineCause.TheVariants.{NoTimerSection}
@@ -197,16 +198,16 @@ missing_errors true = refl
 missing_errors false = refl
 
 timer_errors :
-    (known : KnownJobs) (name : List ℕ) (text : TextReading (List (ℕ × List ℕ))) →
-    timer_findings (without_warnings known) name text ≡ errors_of (timer_findings known name text)
-timer_errors known name (Err fault) = ap (λ found. refused_at fault.line fault.cause ∷ found) (sym (error_of_name known 0 name))
-timer_errors known name (Ok lines) =
+    (zones : Zones) (known : KnownJobs) (name : List ℕ) (text : TextReading (List (ℕ × List ℕ))) →
+    timer_findings zones (without_warnings known) name text ≡ errors_of (timer_findings zones known name text)
+timer_errors zones known name (Err fault) = ap (λ found. refused_at fault.line fault.cause ∷ found) (sym (error_of_name known 0 name))
+timer_errors zones known name (Ok lines) =
     let missing = found_if (not (has_timer lines)) 0 (Refused NoTimerSection) in
     let named = job_findings known name in
     let warned = timer_warnings known.clock lines in
-    let later = timers.lines_findings known.clock no_lines lines in
+    let later = timers.lines_findings known.clock (no_lines zones) lines in
     (λ i. missing_errors (not (has_timer lines)) i ++ (sym (error_of_name known 0 name) i
-    ++ (sym (none_of_clean warned (whole_clean known.clock lines)) i ++ timer_lines_errors known.clock no_lines lines i)))
+    ++ (sym (none_of_clean warned (whole_clean known.clock lines)) i ++ timer_lines_errors known.clock (no_lines zones) lines i)))
     ∙ sym (errors_append missing (named ++ (warned ++ later))
     ∙ ap (λ found. errors_of missing ++ found) (errors_append named (warned ++ later)
     ∙ ap (λ found. errors_of named ++ found) (errors_append warned later)))
@@ -218,29 +219,29 @@ timer_by true job other = refl
 timer_by false job other = refl
 
 timer_without :
-    (known : KnownJobs) (name : List ℕ) (text : TextReading (List (ℕ × List ℕ))) →
-    after_timer (without_warnings known) name text ≡ without_warnings (after_timer known name text)
-timer_without known name (Err fault) = other_without known name
-timer_without known name (Ok lines) =
+    (zones : Zones) (known : KnownJobs) (name : List ℕ) (text : TextReading (List (ℕ × List ℕ))) →
+    after_timer zones (without_warnings known) name text ≡ without_warnings (after_timer zones known name text)
+timer_without zones known name (Err fault) = other_without known name
+timer_without zones known name (Ok lines) =
     let made = is_timer_name name && has_timer lines in
-    (λ i. cond made (job_without known (right_job name lines) i) (other_without known name i))
-    ∙ timer_by made (after_job known (right_job name lines)) (after_other known name)
+    (λ i. cond made (job_without known (right_job zones name lines) i) (other_without known name i))
+    ∙ timer_by made (after_job known (right_job zones name lines)) (after_other known name)
 
 -- ---- a file
 
 text_errors :
-    (known : KnownJobs) (form : Form) (name bytes : List ℕ) →
-    text_findings (without_warnings known) form name bytes ≡ errors_of (text_findings known form name bytes)
-text_errors known (Crontab kind) name bytes = crontab_errors known (label_of kind) kind (text_reading bytes)
-text_errors known (Named directory) name bytes = crontab_errors known name (kind_in directory) (text_reading bytes)
-text_errors known Timer name bytes = timer_errors known name (timer_lines bytes)
+    (zones : Zones) (known : KnownJobs) (form : Form) (name bytes : List ℕ) →
+    text_findings zones (without_warnings known) form name bytes ≡ errors_of (text_findings zones known form name bytes)
+text_errors zones known (Crontab kind) name bytes = crontab_errors known (label_of kind) kind (text_reading bytes)
+text_errors zones known (Named directory) name bytes = crontab_errors known name (kind_in directory) (text_reading bytes)
+text_errors zones known Timer name bytes = timer_errors zones known name (timer_lines bytes)
 
 text_without :
-    (known : KnownJobs) (form : Form) (name bytes : List ℕ) →
-    after_text (without_warnings known) form name bytes ≡ without_warnings (after_text known form name bytes)
-text_without known (Crontab kind) name bytes = crontab_without known (label_of kind) kind (text_reading bytes)
-text_without known (Named directory) name bytes = crontab_without known name (kind_in directory) (text_reading bytes)
-text_without known Timer name bytes = timer_without known name (timer_lines bytes)
+    (zones : Zones) (known : KnownJobs) (form : Form) (name bytes : List ℕ) →
+    after_text zones (without_warnings known) form name bytes ≡ without_warnings (after_text zones known form name bytes)
+text_without zones known (Crontab kind) name bytes = crontab_without known (label_of kind) kind (text_reading bytes)
+text_without zones known (Named directory) name bytes = crontab_without known name (kind_in directory) (text_reading bytes)
+text_without zones known Timer name bytes = timer_without zones known name (timer_lines bytes)
 
 name_errors :
     (cause : Option LineCause) →
@@ -249,12 +250,12 @@ name_errors None = refl
 name_errors (Some cause) = refl
 
 pub file_errors :
-    (known : KnownJobs) (file : File) → file_findings (without_warnings known) file ≡ errors_of (file_findings known file)
-file_errors known file =
+    (zones : Zones) (known : KnownJobs) (file : File) → file_findings zones (without_warnings known) file ≡ errors_of (file_findings zones known file)
+file_errors zones known file =
     let inside = in_file known file.form file.name in
-    (λ i. name_errors (name_cause file.form file.name) i ++ text_errors inside file.form file.name file.bytes i)
-    ∙ sym (errors_append (name_findings file.form file.name) (text_findings inside file.form file.name file.bytes))
+    (λ i. name_errors (name_cause file.form file.name) i ++ text_errors zones inside file.form file.name file.bytes i)
+    ∙ sym (errors_append (name_findings file.form file.name) (text_findings zones inside file.form file.name file.bytes))
 
 pub file_without :
-    (known : KnownJobs) (file : File) → after_file (without_warnings known) file ≡ without_warnings (after_file known file)
-file_without known file = text_without (in_file known file.form file.name) file.form file.name file.bytes
+    (zones : Zones) (known : KnownJobs) (file : File) → after_file zones (without_warnings known) file ≡ without_warnings (after_file zones known file)
+file_without zones known file = text_without zones (in_file known file.form file.name) file.form file.name file.bytes

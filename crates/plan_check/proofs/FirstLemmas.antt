@@ -9,6 +9,7 @@ use Rattle.std.specs.Result.{result_err}
 use Rattle.std.specs.Str.{is_utf8}
 use Rattle.plan_clock.specs.declared.row.Change.{Change}
 use Rattle.plan_match.specs.Zone.{rule_in}
+use Rattle.plan_grammar.specs.EventZones.{Zones}
 use Rattle.plan_rules.specs.declared.crontabs.Kind.{Kind}
 use Rattle.plan_rules.specs.declared.entry.Entry.{Entry}
 use Rattle.plan_rules.specs.declared.line_fault.LineCause.TheVariants.{BadTabName, TooLarge, NotUtf8}
@@ -140,9 +141,9 @@ of_named true found reading is = is
 of_named false found reading is = refl
 
 pub first_of_file :
-    CrontabLaw → (known : KnownJobs) (form : Form) (name bytes : List ℕ) →
-    HasFirst form (file_findings known (file_of form name bytes)) (form_reading form name bytes)
-first_of_file law known (Crontab kind) name bytes = of_crontab law (in_file known (Crontab kind) name) (label_of kind) kind bytes
-first_of_file law known (Named directory) name bytes =
+    (zones : Zones) → CrontabLaw → (known : KnownJobs) (form : Form) (name bytes : List ℕ) →
+    HasFirst form (file_findings zones known (file_of form name bytes)) (form_reading zones form name bytes)
+first_of_file zones law known (Crontab kind) name bytes = of_crontab law (in_file known (Crontab kind) name) (label_of kind) kind bytes
+first_of_file zones law known (Named directory) name bytes =
     of_named (is_crontab_name directory name) _ _ (of_crontab law (in_file known (Named directory) name) name (kind_in directory) bytes)
-first_of_file law known Timer name bytes = tt
+first_of_file zones law known Timer name bytes = tt

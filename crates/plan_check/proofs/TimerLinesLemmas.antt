@@ -6,6 +6,7 @@ use Rattle.std.specs.List.{cons_option, list_any}
 use Rattle.std.specs.Option.{option_or}
 use Rattle.plan_clock.specs.declared.row.Change.{Change}
 use Rattle.plan_match.specs.declared.event.Calendar.{Calendar}
+use Rattle.plan_grammar.specs.EventZones.{Zones}
 use Rattle.plan_rules.specs.LineFaults.{LineReading}
 use Rattle.plan_rules.specs.Timer.{Effect, Reset, Event, Starts, Nothing, effects_from, first_unit, timer_setting}
 use Rattle.plan_rules.specs.TimerEntries.{EventCount, TimerState, effect_in, event_by, event_line, line_by, line_in, state_after}
@@ -78,14 +79,14 @@ unit_of_event number (Some read) = refl
 
 -- the first unit that is named, by the one that was named before a line
 pub unit_front :
-    (unit : Option (List ℕ)) (number : ℕ) (count : EventCount) (effect : Effect) (more : List (ℕ × Effect)) →
-    option_or (unit_with unit (line_by number count effect)) (first_unit more) ≡ option_or unit (first_unit ((number, effect) ∷ more))
-unit_front (Some first) number count effect more = refl
-unit_front None number count Reset more = refl
-unit_front None number count (Event text) more =
-    ap (λ (unit : Option (List ℕ)). option_or unit (first_unit more)) (unit_of_event number (event_by count text))
-unit_front None number count (Starts unit) more = refl
-unit_front None number count Nothing more = refl
+    (zones : Zones) (unit : Option (List ℕ)) (number : ℕ) (count : EventCount) (effect : Effect) (more : List (ℕ × Effect)) →
+    option_or (unit_with unit (line_by zones number count effect)) (first_unit more) ≡ option_or unit (first_unit ((number, effect) ∷ more))
+unit_front zones (Some first) number count effect more = refl
+unit_front zones None number count Reset more = refl
+unit_front zones None number count (Event text) more =
+    ap (λ (unit : Option (List ℕ)). option_or unit (first_unit more)) (unit_of_event number (event_by zones count text))
+unit_front zones None number count (Starts unit) more = refl
+unit_front zones None number count Nothing more = refl
 
 -- the unit after one more line
 pub unit_step :
@@ -96,7 +97,7 @@ pub unit_step :
     option_or next (first_unit (effects_from after.inside more)) ≡ whole
 unit_step before next state after line more whole is after_is so_far =
     (λ i. option_or (is i) (first_unit (effects_from (after_is i).inside more)))
-    ∙ unit_front before line.0 state.count (effect_in state line.1) (effects_from (state_after state line.1).inside more)
+    ∙ unit_front state.zones before line.0 state.count (effect_in state line.1) (effects_from (state_after state line.1).inside more)
     ∙ so_far
 
 -- the unit after the last line

@@ -2,6 +2,7 @@
 use Rattle.std.specs.Prelude.{ℕ, nat_lt, if◌then◌else◌, List, [], ◌∷◌, ◌++◌, ◌≡◌, length, is_none, Option, Some, None, option_map, is_some, Ok, Err}
 use Rattle.std.specs.List.{cons_option}
 use Rattle.std.specs.Result.{result_err}
+use Rattle.plan_grammar.specs.EventZones.{Zones}
 use Rattle.plan_rules.specs.FileText.{text_reading}
 use Rattle.plan_rules.specs.Job.{JobParts}
 use Rattle.plan_rules.specs.Jobs.{number_of}
@@ -38,30 +39,30 @@ abbrev pub in_file : KnownJobs → Form → (name : List ℕ) → KnownJobs
 in_file known form name = with_jobs known (is_none (name_cause form name))
 
 -- the findings of a file's text
-abbrev pub text_findings : KnownJobs → Form → (name bytes : List ℕ) → List Finding
-text_findings known (Crontab kind) name bytes = crontab_findings known (label_of kind) kind (text_reading bytes)
-text_findings known (Named directory) name bytes = crontab_findings known name (kind_in directory) (text_reading bytes)
-text_findings known Timer name bytes = timer_findings known name (timer_lines bytes)
+abbrev pub text_findings : Zones → KnownJobs → Form → (name bytes : List ℕ) → List Finding
+text_findings zones known (Crontab kind) name bytes = crontab_findings known (label_of kind) kind (text_reading bytes)
+text_findings zones known (Named directory) name bytes = crontab_findings known name (kind_in directory) (text_reading bytes)
+text_findings zones known Timer name bytes = timer_findings zones known name (timer_lines bytes)
 
 -- what is known after a file's text
-abbrev pub after_text : KnownJobs → Form → (name bytes : List ℕ) → KnownJobs
-after_text known (Crontab kind) name bytes = after_crontab known (label_of kind) kind (text_reading bytes)
-after_text known (Named directory) name bytes = after_crontab known name (kind_in directory) (text_reading bytes)
-after_text known Timer name bytes = after_timer known name (timer_lines bytes)
+abbrev pub after_text : Zones → KnownJobs → Form → (name bytes : List ℕ) → KnownJobs
+after_text zones known (Crontab kind) name bytes = after_crontab known (label_of kind) kind (text_reading bytes)
+after_text zones known (Named directory) name bytes = after_crontab known name (kind_in directory) (text_reading bytes)
+after_text zones known Timer name bytes = after_timer zones known name (timer_lines bytes)
 
 -- the findings of a file: its name is checked first, and then its text, even if the name is bad
-abbrev pub file_findings : KnownJobs → File → List Finding
-file_findings known file =
-    name_findings file.form file.name ++ text_findings (in_file known file.form file.name) file.form file.name file.bytes
+abbrev pub file_findings : Zones → KnownJobs → File → List Finding
+file_findings zones known file =
+    name_findings file.form file.name ++ text_findings zones (in_file known file.form file.name) file.form file.name file.bytes
 
 -- what is known after a file
-abbrev pub after_file : KnownJobs → File → KnownJobs
-after_file known file = after_text (in_file known file.form file.name) file.form file.name file.bytes
+abbrev pub after_file : Zones → KnownJobs → File → KnownJobs
+after_file zones known file = after_text zones (in_file known file.form file.name) file.form file.name file.bytes
 
 -- the findings of files, in order
-abbrev pub files_findings : KnownJobs → List File → List Finding
-files_findings known [] = []
-files_findings known (file ∷ more) = file_findings known file ++ files_findings (after_file known file) more
+abbrev pub files_findings : Zones → KnownJobs → List File → List Finding
+files_findings zones known [] = []
+files_findings zones known (file ∷ more) = file_findings zones known file ++ files_findings zones (after_file zones known file) more
 
 -- the first error among the findings of a crontab is that of its reading; a timer's findings have another order
 abbrev pub HasFirst : Form → List Finding → TextReading (List JobParts) → Type 0
@@ -70,9 +71,9 @@ HasFirst (Named directory) found reading = first_fault found ≡ result_err read
 HasFirst Timer found reading = Unit {0}
 
 -- what is known after files
-abbrev pub after_files : KnownJobs → List File → KnownJobs
-after_files known [] = known
-after_files known (file ∷ more) = after_files (after_file known file) more
+abbrev pub after_files : Zones → KnownJobs → List File → KnownJobs
+after_files zones known [] = known
+after_files zones known (file ∷ more) = after_files zones (after_file zones known file) more
 
 -- ---- the jobs that are made
 
@@ -94,6 +95,6 @@ jobs_then None next = None
 jobs_then (Some jobs) next = next jobs
 
 -- the jobs of files after other jobs, if jobs can be made of all of them
-abbrev pub files_jobs : List JobParts → List File → Option (List JobParts)
-files_jobs jobs [] = Some jobs
-files_jobs jobs (file ∷ more) = jobs_then (jobs_by jobs (form_reading file.form file.name file.bytes)) (λ next. files_jobs next more)
+abbrev pub files_jobs : Zones → List JobParts → List File → Option (List JobParts)
+files_jobs zones jobs [] = Some jobs
+files_jobs zones jobs (file ∷ more) = jobs_then (jobs_by jobs (form_reading zones file.form file.name file.bytes)) (λ next. files_jobs zones next more)

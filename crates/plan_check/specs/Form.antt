@@ -4,6 +4,7 @@ use Rattle.std.specs.Option.{option_or}
 use Rattle.std.specs.Str.{is_utf8}
 use Rattle.plan_texts.specs.Lines.{is_too_large}
 use Rattle.plan_texts.specs.Steps.{◌>>=◌}
+use Rattle.plan_grammar.specs.EventZones.{Zones}
 use Rattle.plan_rules.specs.declared.crontabs.Kind.{Kind}
 use Rattle.plan_rules.specs.declared.crontabs.Kind.TheVariants.{User, System}
 use Rattle.plan_rules.specs.declared.line_fault.LineCause.{LineCause}
@@ -38,10 +39,10 @@ alone reading = do
   Ok (job ∷ [])
 
 -- the jobs of a file, or its first error
-abbrev pub form_reading : Form → (name bytes : List ℕ) → TextReading (List JobParts)
-form_reading (Crontab kind) name bytes = crontab_reading (label_of kind) kind bytes
-form_reading (Named directory) name bytes = named_crontab_reading directory name bytes
-form_reading Timer name bytes = alone (timer_reading name bytes)
+abbrev pub form_reading : Zones → Form → (name bytes : List ℕ) → TextReading (List JobParts)
+form_reading zones (Crontab kind) name bytes = crontab_reading (label_of kind) kind bytes
+form_reading zones (Named directory) name bytes = named_crontab_reading directory name bytes
+form_reading zones Timer name bytes = alone (timer_reading zones name bytes)
 
 -- ---- errors that are found before any memory is requested
 

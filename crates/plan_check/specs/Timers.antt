@@ -6,6 +6,7 @@ use Rattle.plan_clock.specs.declared.row.Change.{Change}
 use Rattle.plan_match.specs.Zone.{rule_in}
 use Rattle.plan_match.specs.declared.event.Calendar.{Calendar}
 use Rattle.plan_match.specs.declared.rule.Rule.TheVariants.{Events}
+use Rattle.plan_grammar.specs.EventZones.{Zones}
 use Rattle.plan_rules.specs.declared.line_fault.LineCause.TheVariants.{NoTimerSection}
 use Rattle.plan_rules.specs.Job.{JobParts}
 use Rattle.plan_rules.specs.LineFaults.{LineReading, TextReading}
@@ -76,11 +77,11 @@ timer_warnings (Some clock) lines =
 
 -- the findings of the whole lines of a text: first those of the whole file, then those of its lines. A text that is too large
 -- or not UTF-8 has no lines, and no missing section is reported
-abbrev pub timer_findings : KnownJobs → List ℕ → TextReading (List (ℕ × List ℕ)) → List Finding
-timer_findings known name (Ok lines) =
+abbrev pub timer_findings : Zones → KnownJobs → List ℕ → TextReading (List (ℕ × List ℕ)) → List Finding
+timer_findings zones known name (Ok lines) =
     found_if (not (has_timer lines)) 0 (Refused NoTimerSection)
-    ++ (job_findings known name ++ (timer_warnings known.clock lines ++ lines_findings known.clock no_lines lines))
-timer_findings known name (Err fault) = refused_at fault.line fault.cause ∷ job_findings known name
+    ++ (job_findings known name ++ (timer_warnings known.clock lines ++ lines_findings known.clock (no_lines zones) lines))
+timer_findings zones known name (Err fault) = refused_at fault.line fault.cause ∷ job_findings known name
 
 -- ---- the job that is kept
 
@@ -109,11 +110,11 @@ abbrev pub unit_of : Draft → Option (List ℕ)
 unit_of draft = option_map (λ unit. string_bytes unit) draft.unit
 
 -- the job of a timer with the events that are right, whatever else is rejected
-abbrev pub right_job : List ℕ → List (ℕ × List ℕ) → JobParts
-right_job name lines = timer_job name (first_unit (effects_from false lines)) (right_events no_lines [] lines)
+abbrev pub right_job : Zones → List ℕ → List (ℕ × List ℕ) → JobParts
+right_job zones name lines = timer_job name (first_unit (effects_from false lines)) (right_events (no_lines zones) [] lines)
 
 -- what is known after a timer: its job is kept if nothing of the whole file is rejected
-abbrev pub after_timer : KnownJobs → List ℕ → TextReading (List (ℕ × List ℕ)) → KnownJobs
-after_timer known name (Ok lines) =
-    if is_timer_name name && has_timer lines then after_job known (right_job name lines) else after_other known name
-after_timer known name (Err fault) = after_other known name
+abbrev pub after_timer : Zones → KnownJobs → List ℕ → TextReading (List (ℕ × List ℕ)) → KnownJobs
+after_timer zones known name (Ok lines) =
+    if is_timer_name name && has_timer lines then after_job known (right_job zones name lines) else after_other known name
+after_timer zones known name (Err fault) = after_other known name

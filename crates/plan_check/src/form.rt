@@ -12,7 +12,7 @@ use crate::known::Known;
 use crate::report::refuse;
 use crate::timers::add_timer;
 use plan_rules::{
-    CrontabDirectory, Job, Kind, LineCause, LineFault, crontab, crontab_is_its_entries,
+    CrontabDirectory, EventZones, Job, Kind, LineCause, LineFault, crontab, crontab_is_its_entries,
     is_crontab_name, is_timer_name, kind_in, named_crontab, timer,
 };
 use std::alloc::{AllocError, Global};
@@ -29,14 +29,21 @@ pub enum Form {
 }
 
 impl Form {
-    /// Returns the jobs of a file of this form, as `crontab`, `named_crontab` or `timer` of plan_rules reads them.
+    /// Returns the jobs of a file of this form, as `crontab`, `named_crontab` or `timer` of plan_rules reads them. Calendar
+    /// events may name these zones.
     ///
     /// # Errors
     ///
     /// The errors of that function.
-    pub fn read(self, alloc: Global, name: &str, bytes: &[u8]) -> Result<Vec<Job>, LineFault>
+    pub fn read(
+        self,
+        alloc: Global,
+        name: &str,
+        bytes: &[u8],
+        zones: &EventZones,
+    ) -> Result<Vec<Job>, LineFault>
         ensures meaning { GivesUnless want_of_memory (λ jobs. jobs.items) result
-            (form_reading self name.now bytes.now) }
+            (form_reading zones.now self name.now bytes.now) }
         // These errors are found before any memory is requested.
         ensures at_once { IfSome (cause_at_once self name.now bytes.now)
             (λ cause. result ≡ Err (of_whole cause)) }
@@ -44,12 +51,12 @@ impl Form {
         match self {
             Form::Crontab(kind) => crontab(alloc, label_of(kind), bytes, kind),
             Form::Named(directory) => named_crontab(alloc, name, bytes, directory),
-            Form::Timer => Ok(vec![in alloc; timer(alloc, name, bytes)?]?),
+            Form::Timer => Ok(vec![in alloc; timer(alloc, name, bytes, zones)?]?),
         }
     }
 
     /// Returns all findings of a file of this form, in order. Adds the jobs of which nothing is rejected to `known`,
-    /// which has the jobs before them.
+    /// which has the jobs before them. Calendar events may name these zones.
     ///
     /// The first finding is that the name is bad: `BadTabName`, see `is_crontab_name`, or `BadTimerName`, see
     /// `is_timer_name`. A file whose name is bad makes no jobs, so it has no findings about their names. If the text
@@ -91,16 +98,17 @@ impl Form {
         known: &mut Known,
         name: &str,
         bytes: &[u8],
+        zones: &EventZones,
     ) -> Result<Vec<Finding>, AllocError>
-        ensures found { IfOk result (λ found. found.items ≡ file_findings known.old (file_of self name.now bytes.now)) }
-        ensures known { OnOk result (known.new ≡ after_file known.old (file_of self name.now bytes.now)) }
+        ensures found { IfOk result (λ found. found.items ≡ file_findings zones.now known.old (file_of self name.now bytes.now)) }
+        ensures known { OnOk result (known.new ≡ after_file zones.now known.old (file_of self name.now bytes.now)) }
         // The first error among the findings of a crontab is the one that `read` returns.
-        ensures first { IfOk result (λ found. HasFirst self found.items (form_reading self name.now bytes.now)) }
+        ensures first { IfOk result (λ found. HasFirst self found.items (form_reading zones.now self name.now bytes.now)) }
     {
         crontab_is_its_entries();
         let mut found = Vec::new(alloc);
         self.add_name(known, &mut found, name)?;
-        self.add_text(alloc, known, &mut found, name, bytes)?;
+        self.add_text(alloc, known, &mut found, name, bytes, zones)?;
         Ok(found)
     }
 
@@ -143,10 +151,11 @@ impl Form {
         found: &mut Vec<Finding>,
         name: &str,
         bytes: &[u8],
+        zones: &EventZones,
     ) -> Result<(), AllocError>
         ensures found { OnOk result (found.new.items ≡ found.old.items
-            ++ text_findings known.old self name.now bytes.now) }
-        ensures known { OnOk result (known.new ≡ after_text known.old self name.now bytes.now) }
+            ++ text_findings zones.now known.old self name.now bytes.now) }
+        ensures known { OnOk result (known.new ≡ after_text zones.now known.old self name.now bytes.now) }
     {
         match self {
             Form::Crontab(kind) => add_crontab(alloc, known, found, label_of(kind), kind, bytes),
@@ -158,7 +167,7 @@ impl Form {
                 kind_in(directory),
                 bytes,
             ),
-            Form::Timer => add_timer(alloc, known, found, name, bytes),
+            Form::Timer => add_timer(alloc, known, found, name, bytes, zones),
         }
     }
 }

@@ -2,6 +2,7 @@
 
 ghost use Rattle.std.specs.Prelude.{◌≡◌, List, [], IfSome, Option, is_some};
 ghost use Rattle.plan_clock.specs.declared.row.Change.{Change};
+ghost use Rattle.plan_grammar.specs.EventZones.{Zones};
 ghost use Rattle.plan_check.specs.Finding.{errors_of, is_clean};
 ghost use Rattle.plan_check.specs.Known.{KnownJobs, no_jobs, without_warnings};
 ghost use Rattle.plan_check.specs.Files.{File, after_file, after_files, file_findings, files_findings, files_jobs};
@@ -14,9 +15,9 @@ use plan_rules::{crontab_is_its_entries, timer_is_its_entries};
 ///
 /// The function does nothing: its contract is the law.
 pub fn clean_where_jobs_are()
-    ensures clean { (clock : Option (List Change)) (files : List File) → is_clean (files_findings (no_jobs clock) files) ≡ is_some (files_jobs [] files) }
+    ensures clean { (zones : Zones) (clock : Option (List Change)) (files : List File) → is_clean (files_findings zones (no_jobs clock) files) ≡ is_some (files_jobs zones [] files) }
     // Then these are the jobs that are kept.
-    ensures kept { (clock : Option (List Change)) (files : List File) → IfSome (files_jobs [] files) (λ jobs. (after_files (no_jobs clock) files).jobs ≡ jobs) }
+    ensures kept { (zones : Zones) (clock : Option (List Change)) (files : List File) → IfSome (files_jobs zones [] files) (λ jobs. (after_files zones (no_jobs clock) files).jobs ≡ jobs) }
 {
     crontab_is_its_entries();
     timer_is_its_entries();
@@ -27,6 +28,6 @@ pub fn clean_where_jobs_are()
 ///
 /// The function does nothing: its contract is the law.
 pub fn errors_need_no_clock()
-    ensures found { (known : KnownJobs) (file : File) → file_findings (without_warnings known) file ≡ errors_of (file_findings known file) }
-    ensures known { (known : KnownJobs) (file : File) → after_file (without_warnings known) file ≡ without_warnings (after_file known file) }
+    ensures found { (zones : Zones) (known : KnownJobs) (file : File) → file_findings zones (without_warnings known) file ≡ errors_of (file_findings zones known file) }
+    ensures known { (zones : Zones) (known : KnownJobs) (file : File) → after_file zones (without_warnings known) file ≡ without_warnings (after_file zones known file) }
 {}

@@ -11,7 +11,7 @@ use crate::finding::{Finding, Warning, What};
 use crate::form::{Form, label_of};
 use crate::settings::{delay_after, key_of, value_of};
 use plan_rules::lines::lines;
-use plan_rules::{LineCause, TimerReader, job_name, setting_of, text_of};
+use plan_rules::{EventZones, LineCause, TimerReader, job_name, setting_of, text_of};
 use plan_texts::lines::cut_word;
 use plan_texts::whole_lines::{WholeLine, trimmed, whole_lines};
 use std::alloc::{AllocError, Global};
@@ -240,7 +240,9 @@ fn text_on(lines: &[WholeLine], number: u32) -> &str
 fn last_delay(alloc: Global, lines: &[WholeLine]) -> Result<&str, AllocError>
     ensures { IfOk result (λ delay. delay.now ≡ last_delay (settings_from false (map shown_line lines.now))) }
 {
-    let mut reader = TimerReader::new();
+    // The settings are the same whatever zones events may name.
+    let zones = EventZones::utc_alone();
+    let mut reader = TimerReader::new(&zones);
     let mut delay = "";
     for line in lines {
         delay = delay_after(delay, reader.setting(line));

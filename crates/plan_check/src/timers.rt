@@ -21,28 +21,29 @@ use crate::skipped::may_skip_starts;
 use plan_clock::Clock;
 use plan_next::next_from;
 use plan_rules::{
-    Calendar, Entry, Events, LineCause, LineFault, Rule, TimerLine, TimerReader, is_timer_name,
-    text_of, timer_job,
+    Calendar, Entry, EventZones, Events, LineCause, LineFault, Rule, TimerLine, TimerReader,
+    is_timer_name, text_of, timer_job,
 };
 use plan_texts::whole_lines::{WholeLine, whole_lines};
 use std::alloc::{AllocError, Global};
 
-// Adds the findings of a timer's text, and its job.
+// Adds the findings of a timer's text, and its job. Its events may name these zones.
 pub(crate) fn add_timer(
     alloc: Global,
     known: &mut Known,
     found: &mut Vec<Finding>,
     name: &str,
     bytes: &[u8],
+    zones: &EventZones,
 ) -> Result<(), AllocError>
     ensures found { OnOk result (found.new.items ≡ found.old.items
-        ++ timer_findings known.old name.now (timer_lines bytes.now)) }
-    ensures known { OnOk result (known.new ≡ after_timer known.old name.now (timer_lines bytes.now)) }
+        ++ timer_findings zones.now known.old name.now (timer_lines bytes.now)) }
+    ensures known { OnOk result (known.new ≡ after_timer zones.now known.old name.now (timer_lines bytes.now)) }
 {
     match text_of(bytes) {
         Ok(text) => {
             let lines = whole_lines(alloc, text)?;
-            add_lines(alloc, known, found, name, lines.as_slice())
+            add_lines(alloc, known, found, name, lines.as_slice(), zones)
         }
         Err(LineFault { line, cause }) => {
             refuse(found, line, cause)?;
@@ -59,13 +60,14 @@ fn add_lines(
     found: &mut Vec<Finding>,
     name: &str,
     lines: &[WholeLine],
+    zones: &EventZones,
 ) -> Result<(), AllocError>
     ensures found { OnOk result (found.new.items ≡ found.old.items
-        ++ timer_findings known.old name.now (Ok (map shown_line lines.now))) }
-    ensures known { OnOk result (known.new ≡ after_timer known.old name.now (Ok (map shown_line lines.now))) }
+        ++ timer_findings zones.now known.old name.now (Ok (map shown_line lines.now))) }
+    ensures known { OnOk result (known.new ≡ after_timer zones.now known.old name.now (Ok (map shown_line lines.now))) }
 {
     let mut later = Vec::new(alloc);
-    let (reader, standing, draft) = read_lines(alloc, &mut later, known.clock(), lines)?;
+    let (reader, standing, draft) = read_lines(alloc, &mut later, known.clock(), lines, zones)?;
     let has_section = reader.has_section();
     let missing = What::Refused(LineCause::NoTimerSection);
     add_if(found, !has_section, 0, missing)?;
@@ -97,7 +99,7 @@ fn add_timer_job(
 fn add_timer_warnings(
     found: &mut Vec<Finding>,
     clock: &Option<Clock>,
-    reader: &TimerReader,
+    reader: &TimerReader<'_>,
     standing: Standing,
     lines: &[WholeLine],
 ) -> Result<(), AllocError>
@@ -120,21 +122,22 @@ fn add_timer_warnings(
 
 // Adds the findings of lines, in order. Returns the reader after the last line, what stands then, and what the lines
 // say of the job.
-fn read_lines(
+fn read_lines<'z>(
     alloc: Global,
     found: &mut Vec<Finding>,
     clock: &Option<Clock>,
     lines: &[WholeLine],
-) -> Result<(TimerReader, Standing, Draft), AllocError>
+    zones: &'z EventZones,
+) -> Result<(TimerReader<'z>, Standing, Draft), AllocError>
     ensures section { IfOk result (λ read. read.0.found ≡ has_timer (map shown_line lines.now)) }
     ensures held { IfOk result (λ read. read.0.count.held ≡ held_after (map shown_line lines.now)) }
     ensures monotonic { IfOk result (λ read. read.1.monotonic ≡ is_monotonic (settings_from false (map shown_line lines.now))) }
     ensures delayed { IfOk result (λ read. read.1.delayed ≡ is_delayed (settings_from false (map shown_line lines.now))) }
     ensures unit { IfOk result (λ read. unit_of read.2 ≡ first_unit (effects_from false (map shown_line lines.now))) }
-    ensures events { IfOk result (λ read. read.2.events ≡ right_events no_lines [] (map shown_line lines.now)) }
-    ensures found { OnOk result (found.new.items ≡ found.old.items ++ lines_findings clock.now no_lines (map shown_line lines.now)) }
+    ensures events { IfOk result (λ read. read.2.events ≡ right_events (no_lines zones.now) [] (map shown_line lines.now)) }
+    ensures found { OnOk result (found.new.items ≡ found.old.items ++ lines_findings clock.now (no_lines zones.now) (map shown_line lines.now)) }
 {
-    let mut reader = TimerReader::new();
+    let mut reader = TimerReader::new(zones);
     let mut standing = Standing::new();
     let mut draft = Draft::new(alloc);
     for line in lines {
@@ -147,7 +150,7 @@ fn read_lines(
 // Adds the findings of a line, and what it says of the job.
 fn add_line(
     alloc: Global,
-    reader: &mut TimerReader,
+    reader: &mut TimerReader<'_>,
     draft: &mut Draft,
     found: &mut Vec<Finding>,
     clock: &Option<Clock>,

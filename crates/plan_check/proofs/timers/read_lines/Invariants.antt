@@ -13,7 +13,7 @@ invariant-loop-line l =
     let left = map shown_line (drop l.line-index l.lines) in
     let all = map shown_line l.lines in
     record {
-      found : l.found.items ++ lines_findings l.clock l.reader left ≡ l.fn.found.items ++ lines_findings l.clock no_lines all;
+      found : l.found.items ++ lines_findings l.clock l.reader left ≡ l.fn.found.items ++ lines_findings l.clock (no_lines l.zones) all;
       section : (l.reader.found || has_timer left) ≡ has_timer all;
       count : count_from l.reader.count (effects_from l.reader.inside left) ≡ count_from no_events (effects_from false all);
       monotonic : stands_with is_span is_reset l.standing.monotonic (settings_from l.reader.inside left)
@@ -21,5 +21,5 @@ invariant-loop-line l =
       delayed : stands_with is_long_delay is_delay l.standing.delayed (settings_from l.reader.inside left)
           ≡ is_delayed (settings_from false all);
       unit : option_or (unit_of l.draft) (first_unit (effects_from l.reader.inside left)) ≡ first_unit (effects_from false all);
-      events : right_events l.reader l.draft.events left ≡ right_events no_lines [] all;
+      events : right_events l.reader l.draft.events left ≡ right_events (no_lines l.zones) [] all;
     }

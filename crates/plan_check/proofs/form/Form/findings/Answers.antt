@@ -13,7 +13,7 @@ returns-clause-first c =
     let bytes = c.args.bytes.now in
     let named : c.add_name.new.found.items ≡ name_findings c.args.self name =
     c.in_ok-add_name.ensures.found ∙ ap (λ before. before ++ name_findings c.args.self name) c.new-found.ensures.items in
-    let found : c.add_text.new.found.items ≡ file_findings c.args.known.now (file_of c.args.self name bytes) =
-    c.in_ok-add_text.ensures.found ∙ (λ i. named i ++ text_findings (c.add_name.ensures.known i) c.args.self name bytes) in
-    let P : List Finding → Type 0 = λ found. HasFirst c.args.self found (form_reading c.args.self name bytes) in
-    subst P (sym found) (first_of_file c.crontab_is_its_entries.ensures c.args.known.now c.args.self name bytes)
+    let found : c.add_text.new.found.items ≡ file_findings c.args.zones.now c.args.known.now (file_of c.args.self name bytes) =
+    c.in_ok-add_text.ensures.found ∙ (λ i. named i ++ text_findings c.args.zones.now (c.add_name.ensures.known i) c.args.self name bytes) in
+    let P : List Finding → Type 0 = λ found. HasFirst c.args.self found (form_reading c.args.zones.now c.args.self name bytes) in
+    subst P (sym found) (first_of_file c.args.zones.now c.crontab_is_its_entries.ensures c.args.known.now c.args.self name bytes)
