@@ -10,6 +10,7 @@ use Rattle.std.proofs.lemmas.Bool.{cases_Bool}
 use Rattle.plan_texts.specs.Steps.{◌>>=◌}
 use Rattle.std.proofs.lemmas.List.{map-append}
 use Rattle.std.proofs.lemmas.List.Elements.{filter-append}
+use Rattle.plan_grammar.specs.EventZones.{Zones}
 use Rattle.plan_rules.specs.Job.{JobParts}
 use Rattle.plan_rules.specs.Jobs.{number_of}
 use Rattle.plan_rules.specs.Limits.{most_jobs}
@@ -23,6 +24,7 @@ use Rattle.plan_check.specs.Known.{KnownJobs, no_jobs, without_warnings}
 use Rattle.plan_check.specs.Quotes.{with_quote}
 use Rattle.agenda_sources.specs.declared.findings.Found.{Found}
 use Rattle.agenda_sources.specs.declared.sources.Source.{Source}
+use Rattle.agenda_sources.specs.declared.time_zones.TimeZones.{TimeZones}
 use Rattle.agenda_sources.specs.Faults.{SourceReading, in_source}
 use Rattle.agenda_sources.specs.Findings.{after_sources, found_at, found_from, is_all_clean, kept_jobs, quoted_findings, source_file, sources_errors, sources_findings}
 use Rattle.agenda_sources.specs.Kind.{form_of}
@@ -41,15 +43,15 @@ findings_back place file (finding ∷ found) = ap (λ more. finding ∷ more) (f
 
 -- the findings of sources are those of the files that they are
 found_files :
-    (place : ℕ) (known : KnownJobs) (sources : List Source) →
-    map (λ (one : Found). one.quoted.finding) (found_from place known sources) ≡ files_findings known (files_of sources)
-found_files place known [] = refl
-found_files place known (source ∷ more) =
+    (zones : Zones) (place : ℕ) (known : KnownJobs) (sources : List Source) →
+    map (λ (one : Found). one.quoted.finding) (found_from zones place known sources) ≡ files_findings zones known (files_of sources)
+found_files zones place known [] = refl
+found_files zones place known (source ∷ more) =
     let file = source_file source in
-    let after = after_file known file in
-    map-append (λ (one : Found). one.quoted.finding) (map (found_at place) (quoted_findings known file))
-    (found_from (place + 1) after more)
-    ∙ (λ i. findings_back place file (file_findings known file) i ++ found_files (place + 1) after more i)
+    let after = after_file zones known file in
+    map-append (λ (one : Found). one.quoted.finding) (map (found_at place) (quoted_findings zones known file))
+    (found_from zones (place + 1) after more)
+    ∙ (λ i. findings_back place file (file_findings zones known file) i ++ found_files zones (place + 1) after more i)
 
 -- ---- jobs that are appended
 
@@ -71,54 +73,54 @@ same_then place jobs (Ok more) = same_with jobs more
 same_then place jobs (Err fault) = refl
 
 on_then :
-    (read : SourceReading (List JobParts)) (files : List File) (place : ℕ) (more : List Source) →
-    ((jobs : List JobParts) → files_jobs jobs files ≡ result_ok (sources_from place jobs more)) →
-    jobs_then (result_ok read) (λ next. files_jobs next files) ≡ result_ok (read >>= λ next. sources_from place next more)
-on_then (Ok jobs) files place more later = later jobs
-on_then (Err fault) files place more later = refl
+    (zones : Zones) (read : SourceReading (List JobParts)) (files : List File) (place : ℕ) (more : List Source) →
+    ((jobs : List JobParts) → files_jobs zones jobs files ≡ result_ok (sources_from zones place jobs more)) →
+    jobs_then (result_ok read) (λ next. files_jobs zones next files) ≡ result_ok (read >>= λ next. sources_from zones place next more)
+on_then zones (Ok jobs) files place more later = later jobs
+on_then zones (Err fault) files place more later = refl
 
 same_from :
-    (place : ℕ) (sources : List Source) (jobs : List JobParts) →
-    files_jobs jobs (files_of sources) ≡ result_ok (sources_from place jobs sources)
-same_from place [] jobs = refl
-same_from place (source ∷ more) jobs =
-    let reading = form_reading (form_of source.kind) source.name source.bytes in
-    ap (λ read. jobs_then read (λ next. files_jobs next (files_of more))) (same_then place jobs reading)
-    ∙ on_then (with_source place jobs source) (files_of more) (place + 1) more (λ next. same_from (place + 1) more next)
+    (zones : Zones) (place : ℕ) (sources : List Source) (jobs : List JobParts) →
+    files_jobs zones jobs (files_of sources) ≡ result_ok (sources_from zones place jobs sources)
+same_from zones place [] jobs = refl
+same_from zones place (source ∷ more) jobs =
+    let reading = form_reading zones (form_of source.kind) source.name source.bytes in
+    ap (λ read. jobs_then read (λ next. files_jobs zones next (files_of more))) (same_then place jobs reading)
+    ∙ on_then zones (with_source zones place jobs source) (files_of more) (place + 1) more (λ next. same_from zones (place + 1) more next)
 
 -- ---- the law of findings
 
 -- the law of plan_check
 abbrev CleanLaw : Type 0
-CleanLaw = (clock : Option (List Change)) (files : List File) →
-    is_clean (files_findings (no_jobs clock) files) ≡ is_some (files_jobs [] files)
+CleanLaw = (zones : Zones) (clock : Option (List Change)) (files : List File) →
+    is_clean (files_findings zones (no_jobs clock) files) ≡ is_some (files_jobs zones [] files)
 
 some_where_ok : (read : SourceReading (List JobParts)) → is_some (result_ok read) ≡ is_ok read
 some_where_ok (Ok jobs) = refl
 some_where_ok (Err fault) = refl
 
 pub clean_sources :
-    CleanLaw → (clock : List Change) (sources : List Source) (found : List Found) → found ≡ sources_findings clock sources →
-    is_all_clean found ≡ is_ok (sources_reading sources)
-clean_sources law clock sources found is =
+    CleanLaw → (zones : TimeZones) (sources : List Source) (found : List Found) → found ≡ sources_findings zones sources →
+    is_all_clean found ≡ is_ok (sources_reading zones.named sources)
+clean_sources law zones sources found is =
     ap is_all_clean is
-    ∙ ap is_clean (found_files 0 (no_jobs (Some clock)) sources)
-    ∙ law (Some clock) (files_of sources)
-    ∙ ap is_some (same_from 0 sources [])
-    ∙ some_where_ok (sources_reading sources)
+    ∙ ap is_clean (found_files zones.named 0 (no_jobs (Some zones.clock)) sources)
+    ∙ law zones.named (Some zones.clock) (files_of sources)
+    ∙ ap is_some (same_from zones.named 0 sources [])
+    ∙ some_where_ok (sources_reading zones.named sources)
 
 -- the findings by the clock of a zone
-abbrev pub clocked : List Source → List Change → List Found
-clocked sources clock = found_from 0 (no_jobs (Some clock)) sources
+abbrev pub clocked : Zones → List Source → List Change → List Found
+clocked zones sources clock = found_from zones 0 (no_jobs (Some clock)) sources
 
 -- ---- without a clock
 
 -- the law of plan_check
 abbrev ErrorLaw : Type 0
-ErrorLaw = (known : KnownJobs) (file : File) → file_findings (without_warnings known) file ≡ errors_of (file_findings known file)
+ErrorLaw = (zones : Zones) (known : KnownJobs) (file : File) → file_findings zones (without_warnings known) file ≡ errors_of (file_findings zones known file)
 
 abbrev KnownLaw : Type 0
-KnownLaw = (known : KnownJobs) (file : File) → after_file (without_warnings known) file ≡ without_warnings (after_file known file)
+KnownLaw = (zones : Zones) (known : KnownJobs) (file : File) → after_file zones (without_warnings known) file ≡ without_warnings (after_file zones known file)
 
 abbrev all_errors : List Found → List Found
 all_errors found = filter (λ one. not (is_warning one.quoted.finding.what)) found
@@ -140,35 +142,35 @@ quoted_errors place file (finding ∷ more) =
     (all_errors (map (found_at place) (map (with_quote file) more))) (quoted_errors place file more)
 
 pub errors_from :
-    ErrorLaw → KnownLaw → (place : ℕ) (known : KnownJobs) (sources : List Source) →
-    found_from place (without_warnings known) sources ≡ all_errors (found_from place known sources)
-errors_from errors known_law place known [] = refl
-errors_from errors known_law place known (source ∷ more) =
+    (zones : Zones) → ErrorLaw → KnownLaw → (place : ℕ) (known : KnownJobs) (sources : List Source) →
+    found_from zones place (without_warnings known) sources ≡ all_errors (found_from zones place known sources)
+errors_from zones errors known_law place known [] = refl
+errors_from zones errors known_law place known (source ∷ more) =
     let file = source_file source in
-    let after = after_file known file in
-    (λ i. map (found_at place) (map (with_quote file) (errors known file i)) ++ found_from (place + 1) (known_law known file i) more)
-    ∙ (λ i. quoted_errors place file (file_findings known file) i ++ errors_from errors known_law (place + 1) after more i)
-    ∙ sym (filter-append (λ (one : Found). not (is_warning one.quoted.finding.what)) (map (found_at place) (quoted_findings known file))
-    (found_from (place + 1) after more))
+    let after = after_file zones known file in
+    (λ i. map (found_at place) (map (with_quote file) (errors zones known file i)) ++ found_from zones (place + 1) (known_law zones known file i) more)
+    ∙ (λ i. quoted_errors place file (file_findings zones known file) i ++ errors_from zones errors known_law (place + 1) after more i)
+    ∙ sym (filter-append (λ (one : Found). not (is_warning one.quoted.finding.what)) (map (found_at place) (quoted_findings zones known file))
+    (found_from zones (place + 1) after more))
 
 pub known_from :
-    KnownLaw → (known : KnownJobs) (sources : List Source) →
-    after_sources (without_warnings known) sources ≡ without_warnings (after_sources known sources)
-known_from law known [] = refl
-known_from law known (source ∷ more) =
-    ap (λ (next : KnownJobs). after_sources next more) (law known (source_file source))
-    ∙ known_from law (after_file known (source_file source)) more
+    (zones : Zones) → KnownLaw → (known : KnownJobs) (sources : List Source) →
+    after_sources zones (without_warnings known) sources ≡ without_warnings (after_sources zones known sources)
+known_from zones law known [] = refl
+known_from zones law known (source ∷ more) =
+    ap (λ (next : KnownJobs). after_sources zones next more) (law zones known (source_file source))
+    ∙ known_from zones law (after_file zones known (source_file source)) more
 
 -- ---- the jobs that are kept
 
-known_files : (known : KnownJobs) (sources : List Source) → after_sources known sources ≡ after_files known (files_of sources)
-known_files known [] = refl
-known_files known (source ∷ more) = known_files (after_file known (source_file source)) more
+known_files : (zones : Zones) (known : KnownJobs) (sources : List Source) → after_sources zones known sources ≡ after_files zones known (files_of sources)
+known_files zones known [] = refl
+known_files zones known (source ∷ more) = known_files zones (after_file zones known (source_file source)) more
 
 -- the law of plan_check
 abbrev KeptLaw : Type 0
-KeptLaw = (clock : Option (List Change)) (files : List File) →
-    IfSome (files_jobs [] files) (λ jobs. (after_files (no_jobs clock) files).jobs ≡ jobs)
+KeptLaw = (zones : Zones) (clock : Option (List Change)) (files : List File) →
+    IfSome (files_jobs zones [] files) (λ jobs. (after_files zones (no_jobs clock) files).jobs ≡ jobs)
 
 kept_by :
     (clock : List Change) (read : SourceReading (List JobParts)) (kept : List JobParts) →
@@ -179,26 +181,28 @@ kept_by clock (Err fault) kept same ok = absurd (true≢false ok)
 
 -- without errors the jobs that are kept are those of the sources
 kept_sources :
-    CleanLaw → KeptLaw → (clock : List Change) (sources : List Source) → found_from 0 (no_jobs None) sources ≡ [] →
-    jobs_reading clock sources ≡ Ok (zoned clock (after_sources (no_jobs None) sources).jobs)
-kept_sources clean kept clock sources none =
+    CleanLaw → KeptLaw → (zones : TimeZones) (sources : List Source) → found_from zones.named 0 (no_jobs None) sources ≡ [] →
+    jobs_reading zones sources ≡ Ok (zoned zones.clock (after_sources zones.named (no_jobs None) sources).jobs)
+kept_sources clean kept zones sources none =
     let files = files_of sources in
-    let same : IfSome (result_ok (sources_reading sources)) (λ jobs. (after_files (no_jobs None) files).jobs ≡ jobs) =
-    subst (λ read. IfSome read (λ jobs. (after_files (no_jobs None) files).jobs ≡ jobs)) (same_from 0 sources []) (kept None files) in
-    let ok : true ≡ is_ok (sources_reading sources) =
-    ap is_all_clean (sym none) ∙ ap is_clean (found_files 0 (no_jobs None) sources) ∙ clean None files
-    ∙ ap is_some (same_from 0 sources []) ∙ some_where_ok (sources_reading sources) in
-    kept_by clock (sources_reading sources) (after_files (no_jobs None) files).jobs same ok
-    ∙ ap (λ (known : KnownJobs). Ok (zoned clock known.jobs)) (sym (known_files (no_jobs None) sources))
+    let known = zones.named in
+    let after = (after_files known (no_jobs None) files).jobs in
+    let same : IfSome (result_ok (sources_reading known sources)) (λ jobs. after ≡ jobs) =
+    subst (λ read. IfSome read (λ jobs. after ≡ jobs)) (same_from known 0 sources []) (kept known None files) in
+    let ok : true ≡ is_ok (sources_reading known sources) =
+    ap is_all_clean (sym none) ∙ ap is_clean (found_files known 0 (no_jobs None) sources) ∙ clean known None files
+    ∙ ap is_some (same_from known 0 sources []) ∙ some_where_ok (sources_reading known sources) in
+    kept_by zones.clock (sources_reading known sources) after same ok
+    ∙ ap (λ (last : KnownJobs). Ok (zoned zones.clock last.jobs)) (sym (known_files known (no_jobs None) sources))
 
 -- if there are no errors, all jobs are kept
 pub all_kept :
-    CleanLaw → KeptLaw → ErrorLaw → KnownLaw → (clock : List Change) (sources : List Source) → sources_errors clock sources ≡ [] →
-    jobs_reading clock sources ≡ Ok (kept_jobs clock sources)
-all_kept clean kept errors known_law clock sources none =
-    let known = no_jobs (Some clock) in
-    kept_sources clean kept clock sources (errors_from errors known_law 0 known sources ∙ none)
-    ∙ ap (λ (last : KnownJobs). Ok (zoned clock last.jobs)) (known_from known_law known sources)
+    CleanLaw → KeptLaw → ErrorLaw → KnownLaw → (zones : TimeZones) (sources : List Source) → sources_errors zones sources ≡ [] →
+    jobs_reading zones sources ≡ Ok (kept_jobs zones sources)
+all_kept clean kept errors known_law zones sources none =
+    let known = no_jobs (Some zones.clock) in
+    kept_sources clean kept zones sources (errors_from zones.named errors known_law 0 known sources ∙ none)
+    ∙ ap (λ (last : KnownJobs). Ok (zoned zones.clock last.jobs)) (known_from zones.named known_law known sources)
 
 -- ---- the loop
 
@@ -210,12 +214,12 @@ none_left (source ∷ sources) (suc place) few = none_left sources place (omega 
 
 -- after the last source all is found
 pub none_known :
-    (place : ℕ) (known : KnownJobs) (sources : List Source) → length sources ≤ place →
-    after_sources known (drop place sources) ≡ known
-none_known place known sources few = ap (after_sources known) (none_left sources place few)
+    (zones : Zones) (place : ℕ) (known : KnownJobs) (sources : List Source) → length sources ≤ place →
+    after_sources zones known (drop place sources) ≡ known
+none_known zones place known sources few = ap (after_sources zones known) (none_left sources place few)
 
 pub all_found :
-    (place : ℕ) (known : KnownJobs) (sources : List Source) (found all : List Found) → length sources ≤ place →
-    found ++ found_from place known (drop place sources) ≡ all → found ≡ all
-all_found place known sources found all few so_far =
-    sym (append-nil found) ∙ ap (λ left. found ++ found_from place known left) (sym (none_left sources place few)) ∙ so_far
+    (zones : Zones) (place : ℕ) (known : KnownJobs) (sources : List Source) (found all : List Found) → length sources ≤ place →
+    found ++ found_from zones place known (drop place sources) ≡ all → found ≡ all
+all_found zones place known sources found all few so_far =
+    sym (append-nil found) ∙ ap (λ left. found ++ found_from zones place known left) (sym (none_left sources place few)) ∙ so_far

@@ -3,4 +3,5 @@ mod FoldLemmas
 mod SlashLemmas
 mod SourceFaults
 mod FindingLemmas
+mod ZoneNamesLemmas
 pub mod ZonedLemmas

@@ -4,6 +4,7 @@
 -- Each source's error passes `fault_by_cause`, which turns it into `NoMemory` in that case. The last lemma is
 -- about the answer.
 use Rattle.std.proofs.Common.{◌≡◌, ◌≢◌, ℕ, ◌+◌, nat_lt, is_some, List, [], ◌∷◌, ◌++◌, length, Result, Ok, Err, IfErr}
+use Rattle.plan_grammar.specs.EventZones.{Zones}
 use Rattle.plan_rules.specs.declared.line_fault.LineCause.{LineCause}
 use Rattle.plan_rules.specs.declared.line_fault.LineCause.TheVariants as cause
 use Rattle.plan_rules.specs.declared.line_fault.LineFault.{LineFault}
@@ -42,15 +43,15 @@ jobs_behind jobs [] = tt
 jobs_behind jobs (first ∷ more) =
     err_steps IsOwnFault (with_job jobs first) _ (job jobs first) (λ next. jobs_behind next more)
 
-of_one : (place : ℕ) (jobs : List JobParts) (source : Source) → IfErr (with_source place jobs source) IsOwnFault
-of_one place jobs source =
-    let read = form_reading (form_of source.kind) source.name source.bytes in
+of_one : (zones : Zones) (place : ℕ) (jobs : List JobParts) (source : Source) → IfErr (with_source zones place jobs source) IsOwnFault
+of_one zones place jobs source =
+    let read = form_reading zones (form_of source.kind) source.name source.bytes in
     err_steps IsOwnFault (in_source place read) _ (of_source place read) (jobs_behind jobs)
 
-all : (place : ℕ) (jobs : List JobParts) (sources : List Source) → IfErr (sources_from place jobs sources) IsOwnFault
-all place jobs [] = tt
-all place jobs (source ∷ more) =
-    err_steps IsOwnFault (with_source place jobs source) _ (of_one place jobs source) (λ next. all (place + 1) next more)
+all : (zones : Zones) (place : ℕ) (jobs : List JobParts) (sources : List Source) → IfErr (sources_from zones place jobs sources) IsOwnFault
+all zones place jobs [] = tt
+all zones place jobs (source ∷ more) =
+    err_steps IsOwnFault (with_source zones place jobs source) _ (of_one zones place jobs source) (λ next. all zones (place + 1) next more)
 
 -- ---- so for each error that a call returns
 
@@ -63,8 +64,8 @@ unless_memory NoMemory other = tt
 unless_memory fault other = other (λ same. cc)
 
 pub own_fault :
-    {A : Type 0} (answer : Result A SourceFault) (view : A → List JobParts) (sources : List Source) →
-    GivesUnless NoMemory view answer (sources_reading sources) → IfErr answer IsOwnFault
-own_fault (Ok x) view sources gives = tt
-own_fault (Err fault) view sources gives = unless_memory fault
-    (λ other. at_fault (sources_reading sources) fault (gives other) (all 0 [] sources))
+    {A : Type 0} (zones : Zones) (answer : Result A SourceFault) (view : A → List JobParts) (sources : List Source) →
+    GivesUnless NoMemory view answer (sources_reading zones sources) → IfErr answer IsOwnFault
+own_fault zones (Ok x) view sources gives = tt
+own_fault zones (Err fault) view sources gives = unless_memory fault
+    (λ other. at_fault (sources_reading zones sources) fault (gives other) (all zones 0 [] sources))

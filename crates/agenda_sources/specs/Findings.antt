@@ -1,13 +1,14 @@
 -- The findings of all sources, in the order of the sources, and the jobs without what is rejected (agenda).
 use Rattle.std.specs.Prelude.{ℕ, ◌+◌, Bool, not, List, [], ◌∷◌, ◌++◌, filter, map, Some}
+use Rattle.plan_grammar.specs.EventZones.{Zones}
 use Rattle.plan_rules.specs.Job.{JobParts}
-use Rattle.plan_clock.specs.declared.row.Change.{Change}
 use Rattle.plan_check.specs.Files.{File, after_file, file_findings, file_of}
 use Rattle.plan_check.specs.Finding.{is_clean, is_warning}
 use Rattle.plan_check.specs.Known.{KnownJobs, no_jobs}
 use Rattle.plan_check.specs.Quotes.{QuotedFinding, with_quote}
 use Rattle.agenda_sources.specs.declared.findings.Found.{Found}
 use Rattle.agenda_sources.specs.declared.sources.Source.{Source}
+use Rattle.agenda_sources.specs.declared.time_zones.TimeZones.{TimeZones}
 use Rattle.agenda_sources.specs.Kind.{form_of}
 use Rattle.agenda_sources.specs.Sources.{zoned}
 
@@ -15,24 +16,24 @@ use Rattle.agenda_sources.specs.Sources.{zoned}
 abbrev pub source_file : Source → File
 source_file source = file_of (form_of source.kind) source.name source.bytes
 
--- the findings of a file, each with the text that its message quotes
-abbrev pub quoted_findings : KnownJobs → File → List QuotedFinding
-quoted_findings known file = map (with_quote file) (file_findings known file)
+-- the findings of a file, whose events may name these zones, each with the text that its message quotes
+abbrev pub quoted_findings : Zones → KnownJobs → File → List QuotedFinding
+quoted_findings zones known file = map (with_quote file) (file_findings zones known file)
 
 -- a finding in the source at a place
 abbrev pub found_at : (place : ℕ) → QuotedFinding → Found
 found_at place quoted = record { place = place; quoted = quoted }
 
 -- the findings of sources in order. The first of them is at this place, after this is known
-abbrev pub found_from : (place : ℕ) → KnownJobs → List Source → List Found
-found_from place known [] = []
-found_from place known (source ∷ more) =
-    map (found_at place) (quoted_findings known (source_file source))
-    ++ found_from (place + 1) (after_file known (source_file source)) more
+abbrev pub found_from : Zones → (place : ℕ) → KnownJobs → List Source → List Found
+found_from zones place known [] = []
+found_from zones place known (source ∷ more) =
+    map (found_at place) (quoted_findings zones known (source_file source))
+    ++ found_from zones (place + 1) (after_file zones known (source_file source)) more
 
--- the findings of all sources, whose jobs start by the clock of a zone
-abbrev pub sources_findings : List Change → List Source → List Found
-sources_findings clock sources = found_from 0 (no_jobs (Some clock)) sources
+-- the findings of all sources, whose jobs start in these time zones
+abbrev pub sources_findings : TimeZones → List Source → List Found
+sources_findings zones sources = found_from zones.named 0 (no_jobs (Some zones.clock)) sources
 
 -- whether no finding is an error
 abbrev pub is_all_clean : List Found → Bool
@@ -41,14 +42,14 @@ is_all_clean found = is_clean (map (λ one. one.quoted.finding) found)
 -- ---- without what is rejected
 
 -- the errors of all sources
-abbrev pub sources_errors : List Change → List Source → List Found
-sources_errors clock sources = filter (λ one. not (is_warning one.quoted.finding.what)) (sources_findings clock sources)
+abbrev pub sources_errors : TimeZones → List Source → List Found
+sources_errors zones sources = filter (λ one. not (is_warning one.quoted.finding.what)) (sources_findings zones sources)
 
 -- what is known after sources
-abbrev pub after_sources : KnownJobs → List Source → KnownJobs
-after_sources known [] = known
-after_sources known (source ∷ more) = after_sources (after_file known (source_file source)) more
+abbrev pub after_sources : Zones → KnownJobs → List Source → KnownJobs
+after_sources zones known [] = known
+after_sources zones known (source ∷ more) = after_sources zones (after_file zones known (source_file source)) more
 
--- the jobs of all sources of which nothing is rejected, in the zone of a clock
-abbrev pub kept_jobs : List Change → List Source → List JobParts
-kept_jobs clock sources = zoned clock (after_sources (no_jobs (Some clock)) sources).jobs
+-- the jobs of all sources of which nothing is rejected, in these time zones
+abbrev pub kept_jobs : TimeZones → List Source → List JobParts
+kept_jobs zones sources = zoned zones.clock (after_sources zones.named (no_jobs (Some zones.clock)) sources).jobs

@@ -4,3 +4,4 @@ pub mod Findings
 pub mod Kind
 pub mod Name
 pub mod Sources
+pub mod ZoneNames

@@ -2,10 +2,12 @@
 use Rattle.std.specs.Prelude.{ℕ, ◌+◌, nat_lt, if◌then◌else◌, List, [], ◌∷◌, ◌++◌, length, is_some, Ok, Err}
 use Rattle.plan_clock.specs.declared.row.Change.{Change}
 use Rattle.plan_texts.specs.Steps.{◌>>=◌}
+use Rattle.plan_grammar.specs.EventZones.{Zones}
 use Rattle.plan_rules.specs.Limits.{most_jobs}
 use Rattle.plan_rules.specs.Job.{JobParts}
 use Rattle.plan_rules.specs.Jobs.{number_of}
 use Rattle.plan_rules.specs.Zone.{jobs_in}
+use Rattle.agenda_sources.specs.declared.time_zones.TimeZones.{TimeZones}
 use Rattle.agenda_sources.specs.declared.sources.Source.{Source}
 use Rattle.agenda_sources.specs.declared.fault.SourceFault.TheVariants.{SameName, Full}
 use Rattle.agenda_sources.specs.Faults.{SourceReading, in_source}
@@ -29,33 +31,33 @@ with_jobs jobs (job ∷ more) = do
 
 -- ---- one more source
 
--- these jobs, then those of the source at a place, from 0
-abbrev pub with_source : ℕ → List JobParts → Source → SourceReading (List JobParts)
-with_source place jobs source = do
-  more ← in_source place (form_reading (form_of source.kind) source.name source.bytes)
+-- these jobs, then those of the source at a place, from 0. Calendar events may name these zones
+abbrev pub with_source : Zones → ℕ → List JobParts → Source → SourceReading (List JobParts)
+with_source zones place jobs source = do
+  more ← in_source place (form_reading zones (form_of source.kind) source.name source.bytes)
   with_jobs jobs more
 
 -- ---- all sources
 
 -- these jobs, then those of sources in order, the first of which is at this place. A source's jobs are added
 -- before the next is read
-abbrev pub sources_from : ℕ → List JobParts → List Source → SourceReading (List JobParts)
-sources_from place jobs [] = Ok jobs
-sources_from place jobs (source ∷ more) = do
-  next ← with_source place jobs source
-  sources_from (place + 1) next more
+abbrev pub sources_from : Zones → ℕ → List JobParts → List Source → SourceReading (List JobParts)
+sources_from zones place jobs [] = Ok jobs
+sources_from zones place jobs (source ∷ more) = do
+  next ← with_source zones place jobs source
+  sources_from zones (place + 1) next more
 
 -- the jobs of all sources, in UTC
-abbrev pub sources_reading : List Source → SourceReading (List JobParts)
-sources_reading sources = sources_from 0 [] sources
+abbrev pub sources_reading : Zones → List Source → SourceReading (List JobParts)
+sources_reading zones sources = sources_from zones 0 [] sources
 
 -- jobs in the zone of a clock; in UTC they are unchanged
 abbrev pub zoned : List Change → List JobParts → List JobParts
 zoned [] jobs = jobs
 zoned (first ∷ more) jobs = jobs_in (first ∷ more) jobs
 
--- the jobs of all sources, in the zone of a clock
-abbrev pub jobs_reading : List Change → List Source → SourceReading (List JobParts)
-jobs_reading clock sources = do
-  jobs ← sources_reading sources
-  Ok (zoned clock jobs)
+-- the jobs of all sources, in these time zones
+abbrev pub jobs_reading : TimeZones → List Source → SourceReading (List JobParts)
+jobs_reading zones sources = do
+  jobs ← sources_reading zones.named sources
+  Ok (zoned zones.clock jobs)

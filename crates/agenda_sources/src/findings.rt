@@ -1,18 +1,19 @@
 //! The findings of all sources, in the order of the sources, and the jobs that are left without what is rejected.
 
 ghost use Rattle.std.specs.Prelude.{◌≡◌, List, [], ◌++◌, IfOk, Ok, OnOk, is_ok, map};
-ghost use Rattle.plan_clock.specs.declared.row.Change.{Change};
 ghost use Rattle.plan_check.specs.Files.{after_file};
 ghost use Rattle.plan_check.specs.Known.{no_jobs};
 ghost use Rattle.agenda_sources.specs.declared.sources.Source.{Source};
+ghost use Rattle.agenda_sources.specs.declared.time_zones.TimeZones.{TimeZones};
 ghost use Rattle.agenda_sources.specs.Findings.{after_sources, found_at, found_from, is_all_clean, kept_jobs, quoted_findings, source_file, sources_errors, sources_findings};
 ghost use Rattle.agenda_sources.specs.Sources.{jobs_reading, sources_reading};
 
 use crate::reading::in_zone;
 use crate::sources::{Source, Sources};
+use crate::time_zones::TimeZones;
 use plan_check::{Known, Quoted, clean_where_jobs_are, errors_need_no_clock};
 use plan_clock::Clock;
-use plan_rules::Jobs;
+use plan_rules::{EventZones, Jobs};
 use std::alloc::{AllocError, Global};
 
 /// A finding in one of several sources.
@@ -36,7 +37,7 @@ pub struct Kept {
 /// Returns all findings of the sources, in the order of the sources, each with the text that its message quotes.
 ///
 /// The findings of a source are those of `findings` of plan_check's `Form`, and the texts those of `with_quotes`.
-/// Rules start by the clock of a zone.
+/// Rules start in these time zones.
 ///
 /// # Errors
 ///
@@ -44,19 +45,20 @@ pub struct Kept {
 pub fn findings_of_sources(
     alloc: Global,
     sources: &Sources,
-    clock: &Clock,
+    zones: &TimeZones,
 ) -> Result<Vec<Found>, AllocError>
-    ensures found { IfOk result (λ found. found.items ≡ sources_findings clock.now sources.now) }
+    ensures found { IfOk result (λ found. found.items ≡ sources_findings zones.now sources.now) }
     // There is no error among the findings exactly if `jobs_of_sources` makes a list of jobs of the sources.
-    ensures clean { IfOk result (λ found. is_all_clean found.items ≡ is_ok (sources_reading sources.now)) }
+    ensures clean { IfOk result (λ found. is_all_clean found.items ≡ is_ok (sources_reading zones.now.named sources.now)) }
 {
     clean_where_jobs_are();
-    let (found, _) = read_sources(alloc, sources, Some(clock.try_clone()?))?;
+    let clock = zones.clock.try_clone()?;
+    let (found, _) = read_sources(alloc, sources, Some(clock), &zones.named)?;
     Ok(found)
 }
 
 /// Returns the errors of the sources, as `findings_of_sources` finds them, and the jobs that are left if all that is
-/// rejected is left out. Rules start by the clock of a zone.
+/// rejected is left out. Rules start in these time zones.
 ///
 /// The jobs are those that `findings` of plan_check's `Form` adds: of a crontab each valid line, and each timer that
 /// isn't rejected as a whole, with its valid events; but no job that is rejected as `SameName` or `Full`.
@@ -66,16 +68,20 @@ pub fn findings_of_sources(
 /// # Errors
 ///
 /// `AllocError` if an allocation fails.
-pub fn kept_of_sources(alloc: Global, sources: &Sources, clock: &Clock) -> Result<Kept, AllocError>
-    ensures errors { IfOk result (λ kept. kept.errors.items ≡ sources_errors clock.now sources.now) }
-    ensures jobs { IfOk result (λ kept. kept.jobs ≡ kept_jobs clock.now sources.now) }
+pub fn kept_of_sources(
+    alloc: Global,
+    sources: &Sources,
+    zones: &TimeZones,
+) -> Result<Kept, AllocError>
+    ensures errors { IfOk result (λ kept. kept.errors.items ≡ sources_errors zones.now sources.now) }
+    ensures jobs { IfOk result (λ kept. kept.jobs ≡ kept_jobs zones.now sources.now) }
     // If there is no error, the jobs are those of `jobs_of_sources`.
-    ensures same { IfOk result (λ kept. kept.errors.items ≡ [] → jobs_reading clock.now sources.now ≡ Ok kept.jobs) }
+    ensures same { IfOk result (λ kept. kept.errors.items ≡ [] → jobs_reading zones.now sources.now ≡ Ok kept.jobs) }
 {
     errors_need_no_clock();
     without_errors_all_is_kept();
-    let (errors, known) = read_sources(alloc, sources, None)?;
-    let jobs = in_zone(alloc, known.into_jobs(), clock)?;
+    let (errors, known) = read_sources(alloc, sources, None, &zones.named)?;
+    let jobs = in_zone(alloc, known.into_jobs(), &zones.clock)?;
     Ok(Kept { errors, jobs })
 }
 
@@ -84,26 +90,28 @@ pub fn kept_of_sources(alloc: Global, sources: &Sources, clock: &Clock) -> Resul
 ///
 /// The function does nothing: its contract is the law.
 pub fn without_errors_all_is_kept()
-    ensures { (clock : List Change) → (sources : List Source) → sources_errors clock sources ≡ [] → jobs_reading clock sources ≡ Ok (kept_jobs clock sources) }
+    ensures { (zones : TimeZones) → (sources : List Source) → sources_errors zones sources ≡ [] → jobs_reading zones sources ≡ Ok (kept_jobs zones sources) }
 {
     clean_where_jobs_are();
     errors_need_no_clock();
 }
 
-// Returns the findings of the sources, and what is known after the last one. Without a clock there are no warnings.
+// Returns the findings of the sources, and what is known after the last one. Events may name these zones. Without a clock
+// there are no warnings.
 fn read_sources(
     alloc: Global,
     sources: &Sources,
     clock: Option<Clock>,
+    zones: &EventZones,
 ) -> Result<(Vec<Found>, Known), AllocError>
-    ensures found { IfOk result (λ read. read.0.items ≡ found_from 0 (no_jobs clock) sources.now) }
-    ensures known { IfOk result (λ read. read.1 ≡ after_sources (no_jobs clock) sources.now) }
+    ensures found { IfOk result (λ read. read.0.items ≡ found_from zones.now 0 (no_jobs clock) sources.now) }
+    ensures known { IfOk result (λ read. read.1 ≡ after_sources zones.now (no_jobs clock) sources.now) }
 {
     let mut known = Known::new(alloc, clock);
     let mut found = Vec::new(alloc);
     let sources = sources.as_slice();
     for (place, source) in sources.iter().enumerate() {
-        add_source(alloc, &mut known, &mut found, place, source)?;
+        add_source(alloc, &mut known, &mut found, place, source, zones)?;
     }
     Ok((found, known))
 }
@@ -115,14 +123,15 @@ fn add_source(
     found: &mut Vec<Found>,
     place: usize,
     source: &Source,
+    zones: &EventZones,
 ) -> Result<(), AllocError>
     ensures found { OnOk result (found.new.items ≡ found.old.items
-        ++ map (found_at place) (quoted_findings known.old (source_file source.now))) }
-    ensures known { OnOk result (known.new ≡ after_file known.old (source_file source.now)) }
+        ++ map (found_at place) (quoted_findings zones.now known.old (source_file source.now))) }
+    ensures known { OnOk result (known.new ≡ after_file zones.now known.old (source_file source.now)) }
 {
     let form = source.kind.form();
     let (name, bytes) = (source.name.as_str(), source.bytes.as_slice());
-    let more = form.findings(alloc, known, name, bytes)?;
+    let more = form.findings(alloc, known, name, bytes, zones)?;
     if more.is_empty() {
         return Ok(());
     }

@@ -9,12 +9,13 @@ ghost use Rattle.agenda_sources.specs.Sources.{jobs_reading, with_job, with_jobs
 
 use crate::fault::SourceFault;
 use crate::sources::{Source, Sources};
+use crate::time_zones::TimeZones;
 use plan_clock::Clock;
-use plan_rules::{AddFault, Job, Jobs};
+use plan_rules::{AddFault, EventZones, Job, Jobs};
 use std::alloc::{AllocError, Global};
 
 /// Returns the jobs of the sources, in the order of the sources: one for each command line of a crontab, and
-/// one for each timer. Their rules start by the clock of a zone.
+/// one for each timer. Their rules start in these time zones.
 ///
 /// The jobs of a source are added before the next source is read.
 ///
@@ -27,16 +28,20 @@ use std::alloc::{AllocError, Global};
 /// - `Full`: there are more than 1,000 jobs.
 /// - `NoMemory`: an allocation failed, also while a source was read. It never replaces an error of the first
 ///   source that is found before its lines are read: `BadTabName`, `BadTimerName`, `TooLarge` or `NotUtf8`.
-pub fn jobs_of_sources(alloc: Global, sources: &Sources, clock: &Clock) -> Result<Jobs, SourceFault>
-    ensures meaning { GivesUnless SourceFault.NoMemory (λ jobs. jobs) result (jobs_reading clock.now sources.now) }
+pub fn jobs_of_sources(
+    alloc: Global,
+    sources: &Sources,
+    zones: &TimeZones,
+) -> Result<Jobs, SourceFault>
+    ensures meaning { GivesUnless SourceFault.NoMemory (λ jobs. jobs) result (jobs_reading zones.now sources.now) }
     ensures own_fault { IfErr result IsOwnFault }
 
     // These errors are found before any memory is requested.
     ensures at_once { IfSome (fault_at_once sources.now) (λ fault. result ≡ Err fault) }
     ensures no_source { sources.now ≡ [] → result ≡ Ok [] }
 {
-    let jobs = read_jobs(alloc, sources)?;
-    match in_zone(alloc, jobs, clock) {
+    let jobs = read_jobs(alloc, sources, &zones.named)?;
+    match in_zone(alloc, jobs, &zones.clock) {
         Ok(jobs) => Ok(jobs),
         Err(_) => Err(SourceFault::NoMemory),
     }
@@ -53,9 +58,9 @@ pub(crate) fn in_zone(alloc: Global, jobs: Jobs, clock: &Clock) -> Result<Jobs, 
     jobs.in_zone(alloc, clock)
 }
 
-// Returns the same jobs, all in UTC.
-fn read_jobs(alloc: Global, sources: &Sources) -> Result<Jobs, SourceFault>
-    ensures meaning { GivesUnless SourceFault.NoMemory (λ jobs. jobs) result (sources_reading sources.now) }
+// Returns the same jobs, all in UTC but for events that name one of these zones.
+fn read_jobs(alloc: Global, sources: &Sources, zones: &EventZones) -> Result<Jobs, SourceFault>
+    ensures meaning { GivesUnless SourceFault.NoMemory (λ jobs. jobs) result (sources_reading zones.now sources.now) }
     ensures own_fault { IfErr result IsOwnFault }
 
     // These errors are found before any memory is requested.
@@ -65,7 +70,7 @@ fn read_jobs(alloc: Global, sources: &Sources) -> Result<Jobs, SourceFault>
     let mut jobs = Jobs::new(alloc);
     let sources = sources.as_slice();
     for (place, source) in sources.iter().enumerate() {
-        add_source(alloc, &mut jobs, place, source)?;
+        add_source(alloc, &mut jobs, place, source, zones)?;
     }
     Ok(jobs)
 }
@@ -76,15 +81,17 @@ fn add_source(
     jobs: &mut Jobs,
     place: usize,
     source: &Source,
+    zones: &EventZones,
 ) -> Result<(), SourceFault>
     requires { length jobs.old ≤ most_jobs }
     ensures meaning { GivesUnless SourceFault.NoMemory (λ _. jobs.new) result
-        (with_source place jobs.old source.now) }
+        (with_source zones.now place jobs.old source.now) }
     ensures few { length jobs.new ≤ most_jobs }
     ensures at_once { IfSome (source_at_once place source.now) (λ fault. result ≡ Err fault) }
 {
     let form = source.kind.form();
-    match form.read(alloc, source.name.as_str(), source.bytes.as_slice()) {
+    let (name, bytes) = (source.name.as_str(), source.bytes.as_slice());
+    match form.read(alloc, name, bytes, zones) {
         Ok(more) => add_all(jobs, more),
         Err(fault) => Err(SourceFault::in_source(place, fault)),
     }

@@ -3,5 +3,4 @@ pub mod CleanLemmas
 pub mod ErrorLemmas
 pub mod LinesLemmas
 pub mod TimerLinesLemmas
-pub mod KnownLemmas
 pub mod QuoteLemmas

@@ -6,9 +6,8 @@ ghost use Rattle.std.specs.Str.{bytes_eq};
 ghost use Rattle.plan_check.specs.Known.{after_job, after_other, has_room, is_taken, name_fault, no_jobs, with_jobs};
 
 use crate::finding::What;
-use indexmap::IndexSet;
 use plan_clock::Clock;
-use plan_rules::{Job, Jobs, MOST_JOBS};
+use plan_rules::{Job, Jobs, MOST_JOBS, Names};
 use std::alloc::{AllocError, Global};
 use std::marker::Model;
 
@@ -19,7 +18,7 @@ use std::marker::Model;
 pub struct Known {
     jobs: Jobs,
     // The names of the timers that make no job, and that no later job may have.
-    others: IndexSet<String>,
+    others: Names,
     // Whether `Full` was reported.
     is_told: bool,
     // Whether the file makes jobs: not if its name is bad.
@@ -29,7 +28,6 @@ pub struct Known {
 }
 
 impl Model for Known {
-    ghost use Rattle.std.specs.Prelude.{map, string_bytes};
     ghost use Rattle.std.specs.Coded.{codes};
     ghost use Rattle.plan_rules.specs.Job.{job_code};
     ghost use Rattle.plan_check.specs.Known.{KnownJobs};
@@ -40,7 +38,7 @@ impl Model for Known {
 
     ghost view = { λ known. record {
       jobs = known.jobs;
-      others = map string_bytes known.others.keys;
+      others = known.others;
       told = known.is_told;
       makes_jobs = known.makes_jobs;
       clock = known.clock;
@@ -55,7 +53,7 @@ impl Known {
     {
         Known {
             jobs: Jobs::new(alloc),
-            others: IndexSet::new(alloc),
+            others: Names::new(alloc),
             is_told: false,
             makes_jobs: true,
             clock,
@@ -142,9 +140,7 @@ impl Known {
         requires { list_any (bytes_eq name.now) self.old.others ≡ false }
         ensures { OnOk result (self.new ≡ record self.old { others = self.old.others ++ name.now ∷ [] }) }
     {
-        let name = String::from_str(alloc, name)?;
-        self.others.insert(name)?;
-        Ok(())
+        self.others.add(alloc, name)
     }
 
     // Returns whether a job, or a timer that makes none, has this name.

@@ -4,5 +4,5 @@ use Rattle.agenda_sources.proofs.findings.findings_of_sources.Goals as goal
 
 pub returns-clause-clean : goal.returns-clause-clean
 returns-clause-clean c =
-    clean_sources c.clean_where_jobs_are.ensures.clean c.args.clock.now c.args.sources.now c.in_ok-found.found.items
-    (c.in_ok-found.ensures.found ∙ ap (clocked c.args.sources.now) c.in_ok-try_clone.ensures)
+    clean_sources c.clean_where_jobs_are.ensures.clean c.args.zones.now c.args.sources.now c.in_ok-found.found.items
+    (c.in_ok-found.ensures.found ∙ ap (clocked c.args.zones.now.named c.args.sources.now) c.in_ok-clock.ensures)

@@ -11,13 +11,13 @@ pub returns-in_err-add_source-clause-meaning : goal.returns-in_err-add_source-cl
 returns-in_err-add_source-clause-meaning c =
     let p = err_from_is_err_and c.from_residual.result c.from_residual.ensures.1 in
     rw (p.1, p.2, ← c.as_slice-sources.ensures)
-    (λ other. read_fault c.as_slice-sources.result.now c.loop-place.place c.index-sources-place.result
-    c.loop-place.jobs c.in_err-add_source.field-0.0 (sources_reading c.as_slice-sources.result.now) c.loop-place-test.true
+    (λ other. read_fault c.args.zones.now c.as_slice-sources.result.now c.loop-place.place c.index-sources-place.result
+    c.loop-place.jobs c.in_err-add_source.field-0.0 (sources_reading c.args.zones.now c.as_slice-sources.result.now) c.loop-place-test.true
     c.index-sources-place.is c.loop-place.invariant.meaning (c.in_err-add_source.ensures.meaning other))
 
 pub returns-in_err-add_source-clause-own_fault : goal.returns-in_err-add_source-clause-own_fault
 returns-in_err-add_source-clause-own_fault c =
-    own_fault c.from_residual.result (λ jobs. jobs) c.args.sources.now (returns-in_err-add_source-clause-meaning c)
+    own_fault c.args.zones.now c.from_residual.result (λ jobs. jobs) c.args.sources.now (returns-in_err-add_source-clause-meaning c)
 
 pub returns-in_err-add_source-clause-at_once : goal.returns-in_err-add_source-clause-at_once
 returns-in_err-add_source-clause-at_once c =
@@ -31,8 +31,8 @@ returns-in_err-add_source-clause-at_once c =
 pub loop-place-preserved : goal.loop-place-preserved
 loop-place-preserved c = record {
   few = c.add_source.ensures.few;
-  meaning = read_on c.as_slice-sources.result.now c.loop-place.place c.index-sources-place.result
-      c.loop-place.jobs c.add_source.new.jobs (sources_reading c.as_slice-sources.result.now) c.loop-place-test.true
+  meaning = read_on c.args.zones.now c.as_slice-sources.result.now c.loop-place.place c.index-sources-place.result
+      c.loop-place.jobs c.add_source.new.jobs (sources_reading c.args.zones.now c.as_slice-sources.result.now) c.loop-place-test.true
       c.index-sources-place.is c.loop-place.invariant.meaning c.in_ok-add_source.ensures.meaning;
   none = λ past. none_so_far c.in_ok-add_source.field-0 c.as_slice-sources.result.now c.loop-place.place
       c.index-sources-place.result c.loop-place-test.true c.index-sources-place.is

@@ -8,6 +8,6 @@ use Rattle.agenda_sources.proofs.reading.read_jobs.Given as goal
 abbrev pub invariant-loop-place : goal.invariant-loop-place
 invariant-loop-place l = record {
   few : length l.jobs ≤ most_jobs;
-  meaning : sources_from l.place l.jobs (drop l.place l.sources) ≡ sources_reading l.sources;
+  meaning : sources_from l.zones l.place l.jobs (drop l.place l.sources) ≡ sources_reading l.zones l.sources;
   none : 0 < l.place → fault_at_once l.sources ≡ None;
 }

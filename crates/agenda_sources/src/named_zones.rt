@@ -1,0 +1,60 @@
+//! The names of the time zones that calendar events end with (systemd.time(7)).
+
+ghost use Rattle.std.specs.Prelude.{◌≡◌, IfOk, OnOk};
+ghost use Rattle.plan_rules.specs.Names.{with_names};
+ghost use Rattle.agenda_sources.specs.ZoneNames.{asked_zones, source_zones, zone_names};
+
+use crate::asked::Asked;
+use crate::sources::{Source, Sources};
+use plan_check::Form;
+use plan_rules::{Names, add_timer_zones, zone_name};
+use std::alloc::{AllocError, Global};
+
+/// Returns the names of the time zones that the calendar events of sources end with, but for UTC, each once, in the order
+/// of the sources.
+///
+/// These are the names by which zones are looked up. Events that are rejected may have one too.
+///
+/// # Errors
+///
+/// `AllocError` if an allocation fails.
+pub fn zone_names(alloc: Global, sources: &Sources) -> Result<Names, AllocError>
+    ensures { IfOk result (λ names. names ≡ zone_names sources.now) }
+{
+    let mut names = Names::new(alloc);
+    let sources = sources.as_slice();
+    for source in sources {
+        add_source_zones(alloc, &mut names, source)?;
+    }
+    Ok(names)
+}
+
+// Adds the names of the zones of a source's events.
+fn add_source_zones(alloc: Global, names: &mut Names, source: &Source) -> Result<(), AllocError>
+    ensures { OnOk result (names.new ≡ with_names names.old (source_zones source.now)) }
+{
+    match source.kind.form() {
+        Form::Timer => add_timer_zones(alloc, names, source.bytes.as_slice()),
+        Form::Crontab(_) | Form::Named(_) => Ok(()),
+    }
+}
+
+/// Returns the name of the time zone of a rule that is given by itself, as a list: of a calendar event that ends with a
+/// zone other than UTC.
+///
+/// # Errors
+///
+/// `AllocError` if an allocation fails.
+pub fn asked_zones(alloc: Global, asked: &Asked) -> Result<Names, AllocError>
+    ensures { IfOk result (λ names. names ≡ asked_zones asked.now) }
+{
+    let mut names = Names::new(alloc);
+    let Asked::Event(text) = asked else {
+        return Ok(names);
+    };
+    let Some(name) = zone_name(alloc, text.as_str())? else {
+        return Ok(names);
+    };
+    names.add(alloc, name)?;
+    Ok(names)
+}
