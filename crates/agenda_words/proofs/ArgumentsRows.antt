@@ -1,14 +1,15 @@
 -- Worked rows of the command line: what the arguments request, by the definition.
 -- They answer the goals of no function, but test `asked_by`, which is unfolded with clap's definitions and
 -- computed. One row holds for any two plain words (`any_moment_and_rule`). It depends on how clap reads them.
-use Rattle.std.proofs.Common.{◌≡◌, Bool, List, ℕ, [], ◌∷◌, false, true, None, Some, Ok, Err, codes, refl}
+use Rattle.std.proofs.Common.{◌≡◌, Bool, List, ℕ, [], ◌∷◌, false, true, Option, None, Some, Ok, Err, codes, refl}
 use Rattle.std.specs.Str.{bytes_eq}
 use Rattle.clap.specs.Lexer.{long_of, short_of}
 use Rattle.clap.proofs.OnLiterals.{clap_on_literals}
 use Rattle.plan_collect.specs.declared.Sizes.{Sizes}
-use Rattle.agenda_words.specs.declared.ask.Ask.TheVariants.{Next, Plan, Upcoming, Quiet, Steps}
+use Rattle.agenda_words.specs.declared.ask.Ask.TheVariants.{Next, Plan, Upcoming, Quiet, Check, Steps}
 use Rattle.agenda_words.specs.declared.ask.JobsRequest.{JobsRequest}
 use Rattle.agenda_words.specs.declared.ask.PlanRequest.{PlanRequest}
+use Rattle.agenda_words.specs.declared.ask.ZonesRequest.{ZonesRequest}
 use Rattle.agenda_sources.specs.declared.Asked.TheVariants.{Cron, Event}
 use Rattle.agenda_sources.specs.declared.SourceKind.TheVariants.{Crontab, System, CronD, Spool, Timer}
 use Rattle.agenda_sources.specs.declared.SourcePath.{SourcePath}
@@ -24,15 +25,22 @@ rule = codes "30 4 1,15 * 5"
 abbrev next_with : List (List ℕ) → List (List ℕ)
 next_with words = codes "agenda" ∷ codes "next" ∷ codes "--after" ∷ moment ∷ words
 
+abbrev zones_from : Option (List ℕ) → (event_zones : Bool) → ZonesRequest
+zones_from zone event_zones = record { zone = zone; event_zones = event_zones }
+
+-- neither `--zone` nor `--event-zones`
+abbrev in_utc : ZonesRequest
+in_utc = zones_from None false
+
 -- both values and the number
-four_starts : asked_by (next_with (codes "--count" ∷ codes "4" ∷ codes "--cron" ∷ rule ∷ [])) ≡ Ok (Next moment None 4 (Cron rule))
+four_starts : asked_by (next_with (codes "--count" ∷ codes "4" ∷ codes "--cron" ∷ rule ∷ [])) ≡ Ok (Next moment in_utc 4 (Cron rule))
 unfolding asked_by clap_on_literals agenda_on_literals
 four_starts = refl
 
 -- a zone
 a_zone_is_given :
     asked_by (next_with (codes "--zone" ∷ codes "Europe/Oslo" ∷ codes "--cron" ∷ rule ∷ []))
-    ≡ Ok (Next moment (Some (codes "Europe/Oslo")) 1 (Cron rule))
+    ≡ Ok (Next moment (zones_from (Some (codes "Europe/Oslo")) false) 1 (Cron rule))
 unfolding asked_by clap_on_literals agenda_on_literals
 a_zone_is_given = refl
 
@@ -42,18 +50,38 @@ two_zones_are_given :
 unfolding asked_by clap_on_literals agenda_on_literals
 two_zones_are_given = refl
 
+-- `--event-zones` without a zone
+next_with_event_zones :
+    asked_by (next_with (codes "--event-zones" ∷ codes "--calendar" ∷ codes "daily Europe/Oslo" ∷ []))
+    ≡ Ok (Next moment (zones_from None true) 1 (Event (codes "daily Europe/Oslo")))
+unfolding asked_by clap_on_literals agenda_on_literals
+next_with_event_zones = refl
+
+-- a value for `--event-zones`
+event_zones_with_a_value :
+    asked_by (next_with (codes "--event-zones=true" ∷ codes "--calendar" ∷ codes "daily" ∷ [])) ≡ Err is_usage
+unfolding asked_by clap_on_literals agenda_on_literals
+event_zones_with_a_value = refl
+
+-- `--event-zones` twice
+event_zones_twice :
+    asked_by (next_with (codes "--event-zones" ∷ codes "--event-zones" ∷ codes "--calendar" ∷ codes "daily" ∷ [])) ≡ Err is_usage
+unfolding asked_by clap_on_literals agenda_on_literals
+event_zones_twice = refl
+
 -- one start without `--count`
-one_start_by_default : asked_by (next_with (codes "--cron" ∷ rule ∷ [])) ≡ Ok (Next moment None 1 (Cron rule))
+one_start_by_default : asked_by (next_with (codes "--cron" ∷ rule ∷ [])) ≡ Ok (Next moment in_utc 1 (Cron rule))
 unfolding asked_by clap_on_literals agenda_on_literals
 one_start_by_default = refl
 
 -- a count of 0 is accepted here
-no_start : asked_by (next_with (codes "--count" ∷ codes "0" ∷ codes "--cron" ∷ rule ∷ [])) ≡ Ok (Next moment None 0 (Cron rule))
+no_start : asked_by (next_with (codes "--count" ∷ codes "0" ∷ codes "--cron" ∷ rule ∷ [])) ≡ Ok (Next moment in_utc 0 (Cron rule))
 unfolding asked_by clap_on_literals agenda_on_literals
 no_start = refl
 
 -- the largest number of 32 bits
-most_starts : asked_by (next_with (codes "--count=4294967295" ∷ codes "--cron" ∷ rule ∷ [])) ≡ Ok (Next moment None 4294967295 (Cron rule))
+most_starts : asked_by (next_with (codes "--count=4294967295" ∷ codes "--cron" ∷ rule ∷ []))
+    ≡ Ok (Next moment in_utc 4294967295 (Cron rule))
 unfolding asked_by clap_on_literals agenda_on_literals
 most_starts = refl
 
@@ -95,13 +123,13 @@ record IsPlainWord (word : List ℕ) : Type 0 where
 
 -- any two plain words are accepted
 any_moment_and_rule : (name after cron : List ℕ) → IsPlainWord after → IsPlainWord cron
-    → asked_by (name ∷ codes "next" ∷ codes "--after" ∷ after ∷ codes "--cron" ∷ cron ∷ []) ≡ Ok (Next after None 1 (Cron cron))
+    → asked_by (name ∷ codes "next" ∷ codes "--after" ∷ after ∷ codes "--cron" ∷ cron ∷ []) ≡ Ok (Next after in_utc 1 (Cron cron))
 unfolding asked_by clap_on_literals agenda_on_literals
 any_moment_and_rule name after cron a c =
-    rw (a.trailing, a.long, a.short, c.trailing, c.long, c.short) (refl {a = Ok (Next after None 1 (Cron cron))})
+    rw (a.trailing, a.long, a.short, c.trailing, c.long, c.short) (refl {a = Ok (Next after in_utc 1 (Cron cron))})
 
 -- a calendar event
-an_event_is_given : asked_by (next_with (codes "--calendar" ∷ codes "daily" ∷ [])) ≡ Ok (Next moment None 1 (Event (codes "daily")))
+an_event_is_given : asked_by (next_with (codes "--calendar" ∷ codes "daily" ∷ [])) ≡ Ok (Next moment in_utc 1 (Event (codes "daily")))
 unfolding asked_by clap_on_literals agenda_on_literals
 an_event_is_given = refl
 
@@ -137,7 +165,7 @@ abbrev sized : (planners room limit : ℕ) → Sizes
 sized planners room limit = record { planners = planners; room = room; limit = limit }
 
 abbrev jobs_from : List SourcePath → (keep_going : Bool) → JobsRequest
-jobs_from sources keep_going = record { zone = None; sources = sources; keep_going = keep_going }
+jobs_from sources keep_going = record { zones = in_utc; sources = sources; keep_going = keep_going }
 
 abbrev planned : (upto : List ℕ) → List SourcePath → Sizes → PlanRequest
 planned upto sources sizes = record { since = moment; upto = upto; jobs = jobs_from sources false; sizes = sizes }
@@ -167,6 +195,13 @@ plan_that_keeps_going : asked_by (plan_with (codes "--keep-going" ∷ codes "a.t
 unfolding asked_by clap_on_literals agenda_on_literals
 plan_that_keeps_going = refl
 
+-- `--event-zones`, a zone and `--keep-going`
+plan_with_event_zones : asked_by (plan_with (codes "--keep-going" ∷ codes "--event-zones" ∷ codes "--zone=UTC" ∷ []))
+    ≡ Ok (Plan (record (planned (codes "u") [] (sized 2 16 10000))
+    { jobs = record (jobs_from [] true) { zones = zones_from (Some (codes "UTC")) true } }))
+unfolding asked_by clap_on_literals agenda_on_literals
+plan_with_event_zones = refl
+
 -- a value for `--keep-going`
 keep_going_with_a_value : asked_by (plan_with (codes "--keep-going=true" ∷ [])) ≡ Err is_usage
 unfolding asked_by clap_on_literals agenda_on_literals
@@ -181,6 +216,18 @@ keep_going_twice = refl
 check_keeps_no_going : asked_by (codes "agenda" ∷ codes "check" ∷ codes "--keep-going" ∷ []) ≡ Err is_usage
 unfolding asked_by clap_on_literals agenda_on_literals
 check_keeps_no_going = refl
+
+-- `check` with `--event-zones`; the argument after it is a timer
+check_with_event_zones :
+    asked_by (codes "agenda" ∷ codes "check" ∷ codes "--event-zones" ∷ codes "a.timer" ∷ [])
+    ≡ Ok (Check (zones_from None true) (path_of Timer (codes "a.timer") ∷ []))
+unfolding asked_by clap_on_literals agenda_on_literals
+check_with_event_zones = refl
+
+-- `steps` has no `--event-zones`
+steps_without_event_zones : asked_by (codes "agenda" ∷ codes "steps" ∷ codes "--event-zones" ∷ codes "a" ∷ []) ≡ Err is_usage
+unfolding asked_by clap_on_literals agenda_on_literals
+steps_without_event_zones = refl
 
 -- no `--since`
 no_beginning_is_given : asked_by (codes "agenda" ∷ codes "plan" ∷ codes "--upto" ∷ moment ∷ []) ≡ Err is_usage
@@ -245,6 +292,13 @@ upcoming_that_keeps_going :
 unfolding asked_by clap_on_literals agenda_on_literals
 upcoming_that_keeps_going = refl
 
+-- `upcoming` with `--event-zones`
+upcoming_with_event_zones :
+    asked_by (codes "agenda" ∷ codes "upcoming" ∷ codes "--after" ∷ moment ∷ codes "--event-zones" ∷ [])
+    ≡ Ok (Upcoming moment (record (jobs_from [] false) { zones = zones_from None true }))
+unfolding asked_by clap_on_literals agenda_on_literals
+upcoming_with_event_zones = refl
+
 -- `quiet` with all defaults: gaps of half an hour, and a limit of 1,000,000
 quiet_by_default : asked_by (codes "agenda" ∷ codes "quiet" ∷ codes "--since" ∷ moment ∷ codes "--upto" ∷ codes "z" ∷ [])
     ≡ Ok (Quiet (planned (codes "z") [] (sized 2 16 1000000)) 1800)
@@ -257,6 +311,14 @@ quiet_that_keeps_going :
     ≡ Ok (Quiet (record (planned (codes "z") [] (sized 2 16 1000000)) { jobs = jobs_from [] true }) 1800)
 unfolding asked_by clap_on_literals agenda_on_literals
 quiet_that_keeps_going = refl
+
+-- `quiet` with `--event-zones`
+quiet_with_event_zones :
+    asked_by (codes "agenda" ∷ codes "quiet" ∷ codes "--since" ∷ moment ∷ codes "--upto" ∷ codes "z" ∷ codes "--event-zones" ∷ [])
+    ≡ Ok (Quiet (record (planned (codes "z") [] (sized 2 16 1000000))
+    { jobs = record (jobs_from [] false) { zones = zones_from None true } }) 1800)
+unfolding asked_by clap_on_literals agenda_on_literals
+quiet_with_event_zones = refl
 
 -- a negative gap
 quiet_of_less :

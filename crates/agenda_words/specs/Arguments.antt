@@ -22,6 +22,7 @@ use Rattle.agenda_words.specs.declared.ask.JobsRequest.{JobsRequest}
 use Rattle.agenda_words.specs.declared.ask.PlanRequest.{PlanRequest}
 use Rattle.agenda_words.specs.declared.ask.UsageFault.{UsageFault}
 use Rattle.agenda_words.specs.declared.ask.UsageFault.TheVariants.{NoMemory, Usage, Help}
+use Rattle.agenda_words.specs.declared.ask.ZonesRequest.{ZonesRequest}
 use Rattle.agenda_sources.specs.declared.SourceKind.{SourceKind}
 use Rattle.agenda_sources.specs.declared.SourcePath.{SourcePath}
 use Rattle.agenda_sources.specs.Kind.{is_many, kinds, option_of}
@@ -61,13 +62,17 @@ zone_in rows = first_of (codes "zone") rows
 abbrev pub is_given : (name : List ℕ) → List Row → Bool
 is_given name rows = option_map_or (λ value. bytes_eq value (codes "true")) (first_of name rows) false
 
+-- the time zones of a request, by the values: that of the rules, and whether events may end with one (agenda)
+abbrev pub zones_in : List Row → ZonesRequest
+zones_in rows = record { zone = zone_in rows; event_zones = is_given (codes "event-zones") rows }
+
 -- what `next` requests, by its values (agenda)
 abbrev pub asked_by_next : List Row → Result Ask Refusal
 asked_by_next rows = do
   after ← wanted (first_of (codes "after") rows)
   count ← wanted (number_in (one_of (codes "count") rows))
   rule ← one_rule (first_of (codes "cron") rows) (first_of (codes "calendar") rows)
-  Ok (Next after (zone_in rows) count rule)
+  Ok (Next after (zones_in rows) count rule)
 
 -- the sizes of a plan, in the order in which they are checked (agenda)
 abbrev pub sizes_in : List Row → Result Sizes Refusal
@@ -98,7 +103,7 @@ sources_in rows = flat_map (λ kind. map (path_of kind) (paths_in kind rows)) ki
 
 -- what jobs are read from, by the values; there may be no source (agenda)
 abbrev pub jobs_in : List Row → JobsRequest
-jobs_in rows = record { zone = zone_in rows; sources = sources_in rows; keep_going = is_given (codes "keep-going") rows }
+jobs_in rows = record { zones = zones_in rows; sources = sources_in rows; keep_going = is_given (codes "keep-going") rows }
 
 -- what a plan is made from, by its values (agenda)
 unfoldable pub plan_in : List Row → Result PlanRequest Refusal
@@ -129,7 +134,7 @@ asked_by_quiet rows = do
 
 -- what `check` requests, by its values; there may be no source (agenda)
 abbrev pub asked_by_check : List Row → Result Ask Refusal
-asked_by_check rows = Ok (Check (zone_in rows) (sources_in rows))
+asked_by_check rows = Ok (Check (zones_in rows) (sources_in rows))
 
 -- what `steps` requests, by its values (agenda)
 abbrev pub asked_by_steps : List Row → Result Ask Refusal

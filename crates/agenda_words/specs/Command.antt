@@ -28,6 +28,10 @@ moment_option name = record (option_named name) { required = true }
 abbrev pub zone_option : Rule
 zone_option = option_named (codes "zone")
 
+-- the flag `--event-zones` (agenda)
+abbrev pub event_zones_option : Rule
+event_zones_option = flag_option (codes "event-zones")
+
 -- the flag `--keep-going` (agenda)
 abbrev pub keep_going_option : Rule
 keep_going_option = flag_option (codes "keep-going")
@@ -74,38 +78,40 @@ subcommand_with name rules = with_rules (new_app name) rules
 unfoldable pub with_sources : App → App
 with_sources app = with_each app (map source_rule kinds)
 
--- `next --after T [--zone ZONE] [--count N] (--cron TEXT or --calendar TEXT)`; that exactly one of the last
--- two is present is checked after clap's parse (agenda)
+-- `next --after T [--zone ZONE] [--event-zones] [--count N] (--cron TEXT or --calendar TEXT)`; that exactly one
+-- of the last two is present is checked after clap's parse (agenda)
 unfoldable pub next : App
-next = subcommand_with (codes "next") (moment_option (codes "after") ∷ zone_option ∷ number_option (codes "count") (codes "1")
-    ∷ option_named (codes "cron") ∷ option_named (codes "calendar") ∷ [])
+next = subcommand_with (codes "next") (moment_option (codes "after") ∷ zone_option ∷ event_zones_option
+    ∷ number_option (codes "count") (codes "1") ∷ option_named (codes "cron") ∷ option_named (codes "calendar") ∷ [])
 
 -- a command with the sizes of a plan added: `[--planners N] [--room N] [--limit N]`; `default` is the default of the limit (agenda)
 unfoldable pub with_sizes : App → (default : List ℕ) → App
 with_sizes app default = with_rules app (number_option (codes "planners") (codes "2") ∷ number_option (codes "room") (codes "16")
     ∷ number_option (codes "limit") default ∷ [])
 
--- the span of a plan, the zone, and whether to keep going: `--since T --upto T [--zone ZONE] [--keep-going]` (agenda)
+-- the span of a plan, the zones, and whether to keep going: `--since T --upto T [--zone ZONE] [--event-zones]
+-- [--keep-going]` (agenda)
 abbrev pub span_rules : List Rule
-span_rules = moment_option (codes "since") ∷ moment_option (codes "upto") ∷ zone_option ∷ keep_going_option ∷ []
+span_rules = moment_option (codes "since") ∷ moment_option (codes "upto") ∷ zone_option ∷ event_zones_option ∷ keep_going_option ∷ []
 
--- `plan --since T --upto T [--zone ZONE] [--keep-going]`, the sources and the sizes (agenda)
+-- `plan --since T --upto T [--zone ZONE] [--event-zones] [--keep-going]`, the sources and the sizes (agenda)
 unfoldable pub plan : App
 plan = with_sizes (with_sources (subcommand_with (codes "plan") span_rules)) (codes "10000")
 
--- `upcoming --after T [--zone ZONE] [--keep-going]` and the sources (agenda)
+-- `upcoming --after T [--zone ZONE] [--event-zones] [--keep-going]` and the sources (agenda)
 unfoldable pub upcoming : App
-upcoming = with_sources (subcommand_with (codes "upcoming") (moment_option (codes "after") ∷ zone_option ∷ keep_going_option ∷ []))
+upcoming = with_sources (subcommand_with (codes "upcoming") (moment_option (codes "after") ∷ zone_option ∷ event_zones_option
+    ∷ keep_going_option ∷ []))
 
--- `quiet --since T --upto T [--zone ZONE] [--keep-going]`, the sources, `[--least N]` and the sizes (agenda)
+-- `quiet --since T --upto T [--zone ZONE] [--event-zones] [--keep-going]`, the sources, `[--least N]` and the sizes (agenda)
 unfoldable pub quiet : App
 quiet = with_sizes
     (with_rules (with_sources (subcommand_with (codes "quiet") span_rules)) (number_option (codes "least") (codes "1800") ∷ []))
     (codes "1000000")
 
--- `check [--zone ZONE]` and the sources (agenda)
+-- `check [--zone ZONE] [--event-zones]` and the sources (agenda)
 unfoldable pub check : App
-check = with_sources (subcommand_with (codes "check") (zone_option ∷ []))
+check = with_sources (subcommand_with (codes "check") (zone_option ∷ event_zones_option ∷ []))
 
 -- `steps FILE` (agenda)
 unfoldable pub steps : App

@@ -3,9 +3,9 @@ ghost use Rattle.std.specs.Prelude.{◌≡◌, IfOk, map, string_bytes};
 ghost use Rattle.clap.specs.Words.{found_of, kind_of, rows_of, subcommand_rows_of};
 ghost use Rattle.agenda_words.specs.Arguments.{Gives, IsAnswerTo, asked_by, asked_by_check, asked_by_explain, asked_by_next};
 ghost use Rattle.agenda_words.specs.Arguments.{asked_by_plan, asked_by_quiet, asked_by_steps, asked_by_subcommand};
-ghost use Rattle.agenda_words.specs.Arguments.{asked_by_upcoming, jobs_in, plan_in, sizes_in};
+ghost use Rattle.agenda_words.specs.Arguments.{asked_by_upcoming, jobs_in, plan_in, sizes_in, zones_in};
 
-use crate::ask::{Ask, JobsRequest, PlanRequest, UsageFault};
+use crate::ask::{Ask, JobsRequest, PlanRequest, UsageFault, ZonesRequest};
 use crate::codes::code_of;
 use crate::command::agenda_command;
 use crate::paths::sources_of;
@@ -70,7 +70,7 @@ fn asked_by_next(alloc: Global, given: &ArgMatches<'_>) -> Result<Ask, UsageFaul
     ensures { Gives result (asked_by_next (rows_of (found_of given.now))) }
 {
     let after = text_of(alloc, given, "after")?;
-    let zone = text_if_given(alloc, given, "zone")?;
+    let zones = zones_of(alloc, given)?;
     let count = number_argument(alloc, given, "count")?;
     let cron = text_if_given(alloc, given, "cron")?;
     let calendar = text_if_given(alloc, given, "calendar")?;
@@ -81,7 +81,7 @@ fn asked_by_next(alloc: Global, given: &ArgMatches<'_>) -> Result<Ask, UsageFaul
     };
     Ok(Ask::Next {
         after,
-        zone,
+        zones,
         count,
         rule,
     })
@@ -130,14 +130,23 @@ fn plan_of(alloc: Global, given: &ArgMatches<'_>) -> Result<PlanRequest, UsageFa
 fn jobs_of(alloc: Global, given: &ArgMatches<'_>) -> Result<JobsRequest, AllocError>
     ensures { IfOk result (λ jobs. jobs ≡ jobs_in (rows_of (found_of given.now))) }
 {
-    let zone = text_if_given(alloc, given, "zone")?;
+    let zones = zones_of(alloc, given)?;
     let sources = sources_of(alloc, given)?;
     let keep_going = is_given(given, "keep-going");
     Ok(JobsRequest {
-        zone,
+        zones,
         sources,
         keep_going,
     })
+}
+
+// Returns the time zones of a request.
+fn zones_of(alloc: Global, given: &ArgMatches<'_>) -> Result<ZonesRequest, AllocError>
+    ensures { IfOk result (λ zones. zones ≡ zones_in (rows_of (found_of given.now))) }
+{
+    let zone = text_if_given(alloc, given, "zone")?;
+    let event_zones = is_given(given, "event-zones");
+    Ok(ZonesRequest { zone, event_zones })
 }
 
 // Returns the sizes of a plan. The numbers in the arguments have 32 bits. Here they get the types that a plan uses.
@@ -157,9 +166,9 @@ fn sizes_of(alloc: Global, given: &ArgMatches<'_>) -> Result<Sizes, UsageFault>
 fn asked_by_check(alloc: Global, given: &ArgMatches<'_>) -> Result<Ask, UsageFault>
     ensures { Gives result (asked_by_check (rows_of (found_of given.now))) }
 {
-    let zone = text_if_given(alloc, given, "zone")?;
+    let zones = zones_of(alloc, given)?;
     let sources = sources_of(alloc, given)?;
-    Ok(Ask::Check { zone, sources })
+    Ok(Ask::Check { zones, sources })
 }
 
 fn asked_by_steps(alloc: Global, given: &ArgMatches<'_>) -> Result<Ask, UsageFault>

@@ -7,11 +7,20 @@ use plan_texts::Text;
 use std::alloc::AllocError;
 use thiserror::Error;
 
+/// The time zones of a request.
+#[derive(Debug, Drop)]
+pub struct ZonesRequest {
+    /// The text of the time zone of the rules. It is UTC if this is missing.
+    pub zone: Option<Text>,
+    /// Whether calendar events may end with a time zone other than UTC.
+    pub event_zones: bool,
+}
+
 /// What jobs are read from.
 #[derive(Debug, Drop)]
 pub struct JobsRequest {
-    /// The text of the time zone of the rules. It is UTC if this is missing.
-    pub zone: Option<Text>,
+    /// The time zones of the rules.
+    pub zones: ZonesRequest,
     /// The paths of the sources, in the order of their kinds. Those of one kind are in the order of the arguments.
     pub sources: SourcePaths,
     /// Whether what is invalid or can't be read is skipped and reported.
@@ -38,8 +47,8 @@ pub enum Ask {
     Next {
         /// The text of a timestamp. The starts are later.
         after: Text,
-        /// The text of the time zone of the rules. It is UTC if this is missing.
-        zone: Option<Text>,
+        /// The time zones of the rule.
+        zones: ZonesRequest,
         /// The number of starts.
         count: u32,
         /// The rule.
@@ -63,8 +72,8 @@ pub enum Ask {
     },
     /// Print what is wrong with crontabs and timers.
     Check {
-        /// The text of the time zone of the rules. It is UTC if this is missing.
-        zone: Option<Text>,
+        /// The time zones of the rules.
+        zones: ZonesRequest,
         /// The paths of the sources, in the same order as for a plan.
         sources: SourcePaths,
     },

@@ -2,9 +2,9 @@
 ghost use Rattle.std.specs.Prelude.{◌≡◌, [], ◌∷◌, IfOk, false};
 ghost use Rattle.clap.specs.Words.{app_of, items_of, rule_of, with_rule, with_subcommand};
 ghost use Rattle.clap.specs.declared.builder.command.Command.TheViews.{out-Command};
-ghost use Rattle.agenda_words.specs.Command.{agenda, argument_named, check, code_argument, explain, file_argument, moment_option, next};
-ghost use Rattle.agenda_words.specs.Command.{keep_going_option, number_option, option_named, plan, quiet, steps, upcoming};
-ghost use Rattle.agenda_words.specs.Command.{source_rule, with_sizes, with_sources, zone_option};
+ghost use Rattle.agenda_words.specs.Command.{agenda, argument_named, check, code_argument, event_zones_option, explain, file_argument};
+ghost use Rattle.agenda_words.specs.Command.{keep_going_option, moment_option, next, number_option, option_named, plan, quiet, steps};
+ghost use Rattle.agenda_words.specs.Command.{source_rule, upcoming, with_sizes, with_sources, zone_option};
 
 mod help;
 
@@ -52,6 +52,7 @@ fn next_command<'a>(alloc: Global) -> Result<Command<'a>, AllocError>
         .after_help(help::AFTER_NEXT);
     let command = with_argument(command, moment_option(alloc, "after", help::AFTER))?;
     let command = with_argument(command, zone_option(alloc))?;
+    let command = with_argument(command, event_zones_option(alloc))?;
     let command = with_argument(command, number_option(alloc, "count", "1", help::COUNT))?;
     let command = with_argument(command, text_option(alloc, "cron", "TEXT", help::CRON))?;
     let command = with_argument(
@@ -72,6 +73,7 @@ fn plan_command<'a>(alloc: Global) -> Result<Command<'a>, AllocError>
     let command = with_argument(command, moment_option(alloc, "since", help::SINCE))?;
     let command = with_argument(command, moment_option(alloc, "upto", help::UPTO))?;
     let command = with_argument(command, zone_option(alloc))?;
+    let command = with_argument(command, event_zones_option(alloc))?;
     let command = with_argument(command, keep_going_option(alloc))?;
     let command = with_sources(alloc, command)?;
     let command = with_sizes(alloc, command, "10000")?;
@@ -88,6 +90,7 @@ fn upcoming_command<'a>(alloc: Global) -> Result<Command<'a>, AllocError>
         .after_help(help::AFTER_UPCOMING);
     let command = with_argument(command, moment_option(alloc, "after", help::AFTER))?;
     let command = with_argument(command, zone_option(alloc))?;
+    let command = with_argument(command, event_zones_option(alloc))?;
     let command = with_argument(command, keep_going_option(alloc))?;
     let command = with_sources(alloc, command)?;
     Ok(command)
@@ -104,6 +107,7 @@ fn quiet_command<'a>(alloc: Global) -> Result<Command<'a>, AllocError>
     let command = with_argument(command, moment_option(alloc, "since", help::SINCE))?;
     let command = with_argument(command, moment_option(alloc, "upto", help::UPTO))?;
     let command = with_argument(command, zone_option(alloc))?;
+    let command = with_argument(command, event_zones_option(alloc))?;
     let command = with_argument(command, keep_going_option(alloc))?;
     let command = with_sources(alloc, command)?;
     let command = with_argument(command, number_option(alloc, "least", "1800", help::LEAST))?;
@@ -120,6 +124,7 @@ fn check_command<'a>(alloc: Global) -> Result<Command<'a>, AllocError>
         .about(help::CHECK)
         .after_help(help::AFTER_CHECK);
     let command = with_argument(command, zone_option(alloc))?;
+    let command = with_argument(command, event_zones_option(alloc))?;
     let command = with_sources(alloc, command)?;
     Ok(command)
 }
@@ -250,6 +255,17 @@ fn zone_option<'a>(alloc: Global) -> Arg<'a>
     ensures local { result.global ≡ false }
 {
     text_option(alloc, "zone", "ZONE", help::ZONE)
+}
+
+// Returns the option `--event-zones`, which has no value.
+fn event_zones_option<'a>(alloc: Global) -> Arg<'a>
+    ensures rule { rule_of result ≡ event_zones_option }
+    ensures local { result.global ≡ false }
+{
+    Arg::new(alloc, "event-zones")
+        .long("event-zones")
+        .help(help::EVENT_ZONES)
+        .action(ArgAction::SetTrue)
 }
 
 // Returns the option `--keep-going`, which has no value.

@@ -13,4 +13,4 @@ mod paths;
 mod values;
 
 pub use arguments::read_words;
-pub use ask::{Ask, JobsRequest, PlanRequest, UsageFault};
+pub use ask::{Ask, JobsRequest, PlanRequest, UsageFault, ZonesRequest};

@@ -20,7 +20,7 @@ Examples:
 pub(super) const NEXT: &str = "Prints the next starts of one rule";
 
 pub(super) const NEXT_USAGE: &str =
-    "agenda next --after <T> [--zone <ZONE>] [--count <N>] (--cron <TEXT> | --calendar <TEXT>)";
+    "agenda next --after <T> [--zone <ZONE>] [--event-zones] [--count <N>] (--cron <TEXT> | --calendar <TEXT>)";
 
 pub(super) const AFTER: &str = "\
 Only starts later than this time, in UTC, such as
@@ -29,6 +29,10 @@ Only starts later than this time, in UTC, such as
 pub(super) const ZONE: &str = "\
 The time zone of the rules, such as Europe/Berlin,
 or the path of a TZif file; UTC if it isn't given";
+
+pub(super) const EVENT_ZONES: &str = "\
+Read events that end with a time zone, such as
+'Mon..Fri 09:00 Europe/Berlin'";
 
 pub(super) const KEEP_GOING: &str = "Skip what is invalid or can't be read, and report it";
 
