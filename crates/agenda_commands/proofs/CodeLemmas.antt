@@ -70,6 +70,7 @@ rule_has (rule.Values set.Backwards) comes = has code.Backwards
 rule_has (rule.Values set.ZeroStep) comes = has code.ZeroStep
 rule_has rule.Fraction comes = has code.Fraction
 rule_has rule.Zone comes = has code.Zone
+rule_has rule.UnknownZone comes = has code.Zone
 rule_has rule.UnknownWord comes = has code.UnknownWord
 rule_has rule.Specifier comes = has code.Specifier
 

@@ -1,10 +1,10 @@
 -- What `check` writes about the findings on sources. All of it is our choice (agenda).
 use Rattle.std.specs.Prelude.{ℕ, Bool, true, false, List, is_ok, Result, Ok}
-use Rattle.plan_clock.specs.declared.row.Change.{Change}
 pub use Rattle.plan_write.specs.Findings.{check_text}
 use Rattle.agenda_sources.specs.Findings.{sources_findings}
 use Rattle.agenda_sources.specs.Sources.{sources_reading}
 use Rattle.agenda_sources.specs.declared.Source.{Source}
+use Rattle.agenda_sources.specs.declared.TimeZones.{TimeZones}
 use Rattle.agenda_sources.specs.declared.SourcePath.{SourcePath}
 use Rattle.agenda_faults.specs.declared.faults.RunFault.{RunFault}
 use Rattle.agenda_commands.specs.declared.check.Verdict.{Verdict}
@@ -16,9 +16,9 @@ verdict_of true = verdict.Clean
 verdict_of false = verdict.Refused
 
 -- the verdict on sources: there is an error exactly if they make no list of jobs
-abbrev pub sources_verdict : List Source → Verdict
-sources_verdict sources = verdict_of (is_ok (sources_reading sources))
+abbrev pub sources_verdict : TimeZones → List Source → Verdict
+sources_verdict zones sources = verdict_of (is_ok (sources_reading zones.named sources))
 
 -- what `check` writes for sources: all findings
-abbrev pub check_output : List Change → List SourcePath → List Source → Result (List ℕ) RunFault
-check_output clock paths sources = Ok (check_text paths (sources_findings clock sources))
+abbrev pub check_output : TimeZones → List SourcePath → List Source → Result (List ℕ) RunFault
+check_output zones paths sources = Ok (check_text paths (sources_findings zones sources))

@@ -1,6 +1,5 @@
 -- What is written about the gaps of a plan. All of it is our choice (agenda).
 use Rattle.std.specs.Prelude.{ℕ, ◌==◌, if◌then◌else◌, List, Result, Ok, Err}
-use Rattle.plan_clock.specs.declared.row.Change.{Change}
 use Rattle.plan_texts.specs.Steps.{◌>>=◌}
 use Rattle.plan_rules.specs.Job.{JobParts}
 use Rattle.plan_collect.specs.Agenda.{rules_of}
@@ -10,6 +9,7 @@ use Rattle.plan_collect.specs.declared.Sizes.{Sizes}
 use Rattle.plan_write.specs.Quiet.{quiet_text}
 use Rattle.agenda_sources.specs.Sources.{jobs_reading}
 use Rattle.agenda_sources.specs.declared.Source.{Source}
+use Rattle.agenda_sources.specs.declared.TimeZones.{TimeZones}
 use Rattle.agenda_faults.specs.declared.faults.RunFault.{RunFault}
 use Rattle.agenda_faults.specs.declared.faults.RunFault.TheVariants.{BadLeast}
 use Rattle.agenda_faults.specs.Faults.{fault_of_plan, fault_of_sources}
@@ -26,8 +26,8 @@ gaps_output jobs span sizes least = do
   Ok (quiet_text least made)
 
 -- what `quiet` writes for sources: the gaps of the plan of their jobs
-abbrev pub quiet_output : List Change → List Source → Bounds → Sizes → (least : ℕ) → Result (List ℕ) RunFault
-quiet_output clock sources span sizes least = do
+abbrev pub quiet_output : TimeZones → List Source → Bounds → Sizes → (least : ℕ) → Result (List ℕ) RunFault
+quiet_output zones sources span sizes least = do
   wide ← valid_least least
-  jobs ← step fault_of_sources (jobs_reading clock sources)
+  jobs ← step fault_of_sources (jobs_reading zones sources)
   gaps_output jobs span sizes wide

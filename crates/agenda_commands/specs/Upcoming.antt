@@ -1,10 +1,10 @@
 -- What is written about the next starts of jobs. All of it is our choice (agenda).
 use Rattle.std.specs.Prelude.{◌≡◌, ⊤, ℕ, List, Ok, Err}
-use Rattle.plan_clock.specs.declared.row.Change.{Change}
 use Rattle.plan_rules.specs.Job.{JobParts}
 use Rattle.plan_write.specs.Upcoming.{AreUpcoming, upcoming_text}
 use Rattle.agenda_sources.specs.Sources.{jobs_reading}
 use Rattle.agenda_sources.specs.declared.Source.{Source}
+use Rattle.agenda_sources.specs.declared.TimeZones.{TimeZones}
 use Rattle.agenda_sources.specs.declared.SourceFault.{SourceFault}
 use Rattle.agenda_faults.specs.declared.faults.RunFault.{RunFault}
 use Rattle.agenda_faults.specs.declared.faults.RunFault.TheVariants.{NoMemory}
@@ -15,12 +15,12 @@ abbrev pub IsTextOfNexts : List JobParts → (after : ℕ) → List ℕ → Type
 IsTextOfNexts jobs after text = (nexts : List (ℕ × ℕ)) × AreUpcoming jobs after nexts × (text ≡ upcoming_text nexts jobs)
 
 -- what is printed for sources: when each of their jobs starts next
-abbrev pub IsTextOfUpcoming : List Change → List Source → (after : ℕ) → List ℕ → Type 0
-IsTextOfUpcoming clock sources after text =
-    (jobs : List JobParts) × (jobs_reading clock sources ≡ Ok jobs) × IsTextOfNexts jobs after text
+abbrev pub IsTextOfUpcoming : TimeZones → List Source → (after : ℕ) → List ℕ → Type 0
+IsTextOfUpcoming zones sources after text =
+    (jobs : List JobParts) × (jobs_reading zones sources ≡ Ok jobs) × IsTextOfNexts jobs after text
 
 -- when `upcoming` is rejected, and why: only if the sources are, with their error
-abbrev pub RefusesUpcoming : List Change → List Source → RunFault → Type 0
-RefusesUpcoming clock sources NoMemory = ⊤
-RefusesUpcoming clock sources fault =
-    (found : SourceFault) × (jobs_reading clock sources ≡ Err found) × (fault ≡ fault_of_sources found)
+abbrev pub RefusesUpcoming : TimeZones → List Source → RunFault → Type 0
+RefusesUpcoming zones sources NoMemory = ⊤
+RefusesUpcoming zones sources fault =
+    (found : SourceFault) × (jobs_reading zones sources ≡ Err found) × (fault ≡ fault_of_sources found)

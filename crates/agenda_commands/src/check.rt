@@ -41,10 +41,10 @@ pub fn run_check<S: Stream>(
     input: &Input,
     out: &mut S,
 ) -> Result<Verdict, RunFault>
-    ensures verdict { IfOk result (λ verdict. verdict ≡ sources_verdict input.now.sources) }
-    ensures output { Outputs S.takes_all (check_output input.now.clock paths.now input.now.sources) result (S.holds out.old) (S.holds out.new) }
+    ensures verdict { IfOk result (λ verdict. verdict ≡ sources_verdict input.now.zones input.now.sources) }
+    ensures output { Outputs S.takes_all (check_output input.now.zones paths.now input.now.sources) result (S.holds out.old) (S.holds out.new) }
 {
-    let found = findings_of_sources(alloc, &input.sources, &input.clock)?;
+    let found = findings_of_sources(alloc, &input.sources, &input.zones)?;
     write_findings(paths, found.as_slice(), out)?;
     Ok(verdict_on(found.as_slice()))
 }

@@ -1,13 +1,12 @@
 //! What jobs are made from.
 
-use agenda_sources::Sources;
-use plan_clock::Clock;
+use agenda_sources::{Sources, TimeZones};
 
-/// What jobs are made from: their sources, and the clock of the time zone of their rules.
+/// What jobs are made from: their sources, and the time zones of their rules.
 #[derive(Drop)]
 pub struct Input {
-    /// The clock of the zone.
-    pub clock: Clock,
+    /// The time zones.
+    pub zones: TimeZones,
     /// The sources, in the order of their paths.
     pub sources: Sources,
 }

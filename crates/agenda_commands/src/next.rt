@@ -6,9 +6,8 @@ ghost use Rattle.agenda_commands.specs.Next.{asked_reading, asked_rule, next_out
 ghost use Rattle.plan_rules.specs.Readings.{Gives};
 
 use agenda_faults::RunFault;
-use agenda_sources::Asked;
-use plan_clock::Clock;
-use plan_rules::{Rule, RuleFault, calendar_rule, cron_rule};
+use agenda_sources::{Asked, TimeZones};
+use plan_rules::{EventZones, Rule, RuleFault, calendar_rule, cron_rule};
 use plan_streams::Stream;
 use plan_write::write_next;
 use std::alloc::Global;
@@ -17,7 +16,8 @@ use std::alloc::Global;
 pub const MOST_STARTS: u64 = 1_000;
 
 /// Writes the first `count` starts of a rule that are later than `after`, one timestamp per line. `after` is
-/// in seconds since 1970-01-01T00:00:00Z. If the rule has fewer starts, the line `none` follows them.
+/// in seconds since 1970-01-01T00:00:00Z. If the rule has fewer starts, the line `none` follows them. The rule starts in
+/// these time zones.
 ///
 /// # Errors
 ///
@@ -27,12 +27,12 @@ pub const MOST_STARTS: u64 = 1_000;
 pub fn run_next<S: Stream>(
     alloc: Global,
     asked: &Asked,
-    clock: &Clock,
+    zones: &TimeZones,
     after: u64,
     count: u64,
     out: &mut S,
 ) -> Result<(), RunFault>
-    ensures output { Outputs S.takes_all (next_output clock.now asked.now after count) result (S.holds out.old) (S.holds out.new) }
+    ensures output { Outputs S.takes_all (next_output zones.now asked.now after count) result (S.holds out.old) (S.holds out.new) }
 
     // A bad count is found before anything else, and before memory is allocated.
     ensures bad_count { IfErr (valid_count count) (λ fault. result ≡ Err fault) }
@@ -40,25 +40,25 @@ pub fn run_next<S: Stream>(
     if count == 0 || count > MOST_STARTS {
         return Err(RunFault::BadCount);
     }
-    let rule = zoned_rule(alloc, asked, clock)?;
+    let rule = zoned_rule(alloc, asked, zones)?;
     write_next(&rule, after, count, out)?;
     Ok(())
 }
 
-// Reads the requested rule, for the clock of a zone.
-fn zoned_rule(alloc: Global, asked: &Asked, clock: &Clock) -> Result<Rule, RuleFault>
-    ensures { Gives result (asked_reading clock.now asked.now) }
+// Reads the requested rule, for these time zones.
+fn zoned_rule(alloc: Global, asked: &Asked, zones: &TimeZones) -> Result<Rule, RuleFault>
+    ensures { Gives result (asked_reading zones.now asked.now) }
 {
-    let rule = asked_rule(alloc, asked)?;
-    Ok(rule.in_zone(alloc, clock)?)
+    let rule = asked_rule(alloc, asked, &zones.named)?;
+    Ok(rule.in_zone(alloc, &zones.clock)?)
 }
 
 // Reads the requested rule, in UTC unless it names a zone.
-fn asked_rule(alloc: Global, asked: &Asked) -> Result<Rule, RuleFault>
-    ensures { Gives result (asked_rule asked.now) }
+fn asked_rule(alloc: Global, asked: &Asked, zones: &EventZones) -> Result<Rule, RuleFault>
+    ensures { Gives result (asked_rule zones.now asked.now) }
 {
     match asked {
         Asked::Cron(text) => cron_rule(alloc, text.as_str()),
-        Asked::Event(text) => calendar_rule(alloc, text.as_str()),
+        Asked::Event(text) => calendar_rule(alloc, text.as_str(), zones),
     }
 }

@@ -38,12 +38,12 @@ pub fn run_plan<R: Threads + Wait + Sync, S: Stream>(
     sizes: Sizes,
     out: &mut S,
 ) -> Result<(), RunFault>
-    ensures output { Outputs S.takes_all (plan_output input.now.clock input.now.sources span sizes) result (S.holds out.old) (S.holds out.new) }
+    ensures output { Outputs S.takes_all (plan_output input.now.zones input.now.sources span sizes) result (S.holds out.old) (S.holds out.new) }
 
     // These errors are found before any memory is allocated.
     ensures at_once { IfSome (fault_at_once input.now.sources) (λ fault. result ≡ Err (fault_of_sources fault)) }
 {
-    let jobs = jobs_of_sources(alloc, &input.sources, &input.clock)?;
+    let jobs = jobs_of_sources(alloc, &input.sources, &input.zones)?;
     let agenda = plan(rt, alloc, &jobs, span, sizes, &NoGate)?;
     let ends = LineEnds::new(alloc, &jobs)?;
     write_agenda(&agenda, &ends, out)?;

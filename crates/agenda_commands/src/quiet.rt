@@ -33,7 +33,7 @@ pub fn run_quiet<R: Threads + Wait + Sync, S: Stream>(
     least: u32,
     out: &mut S,
 ) -> Result<(), RunFault>
-    ensures output { Outputs S.takes_all (quiet_output input.now.clock input.now.sources span sizes least) result (S.holds out.old) (S.holds out.new) }
+    ensures output { Outputs S.takes_all (quiet_output input.now.zones input.now.sources span sizes least) result (S.holds out.old) (S.holds out.new) }
 
     // These errors are found before any memory is allocated.
     ensures bad_least { IfErr (valid_least least) (λ fault. result ≡ Err fault) }
@@ -42,7 +42,7 @@ pub fn run_quiet<R: Threads + Wait + Sync, S: Stream>(
     if least == 0 {
         return Err(RunFault::BadLeast);
     }
-    let jobs = jobs_of_sources(alloc, &input.sources, &input.clock)?;
+    let jobs = jobs_of_sources(alloc, &input.sources, &input.zones)?;
     let agenda = plan(rt, alloc, &jobs, span, sizes, &NoGate)?;
     write_quiet(&agenda, u64::from(least), out)?;
     Ok(())

@@ -29,15 +29,15 @@ pub fn run_upcoming<S: Stream>(
     after: u64,
     out: &mut S,
 ) -> Result<(), RunFault>
-    ensures written { OnOk result (Writes (IsTextOfUpcoming input.now.clock input.now.sources after) (S.holds out.old) (S.holds out.new)) }
-    ensures refused { IfErr result (λ fault. Fails S.takes_all (IsTextOfUpcoming input.now.clock input.now.sources after)
-        (RefusesUpcoming input.now.clock input.now.sources) fault
+    ensures written { OnOk result (Writes (IsTextOfUpcoming input.now.zones input.now.sources after) (S.holds out.old) (S.holds out.new)) }
+    ensures refused { IfErr result (λ fault. Fails S.takes_all (IsTextOfUpcoming input.now.zones input.now.sources after)
+        (RefusesUpcoming input.now.zones input.now.sources) fault
         (S.holds out.old) (S.holds out.new)) }
 
     // These errors are found before any memory is allocated.
     ensures at_once { IfSome (fault_at_once input.now.sources) (λ fault. result ≡ Err (fault_of_sources fault)) }
 {
-    let jobs = jobs_of_sources(alloc, &input.sources, &input.clock)?;
+    let jobs = jobs_of_sources(alloc, &input.sources, &input.zones)?;
     let upcoming = Upcoming::new(alloc, &jobs, after)?;
     write_upcoming(&upcoming, &jobs, out)?;
     Ok(())

@@ -1,6 +1,6 @@
 //! The jobs of a source.
 
-use plan_rules::{Job, Jobs, Kind, crontab, timer};
+use plan_rules::{EventZones, Job, Jobs, Kind, crontab, timer};
 use std::alloc::Global;
 
 // The names of the jobs that a timer file makes.
@@ -21,8 +21,9 @@ pub fn read(alloc: Global, source: &[u8], times: u64) -> Option<u64> {
 pub fn jobs_of(alloc: Global, source: &[u8]) -> Option<Jobs> {
     let mut jobs = Jobs::new(alloc);
     if is_timer(source) {
+        let zones = EventZones::utc_alone();
         for name in &NAMES {
-            jobs.add(timer(alloc, name, source).ok()?).ok()?;
+            jobs.add(timer(alloc, name, source, &zones).ok()?).ok()?;
         }
     } else {
         for job in crontab(alloc, "cron", source, Kind::User).ok()? {
@@ -35,7 +36,7 @@ pub fn jobs_of(alloc: Global, source: &[u8]) -> Option<Jobs> {
 /// Returns the last job of a crontab, or the job of a timer file.
 pub fn job_of(alloc: Global, source: &[u8]) -> Option<Job> {
     if is_timer(source) {
-        return timer(alloc, NAMES[0], source).ok();
+        return timer(alloc, NAMES[0], source, &EventZones::utc_alone()).ok();
     }
     crontab(alloc, "cron", source, Kind::User).ok()?.pop()
 }

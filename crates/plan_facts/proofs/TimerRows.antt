@@ -12,7 +12,8 @@ use Rattle.plan_match.specs.declared.rule.Rule.TheVariants.{Events}
 use Rattle.plan_texts.specs.Text.{words, cut_at, decimal_number}
 use Rattle.plan_texts.specs.Steps.{◌>>=◌, each}
 use Rattle.plan_grammar.specs.Shape.{date_reading, time_reading, dated, shape_reading}
-use Rattle.plan_grammar.specs.Event.{component_number, component_value, component_side, component_item, component_items, places_reading, component_reading, weekday_of, weekday_reading, weekday_item, weekday_items, weekdays_reading, event_of, spelled_out, zone_dropped, expression_of, zoneless, words_reading, event_reading}
+use Rattle.plan_grammar.specs.EventZones.{zone_clock}
+use Rattle.plan_grammar.specs.Event.{component_number, component_value, component_side, component_item, component_items, places_reading, component_reading, weekday_of, weekday_reading, weekday_item, weekday_items, weekdays_reading, event_of, spelled_out, zone_cut, expression_of, zoneless, words_reading, event_reading}
 use Rattle.plan_match.specs.Match.{rule_matches}
 use Rattle.plan_texts.specs.Lines.{lines}
 use Rattle.plan_rules.specs.LineFaults.{TextReading, in_line, on_line}
@@ -43,86 +44,86 @@ joined_lines = refl
 -- the job with this name that starts a unit by the events of some texts
 abbrev job_of : List ℕ → List ℕ → List (List ℕ) → TextReading JobParts
 job_of name unit texts =
-    on_line 1 (in_line (each event_reading texts)) >>= λ events.
+    on_line 1 (in_line (each (event_reading None) texts)) >>= λ events.
     Ok (record { name = name; user = None; command = unit; rule = Events events })
 
 -- a reset empties the list of events
 reset_empties :
-    timer_reading (codes "backup.timer") (codes "[Timer]\nOnCalendar=hourly\nOnCalendar=\nOnCalendar=daily\nOnCalendar=*-*-* 00:00:00\n") ≡
+    timer_reading None (codes "backup.timer") (codes "[Timer]\nOnCalendar=hourly\nOnCalendar=\nOnCalendar=daily\nOnCalendar=*-*-* 00:00:00\n") ≡
     job_of (codes "backup.timer") (codes "backup.service") (codes "daily" ∷ codes "*-*-* 00:00:00" ∷ [])
 unfolding is_utf8 chars lib.Utf8.encode lines whole_lines is_timer_name section_name setting_of key_of words cut_at decimal_number
     set_reading
     date_reading time_reading dated shape_reading component_number component_value component_side component_item component_items
     places_reading component_reading weekday_of weekday_reading weekday_item weekday_items weekdays_reading event_of spelled_out
-    zone_dropped expression_of zoneless words_reading
+    zone_clock zone_cut expression_of zoneless words_reading
 reset_empties = refl
 
 -- a merged line with a comment inside, and a unit that is named
 comment_inside :
-    timer_reading (codes "n.timer") (codes "[Unit]\nDescription=x\n[Timer]\nOnCalendar=Mon \\\n# note\n  12:00\nUnit=y.service\n") ≡
+    timer_reading None (codes "n.timer") (codes "[Unit]\nDescription=x\n[Timer]\nOnCalendar=Mon \\\n# note\n  12:00\nUnit=y.service\n") ≡
     job_of (codes "n.timer") (codes "y.service") (codes "Mon 12:00" ∷ [])
 unfolding is_utf8 chars lib.Utf8.encode lines whole_lines is_timer_name section_name setting_of key_of words cut_at decimal_number
     set_reading
     date_reading time_reading dated shape_reading component_number component_value component_side component_item component_items
     places_reading component_reading weekday_of weekday_reading weekday_item weekday_items weekdays_reading event_of spelled_out
-    zone_dropped expression_of zoneless words_reading
+    zone_clock zone_cut expression_of zoneless words_reading
 comment_inside = refl
 
 -- a merged line at the end of the input
 joined_at_the_end :
-    timer_reading (codes "t.timer") (codes "[Timer]\nOnCalendar=Mon \\") ≡ job_of (codes "t.timer") (codes "t.service") (codes "Mon" ∷ [])
+    timer_reading None (codes "t.timer") (codes "[Timer]\nOnCalendar=Mon \\") ≡ job_of (codes "t.timer") (codes "t.service") (codes "Mon" ∷ [])
 unfolding is_utf8 chars lib.Utf8.encode lines whole_lines is_timer_name section_name setting_of key_of words cut_at decimal_number
     set_reading
     date_reading time_reading dated shape_reading component_number component_value component_side component_item component_items
     places_reading component_reading weekday_of weekday_reading weekday_item weekday_items weekdays_reading event_of spelled_out
-    zone_dropped expression_of zoneless words_reading
+    zone_clock zone_cut expression_of zoneless words_reading
 joined_at_the_end = refl
 
 -- only a `[Timer]` section
-no_events : timer_reading (codes "x.timer") (codes "[Timer]") ≡ job_of (codes "x.timer") (codes "x.service") []
+no_events : timer_reading None (codes "x.timer") (codes "[Timer]") ≡ job_of (codes "x.timer") (codes "x.service") []
 unfolding is_utf8 chars lib.Utf8.encode lines whole_lines is_timer_name section_name setting_of key_of words cut_at decimal_number
     set_reading
     date_reading time_reading dated shape_reading component_number component_value component_side component_item component_items
     places_reading component_reading weekday_of weekday_reading weekday_item weekday_items weekdays_reading event_of spelled_out
-    zone_dropped expression_of zoneless words_reading
+    zone_clock zone_cut expression_of zoneless words_reading
 no_events = refl
 
 -- a monotonic setting with an empty value empties the list too
 monotonic_reset :
-    timer_reading (codes "x.timer") (codes "[Timer]\nOnCalendar=daily\nOnBootSec=") ≡ job_of (codes "x.timer") (codes "x.service") []
+    timer_reading None (codes "x.timer") (codes "[Timer]\nOnCalendar=daily\nOnBootSec=") ≡ job_of (codes "x.timer") (codes "x.service") []
 unfolding is_utf8 chars lib.Utf8.encode lines whole_lines is_timer_name section_name setting_of key_of words cut_at decimal_number
     set_reading
     date_reading time_reading dated shape_reading component_number component_value component_side component_item component_items
     places_reading component_reading weekday_of weekday_reading weekday_item weekday_items weekdays_reading event_of spelled_out
-    zone_dropped expression_of zoneless words_reading
+    zone_clock zone_cut expression_of zoneless words_reading
 monotonic_reset = refl
 
 -- and one with a value is ignored
 monotonic_value :
-    timer_reading (codes "x.timer") (codes "[Timer]\nOnCalendar=daily\nOnBootSec=5min") ≡
+    timer_reading None (codes "x.timer") (codes "[Timer]\nOnCalendar=daily\nOnBootSec=5min") ≡
     job_of (codes "x.timer") (codes "x.service") (codes "daily" ∷ [])
 unfolding is_utf8 chars lib.Utf8.encode lines whole_lines is_timer_name section_name setting_of key_of words cut_at decimal_number
     set_reading
     date_reading time_reading dated shape_reading component_number component_value component_side component_item component_items
     places_reading component_reading weekday_of weekday_reading weekday_item weekday_items weekdays_reading event_of spelled_out
-    zone_dropped expression_of zoneless words_reading
+    zone_clock zone_cut expression_of zoneless words_reading
 monotonic_value = refl
 
 -- a setting before any section, keys in another case, blanks around `=`, several sections, and the first unit
 other_lines :
-    timer_reading (codes "x.timer")
+    timer_reading None (codes "x.timer")
     (codes "OnCalendar=weekly\n[Timer]\noncalendar=weekly\n OnCalendar = daily \n[Install]\nUnit=z\n[Timer]\nUnit=\nUnit=b\nUnit=c") ≡
     job_of (codes "x.timer") (codes "b") (codes "daily" ∷ [])
 unfolding is_utf8 chars lib.Utf8.encode lines whole_lines is_timer_name section_name setting_of key_of words cut_at decimal_number
     set_reading
     date_reading time_reading dated shape_reading component_number component_value component_side component_item component_items
     places_reading component_reading weekday_of weekday_reading weekday_item weekday_items weekdays_reading event_of spelled_out
-    zone_dropped expression_of zoneless words_reading
+    zone_clock zone_cut expression_of zoneless words_reading
 other_lines = refl
 
 -- invalid files, each with its error: a bad name, no section, and errors of events, also if a later line
 -- empties the list
-refusals : map (λ (file : List ℕ × List ℕ). timer_reading file.0 file.1)
+refusals : map (λ (file : List ℕ × List ℕ). timer_reading None file.0 file.1)
     ((codes "x.service", codes "[Timer]")
     ∷ (codes ".timer", codes "[Timer]")
     ∷ (codes "a b.timer", codes "[Timer]")
@@ -147,7 +148,7 @@ unfolding is_utf8 chars lib.Utf8.encode lines whole_lines is_timer_name section_
     set_reading
     date_reading time_reading dated shape_reading component_number component_value component_side component_item component_items
     places_reading component_reading weekday_of weekday_reading weekday_item weekday_items weekdays_reading event_of spelled_out
-    zone_dropped expression_of zoneless words_reading
+    zone_clock zone_cut expression_of zoneless words_reading
 refusals = refl
 
 abbrev daily : List ℕ
@@ -162,13 +163,13 @@ sixty_four_times =
 
 -- the 65th event is one too many
 too_many_events :
-    timer_of_lines (codes "x.timer") ((1, codes "[Timer]") ∷ enumerate_from 2 (sixty_four_times ++ daily ∷ [])) ≡
+    timer_of_lines None (codes "x.timer") ((1, codes "[Timer]") ∷ enumerate_from 2 (sixty_four_times ++ daily ∷ [])) ≡
     Err (record { line = 66; cause = TooManyLines })
 unfolding is_utf8 chars lib.Utf8.encode lines whole_lines is_timer_name section_name setting_of key_of words cut_at decimal_number
     set_reading
     date_reading time_reading dated shape_reading component_number component_value component_side component_item component_items
     places_reading component_reading weekday_of weekday_reading weekday_item weekday_items weekdays_reading event_of spelled_out
-    zone_dropped expression_of zoneless words_reading
+    zone_clock zone_cut expression_of zoneless words_reading
 too_many_events = refl
 
 -- civil fields of an hour of January 2024
@@ -190,11 +191,11 @@ starts_at (Err fault) civil = false
 
 -- two events: Wednesday the 3rd at 6, and Friday the 5th at 12, not at 6
 either_event :
-    map (λ (at : ℕ × ℕ × ℕ). starts_at (timer_reading (codes "two.timer") (codes "[Timer]\nOnCalendar=Fri 12:00\nOnCalendar=*-*-3 06:00"))
+    map (λ (at : ℕ × ℕ × ℕ). starts_at (timer_reading None (codes "two.timer") (codes "[Timer]\nOnCalendar=Fri 12:00\nOnCalendar=*-*-3 06:00"))
     (at_hour at.0 at.1 at.2)) ((3, 2, 6) ∷ (5, 4, 12) ∷ (5, 4, 6) ∷ []) ≡ true ∷ true ∷ false ∷ []
 unfolding is_utf8 chars lib.Utf8.encode lines whole_lines is_timer_name section_name setting_of key_of words cut_at decimal_number
     set_reading
     date_reading time_reading dated shape_reading component_number component_value component_side component_item component_items
     places_reading component_reading weekday_of weekday_reading weekday_item weekday_items weekdays_reading event_of spelled_out
-    zone_dropped expression_of zoneless words_reading at_hour
+    zone_clock zone_cut expression_of zoneless words_reading at_hour
 either_event = simp has_value-values_where

@@ -1,7 +1,7 @@
 -- Worked rows of time zones: what a clock shows, and at which seconds rules start by it (cron(8), systemd.time(7)).
 -- They answer no goal of a function, but test `row_at` and `is_start`. Whether a second's civil fields match
 -- needs `has_value-values_where` too.
-use Rattle.std.proofs.Common.{◌≡◌, ℕ, ◌≤◌, zero, suc, ◌+◌, ◌-◌, ℤ, pos, negsuc, Bool, true, false, ◌||◌, List, [], ◌∷◌, map, codes, Ok, Err, refl, ap, sym, ◌∙◌, arith}
+use Rattle.std.proofs.Common.{◌≡◌, ℕ, ◌≤◌, zero, suc, ◌+◌, ◌-◌, ℤ, pos, negsuc, Bool, true, false, ◌||◌, List, [], ◌∷◌, map, codes, Ok, Err, refl, ap, sym, ◌∙◌, arith, Some, None}
 use Rattle.std.specs.List.{list_any, range_with_len}
 use Rattle.plan_clock.specs.declared.row.Change.{Change}
 use Rattle.plan_clock.specs.Rows.{row_at, shown, size, natural, is_repeated}
@@ -18,7 +18,8 @@ use Rattle.plan_texts.specs.Lines.{cut_word}
 use Rattle.plan_grammar.specs.Readings.{Reading}
 use Rattle.plan_grammar.specs.Shape.{date_reading, time_reading, dated, shape_reading}
 use Rattle.plan_grammar.specs.Cron.{cron_reading, rule_reading, fields_in_front, five_fields, field_reading, items_reading, item_reading, side_reading, value_reading, step_reading, week_days_of}
-use Rattle.plan_grammar.specs.Event.{component_number, component_value, component_side, component_item, component_items, places_reading, component_reading, weekday_of, weekday_reading, weekday_item, weekday_items, weekdays_reading, event_of, spelled_out, zone_dropped, expression_of, zoneless, words_reading, event_rule_reading}
+use Rattle.plan_grammar.specs.EventZones.{zone_clock}
+use Rattle.plan_grammar.specs.Event.{component_number, component_value, component_side, component_item, component_items, places_reading, component_reading, weekday_of, weekday_reading, weekday_item, weekday_items, weekdays_reading, event_of, spelled_out, zone_cut, expression_of, zoneless, words_reading, event_rule_reading}
 use Rattle.plan_next.specs.Starts.{is_start, some_between, starts_in}
 
 -- Europe/Berlin in 2025: an hour ahead of UTC, two from 2025-03-30T01:00:00Z on, and one again from 2025-10-26T01:00:00Z on
@@ -218,43 +219,54 @@ at_the_gap = simp has_value-values_where
 
 -- a calendar event starts at the first of two seconds that show its time
 event_in_a_fold :
-    map (starts_by berlin (event_rule_reading (codes "02:30"))) (1_761_438_600 ∷ 1_761_442_200 ∷ 1_761_528_600 ∷ []) ≡
+    map (starts_by berlin (event_rule_reading None (codes "02:30"))) (1_761_438_600 ∷ 1_761_442_200 ∷ 1_761_528_600 ∷ []) ≡
     true ∷ false ∷ true ∷ []
 unfolding words cut_at decimal_number set_reading date_reading time_reading dated shape_reading component_number component_value
     component_side component_item component_items places_reading component_reading weekday_of weekday_reading weekday_item
-    weekday_items weekdays_reading event_of spelled_out zone_dropped expression_of zoneless words_reading row_at starts_in civil_fields
+    weekday_items weekdays_reading event_of spelled_out zone_clock zone_cut expression_of zoneless words_reading row_at starts_in civil_fields
     year_and_day month_and_day
 event_in_a_fold = simp has_value-values_where
 
 -- so an hourly one pauses for an hour: it starts at 00:00:00Z and 02:00:00Z, not at 01:00:00Z
 hourly_in_a_fold :
-    map (starts_by berlin (event_rule_reading (codes "hourly"))) (1_761_436_800 ∷ 1_761_440_400 ∷ 1_761_444_000 ∷ []) ≡
+    map (starts_by berlin (event_rule_reading None (codes "hourly"))) (1_761_436_800 ∷ 1_761_440_400 ∷ 1_761_444_000 ∷ []) ≡
     true ∷ false ∷ true ∷ []
 unfolding words cut_at decimal_number set_reading date_reading time_reading dated shape_reading component_number component_value
     component_side component_item component_items places_reading component_reading weekday_of weekday_reading weekday_item
-    weekday_items weekdays_reading event_of spelled_out zone_dropped expression_of zoneless words_reading row_at starts_in civil_fields
+    weekday_items weekdays_reading event_of spelled_out zone_clock zone_cut expression_of zoneless words_reading row_at starts_in civil_fields
     year_and_day month_and_day
 hourly_in_a_fold = simp has_value-values_where
 
 -- an event doesn't make up for what a gap skips: 02:30 is next shown at 2025-03-31T00:30:00Z
 event_in_a_gap :
-    map (starts_by berlin (event_rule_reading (codes "02:30"))) (1_743_296_400 ∷ 1_743_298_200 ∷ 1_743_381_000 ∷ []) ≡
+    map (starts_by berlin (event_rule_reading None (codes "02:30"))) (1_743_296_400 ∷ 1_743_298_200 ∷ 1_743_381_000 ∷ []) ≡
     false ∷ false ∷ true ∷ []
 unfolding words cut_at decimal_number set_reading date_reading time_reading dated shape_reading component_number component_value
     component_side component_item component_items places_reading component_reading weekday_of weekday_reading weekday_item
-    weekday_items weekdays_reading event_of spelled_out zone_dropped expression_of zoneless words_reading row_at starts_in civil_fields
+    weekday_items weekdays_reading event_of spelled_out zone_clock zone_cut expression_of zoneless words_reading row_at starts_in civil_fields
     year_and_day month_and_day
 event_in_a_gap = simp has_value-values_where
 
 -- an event that names its zone starts by that zone: 02:30 in UTC
 event_in_utc :
-    map (starts_by berlin (event_rule_reading (codes "02:30 UTC"))) (1_761_438_600 ∷ 1_761_442_200 ∷ 1_761_445_800 ∷ []) ≡
+    map (starts_by berlin (event_rule_reading None (codes "02:30 UTC"))) (1_761_438_600 ∷ 1_761_442_200 ∷ 1_761_445_800 ∷ []) ≡
     false ∷ false ∷ true ∷ []
 unfolding words cut_at decimal_number set_reading date_reading time_reading dated shape_reading component_number component_value
     component_side component_item component_items places_reading component_reading weekday_of weekday_reading weekday_item
-    weekday_items weekdays_reading event_of spelled_out zone_dropped expression_of zoneless words_reading row_at starts_in civil_fields
+    weekday_items weekdays_reading event_of spelled_out zone_clock zone_cut expression_of zoneless words_reading row_at starts_in civil_fields
     year_and_day month_and_day
 event_in_utc = simp has_value-values_where
+
+-- an event that names another zone starts by that one, whatever the zone of the rules is: 02:30 in Berlin
+event_in_berlin :
+    map (starts_by [] (event_rule_reading (Some (record { name = codes "Europe/Berlin"; clock = berlin } ∷ [])) (codes
+    "02:30 Europe/Berlin")))
+    (1_761_438_600 ∷ 1_761_442_200 ∷ 1_761_445_800 ∷ 1_761_528_600 ∷ []) ≡ true ∷ false ∷ false ∷ true ∷ []
+unfolding words cut_at decimal_number set_reading date_reading time_reading dated shape_reading component_number component_value
+    component_side component_item component_items places_reading component_reading weekday_of weekday_reading weekday_item
+    weekday_items weekdays_reading event_of spelled_out zone_clock zone_cut expression_of zoneless words_reading row_at starts_in civil_fields
+    year_and_day month_and_day
+event_in_berlin = simp has_value-values_where
 
 -- nothing starts while a clock shows a time before the first year. This clock is an hour behind UTC
 before_the_years :

@@ -4,7 +4,7 @@ use plan_collect::{CollectFault, CollectorFault, PlanFault, SpanFault};
 use plan_grammar::{RuleCause, RuleFault};
 use plan_mailbox::NewFault;
 use plan_next::NoMemory;
-use plan_rules::{AddFault, Job, LineCause, LineFault, timer};
+use plan_rules::{AddFault, EventZones, Job, LineCause, LineFault, timer};
 use plan_sets::{MomentFault, SetFault};
 use std::alloc::Global;
 use std::fmt::Display;
@@ -44,6 +44,7 @@ fn names_of_the_faults_of_rules(rt: HostRuntime) -> Result<(), Fail> {
     assert_rule_name(&rt, RuleCause::Values(SetFault::ZeroStep), "ZeroStep")?;
     assert_rule_name(&rt, RuleCause::Fraction, "Fraction")?;
     assert_rule_name(&rt, RuleCause::Zone, "Zone")?;
+    assert_rule_name(&rt, RuleCause::UnknownZone, "Zone")?;
     assert_rule_name(&rt, RuleCause::UnknownWord, "UnknownWord")?;
     assert_rule_name(&rt, RuleCause::Specifier, "Specifier")
 }
@@ -79,7 +80,8 @@ fn names_of_the_faults_of_lines(rt: HostRuntime) -> Result<(), Fail> {
 
 // Returns a job without starts.
 fn job(alloc: Global) -> Result<Job, Fail> {
-    Ok(timer(alloc, "a.timer", b"[Timer]\n")?)
+    let zones = EventZones::utc_alone();
+    Ok(timer(alloc, "a.timer", b"[Timer]\n", &zones)?)
 }
 
 #[test]

@@ -1,13 +1,13 @@
 //! Tests of which names timers may have, as far as no file can have them.
 
-use plan_rules::{LineCause, LineFault, timer};
+use plan_rules::{EventZones, LineCause, LineFault, timer};
 use std::alloc::Global;
 use std::process::Abort;
 use std::test::Fail;
 
 // Returns whether this is a name of a timer.
 fn is_name(rt: &impl AllocGlobal, name: &str) -> bool {
-    let fault = timer(rt.alloc(), name, b"[Timer]").err();
+    let fault = timer(rt.alloc(), name, b"[Timer]", &EventZones::utc_alone()).err();
     let bad = LineFault {
         line: 0,
         cause: LineCause::BadTimerName,

@@ -365,6 +365,7 @@ fn problem_text<'a>(cause: RuleCause, wrong: &'a str) -> &'a str
         RuleCause::BadName => "unknown name",
         RuleCause::Fraction => "fractions are not supported",
         RuleCause::Zone => "only UTC is supported",
+        RuleCause::UnknownZone => "unknown",
         _ => wrong,
     }
 }

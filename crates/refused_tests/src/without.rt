@@ -8,7 +8,7 @@ use agenda_faults::{Failure, RunFault, fault_line};
 use plan_collect::Span;
 use plan_mailbox::{Core, Inlet, Outlet, Post, Reply, Rings};
 use plan_next::{next_from, next_start};
-use plan_rules::{Jobs, Kind, Rule, calendar_rule, cron_rule, crontab};
+use plan_rules::{EventZones, Jobs, Kind, Rule, calendar_rule, cron_rule, crontab};
 use plan_serial::plan_serial;
 use plan_sets::civil_of;
 use plan_write::{LineEnds, write_agenda};
@@ -34,7 +34,7 @@ fn assert_ended(rt: &(impl Abort + AllocGlobal), ended: bool) {
 #[test]
 fn rules_match_and_start(rt: HostRuntime) -> Result<(), Fail> {
     let nightly = cron_rule(rt.alloc(), "30 4 1,15 * 5")?;
-    let third = calendar_rule(rt.alloc(), "*-02~03")?;
+    let third = calendar_rule(rt.alloc(), "*-02~03", &EventZones::utc_alone())?;
     let ended = ends(rt.alloc());
     assert!(rt; next_start(&nightly, 1_704_067_200) == Some(1_704_083_400));
     assert!(rt; next_from(&nightly, 1_704_083_400) == Some(1_704_083_400));
