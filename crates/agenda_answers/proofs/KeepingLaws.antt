@@ -8,8 +8,10 @@ use Rattle.plan_rules.specs.Job.{JobParts}
 use Rattle.plan_write.specs.Skipped.{skipped_text}
 use Rattle.agenda_sources.specs.declared.Source.{Source}
 use Rattle.agenda_sources.specs.declared.SourcePath.{SourcePath}
+use Rattle.agenda_sources.specs.declared.TimeZones.{TimeZones}
 use Rattle.agenda_sources.specs.Findings.{kept_jobs, sources_errors}
 use Rattle.agenda_sources.specs.Sources.{jobs_reading}
+use Rattle.agenda_sources.specs.ZoneNames.{zone_names}
 use Rattle.agenda_words.specs.declared.Ask.TheVariants.{Plan, Upcoming, Quiet}
 use Rattle.agenda_words.specs.declared.JobsRequest.{JobsRequest}
 use Rattle.agenda_words.specs.declared.PlanRequest.{PlanRequest}
@@ -27,6 +29,7 @@ use Rattle.agenda_commands.specs.Quiet.{gaps_output, quiet_output, valid_least}
 use Rattle.agenda_commands.specs.Upcoming.{IsTextOfUpcoming, RefusesUpcoming}
 use Rattle.agenda_answers.specs.declared.keeping.Tried.{Tried}
 use Rattle.agenda_answers.specs.Answer.{Ends, HoldsAfter, Leaves, Printed, Stream, moment_of, outputs, outputs_if, plan_ends, prints, quiet_ends, span_of, upcoming_ends}
+use Rattle.agenda_answers.specs.EventZones.{time_zones}
 use Rattle.agenda_answers.specs.Files.{Held}
 use Rattle.agenda_answers.specs.Keeping.{AnswersBy, Outcome, Reports, answer_of, kept_by, lines_of_skipped, plan_goal, printed, quiet_goal, skipped_status, upcoming_goal}
 use Rattle.agenda_answers.specs.Program.{ChangesNothing, SkipsNothing}
@@ -57,34 +60,39 @@ all_read held (given ∷ paths) end (goes source is (stops failure _ same)) none
 record Parts (held : Held) (goal : Goal) (jobs : JobsRequest) (answer : Result (List ℕ) RunFault) : Type 0 where
   clock : List Change
   sources : List Source
-  zone : clock_of held jobs.zone (Ok clock)
+  zones : TimeZones
+  zone : clock_of held jobs.zones.zone (Ok clock)
   read : sources_of held jobs.sources (Ok sources)
-  all_kept : jobs_reading clock sources ≡ Ok (kept_jobs clock sources)
-  answered : answer_of goal (kept_jobs clock sources) (Ok answer)
+  named : time_zones held jobs.zones clock (zone_names sources) (Ok zones)
+  all_kept : jobs_reading zones sources ≡ Ok (kept_jobs zones sources)
+  answered : answer_of goal (kept_jobs zones sources) (Ok answer)
 
 -- the law of agenda_sources: without errors all jobs are kept
 abbrev pub KeepsAll : Type 0
-KeepsAll = (clock : List Change) → (sources : List Source) → sources_errors clock sources ≡ [] →
-    jobs_reading clock sources ≡ Ok (kept_jobs clock sources)
+KeepsAll = (zones : TimeZones) → (sources : List Source) → sources_errors zones sources ≡ [] →
+    jobs_reading zones sources ≡ Ok (kept_jobs zones sources)
 
 parts_of :
     (law : KeepsAll) (held : Held) (goal : Goal) (jobs : JobsRequest) (kept : Outcome) → kept_by held goal jobs (Ok kept) →
     SkipsNothing (Ok kept) → Parts held goal jobs kept.answer
-parts_of law held goal jobs kept (goes clock zone (goes tried read (goes answer answered is))) none =
+parts_of law held goal jobs kept (goes clock zone (goes tried read (goes zones named (goes answer answered is)))) none =
     let same : kept ≡ record {
       unread = tried.unread;
       paths = tried.paths;
-      errors = sources_errors clock tried.sources;
+      errors = sources_errors zones tried.sources;
       answer = answer;
     } = cc in
     record {
       clock = clock;
       sources = tried.sources;
+      zones = zones;
       zone = zone;
       read = all_read held jobs.sources tried read (ap (λ k. k.unread) (sym same) ∙ none.0);
-      all_kept = law clock tried.sources (ap (λ k. k.errors) (sym same) ∙ none.1);
-      answered = subst (λ a. answer_of goal (kept_jobs clock tried.sources) (Ok a)) (sym (ap (λ k. k.answer) same)) answered;
+      named = named;
+      all_kept = law zones tried.sources (ap (λ k. k.errors) (sym same) ∙ none.1);
+      answered = subst (λ a. answer_of goal (kept_jobs zones tried.sources) (Ok a)) (sym (ap (λ k. k.answer) same)) answered;
     }
+parts_of law held goal jobs kept (goes clock zone (goes tried read (goes zones named (stops failure _ is)))) none = absurd cc
 parts_of law held goal jobs kept (goes clock zone (goes tried read (stops failure _ is))) none = absurd cc
 parts_of law held goal jobs kept (goes clock zone (stops failure _ is)) none = absurd cc
 parts_of law held goal jobs kept (stops failure _ is) none = absurd cc
@@ -92,12 +100,12 @@ parts_of law held goal jobs kept (stops failure _ is) none = absurd cc
 -- what the jobs are made from
 abbrev input_in :
     {held : Held} {goal : Goal} {jobs : JobsRequest} {answer : Result (List ℕ) RunFault} → Parts held goal jobs answer → Input
-input_in parts = record { clock = parts.clock; sources = parts.sources }
+input_in parts = record { zones = parts.zones; sources = parts.sources }
 
 input_read :
     {held : Held} {goal : Goal} {jobs : JobsRequest} {answer : Result (List ℕ) RunFault} (parts : Parts held goal jobs answer) →
-    input_of held jobs.zone jobs.sources (Ok (input_in parts))
-input_read parts = goes parts.clock parts.zone (goes parts.sources parts.read refl)
+    input_of held jobs.zones jobs.sources (Ok (input_in parts))
+input_read parts = goes parts.clock parts.zone (goes parts.sources parts.read (goes parts.zones parts.named refl))
 
 -- ---- what is printed
 
@@ -127,8 +135,8 @@ plan_same law held request goal kept (goes span spanned is) by none =
     let goal_is : goal ≡ of_jobs.Plan span request.sizes = cc in
     let parts = parts_of law held (of_jobs.Plan span request.sizes) request.jobs kept
     (subst (λ w. kept_by held w request.jobs (Ok kept)) goal_is by) none in
-    let jobs = kept_jobs parts.clock parts.sources in
-    let same : plan_output parts.clock parts.sources span request.sizes ≡ planned_output jobs span request.sizes =
+    let jobs = kept_jobs parts.zones parts.sources in
+    let same : plan_output parts.zones parts.sources span request.sizes ≡ planned_output jobs span request.sizes =
     ap (λ r. step fault_of_sources r >>= (λ js. planned_output js span request.sizes)) parts.all_kept in
     goes span spanned (goes (input_in parts) (input_read parts)
     (same_output _ (planned_output jobs span request.sizes) kept.answer same parts.answered))
@@ -142,20 +150,20 @@ quiet_same law held request least goal kept (goes span spanned is) by none =
     let goal_is : goal ≡ of_jobs.Quiet span request.sizes least = cc in
     let parts = parts_of law held (of_jobs.Quiet span request.sizes least) request.jobs kept
     (subst (λ w. kept_by held w request.jobs (Ok kept)) goal_is by) none in
-    let jobs = kept_jobs parts.clock parts.sources in
+    let jobs = kept_jobs parts.zones parts.sources in
     let next : ℕ → Result (List ℕ) RunFault = λ wide. gaps_output jobs span request.sizes wide in
-    let same : quiet_output parts.clock parts.sources span request.sizes least ≡ (valid_least least >>= next) =
+    let same : quiet_output parts.zones parts.sources span request.sizes least ≡ (valid_least least >>= next) =
     ap (λ r. valid_least least >>= (λ wide. step fault_of_sources r >>= (λ js. gaps_output js span request.sizes wide))) parts.all_kept in
     goes span spanned (goes (input_in parts) (input_read parts)
     (same_output_if (valid_least least) _ next kept.answer same parts.answered))
 
 -- the next starts of jobs have no error but that an allocation failed
 upcoming_printed :
-    (clock : List Change) (sources : List Source) (jobs : List JobParts) (after : ℕ) (answer : Result (List ℕ) RunFault) →
-    jobs_reading clock sources ≡ Ok jobs → answer_of (of_jobs.Upcoming after) jobs (Ok answer) →
-    prints 0 (IsTextOfUpcoming clock sources after) (RefusesUpcoming clock sources) (printed answer 0)
-upcoming_printed clock sources jobs after (Ok text) same is = ((jobs, same, is), refl)
-upcoming_printed clock sources jobs after (Err fault) same is = absurd (is.0 is.1)
+    (zones : TimeZones) (sources : List Source) (jobs : List JobParts) (after : ℕ) (answer : Result (List ℕ) RunFault) →
+    jobs_reading zones sources ≡ Ok jobs → answer_of (of_jobs.Upcoming after) jobs (Ok answer) →
+    prints 0 (IsTextOfUpcoming zones sources after) (RefusesUpcoming zones sources) (printed answer 0)
+upcoming_printed zones sources jobs after (Ok text) same is = ((jobs, same, is), refl)
+upcoming_printed zones sources jobs after (Err fault) same is = absurd (is.0 is.1)
 
 upcoming_same :
     (law : KeepsAll) (held : Held) (after : List ℕ) (jobs : JobsRequest) (goal : Goal) (kept : Outcome) →
@@ -166,7 +174,7 @@ upcoming_same law held after jobs goal kept (goes moment read is) by none =
     let goal_is : goal ≡ of_jobs.Upcoming moment = cc in
     let parts = parts_of law held (of_jobs.Upcoming moment) jobs kept (subst (λ w. kept_by held w jobs (Ok kept)) goal_is by) none in
     goes moment read (goes (input_in parts) (input_read parts)
-    (upcoming_printed parts.clock parts.sources _ moment kept.answer parts.all_kept parts.answered))
+    (upcoming_printed parts.zones parts.sources _ moment kept.answer parts.all_kept parts.answered))
 
 -- ---- the streams
 
@@ -217,7 +225,7 @@ plan_unchanged law held request (Err failure) is (Ok kept) by none status out er
 plan_unchanged law held request goal is (Err failure) by other status out err ends =
     failed_same (plan_ends held request) request.jobs.sources failure status out err
     (fails_same (span_of request.since request.upto) (λ span. of_jobs.Plan span request.sizes) held request.jobs
-    (λ span input. outputs 0 (plan_output input.clock input.sources span request.sizes)) goal failure is
+    (λ span input. outputs 0 (plan_output input.zones input.sources span request.sizes)) goal failure is
     (fails_first held goal request.jobs failure by other)) ends
 
 pub upcoming_unchanged :
@@ -230,7 +238,7 @@ upcoming_unchanged law held after jobs (Err failure) is (Ok kept) by none status
 upcoming_unchanged law held after jobs goal is (Err failure) by other status out err ends =
     failed_same (upcoming_ends held after jobs) jobs.sources failure status out err
     (fails_same (moment_of After after) of_jobs.Upcoming held jobs
-    (λ moment input. prints 0 (IsTextOfUpcoming input.clock input.sources moment) (RefusesUpcoming input.clock input.sources)) goal
+    (λ moment input. prints 0 (IsTextOfUpcoming input.zones input.sources moment) (RefusesUpcoming input.zones input.sources)) goal
     failure is
     (fails_first held goal jobs failure by other)) ends
 
@@ -244,6 +252,6 @@ quiet_unchanged law held request least (Err failure) is (Ok kept) by none status
 quiet_unchanged law held request least goal is (Err failure) by other status out err ends =
     failed_same (quiet_ends held request least) request.jobs.sources failure status out err
     (fails_same (span_of request.since request.upto) (λ span. of_jobs.Quiet span request.sizes least) held request.jobs
-    (λ span input. outputs_if (valid_least least) (quiet_output input.clock input.sources span request.sizes least)) goal
+    (λ span input. outputs_if (valid_least least) (quiet_output input.zones input.sources span request.sizes least)) goal
     failure is
     (fails_first held goal request.jobs failure by other)) ends

@@ -1,3 +1,4 @@
+pub mod EventZonesLemmas
 pub mod FailureLemmas
 pub mod FileLemmas
 pub mod KeepingLaws

@@ -9,6 +9,7 @@ use Rattle.agenda_words.specs.declared.Ask.{Ask}
 use Rattle.agenda_words.specs.declared.Ask.TheVariants.{Next, Plan, Upcoming, Quiet, Check, Steps, Explain}
 use Rattle.agenda_words.specs.declared.JobsRequest.{JobsRequest}
 use Rattle.agenda_words.specs.declared.PlanRequest.{PlanRequest}
+use Rattle.agenda_words.specs.declared.ZonesRequest.{ZonesRequest}
 use Rattle.agenda_words.specs.declared.UsageFault.{UsageFault}
 use Rattle.agenda_words.specs.declared.UsageFault.TheVariants as usage
 use Rattle.agenda_faults.specs.declared.faults.RunFault.{RunFault}
@@ -22,9 +23,8 @@ use Rattle.plan_collect.specs.declared.SpanFault.TheVariants.{Backwards}
 use Rattle.agenda_faults.specs.FaultLines.{fault_text}
 use Rattle.agenda_faults.specs.Faults.{refused_status, status_of}
 use Rattle.agenda_answers.specs.Files.{Held, whole_of}
-use Rattle.agenda_answers.specs.Sources.{input_of}
+use Rattle.agenda_answers.specs.Sources.{input_of, rule_zones}
 use Rattle.agenda_answers.specs.Steps.{Step, fails, gives, ◌>>=◌}
-use Rattle.agenda_answers.specs.Zone.{clock_of}
 use Rattle.agenda_commands.specs.declared.Verdict.{Verdict}
 use Rattle.agenda_commands.specs.declared.Verdict.TheVariants.{Clean, Refused}
 use Rattle.agenda_commands.specs.Check.{check_output, sources_verdict}
@@ -83,44 +83,44 @@ outputs status output = prints status (IsTextOf output) (IsFaultOf output)
 abbrev pub outputs_if : (number : Result ℕ RunFault) → Result (List ℕ) RunFault → Step Printed
 outputs_if number output = prints 0 (IsTextOf output) (λ fault. IsFaultOf output fault × IfErr number (λ found. fault ≡ found))
 
--- `next`: the timestamp is read first, then the zone, then the count and the rule
-abbrev pub next_ends : Held → List ℕ → Option (List ℕ) → (count : ℕ) → Asked → Step Printed
-next_ends held after zone count rule = do
+-- `next`: the timestamp is read first, then the zones, then the count and the rule
+abbrev pub next_ends : Held → List ℕ → ZonesRequest → (count : ℕ) → Asked → Step Printed
+next_ends held after request count rule = do
   moment ← moment_of After after
-  clock ← clock_of held zone
-  outputs_if (valid_count count) (next_output clock rule moment count)
+  zones ← rule_zones held request rule
+  outputs_if (valid_count count) (next_output zones rule moment count)
 
 -- `plan`: the span is read first, then the zone, then the files, and then the plan is made
 abbrev pub plan_ends : Held → PlanRequest → Step Printed
 plan_ends held request = do
   span ← span_of request.since request.upto
-  input ← input_of held request.jobs.zone request.jobs.sources
-  outputs 0 (plan_output input.clock input.sources span request.sizes)
+  input ← input_of held request.jobs.zones request.jobs.sources
+  outputs 0 (plan_output input.zones input.sources span request.sizes)
 
 -- `upcoming`: the timestamp is read first, then the zone, then the files, and then their texts
 abbrev pub upcoming_ends : Held → List ℕ → JobsRequest → Step Printed
 upcoming_ends held after jobs = do
   moment ← moment_of After after
-  input ← input_of held jobs.zone jobs.sources
-  prints 0 (IsTextOfUpcoming input.clock input.sources moment) (RefusesUpcoming input.clock input.sources)
+  input ← input_of held jobs.zones jobs.sources
+  prints 0 (IsTextOfUpcoming input.zones input.sources moment) (RefusesUpcoming input.zones input.sources)
 
 -- `quiet`: in the same order as `plan`
 abbrev pub quiet_ends : Held → PlanRequest → (least : ℕ) → Step Printed
 quiet_ends held request least = do
   span ← span_of request.since request.upto
-  input ← input_of held request.jobs.zone request.jobs.sources
-  outputs_if (valid_least least) (quiet_output input.clock input.sources span request.sizes least)
+  input ← input_of held request.jobs.zones request.jobs.sources
+  outputs_if (valid_least least) (quiet_output input.zones input.sources span request.sizes least)
 
 -- the exit status of `check`
 abbrev pub status_on : Verdict → ℕ
 status_on Clean = 0
 status_on Refused = refused_status
 
--- `check`: the zone is read first, then the files; after that only an allocation can fail
-abbrev pub check_ends : Held → Option (List ℕ) → List SourcePath → Step Printed
-check_ends held zone paths = do
-  input ← input_of held zone paths
-  outputs (status_on (sources_verdict input.sources)) (check_output input.clock paths input.sources)
+-- `check`: the zone is read first, then the files and the zones of events; after that only an allocation can fail
+abbrev pub check_ends : Held → ZonesRequest → List SourcePath → Step Printed
+check_ends held zones paths = do
+  input ← input_of held zones paths
+  outputs (status_on (sources_verdict input.zones input.sources)) (check_output input.zones paths input.sources)
 
 -- `steps`: the file is read first, then the script in it is run
 abbrev pub steps_ends : Held → List ℕ → Step Printed
@@ -136,11 +136,11 @@ explain_ends code = outputs 0 (explain_output code)
 
 -- a request
 abbrev pub ask_ends : Held → Ask → Step Printed
-ask_ends held (Next after zone count rule) = next_ends held after zone count rule
+ask_ends held (Next after zones count rule) = next_ends held after zones count rule
 ask_ends held (Plan request) = plan_ends held request
 ask_ends held (Upcoming after jobs) = upcoming_ends held after jobs
 ask_ends held (Quiet request least) = quiet_ends held request least
-ask_ends held (Check zone sources) = check_ends held zone sources
+ask_ends held (Check zones sources) = check_ends held zones sources
 ask_ends held (Steps file) = steps_ends held file
 ask_ends held (Explain code) = explain_ends code
 

@@ -12,6 +12,7 @@ use Rattle.agenda_faults.specs.Faults.{failed_status, refused_status}
 use Rattle.agenda_sources.specs.declared.Found.{Found}
 use Rattle.agenda_sources.specs.declared.SourcePath.{SourcePath}
 use Rattle.agenda_sources.specs.Findings.{kept_jobs, sources_errors}
+use Rattle.agenda_sources.specs.ZoneNames.{zone_names}
 use Rattle.plan_rules.specs.Job.{JobParts}
 use Rattle.plan_write.specs.Skipped.{skipped_text}
 use Rattle.plan_streams.specs.Stream.{BreaksOff}
@@ -19,6 +20,7 @@ use Rattle.agenda_commands.specs.declared.Goal.{Goal}
 use Rattle.agenda_commands.specs.declared.Goal.TheVariants.{Plan, Quiet, Upcoming}
 use Rattle.agenda_commands.specs.Goal.{IsFaultOfGoal, IsTextOfGoal}
 use Rattle.agenda_answers.specs.Answer.{Ends, HoldsAfter, Printed, Stream, moment_of, span_of}
+use Rattle.agenda_answers.specs.EventZones.{time_zones}
 use Rattle.agenda_answers.specs.Files.{Held}
 use Rattle.agenda_answers.specs.Sources.{tries_of}
 use Rattle.agenda_answers.specs.Steps.{Step, fails, gives, ◌>>=◌}
@@ -64,13 +66,15 @@ abbrev pub answer_of : Goal → List JobParts → Step (Result (List ℕ) RunFau
 answer_of goal jobs (Ok answer) = AnswersBy (IsTextOfGoal jobs goal) (IsFaultOfGoal jobs goal) answer
 answer_of goal jobs (Err failure) = failure ≡ Run NoMemory
 
--- the zone is read first, then the files; then come the errors of the sources and the answer of the jobs that are left
+-- the zone is read first, then the files and the zones of their events; then come the errors of the sources and the answer of the
+-- jobs that are left
 abbrev pub kept_by : Held → Goal → JobsRequest → Step Outcome
 kept_by held goal jobs = do
-  clock ← clock_of held jobs.zone
+  clock ← clock_of held jobs.zones.zone
   tried ← tries_of held jobs.sources
-  answer ← answer_of goal (kept_jobs clock tried.sources)
-  gives (record { unread = tried.unread; paths = tried.paths; errors = sources_errors clock tried.sources; answer = answer })
+  zones ← time_zones held jobs.zones clock (zone_names tried.sources)
+  answer ← answer_of goal (kept_jobs zones tried.sources)
+  gives (record { unread = tried.unread; paths = tried.paths; errors = sources_errors zones tried.sources; answer = answer })
 
 -- the same, unless the timestamps are rejected
 abbrev pub kept_of : Held → Result Goal Failure → JobsRequest → Step Outcome

@@ -1,4 +1,5 @@
 pub mod Answer
+pub mod EventZones
 pub mod Files
 pub mod Keeping
 pub mod Program

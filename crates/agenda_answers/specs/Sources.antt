@@ -1,12 +1,17 @@
 -- The sources of a plan, by the given paths. All of it is our choice (agenda).
-use Rattle.std.specs.Prelude.{◌≡◌, ℕ, Option, None, Some, List, [], ◌∷◌, ◌++◌, Ok, Err}
+use Rattle.std.specs.Prelude.{◌≡◌, Option, None, Some, List, [], ◌∷◌, ◌++◌, Ok, Err}
+use Rattle.agenda_sources.specs.declared.Asked.{Asked}
 use Rattle.agenda_sources.specs.declared.Source.{Source}
+use Rattle.agenda_sources.specs.declared.TimeZones.{TimeZones}
 use Rattle.agenda_sources.specs.declared.SourcePath.{SourcePath}
 use Rattle.agenda_sources.specs.Name.{file_name}
+use Rattle.agenda_sources.specs.ZoneNames.{asked_zones, zone_names}
+use Rattle.agenda_words.specs.declared.ZonesRequest.{ZonesRequest}
 use Rattle.agenda_faults.specs.declared.faults.Failure.TheVariants.{File, Run}
 use Rattle.agenda_faults.specs.declared.faults.RunFault.TheVariants.{NoMemory}
 use Rattle.agenda_commands.specs.declared.Input.{Input}
 use Rattle.agenda_answers.specs.declared.keeping.Tried.{Tried}
+use Rattle.agenda_answers.specs.EventZones.{time_zones}
 use Rattle.agenda_answers.specs.Files.{Held, IsUnsure, front_of}
 use Rattle.agenda_answers.specs.Steps.{Step, gives, ◌>>=◌}
 use Rattle.agenda_answers.specs.Zone.{clock_of}
@@ -25,12 +30,19 @@ sources_of held (given ∷ paths) = do
   sources ← sources_of held paths
   gives (source ∷ sources)
 
--- what jobs are made from: the zone is read first, then the sources
-abbrev pub input_of : Held → Option (List ℕ) → List SourcePath → Step Input
-input_of held zone paths = do
-  clock ← clock_of held zone
+-- what jobs are made from: the zone is read first, then the sources, and then the zones that their events end with
+abbrev pub input_of : Held → ZonesRequest → List SourcePath → Step Input
+input_of held request paths = do
+  clock ← clock_of held request.zone
   sources ← sources_of held paths
-  gives (record { clock = clock; sources = sources })
+  zones ← time_zones held request clock (zone_names sources)
+  gives (record { zones = zones; sources = sources })
+
+-- the time zones of a rule that is given by itself: the zone is read first, then that of the rule
+abbrev pub rule_zones : Held → ZonesRequest → Asked → Step TimeZones
+rule_zones held request rule = do
+  clock ← clock_of held request.zone
+  time_zones held request clock (asked_zones rule)
 
 -- ---- sources that may be unreadable
 

@@ -10,16 +10,15 @@ ghost use Rattle.agenda_faults.specs.declared.faults.Failure.TheVariants.{After}
 
 use crate::files::{Files, read_path};
 use crate::keeping::keep_going;
-use crate::sources::read_input;
+use crate::sources::{read_input, read_rule_zones};
 use crate::status::{DONE, REFUSED};
-use crate::zone::read_clock;
 use agenda_codes::Code;
 use agenda_commands::{
     Goal, Verdict, run_check, run_explain, run_next, run_plan, run_quiet, run_script, run_upcoming,
 };
 use agenda_faults::{Failure, RunFault, fault_line};
 use agenda_sources::{Asked, SourcePath, SourcePaths};
-use agenda_words::{Ask, JobsRequest, PlanRequest, UsageFault, read_words};
+use agenda_words::{Ask, JobsRequest, PlanRequest, UsageFault, ZonesRequest, read_words};
 use plan_collect::Span;
 use plan_rules::Text;
 use plan_sets::read_moment;
@@ -190,14 +189,14 @@ fn carry_out<R: Threads + Wait + Sync, F: Files, S: Stream>(
     match ask {
         Ask::Next {
             after,
-            zone,
+            zones,
             count,
             rule,
-        } => next(alloc, after, zone, *count, rule, files, out),
+        } => next(alloc, after, zones, *count, rule, files, out),
         Ask::Plan(request) => plan(rt, alloc, request, files, out),
         Ask::Upcoming { after, jobs } => upcoming(alloc, after, jobs, files, out),
         Ask::Quiet { plan, least } => quiet(rt, alloc, plan, *least, files, out),
-        Ask::Check { zone, sources } => check(alloc, zone, sources, files, out),
+        Ask::Check { zones, sources } => check(alloc, zones, sources, files, out),
         Ask::Steps { file } => steps(alloc, file, files, out),
         Ask::Explain(code) => explain(*code, out),
     }
@@ -221,17 +220,17 @@ fn decline<S: Stream>(fault: UsageFault, out: &mut S) -> Result<u8, Failure>
 fn next<F: Files, S: Stream>(
     alloc: Global,
     after: &Text,
-    zone: &Option<Text>,
+    zones: &ZonesRequest,
     count: u32,
     rule: &Asked,
     files: &mut F,
     out: &mut S,
 ) -> Result<u8, Failure>
-    ensures { Leaves S.takes_all (next_ends (F.held files.old) after.now zone.now count rule.now) result (S.holds out.old) (S.holds out.new) }
+    ensures { Leaves S.takes_all (next_ends (F.held files.old) after.now zones.now count rule.now) result (S.holds out.old) (S.holds out.new) }
 {
     let moment = moment_after(after)?;
-    let clock = read_clock(alloc, files, zone)?;
-    run_next(alloc, rule, &clock, moment, u64::from(count), out)?;
+    let zones = read_rule_zones(alloc, files, zones, rule)?;
+    run_next(alloc, rule, &zones, moment, u64::from(count), out)?;
     Ok(DONE)
 }
 
@@ -246,7 +245,7 @@ fn plan<R: Threads + Wait + Sync, F: Files, S: Stream>(
     ensures { Leaves S.takes_all (plan_ends (F.held files.old) request.now) result (S.holds out.old) (S.holds out.new) }
 {
     let span = span_between(&request.since, &request.upto)?;
-    let input = read_input(alloc, files, &request.jobs.zone, &request.jobs.sources)?;
+    let input = read_input(alloc, files, &request.jobs.zones, &request.jobs.sources)?;
     run_plan(rt, alloc, &input, span, request.sizes, out)?;
     Ok(DONE)
 }
@@ -262,7 +261,7 @@ fn upcoming<F: Files, S: Stream>(
     ensures { Leaves S.takes_all (upcoming_ends (F.held files.old) after.now jobs.now) result (S.holds out.old) (S.holds out.new) }
 {
     let moment = moment_after(after)?;
-    let input = read_input(alloc, files, &jobs.zone, &jobs.sources)?;
+    let input = read_input(alloc, files, &jobs.zones, &jobs.sources)?;
     run_upcoming(alloc, &input, moment, out)?;
     Ok(DONE)
 }
@@ -279,7 +278,7 @@ fn quiet<R: Threads + Wait + Sync, F: Files, S: Stream>(
     ensures { Leaves S.takes_all (quiet_ends (F.held files.old) request.now least) result (S.holds out.old) (S.holds out.new) }
 {
     let span = span_between(&request.since, &request.upto)?;
-    let input = read_input(alloc, files, &request.jobs.zone, &request.jobs.sources)?;
+    let input = read_input(alloc, files, &request.jobs.zones, &request.jobs.sources)?;
     run_quiet(rt, alloc, &input, span, request.sizes, least, out)?;
     Ok(DONE)
 }
@@ -287,14 +286,14 @@ fn quiet<R: Threads + Wait + Sync, F: Files, S: Stream>(
 // Runs the command `check`.
 fn check<F: Files, S: Stream>(
     alloc: Global,
-    zone: &Option<Text>,
+    zones: &ZonesRequest,
     paths: &SourcePaths,
     files: &mut F,
     out: &mut S,
 ) -> Result<u8, Failure>
-    ensures { Leaves S.takes_all (check_ends (F.held files.old) zone.now paths.now) result (S.holds out.old) (S.holds out.new) }
+    ensures { Leaves S.takes_all (check_ends (F.held files.old) zones.now paths.now) result (S.holds out.old) (S.holds out.new) }
 {
-    let input = read_input(alloc, files, zone, paths)?;
+    let input = read_input(alloc, files, zones, paths)?;
     let verdict = run_check(alloc, paths.as_slice(), &input, out)?;
     Ok(status_on(verdict))
 }

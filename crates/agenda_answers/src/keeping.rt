@@ -16,6 +16,7 @@ ghost use Rattle.agenda_words.specs.declared.JobsRequest.{JobsRequest};
 ghost use Rattle.agenda_words.specs.declared.PlanRequest.{PlanRequest};
 
 use crate::answers::end;
+use crate::event_zones::{names_of_sources, read_zones};
 use crate::files::Files;
 use crate::sources::read_source;
 use crate::status::{DONE, FAILED, REFUSED};
@@ -100,9 +101,11 @@ fn make_outcome<R: Threads + Wait + Sync, F: Files>(
     ensures { kept_of (F.held files.old) goal jobs.now result }
 {
     let goal = goal?;
-    let clock = read_clock(alloc, files, &jobs.zone)?;
+    let clock = read_clock(alloc, files, &jobs.zones.zone)?;
     let tried = try_sources(alloc, files, jobs.sources.as_slice())?;
-    let kept = kept_of_sources(alloc, &tried.sources, &clock)?;
+    let names = names_of_sources(alloc, &jobs.zones, &tried.sources)?;
+    let zones = read_zones(alloc, files, &jobs.zones.zone, clock, names)?;
+    let kept = kept_of_sources(alloc, &tried.sources, &zones)?;
     let answer = answer_jobs(rt, alloc, kept.jobs, &goal)?;
     Ok(Outcome {
         unread: tried.unread,
@@ -134,7 +137,8 @@ fn try_sources<F: Files>(
     files: &mut F,
     given: &[SourcePath],
 ) -> Result<Tried, Failure>
-    ensures { tries_of (F.held files.old) given.now result }
+    ensures read { tries_of (F.held files.old) given.now result }
+    ensures same { F.held files.new ≡ F.held files.old }
 {
     let mut sources = Vec::new(alloc);
     let mut paths = SourcePaths::new(alloc);

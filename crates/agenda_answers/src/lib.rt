@@ -5,6 +5,7 @@
 #![tactic(auto)]
 
 mod answers;
+mod event_zones;
 mod files;
 mod keeping;
 mod sources;

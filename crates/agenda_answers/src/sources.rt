@@ -1,17 +1,20 @@
-//! Reads the clock of the zone and the sources from files.
+//! Reads the clock of the zone, the sources, and the zones of events from files.
 
 ghost use Rattle.std.specs.Prelude.{◌≡◌};
-ghost use Rattle.agenda_answers.specs.Sources.{input_of, source_of, sources_of};
+ghost use Rattle.agenda_answers.specs.Sources.{input_of, rule_zones, source_of, sources_of};
 
+use crate::event_zones::{names_of_rule, names_of_sources, read_zones};
 use crate::files::{Files, read_path};
 use crate::zone::read_clock;
 use agenda_commands::Input;
 use agenda_faults::Failure;
-use agenda_sources::{Source, SourcePath, SourcePaths, Sources, file_name};
+use agenda_sources::{Asked, Source, SourcePath, SourcePaths, Sources, TimeZones, file_name};
+use agenda_words::ZonesRequest;
 use plan_rules::Text;
 use std::alloc::Global;
 
-/// Reads the clock of the zone that a text gives, then the sources with these paths, in order, each path once.
+/// Reads the clock of the zone that a request gives, then the sources with these paths, in order, each path once. If
+/// events may name zones, reads these zones last, each once.
 ///
 /// # Errors
 ///
@@ -20,14 +23,34 @@ use std::alloc::Global;
 pub(crate) fn read_input<F: Files>(
     alloc: Global,
     files: &mut F,
-    zone: &Option<Text>,
+    request: &ZonesRequest,
     paths: &SourcePaths,
 ) -> Result<Input, Failure>
-    ensures { input_of (F.held files.old) zone.now paths.now result }
+    ensures { input_of (F.held files.old) request.now paths.now result }
 {
-    let clock = read_clock(alloc, files, zone)?;
+    let clock = read_clock(alloc, files, &request.zone)?;
     let sources = read_sources(alloc, files, paths.as_slice())?;
-    Ok(Input { clock, sources })
+    let names = names_of_sources(alloc, request, &sources)?;
+    let zones = read_zones(alloc, files, &request.zone, clock, names)?;
+    Ok(Input { zones, sources })
+}
+
+/// Reads the clock of the zone that a request gives, and then the zone that a rule ends with, if rules may name zones.
+///
+/// # Errors
+///
+/// The errors of `read_clock`; then `Run(NoMemory)` if an allocation failed.
+pub(crate) fn read_rule_zones<F: Files>(
+    alloc: Global,
+    files: &mut F,
+    request: &ZonesRequest,
+    rule: &Asked,
+) -> Result<TimeZones, Failure>
+    ensures { rule_zones (F.held files.old) request.now rule.now result }
+{
+    let clock = read_clock(alloc, files, &request.zone)?;
+    let names = names_of_rule(alloc, request, rule)?;
+    read_zones(alloc, files, &request.zone, clock, names)
 }
 
 // Reads the sources with these paths, in order, each path once.
@@ -36,7 +59,8 @@ fn read_sources<F: Files>(
     files: &mut F,
     paths: &[SourcePath],
 ) -> Result<Sources, Failure>
-    ensures { sources_of (F.held files.old) paths.now result }
+    ensures read { sources_of (F.held files.old) paths.now result }
+    ensures same { F.held files.new ≡ F.held files.old }
 {
     let mut sources = Vec::new(alloc);
     for path in paths {

@@ -1,10 +1,10 @@
 //! Reads the clock of the time zone of the rules.
 
 ghost use Rattle.std.specs.Prelude.{◌≡◌};
-ghost use Rattle.agenda_answers.specs.Zone.{clock_of, clock_of_bytes, clock_of_file};
+ghost use Rattle.agenda_answers.specs.Zone.{clock_from, clock_of, clock_of_bytes, clock_of_file};
 ghost use Rattle.agenda_faults.specs.declared.faults.Failure.TheVariants.{File, Zone};
 ghost use Rattle.plan_zones.specs.declared.zone_fault.ZoneFault.TheVariants.{NoSuchZone};
-ghost use Rattle.plan_zones.specs.ZoneTexts.{zone_path};
+ghost use Rattle.plan_zones.specs.ZoneTexts.{source_of, zone_path};
 
 use crate::files::{Files, read_file, read_path};
 use agenda_faults::Failure;
@@ -27,10 +27,22 @@ pub fn read_clock<F: Files>(
     ensures read { clock_of (F.held files.old) zone.now result }
     ensures same { F.held files.new ≡ F.held files.old }
 {
-    let Some(text) = zone else {
-        return Ok(Clock::utc());
-    };
-    match zone_source(text.as_str()) {
+    match zone {
+        Some(text) => clock_of_text(alloc, files, text.as_str()),
+        None => Ok(Clock::utc()),
+    }
+}
+
+// Reads the clock of the zone that a text gives.
+pub(crate) fn clock_of_text<F: Files>(
+    alloc: Global,
+    files: &mut F,
+    text: &str,
+) -> Result<Clock, Failure>
+    ensures read { clock_from (F.held files.old) (source_of text.now) result }
+    ensures same { F.held files.new ≡ F.held files.old }
+{
+    match zone_source(text) {
         Ok(ZoneSource::Utc) => Ok(Clock::utc()),
         Ok(ZoneSource::Path(path)) => clock_of_path(alloc, files, path),
         Ok(ZoneSource::Name(name)) => clock_of_name(alloc, files, name),

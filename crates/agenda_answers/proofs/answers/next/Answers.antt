@@ -6,18 +6,18 @@ use Rattle.agenda_answers.proofs.answers.next.Goals as goal
 pub returns-in_err-moment : goal.returns-in_err-moment
 returns-in_err-moment g c = failed_first _ _ _ c.in_err-moment.ensures c.from_residual.ensures.1
 
-pub returns-in_err-clock : goal.returns-in_err-clock
-returns-in_err-clock g c =
-    went_on _ c.in_ok-moment.ensures (failed_first _ _ _ c.in_err-clock.ensures.read c.from_residual-in_err-clock.ensures.1)
+pub returns-in_err-zones : goal.returns-in_err-zones
+returns-in_err-zones g c =
+    went_on _ c.in_ok-moment.ensures (failed_first _ _ _ c.in_err-zones.ensures c.from_residual-in_err-zones.ensures.1)
 
 pub returns-in_err-run_next : goal.returns-in_err-run_next
 returns-in_err-run_next g c =
-    went_on _ c.in_ok-moment.ensures (went_on _ c.in_ok-clock.ensures.read
+    went_on _ c.in_ok-moment.ensures (went_on _ c.in_ok-zones.ensures
     (stopped_if (valid_count c.args.count) _ _ _ _ _ _ (rw c.from.ensures at c.in_err-run_next.ensures.output)
     (rw c.from.ensures at (same_error (valid_count c.from.result) c.in_err-run_next.field-0.0 _ refl c.in_err-run_next.ensures.bad_count))
     c.from_residual-in_err-run_next.ensures.1))
 
 pub returns : goal.returns
 returns g c =
-    went_on _ c.in_ok-moment.ensures (went_on _ c.in_ok-clock.ensures.read
+    went_on _ c.in_ok-moment.ensures (went_on _ c.in_ok-zones.ensures
     (printed _ _ _ _ _ _ (rw c.from.ensures at c.in_ok-run_next.ensures.output)))

@@ -15,22 +15,22 @@ loop-path-init g c =
       same = refl;
     }
 
-pub returns-in_err-copy : goal.returns-in_err-copy
-returns-in_err-copy g c =
+pub returns-in_err-copy-clause-read : goal.returns-in_err-copy-clause-read
+returns-in_err-copy-clause-read g c =
     let held = g.F.Files.held c.args.files.now in
     let within : c.loop-path.path-index < length c.args.given.now = omega arith in
     passed_on (tries_of held c.args.given.now) _ (Run run.NoMemory) (tries_fail_at held c.args.given.now _ c.loop-path.path-index
     c.path-item.result (Run run.NoMemory) c.loop-path.invariant.so_far within refl) c.from_residual.ensures.1
 
-pub returns-in_err-source : goal.returns-in_err-source
-returns-in_err-source g c =
+pub returns-in_err-source-clause-read : goal.returns-in_err-source-clause-read
+returns-in_err-source-clause-read g c =
     let held = g.F.Files.held c.args.files.now in
     let within : c.loop-path.path-index < length c.args.given.now = omega arith in
     passed_on (tries_of held c.args.given.now) _ _ (tries_fail_at held c.args.given.now _ c.loop-path.path-index
     c.path-item.result _ c.loop-path.invariant.so_far within c.in_err-source.ensures.read) c.from_residual-in_err-source.ensures.1
 
-pub returns-in_err-add_tried : goal.returns-in_err-add_tried
-returns-in_err-add_tried g c =
+pub returns-in_err-add_tried-clause-read : goal.returns-in_err-add_tried-clause-read
+returns-in_err-add_tried-clause-read g c =
     let held = g.F.Files.held c.args.files.now in
     let within : c.loop-path.path-index < length c.args.given.now = omega arith in
     passed_on (tries_of held c.args.given.now) _ _ (rw c.in_err-add_tried.ensures.memory

@@ -11,8 +11,8 @@ use Rattle.agenda_answers.proofs.sources.read_sources.Goals as goal
 pub loop-path-init : goal.loop-path-init
 loop-path-init g c = record { so_far = rw c.new-sources.ensures.items (sources_none (g.F.Files.held c.args.files.now)); same = refl }
 
-pub returns-in_err-source : goal.returns-in_err-source
-returns-in_err-source g c =
+pub returns-in_err-source-clause-read : goal.returns-in_err-source-clause-read
+returns-in_err-source-clause-read g c =
     let held = g.F.Files.held c.args.files.now in
     let within : c.loop-path.path-index < length c.args.paths.now = omega arith in
     passed_on (sources_of held c.args.paths.now) _ _ (sources_fail_at held c.args.paths.now c.loop-path.sources.items c.loop-path.path-index
@@ -20,8 +20,8 @@ returns-in_err-source g c =
     (rw (c.loop-path.invariant.same, c.path-item.is) at c.in_err-source.ensures.read))
     c.from_residual.ensures.1
 
-pub returns-in_err-push : goal.returns-in_err-push
-returns-in_err-push g c =
+pub returns-in_err-push-clause-read : goal.returns-in_err-push-clause-read
+returns-in_err-push-clause-read g c =
     let held = g.F.Files.held c.args.files.now in
     let within : c.loop-path.path-index < length c.args.paths.now = omega arith in
     passed_on (sources_of held c.args.paths.now) _ _ (sources_fail_at held c.args.paths.now c.loop-path.sources.items c.loop-path.path-index
