@@ -65,13 +65,15 @@ words_make_help_of_next() {
   cat >"$work/words/next.text" <<'END'
 Prints the next starts of one rule
 
-Usage: agenda next --after <T> [--zone <ZONE>] [--count <N>] (--cron <TEXT> | --calendar <TEXT>)
+Usage: agenda next --after <T> [--zone <ZONE>] [--event-zones] [--count <N>] (--cron <TEXT> | --calendar <TEXT>)
 
 Options:
       --after <T>        Only starts later than this time, in UTC, such as
                          2024-01-01T00:00:00Z; the years are 1970 to 2999
       --zone <ZONE>      The time zone of the rules, such as Europe/Berlin,
                          or the path of a TZif file; UTC if it isn't given
+      --event-zones      Read events that end with a time zone, such as
+                         'Mon..Fri 09:00 Europe/Berlin'
       --count <N>        How many starts, from 1 to 1000 [default: 1]
       --cron <TEXT>      A cron rule: minute, hour, day of month, month and day
                          of week, or @hourly, @daily, @weekly, @monthly, @yearly
@@ -103,6 +105,8 @@ Options:
                             at this time isn't included
       --zone <ZONE>         The time zone of the rules, such as Europe/Berlin,
                             or the path of a TZif file; UTC if it isn't given
+      --event-zones         Read events that end with a time zone, such as
+                            'Mon..Fri 09:00 Europe/Berlin'
       --keep-going          Skip what is invalid or can't be read, and report it
       --crontab <F>         A user's crontab, as 'crontab -l' prints it
       --system-crontab <F>  A crontab whose lines name a user, such as
@@ -145,6 +149,8 @@ Options:
                             2024-01-01T00:00:00Z; the years are 1970 to 2999
       --zone <ZONE>         The time zone of the rules, such as Europe/Berlin,
                             or the path of a TZif file; UTC if it isn't given
+      --event-zones         Read events that end with a time zone, such as
+                            'Mon..Fri 09:00 Europe/Berlin'
       --keep-going          Skip what is invalid or can't be read, and report it
       --crontab <F>         A user's crontab, as 'crontab -l' prints it
       --system-crontab <F>  A crontab whose lines name a user, such as
@@ -181,6 +187,8 @@ Options:
                             at this time isn't included
       --zone <ZONE>         The time zone of the rules, such as Europe/Berlin,
                             or the path of a TZif file; UTC if it isn't given
+      --event-zones         Read events that end with a time zone, such as
+                            'Mon..Fri 09:00 Europe/Berlin'
       --keep-going          Skip what is invalid or can't be read, and report it
       --crontab <F>         A user's crontab, as 'crontab -l' prints it
       --system-crontab <F>  A crontab whose lines name a user, such as
@@ -222,6 +230,8 @@ Arguments:
 Options:
       --zone <ZONE>         The time zone of the rules, such as Europe/Berlin,
                             or the path of a TZif file; UTC if it isn't given
+      --event-zones         Read events that end with a time zone, such as
+                            'Mon..Fri 09:00 Europe/Berlin'
       --crontab <F>         A user's crontab, as 'crontab -l' prints it
       --system-crontab <F>  A crontab whose lines name a user, such as
                             /etc/crontab
@@ -370,7 +380,7 @@ words_tell_usage_of_commands() {
 error: the following required arguments were not provided:
   --after <T>
 
-Usage: agenda next --after <T> [--zone <ZONE>] [--count <N>] (--cron <TEXT> | --calendar <TEXT>)
+Usage: agenda next --after <T> [--zone <ZONE>] [--event-zones] [--count <N>] (--cron <TEXT> | --calendar <TEXT>)
 
 For more information, try '--help'.
 END
