@@ -42,60 +42,60 @@ machine_moments() {
 }
 
 machine_moments <<'ROWS'
-plan>plan|--keep-going|--since|NOW|--upto|NEXT
-quiet>quiet|--keep-going|--since|NOW|--upto|NEXT
-upcoming>upcoming|--keep-going|--after|NOW
-check>check
-plan|--limit|5|x>plan|--keep-going|--since|NOW|--upto|NEXT|--limit|5|x
-quiet|--least|5>quiet|--keep-going|--since|NOW|--upto|NEXT|--least|5
-upcoming|x>upcoming|--keep-going|--after|NOW|x
-plan|--since|DAY>plan|--keep-going|--upto|2024-01-02T00:00:00Z|--since|DAY
-plan|--since=DAY>plan|--keep-going|--upto|2024-01-02T00:00:00Z|--since=DAY
-quiet|--since|2024-02-28T23:59:59Z>quiet|--keep-going|--upto|2024-02-29T23:59:59Z|--since|2024-02-28T23:59:59Z
-plan|--since=2023-12-31T12:34:56Z>plan|--keep-going|--upto|2024-01-01T12:34:56Z|--since=2023-12-31T12:34:56Z
-plan|--upto|2999-01-01T00:00:00Z>plan|--keep-going|--since|NOW|--upto|2999-01-01T00:00:00Z
-plan|--upto=2999-01-01T00:00:00Z>plan|--keep-going|--since|NOW|--upto=2999-01-01T00:00:00Z
-plan|--since|DAY|--upto|DAY>plan|--keep-going|--since|DAY|--upto|DAY
-upcoming|--after|DAY>upcoming|--keep-going|--after|DAY
-upcoming|--after=DAY>upcoming|--keep-going|--after=DAY
-plan|x|--since|DAY|y|--upto=DAY|z>plan|--keep-going|x|--since|DAY|y|--upto=DAY|z
-plan|--|--since|DAY>plan|--keep-going|--since|NOW|--upto|NEXT|--|--since|DAY
-plan|--since|DAY|--|--upto=DAY>plan|--keep-going|--upto|2024-01-02T00:00:00Z|--since|DAY|--|--upto=DAY
-quiet|--|--upto|frob|--since=frob>quiet|--keep-going|--since|NOW|--upto|NEXT|--|--upto|frob|--since=frob
-upcoming|--|--after|frob>upcoming|--keep-going|--after|NOW|--|--after|frob
-plan|--sinces|DAY|--upton=DAY>plan|--keep-going|--since|NOW|--upto|NEXT|--sinces|DAY|--upton=DAY
-plan|since|--sinc|-since|x>plan|--keep-going|--since|NOW|--upto|NEXT|since|--sinc|-since|x
+plan>plan|--event-zones|--keep-going|--since|NOW|--upto|NEXT
+quiet>quiet|--event-zones|--keep-going|--since|NOW|--upto|NEXT
+upcoming>upcoming|--event-zones|--keep-going|--after|NOW
+check>check|--event-zones
+plan|--limit|5|x>plan|--event-zones|--keep-going|--since|NOW|--upto|NEXT|--limit|5|x
+quiet|--least|5>quiet|--event-zones|--keep-going|--since|NOW|--upto|NEXT|--least|5
+upcoming|x>upcoming|--event-zones|--keep-going|--after|NOW|x
+plan|--since|DAY>plan|--event-zones|--keep-going|--upto|2024-01-02T00:00:00Z|--since|DAY
+plan|--since=DAY>plan|--event-zones|--keep-going|--upto|2024-01-02T00:00:00Z|--since=DAY
+quiet|--since|2024-02-28T23:59:59Z>quiet|--event-zones|--keep-going|--upto|2024-02-29T23:59:59Z|--since|2024-02-28T23:59:59Z
+plan|--since=2023-12-31T12:34:56Z>plan|--event-zones|--keep-going|--upto|2024-01-01T12:34:56Z|--since=2023-12-31T12:34:56Z
+plan|--upto|2999-01-01T00:00:00Z>plan|--event-zones|--keep-going|--since|NOW|--upto|2999-01-01T00:00:00Z
+plan|--upto=2999-01-01T00:00:00Z>plan|--event-zones|--keep-going|--since|NOW|--upto=2999-01-01T00:00:00Z
+plan|--since|DAY|--upto|DAY>plan|--event-zones|--keep-going|--since|DAY|--upto|DAY
+upcoming|--after|DAY>upcoming|--event-zones|--keep-going|--after|DAY
+upcoming|--after=DAY>upcoming|--event-zones|--keep-going|--after=DAY
+plan|x|--since|DAY|y|--upto=DAY|z>plan|--event-zones|--keep-going|x|--since|DAY|y|--upto=DAY|z
+plan|--|--since|DAY>plan|--event-zones|--keep-going|--since|NOW|--upto|NEXT|--|--since|DAY
+plan|--since|DAY|--|--upto=DAY>plan|--event-zones|--keep-going|--upto|2024-01-02T00:00:00Z|--since|DAY|--|--upto=DAY
+quiet|--|--upto|frob|--since=frob>quiet|--event-zones|--keep-going|--since|NOW|--upto|NEXT|--|--upto|frob|--since=frob
+upcoming|--|--after|frob>upcoming|--event-zones|--keep-going|--after|NOW|--|--after|frob
+plan|--sinces|DAY|--upton=DAY>plan|--event-zones|--keep-going|--since|NOW|--upto|NEXT|--sinces|DAY|--upton=DAY
+plan|since|--sinc|-since|x>plan|--event-zones|--keep-going|--since|NOW|--upto|NEXT|since|--sinc|-since|x
 ROWS
 
 # date reads all other texts, in UTC, and those of --upto that begin with + are counted from --since.
 machine_moments <<'ROWS'
-plan|--since|2024-02-29 12:00>plan|--keep-going|--upto|2024-03-01T12:00:00Z|--since|2024-02-29T12:00:00Z
-plan|--since=2024-02-29>plan|--keep-going|--upto|2024-03-01T00:00:00Z|--since=2024-02-29T00:00:00Z
-plan|--since=2024-02-29 12:00 +0200>plan|--keep-going|--upto|2024-03-01T10:00:00Z|--since=2024-02-29T10:00:00Z
-plan|--since|@0>plan|--keep-going|--upto|1970-01-02T00:00:00Z|--since|1970-01-01T00:00:00Z
-plan|--since|@-1|--upto|@1>plan|--keep-going|--since|1969-12-31T23:59:59Z|--upto|1970-01-01T00:00:01Z
-plan|--since|2024-01-01T00:00:00z>plan|--keep-going|--upto|2024-01-02T00:00:00Z|--since|2024-01-01T00:00:00Z
-plan|--since|2024-01-01T00:00:00+01:00>plan|--keep-going|--upto|2024-01-01T23:00:00Z|--since|2023-12-31T23:00:00Z
-plan|--since|2024-01-01T00:00Z>plan|--keep-going|--upto|2024-01-02T00:00:00Z|--since|2024-01-01T00:00:00Z
-plan|--since|DAY|--upto|2024-01-31 06:00>plan|--keep-going|--since|DAY|--upto|2024-01-31T06:00:00Z
-quiet|--since|DAY|--upto=1 feb 2024>quiet|--keep-going|--since|DAY|--upto=2024-02-01T00:00:00Z
-plan|--since|DAY|--upto|+8 hours>plan|--keep-going|--since|DAY|--upto|2024-01-01T08:00:00Z
-plan|--since|DAY|--upto=+8 hours>plan|--keep-going|--since|DAY|--upto=2024-01-01T08:00:00Z
-plan|--upto|+90 min|--since=2024-02-28 23:00>plan|--keep-going|--upto|2024-02-29T00:30:00Z|--since=2024-02-28T23:00:00Z
-plan|--since|2024-01-31|--upto|+1 month>plan|--keep-going|--since|2024-01-31T00:00:00Z|--upto|2024-03-02T00:00:00Z
-quiet|--upto=+1 week|--since|DAY>quiet|--keep-going|--upto=2024-01-08T00:00:00Z|--since|DAY
-plan|--upto|+1 day>plan|--keep-going|--since|NOW|--upto|NEXT
-plan|--upto=+24 hours|x>plan|--keep-going|--since|NOW|--upto=NEXT|x
-plan|--since|now>plan|--keep-going|--upto|NEXT|--since|NOW
-plan|--since=now|--upto|+1 day>plan|--keep-going|--since=NOW|--upto|NEXT
-upcoming|--after|2024-02-29 12:00>upcoming|--keep-going|--after|2024-02-29T12:00:00Z
-upcoming|--after=now>upcoming|--keep-going|--after=NOW
-upcoming|--after|now|x>upcoming|--keep-going|--after|NOW|x
-plan|--upto|DAY|--since>plan|--keep-going|--upto|DAY|--since
-plan|--since|DAY|--upto>plan|--keep-going|--since|DAY|--upto
-upcoming|--after>upcoming|--keep-going|--after
-quiet|x|--upto=DAY|--since>quiet|--keep-going|x|--upto=DAY|--since
-check|--since|now|--upto=+1 day|--after|x>check|--since|now|--upto=+1 day|--after|x
+plan|--since|2024-02-29 12:00>plan|--event-zones|--keep-going|--upto|2024-03-01T12:00:00Z|--since|2024-02-29T12:00:00Z
+plan|--since=2024-02-29>plan|--event-zones|--keep-going|--upto|2024-03-01T00:00:00Z|--since=2024-02-29T00:00:00Z
+plan|--since=2024-02-29 12:00 +0200>plan|--event-zones|--keep-going|--upto|2024-03-01T10:00:00Z|--since=2024-02-29T10:00:00Z
+plan|--since|@0>plan|--event-zones|--keep-going|--upto|1970-01-02T00:00:00Z|--since|1970-01-01T00:00:00Z
+plan|--since|@-1|--upto|@1>plan|--event-zones|--keep-going|--since|1969-12-31T23:59:59Z|--upto|1970-01-01T00:00:01Z
+plan|--since|2024-01-01T00:00:00z>plan|--event-zones|--keep-going|--upto|2024-01-02T00:00:00Z|--since|2024-01-01T00:00:00Z
+plan|--since|2024-01-01T00:00:00+01:00>plan|--event-zones|--keep-going|--upto|2024-01-01T23:00:00Z|--since|2023-12-31T23:00:00Z
+plan|--since|2024-01-01T00:00Z>plan|--event-zones|--keep-going|--upto|2024-01-02T00:00:00Z|--since|2024-01-01T00:00:00Z
+plan|--since|DAY|--upto|2024-01-31 06:00>plan|--event-zones|--keep-going|--since|DAY|--upto|2024-01-31T06:00:00Z
+quiet|--since|DAY|--upto=1 feb 2024>quiet|--event-zones|--keep-going|--since|DAY|--upto=2024-02-01T00:00:00Z
+plan|--since|DAY|--upto|+8 hours>plan|--event-zones|--keep-going|--since|DAY|--upto|2024-01-01T08:00:00Z
+plan|--since|DAY|--upto=+8 hours>plan|--event-zones|--keep-going|--since|DAY|--upto=2024-01-01T08:00:00Z
+plan|--upto|+90 min|--since=2024-02-28 23:00>plan|--event-zones|--keep-going|--upto|2024-02-29T00:30:00Z|--since=2024-02-28T23:00:00Z
+plan|--since|2024-01-31|--upto|+1 month>plan|--event-zones|--keep-going|--since|2024-01-31T00:00:00Z|--upto|2024-03-02T00:00:00Z
+quiet|--upto=+1 week|--since|DAY>quiet|--event-zones|--keep-going|--upto=2024-01-08T00:00:00Z|--since|DAY
+plan|--upto|+1 day>plan|--event-zones|--keep-going|--since|NOW|--upto|NEXT
+plan|--upto=+24 hours|x>plan|--event-zones|--keep-going|--since|NOW|--upto=NEXT|x
+plan|--since|now>plan|--event-zones|--keep-going|--upto|NEXT|--since|NOW
+plan|--since=now|--upto|+1 day>plan|--event-zones|--keep-going|--since=NOW|--upto|NEXT
+upcoming|--after|2024-02-29 12:00>upcoming|--event-zones|--keep-going|--after|2024-02-29T12:00:00Z
+upcoming|--after=now>upcoming|--event-zones|--keep-going|--after=NOW
+upcoming|--after|now|x>upcoming|--event-zones|--keep-going|--after|NOW|x
+plan|--upto|DAY|--since>plan|--event-zones|--keep-going|--upto|DAY|--since
+plan|--since|DAY|--upto>plan|--event-zones|--keep-going|--since|DAY|--upto
+upcoming|--after>upcoming|--event-zones|--keep-going|--after
+quiet|x|--upto=DAY|--since>quiet|--event-zones|--keep-going|x|--upto=DAY|--since
+check|--since|now|--upto=+1 day|--after|x>check|--event-zones|--since|now|--upto=+1 day|--after|x
 ROWS
 
 # date reads an empty text too: it is today.
@@ -104,17 +104,17 @@ machine_today() {
   machine_make x/
   day=$(date -u +%F)T00:00:00Z
   machine_run --root root plan --since= --upto '+1 hour'
-  printf '%s\n' plan --keep-going "--since=$day" --upto "${day/T00/T01}" >"$work/words.wanted"
+  printf '%s\n' plan --event-zones --keep-going "--since=$day" --upto "${day/T00/T01}" >"$work/words.wanted"
   machine_compare "an empty text" /dev/null /dev/null 0 words "$work/words.wanted"
   machine_run --root root upcoming --after ''
-  printf '%s\n' upcoming --keep-going --after "$day" >"$work/words.wanted"
+  printf '%s\n' upcoming --event-zones --keep-going --after "$day" >"$work/words.wanted"
   machine_compare "an empty word" /dev/null /dev/null 0 words "$work/words.wanted"
   # the caller's zone changes nothing, with the end of winter time in the span
   TZ=EST5EDT,M3.2.0,M11.1.0 machine_run --root root plan --since '2024-03-09 12:00' --upto @1720000000
-  printf '%s\n' plan --keep-going --since 2024-03-09T12:00:00Z --upto 2024-07-03T09:46:40Z >"$work/words.wanted"
+  printf '%s\n' plan --event-zones --keep-going --since 2024-03-09T12:00:00Z --upto 2024-07-03T09:46:40Z >"$work/words.wanted"
   machine_compare "texts in another zone" /dev/null /dev/null 0 words "$work/words.wanted"
   TZ=EST5EDT,M3.2.0,M11.1.0 machine_run --root root plan --since @1709985600
-  printf '%s\n' plan --keep-going --upto 2024-03-10T12:00:00Z --since 2024-03-09T12:00:00Z >"$work/words.wanted"
+  printf '%s\n' plan --event-zones --keep-going --upto 2024-03-10T12:00:00Z --since 2024-03-09T12:00:00Z >"$work/words.wanted"
   machine_compare "a day in another zone" /dev/null /dev/null 0 words "$work/words.wanted"
 }
 

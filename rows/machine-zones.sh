@@ -59,9 +59,9 @@ zone_is() {
     wanted=0
     [ "$command" = sources ] || ! grep -q ': not readable$' "$work/err.further" || wanted=1
     if [ ${#words[@]} = 0 ]; then
-      printf '%s\n' "$command" "${zone[@]}"
+      printf '%s\n' "$command" "${zone[@]}" --event-zones
     else
-      printf '%s\n' "$command" "${zone[@]}" --keep-going "${words[@]}"
+      printf '%s\n' "$command" "${zone[@]}" --event-zones --keep-going "${words[@]}"
     fi >"$work/words.wanted"
     machine_run --root "$2" "$command" "${words[@]}"
     machine_compare "zone by $command of '$1'" /dev/null "$work/err.wanted" "$wanted" "$given" "$work/words.wanted"
@@ -91,7 +91,7 @@ zone_folders() {
     zone_is "--root $given" "${given/PWD/$machine_folder}" "${zone/PWD/$machine_folder}/usr/share/zoneinfo/Europe/Oslo"
     # date reads the file with that path
     machine_run --root "${given/PWD/$machine_folder}" plan --since '2024-01-01 05:00' --upto '2024-01-02 05:00'
-    printf '%s\n' plan --zone "${zone/PWD/$machine_folder}/usr/share/zoneinfo/Europe/Oslo" --keep-going "${zone_day[@]}" >"$work/words.wanted"
+    printf '%s\n' plan --zone "${zone/PWD/$machine_folder}/usr/share/zoneinfo/Europe/Oslo" --event-zones --keep-going "${zone_day[@]}" >"$work/words.wanted"
     machine_compare "texts by --root $given" /dev/null /dev/null 0 words "$work/words.wanted"
   done
   for given in .root -root 'a b:c'; do
@@ -147,10 +147,10 @@ zone_now() {
   zone_make etc/localtime=CET
   begun=$(date +%s)
   machine_run --root root plan
-  since=$(sed -n 6p "$MACHINE_LOG.words")
+  since=$(sed -n 7p "$MACHINE_LOG.words")
   since=$(date -u -d "$since" +%s)
   ((begun <= since && since <= $(date +%s))) || tell "not now: $since"
-  printf '%s\n' plan --zone ./root/etc/localtime --keep-going --since "$(date -u -d "@$since" +%FT%TZ)" \
+  printf '%s\n' plan --zone ./root/etc/localtime --event-zones --keep-going --since "$(date -u -d "@$since" +%FT%TZ)" \
     --upto "$(date -u -d "@$((since + 86400))" +%FT%TZ)" >"$work/words.wanted"
   machine_compare "a day from now in a zone" /dev/null /dev/null 0 words "$work/words.wanted"
   until
@@ -160,7 +160,7 @@ zone_now() {
   do :; done
   since=$(TZ=$rule date -d "$local_day 22:00" +%s)
   upto=$(TZ=$rule date -d "$local_day 6:00 1 day" +%s)
-  printf '%s\n' plan --zone ./root/etc/localtime --keep-going --since "$(date -u -d "@$since" +%FT%TZ)" \
+  printf '%s\n' plan --zone ./root/etc/localtime --event-zones --keep-going --since "$(date -u -d "@$since" +%FT%TZ)" \
     --upto "$(date -u -d "@$upto" +%FT%TZ)" >"$work/words.wanted"
   machine_compare "today in a zone" /dev/null /dev/null 0 words "$work/words.wanted"
 }
@@ -266,13 +266,13 @@ etc/localtime>/usr/share/zoneinfo/Europe//Oslo|?
 etc>/opt/e opt/e/localtime>/usr/share/zoneinfo/Europe/Oslo|Europe/Oslo
 ROWS
   zone_words 'etc/localtime>/usr/share/zoneinfo/Europe/Oslo' env TZ=Asia/Tokyo TZDIR=/nowhere <<'ROWS'
-upcoming|--after|2024-07-01 12:00>upcoming|--zone|Europe/Oslo|--keep-going|--after|2024-07-01T10:00:00Z
-upcoming|--zone|UTC|--after|2024-07-01 12:00>upcoming|--keep-going|--zone|UTC|--after|2024-07-01T12:00:00Z
-upcoming|--zone|Pacific/Apia|--after|2011-12-29 12:00>upcoming|--keep-going|--zone|Pacific/Apia|--after|2011-12-29T22:00:00Z
-upcoming|--zone|Pacific/Apia|--after|2011-12-31 00:00>upcoming|--keep-going|--zone|Pacific/Apia|--after|2011-12-30T10:00:00Z
-upcoming|--after=2024-10-05 12:00|--zone=Australia/Lord_Howe>upcoming|--keep-going|--after=2024-10-05T01:30:00Z|--zone=Australia/Lord_Howe
-upcoming|--after=2024-10-06 12:00|--zone=Australia/Lord_Howe>upcoming|--keep-going|--after=2024-10-06T01:00:00Z|--zone=Australia/Lord_Howe
-upcoming|--zone|/usr/share/zoneinfo/Europe/Oslo|--after|2024-01-01 12:00>upcoming|--keep-going|--zone|/usr/share/zoneinfo/Europe/Oslo|--after|2024-01-01T11:00:00Z
+upcoming|--after|2024-07-01 12:00>upcoming|--zone|Europe/Oslo|--event-zones|--keep-going|--after|2024-07-01T10:00:00Z
+upcoming|--zone|UTC|--after|2024-07-01 12:00>upcoming|--event-zones|--keep-going|--zone|UTC|--after|2024-07-01T12:00:00Z
+upcoming|--zone|Pacific/Apia|--after|2011-12-29 12:00>upcoming|--event-zones|--keep-going|--zone|Pacific/Apia|--after|2011-12-29T22:00:00Z
+upcoming|--zone|Pacific/Apia|--after|2011-12-31 00:00>upcoming|--event-zones|--keep-going|--zone|Pacific/Apia|--after|2011-12-30T10:00:00Z
+upcoming|--after=2024-10-05 12:00|--zone=Australia/Lord_Howe>upcoming|--event-zones|--keep-going|--after=2024-10-05T01:30:00Z|--zone=Australia/Lord_Howe
+upcoming|--after=2024-10-06 12:00|--zone=Australia/Lord_Howe>upcoming|--event-zones|--keep-going|--after=2024-10-06T01:00:00Z|--zone=Australia/Lord_Howe
+upcoming|--zone|/usr/share/zoneinfo/Europe/Oslo|--after|2024-01-01 12:00>upcoming|--event-zones|--keep-going|--zone|/usr/share/zoneinfo/Europe/Oslo|--after|2024-01-01T11:00:00Z
 ROWS
 else
   echo "agenda-machine: skipped the zones of this machine, since it has no tz database"
@@ -303,34 +303,34 @@ machine_by=()
 
 # Texts are read in the zone, and timestamps are passed on unchanged: in winter, in summer, and around clock changes.
 zone_words etc/localtime=CET <<'ROWS'
-plan|--since|2024-01-01T12:00:00Z|--upto|2024-07-01T12:00:00Z>plan|--zone|./root/etc/localtime|--keep-going|--since|2024-01-01T12:00:00Z|--upto|2024-07-01T12:00:00Z
-plan|--since|2024-01-01 12:00|--upto|2024-07-01 12:00>plan|--zone|./root/etc/localtime|--keep-going|--since|2024-01-01T11:00:00Z|--upto|2024-07-01T10:00:00Z
-quiet|--since=2024-07-01T12:00:00|--upto=2024-07-02>quiet|--zone|./root/etc/localtime|--keep-going|--since=2024-07-01T10:00:00Z|--upto=2024-07-01T22:00:00Z
-upcoming|--after|2024-01-01>upcoming|--zone|./root/etc/localtime|--keep-going|--after|2023-12-31T23:00:00Z
-plan|--since|2024-07-01T12:00Z|--upto|2024-07-01 12:00 -0500>plan|--zone|./root/etc/localtime|--keep-going|--since|2024-07-01T12:00:00Z|--upto|2024-07-01T17:00:00Z
-plan|--since|@1720000000>plan|--zone|./root/etc/localtime|--keep-going|--upto|2024-07-04T09:46:40Z|--since|2024-07-03T09:46:40Z
-plan|--since|2024-03-31 01:59:59|--upto|2024-03-31 03:00>plan|--zone|./root/etc/localtime|--keep-going|--since|2024-03-31T00:59:59Z|--upto|2024-03-31T01:00:00Z
-plan|--since|2024-10-27 01:59:59|--upto|2024-10-27 03:00>plan|--zone|./root/etc/localtime|--keep-going|--since|2024-10-26T23:59:59Z|--upto|2024-10-27T02:00:00Z
-plan|--since|2024-10-27 02:30 +0200|--upto|2024-10-27 02:30 +0100>plan|--zone|./root/etc/localtime|--keep-going|--since|2024-10-27T00:30:00Z|--upto|2024-10-27T01:30:00Z
-plan|--since|2024-03-30 22:00>plan|--zone|./root/etc/localtime|--keep-going|--upto|2024-03-31T21:00:00Z|--since|2024-03-30T21:00:00Z
-plan|--since|2024-10-26 22:00>plan|--zone|./root/etc/localtime|--keep-going|--upto|2024-10-27T20:00:00Z|--since|2024-10-26T20:00:00Z
-plan|--since|TZ="UTC0" 2024-07-01 12:00|--upto|2024-07-01 18:00>plan|--zone|./root/etc/localtime|--keep-going|--since|2024-07-01T12:00:00Z|--upto|2024-07-01T16:00:00Z
+plan|--since|2024-01-01T12:00:00Z|--upto|2024-07-01T12:00:00Z>plan|--zone|./root/etc/localtime|--event-zones|--keep-going|--since|2024-01-01T12:00:00Z|--upto|2024-07-01T12:00:00Z
+plan|--since|2024-01-01 12:00|--upto|2024-07-01 12:00>plan|--zone|./root/etc/localtime|--event-zones|--keep-going|--since|2024-01-01T11:00:00Z|--upto|2024-07-01T10:00:00Z
+quiet|--since=2024-07-01T12:00:00|--upto=2024-07-02>quiet|--zone|./root/etc/localtime|--event-zones|--keep-going|--since=2024-07-01T10:00:00Z|--upto=2024-07-01T22:00:00Z
+upcoming|--after|2024-01-01>upcoming|--zone|./root/etc/localtime|--event-zones|--keep-going|--after|2023-12-31T23:00:00Z
+plan|--since|2024-07-01T12:00Z|--upto|2024-07-01 12:00 -0500>plan|--zone|./root/etc/localtime|--event-zones|--keep-going|--since|2024-07-01T12:00:00Z|--upto|2024-07-01T17:00:00Z
+plan|--since|@1720000000>plan|--zone|./root/etc/localtime|--event-zones|--keep-going|--upto|2024-07-04T09:46:40Z|--since|2024-07-03T09:46:40Z
+plan|--since|2024-03-31 01:59:59|--upto|2024-03-31 03:00>plan|--zone|./root/etc/localtime|--event-zones|--keep-going|--since|2024-03-31T00:59:59Z|--upto|2024-03-31T01:00:00Z
+plan|--since|2024-10-27 01:59:59|--upto|2024-10-27 03:00>plan|--zone|./root/etc/localtime|--event-zones|--keep-going|--since|2024-10-26T23:59:59Z|--upto|2024-10-27T02:00:00Z
+plan|--since|2024-10-27 02:30 +0200|--upto|2024-10-27 02:30 +0100>plan|--zone|./root/etc/localtime|--event-zones|--keep-going|--since|2024-10-27T00:30:00Z|--upto|2024-10-27T01:30:00Z
+plan|--since|2024-03-30 22:00>plan|--zone|./root/etc/localtime|--event-zones|--keep-going|--upto|2024-03-31T21:00:00Z|--since|2024-03-30T21:00:00Z
+plan|--since|2024-10-26 22:00>plan|--zone|./root/etc/localtime|--event-zones|--keep-going|--upto|2024-10-27T20:00:00Z|--since|2024-10-26T20:00:00Z
+plan|--since|TZ="UTC0" 2024-07-01 12:00|--upto|2024-07-01 18:00>plan|--zone|./root/etc/localtime|--event-zones|--keep-going|--since|2024-07-01T12:00:00Z|--upto|2024-07-01T16:00:00Z
 ROWS
 
 # Texts counted from --since follow the calendar of the zone, and hours are real hours.
 zone_words etc/localtime=CET <<'ROWS'
-plan|--since|2024-03-30 22:00|--upto|+8 hours>plan|--zone|./root/etc/localtime|--keep-going|--since|2024-03-30T21:00:00Z|--upto|2024-03-31T05:00:00Z
-plan|--since|2024-03-30 22:00|--upto|+24 hours>plan|--zone|./root/etc/localtime|--keep-going|--since|2024-03-30T21:00:00Z|--upto|2024-03-31T21:00:00Z
-plan|--since|2024-03-30 22:00|--upto|+1 day>plan|--zone|./root/etc/localtime|--keep-going|--since|2024-03-30T21:00:00Z|--upto|2024-03-31T20:00:00Z
-plan|--since|2024-03-30T21:00:00Z|--upto=+1 day>plan|--zone|./root/etc/localtime|--keep-going|--since|2024-03-30T21:00:00Z|--upto=2024-03-31T20:00:00Z
-plan|--since|2024-10-26 12:00|--upto|+1 day>plan|--zone|./root/etc/localtime|--keep-going|--since|2024-10-26T10:00:00Z|--upto|2024-10-27T11:00:00Z
-plan|--since|2024-10-26 12:00|--upto|+1 day 90 min>plan|--zone|./root/etc/localtime|--keep-going|--since|2024-10-26T10:00:00Z|--upto|2024-10-27T12:30:00Z
-plan|--since|2024-03-25|--upto|+1 week>plan|--zone|./root/etc/localtime|--keep-going|--since|2024-03-24T23:00:00Z|--upto|2024-03-31T22:00:00Z
-quiet|--upto|+1 month|--since|2024-02-01>quiet|--zone|./root/etc/localtime|--keep-going|--upto|2024-02-29T23:00:00Z|--since|2024-01-31T23:00:00Z
-plan|--since|2024-10-27T00:30:00Z|--upto|+1 hour>plan|--zone|./root/etc/localtime|--keep-going|--since|2024-10-27T00:30:00Z|--upto|2024-10-27T01:30:00Z
-plan|--since|2024-10-27T01:30:00Z|--upto|+1 hour>plan|--zone|./root/etc/localtime|--keep-going|--since|2024-10-27T01:30:00Z|--upto|2024-10-27T02:30:00Z
-plan|--since|2024-10-27T00:30:00Z|--upto|+10 seconds>plan|--zone|./root/etc/localtime|--keep-going|--since|2024-10-27T00:30:00Z|--upto|2024-10-27T00:30:10Z
-plan|--since|2024-03-31T01:00:00Z|--upto|+0 hours>plan|--zone|./root/etc/localtime|--keep-going|--since|2024-03-31T01:00:00Z|--upto|2024-03-31T01:00:00Z
+plan|--since|2024-03-30 22:00|--upto|+8 hours>plan|--zone|./root/etc/localtime|--event-zones|--keep-going|--since|2024-03-30T21:00:00Z|--upto|2024-03-31T05:00:00Z
+plan|--since|2024-03-30 22:00|--upto|+24 hours>plan|--zone|./root/etc/localtime|--event-zones|--keep-going|--since|2024-03-30T21:00:00Z|--upto|2024-03-31T21:00:00Z
+plan|--since|2024-03-30 22:00|--upto|+1 day>plan|--zone|./root/etc/localtime|--event-zones|--keep-going|--since|2024-03-30T21:00:00Z|--upto|2024-03-31T20:00:00Z
+plan|--since|2024-03-30T21:00:00Z|--upto=+1 day>plan|--zone|./root/etc/localtime|--event-zones|--keep-going|--since|2024-03-30T21:00:00Z|--upto=2024-03-31T20:00:00Z
+plan|--since|2024-10-26 12:00|--upto|+1 day>plan|--zone|./root/etc/localtime|--event-zones|--keep-going|--since|2024-10-26T10:00:00Z|--upto|2024-10-27T11:00:00Z
+plan|--since|2024-10-26 12:00|--upto|+1 day 90 min>plan|--zone|./root/etc/localtime|--event-zones|--keep-going|--since|2024-10-26T10:00:00Z|--upto|2024-10-27T12:30:00Z
+plan|--since|2024-03-25|--upto|+1 week>plan|--zone|./root/etc/localtime|--event-zones|--keep-going|--since|2024-03-24T23:00:00Z|--upto|2024-03-31T22:00:00Z
+quiet|--upto|+1 month|--since|2024-02-01>quiet|--zone|./root/etc/localtime|--event-zones|--keep-going|--upto|2024-02-29T23:00:00Z|--since|2024-01-31T23:00:00Z
+plan|--since|2024-10-27T00:30:00Z|--upto|+1 hour>plan|--zone|./root/etc/localtime|--event-zones|--keep-going|--since|2024-10-27T00:30:00Z|--upto|2024-10-27T01:30:00Z
+plan|--since|2024-10-27T01:30:00Z|--upto|+1 hour>plan|--zone|./root/etc/localtime|--event-zones|--keep-going|--since|2024-10-27T01:30:00Z|--upto|2024-10-27T02:30:00Z
+plan|--since|2024-10-27T00:30:00Z|--upto|+10 seconds>plan|--zone|./root/etc/localtime|--event-zones|--keep-going|--since|2024-10-27T00:30:00Z|--upto|2024-10-27T00:30:10Z
+plan|--since|2024-03-31T01:00:00Z|--upto|+0 hours>plan|--zone|./root/etc/localtime|--event-zones|--keep-going|--since|2024-03-31T01:00:00Z|--upto|2024-03-31T01:00:00Z
 ROWS
 # local times that clocks skip, and texts that date can't read
 zone_usage etc/localtime=CET <<'ROWS'
@@ -347,28 +347,28 @@ zone_now
 # are read in UTC.
 printf '%b' "$zone_east" >"$machine_folder/east"
 zone_words 'etc/localtime>/opt/x' <<'ROWS'
-plan|--zone|UTC|--since|2024-07-01 12:00|--upto|+1 day>plan|--keep-going|--zone|UTC|--since|2024-07-01T12:00:00Z|--upto|2024-07-02T12:00:00Z
-plan|--since|2024-07-01 12:00|--zone|./east>plan|--keep-going|--upto|2024-07-02T07:00:00Z|--since|2024-07-01T07:00:00Z|--zone|./east
-plan|--since|2024-07-01 12:00|--zone=../machine/east|x>plan|--keep-going|--upto|2024-07-02T07:00:00Z|--since|2024-07-01T07:00:00Z|--zone=../machine/east|x
-quiet|--zone|PWD/east|--since|2024-07-01 12:00|--upto|13:00 2024-07-01>quiet|--keep-going|--zone|PWD/east|--since|2024-07-01T07:00:00Z|--upto|2024-07-01T08:00:00Z
-upcoming|x|--after=2024-07-01|--zone|./east|--|y>upcoming|--keep-going|x|--after=2024-06-30T19:00:00Z|--zone|./east|--|y
-check|--zone|./east>check|--zone|./east
-check|--zone=x y>check|--zone=x y
-check|x|--zone>check|x|--zone
-check|--zone|--|x>check|--zone|--|x
-upcoming|--zone=|--after|2024-07-01 12:00>upcoming|--keep-going|--zone=|--after|2024-07-01T12:00:00Z
-upcoming|--zone|Europe//Oslo|--after|2024-07-01 12:00>upcoming|--keep-going|--zone|Europe//Oslo|--after|2024-07-01T12:00:00Z
-upcoming|--zone|UTC+5|--after|2024-07-01 12:00>upcoming|--keep-going|--zone|UTC+5|--after|2024-07-01T12:00:00Z
-upcoming|--zone|EST5EDT,M3.2.0,M11.1.0|--after|2024-07-01 12:00>upcoming|--keep-going|--zone|EST5EDT,M3.2.0,M11.1.0|--after|2024-07-01T12:00:00Z
-upcoming|--zone|No/Where|--after|2024-07-01 12:00>upcoming|--keep-going|--zone|No/Where|--after|2024-07-01T12:00:00Z
-upcoming|--after|2024-07-01 12:00|--zone>upcoming|--keep-going|--after|2024-07-01T12:00:00Z|--zone
+plan|--zone|UTC|--since|2024-07-01 12:00|--upto|+1 day>plan|--event-zones|--keep-going|--zone|UTC|--since|2024-07-01T12:00:00Z|--upto|2024-07-02T12:00:00Z
+plan|--since|2024-07-01 12:00|--zone|./east>plan|--event-zones|--keep-going|--upto|2024-07-02T07:00:00Z|--since|2024-07-01T07:00:00Z|--zone|./east
+plan|--since|2024-07-01 12:00|--zone=../machine/east|x>plan|--event-zones|--keep-going|--upto|2024-07-02T07:00:00Z|--since|2024-07-01T07:00:00Z|--zone=../machine/east|x
+quiet|--zone|PWD/east|--since|2024-07-01 12:00|--upto|13:00 2024-07-01>quiet|--event-zones|--keep-going|--zone|PWD/east|--since|2024-07-01T07:00:00Z|--upto|2024-07-01T08:00:00Z
+upcoming|x|--after=2024-07-01|--zone|./east|--|y>upcoming|--event-zones|--keep-going|x|--after=2024-06-30T19:00:00Z|--zone|./east|--|y
+check|--zone|./east>check|--event-zones|--zone|./east
+check|--zone=x y>check|--event-zones|--zone=x y
+check|x|--zone>check|--event-zones|x|--zone
+check|--zone|--|x>check|--event-zones|--zone|--|x
+upcoming|--zone=|--after|2024-07-01 12:00>upcoming|--event-zones|--keep-going|--zone=|--after|2024-07-01T12:00:00Z
+upcoming|--zone|Europe//Oslo|--after|2024-07-01 12:00>upcoming|--event-zones|--keep-going|--zone|Europe//Oslo|--after|2024-07-01T12:00:00Z
+upcoming|--zone|UTC+5|--after|2024-07-01 12:00>upcoming|--event-zones|--keep-going|--zone|UTC+5|--after|2024-07-01T12:00:00Z
+upcoming|--zone|EST5EDT,M3.2.0,M11.1.0|--after|2024-07-01 12:00>upcoming|--event-zones|--keep-going|--zone|EST5EDT,M3.2.0,M11.1.0|--after|2024-07-01T12:00:00Z
+upcoming|--zone|No/Where|--after|2024-07-01 12:00>upcoming|--event-zones|--keep-going|--zone|No/Where|--after|2024-07-01T12:00:00Z
+upcoming|--after|2024-07-01 12:00|--zone>upcoming|--event-zones|--keep-going|--after|2024-07-01T12:00:00Z|--zone
 ROWS
 zone_words etc/localtime=EAST <<'ROWS'
-check|--|--zone|UTC>check|--zone|./root/etc/localtime|--|--zone|UTC
-check|--|--zone=UTC>check|--zone|./root/etc/localtime|--|--zone=UTC
-check|--zones=UTC|-zone|zone>check|--zone|./root/etc/localtime|--zones=UTC|-zone|zone
-check|x>check|--zone|./root/etc/localtime|x
-upcoming|--after|2024-07-01 12:00|--|--zone|UTC>upcoming|--zone|./root/etc/localtime|--keep-going|--after|2024-07-01T07:00:00Z|--|--zone|UTC
+check|--|--zone|UTC>check|--zone|./root/etc/localtime|--event-zones|--|--zone|UTC
+check|--|--zone=UTC>check|--zone|./root/etc/localtime|--event-zones|--|--zone=UTC
+check|--zones=UTC|-zone|zone>check|--zone|./root/etc/localtime|--event-zones|--zones=UTC|-zone|zone
+check|x>check|--zone|./root/etc/localtime|--event-zones|x
+upcoming|--after|2024-07-01 12:00|--|--zone|UTC>upcoming|--zone|./root/etc/localtime|--event-zones|--keep-going|--after|2024-07-01T07:00:00Z|--|--zone|UTC
 ROWS
 
 # The program itself in a machine's zone.
@@ -380,3 +380,20 @@ etc/localtime=CET S/u=0\x206\x20*\x20*\x20*\x20x|upcoming --zone UTC --after 202
 etc/localtime=CET S/u=0\x206\x20*\x20*\x20*\x20x|quiet --since 2024-07-01T00:00:00Z --upto 2024-07-01T06:00:00Z|2024-07-01T00:00:00Z\t2024-07-01T04:00:00Z\t14400\n2024-07-01T04:00:00Z\t2024-07-01T06:00:00Z\t7200\n||0
 etc/localtime=no\x20zone\n|check||agenda: zone: BadZone\n|1
 ROWS
+
+# The zones of events. They are read from the time zone database of the machine that runs the script.
+zone_answers <<'ROWS'
+etc/localtime=CET usr/share/zoneinfo/No/Where=EAST *a.timer U/a.timer=[Timer]\nOnCalendar=02:30\x20No/Where\n|check|root/usr/lib/systemd/system/a.timer:2: error: time zone in '02:30 No/Where': unknown [Zone]\n||1
+*a.timer U/a.timer=[Timer]\nOnCalendar=02:30\x20No/Where\nOnCalendar=03:00\n|upcoming --after 2024-07-01T00:00:00Z|2024-07-01T03:00:00Z\ta.timer\ta.service\n|root/usr/lib/systemd/system/a.timer:2: error: time zone in '02:30 No/Where': unknown [Zone]\n|1
+*a.timer U/a.timer=[Timer]\nOnCalendar=02:30\x20No/Where\n|--strict upcoming --after 2024-07-01T00:00:00Z||agenda: a.timer: line 2: part 8: Zone\n|1
+*a.timer U/a.timer=[Timer]\nOnCalendar=02:30\x20utc\n|--strict upcoming --event-zones --after 2024-07-01T00:00:00Z|2024-07-01T02:30:00Z\ta.timer\ta.service\n||0
+ROWS
+if [ -r /usr/share/zoneinfo/Asia/Tokyo ]; then
+  zone_answers <<'ROWS'
+etc/localtime=CET *a.timer U/a.timer=[Timer]\nOnCalendar=02:30\x20Asia/Tokyo\nOnCalendar=02:30\n|upcoming --after 2024-03-30T18:00:00Z|2024-03-31T17:30:00Z\ta.timer\ta.service\n||0
+etc/localtime=CET *a.timer U/a.timer=[Timer]\nOnCalendar=02:30\x20Asia/Tokyo\nOnCalendar=02:30\n|--strict upcoming --after 2024-03-31T18:00:00Z|2024-04-01T00:30:00Z\ta.timer\ta.service\n||0
+*a.timer U/a.timer=[Timer]\nOnCalendar=daily\n E/a.timer.d/x.conf=[Timer]\nOnCalendar=\nOnCalendar=12:00\x20Asia/Tokyo|quiet --since 2024-01-01T00:00:00Z|2024-01-01T00:00:00Z\t2024-01-01T03:00:00Z\t10800\n2024-01-01T03:00:00Z\t2024-01-02T00:00:00Z\t75600\n||0
+ROWS
+else
+  echo "agenda-machine: skipped the zones of events, since this machine has no tz database"
+fi

@@ -241,32 +241,47 @@ machine_whole
 machine_newlines
 
 machine_words <<'ROWS'
-check>check|FILES
-check|--since|yesterday|x.timer>check|FILES|--since|yesterday|x.timer
-check|--|--upto>check|FILES|--|--upto
-check|--help>check|FILES|--help
-plan|--since|2024-01-01T00:00:00Z|--upto|2024-01-02T00:00:00Z>plan|FILES|--keep-going|--since|2024-01-01T00:00:00Z|--upto|2024-01-02T00:00:00Z
-plan|--limit|5|--since=2024-01-01T00:00:00Z|x y|--upto=2024-01-02T00:00:00Z|z>plan|FILES|--keep-going|--limit|5|--since=2024-01-01T00:00:00Z|x y|--upto=2024-01-02T00:00:00Z|z
-quiet|--least|9|--since|2024-01-01T00:00:00Z>quiet|FILES|--keep-going|--upto|2024-01-02T00:00:00Z|--least|9|--since|2024-01-01T00:00:00Z
-upcoming|x|--after|2024-01-01T00:00:00Z|--|y>upcoming|FILES|--keep-going|x|--after|2024-01-01T00:00:00Z|--|y
+check>check|FILES|--event-zones
+check|--since|yesterday|x.timer>check|FILES|--event-zones|--since|yesterday|x.timer
+check|--|--upto>check|FILES|--event-zones|--|--upto
+check|--help>check|FILES|--event-zones|--help
+plan|--since|2024-01-01T00:00:00Z|--upto|2024-01-02T00:00:00Z>plan|FILES|--event-zones|--keep-going|--since|2024-01-01T00:00:00Z|--upto|2024-01-02T00:00:00Z
+plan|--limit|5|--since=2024-01-01T00:00:00Z|x y|--upto=2024-01-02T00:00:00Z|z>plan|FILES|--event-zones|--keep-going|--limit|5|--since=2024-01-01T00:00:00Z|x y|--upto=2024-01-02T00:00:00Z|z
+quiet|--least|9|--since|2024-01-01T00:00:00Z>quiet|FILES|--event-zones|--keep-going|--upto|2024-01-02T00:00:00Z|--least|9|--since|2024-01-01T00:00:00Z
+upcoming|x|--after|2024-01-01T00:00:00Z|--|y>upcoming|FILES|--event-zones|--keep-going|x|--after|2024-01-01T00:00:00Z|--|y
 ROWS
 
 # The caller's own --keep-going, which agenda accepts once, and --strict. After a `--`, and as the value of
 # another option, the text is no option.
 machine_words <<'ROWS'
-plan|--keep-going|--since|2024-01-01T00:00:00Z>plan|FILES|--upto|2024-01-02T00:00:00Z|--keep-going|--since|2024-01-01T00:00:00Z
-quiet|--since|2024-01-01T00:00:00Z|x|--keep-going>quiet|FILES|--upto|2024-01-02T00:00:00Z|--since|2024-01-01T00:00:00Z|x|--keep-going
-upcoming|--after|2024-01-01T00:00:00Z|--keep-going=x>upcoming|FILES|--after|2024-01-01T00:00:00Z|--keep-going=x
-upcoming|--keep-going|--keep-going|--after|2024-01-01T00:00:00Z>upcoming|FILES|--keep-going|--keep-going|--after|2024-01-01T00:00:00Z
-upcoming|--after|2024-01-01T00:00:00Z|--|--keep-going>upcoming|FILES|--keep-going|--after|2024-01-01T00:00:00Z|--|--keep-going
-upcoming|--after|2024-01-01T00:00:00Z|--keep-goings|keep-going>upcoming|FILES|--keep-going|--after|2024-01-01T00:00:00Z|--keep-goings|keep-going
-upcoming|--after|2024-01-01T00:00:00Z|--zone|--keep-going>upcoming|FILES|--keep-going|--after|2024-01-01T00:00:00Z|--zone|--keep-going
---strict|plan|--since|2024-01-01T00:00:00Z>plan|FILES|--upto|2024-01-02T00:00:00Z|--since|2024-01-01T00:00:00Z
---strict|quiet|--since|2024-01-01T00:00:00Z|--upto|2024-01-02T00:00:00Z>quiet|FILES|--since|2024-01-01T00:00:00Z|--upto|2024-01-02T00:00:00Z
---strict|--strict|upcoming|--after|2024-01-01T00:00:00Z>upcoming|FILES|--after|2024-01-01T00:00:00Z
---strict|upcoming|--after|2024-01-01T00:00:00Z|--keep-going>upcoming|FILES|--after|2024-01-01T00:00:00Z|--keep-going
---strict|check>check|FILES
-check|--keep-going>check|FILES|--keep-going
+plan|--keep-going|--since|2024-01-01T00:00:00Z>plan|FILES|--event-zones|--upto|2024-01-02T00:00:00Z|--keep-going|--since|2024-01-01T00:00:00Z
+quiet|--since|2024-01-01T00:00:00Z|x|--keep-going>quiet|FILES|--event-zones|--upto|2024-01-02T00:00:00Z|--since|2024-01-01T00:00:00Z|x|--keep-going
+upcoming|--after|2024-01-01T00:00:00Z|--keep-going=x>upcoming|FILES|--event-zones|--after|2024-01-01T00:00:00Z|--keep-going=x
+upcoming|--keep-going|--keep-going|--after|2024-01-01T00:00:00Z>upcoming|FILES|--event-zones|--keep-going|--keep-going|--after|2024-01-01T00:00:00Z
+upcoming|--after|2024-01-01T00:00:00Z|--|--keep-going>upcoming|FILES|--event-zones|--keep-going|--after|2024-01-01T00:00:00Z|--|--keep-going
+upcoming|--after|2024-01-01T00:00:00Z|--keep-goings|keep-going>upcoming|FILES|--event-zones|--keep-going|--after|2024-01-01T00:00:00Z|--keep-goings|keep-going
+upcoming|--after|2024-01-01T00:00:00Z|--zone|--keep-going>upcoming|FILES|--event-zones|--keep-going|--after|2024-01-01T00:00:00Z|--zone|--keep-going
+--strict|plan|--since|2024-01-01T00:00:00Z>plan|FILES|--event-zones|--upto|2024-01-02T00:00:00Z|--since|2024-01-01T00:00:00Z
+--strict|quiet|--since|2024-01-01T00:00:00Z|--upto|2024-01-02T00:00:00Z>quiet|FILES|--event-zones|--since|2024-01-01T00:00:00Z|--upto|2024-01-02T00:00:00Z
+--strict|--strict|upcoming|--after|2024-01-01T00:00:00Z>upcoming|FILES|--event-zones|--after|2024-01-01T00:00:00Z
+--strict|upcoming|--after|2024-01-01T00:00:00Z|--keep-going>upcoming|FILES|--event-zones|--after|2024-01-01T00:00:00Z|--keep-going
+--strict|check>check|FILES|--event-zones
+check|--keep-going>check|FILES|--event-zones|--keep-going
+ROWS
+
+# The caller's own --event-zones, which agenda accepts once too.
+machine_words <<'ROWS'
+check|--event-zones>check|FILES|--event-zones
+check|x|--event-zones|--crontab|y>check|FILES|x|--event-zones|--crontab|y
+check|--event-zones|--event-zones>check|FILES|--event-zones|--event-zones
+check|--event-zones=x>check|FILES|--event-zones=x
+check|--event-zone|event-zones>check|FILES|--event-zones|--event-zone|event-zones
+check|--|--event-zones>check|FILES|--event-zones|--|--event-zones
+check|--zone|--event-zones>check|FILES|--event-zones|--zone|--event-zones
+plan|--event-zones|--since|2024-01-01T00:00:00Z>plan|FILES|--keep-going|--upto|2024-01-02T00:00:00Z|--event-zones|--since|2024-01-01T00:00:00Z
+quiet|--since|2024-01-01T00:00:00Z|--keep-going|--event-zones>quiet|FILES|--upto|2024-01-02T00:00:00Z|--since|2024-01-01T00:00:00Z|--keep-going|--event-zones
+upcoming|--after|2024-01-01T00:00:00Z|--|--event-zones>upcoming|FILES|--event-zones|--keep-going|--after|2024-01-01T00:00:00Z|--|--event-zones
+--strict|upcoming|--after|2024-01-01T00:00:00Z|--event-zones>upcoming|FILES|--after|2024-01-01T00:00:00Z|--event-zones
 ROWS
 
 # --strict changes nothing about sources.
