@@ -1,6 +1,6 @@
 # Compares agenda's answers about events in zones with those of systemd, in three stages. The directory
-# `zones` has the files `changes`, in the form of zone-changes.awk, `events`, whose lines have a zone, a time
-# and an event, and the answers, one per line, in `agenda` and in `systemd`.
+# `zones` has the files `changes`, in the form of zone-changes.awk, `events`, whose lines have the zone of an event, a
+# time, the event and the zone of the machine, and the answers, one per line, in `agenda` and in `systemd`.
 #
 #   stage=1  The first difference of each chain goes to `differences`. If systemd gives up an infinite loop, it doesn't say at which
 #            start: then each start is to be asked for alone, after the start before it; that is written to `steps`.
@@ -19,6 +19,7 @@ function read_changes(line, parts, zone) {
     after[zone, changes_of[zone]] = parts[4]
     keeps_flag[zone, changes_of[zone]] = parts[5] == parts[6]
     drops_flag[zone, changes_of[zone]] = parts[5] > parts[6]
+    abbreviations[zone] = abbreviations[zone] " " parts[7] " "
   }
 }
 
@@ -62,9 +63,10 @@ function next_line(file, line) {
   return line
 }
 
-# Writes a difference to be judged: the chain, the time after which was asked, and the answers of agenda and systemd.
-function write_difference(chain, zone, from, text, agenda, systemd) {
-  print chain "\t" zone "\t" from "\t" text "\t" agenda "\t" systemd >(zones "/differences")
+# Writes a difference to be judged: the chain, the event with its zones, the time after which was asked, and the
+# answers of agenda and systemd.
+function write_difference(chain, event, from, agenda, systemd) {
+  print chain "\t" event[1] "\t" from "\t" event[3] "\t" agenda "\t" systemd "\t" event[4] >(zones "/differences")
 }
 
 # Writes how a chain differs: its first difference or, if systemd has no answer to the whole, each of its
@@ -76,10 +78,10 @@ function write_differences(chain, line, agenda, systemd, parts, ours, theirs, n,
   from = parts[2]
   for (at = 1; at <= n; at++) {
     if (systemd == "loop") {
-      write_difference(chain, parts[1], from, parts[3], ours[at], "?")
-      print parts[1] "\t" from "\t" parts[3] >(zones "/steps")
+      write_difference(chain, parts, from, ours[at], "?")
+      print parts[1] "\t" from "\t" parts[3] "\t" parts[4] >(zones "/steps")
     } else if (ours[at] != theirs[at] && !(ours[at] == "none" && theirs[at] == "")) {
-      write_difference(chain, parts[1], from, parts[3], ours[at], theirs[at] == "" ? "none" : theirs[at])
+      write_difference(chain, parts, from, ours[at], theirs[at] == "" ? "none" : theirs[at])
       return
     }
     from = ours[at]
@@ -101,7 +103,7 @@ function compare_chains(line, agenda, systemd, chain) {
   }
 }
 
-# Reads the next difference, and sets chain, zone, from, text, agenda and systemd.
+# Reads the next difference, and sets chain, zone, from, text, agenda, systemd and home.
 function next_difference(line, parts) {
   if ((getline line <(zones "/differences")) <= 0) return 0
   split(line, parts, "\t")
@@ -111,6 +113,7 @@ function next_difference(line, parts) {
   text = parts[4]
   agenda = parts[5]
   systemd = parts[6] == "?" ? next_line("steps.systemd") : parts[6]
+  home = parts[7]
   number++
   return 1
 }
@@ -127,7 +130,7 @@ function write_questions(end, at, second, upto) {
     if (second < first_new(zone, at)) second = first_new(zone, at)
     upto = at < changes_of[zone] && change_at[zone, at + 1] <= end ? change_at[zone, at + 1] - 1 : end
     if (second <= upto) {
-      print "UTC\t" write_time(second + offset_at(zone, second) - 1) "\t" text >(zones "/questions")
+      print "UTC\t" write_time(second + offset_at(zone, second) - 1) "\t" text "\tUTC" >(zones "/questions")
       print number "\t" write_time(upto + offset_at(zone, second)) "\t" (upto == end ? agenda : "") >(zones "/questions.of")
     }
     if (upto == end) break
@@ -222,9 +225,10 @@ function kind_of_fold(at, start, asked, kind) {
   return kind
 }
 
-# Returns the kind of the difference, or `unknown`. Its cause is the last change before the time asked about,
-# or one up to the later start.
+# Returns the kind of the difference, or `unknown`. Its cause is that systemd reads the zone as an abbreviation, or the
+# last change before the time asked about, or one up to the later start.
 function kind_of(end, at, kind) {
+  if (index(abbreviations[home], " " zone " ")) return kind = "abbreviations of the machine's zone"
   end = systemd !~ /^[0-9]/ || agenda != "none" && agenda > systemd ? agenda : systemd
   end = read_time(end == "none" ? from : end)
   for (at = last_change(zone, read_time(from)); at <= changes_of[zone] && (!at || change_at[zone, at] <= end); at++) {

@@ -4,9 +4,10 @@
 # the same size, the same flags and the same time of day, one is chosen, before 2038, because cron's clock
 # ends there. The same `seed` makes the same texts.
 #
-# With form=calendar, a line has a zone, the time after which to ask, and an event. With form=cron, it has a
-# zone, the start and the end of a span, the time at which the clock is put forward in it, or `never`, and a
-# rule. The parts are separated by tabs, and times are in UTC.
+# With form=calendar, a line has the zone of an event, the time after which to ask, the event, and the zone of the
+# machine, which is the same. With form=named, one of the two zones is one of `homes`, and the change is one of the
+# other. With form=cron, a line has a zone, the start and the end of a span, the time at which the clock is put
+# forward in it, or `never`, and a rule. The parts are separated by tabs, and times are in UTC.
 
 # Returns a number from 0 up to n, excluded.
 function roll(n) {
@@ -72,6 +73,16 @@ function event_text(fine, text) {
   return text (fine ? pick("* * * " hour " " event_hours()) : event_hours()) ":" event_minutes(fine) event_seconds()
 }
 
+# Sets own and home to the zones of the next events and of their machine.
+function choose_zones(other) {
+  own = home = zone
+  if (form != "named") return
+  do other = pick(homes)
+  while (other == zone)
+  if (one_in(2)) own = other
+  else home = other
+}
+
 # Writes events around the change: for times a day, some hours and some minutes before it, and during or after it.
 function write_events(size, moments, kind, at) {
   size = after < before ? before - after : 0
@@ -79,8 +90,10 @@ function write_events(size, moments, kind, at) {
   moments[2] = second - 60 * (1 + roll(240))
   moments[3] = second - 1 - roll(1200)
   moments[4] = one_in(3) ? second : second + 60 * roll(size / 60 + 40)
-  for (kind = 1; kind <= 4; kind++)
-    for (at = 0; at < texts; at++) print zone "\t" write_time(moments[kind]) "\t" event_text(kind > 2 || (kind == 2 && at % 2))
+  for (kind = 1; kind <= 4; kind++) {
+    choose_zones()
+    for (at = 0; at < texts; at++) print own "\t" write_time(moments[kind]) "\t" event_text(kind > 2 || (kind == 2 && at % 2)) "\t" home
+  }
 }
 
 function cron_days() {

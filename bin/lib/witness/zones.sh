@@ -14,8 +14,12 @@ zones=(
 )
 # systemd-analyze prints no times in UTC for this zone, because it has no summer time and was last on UTC
 zones_of_cron=(Africa/Sao_Tome)
-# the number of events for each of four times around a change, and the number of rules
+# zones whose names are abbreviations of other zones, and zones of machines, for events that end with a zone of their own
+zones_of_events=(CET EET)
+homes=(Africa/Cairo America/New_York America/Sao_Paulo Asia/Kathmandu Australia/Lord_Howe Europe/Oslo Pacific/Apia)
+# the numbers of events for each of four times around a change, without and with a zone of their own, and the number of rules
 zone_events=6
+named_events=1
 zone_rules=24
 
 # Runs the function $1 on shares of the lines of the file $2 in parallel, and prints all output in order.
@@ -32,32 +36,33 @@ in_shares() {
   for ((share = 1; share <= shares; share++)); do cat "$2.share.$share"; done
 }
 
-# Asks agenda for $asked starts of each event of standard input. The lines have a zone, a time and an event.
-# Prints one answer per line.
+# Asks agenda for $asked starts of each event of standard input. The lines have the zone of the event, a time, the
+# event and the zone of the machine. If that is another zone, the event ends with its own. Prints one answer per line.
 agenda_in_zones() {
-  local zone after text
+  local zone after text home named
   ulimit -t 60
-  while IFS=$'\t' read -r zone after text; do
-    "$program" next --zone "$zone" --after "$after" --count "$asked" "--calendar=$text" </dev/null 2>&1
+  while IFS=$'\t' read -r zone after text home; do
+    [ "$zone" = "$home" ] && named= || named=" $zone"
+    "$program" next --zone "$home" ${named:+--event-zones} --after "$after" --count "$asked" "--calendar=$text$named" </dev/null 2>&1
     echo "= $?"
   done | awk '
     !/^= [0-9]+$/ { answer = answer (answer == "" ? "" : " ") $0; next }
     { print ($2 == 0 ? answer : "status " $2 ": " answer); answer = "" }'
 }
 
-# Asks systemd for $asked starts of each event of standard input. The lines have a zone, a time and an event.
-# Prints one answer per line.
+# Asks systemd in the same way.
 systemd_in_zones() {
-  local zone after text last_zone='' last_after=''
+  local zone after text home last_home='' last_after=''
   local -a texts=()
-  while IFS=$'\t' read -r zone after text; do
-    if [ "$zone $after" != "$last_zone $last_after" ]; then
-      ask_systemd_in "$last_zone" "$last_after" "${texts[@]}"
-      last_zone=$zone last_after=$after texts=()
+  while IFS=$'\t' read -r zone after text home; do
+    if [ "$home $after" != "$last_home $last_after" ]; then
+      ask_systemd_in "$last_home" "$last_after" "${texts[@]}"
+      last_home=$home last_after=$after texts=()
     fi
+    [ "$zone" = "$home" ] || text+=" $zone"
     texts+=("$text")
   done
-  ask_systemd_in "$last_zone" "$last_after" "${texts[@]}"
+  ask_systemd_in "$last_home" "$last_after" "${texts[@]}"
 }
 
 # Asks systemd in the zone $1 for $asked starts after $2 of each event from $3 on. Prints one answer per line.
@@ -109,12 +114,12 @@ list_changes() {
 
 # Writes texts of the form $2, $3 for each time or change, around the changes of the directory $1.
 make_zone_texts() {
-  awk -f "$parts/zone-clock.awk" -f "$parts/zone-texts.awk" -v form="$2" -v texts="$3" -v seed="$seed" "$1/changes"
+  awk -f "$parts/zone-clock.awk" -f "$parts/zone-texts.awk" -v form="$2" -v texts="$3" -v seed="$seed" -v homes="${homes[*]}" "$1/changes"
 }
 
-# Runs the stage $1 of zone-judge.awk.
+# Runs the stage $2 of zone-judge.awk on the directory $1.
 judge_zones() {
-  awk -f "$parts/zone-clock.awk" -f "$parts/zone-judge.awk" -v zones="$work/zones" -v stage="$1" </dev/null
+  awk -f "$parts/zone-clock.awk" -f "$parts/zone-judge.awk" -v zones="$1" -v stage="$2" </dev/null
 }
 
 # Counts the verdicts of standard input, which are about the $3 $1, and prints a table below the line $2. An
@@ -139,29 +144,35 @@ count_verdicts() {
   [ "$unknown" -le "$most_shown" ] || failed=$((failed + unknown - most_shown))
 }
 
-# Prints the events that docs/DIFFERENCES.md has as examples around clock changes, one per line in the form of
-# zone-texts.awk.
+# Prints the events that docs/DIFFERENCES.md has as examples below the heading $1, one per line in the form of
+# zone-texts.awk. The zone of an event is the machine's, or its last word if $2 is named.
 list_examples() {
-  awk '
-    /^## / { inside = $0 == "## Changes of the clock" }
+  awk -v headline="## $1" -v form="$2" '
+    /^## / { inside = $0 == headline }
     inside && match($0, /[|] [A-Za-z_\/]+, `[^`]+`, after [0-9TZ:-]+ [|]/) {
       split(substr($0, RSTART + 2, RLENGTH - 4), words, /, `|`, after /)
-      print words[1] "\t" words[3] "\t" words[2]
+      zone = words[1]
+      if (form == "named") {
+        zone = words[2]
+        sub(/.* /, "", zone)
+        words[2] = substr(words[2], 1, length(words[2]) - length(zone) - 1)
+      }
+      print zone "\t" words[3] "\t" words[2] "\t" words[1]
     }' "$top/docs/DIFFERENCES.md"
 }
 
-# Prints how many texts of the kind $2 are in the file $1, around how many changes and in how many zones.
+# Prints how many texts of the kind $2 are in the file $1, around how many changes and of how many zones.
 # There are $3 texts for each change.
 say_texts() {
   awk -F '\t' -v kind="$2" -v each="$3" '
     { zones[$1] }
     END {
       for (zone in zones) count++
-      printf "%s in zones: %d, around %d changes in %d zones", kind, NR, NR / each, count
+      printf "%s: %d, around %d changes in %d zones", kind, NR, NR / each, count
     }' "$1"
 }
 
-# Compares events in zones.
+# Compares events in zones, and events that end with a zone of their own.
 compare_zone_events() {
   local directory=$work/zones
   if ! list_changes "$directory" "${zones[@]}"; then
@@ -169,19 +180,29 @@ compare_zone_events() {
     return
   fi
   make_zone_texts "$directory" calendar $zone_events >"$directory/events"
-  list_examples >>"$directory/events"
+  list_examples "Changes of the clock" calendar >>"$directory/events"
+  compare_events_in "$directory" "events in zones" $((4 * zone_events))
+  directory=$work/named-zones
+  list_changes "$directory" "${zones[@]}" "${zones_of_events[@]}"
+  make_zone_texts "$directory" named $named_events >"$directory/events"
+  list_examples "Zones of events" named >>"$directory/events"
+  compare_events_in "$directory" "events that name their zone" $((4 * named_events))
+}
+
+# Compares the events of the directory $1, which are called $2. There are $3 for each change.
+compare_events_in() {
   asked=$starts
-  in_shares agenda_in_zones "$directory/events" >"$directory/agenda"
-  in_shares systemd_in_zones "$directory/events" >"$directory/systemd"
-  judge_zones 1
+  in_shares agenda_in_zones "$1/events" >"$1/agenda"
+  in_shares systemd_in_zones "$1/events" >"$1/systemd"
+  judge_zones "$1" 1
   asked=1
-  in_shares systemd_in_zones "$directory/steps" >"$directory/steps.systemd"
-  judge_zones 2
-  in_shares systemd_in_zones "$directory/questions" >"$directory/questions.systemd"
-  judge_zones 3 | paste - "$directory/events" |
-    awk -F '\t' -v OFS='\t' '$1 == "" || $1 == "unknown" { print "unknown", "\047" $NF "\047 in " $(NF - 2) ": " $2; next } { print $1 }' >"$directory/verdicts"
-  count_verdicts events "$(say_texts "$directory/events" events $((4 * zone_events))), agenda beside \
-$(systemd-analyze --version | head -n 1)" "$(wc -l <"$directory/events")" <"$directory/verdicts"
+  in_shares systemd_in_zones "$1/steps" >"$1/steps.systemd"
+  judge_zones "$1" 2
+  in_shares systemd_in_zones "$1/questions" >"$1/questions.systemd"
+  judge_zones "$1" 3 | paste "$1/events" - |
+    awk -F '\t' -v OFS='\t' '$5 == "" || $5 == "unknown" { print "unknown", "\047" $3 "\047 of " $1 " in " $4 ": " $6; next } { print $5 }' >"$1/verdicts"
+  count_verdicts "$2" "$(say_texts "$1/events" "$2" "$3"), agenda beside \
+$(systemd-analyze --version | head -n 1)" "$(wc -l <"$1/events")" <"$1/verdicts"
 }
 
 # Compares crontabs in zones, with the cron version $1.
@@ -194,6 +215,6 @@ compare_zone_crontabs() {
   make_zone_texts "$directory" cron $zone_rules >"$directory/rules"
   in_shares crontabs_in_zones "$directory/rules" >"$directory/starts"
   cut -f 2- "$directory/starts" | awk -F '\t' -v OFS='\t' '$1 == "unknown" { print $1, $3 ": " $2; next } { print $1 }' >"$directory/verdicts"
-  count_verdicts rules "$(say_texts "$directory/rules" "rules of cron" $zone_rules), agenda beside $1; \
+  count_verdicts rules "$(say_texts "$directory/rules" "rules of cron in zones" $zone_rules), agenda beside $1; \
 $(awk '{ starts += $1 } END { printf "%d", starts }' "$directory/starts") starts" "$(wc -l <"$directory/rules")" <"$directory/verdicts"
 }
