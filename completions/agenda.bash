@@ -58,7 +58,7 @@ _agenda() {
     esac
     $split && return
 
-    local sources='--zone= --crontab= --system-crontab= --cron-d= --spool= --help'
+    local sources='--zone= --event-zones --crontab= --system-crontab= --cron-d= --spool= --help'
     local jobs="--keep-going $sources"
     case $command:$cur in
         :-*)
@@ -68,7 +68,7 @@ _agenda() {
             mapfile -t COMPREPLY < <(compgen -W 'next plan upcoming quiet check steps explain' -- "$cur")
             ;;
         next:*)
-            mapfile -t COMPREPLY < <(compgen -W '--after= --zone= --count= --cron= --calendar= --help' -- "$cur")
+            mapfile -t COMPREPLY < <(compgen -W '--after= --zone= --event-zones --count= --cron= --calendar= --help' -- "$cur")
             [[ ${COMPREPLY-} == *= ]] && compopt -o nospace
             ;;
         plan:-*)

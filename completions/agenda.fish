@@ -29,6 +29,7 @@ complete -c agenda -n $after -l after -x -d 'Only starts later than this time'
 
 set -l zone '__fish_seen_subcommand_from next plan upcoming quiet check'
 complete -c agenda -n $zone -l zone -r -F -d 'The time zone of the rules [UTC]' -a '(__fish_agenda_zones)'
+complete -c agenda -n $zone -l event-zones -d 'Read events that end with a time zone'
 
 set -l next '__fish_seen_subcommand_from next'
 complete -c agenda -n $next -l count -x -d 'How many starts, from 1 to 1000 [1]'
