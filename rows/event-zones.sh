@@ -404,6 +404,7 @@ END
   event_zones_of_timers
   event_zones_of_findings
   event_zones_all
+  event_zones_cut
   event_zones_of_root
   event_zones_of_opens
 }
@@ -586,6 +587,20 @@ event_zones_all() {
     sort -s -t "$tab" -k 1,1 -o "$work/starts" "$work/starts"
     event_zones_run plan --event-zones --since "${since}T00:00:00Z" --upto "${upto}T00:00:00Z" "${timers[@]}"
     compare_agenda "noon of $day in each of $number zones, by the events of ${#timers[@]} timers" "$work/starts"
+  done
+}
+
+# A zone that ends at each of its bytes, and one with a byte 0 at each place, is no zone.
+event_zones_cut() {
+  local zone=Europe/Oslo at
+  for ((at = 0; at < ${#zone}; at++)); do
+    if [ $at != 0 ]; then
+      event_zones_run next --event-zones --after 2024-01-01T00:00:00Z --calendar "12:00 ${zone:0:at}"
+      is_refused "the zone ${zone:0:at}" "rule: part 8: Zone" 1
+    fi
+    printf '[Timer]\nOnCalendar=12:00 %s\0%s\n' "${zone:0:at + 1}" "${zone:at + 1}" >"$event_zones_directory/zero.timer"
+    event_zones_run upcoming --event-zones --after 2024-01-01T00:00:00Z zero.timer
+    is_refused "a zone with a byte 0 behind $((at + 1)) bytes" "zero.timer: line 2: part 8: Zone" 1
   done
 }
 

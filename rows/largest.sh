@@ -193,6 +193,32 @@ largest_quotes() {
     "on.timer:2: error: hour in 'Mon$(printf '%61s' '')'...: out of range 0-23 [OutOfRange]"$'\n' '' 1
 }
 
+# Zones of events: 30,000 names that are no zone, a name of a megabyte, and one zone 25,000 times.
+largest_zones() {
+  local long
+  awk 'BEGIN { print "[Timer]"; for (n = 1; n <= 30000; n++) printf "OnCalendar=1:0 N%d\nOnCalendar=\n", n }' >"$largest_folder/zones.timer"
+  largest_run zones.timer 0 plan "${largest_day[@]}" --event-zones zones.timer
+  is_refused "30,000 events with different zones that are unknown" "zones.timer: line 2: part 8: Zone" 1
+  {
+    echo 'zones.timer: warning: no OnCalendar= event, so no start is planned [NoEvents]'
+    awk 'BEGIN { for (n = 1; n <= 30000; n++) printf "zones.timer:%d: error: time zone in \0471:0 N%d\047: unknown [Zone]\n", 2 * n, n }'
+  } >"$work/findings.wanted"
+  largest_run zones.timer 0 check --event-zones zones.timer
+  compare "check of 30,000 events with different zones that are unknown" "$work/findings.wanted" /dev/null 1
+  long=$(yes n | tr -d '\n' | head -c 1048557)
+  printf '[Timer]\nOnCalendar=1:0 %s' "${long:0:1048553}" >"$largest_folder/zones.timer"
+  largest_run zones.timer 0 check --event-zones zones.timer
+  compare_texts "check of a zone of 1,048,553 bytes" \
+    "zones.timer:2: error: time zone in '1:0 ${long:0:60}'...: unknown [Zone]"$'\n' '' 1
+  if ! [ -e /usr/share/zoneinfo/Europe/Oslo ]; then
+    echo "30,000 events with one zone: skipped, since /usr/share/zoneinfo is not here"
+    return
+  fi
+  { echo '[Timer]' && yes $'OnCalendar=1:0 Europe/Oslo\nOnCalendar=' | head -n 50000 && echo 'OnCalendar=1:0 Europe/Oslo'; } | largest_file zones.timer 1048576
+  largest_run zones.timer 1 plan "${largest_day[@]}" --event-zones zones.timer
+  compare_lines "25,000 events with one zone" "${largest_since}${tab}zones.timer${tab}zones.service"$'\n'
+}
+
 # Rows from standard input: the end of the span, the limit, further arguments, and the error of the plan by 1
 # planner and by 8.
 largest_refused() {
@@ -272,6 +298,7 @@ largest_jobs
 largest_files
 largest_checks
 largest_quotes
+largest_zones
 largest_agendas
 largest_gaps
 largest_bound
