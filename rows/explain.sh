@@ -118,6 +118,7 @@ explain_try() {
     crontab) agenda check --crontab example ;;
     system) agenda check --system-crontab example ;;
     event) { echo '[Timer]' && cat example; } >example.timer && agenda check example.timer ;;
+    event-zone) { echo '[Timer]' && cat example; } >example.timer && agenda check --event-zones example.timer ;;
     setting) { printf '[Timer]\nOnCalendar=daily\n' && cat example; } >example.timer && agenda check example.timer ;;
     timer) cp -- example example.timer && agenda check example.timer ;;
     step) { echo 'mailbox 1 1' && cat example; } >script && agenda steps script >/dev/null ;;
@@ -253,4 +254,5 @@ UnknownKey setting
 UnknownWord crontab
 WrongParts crontab
 ZeroStep crontab
+Zone event-zone
 ROWS
