@@ -117,10 +117,12 @@ clocked zones sources clock = found_from zones 0 (no_jobs (Some clock)) sources
 
 -- the law of plan_check
 abbrev ErrorLaw : Type 0
-ErrorLaw = (zones : Zones) (known : KnownJobs) (file : File) → file_findings zones (without_warnings known) file ≡ errors_of (file_findings zones known file)
+ErrorLaw = (zones : Zones) (known : KnownJobs) (file : File) → file_findings zones (without_warnings known) file
+    ≡ errors_of (file_findings zones known file)
 
 abbrev KnownLaw : Type 0
-KnownLaw = (zones : Zones) (known : KnownJobs) (file : File) → after_file zones (without_warnings known) file ≡ without_warnings (after_file zones known file)
+KnownLaw = (zones : Zones) (known : KnownJobs) (file : File) → after_file zones (without_warnings known) file
+    ≡ without_warnings (after_file zones known file)
 
 abbrev all_errors : List Found → List Found
 all_errors found = filter (λ one. not (is_warning one.quoted.finding.what)) found
@@ -148,9 +150,11 @@ errors_from zones errors known_law place known [] = refl
 errors_from zones errors known_law place known (source ∷ more) =
     let file = source_file source in
     let after = after_file zones known file in
-    (λ i. map (found_at place) (map (with_quote file) (errors zones known file i)) ++ found_from zones (place + 1) (known_law zones known file i) more)
+    (λ i. map (found_at place) (map (with_quote file) (errors zones known file i))
+    ++ found_from zones (place + 1) (known_law zones known file i) more)
     ∙ (λ i. quoted_errors place file (file_findings zones known file) i ++ errors_from zones errors known_law (place + 1) after more i)
-    ∙ sym (filter-append (λ (one : Found). not (is_warning one.quoted.finding.what)) (map (found_at place) (quoted_findings zones known file))
+    ∙ sym (filter-append (λ (one : Found). not (is_warning one.quoted.finding.what))
+    (map (found_at place) (quoted_findings zones known file))
     (found_from zones (place + 1) after more))
 
 pub known_from :
@@ -163,7 +167,8 @@ known_from zones law known (source ∷ more) =
 
 -- ---- the jobs that are kept
 
-known_files : (zones : Zones) (known : KnownJobs) (sources : List Source) → after_sources zones known sources ≡ after_files zones known (files_of sources)
+known_files : (zones : Zones) (known : KnownJobs) (sources : List Source) → after_sources zones known sources
+    ≡ after_files zones known (files_of sources)
 known_files zones known [] = refl
 known_files zones known (source ∷ more) = known_files zones (after_file zones known (source_file source)) more
 

@@ -27,7 +27,8 @@ next_source zones sources index source jobs within is =
 
 -- the source was read
 pub read_on :
-    (zones : Zones) (sources : List Source) (index : ℕ) (source : Source) (jobs next : List JobParts) (whole : SourceReading (List JobParts)) →
+    (zones : Zones) (sources : List Source) (index : ℕ) (source : Source) (jobs next : List JobParts)
+    (whole : SourceReading (List JobParts)) →
     index < length sources → source ≡ get_or sources index source → left zones sources index jobs ≡ whole →
     with_source zones index jobs source ≡ Ok next → left zones sources (index + 1) next ≡ whole
 read_on zones sources index source jobs next whole within is so_far read =

@@ -260,7 +260,8 @@ step_clean clock number setting (Names unit) found more is =
 
 timer_lines_clean :
     (clock : Option (List Change)) (state : TimerState) (lines : List (ℕ × List ℕ)) →
-    is_clean (timers.lines_findings clock state lines) ≡ is_none_of (refusals (entries_from state.zones state.count (effects_from state.inside lines)))
+    is_clean (timers.lines_findings clock state lines)
+    ≡ is_none_of (refusals (entries_from state.zones state.count (effects_from state.inside lines)))
 timer_lines_clean clock state [] = refl
 timer_lines_clean clock state (line ∷ more) =
     let next = state_after state line.1 in
@@ -385,7 +386,8 @@ timer_text_agrees zones clock added name (Ok text) f good =
     let lines = f text in
     let effects = effects_from false lines in
     let found = timers.lines_findings clock (no_lines zones) lines in
-    timer_agrees clock (refusals (entries_from zones no_events effects)) (is_timer_name name) (has_timer lines) added name (first_unit effects)
+    timer_agrees clock (refusals (entries_from zones no_events effects)) (is_timer_name name) (has_timer lines) added name
+    (first_unit effects)
     (events_after zones [] effects) (right_job zones name lines) (timer_warnings clock lines ++ found) (0 + length added) (omega arith) good
     (λ none. ap (timer_job name (first_unit effects)) (right_of_lines zones lines none))
     (timer_warnings_clean clock lines found ∙ timer_lines_clean clock (no_lines zones) lines)
@@ -423,7 +425,8 @@ form_agrees zones clock crontab timer added Timer name bytes =
     (timer_text_agrees zones clock added name (text_reading bytes) lines))
 
 files_after :
-    (zones : Zones) (clock : Option (List Change)) (next : Option (List JobParts)) (found : List Finding) (after : KnownJobs) (more : List File) →
+    (zones : Zones) (clock : Option (List Change)) (next : Option (List JobParts)) (found : List Finding) (after : KnownJobs)
+    (more : List File) →
     Agrees clock next found after →
     ((added : List JobParts) → is_clean (files_findings zones (known_by clock added) more) ≡ is_some (files_jobs zones added more)) →
     is_clean (found ++ files_findings zones after more) ≡ is_some (jobs_then next (λ added. files_jobs zones added more))
@@ -440,7 +443,8 @@ files_agree :
     is_clean (files_findings zones (known_by clock added) files) ≡ is_some (files_jobs zones added files)
 files_agree zones clock crontab timer added [] = refl
 files_agree zones clock crontab timer added (file ∷ more) =
-    files_after zones clock (jobs_by added (form_reading zones file.form file.name file.bytes)) (file_findings zones (known_by clock added) file)
+    files_after zones clock (jobs_by added (form_reading zones file.form file.name file.bytes))
+    (file_findings zones (known_by clock added) file)
     (after_file zones (known_by clock added) file) more
     (form_agrees zones clock crontab timer added file.form file.name file.bytes) (λ next. files_agree zones clock crontab timer next more)
 
@@ -450,20 +454,23 @@ clean_law zones clock crontab timer files = files_agree zones clock crontab time
 
 -- the jobs that are kept
 kept_after :
-    (zones : Zones) (clock : Option (List Change)) (next : Option (List JobParts)) (found : List Finding) (after : KnownJobs) (more : List File) →
+    (zones : Zones) (clock : Option (List Change)) (next : Option (List JobParts)) (found : List Finding) (after : KnownJobs)
+    (more : List File) →
     Agrees clock next found after →
     ((added : List JobParts) → IfSome (files_jobs zones added more) (λ jobs. (after_files zones (known_by clock added) more).jobs ≡ jobs)) →
     IfSome (jobs_then next (λ added. files_jobs zones added more)) (λ jobs. (after_files zones after more).jobs ≡ jobs)
 kept_after zones clock None found after more agrees later = tt
 kept_after zones clock (Some next) found after more agrees later =
-    subst (λ (known : KnownJobs). IfSome (files_jobs zones next more) (λ jobs. (after_files zones known more).jobs ≡ jobs)) (sym agrees.1) (later next)
+    subst (λ (known : KnownJobs). IfSome (files_jobs zones next more) (λ jobs. (after_files zones known more).jobs ≡ jobs))
+    (sym agrees.1) (later next)
 
 files_kept :
     (zones : Zones) (clock : Option (List Change)) → CrontabLaw → TimerLaw → (added : List JobParts) (files : List File) →
     IfSome (files_jobs zones added files) (λ jobs. (after_files zones (known_by clock added) files).jobs ≡ jobs)
 files_kept zones clock crontab timer added [] = refl
 files_kept zones clock crontab timer added (file ∷ more) =
-    kept_after zones clock (jobs_by added (form_reading zones file.form file.name file.bytes)) (file_findings zones (known_by clock added) file)
+    kept_after zones clock (jobs_by added (form_reading zones file.form file.name file.bytes))
+    (file_findings zones (known_by clock added) file)
     (after_file zones (known_by clock added) file) more
     (form_agrees zones clock crontab timer added file.form file.name file.bytes) (λ next. files_kept zones clock crontab timer next more)
 

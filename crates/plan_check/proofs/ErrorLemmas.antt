@@ -250,12 +250,14 @@ name_errors None = refl
 name_errors (Some cause) = refl
 
 pub file_errors :
-    (zones : Zones) (known : KnownJobs) (file : File) → file_findings zones (without_warnings known) file ≡ errors_of (file_findings zones known file)
+    (zones : Zones) (known : KnownJobs) (file : File) → file_findings zones (without_warnings known) file
+    ≡ errors_of (file_findings zones known file)
 file_errors zones known file =
     let inside = in_file known file.form file.name in
     (λ i. name_errors (name_cause file.form file.name) i ++ text_errors zones inside file.form file.name file.bytes i)
     ∙ sym (errors_append (name_findings file.form file.name) (text_findings zones inside file.form file.name file.bytes))
 
 pub file_without :
-    (zones : Zones) (known : KnownJobs) (file : File) → after_file zones (without_warnings known) file ≡ without_warnings (after_file zones known file)
+    (zones : Zones) (known : KnownJobs) (file : File) → after_file zones (without_warnings known) file
+    ≡ without_warnings (after_file zones known file)
 file_without zones known file = text_without zones (in_file known file.form file.name) file.form file.name file.bytes

@@ -97,4 +97,5 @@ jobs_then (Some jobs) next = next jobs
 -- the jobs of files after other jobs, if jobs can be made of all of them
 abbrev pub files_jobs : Zones → List JobParts → List File → Option (List JobParts)
 files_jobs zones jobs [] = Some jobs
-files_jobs zones jobs (file ∷ more) = jobs_then (jobs_by jobs (form_reading zones file.form file.name file.bytes)) (λ next. files_jobs zones next more)
+files_jobs zones jobs (file ∷ more) =
+    jobs_then (jobs_by jobs (form_reading zones file.form file.name file.bytes)) (λ next. files_jobs zones next more)

@@ -15,9 +15,11 @@ use plan_rules::{crontab_is_its_entries, timer_is_its_entries};
 ///
 /// The function does nothing: its contract is the law.
 pub fn clean_where_jobs_are()
-    ensures clean { (zones : Zones) (clock : Option (List Change)) (files : List File) → is_clean (files_findings zones (no_jobs clock) files) ≡ is_some (files_jobs zones [] files) }
+    ensures clean { (zones : Zones) (clock : Option (List Change)) (files : List File)
+        → is_clean (files_findings zones (no_jobs clock) files) ≡ is_some (files_jobs zones [] files) }
     // Then these are the jobs that are kept.
-    ensures kept { (zones : Zones) (clock : Option (List Change)) (files : List File) → IfSome (files_jobs zones [] files) (λ jobs. (after_files zones (no_jobs clock) files).jobs ≡ jobs) }
+    ensures kept { (zones : Zones) (clock : Option (List Change)) (files : List File)
+        → IfSome (files_jobs zones [] files) (λ jobs. (after_files zones (no_jobs clock) files).jobs ≡ jobs) }
 {
     crontab_is_its_entries();
     timer_is_its_entries();
@@ -28,6 +30,8 @@ pub fn clean_where_jobs_are()
 ///
 /// The function does nothing: its contract is the law.
 pub fn errors_need_no_clock()
-    ensures found { (zones : Zones) (known : KnownJobs) (file : File) → file_findings zones (without_warnings known) file ≡ errors_of (file_findings zones known file) }
-    ensures known { (zones : Zones) (known : KnownJobs) (file : File) → after_file zones (without_warnings known) file ≡ without_warnings (after_file zones known file) }
+    ensures found { (zones : Zones) (known : KnownJobs) (file : File)
+        → file_findings zones (without_warnings known) file ≡ errors_of (file_findings zones known file) }
+    ensures known { (zones : Zones) (known : KnownJobs) (file : File)
+        → after_file zones (without_warnings known) file ≡ without_warnings (after_file zones known file) }
 {}

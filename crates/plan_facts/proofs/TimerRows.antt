@@ -49,7 +49,8 @@ job_of name unit texts =
 
 -- a reset empties the list of events
 reset_empties :
-    timer_reading None (codes "backup.timer") (codes "[Timer]\nOnCalendar=hourly\nOnCalendar=\nOnCalendar=daily\nOnCalendar=*-*-* 00:00:00\n") ≡
+    timer_reading None (codes "backup.timer")
+    (codes "[Timer]\nOnCalendar=hourly\nOnCalendar=\nOnCalendar=daily\nOnCalendar=*-*-* 00:00:00\n") ≡
     job_of (codes "backup.timer") (codes "backup.service") (codes "daily" ∷ codes "*-*-* 00:00:00" ∷ [])
 unfolding is_utf8 chars lib.Utf8.encode lines whole_lines is_timer_name section_name setting_of key_of words cut_at decimal_number
     set_reading
@@ -71,7 +72,8 @@ comment_inside = refl
 
 -- a merged line at the end of the input
 joined_at_the_end :
-    timer_reading None (codes "t.timer") (codes "[Timer]\nOnCalendar=Mon \\") ≡ job_of (codes "t.timer") (codes "t.service") (codes "Mon" ∷ [])
+    timer_reading None (codes "t.timer") (codes "[Timer]\nOnCalendar=Mon \\")
+    ≡ job_of (codes "t.timer") (codes "t.service") (codes "Mon" ∷ [])
 unfolding is_utf8 chars lib.Utf8.encode lines whole_lines is_timer_name section_name setting_of key_of words cut_at decimal_number
     set_reading
     date_reading time_reading dated shape_reading component_number component_value component_side component_item component_items
@@ -191,7 +193,8 @@ starts_at (Err fault) civil = false
 
 -- two events: Wednesday the 3rd at 6, and Friday the 5th at 12, not at 6
 either_event :
-    map (λ (at : ℕ × ℕ × ℕ). starts_at (timer_reading None (codes "two.timer") (codes "[Timer]\nOnCalendar=Fri 12:00\nOnCalendar=*-*-3 06:00"))
+    map (λ (at : ℕ × ℕ × ℕ). starts_at (timer_reading None (codes "two.timer")
+    (codes "[Timer]\nOnCalendar=Fri 12:00\nOnCalendar=*-*-3 06:00"))
     (at_hour at.0 at.1 at.2)) ((3, 2, 6) ∷ (5, 4, 12) ∷ (5, 4, 6) ∷ []) ≡ true ∷ true ∷ false ∷ []
 unfolding is_utf8 chars lib.Utf8.encode lines whole_lines is_timer_name section_name setting_of key_of words cut_at decimal_number
     set_reading

@@ -223,7 +223,8 @@ event_in_a_fold :
     true ∷ false ∷ true ∷ []
 unfolding words cut_at decimal_number set_reading date_reading time_reading dated shape_reading component_number component_value
     component_side component_item component_items places_reading component_reading weekday_of weekday_reading weekday_item
-    weekday_items weekdays_reading event_of spelled_out zone_clock zone_cut expression_of zoneless words_reading row_at starts_in civil_fields
+    weekday_items weekdays_reading event_of spelled_out zone_clock zone_cut expression_of zoneless words_reading row_at starts_in
+    civil_fields
     year_and_day month_and_day
 event_in_a_fold = simp has_value-values_where
 
@@ -233,7 +234,8 @@ hourly_in_a_fold :
     true ∷ false ∷ true ∷ []
 unfolding words cut_at decimal_number set_reading date_reading time_reading dated shape_reading component_number component_value
     component_side component_item component_items places_reading component_reading weekday_of weekday_reading weekday_item
-    weekday_items weekdays_reading event_of spelled_out zone_clock zone_cut expression_of zoneless words_reading row_at starts_in civil_fields
+    weekday_items weekdays_reading event_of spelled_out zone_clock zone_cut expression_of zoneless words_reading row_at starts_in
+    civil_fields
     year_and_day month_and_day
 hourly_in_a_fold = simp has_value-values_where
 
@@ -243,7 +245,8 @@ event_in_a_gap :
     false ∷ false ∷ true ∷ []
 unfolding words cut_at decimal_number set_reading date_reading time_reading dated shape_reading component_number component_value
     component_side component_item component_items places_reading component_reading weekday_of weekday_reading weekday_item
-    weekday_items weekdays_reading event_of spelled_out zone_clock zone_cut expression_of zoneless words_reading row_at starts_in civil_fields
+    weekday_items weekdays_reading event_of spelled_out zone_clock zone_cut expression_of zoneless words_reading row_at starts_in
+    civil_fields
     year_and_day month_and_day
 event_in_a_gap = simp has_value-values_where
 
@@ -253,7 +256,8 @@ event_in_utc :
     false ∷ false ∷ true ∷ []
 unfolding words cut_at decimal_number set_reading date_reading time_reading dated shape_reading component_number component_value
     component_side component_item component_items places_reading component_reading weekday_of weekday_reading weekday_item
-    weekday_items weekdays_reading event_of spelled_out zone_clock zone_cut expression_of zoneless words_reading row_at starts_in civil_fields
+    weekday_items weekdays_reading event_of spelled_out zone_clock zone_cut expression_of zoneless words_reading row_at starts_in
+    civil_fields
     year_and_day month_and_day
 event_in_utc = simp has_value-values_where
 
@@ -264,7 +268,8 @@ event_in_berlin :
     (1_761_438_600 ∷ 1_761_442_200 ∷ 1_761_445_800 ∷ 1_761_528_600 ∷ []) ≡ true ∷ false ∷ false ∷ true ∷ []
 unfolding words cut_at decimal_number set_reading date_reading time_reading dated shape_reading component_number component_value
     component_side component_item component_items places_reading component_reading weekday_of weekday_reading weekday_item
-    weekday_items weekdays_reading event_of spelled_out zone_clock zone_cut expression_of zoneless words_reading row_at starts_in civil_fields
+    weekday_items weekdays_reading event_of spelled_out zone_clock zone_cut expression_of zoneless words_reading row_at starts_in
+    civil_fields
     year_and_day month_and_day
 event_in_berlin = simp has_value-values_where
 

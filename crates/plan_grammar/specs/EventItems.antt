@@ -37,7 +37,8 @@ items_of shape = do
   seconds ← component_items Second shape.time.second
   Ok (record { months = months; days = days; hours = hours; minutes = minutes; seconds = seconds })
 
--- the elements of an event's text, whatever its zone is; a word such as `daily` counts as a weekday part here, since its expression has no step (agenda)
+-- the elements of an event's text, whatever its zone is; a word such as `daily` counts as a weekday part here, since its expression has no
+-- step (agenda)
 unfoldable pub event_items_reading : List ℕ → Reading ItemLists
 event_items_reading text = do
   shape ← shape_reading (without_zone (words text))

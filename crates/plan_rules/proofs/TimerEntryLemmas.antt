@@ -24,10 +24,12 @@ use Rattle.plan_rules.specs.TimerEntries.{EventCount, TimerState, count_from, en
 event_read :
     (zones : Zones) (number : ℕ) (held : List Calendar) (r : LineReading Calendar) (more : List (ℕ × Effect)) →
     ((next : List Calendar) → length next ≡ length held + 1 → events_from zones next more
-    ≡ unless_refused (refusals (entries_from zones (record { held = length held + 1; told = false }) more)) (events_after zones next more)) →
+    ≡ unless_refused (refusals (entries_from zones (record { held = length held + 1; told = false }) more))
+    (events_after zones next more)) →
     (on_line number r >>= λ event. events_from zones (held ++ event ∷ []) more)
     ≡ unless_refused
-    (refusals (cons_option (entry_of (event_line number (Some r))) (entries_from zones (record { held = length held + 1; told = false }) more)))
+    (refusals (cons_option (entry_of (event_line number (Some r)))
+    (entries_from zones (record { held = length held + 1; told = false }) more)))
     (events_after zones (held ++ cons_option (result_ok r) []) more)
 event_read zones number held (Ok event) more later = later (held ++ event ∷ []) (length-append held (event ∷ []))
 event_read zones number held (Err cause) more later = refl
@@ -36,7 +38,8 @@ event_read zones number held (Err cause) more later = refl
 event_held :
     (zones : Zones) (room : Bool) (number : ℕ) (held : List Calendar) (r : LineReading Calendar) (more : List (ℕ × Effect)) →
     ((next : List Calendar) → length next ≡ length held + 1 → events_from zones next more
-    ≡ unless_refused (refusals (entries_from zones (record { held = length held + 1; told = false }) more)) (events_after zones next more)) →
+    ≡ unless_refused (refusals (entries_from zones (record { held = length held + 1; told = false }) more))
+    (events_after zones next more)) →
     (on_line number (cond room r (Err TooManyLines)) >>= λ event. events_from zones (held ++ event ∷ []) more)
     ≡ unless_refused (refusals (cons_option (entry_of (event_line number (cond room (Some r) (Some (Err TooManyLines)))))
     (entries_from zones (cond room (record { held = length held + 1; told = false }) (record { held = length held; told = true })) more)))
@@ -71,7 +74,8 @@ of_text zones name (Err fault) = refl
 
 pub timer_law : (zones : Zones) (name bytes : List ℕ) → timer_reading zones name bytes ≡ timer_by_entries zones name bytes
 timer_law zones name bytes =
-    ap (λ (read : TextReading JobParts). cond (is_timer_name name) read (on_line 0 (Err BadTimerName))) (of_text zones name (text_reading bytes))
+    ap (λ (read : TextReading JobParts). cond (is_timer_name name) read (on_line 0 (Err BadTimerName)))
+    (of_text zones name (text_reading bytes))
 
 -- ---- the loop
 

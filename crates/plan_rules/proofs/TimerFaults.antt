@@ -54,7 +54,8 @@ events_fault :
 events_fault zones held [] = tt
 events_fault zones held ((number, Reset) ∷ more) = events_fault zones [] more
 events_fault zones held ((number, Event text) ∷ more) =
-    err_steps IsOwnFault (on_line number (added_event zones held text)) _ (on number (added_event zones held text) (event_fault zones held text))
+    err_steps IsOwnFault (on_line number (added_event zones held text)) _
+    (on number (added_event zones held text) (event_fault zones held text))
     (λ event. events_fault zones (held ++ event ∷ []) more)
 events_fault zones held ((number, Starts unit) ∷ more) = events_fault zones held more
 events_fault zones held ((number, Nothing) ∷ more) = events_fault zones held more

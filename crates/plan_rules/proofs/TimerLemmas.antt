@@ -57,7 +57,8 @@ IsCounted draft = draft.reader.count ≡ counted draft.events
 
 -- before the first line
 pub rest_reading-none :
-    (zones : Zones) (name : List ℕ) (lines : List (ℕ × List ℕ)) → rest_reading name (no_settings zones) lines ≡ timer_of_lines zones name lines
+    (zones : Zones) (name : List ℕ) (lines : List (ℕ × List ℕ)) → rest_reading name (no_settings zones) lines
+    ≡ timer_of_lines zones name lines
 rest_reading-none zones name lines = refl
 
 -- an event, whether the list is full or not

@@ -10,7 +10,8 @@ use Rattle.plan_grammar.proofs.event.calendar_event.Goals as goal
 pub returns-clause-within : goal.returns-clause-within
 returns-clause-within c =
     let meant : Gives c.event_of_words.result (event_reading c.args.zones.now c.args.text.now) = search rules in
-    limits.answered EventIsWithinLimits c.event_of_words.result (event_reading c.args.zones.now c.args.text.now) meant (limits.event c.args.zones.now c.args.text.now)
+    limits.answered EventIsWithinLimits c.event_of_words.result (event_reading c.args.zones.now c.args.text.now) meant
+    (limits.event c.args.zones.now c.args.text.now)
 
 pub returns-clause-memory : goal.returns-clause-memory
 returns-clause-memory c = part_of_memory _ _ c.event_of_words.ensures (all_words _ _)

@@ -42,7 +42,8 @@ pub returns-clause-bad_name : goal.returns-clause-bad_name
 returns-clause-bad_name c = (
   λ is. absurd (no_other c.timer_of_lines.result (of_whole BadTimerName)
       (answered (λ job. job) c.timer_of_lines.result _ c.timer_of_lines.ensures
-      (lines_fault c.args.zones.now c.args.name.now (map (λ line. (line.number, trimmed (string_bytes line.text))) c.as_slice.result.now))) (λ no. no) is),
+      (lines_fault c.args.zones.now c.args.name.now (map (λ line. (line.number, trimmed (string_bytes line.text))) c.as_slice.result.now)))
+      (λ no. no) is),
   λ other. let named : is_timer_name c.args.name.now ≡ true = search rules in absurd (true≢false (sym named ∙ other)),
 )
 
