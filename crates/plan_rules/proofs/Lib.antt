@@ -9,3 +9,4 @@ pub mod TimerFaults
 pub mod TimerEntryLemmas
 pub mod ZoneLemmas
 pub mod NamesLemmas
+pub mod TimerZonesLemmas

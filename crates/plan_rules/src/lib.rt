@@ -38,5 +38,5 @@ pub use plan_match::{Calendar, CronRule, DayCount, Events, Rule};
 pub use plan_texts::{Text, cut, lines, number};
 pub use timer_events::{TimerLine, TimerReader, timer_is_its_entries};
 pub use timer_lines::setting_of;
-pub use timer_zones::add_timer_zones;
+pub use timer_zones::{add_timer_zones, only_named_zones_matter};
 pub use timers::{MOST_EVENTS, is_timer_name, timer, timer_job};

@@ -1,6 +1,6 @@
 //! Names, each once.
 
-ghost use Rattle.std.specs.Prelude.{◌≡◌, ◌↔◌, [], IsTrue, OnOk, length, slice_get};
+ghost use Rattle.std.specs.Prelude.{◌≡◌, ◌↔◌, [], IsTrue, OnErr, OnOk, length, slice_get};
 ghost use Rattle.std.specs.List.{list_any};
 ghost use Rattle.std.specs.Option.{option_map};
 ghost use Rattle.std.specs.Str.{bytes_eq};
@@ -67,9 +67,10 @@ impl Names {
     ///
     /// # Errors
     ///
-    /// `AllocError` if an allocation fails.
+    /// `AllocError` if an allocation fails. The names are unchanged then.
     pub fn add(&mut self, alloc: Global, name: &str) -> Result<(), AllocError>
-        ensures { OnOk result (self.new ≡ with_name self.old name.now) }
+        ensures added { OnOk result (self.new ≡ with_name self.old name.now) }
+        ensures unchanged { OnErr result (self.new ≡ self.old) }
     {
         if self.contains(name) {
             return Ok(());

@@ -1,10 +1,12 @@
 //! The time zones that the events of timer files end with (systemd.time(7)).
 
-ghost use Rattle.std.specs.Prelude.{◌≡◌, OnOk, false, map};
+ghost use Rattle.std.specs.Prelude.{◌≡◌, ℕ, IsTrue, List, OnOk, Some, false, map};
+ghost use Rattle.plan_grammar.specs.declared.NamedZone.{NamedZone};
 ghost use Rattle.plan_rules.specs.Names.{with_found, with_names};
+ghost use Rattle.plan_rules.specs.Timer.{timer_reading};
 ghost use Rattle.plan_rules.specs.TimerEntries.{shown_line};
 ghost use Rattle.plan_rules.specs.TimerSteps.{effect_shown};
-ghost use Rattle.plan_rules.specs.TimerZones.{effect_zone, timer_zones, zones_from};
+ghost use Rattle.plan_rules.specs.TimerZones.{HaveSameClocks, are_ascii, effect_zone, timer_zones, zones_from};
 
 use crate::file_text::text_of;
 use crate::names::Names;
@@ -30,6 +32,17 @@ pub fn add_timer_zones(alloc: Global, names: &mut Names, bytes: &[u8]) -> Result
     let lines = whole_lines(alloc, text)?;
     add_lines_zones(alloc, names, lines.as_slice())
 }
+
+/// States the law of zones: which zones events may name makes no difference to a timer, but for the zones whose names
+/// `add_timer_zones` adds. So a timer that is read with those that are found among them means what it would mean with
+/// all zones of the time zone database.
+///
+/// The function does nothing: its contract is the law.
+pub fn only_named_zones_matter()
+    ensures { (zones others : List NamedZone) → (name bytes : List ℕ) → IsTrue (are_ascii zones) → IsTrue (are_ascii others)
+        → HaveSameClocks zones others (timer_zones bytes)
+        → timer_reading (Some zones) name bytes ≡ timer_reading (Some others) name bytes }
+{}
 
 // Adds the names of the zones that the events of whole lines end with.
 fn add_lines_zones(alloc: Global, names: &mut Names, lines: &[WholeLine]) -> Result<(), AllocError>

@@ -101,6 +101,76 @@ fn the_file_of_a_zone_is_opened_once(rt: HostRuntime) -> Result<(), Fail> {
     Ok(())
 }
 
+// A TZif file of version 2 without transitions: the offsets come only from the rule of central Europe.
+const CENTRAL_EUROPE: &[u8; 136] =
+    b"TZif2\0\0\0\0\0\0\0\0\0\0\0\0\0\0\0\0\0\0\0\0\0\0\0\0\0\0\0\0\0\0\0\0\0\0\x01\0\0\0\x04\
+      \0\0\x0e\x10\0\0CET\0\
+      TZif2\0\0\0\0\0\0\0\0\0\0\0\0\0\0\0\0\0\0\0\0\0\0\0\0\0\0\0\0\0\0\0\0\0\0\x01\0\0\0\x04\
+      \0\0\x0e\x10\0\0CET\0\
+      \nCET-1CEST,M3.5.0,M10.5.0/3\n";
+
+// A timer with three events in a zone, two in a zone without a file, and one in UTC.
+const ZONED: &[u8] = b"[Timer]\nOnCalendar=09:00 Europe/Oslo\nOnCalendar=No/Zone 10:00\n\
+      OnCalendar=10:00 Europe/Oslo\nOnCalendar=daily No/Zone\nOnCalendar=daily UTC\n\
+      OnCalendar=hourly No/Zone\nOnCalendar=11:00 Europe/Oslo\n";
+
+const FINDINGS: &str = "\
+t.timer:3: error: weekday in 'No/Zone 10:00': unknown name [BadName]
+t.timer:5: error: time zone in 'daily No/Zone': unknown [Zone]
+t.timer:7: error: time zone in 'hourly No/Zone': unknown [Zone]
+";
+
+// Each zone of events is opened once, unless it is the zone of the rules. Without the option none is opened.
+#[test]
+fn the_files_of_events_zones_are_opened_once(rt: HostRuntime) -> Result<(), Fail> {
+    let held: [(&str, &[u8]); 3] = [
+        ("/usr/share/zoneinfo/Europe/Oslo", CENTRAL_EUROPE),
+        ("./b", CENTRAL_EUROPE),
+        ("t.timer", ZONED),
+    ];
+    let nine = "2024-07-01T07:00:00Z\n";
+    let zone = "agenda: rule: part 8: Zone\n";
+    let next = "agenda|next|--after|2024-07-01T00:00:00Z|--calendar";
+    let check = "agenda|check|--event-zones|t.timer";
+    for (words, more, status, out, err, opened) in [
+        (next, "09:00 Europe/Oslo|--event-zones", 0, nine, "", 1),
+        (
+            next,
+            "09:00 Europe/Oslo|--event-zones|--zone|Europe/Oslo",
+            0,
+            nine,
+            "",
+            1,
+        ),
+        (
+            next,
+            "09:00 Europe/Oslo|--event-zones|--zone|/usr/share/zoneinfo/Europe/Oslo",
+            0,
+            nine,
+            "",
+            1,
+        ),
+        (
+            next,
+            "09:00 Europe/Oslo|--event-zones|--zone|./b",
+            0,
+            nine,
+            "",
+            2,
+        ),
+        (next, "09:00 No/Zone|--event-zones", 1, "", zone, 1),
+        (next, "09:00 Europe/Oslo", 1, "", zone, 0),
+        (next, "07:00 UTC|--event-zones", 0, nine, "", 0),
+        (check, "--zone|UTC", 1, FINDINGS, "", 3),
+        (check, "--zone|Europe/Oslo", 1, FINDINGS, "", 3),
+    ] {
+        let words = format!(in rt.alloc(); "{words}|{more}")?;
+        let files = FewFiles::new(&held, 4_096, false);
+        leaves(&rt, words.as_str(), files, status, (out, err), opened)?;
+    }
+    Ok(())
+}
+
 // After the first byte too many comes an error, which is never reached.
 #[test]
 fn a_script_that_is_too_large(rt: HostRuntime) -> Result<(), Fail> {

@@ -5,8 +5,8 @@ use Rattle.std.specs.Str.{bytes_eq}
 use Rattle.plan_rules.proofs.NamesLemmas.{insert_key-name, with_name-new}
 use Rattle.plan_rules.proofs.names.Names.add.Goals as goal
 
-pub returns : goal.returns
-returns c =
+pub returns-clause-added : goal.returns-clause-added
+returns-clause-added c =
     let keys = c.self.inside.kept.keys in
     let name = c.args.name.now in
     let new : list_any (bytes_eq name) c.args.self.now ≡ false = search rules in
