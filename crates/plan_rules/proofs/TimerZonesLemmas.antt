@@ -53,7 +53,8 @@ absent :
 absent [] name ascii other = refl
 absent (zone ∷ more) name ascii other =
     let both = and_parts (list_all is_ascii zone.name) (are_ascii more) ascii in
-    absent_step (bytes_eq zone.name name) zone name (find (λ z. bytes_eq z.name name) more) refl both.0 other (absent more name both.1 other)
+    absent_step (bytes_eq zone.name name) zone name (find (λ z. bytes_eq z.name name) more) refl both.0 other
+        (absent more name both.1 other)
 
 -- the clock of a zone, by whether it is UTC and by the clock with its name
 abbrev looked_up : Bool → Option (List Change) → Reading (List Change)
@@ -77,7 +78,8 @@ same_clock zones others name first second same =
 
 same_cut :
     (zones others : List NamedZone) (texts : List (List ℕ)) (zone : Option (List ℕ)) → are_ascii zones ≡ true → are_ascii others ≡ true →
-    SameFor zones others (option_and_then name_in_database zone) → cut_reading (Some zones) texts zone ≡ cut_reading (Some others) texts zone
+    SameFor zones others (option_and_then name_in_database zone) →
+    cut_reading (Some zones) texts zone ≡ cut_reading (Some others) texts zone
 same_cut zones others texts None first second same = refl
 same_cut zones others texts (Some name) first second same =
     ap (λ (r : Reading (List Change)). r >>= λ clock. zoneless texts >>= λ event. Ok (in_own_zone clock event))

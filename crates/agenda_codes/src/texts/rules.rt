@@ -79,7 +79,7 @@ After:
 pub(crate) const WRONG_PARTS: &str = "\
 A part is missing, is empty, or is one too many. A cron rule has five fields,
 and a step is allowed only after '*' or a range. A calendar event has weekdays,
-a date, a time, or several of them in this order. It may end with 'UTC'.
+a date, a time, or several of them in this order. It may end with a time zone.
 
 Before:
     5/15 * * * * poll
