@@ -1,9 +1,9 @@
 //! What commands answer to values that no argument can give.
 use crate::tests::writers::{End, Limited, took};
 use agenda_commands::run_next;
-use agenda_sources::Asked;
+use agenda_sources::{Asked, TimeZones};
 use plan_clock::Clock;
-use plan_rules::Text;
+use plan_rules::{EventZones, Text};
 use std::test::Fail;
 
 // After the last time of all, which no argument can give.
@@ -11,7 +11,8 @@ use std::test::Fail;
 fn no_start_follows_the_last_moment_of_all(rt: HostRuntime) -> Result<(), Fail> {
     let asked = Asked::Cron(Text::new(String::from_str(rt.alloc(), "* * * * *")?));
     let mut out = Limited::new(128, 128, End::TakesNothing);
-    run_next(rt.alloc(), &asked, &Clock::utc(), u64::MAX, 1, &mut out)?;
+    let zones = TimeZones { clock: Clock::utc(), named: EventZones::utc_alone() };
+    run_next(rt.alloc(), &asked, &zones, u64::MAX, 1, &mut out)?;
     took(&rt, &out, "none\n");
     Ok(())
 }
