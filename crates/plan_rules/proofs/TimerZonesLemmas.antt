@@ -54,7 +54,7 @@ absent [] name ascii other = refl
 absent (zone ∷ more) name ascii other =
     let both = and_parts (list_all is_ascii zone.name) (are_ascii more) ascii in
     absent_step (bytes_eq zone.name name) zone name (find (λ z. bytes_eq z.name name) more) refl both.0 other
-        (absent more name both.1 other)
+    (absent more name both.1 other)
 
 -- the clock of a zone, by whether it is UTC and by the clock with its name
 abbrev looked_up : Bool → Option (List Change) → Reading (List Change)

@@ -11,7 +11,10 @@ use std::test::Fail;
 fn no_start_follows_the_last_moment_of_all(rt: HostRuntime) -> Result<(), Fail> {
     let asked = Asked::Cron(Text::new(String::from_str(rt.alloc(), "* * * * *")?));
     let mut out = Limited::new(128, 128, End::TakesNothing);
-    let zones = TimeZones { clock: Clock::utc(), named: EventZones::utc_alone() };
+    let zones = TimeZones {
+        clock: Clock::utc(),
+        named: EventZones::utc_alone(),
+    };
     run_next(rt.alloc(), &asked, &zones, u64::MAX, 1, &mut out)?;
     took(&rt, &out, "none\n");
     Ok(())
