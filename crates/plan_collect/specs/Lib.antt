@@ -6,6 +6,7 @@ pub use Rattle.plan_rules.specs.Job
 pub use Rattle.plan_sets.specs.Moment
 pub mod Agenda
 pub mod AgendaLaws
+pub mod Windows
 pub mod Collecting
 pub mod Limits
 pub mod Tiling

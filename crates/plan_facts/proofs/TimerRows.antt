@@ -45,7 +45,7 @@ joined_lines = refl
 abbrev job_of : List ℕ → List ℕ → List (List ℕ) → TextReading JobParts
 job_of name unit texts =
     on_line 1 (in_line (each (event_reading None) texts)) >>= λ events.
-    Ok (record { name = name; user = None; command = unit; rule = Events events })
+    Ok (record { name = name; user = None; command = unit; rule = Events events; delay = 0 })
 
 -- a reset empties the list of events
 reset_empties :

@@ -1,5 +1,5 @@
--- Jobs that are put in a zone one after another: for `put_in_zone` and `in_zone` of `Jobs`. One entry of the map changes at a
--- time: `same_names` says that the names are unchanged, `first_more` that one more job is in the zone.
+-- Jobs that are changed one after another: for `in_zone` and `without_delays` of `Jobs`. One entry of the map changes at a
+-- time: `same_names` says that the names are unchanged, `first_more` that one more job is changed.
 use Rattle.std.proofs.Common.{◌≡◌, ℕ, zero, suc, List, [], ◌∷◌, map, Some, Result, Ok, Err, OnOk, OnErr, refl, ap}
 use Rattle.std.specs.List.{slice_get}
 use Rattle.std.specs.Map.{values_of}
@@ -7,7 +7,8 @@ use Rattle.std.specs.declared.alloc.AllocError.{AllocError}
 use Rattle.indexmap.specs.IndexMap.{set_value_at}
 use Rattle.plan_clock.specs.declared.row.Change.{Change}
 use Rattle.plan_rules.specs.Job.{JobParts}
-use Rattle.plan_rules.specs.Zone.{first_in, job_in}
+use Rattle.plan_rules.specs.Delays.{first_changed}
+use Rattle.plan_rules.specs.Zone.{job_in}
 
 -- the names of the jobs of entries
 abbrev pub names : {K : Type 0} → List (K × JobParts) → List (List ℕ)
@@ -28,18 +29,18 @@ pub name_kept :
 name_kept (Ok x) clock old new done kept = ap (λ (job : JobParts). job.name) done
 name_kept (Err e) clock old new done kept = ap (λ (job : JobParts). job.name) kept
 
--- one more job is in the zone
+-- one more job is changed
 pub first_more :
-    {K : Type 0} (clock : List Change) (es : List (K × JobParts)) (jobs : List JobParts) (i : ℕ) (old : JobParts) →
-    slice_get (values_of es) i ≡ Some old → values_of es ≡ first_in clock i jobs →
-    values_of (set_value_at es i (job_in clock old)) ≡ first_in clock (suc i) jobs
-first_more clock [] jobs i old here so_far = cc
-first_more clock (e ∷ es) [] zero old here so_far = cc
-first_more clock (e ∷ es) [] (suc i) old here so_far = cc
-first_more clock (e ∷ es) (job ∷ jobs) zero old here so_far = cc
-first_more clock (e ∷ es) (job ∷ jobs) (suc i) old here so_far =
-    let rest : values_of es ≡ first_in clock i jobs = cc in
-    let more = first_more clock es jobs i old here rest in cc
+    {K : Type 0} (change : JobParts → JobParts) (es : List (K × JobParts)) (jobs : List JobParts) (i : ℕ) (old : JobParts) →
+    slice_get (values_of es) i ≡ Some old → values_of es ≡ first_changed change i jobs →
+    values_of (set_value_at es i (change old)) ≡ first_changed change (suc i) jobs
+first_more change [] jobs i old here so_far = cc
+first_more change (e ∷ es) [] zero old here so_far = cc
+first_more change (e ∷ es) [] (suc i) old here so_far = cc
+first_more change (e ∷ es) (job ∷ jobs) zero old here so_far = cc
+first_more change (e ∷ es) (job ∷ jobs) (suc i) old here so_far =
+    let rest : values_of es ≡ first_changed change i jobs = cc in
+    let more = first_more change es jobs i old here rest in cc
 
 -- what a call did if it succeeded
 pub where_done : {E : Type 0} (put : Result (Unit {0}) E) (P Q : Type 0) → OnOk put P → (P → Q) → OnOk put Q

@@ -52,7 +52,7 @@ unfoldable pub job_reading : (label : List ℕ) → Kind → ℕ → List ℕ �
 job_reading label kind number text = do
   front ← in_line (rule_in_front text)
   run ← what_reading kind (front.1)
-  Ok (record { name = job_name label number; user = run.0; command = run.1; rule = front.0 })
+  Ok (record { name = job_name label number; user = run.0; command = run.1; rule = front.0; delay = 0 })
 
 -- the first characters of a setting: a letter, `_`, or a quote (agenda)
 abbrev pub begins_setting : ℕ → Bool

@@ -16,6 +16,7 @@ pub mod FileText
 pub mod Entries
 pub mod Job
 pub mod Crontab
+pub mod Delays
 pub mod NamedCrontabs
 pub mod Jobs
 pub mod Zone

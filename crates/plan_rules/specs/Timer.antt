@@ -149,7 +149,7 @@ first_unit ((number, Nothing) ∷ more) = first_unit more
 -- the job of a timer, from its name, the unit that it names, and its events (systemd.timer(5))
 abbrev pub timer_job : List ℕ → Option (List ℕ) → List Calendar → JobParts
 timer_job name unit events =
-    record { name = name; user = None; command = unwrap_or unit (service_name name); rule = Events events }
+    record { name = name; user = None; command = unwrap_or unit (service_name name); rule = Events events; delay = 0 }
 
 -- the same; a `[Timer]` section is required (systemd.timer(5))
 abbrev pub job_with : Bool → List ℕ → Option (List ℕ) → List Calendar → TextReading JobParts

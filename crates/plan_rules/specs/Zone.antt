@@ -1,7 +1,8 @@
 -- Jobs in the zone of a clock.
-use Rattle.std.specs.Prelude.{ℕ, List, ◌++◌, drop, map, take}
+use Rattle.std.specs.Prelude.{ℕ, List, map}
 use Rattle.plan_clock.specs.declared.row.Change.{Change}
 use Rattle.plan_match.specs.Zone.{rule_in}
+use Rattle.plan_rules.specs.Delays.{first_changed}
 use Rattle.plan_rules.specs.Job.{JobParts}
 
 -- a job whose rule starts by the clock of a zone
@@ -14,4 +15,4 @@ jobs_in clock jobs = map (job_in clock) jobs
 
 -- jobs of which the first `count` are in the zone
 abbrev pub first_in : List Change → ℕ → List JobParts → List JobParts
-first_in clock count jobs = jobs_in clock (take count jobs) ++ drop count jobs
+first_in clock count jobs = first_changed (job_in clock) count jobs

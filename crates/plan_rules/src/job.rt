@@ -1,7 +1,8 @@
-//! A job: its name, what it runs, and the rule by which it starts.
+//! A job: its name, what it runs, the rule by which it starts, and its delay.
 
 ghost use Rattle.std.specs.Prelude.{◌≡◌, option_map, string_bytes, OnErr, OnOk};
 ghost use Rattle.std.specs.Arc.{arc_value};
+ghost use Rattle.plan_rules.specs.Delays.{nominal};
 ghost use Rattle.plan_rules.specs.Zone.{job_in};
 
 use plan_clock::Clock;
@@ -11,13 +12,14 @@ use std::alloc::{AllocError, Global};
 use std::marker::Model;
 use std::sync::Arc;
 
-/// A job of a crontab or of a timer file: its name, what it runs, and the rule by which it starts.
+/// A job of a crontab or of a timer file: its name, what it runs, the rule by which it starts, and its delay.
 #[derive(Debug, Drop)]
 pub struct Job {
     name: String,
     user: Option<String>,
     command: String,
     rule: Arc<Rule>,
+    delay: u64,
 }
 
 impl Model for Job {
@@ -34,22 +36,31 @@ impl Model for Job {
       user = option_map (λ user. string_bytes user) job.user;
       command = string_bytes job.command;
       rule = arc_value job.rule;
+      delay = job.delay;
     } };
 }
 
 impl Job {
     // Makes a job of these parts.
-    pub(crate) fn new(name: String, user: Option<String>, command: String, rule: Arc<Rule>) -> Job
+    pub(crate) fn new(
+        name: String,
+        user: Option<String>,
+        command: String,
+        rule: Arc<Rule>,
+        delay: u64,
+    ) -> Job
         ensures name { result.name ≡ string_bytes name }
         ensures user { result.user ≡ option_map (λ user. string_bytes user) user }
         ensures command { result.command ≡ string_bytes command }
         ensures rule { result.rule ≡ arc_value rule }
+        ensures delay { result.delay ≡ delay }
     {
         Job {
             name,
             user,
             command,
             rule,
+            delay,
         }
     }
 
@@ -61,6 +72,13 @@ impl Job {
         let rule = self.rule.in_zone(alloc, clock)?;
         self.rule = Arc::new(alloc, rule)?;
         Ok(())
+    }
+
+    // Sets the job's delay to 0.
+    pub(crate) fn drop_delay(&mut self)
+        ensures { self.new ≡ nominal self.old }
+    {
+        self.delay = 0;
     }
 
     /// Returns the job's name, which no other job of a plan has.
@@ -101,5 +119,13 @@ impl Job {
         ensures { arc_value result.now ≡ self.now.rule }
     {
         &self.rule
+    }
+
+    /// Returns the job's delay, in seconds: how long after a time of its rule it may still start. It is 0 for a
+    /// job of a crontab.
+    pub fn delay(&self) -> u64
+        ensures { result ≡ self.now.delay }
+    {
+        self.delay
     }
 }

@@ -1,9 +1,10 @@
 //! The jobs of a plan, by name and in the order in which they were added.
 
-ghost use Rattle.std.specs.Prelude.{◌≡◌, ◌↔◌, ◌≤◌, ◌<◌, ◌+◌, ◌++◌, List, [], ◌∷◌, length, slice_get, IsTrue, IsNone, IsSome, IfOk, IfErr, OnOk, OnErr};
+ghost use Rattle.std.specs.Prelude.{◌≡◌, ◌↔◌, ◌≤◌, ◌<◌, ◌+◌, ◌++◌, List, [], ◌∷◌, length, map, slice_get, IsTrue, IsNone, IsSome, IfOk, IfErr, OnOk, OnErr};
 ghost use Rattle.std.specs.Option.{option_copied};
 ghost use Rattle.plan_rules.specs.Limits.{most_jobs};
 ghost use Rattle.plan_rules.specs.Job.{JobParts};
+ghost use Rattle.plan_rules.specs.Delays.{first_changed, nominal};
 ghost use Rattle.plan_rules.specs.Zone.{first_in, jobs_in};
 ghost use Rattle.plan_rules.specs.Jobs.{number_of, HaveDistinctNames, job_of};
 
@@ -122,6 +123,29 @@ impl Jobs {
             return Ok(());
         };
         job.put_in_zone(alloc, clock)
+    }
+
+    /// Returns the same jobs without delays: each starts at the times of its rule.
+    pub fn without_delays(self) -> Jobs
+        ensures { result ≡ map nominal self }
+    {
+        let mut jobs = self;
+        for number in 0..jobs.len() {
+            jobs.drop_delay(number);
+        }
+        jobs
+    }
+
+    // Sets the delay of the job with a number to 0.
+    fn drop_delay(&mut self, number: usize)
+        requires { number < length self.old }
+        ensures { (jobs : List JobParts) → self.old ≡ first_changed nominal number jobs
+            → self.new ≡ first_changed nominal (number + 1) jobs }
+    {
+        let Some(job) = self.by_name.get_index_mut(number) else {
+            return;
+        };
+        job.drop_delay();
     }
 
     /// Adds a job after the others, and returns its number.

@@ -138,7 +138,7 @@ pub fn timer_job(
     };
     let name = String::from_str(alloc, name)?;
     let rule = Arc::new(alloc, Rule::Events(events))?;
-    Ok(Job::new(name, None, command, rule))
+    Ok(Job::new(name, None, command, rule, 0))
 }
 
 // Returns the name of the service that a timer starts if it names no unit.

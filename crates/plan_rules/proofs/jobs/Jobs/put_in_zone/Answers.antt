@@ -7,7 +7,7 @@ use Rattle.indexmap.proofs.CallerLemmas.{index_map_len-with_value_at, keys-with_
 use Rattle.indexmap.specs.IndexMap.{set_value_at}
 use Rattle.plan_rules.specs.Limits.{most_jobs}
 use Rattle.plan_rules.specs.Job.{JobParts}
-use Rattle.plan_rules.specs.Zone.{first_in}
+use Rattle.plan_rules.specs.Zone.{first_in, job_in}
 use Rattle.plan_rules.proofs.ZoneLemmas.{first_more, name_kept, same_names, where_done}
 use Rattle.plan_rules.proofs.jobs.Jobs.put_in_zone.Goals as goal
 
@@ -31,5 +31,5 @@ returns c =
     sym c.get_index_mut.ensures.value ∙ ap option_copied_mut c.in-Some.is in
     where_done c.put_in_zone.result _ _ c.put_in_zone.ensures.zone
     (λ new all so_far. ap (λ (job : JobParts). values_of (set_value_at jobs.entries c.args.number job)) new
-    ∙ first_more c.args.clock.now jobs.entries all c.args.number c.in-Some.job.now here (c.self.view_is ∙ so_far)
+    ∙ first_more (job_in c.args.clock.now) jobs.entries all c.args.number c.in-Some.job.now here (c.self.view_is ∙ so_far)
     ∙ ap (λ (n : ℕ). first_in c.args.clock.now n all) (sym (add-one c.args.number)))

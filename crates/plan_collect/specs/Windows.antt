@@ -1,0 +1,58 @@
+-- The agenda of windows: a job may start later than at the times of its rule, by up to its delay (systemd.timer(5),
+-- `RandomizedDelaySec=`, `AccuracySec=`). The window of a start is from that time to the latest one, both included.
+use Rattle.std.specs.Prelude.{ℕ, ◌+◌, ◌-◌, Bool, ◌&&◌, nat_le, nat_lt, min, if◌then◌else◌, List, [], ◌∷◌, map, refl}
+use Rattle.std.specs.Coded.{Coded, code_by, coded×, coded_ℕ}
+use Rattle.std.specs.List.{flat_map, range_with_len}
+use Rattle.plan_sets.specs.Limits.{end_second}
+use Rattle.plan_match.specs.contracts.rule.Rule.{the_row}
+use Rattle.plan_match.specs.declared.rule.Rule.{Rule}
+use Rattle.plan_next.specs.Span.{Bounds}
+use Rattle.plan_next.specs.Starts.{is_start}
+use Rattle.plan_rules.specs.Job.{JobParts}
+use Rattle.plan_collect.specs.Agenda.{Planned}
+
+-- when a job may start: at the times of its rule, and up to this many seconds later
+pub record Timing : Type 0 where
+  pub rule : Rule
+  pub delay : ℕ
+
+-- a timing is stored as the pair of these
+abbrev pub timing_code : Coded Timing
+timing_code =
+    code_by (Rule × ℕ) (coded× the_row.coded coded_ℕ) (λ timing. (timing.rule, timing.delay))
+    (λ t. record { rule = t.0; delay = t.1 }) (λ _. refl)
+
+-- the timings of jobs: the timing at place j is that of the job with number j
+abbrev pub timings_of : List JobParts → List Timing
+timings_of jobs = map (λ job. record { rule = job.rule; delay = job.delay }) jobs
+
+-- the latest start for a time of the rule, at most the end of the planner's years (agenda)
+abbrev pub latest_start : (delay second : ℕ) → ℕ
+latest_start delay second = min (second + delay) end_second
+
+-- the window of a start at `second` meets a span that isn't empty: it opens before the span ends, and doesn't close before the
+-- span starts (agenda)
+abbrev pub meets : Bounds → (delay second : ℕ) → Bool
+meets span delay second = nat_lt span.since span.upto && (nat_lt second span.upto && nat_le span.since (second + delay))
+
+-- the second from which on a job's windows meet the span: before its start if the job has a delay and the span isn't empty
+abbrev pub first_second : Bounds → (delay : ℕ) → ℕ
+first_second span delay = if nat_lt span.since span.upto then span.since - delay else span.since
+
+-- the entries of one second: the jobs whose window opens then and meets the span, ascending; the first timing is that of the
+-- job with number `job`
+abbrev pub windows_from : (job : ℕ) → List Timing → Bounds → (second : ℕ) → List (ℕ × ℕ)
+windows_from job [] span second = []
+windows_from job (timing ∷ timings) span second =
+    if is_start timing.rule second && meets span timing.delay second
+    then (second, job) ∷ windows_from (job + 1) timings span second
+    else windows_from (job + 1) timings span second
+
+-- the agenda of windows: for each second before the span's end, ascending, each job whose window opens then and meets the
+-- span, ascending
+unfoldable pub agenda_of_windows : List Timing → Bounds → List (ℕ × ℕ)
+agenda_of_windows timings span = flat_map (windows_from 0 timings span) (range_with_len 0 span.upto)
+
+-- the agenda of windows over a span, with the span
+abbrev pub planned_windows : List Timing → Bounds → Planned
+planned_windows timings span = record { span = span; entries = agenda_of_windows timings span }
