@@ -129,11 +129,11 @@ impl Jobs {
     pub fn without_delays(self) -> Jobs
         ensures { result ≡ map nominal self }
     {
-        let mut jobs = self;
-        for number in 0..jobs.len() {
-            jobs.drop_delay(number);
+        let mut undelayed = self;
+        for number in 0..undelayed.len() {
+            undelayed.drop_delay(number);
         }
-        jobs
+        undelayed
     }
 
     // Sets the delay of the job with a number to 0.
