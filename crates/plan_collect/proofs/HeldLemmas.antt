@@ -1,18 +1,19 @@
 -- What a collector holds, compared with the agenda: for `has_room`, `keep` and `finish` of `Collector`, by
 -- HoldsLemmas.antt. What is held is ordered by job, and the agenda by second. So both are weighed: `weigh-rows` takes the
 -- first job's starts out of all rows, and the rest is induction over the jobs, with a job's starts cut in two.
-use Rattle.std.proofs.Common.{◌≡◌, ℕ, zero, suc, ◌+◌, ◌-◌, ◌<◌, ◌≤◌, Bool, true, false, cond, List, [], ◌∷◌, ◌++◌, length, map, filter, Some, ◌==◌, refl, ap, sym, ◌∙◌, arith}
+use Rattle.std.proofs.Common.{◌≡◌, ℕ, zero, suc, ◌+◌, ◌<◌, ◌≤◌, Bool, true, false, cond, List, [], ◌∷◌, ◌++◌, length, map, filter, Some, ◌==◌, refl, ap, sym, subst, ◌∙◌, arith}
 use Rattle.std.specs.Prelude.{slice_get, slice_index, slice_set}
 use Rattle.std.specs.List.{range_with_len, flat_map, list_all}
 use Rattle.std.proofs.lemmas.Bool.{and_parts, eqb-true}
 use Rattle.std.proofs.lemmas.List.{length-map, map-append}
 use Rattle.plan_match.specs.declared.rule.Rule.{Rule}
-use Rattle.plan_next.specs.Starts.{is_start, passing, starts}
+use Rattle.plan_next.specs.Starts.{is_start, starts}
 use Rattle.plan_next.specs.StartsLaws.{passing-append}
 use Rattle.plan_next.specs.Span.{Bounds}
-use Rattle.plan_collect.specs.Agenda.{row_from}
 use Rattle.plan_collect.specs.Collecting.{held_from, weigh}
+use Rattle.plan_collect.specs.Windows.{Timing, first_second, windows_from}
 use Rattle.plan_collect.proofs.StartsLemmas.{weigh-append}
+use Rattle.plan_collect.proofs.WindowsLemmas.{is_planned, planned_starts}
 
 -- the entries of one job
 abbrev pub entries_of : (job : ℕ) → List ℕ → List (ℕ × ℕ)
@@ -32,9 +33,11 @@ starts_cut weight job since upto end rule low high =
     ∙ weigh-append weight (entries_of job (starts rule since upto)) (entries_of job (starts rule upto end))
 
 -- rows of no jobs weigh nothing
-weigh-no_jobs : (weight : ℕ × ℕ → ℕ) (job : ℕ) (seconds : List ℕ) → weigh weight (flat_map (row_from job []) seconds) ≡ 0
-weigh-no_jobs weight job [] = refl
-weigh-no_jobs weight job (n ∷ seconds) = weigh-no_jobs weight job seconds
+weigh-no_jobs :
+    (weight : ℕ × ℕ → ℕ) (job : ℕ) (span : Bounds) (seconds : List ℕ) →
+    weigh weight (flat_map (windows_from job [] span) seconds) ≡ 0
+weigh-no_jobs weight job span [] = refl
+weigh-no_jobs weight job span (n ∷ seconds) = weigh-no_jobs weight job span seconds
 
 one_row :
     (weight : ℕ × ℕ → ℕ) (is : Bool) (n job : ℕ) (row rest : List (ℕ × ℕ)) (passed : List ℕ) (others : List (ℕ × ℕ)) →
@@ -46,114 +49,124 @@ one_row weight false n job row rest passed others later = omega (arith, weigh-ap
 
 -- rows weigh what the first job's starts and the rows of the others weigh
 weigh-rows :
-    (weight : ℕ × ℕ → ℕ) (job : ℕ) (rule : Rule) (rules : List Rule) (seconds : List ℕ) →
-    weigh weight (flat_map (row_from job (rule ∷ rules)) seconds) ≡ weigh weight
-    (entries_of job (filter (is_start rule) seconds)) + weigh weight (flat_map (row_from (job + 1) rules) seconds)
-weigh-rows weight job rule rules [] = refl
-weigh-rows weight job rule rules (n ∷ seconds) =
-    one_row weight (is_start rule n) n job (row_from (job + 1) rules n) (flat_map (row_from job (rule ∷ rules)) seconds)
-    (filter (is_start rule) seconds) (flat_map (row_from (job + 1) rules) seconds) (weigh-rows weight job rule rules seconds)
+    (weight : ℕ × ℕ → ℕ) (job : ℕ) (timing : Timing) (timings : List Timing) (span : Bounds) (seconds : List ℕ) →
+    weigh weight (flat_map (windows_from job (timing ∷ timings) span) seconds) ≡ weigh weight
+    (entries_of job (filter (is_planned timing span) seconds)) + weigh weight
+    (flat_map (windows_from (job + 1) timings span) seconds)
+weigh-rows weight job timing timings span [] = refl
+weigh-rows weight job timing timings span (n ∷ seconds) =
+    one_row weight (is_planned timing span n) n job (windows_from (job + 1) timings span n)
+    (flat_map (windows_from job (timing ∷ timings) span) seconds) (filter (is_planned timing span) seconds)
+    (flat_map (windows_from (job + 1) timings span) seconds) (weigh-rows weight job timing timings span seconds)
 
--- the seconds of a span
+-- the seconds at which windows may open that meet the span
 abbrev pub seconds_of : Bounds → List ℕ
-seconds_of span = range_with_len span.since (span.upto - span.since)
+seconds_of span = range_with_len 0 span.upto
 
--- the starts of the first job of a span and the rows of the others
+-- the starts of the first job that belong to a span, and the rows of the others
 weigh-span :
-    (weight : ℕ × ℕ → ℕ) (job : ℕ) (rule : Rule) (rules : List Rule) (span : Bounds) →
-    weigh weight (flat_map (row_from job (rule ∷ rules)) (seconds_of span)) ≡ weigh weight
-    (entries_of job (starts rule span.since span.upto)) + weigh weight (flat_map (row_from (job + 1) rules) (seconds_of span))
-unfolding passing
-weigh-span weight job rule rules span = weigh-rows weight job rule rules (seconds_of span)
+    (weight : ℕ × ℕ → ℕ) (job : ℕ) (timing : Timing) (timings : List Timing) (span : Bounds) → span.since ≤ span.upto →
+    weigh weight (flat_map (windows_from job (timing ∷ timings) span) (seconds_of span)) ≡ weigh weight
+    (entries_of job (starts timing.rule (first_second span timing.delay) span.upto)) + weigh weight
+    (flat_map (windows_from (job + 1) timings span) (seconds_of span))
+weigh-span weight job timing timings span ordered =
+    weigh-rows weight job timing timings span (seconds_of span)
+    ∙ ap (λ seconds. weigh weight (entries_of job seconds) + weigh weight (flat_map (windows_from (job + 1) timings span) (seconds_of span)))
+    (planned_starts timing span ordered)
 
--- each of the jobs is covered to a second of the span
-abbrev pub AreWithin : Bounds → List ℕ → Type 0
-AreWithin span [] = Unit {0}
-AreWithin span (upto ∷ covered) = (span.since ≤ upto) × (upto ≤ span.upto) × AreWithin span covered
+-- each of the jobs is covered to a second from its first one to the end of the span
+abbrev pub AreWithin : Bounds → List Timing → List ℕ → Type 0
+AreWithin span [] covered = Unit {0}
+AreWithin span (timing ∷ timings) [] = Unit {0}
+AreWithin span (timing ∷ timings) (upto ∷ covered) =
+    (first_second span timing.delay ≤ upto) × (upto ≤ span.upto) × AreWithin span timings covered
 
 pub AreWithin-each :
-    (span : Bounds) (covered : List ℕ) → ((job : ℕ) → job < length covered → span.since ≤ slice_index covered job) →
-    ((job : ℕ) → job < length covered → slice_index covered job ≤ span.upto) → AreWithin span covered
-AreWithin-each span [] low high = tt
-AreWithin-each span (upto ∷ covered) low high = (
-  low 0 (omega arith),
+    (span : Bounds) (timings : List Timing) (covered : List ℕ) →
+    ((job : ℕ) (timing : Timing) → slice_get timings job ≡ Some timing → first_second span timing.delay ≤ slice_index covered job) →
+    ((job : ℕ) → job < length covered → slice_index covered job ≤ span.upto) → AreWithin span timings covered
+AreWithin-each span [] covered low high = tt
+AreWithin-each span (timing ∷ timings) [] low high = tt
+AreWithin-each span (timing ∷ timings) (upto ∷ covered) low high = (
+  low 0 timing refl,
   high 0 (omega arith),
-  AreWithin-each span covered (λ job lt. low (suc job) (omega arith))
-      (λ job lt. high (suc job) (omega arith)),
+  AreWithin-each span timings covered (λ job own is. low (suc job) own is) (λ job lt. high (suc job) (omega arith)),
 )
 
 -- what is held weighs no more than the agenda
 pub held-le :
-    (weight : ℕ × ℕ → ℕ) (job : ℕ) (span : Bounds) (rules : List Rule) (covered : List ℕ) → AreWithin span covered →
-    weigh weight (held_from job span.since rules covered) ≤ weigh weight (flat_map (row_from job rules) (seconds_of span))
-held-le weight job span [] covered within = omega arith
-held-le weight job span (rule ∷ rules) [] within = omega arith
-held-le weight job span (rule ∷ rules) (upto ∷ covered) (low, high, within) =
-    let others = held-le weight (job + 1) span rules covered within in
-    let all = weigh-span weight job rule rules span in
-    let parts = starts_cut weight job span.since upto span.upto rule low high in
+    (weight : ℕ × ℕ → ℕ) (job : ℕ) (span : Bounds) (timings : List Timing) (covered : List ℕ) → span.since ≤ span.upto →
+    AreWithin span timings covered →
+    weigh weight (held_from job span timings covered) ≤ weigh weight (flat_map (windows_from job timings span) (seconds_of span))
+held-le weight job span [] covered ordered within = omega arith
+held-le weight job span (timing ∷ timings) [] ordered within = omega arith
+held-le weight job span (timing ∷ timings) (upto ∷ covered) ordered (low, high, within) =
+    let others = held-le weight (job + 1) span timings covered ordered within in
+    let all = weigh-span weight job timing timings span ordered in
+    let first = first_second span timing.delay in
+    let parts = starts_cut weight job first upto span.upto timing.rule low high in
     omega (
       arith,
       others,
       all,
       parts,
-      weigh-append weight (entries_of job (starts rule span.since upto))
-          (held_from (job + 1) span.since rules covered),
+      weigh-append weight (entries_of job (starts timing.rule first upto)) (held_from (job + 1) span timings covered),
     )
 
 -- if each job is covered to the end, everything is held
 pub held-complete :
-    (weight : ℕ × ℕ → ℕ) (job : ℕ) (span : Bounds) (rules : List Rule) (covered : List ℕ) → length covered ≡ length rules →
-    list_all (λ upto. upto == span.upto) covered ≡ true →
-    weigh weight (held_from job span.since rules covered) ≡ weigh weight (flat_map (row_from job rules) (seconds_of span))
-held-complete weight job span [] covered len all = sym (weigh-no_jobs weight job (seconds_of span))
-held-complete weight job span (rule ∷ rules) [] len all = absurd (omega arith)
-held-complete weight job span (rule ∷ rules) (upto ∷ covered) len all =
+    (weight : ℕ × ℕ → ℕ) (job : ℕ) (span : Bounds) (timings : List Timing) (covered : List ℕ) → span.since ≤ span.upto →
+    length covered ≡ length timings → list_all (λ upto. upto == span.upto) covered ≡ true →
+    weigh weight (held_from job span timings covered) ≡ weigh weight (flat_map (windows_from job timings span) (seconds_of span))
+held-complete weight job span [] covered ordered len all = sym (weigh-no_jobs weight job span (seconds_of span))
+held-complete weight job span (timing ∷ timings) [] ordered len all = absurd (omega arith)
+held-complete weight job span (timing ∷ timings) (upto ∷ covered) ordered len all =
     let both = and_parts (upto == span.upto) (list_all (λ upto. upto == span.upto) covered) all in
     let here : upto ≡ span.upto = eqb-true upto span.upto both.0 in
-    let others = held-complete weight (job + 1) span rules covered (omega arith) both.1 in
-    let rows = weigh-span weight job rule rules span in
-    let own : weigh weight (entries_of job (starts rule span.since upto)) ≡ weigh weight
-    (entries_of job (starts rule span.since span.upto)) = ap (λ n. weigh weight (entries_of job (starts rule span.since n))) here in
+    let others = held-complete weight (job + 1) span timings covered ordered (omega arith) both.1 in
+    let rows = weigh-span weight job timing timings span ordered in
+    let first = first_second span timing.delay in
+    let own : weigh weight (entries_of job (starts timing.rule first upto)) ≡ weigh weight
+    (entries_of job (starts timing.rule first span.upto)) = ap (λ n. weigh weight (entries_of job (starts timing.rule first n))) here in
     omega (
       arith,
       others,
       rows,
       own,
-      weigh-append weight (entries_of job (starts rule span.since upto))
-          (held_from (job + 1) span.since rules covered),
+      weigh-append weight (entries_of job (starts timing.rule first upto)) (held_from (job + 1) span timings covered),
     )
 
 -- a piece that starts where its job is covered to adds its starts
 pub held-more :
-    (weight : ℕ × ℕ → ℕ) (first place since : ℕ) (rules : List Rule) (covered : List ℕ) (rule : Rule) (end : ℕ) →
-    slice_get rules place ≡ Some rule → place < length covered → since ≤ slice_index covered place →
-    slice_index covered place ≤ end →
-    weigh weight (held_from first since rules (slice_set covered place end)) ≡ weigh weight
-    (held_from first since rules covered) + weigh weight (entries_of (first + place) (starts rule (slice_index covered place) end))
-held-more weight first place since [] covered rule end is there low high = cc
-held-more weight first place since (own ∷ rules) [] rule end is there low high = absurd (omega arith)
-held-more weight first zero since (own ∷ rules) (upto ∷ covered) rule end is there low high =
-    let same : own ≡ rule = cc in
-    let number : first + 0 ≡ first = omega arith in
-    let parts = starts_cut weight first since upto end own low high in
-    rw (← same, number) (omega (
+    (weight : ℕ × ℕ → ℕ) (number place : ℕ) (span : Bounds) (timings : List Timing) (covered : List ℕ) (timing : Timing) (end : ℕ) →
+    slice_get timings place ≡ Some timing → place < length covered →
+    first_second span timing.delay ≤ slice_index covered place → slice_index covered place ≤ end →
+    weigh weight (held_from number span timings (slice_set covered place end)) ≡ weigh weight
+    (held_from number span timings covered) + weigh weight
+    (entries_of (number + place) (starts timing.rule (slice_index covered place) end))
+held-more weight number place span [] covered timing end is there low high = cc
+held-more weight number place span (own ∷ timings) [] timing end is there low high = absurd (omega arith)
+held-more weight number zero span (own ∷ timings) (upto ∷ covered) timing end is there low high =
+    let same : timing ≡ own = cc in
+    let here : number + 0 ≡ number = omega arith in
+    let from : first_second span own.delay ≤ upto = subst (λ (t : Timing). first_second span t.delay ≤ upto) same low in
+    let first = first_second span own.delay in
+    let parts = starts_cut weight number first upto end own.rule from high in
+    rw (same, here) (omega (
       arith,
       parts,
-      weigh-append weight (entries_of first (starts own since end))
-          (held_from (first + 1) since rules covered),
-      weigh-append weight (entries_of first (starts own since upto))
-          (held_from (first + 1) since rules covered),
+      weigh-append weight (entries_of number (starts own.rule first end)) (held_from (number + 1) span timings covered),
+      weigh-append weight (entries_of number (starts own.rule first upto)) (held_from (number + 1) span timings covered),
     ))
-held-more weight first (suc place) since (own ∷ rules) (upto ∷ covered) rule end is there low high =
-    let later = held-more weight (first + 1) place since rules covered rule end is (omega arith) low high in
-    let number : first + 1 + place ≡ first + suc place = omega arith in
-    let others = rw number at later in
+held-more weight number (suc place) span (own ∷ timings) (upto ∷ covered) timing end is there low high =
+    let later = held-more weight (number + 1) place span timings covered timing end is (omega arith) low high in
+    let here : number + 1 + place ≡ number + suc place = omega arith in
+    let others = rw here at later in
+    let first = first_second span own.delay in
     omega (
       arith,
       others,
-      weigh-append weight (entries_of first (starts own since upto))
-          (held_from (first + 1) since rules (slice_set covered place end)),
-      weigh-append weight
-          (entries_of first (starts own since upto)) (held_from (first + 1) since rules covered),
+      weigh-append weight (entries_of number (starts own.rule first upto))
+          (held_from (number + 1) span timings (slice_set covered place end)),
+      weigh-append weight (entries_of number (starts own.rule first upto)) (held_from (number + 1) span timings covered),
     )

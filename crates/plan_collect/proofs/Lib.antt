@@ -1,4 +1,5 @@
 pub mod AgendaOrder
+pub mod WindowsLemmas
 pub mod StartsLemmas
 pub mod HeldLemmas
 pub mod HoldsLemmas

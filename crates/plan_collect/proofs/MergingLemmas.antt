@@ -2,13 +2,12 @@
 -- `accepts_every_merging`, by TilingLemmas.antt. `merged` goes by induction over the arrivals: what each planner still
 -- sends fits, or brings too many starts (`Sends`), and a message changes nothing for other planners (`alike_other`).
 use Rattle.std.proofs.Common.{◌≡◌, ◌≢◌, ℕ, suc, ◌+◌, ◌%◌, ◌<◌, ◌≤◌, ◌⊎◌, Bool, true, false, ◌&&◌, ◌==◌, nat_lt, nat_le, List, [], ◌∷◌, length, get_or, Some, None, Result, Err, inl, inr, refl, ap, ap₂, sym, ◌∙◌, subst, arith}
-use Rattle.std.specs.Prelude.{slice_get, slice_index, if◌then◌else◌, unwrap_or, Option, MatchResult}
+use Rattle.std.specs.Prelude.{slice_get, slice_index, if◌then◌else◌, unwrap_or, MatchResult}
 use Rattle.std.specs.List.{list_all}
 use Rattle.std.proofs.Math.ListN.{set}
 use Rattle.std.proofs.lemmas.Bool.{cases_lt, cases_eq, cases_Bool, and_parts, and_from, eqb-true, ltb-true, leb-true, eq-eqb, ne_eqb}
 use Rattle.std.proofs.lemmas.List.{length-set, get_or-set_same, get_or-set_other, get_or_past}
 use Rattle.std.proofs.lemmas.Option.{unwrap_or-slice_get, slice_get_within}
-use Rattle.plan_match.specs.declared.rule.Rule.{Rule}
 use Rattle.plan_next.specs.Starts.{starts}
 use Rattle.plan_collect.specs.declared.note.Note.{Note}
 use Rattle.plan_collect.specs.declared.note.Note.TheVariants.{Part, Last}
@@ -18,7 +17,8 @@ use Rattle.plan_next.specs.Span.{Bounds}
 use Rattle.plan_collect.specs.Collecting.{Collected, held, belongs, is_rule_of, has_ended, adjoins, has_room, refusal, after, is_complete}
 use Rattle.plan_collect.specs.Tiling.{starts_in, notes_of}
 use Rattle.plan_collect.specs.Merging.{answer_to}
-use Rattle.plan_collect.proofs.HoldsLemmas.{rule_of_some}
+use Rattle.plan_collect.specs.Windows.{Timing, first_second}
+use Rattle.plan_collect.proofs.HoldsLemmas.{HasRule, rule_of_some}
 use Rattle.plan_collect.proofs.HeldLemmas.{entries_of, held-more, length-entries_of}
 use Rattle.plan_collect.proofs.StartsLemmas.{weigh-length}
 
@@ -55,7 +55,7 @@ Over limit count k c (note ∷ notes) = Fits k c note × Over limit (count + sta
 
 -- two collectors are alike for a planner
 record IsAlike (k : ℕ) (c d : Collected) : Type 0 where
-  pub rules : c.rules ≡ d.rules
+  pub timings : c.timings ≡ d.timings
   pub span : c.span ≡ d.span
   pub size : length c.ended ≡ length d.ended
   pub jobs : length c.covered ≡ length d.covered
@@ -64,16 +64,16 @@ record IsAlike (k : ℕ) (c d : Collected) : Type 0 where
 
 -- the planner's number is that of the job, modulo the number of planners
 own_job :
-    (c : Collected) (k job : ℕ) (rule : Option Rule) (fits : Bool) →
+    (c : Collected) (k job : ℕ) (fits : Bool) →
     (nat_lt k (length c.ended) && (job % length c.ended == k && fits)) ≡ true → job % length c.ended ≡ k
-own_job c k job rule fits is = eqb-true _ _ (and_parts _ _ (and_parts _ _ is).1).0
+own_job c k job fits is = eqb-true _ _ (and_parts _ _ (and_parts _ _ is).1).0
 
 alike_fits : (k : ℕ) (c d : Collected) (note : Note) → IsAlike k c d → Fits k c note → Fits k d note
 alike_fits k c d (Part job piece) alike fits =
-    let own : job % length c.ended ≡ k = own_job c k job (slice_get c.rules job) _ fits.own in
+    let own : job % length c.ended ≡ k = own_job c k job _ fits.own in
     record {
-      own = sym (ap₂ (λ n rules. nat_lt k n && (job % n == k && is_rule_of (slice_get rules job) piece.rule)) alike.size
-          alike.rules) ∙ fits.own;
+      own = sym (ap₂ (λ n timings. nat_lt k n && (job % n == k && is_rule_of (slice_get timings job) piece.rule)) alike.size
+          alike.timings) ∙ fits.own;
       early = sym alike.ended ∙ fits.early;
       next = sym (ap₂ (λ reached span. reached == piece.since && nat_le piece.upto (Bounds.upto span))
           (alike.covered job own) alike.span) ∙ fits.next;
@@ -111,7 +111,7 @@ ends_now k ended inside = unwrap_or-slice_get (set ended k true) k false ∙ get
 
 alike_after : (k : ℕ) (c d : Collected) (note : Note) → IsAlike k c d → Fits k c note → IsAlike k (after c k note) (after d k note)
 alike_after k c d (Part job piece) alike fits = record {
-  rules = alike.rules;
+  timings = alike.timings;
   span = alike.span;
   size = alike.size;
   jobs = length-set c.covered job piece.upto ∙ alike.jobs ∙ sym (length-set d.covered job piece.upto);
@@ -122,7 +122,7 @@ alike_after k c d Last alike fits =
     let inside : k < length c.ended = ltb-true _ _ fits.own in
     let size = alike.size in
     record {
-      rules = alike.rules;
+      timings = alike.timings;
       span = alike.span;
       size = length-set c.ended k true ∙ alike.size ∙ sym (length-set d.ended k true);
       jobs = alike.jobs;
@@ -133,9 +133,9 @@ alike_after k c d Last alike fits =
 -- a message changes nothing for another planner
 alike_other : (k other : ℕ) (c : Collected) (note : Note) → other ≢ k → Fits k c note → IsAlike other c (after c k note)
 alike_other k other c (Part job piece) not fits =
-    let own : job % length c.ended ≡ k = own_job c k job (slice_get c.rules job) _ fits.own in
+    let own : job % length c.ended ≡ k = own_job c k job _ fits.own in
     record {
-      rules = refl;
+      timings = refl;
       span = refl;
       size = refl;
       jobs = sym (length-set c.covered job piece.upto);
@@ -144,7 +144,7 @@ alike_other k other c (Part job piece) not fits =
       ended = refl;
     }
 alike_other k other c Last not fits = record {
-  rules = refl;
+  timings = refl;
   span = refl;
   size = sym (length-set c.ended k true);
   jobs = refl;
@@ -179,8 +179,8 @@ alike_over limit count k (note ∷ notes) c d alike (fits, rest) = (
 
 -- the parts of a collector fit together
 pub record IsSound (c : Collected) : Type 0 where
-  pub jobs : length c.covered ≡ length c.rules
-  pub since : (j : ℕ) → j < length c.covered → c.span.since ≤ slice_index c.covered j
+  pub jobs : length c.covered ≡ length c.timings
+  pub since : (j : ℕ) (timing : Timing) → slice_get c.timings j ≡ Some timing → first_second c.span timing.delay ≤ slice_index c.covered j
   pub few : length (held c) ≤ c.limit
 
 rule_is : (k size job : ℕ) (known : Bool) → (nat_lt k size && (job % size == k && known)) ≡ true → known ≡ true
@@ -190,25 +190,26 @@ held_after :
     (k : ℕ) (c : Collected) (note : Note) → IsSound c → Fits k c note →
     length (held (after c k note)) ≡ length (held c) + starts_in note
 held_after k c (Part job piece) sound fits =
-    let known : slice_get c.rules job ≡ Some piece.rule = rule_of_some (slice_get c.rules job) piece.rule
-    (rule_is k (length c.ended) job (is_rule_of (slice_get c.rules job) piece.rule) fits.own) in
+    let has : HasRule (slice_get c.timings job) piece.rule = rule_of_some (slice_get c.timings job) piece.rule
+    (rule_is k (length c.ended) job (is_rule_of (slice_get c.timings job) piece.rule) fits.own) in
+    let rule = has.timing.rule in
     let jobs = sound.jobs in
-    let among : job < length c.rules = slice_get_within c.rules job piece.rule known in
+    let among : job < length c.timings = slice_get_within c.timings job has.timing has.there in
     let inside : job < length c.covered = omega arith in
     let reached : slice_index c.covered job ≡ piece.since = eqb-true _ _ (and_parts _ _ fits.next).0 in
-    let low = sound.since job inside in
+    let low = sound.since job has.timing has.there in
     let ordered = fits.ordered in
-    let more = held-more (λ _. 1) 0 job c.span.since c.rules c.covered piece.rule piece.upto known inside low (omega arith) in
-    let added : length (starts piece.rule (slice_index c.covered job) piece.upto) ≡ length (starts piece.rule piece.since piece.upto) =
-    ap (λ since. length (starts piece.rule since piece.upto)) reached in
+    let more = held-more (λ _. 1) 0 job c.span c.timings c.covered has.timing piece.upto has.there inside low (omega arith) in
+    let added : length (starts rule (slice_index c.covered job) piece.upto) ≡ length (starts piece.rule piece.since piece.upto) =
+    ap₂ (λ own since. length (starts own since piece.upto)) has.same reached in
     omega (
       arith,
       more,
       added,
       weigh-length (held (after c k (Part job piece))),
       weigh-length (held c),
-      weigh-length (entries_of (0 + job) (starts piece.rule (slice_index c.covered job) piece.upto)),
-      length-entries_of (0 + job) (starts piece.rule (slice_index c.covered job) piece.upto),
+      weigh-length (entries_of (0 + job) (starts rule (slice_index c.covered job) piece.upto)),
+      length-entries_of (0 + job) (starts rule (slice_index c.covered job) piece.upto),
     )
 held_after k c Last sound fits = omega arith
 
@@ -221,17 +222,20 @@ sound_after k c (Part job piece) sound fits room =
     let new = held_after k c (Part job piece) sound fits in
     record {
       jobs = size ∙ sound.jobs;
-      since = λ j inside. (elim (cases_eq j job) [
+      since = λ j timing there. (elim (cases_eq j job) [
         | inl is ↦ (
+            let jobs = sound.jobs in
+            let known : j < length c.timings = slice_get_within c.timings j timing there in
             let within : job < length c.covered = omega arith in
-            let low = sound.since job within in
+            let low = sound.since j timing there in
+            let was : get_or c.covered j 0 ≡ get_or c.covered job 0 = ap (λ place. get_or c.covered place 0) is in
             let now : get_or (set c.covered job piece.upto) job 0 ≡ piece.upto = get_or-set_same c.covered job piece.upto 0 within in
             let same : get_or (set c.covered job piece.upto) j 0 ≡ piece.upto = ap
             (λ place. get_or (set c.covered job piece.upto) place 0) is ∙ now in
             let ordered : piece.since ≤ piece.upto = fits.ordered in
             omega arith)
         | inr not ↦ (
-            let old = sound.since j (omega arith) in
+            let old = sound.since j timing there in
             let same : get_or (set c.covered job piece.upto) j 0 ≡ get_or c.covered j 0 =
             get_or-set_other c.covered job j piece.upto 0 not in
             omega arith)

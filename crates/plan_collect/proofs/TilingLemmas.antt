@@ -5,28 +5,28 @@ use Rattle.std.proofs.Common.{◌≡◌, ℕ, zero, suc, ◌+◌, ◌-◌, ◌%�
 use Rattle.std.specs.Prelude.{slice_get, slice_index}
 use Rattle.std.proofs.Math.ListN.{set}
 use Rattle.std.proofs.lemmas.Bool.{cases_lt, cases_eq, and_from, and_parts, eq-eqb, lt-ltb, le-ltb, le-leb, leb-true}
-use Rattle.std.proofs.lemmas.List.{length-set, get_or-set_same, get_or-set_other, length-replicate, get_or-replicate}
+use Rattle.std.proofs.lemmas.List.{length-map, length-set, get_or-set_same, get_or-set_other, length-replicate, get_or-replicate}
 use Rattle.std.proofs.lemmas.Option.{unwrap_or-slice_get}
-use Rattle.plan_match.specs.declared.rule.Rule.{Rule}
 use Rattle.plan_match.specs.Equal.{same_rule-Decides}
-use Rattle.plan_next.specs.Starts.{is_start, starts}
-use Rattle.plan_next.specs.StartsLaws.{passing-none}
 use Rattle.plan_next.specs.Piece.{piece_of, piece_end}
 use Rattle.plan_collect.specs.declared.note.Note.{Note}
 use Rattle.plan_collect.specs.declared.note.Note.TheVariants as note
 use Rattle.plan_next.specs.Span.{Bounds}
 use Rattle.plan_collect.specs.Limits.{most_planners, most_starts}
-use Rattle.plan_collect.specs.Collecting.{Collected, begun, held_from, has_ended, after}
+use Rattle.plan_collect.specs.Collecting.{Collected, firsts_of, begun, held, has_ended, after}
 use Rattle.plan_collect.specs.Tiling.{pieces_within, pieces, parts_from, tiling, starts_in, cut_after, sent_by}
 use Rattle.plan_collect.specs.TilingLaws.{set_again, EndsPiece, piece_ends, piece_of_nothing, pieces_last, pieces_more, pieces_one, parts_none, parts_own, parts_other, cut_here, cut_later, cut_none}
 use Rattle.plan_collect.specs.Merging.{AcceptsMergings}
+use Rattle.plan_collect.specs.Windows.{Timing, first_second}
+use Rattle.plan_collect.proofs.HoldsLemmas.{nothing_held}
 use Rattle.plan_collect.proofs.MergingLemmas.{Fits, Ready, Over, Sends, IsSound, AllOf, merged}
+use Rattle.plan_collect.proofs.WindowsLemmas.{first-since, first_of}
 
--- the planner is at this job, which has this rule
-record IsAtJob (k job : ℕ) (rule : Rule) (c : Collected) : Type 0 where
+-- the planner is at this job, which has this timing
+record IsAtJob (k job : ℕ) (timing : Timing) (c : Collected) : Type 0 where
   pub planner : k < length c.ended
   pub own : job % length c.ended ≡ k
-  pub known : slice_get c.rules job ≡ Some rule
+  pub known : slice_get c.timings job ≡ Some timing
   pub early : has_ended c k ≡ false
   pub inside : job < length c.covered
 
@@ -34,40 +34,43 @@ abbrev covering : Collected → (job upto : ℕ) → Collected
 covering c job upto = record c { covered = set c.covered job upto }
 
 fits_next :
-    (k job : ℕ) (rule : Rule) (c : Collected) (from upto : ℕ) → IsAtJob k job rule c → slice_index c.covered job ≡ from →
-    from ≤ upto → upto ≤ c.span.upto → Fits k c (note.Part job (record { rule = rule; since = from; upto = upto }))
-fits_next k job rule c from upto here reached low high = record {
-  own = and_from _ _ (lt-ltb _ _ here.planner) (and_from _ _ (eq-eqb _ _ here.own) (rw here.known ((same_rule-Decides rule rule).1 refl)));
+    (k job : ℕ) (timing : Timing) (c : Collected) (from upto : ℕ) → IsAtJob k job timing c → slice_index c.covered job ≡ from →
+    from ≤ upto → upto ≤ c.span.upto → Fits k c (note.Part job (record { rule = timing.rule; since = from; upto = upto }))
+fits_next k job timing c from upto here reached low high = record {
+  own = and_from _ _ (lt-ltb _ _ here.planner)
+      (and_from _ _ (eq-eqb _ _ here.own) (rw here.known ((same_rule-Decides timing.rule timing.rule).1 refl)));
   early = here.early;
   next = and_from _ _ (eq-eqb _ _ reached) (le-leb _ _ high);
   ordered = low;
 }
 
-at_job_covering : (k job : ℕ) (rule : Rule) (c : Collected) (upto : ℕ) → IsAtJob k job rule c → IsAtJob k job rule (covering c job upto)
-at_job_covering k job rule c upto here =
+at_job_covering : (k job : ℕ) (timing : Timing) (c : Collected) (upto : ℕ) → IsAtJob k job timing c → IsAtJob k job timing (covering c job upto)
+at_job_covering k job timing c upto here =
     let size = length-set c.covered job upto in
     let inside = here.inside in
     record { planner = here.planner; own = here.own; known = here.known; early = here.early; inside = omega arith }
 
 -- the pieces of a job fit, one after another, and cover it
 ready_pieces :
-    (seconds k job : ℕ) (rule : Rule) (c : Collected) (from : ℕ) (rest : List Note) → IsAtJob k job rule c →
+    (seconds k job : ℕ) (timing : Timing) (c : Collected) (from : ℕ) (rest : List Note) → IsAtJob k job timing c →
     slice_index c.covered job ≡ from → from ≤ c.span.upto → c.span.upto - from ≤ seconds →
     Ready k (covering c job c.span.upto) rest →
-    Ready k c (map (note.Part job) (pieces_within seconds rule from c.span.upto) ++ rest)
-ready_pieces zero k job rule c from rest here reached part few ready =
+    Ready k c (map (note.Part job) (pieces_within seconds timing.rule from c.span.upto) ++ rest)
+ready_pieces zero k job timing c from rest here reached part few ready =
+    let rule = timing.rule in
     let whole : from ≡ c.span.upto = omega arith in
     let end : piece_end rule from c.span.upto most_starts ≡ c.span.upto = ap
     (λ since. piece_end rule since c.span.upto most_starts) whole ∙ piece_of_nothing rule c.span.upto most_starts in
     let all : Ready k c (note.Part job (record { rule = rule; since = from; upto = c.span.upto }) ∷ rest) =
-    (fits_next k job rule c from c.span.upto here reached part (omega arith), ready) in
+    (fits_next k job timing c from c.span.upto here reached part (omega arith), ready) in
     subst (λ ps. Ready k c (map (note.Part job) ps ++ rest)) (sym (pieces_one rule from c.span.upto))
     (subst (λ upto. Ready k c (note.Part job (record { rule = rule; since = from; upto = upto }) ∷ rest)) (sym end) all)
-ready_pieces (suc seconds) k job rule c from rest here reached part few ready =
+ready_pieces (suc seconds) k job timing c from rest here reached part few ready =
+    let rule = timing.rule in
     let end = piece_end rule from c.span.upto most_starts in
     let ends : EndsPiece from c.span.upto end = piece_ends rule from c.span.upto most_starts (omega arith) part in
     let fits : Fits k c (note.Part job (piece_of rule from c.span.upto most_starts)) =
-    fits_next k job rule c from end here reached ends.from ends.to in
+    fits_next k job timing c from end here reached ends.from ends.to in
     elim (cases_lt end c.span.upto) [
       | inl more ↦ (
           let go_on : nat_lt end c.span.upto ≡ true = lt-ltb _ _ more in
@@ -78,7 +81,7 @@ ready_pieces (suc seconds) k job rule c from rest here reached part few ready =
           let all : Ready k c (note.Part job
           (piece_of rule from c.span.upto most_starts) ∷ (map (note.Part job) (pieces_within seconds rule end c.span.upto) ++ rest)) = (
             fits,
-            ready_pieces seconds k job rule (covering c job end) end rest (at_job_covering k job rule c end here) now ends.to
+            ready_pieces seconds k job timing (covering c job end) end rest (at_job_covering k job timing c end here) now ends.to
                 (omega arith) again,
           ) in
           subst (λ ps. Ready k c (map (note.Part job) ps ++ rest)) (sym (pieces_more seconds rule from c.span.upto go_on)) all)
@@ -91,14 +94,15 @@ ready_pieces (suc seconds) k job rule c from rest here reached part few ready =
           subst (λ ps. Ready k c (map (note.Part job) ps ++ rest)) (sym (pieces_last seconds rule from c.span.upto stop)) all)
     ]
 
--- the planner's jobs before this one are covered, and nothing has arrived of those from it on, which have these rules
-record IsAt (k job : ℕ) (rules : List Rule) (c : Collected) : Type 0 where
+-- the planner's jobs before this one are covered, and nothing has arrived of those from it on, which have these timings
+record IsAt (k job : ℕ) (timings : List Timing) (c : Collected) : Type 0 where
   pub planner : k < length c.ended
   pub early : has_ended c k ≡ false
-  pub known : (i : ℕ) (rule : Rule) → slice_get rules i ≡ Some rule → slice_get c.rules (job + i) ≡ Some rule
-  pub jobs : length c.covered ≡ job + length rules
+  pub known : (i : ℕ) (timing : Timing) → slice_get timings i ≡ Some timing → slice_get c.timings (job + i) ≡ Some timing
+  pub jobs : length c.covered ≡ job + length timings
   pub part : c.span.since ≤ c.span.upto
-  pub coming : (j : ℕ) → job ≤ j → j < length c.covered → slice_index c.covered j ≡ c.span.since
+  pub coming : (i : ℕ) (timing : Timing) → slice_get timings i ≡ Some timing →
+      slice_index c.covered (job + i) ≡ first_second c.span timing.delay
   pub done : (j : ℕ) → j < job → j % length c.ended ≡ k → slice_index c.covered j ≡ c.span.upto
 
 -- the last message fits if all jobs are covered
@@ -116,18 +120,20 @@ ready_last k job c here =
 
 -- after a job of the planner, the next
 at_next_own :
-    (k job : ℕ) (rule : Rule) (rules : List Rule) (c : Collected) → IsAt k job (rule ∷ rules) c →
-    IsAt k (job + 1) rules (covering c job c.span.upto)
-at_next_own k job rule rules c here =
+    (k job : ℕ) (timing : Timing) (timings : List Timing) (c : Collected) → IsAt k job (timing ∷ timings) c →
+    IsAt k (job + 1) timings (covering c job c.span.upto)
+at_next_own k job timing timings c here =
     let size = length-set c.covered job c.span.upto in
     let jobs = here.jobs in
     record {
       planner = here.planner;
       early = here.early;
-      known = λ i r is. (let place : job + 1 + i ≡ job + suc i = omega arith in rw place (here.known (suc i) r is));
+      known = λ i t is. (let place : job + 1 + i ≡ job + suc i = omega arith in rw place (here.known (suc i) t is));
       jobs = omega arith;
       part = here.part;
-      coming = λ j low inside. get_or-set_other c.covered job j c.span.upto 0 (omega arith) ∙ here.coming j (omega arith) (omega arith);
+      coming = λ i t is. (
+          let place : job + 1 + i ≡ job + suc i = omega arith in
+          rw place (get_or-set_other c.covered job (job + suc i) c.span.upto 0 (omega arith) ∙ here.coming (suc i) t is));
       done = λ j low own. elim (cases_eq j job) [
         | inl is ↦ ap (λ place. get_or (set c.covered job c.span.upto) place 0) is ∙ get_or-set_same c.covered job c.span.upto 0
             (omega arith)
@@ -137,17 +143,17 @@ at_next_own k job rule rules c here =
 
 -- after a job of another planner, the next
 at_next_other :
-    (k job : ℕ) (rule : Rule) (rules : List Rule) (c : Collected) → (job % length c.ended ≡ k → ⊥) → IsAt k job (rule ∷ rules) c →
-    IsAt k (job + 1) rules c
-at_next_other k job rule rules c other here =
+    (k job : ℕ) (timing : Timing) (timings : List Timing) (c : Collected) → (job % length c.ended ≡ k → ⊥) →
+    IsAt k job (timing ∷ timings) c → IsAt k (job + 1) timings c
+at_next_other k job timing timings c other here =
     let jobs = here.jobs in
     record {
       planner = here.planner;
       early = here.early;
-      known = λ i r is. (let place : job + 1 + i ≡ job + suc i = omega arith in rw place (here.known (suc i) r is));
+      known = λ i t is. (let place : job + 1 + i ≡ job + suc i = omega arith in rw place (here.known (suc i) t is));
       jobs = omega arith;
       part = here.part;
-      coming = λ j low inside. here.coming j (omega arith) inside;
+      coming = λ i t is. (let place : job + 1 + i ≡ job + suc i = omega arith in rw place (here.coming (suc i) t is));
       done = λ j low own. elim (cases_eq j job) [
         | inl is ↦ absurd (other (ap (λ place. place % length c.ended) (sym is) ∙ own))
         | inr not ↦ here.done j (omega arith) own
@@ -156,30 +162,34 @@ at_next_other k job rule rules c other here =
 
 -- what remains of a tiling from a job on fits
 ready_parts :
-    (rules : List Rule) (k job : ℕ) (c : Collected) → IsAt k job rules c →
-    Ready k c (parts_from job k (length c.ended) rules c.span ++ note.Last ∷ [])
+    (timings : List Timing) (k job : ℕ) (c : Collected) → IsAt k job timings c →
+    Ready k c (parts_from job k (length c.ended) timings c.span ++ note.Last ∷ [])
 ready_parts [] k job c here = subst (λ notes. Ready k c (notes ++ note.Last ∷ [])) (sym (parts_none job k (length c.ended) c.span))
     (ready_last k job c here)
-ready_parts (rule ∷ rules) k job c here =
-    let later = parts_from (job + 1) k (length c.ended) rules c.span in
+ready_parts (timing ∷ timings) k job c here =
+    let later = parts_from (job + 1) k (length c.ended) timings c.span in
     let jobs = here.jobs in
     elim (cases_eq (job % length c.ended) k) [
       | inl own ↦ (
           let inside : job < length c.covered = omega arith in
           let zeroth : job + 0 ≡ job = omega arith in
-          let known : slice_get c.rules job ≡ Some rule = rw zeroth at (here.known 0 rule refl) in
-          let at_job : IsAtJob k job rule c =
+          let known : slice_get c.timings job ≡ Some timing = rw zeroth at (here.known 0 timing refl) in
+          let first = first_second c.span timing.delay in
+          let coming : slice_index c.covered job ≡ first = rw zeroth at (here.coming 0 timing refl) in
+          let low : first ≤ c.span.since = first-since c.span timing.delay in
+          let part = here.part in
+          let at_job : IsAtJob k job timing c =
           record { planner = here.planner; own = own; known = known; early = here.early; inside = inside } in
-          let rest : Ready k (covering c job c.span.upto) (later ++ note.Last ∷ []) = ready_parts rules k (job + 1)
-          (covering c job c.span.upto) (at_next_own k job rule rules c here) in
-          let mine = map (note.Part job) (pieces rule c.span.since c.span.upto) in
+          let rest : Ready k (covering c job c.span.upto) (later ++ note.Last ∷ []) = ready_parts timings k (job + 1)
+          (covering c job c.span.upto) (at_next_own k job timing timings c here) in
+          let mine = map (note.Part job) (pieces timing.rule first c.span.upto) in
           let all : Ready k c (mine ++ (later ++ note.Last ∷ [])) = ready_pieces
-          (c.span.upto - c.span.since) k job rule c c.span.since (later ++ note.Last ∷ []) at_job
-          (here.coming job (omega arith) inside) here.part (omega arith) rest in
-          subst (λ notes. Ready k c (notes ++ note.Last ∷ [])) (sym (parts_own job k (length c.ended) rule rules c.span own))
+          (c.span.upto - first) k job timing c first (later ++ note.Last ∷ []) at_job coming (omega arith) (omega arith) rest in
+          subst (λ notes. Ready k c (notes ++ note.Last ∷ [])) (sym (parts_own job k (length c.ended) timing timings c.span own))
           (subst (λ notes. Ready k c notes) (sym (append_assoc mine later (note.Last ∷ []))) all))
-      | inr other ↦ subst (λ notes. Ready k c (notes ++ note.Last ∷ [])) (sym (parts_other job k (length c.ended) rule rules c.span other))
-          (ready_parts rules k (job + 1) c (at_next_other k job rule rules c other here))
+      | inr other ↦ subst (λ notes. Ready k c (notes ++ note.Last ∷ []))
+          (sym (parts_other job k (length c.ended) timing timings c.span other))
+          (ready_parts timings k (job + 1) c (at_next_other k job timing timings c other here))
     ]
 
 -- ---- a tiling that is cut
@@ -201,52 +211,40 @@ cut_ready limit count k (first ∷ notes) c (fits, rest) =
 -- ---- a new collector
 
 at_begin :
-    (k planners limit : ℕ) (rules : List Rule) (span : Bounds) → k < planners → span.since ≤ span.upto →
-    IsAt k 0 rules (begun rules span planners limit)
-at_begin k planners limit rules span few part =
+    (k planners limit : ℕ) (timings : List Timing) (span : Bounds) → k < planners → span.since ≤ span.upto →
+    IsAt k 0 timings (begun timings span planners limit)
+at_begin k planners limit timings span few part =
     let size = length-replicate planners false in
-    let jobs = length-replicate (length rules) span.since in
     record {
       planner = omega arith;
       early = unwrap_or-slice_get (replicate planners false) k false ∙ get_or-replicate planners k false false few;
-      known = λ i rule is. (let place : 0 + i ≡ i = omega arith in rw place is);
-      jobs = omega arith;
+      known = λ i timing is. (let place : 0 + i ≡ i = omega arith in rw place is);
+      jobs = (let jobs : length (firsts_of span timings) ≡ length timings = length-map timings _ in omega arith);
       part = part;
-      coming = λ j low inside. get_or-replicate (length rules) j span.since 0 (omega arith);
+      coming = λ i timing is. (let place : 0 + i ≡ i = omega arith in rw place (first_of span timings i timing is));
       done = λ j low own. absurd (omega arith);
     }
 
 sends_at_begin :
-    (k planners limit : ℕ) (rules : List Rule) (span : Bounds) → k < planners → span.since ≤ span.upto →
-    Sends k (begun rules span planners limit) (sent_by k planners limit rules span)
-sends_at_begin k planners limit rules span few part =
-    let c = begun rules span planners limit in
-    let ready : Ready k c (parts_from 0 k (length c.ended) rules span ++ note.Last ∷ []) = ready_parts rules k 0 c
-    (at_begin k planners limit rules span few part) in
-    let whole : Ready k c (tiling k planners rules span) = subst (λ n. Ready k c (parts_from 0 k n rules span ++ note.Last ∷ []))
+    (k planners limit : ℕ) (timings : List Timing) (span : Bounds) → k < planners → span.since ≤ span.upto →
+    Sends k (begun timings span planners limit) (sent_by k planners limit timings span)
+sends_at_begin k planners limit timings span few part =
+    let c = begun timings span planners limit in
+    let ready : Ready k c (parts_from 0 k (length c.ended) timings span ++ note.Last ∷ []) = ready_parts timings k 0 c
+    (at_begin k planners limit timings span few part) in
+    let whole : Ready k c (tiling k planners timings span) = subst (λ n. Ready k c (parts_from 0 k n timings span ++ note.Last ∷ []))
     (length-replicate planners false) ready in
-    elim (cut_ready limit 0 k (tiling k planners rules span) c whole) [
+    elim (cut_ready limit 0 k (tiling k planners timings span) c whole) [
       | inl all ↦ inl all
       | inr over ↦ inr (0, (omega arith, over))
     ]
 
--- a new collector holds nothing
-held_at_begin : (rules : List Rule) (job since : ℕ) → length (held_from job since rules (replicate (length rules) since)) ≡ 0
-held_at_begin [] job since = refl
-held_at_begin (rule ∷ rules) job since =
-    let none : starts rule since since ≡ [] = passing-none (is_start rule) since since (λ n low high. absurd (omega arith)) in
-    rw none (held_at_begin rules (job + 1) since)
-
-sound_at_begin : (planners limit : ℕ) (rules : List Rule) (span : Bounds) → IsSound (begun rules span planners limit)
-sound_at_begin planners limit rules span =
-    let size = length-replicate (length rules) span.since in
-    let none = held_at_begin rules 0 span.since in
-    record {
-      jobs = size;
-      since = λ j inside. (let is : get_or (replicate (length rules) span.since) j 0 ≡ span.since = get_or-replicate
-          (length rules) j span.since 0 (omega arith) in omega arith);
-      few = omega arith;
-    }
+sound_at_begin : (planners limit : ℕ) (timings : List Timing) (span : Bounds) → IsSound (begun timings span planners limit)
+sound_at_begin planners limit timings span = record {
+  jobs = length-map timings _;
+  since = λ j timing is. (let first = first_of span timings j timing is in omega arith);
+  few = (let none : length (held (begun timings span planners limit)) ≡ 0 = ap length (nothing_held 0 span timings) in omega arith);
+}
 
 all_of_places :
     (planners : ℕ) (history : List (ℕ × Note)) →
@@ -258,11 +256,11 @@ all_of_places planners (sent ∷ history) known =
 
 -- every merging is accepted to its end, or the answer is TooMany
 pub accepts : AcceptsMergings
-accepts planners limit rules span history size part merging =
-    let c = begun rules span planners limit in
+accepts planners limit timings span history size part merging =
+    let c = begun timings span planners limit in
     let wide : length c.ended ≡ planners = length-replicate planners false in
     let some : 1 ≤ planners = leb-true 1 planners (and_parts (nat_le 1 planners) (nat_le planners most_planners) size).0 in
-    merged history c (sound_at_begin planners limit rules span) (omega arith)
+    merged history c (sound_at_begin planners limit timings span) (omega arith)
     (subst (λ n. AllOf n history) (sym wide) (all_of_places planners history merging.known))
     (λ k few. (let among : k < planners = omega arith in
-    subst (λ notes. Sends k c notes) (sym (merging.each k among)) (sends_at_begin k planners limit rules span among part)))
+    subst (λ notes. Sends k c notes) (sym (merging.each k among)) (sends_at_begin k planners limit timings span among part)))

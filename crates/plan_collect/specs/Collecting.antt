@@ -4,7 +4,6 @@ use Rattle.std.specs.Prelude.{refl}
 use Rattle.std.specs.Coded.{Coded, code_by, coded×, coded_list, coded_ℕ, coded_bool}
 use Rattle.std.specs.List.{list_all}
 use Rattle.plan_match.specs.declared.rule.Rule.{Rule}
-use Rattle.plan_match.specs.contracts.rule.Rule.{the_row as rule_row}
 use Rattle.plan_match.specs.Equal.{same_rule}
 use Rattle.plan_next.specs.Starts.{starts}
 use Rattle.plan_collect.specs.declared.note.Note.{Note}
@@ -14,13 +13,14 @@ use Rattle.plan_collect.specs.declared.collector.CollectFault.TheVariants.{NoMem
 use Rattle.plan_rules.specs.Limits.{most_jobs}
 use Rattle.plan_next.specs.Span.{Bounds, bounds_code}
 use Rattle.plan_collect.specs.Limits.{is_limit, is_size}
-use Rattle.plan_collect.specs.Agenda.{Planned, planned}
+use Rattle.plan_collect.specs.Agenda.{Planned}
+use Rattle.plan_collect.specs.Windows.{Timing, timing_code, first_second, planned_windows}
 
--- what contracts see of a collector: the jobs' rules, the span, the limit of entries, for each job the second before
+-- what contracts see of a collector: when the jobs may start, the span, the limit of entries, for each job the second before
 -- which all its starts are held, and for each planner whether its last message was accepted; the starts that are held
 -- follow from these
 pub record Collected : Type 0 where
-  pub rules : List Rule
+  pub timings : List Timing
   pub span : Bounds
   pub limit : ℕ
   pub covered : List ℕ
@@ -29,43 +29,49 @@ pub record Collected : Type 0 where
 -- a collector is stored as the tuple of these
 abbrev pub collected_code : Coded Collected
 collected_code =
-    code_by ((List Rule × Bounds) × (ℕ × (List ℕ × List Bool)))
-    (coded× (coded× (coded_list rule_row.coded) bounds_code) (coded× coded_ℕ (coded× (coded_list coded_ℕ) (coded_list coded_bool))))
-    (λ c. ((c.rules, c.span), (c.limit, (c.covered, c.ended))))
-    (λ t. record { rules = t.0.0; span = t.0.1; limit = t.1.0; covered = t.1.1.0; ended = t.1.1.1 })
+    code_by ((List Timing × Bounds) × (ℕ × (List ℕ × List Bool)))
+    (coded× (coded× (coded_list timing_code) bounds_code) (coded× coded_ℕ (coded× (coded_list coded_ℕ) (coded_list coded_bool))))
+    (λ c. ((c.timings, c.span), (c.limit, (c.covered, c.ended))))
+    (λ t. record { timings = t.0.0; span = t.0.1; limit = t.1.0; covered = t.1.1.0; ended = t.1.1.1 })
     (λ _. refl)
 
+-- for each job the second from which on its windows meet the span
+abbrev pub firsts_of : Bounds → List Timing → List ℕ
+firsts_of span timings = map (λ timing. first_second span timing.delay) timings
+
 -- a new collector, which holds nothing
-abbrev pub begun : List Rule → Bounds → (planners limit : ℕ) → Collected
-begun rules span planners limit = record {
-  rules = rules;
+abbrev pub begun : List Timing → Bounds → (planners limit : ℕ) → Collected
+begun timings span planners limit = record {
+  timings = timings;
   span = span;
   limit = limit;
-  covered = replicate (length rules) span.since;
+  covered = firsts_of span timings;
   ended = replicate planners false;
 }
 
--- the entries of jobs from `since` to where each is covered; the first job has number `job`
-abbrev pub held_from : (job since : ℕ) → List Rule → List ℕ → List (ℕ × ℕ)
-held_from job since [] covered = []
-held_from job since (rule ∷ rules) [] = []
-held_from job since (rule ∷ rules) (upto ∷ covered) =
-    map (λ second. (second, job)) (starts rule since upto) ++ held_from (job + 1) since rules covered
+-- the entries of jobs from the second at which their windows first meet the span to where each is covered; the first job
+-- has number `job`
+abbrev pub held_from : (job : ℕ) → Bounds → List Timing → List ℕ → List (ℕ × ℕ)
+held_from job span [] covered = []
+held_from job span (timing ∷ timings) [] = []
+held_from job span (timing ∷ timings) (upto ∷ covered) =
+    map (λ second. (second, job)) (starts timing.rule (first_second span timing.delay) upto)
+    ++ held_from (job + 1) span timings covered
 
--- what a collector holds: for each job, all starts from the start of the span to where the job is covered
+-- what a collector holds: for each job, all starts whose windows meet the span and that are before where the job is covered
 abbrev pub held : Collected → List (ℕ × ℕ)
-held c = held_from 0 c.span.since c.rules c.covered
+held c = held_from 0 c.span c.timings c.covered
 
 -- this is the job's rule, if there is such a job
-abbrev pub is_rule_of : Option Rule → Rule → Bool
+abbrev pub is_rule_of : Option Timing → Rule → Bool
 is_rule_of None rule = false
-is_rule_of (Some own) rule = same_rule own rule
+is_rule_of (Some timing) rule = same_rule timing.rule rule
 
 -- this planner may send the message: there is such a planner, and a piece is of a job of this planner and has the job's
 -- rule; job j is that of planner j mod planners (agenda)
 abbrev pub belongs : Collected → (planner : ℕ) → Note → Bool
 belongs c planner (Part job piece) =
-    nat_lt planner (length c.ended) && (job % length c.ended == planner && is_rule_of (slice_get c.rules job) piece.rule)
+    nat_lt planner (length c.ended) && (job % length c.ended == planner && is_rule_of (slice_get c.timings job) piece.rule)
 belongs c planner Last = nat_lt planner (length c.ended)
 
 -- this planner's last message was accepted before
@@ -114,7 +120,7 @@ is_complete c = list_all (λ upto. upto == c.span.upto) c.covered && list_all (�
 
 -- the answer of a collector that receives nothing more
 abbrev pub finished : Collected → Result Planned CollectFault
-finished c = if is_complete c then Ok (planned c.rules c.span) else Err Missing
+finished c = if is_complete c then Ok (planned_windows c.timings c.span) else Err Missing
 
 -- the sum of the entries' weights
 abbrev pub weigh : (ℕ × ℕ → ℕ) → List (ℕ × ℕ) → ℕ
@@ -131,8 +137,8 @@ pub record Holds (c : Collected) (entries : List (ℕ × ℕ)) : Type 0 where
   pub few : length entries ≤ c.limit
   pub limit : is_limit c.limit ≡ true
   pub size : is_size (length c.ended) ≡ true
-  pub few_jobs : length c.rules ≤ most_jobs
-  pub jobs : length c.covered ≡ length c.rules
-  pub since : (job : ℕ) → job < length c.covered → c.span.since ≤ slice_index c.covered job
+  pub few_jobs : length c.timings ≤ most_jobs
+  pub jobs : length c.covered ≡ length c.timings
+  pub since : (job : ℕ) (timing : Timing) → slice_get c.timings job ≡ Some timing → first_second c.span timing.delay ≤ slice_index c.covered job
   pub upto : (job : ℕ) → job < length c.covered → slice_index c.covered job ≤ c.span.upto
   pub ordered : c.span.since ≤ c.span.upto

@@ -12,6 +12,7 @@ use Rattle.plan_collect.specs.declared.note.Note.TheVariants as note
 use Rattle.plan_next.specs.Span.{Bounds}
 use Rattle.plan_collect.specs.Limits.{most_starts}
 use Rattle.plan_collect.specs.Tiling.{pieces_within, pieces, parts_from, starts_in, cut_after}
+use Rattle.plan_collect.specs.Windows.{Timing, first_second}
 
 -- a write after a write
 pub set_again : (xs : List ℕ) (i a b : ℕ) → set (set xs i a) i b ≡ set xs i b
@@ -164,17 +165,17 @@ unfolding parts_from
 parts_none job k planners span = refl
 
 pub parts_own :
-    (job k planners : ℕ) (rule : Rule) (rules : List Rule) (span : Bounds) → job % planners ≡ k →
-    parts_from job k planners (rule ∷ rules) span ≡ map (note.Part job) (pieces rule span.since span.upto) ++ parts_from
-    (job + 1) k planners rules span
+    (job k planners : ℕ) (timing : Timing) (timings : List Timing) (span : Bounds) → job % planners ≡ k →
+    parts_from job k planners (timing ∷ timings) span ≡ map (note.Part job)
+    (pieces timing.rule (first_second span timing.delay) span.upto) ++ parts_from (job + 1) k planners timings span
 unfolding parts_from
-parts_own job k planners rule rules span own = let is : (job % planners == k) ≡ true = eq-eqb _ _ own in rw (is, parts_from) refl
+parts_own job k planners timing timings span own = let is : (job % planners == k) ≡ true = eq-eqb _ _ own in rw (is, parts_from) refl
 
 pub parts_other :
-    (job k planners : ℕ) (rule : Rule) (rules : List Rule) (span : Bounds) → (job % planners ≡ k → ⊥) →
-    parts_from job k planners (rule ∷ rules) span ≡ parts_from (job + 1) k planners rules span
+    (job k planners : ℕ) (timing : Timing) (timings : List Timing) (span : Bounds) → (job % planners ≡ k → ⊥) →
+    parts_from job k planners (timing ∷ timings) span ≡ parts_from (job + 1) k planners timings span
 unfolding parts_from
-parts_other job k planners rule rules span other = let is : (job % planners == k) ≡ false = ne_eqb _ _ other in rw (is, parts_from) refl
+parts_other job k planners timing timings span other = let is : (job % planners == k) ≡ false = ne_eqb _ _ other in rw (is, parts_from) refl
 
 -- ---- a tiling that is cut after the limit
 

@@ -1,6 +1,6 @@
 -- The agenda of windows: a job may start later than at the times of its rule, by up to its delay (systemd.timer(5),
 -- `RandomizedDelaySec=`, `AccuracySec=`). The window of a start is from that time to the latest one, both included.
-use Rattle.std.specs.Prelude.{ℕ, ◌+◌, ◌-◌, Bool, ◌&&◌, nat_le, nat_lt, min, if◌then◌else◌, List, [], ◌∷◌, map, refl}
+use Rattle.std.specs.Prelude.{◌≡◌, ℕ, ◌+◌, ◌-◌, ◌≤◌, Bool, ◌&&◌, nat_le, nat_lt, min, if◌then◌else◌, List, [], ◌∷◌, map, refl}
 use Rattle.std.specs.Coded.{Coded, code_by, coded×, coded_ℕ}
 use Rattle.std.specs.List.{flat_map, range_with_len}
 use Rattle.plan_sets.specs.Limits.{end_second}
@@ -8,8 +8,9 @@ use Rattle.plan_match.specs.contracts.rule.Rule.{the_row}
 use Rattle.plan_match.specs.declared.rule.Rule.{Rule}
 use Rattle.plan_next.specs.Span.{Bounds}
 use Rattle.plan_next.specs.Starts.{is_start}
+use Rattle.plan_rules.specs.Delays.{nominal}
 use Rattle.plan_rules.specs.Job.{JobParts}
-use Rattle.plan_collect.specs.Agenda.{Planned}
+use Rattle.plan_collect.specs.Agenda.{Planned, agenda, rules_of}
 
 -- when a job may start: at the times of its rule, and up to this many seconds later
 pub record Timing : Type 0 where
@@ -22,9 +23,13 @@ timing_code =
     code_by (Rule × ℕ) (coded× the_row.coded coded_ℕ) (λ timing. (timing.rule, timing.delay))
     (λ t. record { rule = t.0; delay = t.1 }) (λ _. refl)
 
+-- the timing of a job
+abbrev pub timing_of : JobParts → Timing
+timing_of job = record { rule = job.rule; delay = job.delay }
+
 -- the timings of jobs: the timing at place j is that of the job with number j
 abbrev pub timings_of : List JobParts → List Timing
-timings_of jobs = map (λ job. record { rule = job.rule; delay = job.delay }) jobs
+timings_of jobs = map timing_of jobs
 
 -- the latest start for a time of the rule, at most the end of the planner's years (agenda)
 abbrev pub latest_start : (delay second : ℕ) → ℕ
@@ -56,3 +61,8 @@ agenda_of_windows timings span = flat_map (windows_from 0 timings span) (range_w
 -- the agenda of windows over a span, with the span
 abbrev pub planned_windows : List Timing → Bounds → Planned
 planned_windows timings span = record { span = span; entries = agenda_of_windows timings span }
+
+-- where all delays are 0, the agenda of windows is the agenda
+abbrev pub WithoutDelaysIsAgenda : Type 0
+WithoutDelaysIsAgenda = (jobs : List JobParts) (span : Bounds) → span.since ≤ span.upto
+    → agenda_of_windows (timings_of (map nominal jobs)) span ≡ agenda (rules_of jobs) span

@@ -1,26 +1,25 @@
 //! The collector, which checks what planners send, keeps the starts, and makes the agenda of them.
 
 ghost use Rattle.std.specs.Prelude.{◌≡◌, ◌≢◌, ℕ, ◌+◌, ◌%◌, ◌<◌, ◌≤◌, ◌↔◌, [], ◌++◌, Bool, true, false, ◌&&◌, ◌==◌, nat_lt, nat_le, IsTrue, length, map, slice_get, slice_index, slice_set, IfOk, IfErr, IsOk, OnOk, OnErr};
-ghost use Rattle.std.specs.Arc.{arc_value};
 ghost use Rattle.std.specs.List.{list_all};
 ghost use Rattle.plan_sets.specs.Limits.{end_second};
 ghost use Rattle.plan_next.specs.Starts.{starts};
-ghost use Rattle.plan_rules.specs.Limits.{most_jobs};
 ghost use Rattle.plan_collect.specs.Start.{job_numbers};
-ghost use Rattle.plan_collect.specs.Agenda.{agenda, rules_of, IsOfJobs};
+ghost use Rattle.plan_collect.specs.Agenda.{IsOfJobs};
 ghost use Rattle.plan_collect.specs.Limits.{is_limit, is_size};
 ghost use Rattle.plan_collect.specs.Collecting.{begun, is_rule_of, belongs, has_ended, adjoins, has_room, refusal, AddsNothing, Answers, after, finished, is_complete};
+ghost use Rattle.plan_collect.specs.Windows.{agenda_of_windows, timings_of};
 
 use crate::agenda::Agenda;
 use crate::note::Note;
 use crate::sorting::sort_starts;
 use crate::start::Start;
+use crate::timing::{JobTiming, firsts_in, timings_in};
 use plan_match::Rule;
 use plan_next::{Piece, Span};
 use plan_rules::Jobs;
 use std::alloc::{AllocError, Global};
 use std::marker::Model;
-use std::sync::Arc;
 use thiserror::Error;
 
 /// The maximum limit of an agenda, in entries.
@@ -108,10 +107,11 @@ impl From<AllocError> for CollectFault {
 /// Keeps the starts of jobs in a span, which planners send piece by piece.
 ///
 /// The planner of a job is the job's number modulo the number of planners. For each job, the collector holds
-/// all starts from the start of the span to the second to which the job is covered.
+/// all starts from the job's first second to the second to which the job is covered. The first second is the
+/// start of the span, or earlier by the job's delay.
 #[derive(Drop)]
 pub struct Collector {
-    rules: Vec<Arc<Rule>>,
+    timings: Vec<JobTiming>,
     span: Span,
     limit: u64,
     covered: Vec<u64>,
@@ -120,8 +120,6 @@ pub struct Collector {
 }
 
 impl Model for Collector {
-    ghost use Rattle.std.specs.Prelude.{map};
-    ghost use Rattle.std.specs.Arc.{arc_value};
     ghost use Rattle.plan_collect.specs.Collecting.{Collected, Holds, collected_code};
 
     ghost Value = { Collected };
@@ -129,7 +127,7 @@ impl Model for Collector {
     ghost coded = { collected_code };
 
     ghost view = { λ c. record {
-      rules = map (λ rule. arc_value rule) c.rules.items;
+      timings = c.timings.items;
       span = c.span;
       limit = c.limit;
       covered = c.covered.items;
@@ -137,7 +135,7 @@ impl Model for Collector {
     } };
 
     ghost invariant = { λ c. Holds (record {
-      rules = map (λ rule. arc_value rule) c.rules.items;
+      timings = c.timings.items;
       span = c.span;
       limit = c.limit;
       covered = c.covered.items;
@@ -160,7 +158,7 @@ impl Collector {
         planners: usize,
         limit: u64,
     ) -> Result<Collector, CollectorFault>
-        ensures new { IfOk result (λ c. c ≡ begun (rules_of jobs.now) span planners limit) }
+        ensures new { IfOk result (λ c. c ≡ begun (timings_of jobs.now) span planners limit) }
         ensures bad_size { (result ≡ Err CollectorFault.BadSize) ↔ (is_size planners ≡ false) }
         ensures bad_limit { (result ≡ Err CollectorFault.BadLimit)
             ↔ ((is_size planners ≡ true) × (is_limit limit ≡ false)) }
@@ -171,11 +169,11 @@ impl Collector {
         if limit < 1 || limit > MOST_ENTRIES {
             return Err(CollectorFault::BadLimit);
         }
-        let rules = rules_in(alloc, jobs)?;
+        let timings = timings_in(alloc, jobs)?;
         Ok(Collector {
-            covered: Vec::from_elem(alloc, span.since(), rules.len())?,
+            covered: firsts_in(alloc, &timings, span)?,
             ended: Vec::from_elem(alloc, false, planners)?,
-            rules,
+            timings,
             span,
             limit,
             entries: Vec::new(alloc),
@@ -202,7 +200,7 @@ impl Collector {
 
         // `TooMany` comes only if the agenda has more entries than the limit.
         ensures too_many { result ≡ Err CollectFault.TooMany
-            → self.old.limit < length (agenda self.old.rules self.old.span) }
+            → self.old.limit < length (agenda_of_windows self.old.timings self.old.span) }
     {
         if !self.belongs(planner, &note) {
             return Err(CollectFault::Stranger);
@@ -234,7 +232,7 @@ impl Collector {
     pub fn finish(self) -> Result<Agenda, CollectFault>
         ensures agenda { result ≡ finished self }
         ensures few { IfOk result (λ made. length made.entries ≤ self.limit) }
-        ensures jobs { IfOk result (λ made. IsOfJobs (length self.rules) made.entries) }
+        ensures jobs { IfOk result (λ made. IsOfJobs (length self.timings) made.entries) }
     {
         if !self.is_complete() {
             return Err(CollectFault::Missing);
@@ -263,10 +261,10 @@ impl Collector {
 
     // Returns whether there is a job with this number and this rule.
     fn has_rule(&self, job: usize, rule: &Rule) -> bool
-        ensures { result ≡ is_rule_of (slice_get self.now.rules job) rule.now }
+        ensures { result ≡ is_rule_of (slice_get self.now.timings job) rule.now }
     {
-        match self.rules.get(job) {
-            Some(own) => **own == *rule,
+        match self.timings.get(job) {
+            Some(timing) => *timing.rule() == *rule,
             None => false,
         }
     }
@@ -298,7 +296,7 @@ impl Collector {
         // If not, and the piece belongs to its planner and adjoins, the agenda has more entries than the
         // limit.
         ensures too_many { (planner : ℕ) → belongs self.now planner note.now ≡ true → adjoins self.now note.now ≡ true
-            → result ≡ false → self.now.limit < length (agenda self.now.rules self.now.span) }
+            → result ≡ false → self.now.limit < length (agenda_of_windows self.now.timings self.now.span) }
     {
         match note {
             Note::Part(_, piece) => piece.starts().len() as u64
@@ -309,7 +307,7 @@ impl Collector {
 
     // Keeps the starts of a piece of a job.
     fn keep(&mut self, job: u32, piece: &Piece) -> Result<(), CollectFault>
-        requires known { is_rule_of (slice_get self.old.rules job) piece.now.rule ≡ true }
+        requires known { is_rule_of (slice_get self.old.timings job) piece.now.rule ≡ true }
         requires adjoins { adjoins self.old (Note.Part job piece.now) ≡ true }
         requires room { has_room self.old (Note.Part job piece.now) ≡ true }
         ensures accepted { OnOk result (self.new ≡ record self.old { covered = slice_set self.old.covered job piece.now.upto }) }
@@ -352,20 +350,6 @@ impl Collector {
     {
         self.ended.iter().all(|ended| *ended)
     }
-}
-
-// Returns the rules of jobs, in their order.
-fn rules_in(alloc: Global, jobs: &Jobs) -> Result<Vec<Arc<Rule>>, AllocError>
-    ensures rules { IfOk result (λ rules. map (λ rule. arc_value rule) rules.items ≡ rules_of jobs.now) }
-    ensures few { IfOk result (λ rules. length rules.items ≤ most_jobs) }
-{
-    let mut rules = Vec::with_capacity(alloc, jobs.len())?;
-    for number in 0..jobs.len() {
-        if let Some(job) = jobs.get(number) {
-            rules.push(Arc::try_clone(job.rule())?)?;
-        }
-    }
-    Ok(rules)
 }
 
 // Appends an entry for each start of a job. Memory is allocated first; if that fails, nothing is appended.

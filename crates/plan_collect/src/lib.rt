@@ -14,7 +14,9 @@ mod plan_fault;
 mod sizes;
 mod sorting;
 mod start;
+mod timing;
 mod upcoming;
+mod windows;
 
 pub use agenda::Agenda;
 pub use collector::{CollectFault, Collector, CollectorFault, MOST_ENTRIES, MOST_PLANNERS};
@@ -24,4 +26,6 @@ pub use plan_fault::PlanFault;
 pub use plan_next::{Span, SpanFault};
 pub use sizes::Sizes;
 pub use start::Start;
+pub use timing::first_second;
 pub use upcoming::Upcoming;
+pub use windows::without_delays_windows_are_the_agenda;

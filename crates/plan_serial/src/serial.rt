@@ -3,14 +3,15 @@
 ghost use Rattle.std.specs.Prelude.{◌≡◌, ◌≢◌, ◌<◌, ◌≤◌, false, [], ◌∷◌, length, slice_get, slice_set, Some, IfOk, IfErr, OnOk};
 ghost use Rattle.std.specs.Arc.{arc_value};
 ghost use Rattle.plan_next.specs.Piece.{piece_of};
-ghost use Rattle.plan_collect.specs.Agenda.{rules_of, IsOfJobs};
+ghost use Rattle.plan_collect.specs.Agenda.{IsOfJobs};
 ghost use Rattle.plan_collect.specs.Limits.{is_limit, most_starts};
 ghost use Rattle.plan_collect.specs.Planning.{Gives, agenda_within, plan_answer};
+ghost use Rattle.plan_collect.specs.Windows.{first_second, timing_of, timings_of};
 
-use plan_collect::{Agenda, Collector, Note, PIECE_STARTS, PlanFault, Span};
+use plan_collect::{Agenda, Collector, Note, PIECE_STARTS, PlanFault, Span, first_second};
 use plan_match::Rule;
 use plan_next::{NoMemory, Piece, next_piece};
-use plan_rules::Jobs;
+use plan_rules::{Job, Jobs};
 use std::alloc::Global;
 use std::sync::Arc;
 
@@ -23,41 +24,42 @@ use std::sync::Arc;
 /// the limit, or `NoMemory` if an allocation failed.
 pub fn plan_serial(alloc: Global, jobs: &Jobs, span: Span, limit: u64) -> Result<Agenda, PlanFault>
     ensures planned { Gives result
-        (plan_answer (rules_of jobs.now) span (record { planners = 1; room = 1; limit = limit })) }
+        (plan_answer (timings_of jobs.now) span (record { planners = 1; room = 1; limit = limit })) }
     ensures at_once { is_limit limit ≡ false → result ≡ Err PlanFault.BadLimit }
     ensures jobs { IfOk result (λ made. IsOfJobs (length jobs.now) made.entries) }
 {
     let mut collector = Collector::new(alloc, jobs, span, 1, limit)?;
     for number in 0..jobs.len() {
         if let Some(job) = jobs.get(number) {
-            collect_job(alloc, &mut collector, number as u32, job.rule(), span)?;
+            collect_job(alloc, &mut collector, number as u32, job, span)?;
         }
     }
     collector.accept(0, Note::Last)?;
     Ok(collector.finish()?)
 }
 
-// Collects all starts of a job, in pieces that adjoin: at least one piece, each with at most 1,024 starts.
+// Collects all starts of a job that belong to the span, in pieces that adjoin: at least one piece, each with at most
+// 1,024 starts.
 fn collect_job(
     alloc: Global,
     collector: &mut Collector,
-    job: u32,
-    rule: &Arc<Rule>,
+    number: u32,
+    job: &Job,
     span: Span,
 ) -> Result<(), PlanFault>
     requires one { collector.old.ended ≡ false ∷ [] }
     requires span { collector.old.span ≡ span }
-    requires rule { slice_get collector.old.rules job ≡ Some (arc_value rule.now) }
-    requires open { slice_get collector.old.covered job ≡ Some span.since }
-    ensures covered { OnOk result (collector.new ≡ record collector.old { covered = slice_set collector.old.covered job span.upto }) }
+    requires timing { slice_get collector.old.timings number ≡ Some (timing_of job.now) }
+    requires open { slice_get collector.old.covered number ≡ Some (first_second span job.now.delay) }
+    ensures covered { OnOk result (collector.new ≡ record collector.old { covered = slice_set collector.old.covered number span.upto }) }
     ensures fails { IfErr result (λ fault. fault ≢ PlanFault.NoMemory
-        → agenda_within collector.old.rules collector.old.span collector.old.limit ≡ Err fault) }
+        → agenda_within collector.old.timings collector.old.span collector.old.limit ≡ Err fault) }
 {
-    let mut since = span.since();
+    let mut since = first_second(span, job.delay());
     loop {
-        let piece = next_part(alloc, rule, since, span)?;
+        let piece = next_part(alloc, job.rule(), since, span)?;
         since = piece.upto();
-        collector.accept(0, Note::Part(job, piece))?;
+        collector.accept(0, Note::Part(number, piece))?;
         if since >= span.upto() {
             return Ok(());
         }
