@@ -4,11 +4,11 @@ use Rattle.std.specs.Prelude.{slice_get}
 use Rattle.std.proofs.lemmas.List.{take_more, map-append}
 use Rattle.std.proofs.lemmas.Option.{slice_get_within, get_or_from_slice_get}
 use Rattle.plan_rules.specs.Job.{JobParts}
-use Rattle.plan_write.specs.Texts.{line_end}
+use Rattle.plan_write.specs.Texts.{EndParts, line_end}
 
 -- one more job
 pub ends_more :
-    (jobs : List JobParts) (n : ℕ) (job : JobParts) (ends : List (List ℕ)) (end : List ℕ) → ends ≡ map line_end (take n jobs) →
+    (jobs : List JobParts) (n : ℕ) (job : JobParts) (ends : List EndParts) (end : EndParts) → ends ≡ map line_end (take n jobs) →
     Some job ≡ slice_get jobs n → end ≡ line_end job → ends ++ end ∷ [] ≡ map line_end (take (n + 1) jobs)
 ends_more jobs n job ends end so_far is own =
     let lt = slice_get_within jobs n job (sym is) in

@@ -1,55 +1,89 @@
--- The text of gaps, pair by pair: for the loop of `write_quiet`.
-use Rattle.std.proofs.Common.{◌≡◌, ℕ, zero, suc, ◌+◌, ◌<◌, ◌≤◌, List, [], ◌∷◌, ◌++◌, length, drop, get_or, inl, inr, refl, ap, sym, ◌∙◌, arith}
-use Rattle.std.specs.Prelude.{filter, nat_lt}
+-- The text of gaps, pair by pair: for the loop of `write_quiet`. The loop's reach is at most the end of the planner's years,
+-- which changes no line: no pair ends later.
+use Rattle.std.proofs.Common.{◌≡◌, ℕ, zero, suc, ◌+◌, ◌<◌, ◌≤◌, min, max, false, List, [], ◌∷◌, ◌++◌, length, drop, get_or, map, inl, inr, refl, ap, sym, ◌∙◌, arith, le-ltb}
+use Rattle.std.specs.Prelude.{filter, nat_lt, slice_get}
 use Rattle.std.specs.List.{flat_map, list_all}
-use Rattle.std.proofs.lemmas.Bool.{cases_Bool, and_parts, ltb-true}
+use Rattle.std.proofs.lemmas.Bool.{cases_Bool, cases_lt, and_parts, ltb-true}
 use Rattle.plan_sets.specs.Limits.{end_second}
+use Rattle.plan_rules.specs.Job.{JobParts}
 use Rattle.plan_collect.specs.Agenda.{IsInYears}
-use Rattle.plan_write.specs.Quiet.{pairs_from, marks, is_wide, gap_line, wide_line}
+use Rattle.plan_collect.specs.Windows.{latest_start}
+use Rattle.plan_write.specs.Quiet.{between, delay_of, is_gap, gap_line, line_of_gap, window_of}
 
--- the text of the gaps that are left after a mark
-abbrev pub text_left : (least mark : ℕ) → List (ℕ × ℕ) → (upto : ℕ) → List ℕ
-text_left least mark entries upto = flat_map gap_line (filter (is_wide least) (pairs_from mark (marks entries upto)))
+-- the text of the gaps that are left, of entries after a reach
+abbrev pub text_left : (least : ℕ) → List JobParts → (reach upto : ℕ) → List (ℕ × ℕ) → List ℕ
+text_left least jobs reach upto entries = flat_map gap_line (filter (is_gap least) (between reach upto (map (window_of jobs) entries)))
 
-first_gap :
-    (least : ℕ) (gap : ℕ × ℕ) (later : List (ℕ × ℕ)) →
-    flat_map gap_line (filter (is_wide least) (gap ∷ later)) ≡ wide_line least gap ++ flat_map gap_line (filter (is_wide least) later)
-first_gap least gap later = elim (cases_Bool (is_wide least gap)) [
+first_pair :
+    (least : ℕ) (pair : ℕ × ℕ) (later : List (ℕ × ℕ)) →
+    flat_map gap_line (filter (is_gap least) (pair ∷ later)) ≡ line_of_gap least pair ++ flat_map gap_line (filter (is_gap least) later)
+first_pair least pair later = elim (cases_Bool (is_gap least pair)) [
   | inl is ↦ rw is refl
   | inr not ↦ rw not refl
 ]
 
--- the text of one more entry
-pub text_more :
-    (least mark : ℕ) (entry : ℕ × ℕ) (entries : List (ℕ × ℕ)) (upto : ℕ) →
-    text_left least mark (entry ∷ entries) upto ≡ wide_line least (mark, entry.0) ++ text_left least entry.0 entries upto
-text_more least mark entry entries upto = first_gap least (mark, entry.0) (pairs_from entry.0 (marks entries upto))
+-- two reaches that are the same in the planner's years
+same_line :
+    (least reach other to : ℕ) → min reach end_second ≡ min other end_second → to ≤ end_second →
+    line_of_gap least (reach, to) ≡ line_of_gap least (other, to)
+same_line least reach other to same years = elim (cases_lt reach to) [
+  | inl lt ↦
+      let one : reach ≡ other = omega (arith, same, years, lt) in
+      ap (λ n. line_of_gap least (n, to)) one
+  | inr ge ↦
+      let none : nat_lt reach to ≡ false = le-ltb reach to ge in
+      let no_other : nat_lt other to ≡ false = le-ltb other to (omega (arith, same, years, ge)) in
+      rw (none, no_other) refl
+]
+
+first_in_years :
+    (entry : ℕ × ℕ) (entries : List (ℕ × ℕ)) → IsInYears (entry ∷ entries) → (entry.0 < end_second) × IsInYears entries
+first_in_years entry entries all =
+    let both = and_parts (nat_lt entry.0 end_second) (list_all (λ other. nat_lt other.0 end_second) entries) all in
+    (ltb-true entry.0 end_second both.0, both.1)
+
+same_left :
+    (least : ℕ) (jobs : List JobParts) (reach other upto : ℕ) (entries : List (ℕ × ℕ)) → min reach end_second ≡ min other end_second →
+    upto ≤ end_second → IsInYears entries → text_left least jobs reach upto entries ≡ text_left least jobs other upto entries
+same_left least jobs reach other upto [] same end years =
+    first_pair least (reach, upto) [] ∙ ap (λ line. line ++ []) (same_line least reach other upto same end)
+    ∙ sym (first_pair least (other, upto) [])
+same_left least jobs reach other upto (entry ∷ entries) same end years =
+    let (before, later) = first_in_years entry entries years in
+    let window = window_of jobs entry in
+    let next = max reach window.1 in
+    let other_next = max other window.1 in
+    let same_next : min next end_second ≡ min other_next end_second = omega (arith, same) in
+    first_pair least (reach, entry.0) (between next upto (map (window_of jobs) entries))
+    ∙ ap (λ line. line ++ text_left least jobs next upto entries) (same_line least reach other entry.0 same (omega (arith, before)))
+    ∙ ap (λ text. line_of_gap least (other, entry.0) ++ text) (same_left least jobs next other_next upto entries same_next end later)
+    ∙ sym (first_pair least (other, entry.0) (between other_next upto (map (window_of jobs) entries)))
 
 rest_from : (entries : List (ℕ × ℕ)) (i : ℕ) (d : ℕ × ℕ) → i < length entries → drop i entries ≡ get_or entries i d ∷ drop (suc i) entries
 rest_from [] i d lt = absurd (omega arith)
 rest_from (entry ∷ entries) zero d lt = refl
 rest_from (entry ∷ entries) (suc i) d lt = rest_from entries i d (omega arith)
 
--- the rest after a mark starts with the gap before the next entry
-pub text_at :
-    (least mark upto : ℕ) (entries : List (ℕ × ℕ)) (i : ℕ) (d : ℕ × ℕ) (second : ℕ) → i < length entries → second ≡ (get_or entries i d).0 →
-    text_left least mark (drop i entries) upto ≡ wide_line least (mark, second) ++ text_left least second (drop (i + 1) entries) upto
-text_at least mark upto entries i d second lt is =
-    let one : suc i ≡ i + 1 = omega arith in
-    let rest : drop i entries ≡ get_or entries i d ∷ drop (i + 1) entries =
-    rest_from entries i d lt ∙ ap (λ k. get_or entries i d ∷ drop k entries) one in
-    ap (λ es. text_left least mark es upto) rest ∙ text_more least mark (get_or entries i d) (drop (i + 1) entries) upto
-    ∙ ap (λ n. wide_line least (mark, n) ++ text_left least n (drop (i + 1) entries) upto) (sym is)
+years_from : (entries : List (ℕ × ℕ)) (i : ℕ) → IsInYears entries → IsInYears (drop i entries)
+years_from [] zero all = all
+years_from [] (suc i) all = all
+years_from (entry ∷ entries) zero all = all
+years_from (entry ∷ entries) (suc i) all = years_from entries i (first_in_years entry entries all).1
 
--- the second of an entry is within the years of a plan
-pub in_years_at :
-    (entries : List (ℕ × ℕ)) (i : ℕ) (d : ℕ × ℕ) (second : ℕ) → IsInYears entries → i < length entries → second ≡ (get_or entries i d).0 →
-    second ≤ end_second
-in_years_at [] i d second all lt is = absurd (omega arith)
-in_years_at (entry ∷ entries) zero d second all lt is =
-    let before : entry.0 < end_second = ltb-true entry.0 end_second
-    (and_parts (nat_lt entry.0 end_second) (list_all (λ other. nat_lt other.0 end_second) entries) all).0 in
-    omega (arith, is)
-in_years_at (entry ∷ entries) (suc i) d second all lt is =
-    in_years_at entries i d second
-    (and_parts (nat_lt entry.0 end_second) (list_all (λ other. nat_lt other.0 end_second) entries) all).1 (omega arith) is
+-- the rest after a reach starts with what is before the next entry
+pub text_at :
+    (least : ℕ) (jobs : List JobParts) (reach upto : ℕ) (entries : List (ℕ × ℕ)) (i : ℕ) (entry : ℕ × ℕ) (latest : ℕ) →
+    i < length entries → entry ≡ get_or entries i entry → latest ≡ latest_start (delay_of (slice_get jobs entry.1)) entry.0 →
+    upto ≤ end_second → IsInYears entries →
+    text_left least jobs reach upto (drop i entries)
+    ≡ line_of_gap least (reach, entry.0) ++ text_left least jobs (max reach latest) upto (drop (i + 1) entries)
+text_at least jobs reach upto entries i entry latest lt here late end years =
+    let one : suc i ≡ i + 1 = omega arith in
+    let later = drop (i + 1) entries in
+    let rest : drop i entries ≡ entry ∷ later =
+    rest_from entries i entry lt ∙ ap (λ k. get_or entries i entry ∷ drop k entries) one ∙ ap (λ e. e ∷ later) (sym here) in
+    let next = max reach (window_of jobs entry).1 in
+    let same : min next end_second ≡ min (max reach latest) end_second = omega (arith, late) in
+    ap (text_left least jobs reach upto) rest ∙ first_pair least (reach, entry.0) (between next upto (map (window_of jobs) later))
+    ∙ ap (λ text. line_of_gap least (reach, entry.0) ++ text)
+    (same_left least jobs next (max reach latest) upto later same end (years_from entries (i + 1) years))

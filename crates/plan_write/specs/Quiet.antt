@@ -1,11 +1,56 @@
--- The gaps of an agenda, in which nothing starts (agenda).
-use Rattle.std.specs.Prelude.{◌≡◌, ℕ, ◌-◌, ◌<◌, ◌≤◌, Bool, false, nat_le, if◌then◌else◌, List, [], ◌∷◌, ◌++◌, map, filter, codes, decimal, Some, slice_get}
+-- The gaps of an agenda, in which no job may start (agenda).
+use Rattle.std.specs.Prelude.{◌≡◌, ℕ, ◌+◌, ◌-◌, ◌<◌, ◌≤◌, ◌&&◌, Bool, true, nat_le, nat_lt, max, if◌then◌else◌, List, [], ◌∷◌, ◌++◌, map, filter, codes, decimal, Option, Some, None, slice_get}
 use Rattle.std.specs.List.{flat_map}
 use Rattle.plan_sets.specs.Moment.{moment_text_of}
-use Rattle.plan_match.specs.declared.rule.Rule.{Rule}
 use Rattle.plan_next.specs.Starts.{is_start}
+use Rattle.plan_rules.specs.Delays.{nominal}
+use Rattle.plan_rules.specs.Job.{JobParts}
 use Rattle.plan_collect.specs.Span.{Bounds}
-use Rattle.plan_collect.specs.Agenda.{Planned, planned}
+use Rattle.plan_collect.specs.Agenda.{Planned, planned, rules_of}
+use Rattle.plan_collect.specs.Windows.{planned_windows, timings_of}
+
+-- the delay of a job, if there is such a job
+abbrev pub delay_of : Option JobParts → ℕ
+delay_of None = 0
+delay_of (Some job) = job.delay
+
+-- the window of an entry: from its time to that time and the delay of its job, both included
+abbrev pub window_of : List JobParts → (entry : ℕ × ℕ) → ℕ × ℕ
+window_of jobs entry = (entry.0, entry.0 + delay_of (slice_get jobs entry.1))
+
+-- what is between windows that open in this order: before each of them, from where those so far reach, and after the last
+-- of them, up to the end. Where windows overlap, the second number of a pair isn't above the first
+abbrev pub between : (reach upto : ℕ) → (windows : List (ℕ × ℕ)) → List (ℕ × ℕ)
+between reach upto [] = (reach, upto) ∷ []
+between reach upto (window ∷ later) = (reach, window.0) ∷ between (max reach window.1) upto later
+
+-- whether a pair is a gap of at least this many seconds
+abbrev pub is_gap : (least : ℕ) → ℕ × ℕ → Bool
+is_gap least pair = nat_lt pair.0 pair.1 && nat_le least (pair.1 - pair.0)
+
+-- the gaps of at least this many seconds in an agenda of jobs: between the start of its span, the windows of its entries, and
+-- the span's end
+abbrev pub gaps : (least : ℕ) → Planned → List JobParts → List (ℕ × ℕ)
+gaps least made jobs = filter (is_gap least) (between made.span.since made.span.upto (map (window_of jobs) made.entries))
+
+-- the line of a gap: the time of its start, that of its end, and the number of seconds between them, in decimal
+abbrev pub gap_line : ℕ × ℕ → List ℕ
+gap_line gap = moment_text_of gap.0 ++ (codes "\t" ++ (moment_text_of gap.1 ++ (codes "\t" ++ (decimal (gap.1 - gap.0) ++ codes "\n"))))
+
+-- the line of a pair, if it is such a gap
+abbrev pub line_of_gap : (least : ℕ) → ℕ × ℕ → List ℕ
+line_of_gap least pair = if is_gap least pair then gap_line pair else []
+
+-- a line for each gap, in order
+abbrev pub quiet_text : (least : ℕ) → Planned → List JobParts → List ℕ
+quiet_text least made jobs = flat_map gap_line (gaps least made jobs)
+
+-- no job may start between the start and the end of a gap of the agenda of its windows: at no second from one of its starts to
+-- that start and its delay
+abbrev pub NothingStartsInGaps : Type 0
+NothingStartsInGaps = (jobs : List JobParts) (span : Bounds) (least place number start second : ℕ) (gap : ℕ × ℕ) (job : JobParts)
+    → slice_get (gaps least (planned_windows (timings_of jobs) span) jobs) place ≡ Some gap → slice_get jobs number ≡ Some job
+    → is_start job.rule start ≡ true → start ≤ second → second ≤ start + job.delay → gap.0 < second → second < gap.1 → ⊥
 
 -- the pairs of neighbours in a list of marks that starts with `mark`
 abbrev pub pairs_from : (mark : ℕ) → List ℕ → List (ℕ × ℕ)
@@ -16,28 +61,12 @@ pairs_from mark (next ∷ more) = (mark, next) ∷ pairs_from next more
 abbrev pub marks : List (ℕ × ℕ) → (upto : ℕ) → List ℕ
 marks entries upto = map (λ entry. entry.0) entries ++ upto ∷ []
 
--- whether two marks are at least this many seconds apart
-abbrev pub is_wide : (least : ℕ) → ℕ × ℕ → Bool
-is_wide least gap = nat_le least (gap.1 - gap.0)
+-- the gaps of at least this many seconds where no job has a delay: the neighbouring marks that are so far apart
+abbrev pub nominal_gaps : (least : ℕ) → Planned → List (ℕ × ℕ)
+nominal_gaps least made =
+    filter (λ pair. nat_le least (pair.1 - pair.0)) (pairs_from made.span.since (marks made.entries made.span.upto))
 
--- the gaps of at least this many seconds: the neighbouring marks that are so far apart
-abbrev pub gaps : (least : ℕ) → Planned → List (ℕ × ℕ)
-gaps least made = filter (is_wide least) (pairs_from made.span.since (marks made.entries made.span.upto))
-
--- the line of a gap: the time of its start, that of its end, and the number of seconds between them, in decimal
-abbrev pub gap_line : ℕ × ℕ → List ℕ
-gap_line gap = moment_text_of gap.0 ++ (codes "\t" ++ (moment_text_of gap.1 ++ (codes "\t" ++ (decimal (gap.1 - gap.0) ++ codes "\n"))))
-
--- the line of a gap, if it is wide enough
-abbrev pub wide_line : (least : ℕ) → ℕ × ℕ → List ℕ
-wide_line least gap = if is_wide least gap then gap_line gap else []
-
--- a line for each gap, in order
-abbrev pub quiet_text : (least : ℕ) → Planned → List ℕ
-quiet_text least made = flat_map gap_line (gaps least made)
-
--- no job starts between the start and the end of a gap of the agenda
-abbrev pub NothingStartsInGaps : Type 0
-NothingStartsInGaps = (rules : List Rule) (span : Bounds) (least place job second : ℕ) (gap : ℕ × ℕ) (rule : Rule)
-    → span.since ≤ span.upto → slice_get (gaps least (planned rules span)) place ≡ Some gap → slice_get rules job ≡ Some rule
-    → gap.0 < second → second < gap.1 → is_start rule second ≡ false
+-- without delays, the gaps of an agenda are its neighbouring marks that are far enough apart
+abbrev pub NominalGapsAreOfMarks : Type 0
+NominalGapsAreOfMarks = (jobs : List JobParts) (span : Bounds) (least : ℕ) → 1 ≤ least
+    → gaps least (planned (rules_of jobs) span) (map nominal jobs) ≡ nominal_gaps least (planned (rules_of jobs) span)

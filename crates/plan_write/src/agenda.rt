@@ -3,7 +3,7 @@
 ghost use Rattle.std.specs.Prelude.{◌≡◌, ◌≤◌, length, slice_get};
 ghost use Rattle.plan_collect.specs.Agenda.{IsOfJobs};
 ghost use Rattle.plan_streams.specs.Stream.{Puts};
-ghost use Rattle.plan_write.specs.Texts.{header_of, line_of, text_by_ends};
+ghost use Rattle.plan_write.specs.Texts.{header_with, line_of, text_by_ends};
 ghost use Rattle.plan_streams.specs.Writer.{Takes};
 
 use crate::line_ends::LineEnds;
@@ -33,7 +33,7 @@ pub fn write_agenda<S: Stream>(
     ensures { Puts S.takes_all result (S.holds out.old) (S.holds out.new) (text_by_ends agenda.now ends.now) }
 {
     let mut lines = TextWriter::new(out);
-    put_header(agenda, &mut lines);
+    put_header(b"agenda 2", agenda, &mut lines);
     let mut stamp = Stamp::new(0);
     let entries = agenda.entries();
     for entry in entries {
@@ -42,15 +42,15 @@ pub fn write_agenda<S: Stream>(
     lines.finish()
 }
 
-// Puts the header of an agenda.
-fn put_header<S: Stream>(agenda: &Agenda, lines: &mut TextWriter<'_, S>)
-    ensures { Takes S.holds S.takes_all lines.old lines.new (header_of agenda.now) }
+/// Puts the header of an agenda, which begins with the format of its text.
+pub(crate) fn put_header<S: Stream>(format: &[u8], agenda: &Agenda, lines: &mut TextWriter<'_, S>)
+    ensures { Takes S.holds S.takes_all lines.old lines.new (header_with format.now agenda.now) }
 {
     let upto = moment_text(agenda.upto());
-    lines.put_both(b"agenda 2\t", &moment_text(agenda.since()));
-    lines.put_both(b"\t", &upto);
-    lines.put_both(b"\t", Digits::new().format(agenda.len()).as_bytes());
-    lines.put(b"\n");
+    lines.put_both(format, b"\t");
+    lines.put_both(&moment_text(agenda.since()), b"\t");
+    lines.put_both(&upto, b"\t");
+    lines.put_both(Digits::new().format(agenda.len()).as_bytes(), b"\n");
 }
 
 // Puts the line of an entry.
@@ -68,5 +68,5 @@ fn put_line<S: Stream>(
         return;
     };
     stamp.show(entry.second());
-    lines.put_both(stamp.text(), end.as_str().as_bytes());
+    lines.put_both(stamp.text(), end.text());
 }

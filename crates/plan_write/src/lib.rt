@@ -7,7 +7,9 @@
 #![tactic(auto)]
 
 mod agenda;
+mod delayed;
 mod findings;
+mod latest;
 mod line_ends;
 mod messages;
 mod next;
@@ -18,11 +20,12 @@ mod stamp;
 mod upcoming;
 
 pub use agenda::write_agenda;
+pub use delayed::write_delayed_agenda;
 pub use findings::write_findings;
 pub use line_ends::LineEnds;
 pub use next::write_next;
 pub use plan_collect::Upcoming;
-pub use quiet::{nothing_starts_in_gaps, write_quiet};
+pub use quiet::{nominal_gaps_are_of_marks, nothing_starts_in_gaps, write_quiet};
 pub use replies::write_replies;
 pub use skipped::write_skipped;
-pub use upcoming::write_upcoming;
+pub use upcoming::{write_delayed_upcoming, write_upcoming};

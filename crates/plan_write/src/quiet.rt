@@ -1,51 +1,71 @@
-//! The text of the gaps of an agenda, in which nothing starts.
+//! The text of the gaps of an agenda, in which nothing may start.
 
-ghost use Rattle.std.specs.Prelude.{◌≡◌, ◌≤◌};
+ghost use Rattle.std.specs.Prelude.{◌≡◌, ◌≤◌, slice_get};
 ghost use Rattle.plan_sets.specs.Limits.{end_second};
-ghost use Rattle.plan_write.specs.Quiet.{NothingStartsInGaps, quiet_text, wide_line};
+ghost use Rattle.plan_collect.specs.Windows.{latest_start};
+ghost use Rattle.plan_write.specs.Quiet.{NominalGapsAreOfMarks, NothingStartsInGaps, delay_of, line_of_gap, quiet_text};
 ghost use Rattle.plan_streams.specs.Stream.{Puts};
 ghost use Rattle.plan_streams.specs.Writer.{Takes};
 
+use crate::latest::latest_start;
 use itoa::Buffer as Digits;
-use plan_collect::Agenda;
+use plan_collect::{Agenda, Start};
+use plan_rules::Jobs;
 use plan_sets::moment_text;
 use plan_streams::{Stream, TextWriter, WriteFault};
 
-/// Writes the gaps of an agenda that last at least `least` seconds: one line for each, in order.
+/// Writes the gaps of an agenda of these jobs that last at least `least` seconds: one line for each, in order.
 ///
-/// A line has the time after which nothing starts, the time at which something starts again, and the seconds
-/// between them, in decimal, with tabs between the three. A gap may also start with the span, or end with it.
-/// This requests no memory. The stream is flushed once, at the end.
+/// A gap is a time in which nothing may start: it starts at the latest start for each earlier entry, and ends
+/// at the next entry. It may also start with the span, or end with it. A line has the time of its start, the
+/// time of its end, and the seconds between them, in decimal, with tabs between the three. A gap has at least 1
+/// second, also if `least` is 0. This requests no memory. The stream is flushed once, at the end.
 ///
 /// # Errors
 ///
 /// `Device` if the stream fails. Then only the first bytes of the text were written.
 // Not inlined: its buffer of 64 KiB takes stack only while it runs.
 #[inline(never)]
-pub fn write_quiet<S: Stream>(agenda: &Agenda, least: u64, out: &mut S) -> Result<(), WriteFault>
-    ensures { Puts S.takes_all result (S.holds out.old) (S.holds out.new) (quiet_text least agenda.now) }
+pub fn write_quiet<S: Stream>(
+    agenda: &Agenda,
+    jobs: &Jobs,
+    least: u64,
+    out: &mut S,
+) -> Result<(), WriteFault>
+    ensures { Puts S.takes_all result (S.holds out.old) (S.holds out.new) (quiet_text least agenda.now jobs.now) }
 {
     let mut lines = TextWriter::new(out);
-    let mut mark = agenda.since();
+    let mut reach = agenda.since();
     let upto = agenda.upto();
     let entries = agenda.entries();
     for entry in entries {
-        let second = entry.second();
-        put_gap(mark, second, least, &mut lines);
-        mark = second;
+        put_gap(reach, entry.second(), least, &mut lines);
+        reach = reach.max(latest_start_of(*entry, jobs));
     }
-    put_gap(mark, upto, least, &mut lines);
+    put_gap(reach, upto, least, &mut lines);
     lines.finish()
 }
 
-// Puts the line of the gap between two marks, if the gap is wide enough.
+// Returns the latest start for an entry of these jobs.
+#[inline(always)]
+fn latest_start_of(entry: Start, jobs: &Jobs) -> u64
+    ensures value { result ≡ latest_start (delay_of (slice_get jobs.now entry.1)) entry.0 }
+    ensures years { result ≤ end_second }
+{
+    match jobs.get(entry.job() as usize) {
+        Some(job) => latest_start(job.delay(), entry.second()),
+        None => latest_start(0, entry.second()),
+    }
+}
+
+// Puts the line of the gap between two times, if it is a gap and long enough.
 fn put_gap<S: Stream>(from: u64, to: u64, least: u64, lines: &mut TextWriter<'_, S>)
     requires from { from ≤ end_second }
     requires to { to ≤ end_second }
-    ensures { Takes S.holds S.takes_all lines.old lines.new (wide_line least (from, to)) }
+    ensures { Takes S.holds S.takes_all lines.old lines.new (line_of_gap least (from, to)) }
 {
     let seconds = to.saturating_sub(from);
-    if seconds < least {
+    if seconds == 0 || seconds < least {
         return;
     }
     lines.put_both(&moment_text(from), b"\t");
@@ -53,10 +73,19 @@ fn put_gap<S: Stream>(from: u64, to: u64, least: u64, lines: &mut TextWriter<'_,
     lines.put_both(Digits::new().format(seconds).as_bytes(), b"\n");
 }
 
-/// States the law of gaps: no job starts within a gap of an agenda, as `write_quiet` writes them. The start and
-/// the end of a gap don't belong to it.
+/// States the law of gaps: no job may start within a gap of an agenda, as `write_quiet` writes them, at any
+/// second from one of its starts to the latest start for it. The start and the end of a gap don't belong to it.
 ///
 /// The function does nothing: its contract is the law.
 pub fn nothing_starts_in_gaps()
     ensures { NothingStartsInGaps }
+{}
+
+/// States the law of gaps without delays: if no job has a delay, the gaps of an agenda that last at least
+/// `least` seconds, 1 or more, are between its neighbouring marks that are so far apart. The marks are the start
+/// of the span, the times of the entries, and the end of the span.
+///
+/// The function does nothing: its contract is the law.
+pub fn nominal_gaps_are_of_marks()
+    ensures { NominalGapsAreOfMarks }
 {}

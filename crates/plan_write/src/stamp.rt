@@ -64,6 +64,15 @@ impl Stamp {
         }
     }
 
+    /// Returns the second.
+    #[inline(always)]
+    pub(crate) fn second(&self) -> u64
+        ensures value { result ≡ self.now }
+        ensures years { self.now ≤ end_second }
+    {
+        self.second
+    }
+
     /// Returns the text of the time, and the tab.
     #[inline(always)]
     pub(crate) fn text(&self) -> &[u8; 21]
