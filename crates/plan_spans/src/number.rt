@@ -20,7 +20,8 @@ pub(crate) struct Number<'a> {
 
 // Returns how many digits a text begins with.
 fn digits_in_front(text: &[u8]) -> usize
-    ensures { result ≡ prefix_len is_ascii_digit text.now }
+    ensures count { result ≡ prefix_len is_ascii_digit text.now }
+    ensures inside { result ≤ length text.now }
 {
     text.iter().take_while(|byte| byte.is_ascii_digit()).count()
 }

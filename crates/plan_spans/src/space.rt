@@ -1,6 +1,6 @@
 //! The white space of time spans.
 
-ghost use Rattle.std.specs.Prelude.{◌≡◌};
+ghost use Rattle.std.specs.Prelude.{◌≡◌, ◌≤◌, length};
 ghost use Rattle.std.specs.List.{prefix_len, suffix_len};
 ghost use Rattle.plan_spans.specs.Spans.{is_whitespace, after_whitespace, before_whitespace};
 
@@ -13,14 +13,16 @@ pub(crate) fn is_whitespace(byte: u8) -> bool
 
 // Returns how many bytes of white space a text begins with.
 fn whitespace_in_front(text: &[u8]) -> usize
-    ensures { result ≡ prefix_len is_whitespace text.now }
+    ensures count { result ≡ prefix_len is_whitespace text.now }
+    ensures inside { result ≤ length text.now }
 {
     text.iter().take_while(|byte| is_whitespace(**byte)).count()
 }
 
 // Returns how many bytes of white space a text ends with.
 fn whitespace_at_end(text: &[u8]) -> usize
-    ensures { result ≡ suffix_len is_whitespace text.now }
+    ensures count { result ≡ suffix_len is_whitespace text.now }
+    ensures inside { result ≤ length text.now }
 {
     text.iter()
         .rev()

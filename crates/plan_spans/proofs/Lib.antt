@@ -1,0 +1,4 @@
+pub mod NumberLemmas
+pub mod UnitLemmas
+pub mod SpanLemmas
+mod SpanRows
