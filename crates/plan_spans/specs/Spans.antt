@@ -28,27 +28,31 @@ before_whitespace text = take (length text - suffix_len is_whitespace text) text
 
 -- ---- units
 
--- the microseconds of a second, a year, and of the other units
+-- the microseconds of a second
 abbrev pub second : ℕ
 second = 1_000_000
 
+-- the microseconds of a minute
 abbrev pub minute : ℕ
 minute = 60_000_000
 
+-- the microseconds of an hour
 abbrev pub hour : ℕ
 hour = 3_600_000_000
 
+-- the microseconds of a day
 abbrev pub day : ℕ
 day = 86_400_000_000
 
+-- the microseconds of a week
 abbrev pub week : ℕ
 week = 604_800_000_000
 
--- a month is 30.44 days (systemd.time(7), parsing time spans)
+-- the microseconds of a month, the twelfth part of a year (systemd.time(7), parsing time spans)
 abbrev pub month : ℕ
 month = 2_629_800_000_000
 
--- a year is 365.25 days (systemd.time(7), parsing time spans)
+-- the microseconds of a year, which has 365.25 days (systemd.time(7), parsing time spans)
 abbrev pub year : ℕ
 year = 31_557_600_000_000
 

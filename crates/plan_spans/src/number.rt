@@ -5,7 +5,7 @@ ghost use Rattle.std.specs.Char.{is_ascii_digit};
 ghost use Rattle.std.specs.List.{prefix_len, take_while, list_all};
 ghost use Rattle.std.specs.Option.{option_map};
 ghost use Rattle.plan_texts.specs.Text.{begins_with, digits_after};
-ghost use Rattle.plan_spans.specs.Spans.{year, after_digits, after_plus, with_fraction, number_in_front, whole_micros, fraction_micros};
+ghost use Rattle.plan_spans.specs.Spans.{after_digits, after_plus, number_in_front, whole_micros, fraction_micros};
 
 // The parts of a number at the start of a text.
 #[derive(Clone, Copy)]

@@ -3,9 +3,24 @@
 ghost use Rattle.std.specs.Prelude.{◌≡◌, ◌<◌, ◌≤◌, true, IfSome, length, map, find};
 ghost use Rattle.std.specs.List.{All};
 ghost use Rattle.std.specs.Option.{option_map};
-ghost use Rattle.plan_spans.specs.Spans.{second, year, units, has_unit, unit_in_front};
+ghost use Rattle.plan_spans.specs.Spans.{year, units, has_unit, unit_in_front};
 
 use crate::space::{after_whitespace, is_whitespace};
+
+// The microseconds of the units from a second on.
+const SECOND: u64 = 1_000_000;
+
+const MINUTE: u64 = 60_000_000;
+
+const HOUR: u64 = 3_600_000_000;
+
+const DAY: u64 = 86_400_000_000;
+
+const WEEK: u64 = 604_800_000_000;
+
+const MONTH: u64 = 2_629_800_000_000;
+
+const YEAR: u64 = 31_557_600_000_000;
 
 // The units, each with its microseconds, those with longer names first (systemd.time(7), parsing time spans).
 static UNITS: [(&str, u64); 30] = [
@@ -40,21 +55,6 @@ static UNITS: [(&str, u64); 30] = [
     ("M", MONTH),
     ("y", YEAR),
 ];
-
-// The microseconds of the units from a second on.
-const SECOND: u64 = 1_000_000;
-
-const MINUTE: u64 = 60_000_000;
-
-const HOUR: u64 = 3_600_000_000;
-
-const DAY: u64 = 86_400_000_000;
-
-const WEEK: u64 = 604_800_000_000;
-
-const MONTH: u64 = 2_629_800_000_000;
-
-const YEAR: u64 = 31_557_600_000_000;
 
 // Returns the table of the units.
 fn units() -> &'static [(&'static str, u64)]
