@@ -17,7 +17,8 @@ use Rattle.plan_rules.specs.Entries.{refusals, unless_refused}
 use Rattle.plan_rules.specs.FileText.{text_reading}
 use Rattle.plan_rules.specs.Job.{JobParts}
 use Rattle.plan_texts.specs.WholeLines.{whole_lines, trimmed}
-use Rattle.plan_rules.specs.Timer.{Effect, Reset, Event, Starts, Nothing, effects_from, events_from, first_unit, has_timer, inside_after, is_timer_name, job_with, section_name, timer_of_lines, timer_reading}
+use Rattle.plan_rules.specs.Timer.{Effect, Reset, Event, Starts, Nothing, effects_from, events_from, first_unit, has_timer, inside_after, is_timer_name, job_with, section_name, settings_from, timer_of_lines, timer_reading}
+use Rattle.plan_rules.specs.TimerDelays.{delay_of}
 use Rattle.plan_rules.specs.TimerEntries.{EventCount, TimerState, count_from, entry_of, event_line, entries_from, events_after, lines_by_entries, state_after, timer_by_entries, timer_lines}
 
 -- an event that is read, before those that follow
@@ -62,7 +63,7 @@ events_by_entries zones count held ((number, Nothing) ∷ more) same = events_by
 of_lines : (zones : Zones) (name : List ℕ) (lines : List (ℕ × List ℕ)) → timer_of_lines zones name lines ≡ lines_by_entries zones name lines
 of_lines zones name lines =
     ap (λ (events : TextReading (List Calendar)). events
-    >>= λ held. job_with (has_timer lines) name (first_unit (effects_from false lines)) held)
+    >>= λ held. job_with (has_timer lines) name (first_unit (effects_from false lines)) held (delay_of (settings_from false lines)))
     (events_by_entries zones 0 [] (effects_from false lines) refl)
 
 of_text :

@@ -17,7 +17,8 @@ use Rattle.plan_rules.specs.LineFaults.{in_line, on_line}
 use Rattle.plan_rules.specs.FileText.{text_reading}
 use Rattle.plan_rules.specs.Job.{JobParts}
 use Rattle.plan_texts.specs.WholeLines.{whole_lines, whole_text, trimmed}
-use Rattle.plan_rules.specs.Timer.{Effect, Reset, Event, Starts, Nothing, is_timer_name, effects_from, has_timer, added_event, events_from, first_unit, job_with, timer_of_lines, timer_reading}
+use Rattle.plan_rules.specs.Timer.{Effect, Reset, Event, Starts, Nothing, is_timer_name, effects_from, has_timer, added_event, events_from, first_unit, job_with, settings_from, timer_of_lines, timer_reading}
+use Rattle.plan_rules.specs.TimerDelays.{delay_of}
 use Rattle.plan_texts.specs.EachLaws.{err_steps, err_choice}
 use Rattle.plan_rules.proofs.CrontabFaults.{IsLineCause, IsOwnFault, rule_in, on}
 
@@ -61,15 +62,16 @@ events_fault zones held ((number, Starts unit) ∷ more) = events_fault zones he
 events_fault zones held ((number, Nothing) ∷ more) = events_fault zones held more
 
 job_fault :
-    (found : Bool) (name : List ℕ) (unit : Option (List ℕ)) (events : List Calendar) → IfErr (job_with found name unit events) IsOwnFault
-job_fault true name unit events = tt
-job_fault false name unit events = on {A = JobParts} 0 (Err NoTimerSection) tt
+    (found : Bool) (name : List ℕ) (unit : Option (List ℕ)) (events : List Calendar) (delay : ℕ) →
+    IfErr (job_with found name unit events delay) IsOwnFault
+job_fault true name unit events delay = tt
+job_fault false name unit events delay = on {A = JobParts} 0 (Err NoTimerSection) tt
 
 -- every error of a timer's lines is of a line
 pub lines_fault : (zones : Zones) (name : List ℕ) (lines : List (ℕ × List ℕ)) → IfErr (timer_of_lines zones name lines) IsOwnFault
 lines_fault zones name lines =
     err_steps IsOwnFault (events_from zones [] (effects_from false lines)) _ (events_fault zones [] (effects_from false lines))
-    (λ events. job_fault (has_timer lines) name (first_unit (effects_from false lines)) events)
+    (λ events. job_fault (has_timer lines) name (first_unit (effects_from false lines)) events (delay_of (settings_from false lines)))
 
 -- ---- the bytes
 

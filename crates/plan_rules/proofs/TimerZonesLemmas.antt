@@ -22,7 +22,8 @@ use Rattle.plan_rules.specs.FileText.{text_reading}
 use Rattle.plan_rules.specs.Job.{JobParts}
 use Rattle.plan_rules.specs.Limits.{most_events}
 use Rattle.plan_rules.specs.LineFaults.{TextReading, in_line, on_line}
-use Rattle.plan_rules.specs.Timer.{Effect, Reset, Event, Starts, Nothing, effects_from, events_from, first_unit, has_timer, is_timer_name, job_with, timer_of_lines, timer_reading}
+use Rattle.plan_rules.specs.Timer.{Effect, Reset, Event, Starts, Nothing, effects_from, events_from, first_unit, has_timer, is_timer_name, job_with, settings_from, timer_of_lines, timer_reading}
+use Rattle.plan_rules.specs.TimerDelays.{delay_of}
 use Rattle.plan_rules.specs.TimerZones.{HaveSameClocks, are_ascii, effect_zone, lines_zones, timer_zones}
 
 -- the clocks for a name are the same, if there is a name
@@ -116,7 +117,7 @@ same_text :
 same_text zones others name (Err fault) f first second same = refl
 same_text zones others name (Ok text) f first second same =
     ap (λ (events : TextReading (List Calendar)). events
-    >>= λ held. job_with (has_timer (f text)) name (first_unit (effects_from false (f text))) held)
+    >>= λ held. job_with (has_timer (f text)) name (first_unit (effects_from false (f text))) held (delay_of (settings_from false (f text))))
     (same_events zones others [] (effects_from false (f text)) first second same)
 
 pub zones_law :

@@ -20,6 +20,7 @@ pub mod Delays
 pub mod NamedCrontabs
 pub mod Jobs
 pub mod Zone
+pub mod TimerDelays
 pub mod Timer
 pub mod TimerEntries
 pub mod TimerSteps

@@ -1,7 +1,7 @@
 -- The meaning of a timer file (systemd.timer(5), systemd.syntax(7)): its job, or its first error with its line.
 use Rattle.std.specs.Prelude.{ℕ, ◌-◌, Bool, false, ◌&&◌, ◌||◌, ◌==◌, nat_le, nat_lt, nat_eq, if◌then◌else◌, List, [], ◌∷◌, ◌++◌, length, take, map, codes, Option, Some, None, is_none, Ok, Err, unwrap_or}
 use Rattle.std.specs.Char.{is_ascii_alphabetic, is_ascii_digit}
-use Rattle.std.specs.List.{list_any, list_all, slice_index, slice_range, ends_with, position_or_len, before_first, after_first}
+use Rattle.std.specs.List.{cons_option, list_any, list_all, slice_index, slice_range, ends_with, position_or_len, before_first, after_first}
 use Rattle.std.specs.Option.{option_map_or}
 use Rattle.std.specs.Str.{byte, bytes_eq}
 use Rattle.plan_match.specs.declared.event.Calendar.{Calendar}
@@ -17,6 +17,7 @@ use Rattle.plan_grammar.specs.EventZones.{Zones}
 use Rattle.plan_rules.specs.LineFaults.{LineReading, TextReading, in_line, on_line}
 use Rattle.plan_rules.specs.FileText.{text_reading}
 use Rattle.plan_rules.specs.Job.{JobParts}
+use Rattle.plan_rules.specs.TimerDelays.{Setting, delay_of}
 use Rattle.plan_texts.specs.WholeLines.{whole_lines, trimmed}
 
 -- ---- the name
@@ -103,8 +104,14 @@ line_effect inside None None = Nothing
 line_effect inside None (Some setting) = if inside then effect_of (key_of (setting.0)) (setting.1) else Nothing
 
 -- the key and the value of a line in a `[Timer]` section; a line that begins a section has none (systemd.syntax(7))
-abbrev pub timer_setting : Bool → List ℕ → Option (List ℕ × List ℕ)
+abbrev pub timer_setting : Bool → List ℕ → Option Setting
 timer_setting inside text = if inside && is_none (section_name text) then setting_of text else None
+
+-- the settings in the `[Timer]` sections of lines, in order; the first line is in such a section if `inside` (systemd.syntax(7))
+abbrev pub settings_from : (inside : Bool) → List (ℕ × List ℕ) → List Setting
+settings_from inside [] = []
+settings_from inside (line ∷ more) =
+    cons_option (timer_setting inside line.1) (settings_from (inside_after inside (section_name line.1)) more)
 
 -- what each line does, in order, with its number
 abbrev pub effects_from : Bool → List (ℕ × List ℕ) → List (ℕ × Effect)
@@ -146,23 +153,23 @@ first_unit ((number, Nothing) ∷ more) = first_unit more
 
 -- ---- a timer file
 
--- the job of a timer, from its name, the unit that it names, and its events (systemd.timer(5))
-abbrev pub timer_job : List ℕ → Option (List ℕ) → List Calendar → JobParts
-timer_job name unit events =
-    record { name = name; user = None; command = unwrap_or unit (service_name name); rule = Events events; delay = 0 }
+-- the job of a timer, from its name, the unit that it names, its events, and its delay (systemd.timer(5))
+abbrev pub timer_job : List ℕ → Option (List ℕ) → List Calendar → (delay : ℕ) → JobParts
+timer_job name unit events delay =
+    record { name = name; user = None; command = unwrap_or unit (service_name name); rule = Events events; delay = delay }
 
 -- the same; a `[Timer]` section is required (systemd.timer(5))
-abbrev pub job_with : Bool → List ℕ → Option (List ℕ) → List Calendar → TextReading JobParts
-job_with found name unit events =
+abbrev pub job_with : Bool → List ℕ → Option (List ℕ) → List Calendar → (delay : ℕ) → TextReading JobParts
+job_with found name unit events delay =
     if found
-    then Ok (timer_job name unit events)
+    then Ok (timer_job name unit events delay)
     else on_line 0 (Err NoTimerSection)
 
 -- the job of a timer's whole lines, without blanks at their ends; a missing `[Timer]` section is the last error to be found (agenda)
 abbrev pub timer_of_lines : Zones → (name : List ℕ) → List (ℕ × List ℕ) → TextReading JobParts
 timer_of_lines zones name lines = do
   events ← events_from zones [] (effects_from false lines)
-  job_with (has_timer lines) name (first_unit (effects_from false lines)) events
+  job_with (has_timer lines) name (first_unit (effects_from false lines)) events (delay_of (settings_from false lines))
 
 -- the meaning of a timer file whose events may name these zones: its name is checked first, then its bytes, then its lines are
 -- read (agenda)

@@ -17,7 +17,8 @@ use Rattle.plan_rules.specs.Entries.{entry_at, refusals, unless_refused}
 use Rattle.plan_rules.specs.FileText.{text_reading}
 use Rattle.plan_rules.specs.Job.{JobParts}
 use Rattle.plan_rules.specs.LineFaults.{LineReading, TextReading, in_line, on_line}
-use Rattle.plan_rules.specs.Timer.{Effect, Reset, Event, Starts, Nothing, effects_from, first_unit, has_timer, inside_after, is_timer_name, job_with, line_effect, section_name, setting_of}
+use Rattle.plan_rules.specs.Timer.{Effect, Reset, Event, Starts, Nothing, effects_from, first_unit, has_timer, inside_after, is_timer_name, job_with, line_effect, section_name, setting_of, settings_from}
+use Rattle.plan_rules.specs.TimerDelays.{delay_of}
 
 -- ---- the list of events, where a rejected event counts like a valid one (agenda)
 
@@ -153,7 +154,7 @@ abbrev pub lines_by_entries : Zones → (name : List ℕ) → List (ℕ × List 
 lines_by_entries zones name lines = do
   events ← unless_refused (refusals (entries_from zones no_events (effects_from false lines)))
       (events_after zones [] (effects_from false lines))
-  job_with (has_timer lines) name (first_unit (effects_from false lines)) events
+  job_with (has_timer lines) name (first_unit (effects_from false lines)) events (delay_of (settings_from false lines))
 
 -- the job of a timer file, by its entries (agenda)
 abbrev pub timer_by_entries : Zones → (name bytes : List ℕ) → TextReading JobParts

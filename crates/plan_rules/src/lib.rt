@@ -4,7 +4,7 @@
 //! (systemd.timer(5), systemd.syntax(7)). Each takes its text from `file_text` and makes a `job` of each rule. `jobs`
 //! is the list of all jobs, by their names. An `entry` is what one line says by itself. `timer_events` reads the
 //! lines of a timer one after the other, and `crontabs` those of a crontab, so that a caller can report all errors
-//! of a file. `timer_zones` finds the `names` of the time zones that the events of a timer end with.
+//! of a file. `timer_delays` finds how late a timer may start. `timer_zones` finds the `names` of the time zones that the events of a timer end with.
 //!
 //! The crate also re-exports names of three crates below it: plan_texts, plan_match and plan_grammar.
 #![tactic(auto)]
@@ -17,6 +17,7 @@ mod jobs;
 mod line_fault;
 mod named_crontabs;
 mod names;
+mod timer_delays;
 mod timer_events;
 mod timer_lines;
 mod timer_zones;
@@ -36,6 +37,7 @@ pub use plan_grammar::{
 };
 pub use plan_match::{Calendar, CronRule, DayCount, Events, Rule};
 pub use plan_texts::{Text, cut, lines, number};
+pub use timer_delays::TimerDelays;
 pub use timer_events::{TimerLine, TimerReader, timer_is_its_entries};
 pub use timer_lines::setting_of;
 pub use timer_zones::{add_timer_zones, only_named_zones_matter};

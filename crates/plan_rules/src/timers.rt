@@ -9,11 +9,13 @@ ghost use Rattle.plan_rules.specs.LineFaults.{of_whole, on_line, want_of_memory,
 ghost use Rattle.plan_texts.specs.Lines.{is_too_large};
 ghost use Rattle.plan_rules.specs.TimerEntries.{shown_line};
 ghost use Rattle.plan_rules.specs.Timer.{is_name_byte, is_timer_name, service_name, timer_job, timer_of_lines, timer_reading, job_with};
+ghost use Rattle.plan_rules.specs.TimerDelays.{delay_seconds};
 
 use crate::entry::Entry;
 use crate::file_text::text_of;
 use crate::job::Job;
 use crate::line_fault::{LineCause, LineFault};
+use crate::timer_delays::TimerDelays;
 use crate::timer_events::{TimerLine, TimerReader};
 use plan_grammar::EventZones;
 use plan_match::{Calendar, Events, Rule};
@@ -37,7 +39,8 @@ pub const MOST_EVENTS: usize = 64;
 ///
 /// Its rule is the list of the events of `OnCalendar=` in its `[Timer]` sections. An empty value of a time
 /// setting, such as `OnCalendar=` or `OnBootSec=`, empties the list. The job starts the first unit that
-/// `Unit=` names or, without `Unit=`, the service with the timer's name.
+/// `Unit=` names or, without `Unit=`, the service with the timer's name. Its delay is that of
+/// `RandomizedDelaySec=` and `AccuracySec=`.
 ///
 /// # Errors
 ///
@@ -117,8 +120,8 @@ fn timer_of_lines(
     settings.into_job(alloc, name)
 }
 
-/// Returns the job of the timer file with a valid name, from the unit that it names, if it does, and its list of
-/// events (systemd.timer(5)).
+/// Returns the job of the timer file with a valid name, from the unit that it names, if it does, its list of events,
+/// and its delay in seconds (systemd.timer(5)).
 ///
 /// # Errors
 ///
@@ -128,9 +131,10 @@ pub fn timer_job(
     name: &str,
     unit: Option<String>,
     events: Events,
+    delay: u64,
 ) -> Result<Job, AllocError>
     requires { is_timer_name name.now ≡ true }
-    ensures { IfOk result (λ job. job ≡ timer_job name.now (option_map (λ unit. string_bytes unit) unit) events) }
+    ensures { IfOk result (λ job. job ≡ timer_job name.now (option_map (λ unit. string_bytes unit) unit) events delay) }
 {
     let command = match unit {
         Some(unit) => unit,
@@ -138,7 +142,7 @@ pub fn timer_job(
     };
     let name = String::from_str(alloc, name)?;
     let rule = Arc::new(alloc, Rule::Events(events))?;
-    Ok(Job::new(name, None, command, rule, 0))
+    Ok(Job::new(name, None, command, rule, delay))
 }
 
 // Returns the name of the service that a timer starts if it names no unit.
@@ -158,6 +162,8 @@ struct Settings<'z> {
     events: Events,
     // The first unit that was named.
     unit: Option<String>,
+    // The time spans of the delay.
+    delays: TimerDelays,
 }
 
 impl<'z> Settings<'z> {
@@ -172,6 +178,7 @@ impl<'z> Settings<'z> {
             reader: TimerReader::new(zones),
             events: Events::new(alloc),
             unit: None,
+            delays: TimerDelays::new(),
         }
     }
 
@@ -180,6 +187,7 @@ impl<'z> Settings<'z> {
         ensures { GivesUnless want_of_memory (λ _. draft_of self.new) result
             (after_line (draft_of self.old) (shown_line line.now)) }
     {
+        self.delays = self.delays.after(self.reader.setting(line));
         match self.reader.read(alloc, line)? {
             TimerLine::Empties => {
                 self.events.clear();
@@ -220,16 +228,17 @@ impl<'z> Settings<'z> {
         requires { is_timer_name name.now ≡ true }
         ensures { GivesUnless want_of_memory (λ job. job) result
             (job_with self.entry.reader.found name.now (option_map (λ unit. string_bytes unit) self.entry.unit)
-            self.entry.events) }
+            self.entry.events (delay_seconds self.entry.delays)) }
     {
         let Settings {
             reader,
             events,
             unit,
+            delays,
         } = self;
         if !reader.has_section() {
             return Err(LineCause::NoTimerSection.on_line(0));
         }
-        Ok(timer_job(alloc, name, unit, events)?)
+        Ok(timer_job(alloc, name, unit, events, delays.seconds())?)
     }
 }
