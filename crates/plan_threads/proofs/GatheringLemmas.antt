@@ -188,7 +188,7 @@ gathers_more task desk new k m so_far take steps =
             ∙ sym (get_or-set_other b.taken k j (taken_at b k ++ m ∷ []) [] (λ is. other (sym is)))
             ∙ ap (λ all. slice_index_or all j []) (sym taken)
       ];
-      stands = stepped (begun task.rules task.span task.planners task.limit) so_far.history desk.collector desk.refused k m
+      stands = stepped (begun task.timings task.span task.planners task.limit) so_far.history desk.collector desk.refused k m
           new.collector new.refused so_far.stands steps;
     }
 
@@ -207,8 +207,8 @@ gathers_same task desk new so_far same taken rings still = record {
   history = so_far.history;
   known = so_far.known;
   each = λ j few. so_far.each j few ∙ ap (λ all. slice_index_or all j []) (sym taken);
-  stands = subst (λ r. Stands (answer_to (begun task.rules task.span task.planners task.limit) so_far.history) new.collector r) (sym still)
-      (subst (λ c. Stands (answer_to (begun task.rules task.span task.planners task.limit) so_far.history) c desk.refused) (sym same)
+  stands = subst (λ r. Stands (answer_to (begun task.timings task.span task.planners task.limit) so_far.history) new.collector r) (sym still)
+      (subst (λ c. Stands (answer_to (begun task.timings task.span task.planners task.limit) so_far.history) c desk.refused) (sym same)
       so_far.stands);
 }
 
@@ -231,13 +231,13 @@ pub gathers_all :
     ((k : ℕ) → k < task.planners → taken_at (inlet_of desk.inlet) k ≡ all_notes task k) →
     IsWhole desk.collector desk.refused
 gathers_all task desk accepts so_far all =
-    let merging : IsMerging task.planners task.limit task.rules task.span so_far.history = record {
+    let merging : IsMerging task.planners task.limit task.timings task.span so_far.history = record {
       known = of_places task.planners so_far.history so_far.known;
       each = λ k few. so_far.each k few ∙ all k few;
     } in
-    whole_so desk.collector (answer_to (begun task.rules task.span task.planners task.limit) so_far.history) desk.refused
+    whole_so desk.collector (answer_to (begun task.timings task.span task.planners task.limit) so_far.history) desk.refused
     (λ is. subst HasTooMany (sym so_far.same) (so_far.too_many is)) so_far.stands
-    (accepts task.planners task.limit task.rules task.span so_far.history so_far.size so_far.ordered merging)
+    (accepts task.planners task.limit task.timings task.span so_far.history so_far.size so_far.ordered merging)
 
 pub ok_map : (r : Result (Unit {0}) PlanFault) (A B : Type 0) → (A → B) → OnOk r A → OnOk r B
 ok_map r A B go a = grind (arith, nat_tests)

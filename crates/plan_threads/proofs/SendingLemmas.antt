@@ -5,7 +5,7 @@
 use Rattle.std.proofs.Common.{◌≡◌, ℕ, ◌+◌, ◌%◌, ◌<◌, ◌≤◌, ◌⊎◌, true, false, nat_lt, List, [], ◌∷◌, ◌++◌, length, map, drop, get_or, Some, inl, inr, refl, ap, sym, ◌∙◌, arith, append_assoc, append-nil, subst}
 use Rattle.std.specs.Prelude.{slice_get, option_map, Result, Ok, Err, OnErr, IsErrAnd}
 use Rattle.std.proofs.lemmas.Bool.{cases_lt, lt-ltb, le-ltb}
-use Rattle.std.proofs.lemmas.List.{length-map, drop_all, drop_more}
+use Rattle.std.proofs.lemmas.List.{drop_all, drop_more}
 use Rattle.std.proofs.lemmas.Option.{get_or_from_slice_get, slice_get-map, slice_get_within}
 use Rattle.plan_match.specs.declared.rule.Rule.{Rule}
 use Rattle.plan_match.specs.declared.rule.Rule.TheVariants.{Never}
@@ -14,10 +14,10 @@ use Rattle.plan_next.specs.Piece.{Part, piece_of, piece_end}
 use Rattle.plan_rules.specs.Job.{JobParts}
 use Rattle.plan_collect.specs.declared.note.Note.{Note}
 use Rattle.plan_collect.specs.declared.note.Note.TheVariants as note
-use Rattle.plan_collect.specs.Agenda.{rules_of}
 use Rattle.plan_collect.specs.Limits.{most_starts}
 use Rattle.plan_collect.specs.Tiling.{pieces, parts_from, starts_in, cut_after}
 use Rattle.plan_collect.specs.TilingLaws.{pieces_stop, pieces_go_on, parts_none, parts_own, parts_other, cut_here, cut_later, cut_none}
+use Rattle.plan_collect.specs.Windows.{Timing, first_second, timing_of, timings_of}
 use Rattle.plan_mailbox.specs.History.{IsPrefix}
 use Rattle.plan_threads.specs.Sending.{cut_rest}
 use Rattle.plan_threads.specs.Task.{TaskParts, all_notes}
@@ -144,34 +144,40 @@ sent_all limit count job rule from upto before sent new reached since end brough
 
 -- a planner's messages from a job on
 abbrev pub notes_from : TaskParts → (planner job : ℕ) → List Note
-notes_from task planner job = parts_from job planner task.planners (drop job task.rules) task.span ++ note.Last ∷ []
+notes_from task planner job = parts_from job planner task.planners (drop job task.timings) task.span ++ note.Last ∷ []
+
+-- a timing that never starts, for places without one
+abbrev never : Timing
+never = record { rule = Never; delay = 0 }
 
 -- a job of another planner changes nothing
 notes_other :
-    (task : TaskParts) (planner job : ℕ) → job < length task.rules → (job % task.planners ≡ planner → ⊥) →
+    (task : TaskParts) (planner job : ℕ) → job < length task.timings → (job % task.planners ≡ planner → ⊥) →
     notes_from task planner job ≡ notes_from task planner (job + 1)
 notes_other task planner job inside other =
-    let later = drop (job + 1) task.rules in
-    ap (λ rules. parts_from job planner task.planners rules task.span ++ note.Last ∷ []) (drop_more task.rules job Never inside)
-    ∙ ap (λ notes. notes ++ note.Last ∷ []) (parts_other job planner task.planners (get_or task.rules job Never) later task.span other)
+    let later = drop (job + 1) task.timings in
+    ap (λ timings. parts_from job planner task.planners timings task.span ++ note.Last ∷ []) (drop_more task.timings job never inside)
+    ∙ ap (λ notes. notes ++ note.Last ∷ []) (parts_other job planner task.planners (get_or task.timings job never) later task.span other)
 
 -- for a job of the planner, its pieces come first
 notes_own :
-    (task : TaskParts) (planner job : ℕ) (rule : Rule) → slice_get task.rules job ≡ Some rule → job % task.planners ≡ planner →
-    notes_from task planner job ≡ map (note.Part job) (pieces rule task.span.since task.span.upto) ++ notes_from task planner (job + 1)
-notes_own task planner job rule is own =
-    let later = drop (job + 1) task.rules in
-    let here = drop_more task.rules job rule (slice_get_within task.rules job rule is)
-    ∙ ap (λ r. r ∷ later) (get_or_from_slice_get task.rules job rule rule is) in
-    ap (λ rules. parts_from job planner task.planners rules task.span ++ note.Last ∷ []) here
-    ∙ ap (λ notes. notes ++ note.Last ∷ []) (parts_own job planner task.planners rule later task.span own)
-    ∙ append_assoc (map (note.Part job) (pieces rule task.span.since task.span.upto))
+    (task : TaskParts) (planner job : ℕ) (timing : Timing) → slice_get task.timings job ≡ Some timing → job % task.planners ≡ planner →
+    notes_from task planner job
+    ≡ map (note.Part job) (pieces timing.rule (first_second task.span timing.delay) task.span.upto)
+    ++ notes_from task planner (job + 1)
+notes_own task planner job timing is own =
+    let later = drop (job + 1) task.timings in
+    let here = drop_more task.timings job timing (slice_get_within task.timings job timing is)
+    ∙ ap (λ t. t ∷ later) (get_or_from_slice_get task.timings job timing timing is) in
+    ap (λ timings. parts_from job planner task.planners timings task.span ++ note.Last ∷ []) here
+    ∙ ap (λ notes. notes ++ note.Last ∷ []) (parts_own job planner task.planners timing later task.span own)
+    ∙ append_assoc (map (note.Part job) (pieces timing.rule (first_second task.span timing.delay) task.span.upto))
     (parts_from (job + 1) planner task.planners later task.span) (note.Last ∷ [])
 
 -- after all jobs, the last message remains
-notes_end : (task : TaskParts) (planner job : ℕ) → length task.rules ≤ job → notes_from task planner job ≡ note.Last ∷ []
+notes_end : (task : TaskParts) (planner job : ℕ) → length task.timings ≤ job → notes_from task planner job ≡ note.Last ∷ []
 notes_end task planner job all =
-    ap (λ rules. parts_from job planner task.planners rules task.span ++ note.Last ∷ []) (drop_all job task.rules all)
+    ap (λ timings. parts_from job planner task.planners timings task.span ++ note.Last ∷ []) (drop_all job task.timings all)
     ∙ ap (λ notes. notes ++ note.Last ∷ []) (parts_none job planner task.planners task.span)
 
 -- what was to be sent is what was sent and what remains from a job on
@@ -180,34 +186,37 @@ IsSentUpTo task planner sent count job = all_notes task planner ≡ sent ++ cut_
 
 pub upto_other :
     (task : TaskParts) (planner : ℕ) (sent : List Note) (count job : ℕ) → IsSentUpTo task planner sent count job →
-    job < length task.rules → (job % task.planners ≡ planner → ⊥) → IsSentUpTo task planner sent count (job + 1)
+    job < length task.timings → (job % task.planners ≡ planner → ⊥) → IsSentUpTo task planner sent count (job + 1)
 upto_other task planner sent count job so_far inside other =
     so_far ∙ ap (λ notes. sent ++ cut_rest task.limit count notes) (notes_other task planner job inside other)
 
+-- what is sent of the pieces of a job's timing, and of other messages
+abbrev left_of_timing : TaskParts → (count job : ℕ) → Timing → List Note → List Note
+left_of_timing task count job timing rest =
+    left_of task.limit count job timing.rule (first_second task.span timing.delay) task.span.upto rest
+
 -- what was to be sent, if a job of the planner is next
 own_whole :
-    (task : TaskParts) (planner : ℕ) (sent : List Note) (count job : ℕ) (rule : Rule) → IsSentUpTo task planner sent count job →
-    slice_get task.rules job ≡ Some rule → job % task.planners ≡ planner →
-    all_notes task planner
-    ≡ sent ++ left_of task.limit count job rule task.span.since task.span.upto (notes_from task planner (job + 1))
-own_whole task planner sent count job rule so_far there own =
-    so_far ∙ ap (λ notes. sent ++ cut_rest task.limit count notes) (notes_own task planner job rule there own)
+    (task : TaskParts) (planner : ℕ) (sent : List Note) (count job : ℕ) (timing : Timing) → IsSentUpTo task planner sent count job →
+    slice_get task.timings job ≡ Some timing → job % task.planners ≡ planner →
+    all_notes task planner ≡ sent ++ left_of_timing task count job timing (notes_from task planner (job + 1))
+own_whole task planner sent count job timing so_far there own =
+    so_far ∙ ap (λ notes. sent ++ cut_rest task.limit count notes) (notes_own task planner job timing there own)
 
 pub upto_own :
-    (task : TaskParts) (planner : ℕ) (sent new : List Note) (count reached job : ℕ) (rule : Rule) →
-    IsSentUpTo task planner sent count job → slice_get task.rules job ≡ Some rule → job % task.planners ≡ planner →
-    IsSent task.limit count job rule task.span.since task.span.upto sent new reached →
+    (task : TaskParts) (planner : ℕ) (sent new : List Note) (count reached job : ℕ) (timing : Timing) →
+    IsSentUpTo task planner sent count job → slice_get task.timings job ≡ Some timing → job % task.planners ≡ planner →
+    IsSent task.limit count job timing.rule (first_second task.span timing.delay) task.span.upto sent new reached →
     IsSentUpTo task planner new reached (job + 1)
-upto_own task planner sent new count reached job rule so_far there own all =
-    own_whole task planner sent count job rule so_far there own ∙ all (notes_from task planner (job + 1))
+upto_own task planner sent new count reached job timing so_far there own all =
+    own_whole task planner sent count job timing so_far there own ∙ all (notes_from task planner (job + 1))
 
 pub upto_own_part :
-    (task : TaskParts) (planner : ℕ) (sent new : List Note) (count job : ℕ) (rule : Rule) → IsSentUpTo task planner sent count job →
-    slice_get task.rules job ≡ Some rule → job % task.planners ≡ planner →
-    ((rest : List Note) → IsPrefix new (sent ++ left_of task.limit count job rule task.span.since task.span.upto rest)) →
-    IsPrefix new (all_notes task planner)
-upto_own_part task planner sent new count job rule so_far there own part =
-    subst (IsPrefix new) (sym (own_whole task planner sent count job rule so_far there own)) (part (notes_from task planner (job + 1)))
+    (task : TaskParts) (planner : ℕ) (sent new : List Note) (count job : ℕ) (timing : Timing) → IsSentUpTo task planner sent count job →
+    slice_get task.timings job ≡ Some timing → job % task.planners ≡ planner →
+    ((rest : List Note) → IsPrefix new (sent ++ left_of_timing task count job timing rest)) → IsPrefix new (all_notes task planner)
+upto_own_part task planner sent new count job timing so_far there own part =
+    subst (IsPrefix new) (sym (own_whole task planner sent count job timing so_far there own)) (part (notes_from task planner (job + 1)))
 
 -- everything was sent if there were more starts than the limit
 pub upto_over :
@@ -219,7 +228,7 @@ upto_over task planner sent count job so_far over =
 -- everything was sent after all jobs and the last message
 pub upto_end :
     (task : TaskParts) (planner : ℕ) (sent : List Note) (count job : ℕ) → IsSentUpTo task planner sent count job →
-    length task.rules ≤ job → count ≤ task.limit → sent ++ note.Last ∷ [] ≡ all_notes task planner
+    length task.timings ≤ job → count ≤ task.limit → sent ++ note.Last ∷ [] ≡ all_notes task planner
 upto_end task planner sent count job so_far all few =
     let still : count + 0 ≤ task.limit = omega arith in
     sym (so_far ∙ ap (λ notes. sent ++ cut_rest task.limit count notes) (notes_end task planner job all)
@@ -228,16 +237,11 @@ upto_end task planner sent count job so_far all few =
 
 -- ---- jobs
 
--- the rule at a job's number is the rule of the job
-pub rule_of :
-    (jobs : List JobParts) (n : ℕ) (job : JobParts) (rule : Rule) → Some job ≡ slice_get jobs n → rule ≡ job.rule →
-    slice_get (rules_of jobs) n ≡ Some rule
-rule_of jobs n job rule there is =
-    slice_get-map (λ (j : JobParts). j.rule) jobs n ∙ ap (option_map (λ (j : JobParts). j.rule)) (sym there) ∙ ap Some (sym is)
-
--- there are as many rules as jobs
-pub as_many_rules : (jobs : List JobParts) → length (rules_of jobs) ≡ length jobs
-as_many_rules jobs = length-map jobs (λ job. job.rule)
+-- the timing at a job's number is the timing of the job
+pub timing_at :
+    (jobs : List JobParts) (n : ℕ) (job : JobParts) → Some job ≡ slice_get jobs n →
+    slice_get (timings_of jobs) n ≡ Some (timing_of job)
+timing_at jobs n job there = slice_get-map timing_of jobs n ∙ ap (option_map timing_of) (sym there)
 
 -- what holds if an allocation failed
 pub on_err : {T E : Type 0} (r : Result T E) (e : E) (P : Type 0) → IsErrAnd r (λ f. f ≡ e) → P → OnErr r P

@@ -56,7 +56,7 @@ fresh_all outlets rings are = fresh_from 0 outlets rings rings are
 -- nothing has arrived yet
 pub gathers_none :
     (task : TaskParts) (desk : Desk) (rings : List Ring) →
-    desk.collector ≡ begun task.rules task.span task.planners task.limit → inlet_of desk.inlet ≡ new_inlet rings → desk.refused ≡ None →
+    desk.collector ≡ begun task.timings task.span task.planners task.limit → inlet_of desk.inlet ≡ new_inlet rings → desk.refused ≡ None →
     length rings ≡ task.planners → is_size task.planners ≡ true → task.span.since ≤ task.span.upto → IsGathering task desk
 gathers_none task desk rings is new none wide size ordered = record {
   size = size;
@@ -68,5 +68,5 @@ gathers_none task desk rings is new none wide size ordered = record {
   history = [];
   known = tt;
   each = λ k few. sym (ap (λ (x : ReceivingEnd Note). taken_at x k) new ∙ get_or-replicate (length rings) k [] [] (omega arith));
-  stands = subst (λ r. Stands (Ok (begun task.rules task.span task.planners task.limit)) desk.collector r) (sym none) (ap Ok (sym is));
+  stands = subst (λ r. Stands (Ok (begun task.timings task.span task.planners task.limit)) desk.collector r) (sym none) (ap Ok (sym is));
 }

@@ -39,7 +39,7 @@ pub record IsGathering (task : TaskParts) (desk : Desk) : Type 0 where
   pub history : List (ℕ × Note)
   pub known : AreOf task.planners history
   pub each : (k : ℕ) → k < task.planners → notes_of k history ≡ taken_at (inlet_of desk.inlet) k
-  pub stands : Stands (answer_to (begun task.rules task.span task.planners task.limit) history) desk.collector desk.refused
+  pub stands : Stands (answer_to (begun task.timings task.span task.planners task.limit) history) desk.collector desk.refused
 
 -- the receipt of sender s was settled, and these messages are what it sent
 abbrev pub IsAccounted : ReceivingEnd Note → ℕ → List Note → Type 0

@@ -1,9 +1,9 @@
 //! A planner, which sends the pieces of its jobs.
 
 ghost use Rattle.std.specs.Prelude.{◌≡◌, ◌<◌, ◌≤◌, List, ◌++◌, [], map, false, OnOk, OnErr, IfOk};
-ghost use Rattle.std.specs.Arc.{arc_value};
 ghost use Rattle.plan_collect.specs.declared.note.Note.{Note};
 ghost use Rattle.plan_collect.specs.Tiling.{pieces};
+ghost use Rattle.plan_collect.specs.Windows.{first_second};
 ghost use Rattle.plan_mailbox.specs.Ends.{outlet_of, receipt_of};
 ghost use Rattle.plan_mailbox.specs.History.{IsPrefix};
 ghost use Rattle.plan_threads.specs.Sending.{after_send, cut_rest};
@@ -12,20 +12,19 @@ ghost use Rattle.plan_threads.specs.Task.{all_notes, parts_of};
 use crate::gate::Gate;
 use crate::pause::Pause;
 use crate::task::Task;
-use plan_collect::{Note, PIECE_STARTS};
+use plan_collect::{Note, PIECE_STARTS, first_second};
 use plan_mailbox::{Outlet, Receipt};
-use plan_match::Rule;
 use plan_next::{NoMemory, next_piece};
-use plan_rules::Jobs;
+use plan_rules::{Job, Jobs};
 use std::alloc::Global;
-use std::sync::{Arc, Wait};
+use std::sync::Wait;
 
 /// Sends the messages of the outlet's planner, and closes the outlet.
 ///
 /// Job j is sent by planner j mod the number of planners. For each of its jobs, in ascending order, the
 /// planner sends at least one piece, each with at most 1,024 starts. The pieces follow each other without a
-/// gap and cover the span. Then it sends its last message. After a piece with which more starts were sent
-/// than the limit, it sends nothing more.
+/// gap, from the job's `first_second` to the end of the span. Then the planner sends its last message. After
+/// a piece with which more starts were sent than the limit, it sends nothing more.
 ///
 /// The receipt accounts for what was sent. The returned flag is true if an allocation failed, which ends the
 /// sending early. The planner arrives at the gate before it sends. While the outlet is full, it tries again,
@@ -76,7 +75,7 @@ fn send_notes<R: Wait>(
             continue;
         }
         if let Some(job) = jobs.get(number) {
-            count = send_job(rt, alloc, task, number as u32, job.rule(), count, outlet)?;
+            count = send_job(rt, alloc, task, number as u32, job, count, outlet)?;
         }
         if count > task.sizes.limit {
             return Ok(());
@@ -92,8 +91,8 @@ fn send_job<R: Wait>(
     rt: &R,
     alloc: Global,
     task: &Task,
-    job: u32,
-    rule: &Arc<Rule>,
+    number: u32,
+    job: &Job,
     count: u64,
     outlet: &mut Outlet<Note>,
 ) -> Result<u64, NoMemory>
@@ -103,19 +102,19 @@ fn send_job<R: Wait>(
 
     // For any messages that come after the job's.
     ensures all { let span = task.now.span in IfOk result (λ reached. (rest : List Note) →
-        (outlet_of outlet.old).sent ++ cut_rest task.now.sizes.limit count (map (Note.Part job) (pieces (arc_value rule.now) span.since span.upto) ++ rest)
+        (outlet_of outlet.old).sent ++ cut_rest task.now.sizes.limit count (map (Note.Part number) (pieces job.now.rule (first_second span job.now.delay) span.upto) ++ rest)
         ≡ (outlet_of outlet.new).sent ++ cut_rest task.now.sizes.limit reached rest) }
     ensures prefix { let span = task.now.span in OnErr result ((rest : List Note) → IsPrefix (outlet_of outlet.new).sent
-        ((outlet_of outlet.old).sent ++ cut_rest task.now.sizes.limit count (map (Note.Part job) (pieces (arc_value rule.now) span.since span.upto) ++ rest))) }
+        ((outlet_of outlet.old).sent ++ cut_rest task.now.sizes.limit count (map (Note.Part number) (pieces job.now.rule (first_second span job.now.delay) span.upto) ++ rest))) }
 {
     let upto = task.span.upto();
-    let mut since = task.span.since();
+    let mut since = first_second(task.span, job.delay());
     let mut reached = count;
     loop {
-        let piece = next_piece(alloc, rule, since, upto, PIECE_STARTS)?;
+        let piece = next_piece(alloc, job.rule(), since, upto, PIECE_STARTS)?;
         since = piece.upto();
         reached += piece.starts().len() as u64;
-        send(rt, outlet, Note::Part(job, piece));
+        send(rt, outlet, Note::Part(number, piece));
         if reached > task.sizes.limit || since >= upto {
             return Ok(reached);
         }

@@ -1,8 +1,9 @@
 //! A plan by several planners, each in its own thread.
 
 ghost use Rattle.std.specs.Prelude.{◌≡◌, ◌<◌, false, [], length, IfOk, IfErr, vec_len};
-ghost use Rattle.plan_collect.specs.Agenda.{IsOfJobs, rules_of};
+ghost use Rattle.plan_collect.specs.Agenda.{IsOfJobs};
 ghost use Rattle.plan_collect.specs.Planning.{Gives, plan_answer, valid_sizes};
+ghost use Rattle.plan_collect.specs.Windows.{timings_of};
 ghost use Rattle.plan_mailbox.specs.Ends.{inlet_of, outlet_of, receipt_of};
 ghost use Rattle.plan_threads.specs.Gathering.{AreFresh, IsGathering};
 ghost use Rattle.plan_threads.specs.Task.{all_notes, answer_of, parts_of};
@@ -23,8 +24,11 @@ use std::sync::atomic::Ordering::SeqCst;
 use std::thread;
 use std::thread::Threads;
 
-/// Makes the agenda of jobs over a span. Each of its planners works in its own thread, with a capacity of
-/// `sizes.room` messages. The calling thread collects the messages, and waits for the planners.
+/// Makes the agenda of jobs over a span. A start before the span is an entry too, if its job's delay lasts
+/// into the span.
+///
+/// Each planner works in its own thread, with a capacity of `sizes.room` messages. The calling thread collects
+/// the messages, and waits for the planners.
 ///
 /// # Errors
 ///
@@ -39,7 +43,7 @@ pub fn plan<R: Threads + Wait + Sync, G: Gate>(
     sizes: Sizes,
     gate: &G,
 ) -> Result<Agenda, PlanFault>
-    ensures planned { Gives result (plan_answer (rules_of jobs.now) span sizes) }
+    ensures planned { Gives result (plan_answer (timings_of jobs.now) span sizes) }
 
     // These errors are found before any memory is requested.
     ensures at_once { IfErr (valid_sizes sizes) (λ fault. result ≡ Err fault) }

@@ -1,5 +1,5 @@
 use Rattle.std.proofs.Common.{◌≡◌, ◌-◌, ◌≤◌}
-use Rattle.std.specs.Arc.{arc_value}
+use Rattle.plan_collect.specs.Windows.{first_second}
 use Rattle.plan_mailbox.specs.Ends.{outlet_of}
 use Rattle.plan_threads.proofs.SendingLemmas.{IsSentTo}
 use Rattle.plan_threads.proofs.planner.send_job.Given as goal
@@ -12,7 +12,7 @@ invariant-loop-piece g l =
     × (l.reached ≤ l.task.sizes.limit)
     × ((outlet_of l.outlet).sender ≡ (outlet_of l.initial.outlet).sender)
     × ((outlet_of l.outlet).ring ≡ (outlet_of l.initial.outlet).ring)
-    × IsSentTo l.task.sizes.limit l.count l.job (arc_value l.rule) span.since span.upto (outlet_of l.initial.outlet).sent
+    × IsSentTo l.task.sizes.limit l.count l.number l.job.rule (first_second span l.job.delay) span.upto (outlet_of l.initial.outlet).sent
     (outlet_of l.outlet).sent l.reached l.since
 
 abbrev pub decreases-loop-piece : goal.decreases-loop-piece
