@@ -6,23 +6,22 @@ use Rattle.std.specs.Prelude.{slice_get, slice_index, slice_set, unwrap_or, nat_
 use Rattle.std.proofs.lemmas.Bool.{and_from, eq-eqb, le-leb, lt-leb}
 use Rattle.std.proofs.lemmas.Option.{get_or_from_slice_get}
 use Rattle.plan_collect.specs.Span.{Bounds}
-use Rattle.plan_match.specs.declared.rule.Rule.{Rule}
 use Rattle.plan_match.specs.Equal.{same_rule-Decides}
 use Rattle.plan_next.specs.Piece.{Part}
 use Rattle.plan_collect.specs.declared.note.Note.TheVariants as note
 use Rattle.plan_collect.specs.declared.collector.CollectFault.{CollectFault}
-use Rattle.plan_collect.specs.declared.collector.CollectFault.TheVariants.{NoMemory, Stranger, Gap, TooMany, AfterLast, Missing}
-use Rattle.plan_collect.specs.Agenda.{agenda}
+use Rattle.plan_collect.specs.declared.collector.CollectFault.TheVariants.{NoMemory, Stranger, Gap, TooMany, AfterLast}
 use Rattle.plan_collect.specs.Collecting.{Collected, is_rule_of, belongs, has_ended, adjoins, has_room, refusal, Answers}
 use Rattle.plan_collect.specs.TilingLaws.{set_again}
 use Rattle.plan_collect.specs.Planning.{agenda_within}
 use Rattle.plan_collect.specs.declared.plan_fault.PlanFault.{PlanFault}
 use Rattle.plan_collect.specs.declared.plan_fault.PlanFault.TheVariants as plan
 use Rattle.plan_collect.specs.PlanFault.{of_collect}
+use Rattle.plan_collect.specs.Windows.{Timing, agenda_of_windows}
 
 -- the pieces of one job up to this second were collected
 pub record IsAt (old now : Collected) (job since : ℕ) : Type 0 where
-  pub rules : now.rules ≡ old.rules
+  pub timings : now.timings ≡ old.timings
   pub span : now.span ≡ old.span
   pub limit : now.limit ≡ old.limit
   pub ended : now.ended ≡ old.ended
@@ -39,7 +38,7 @@ pub IsAt-more :
     (old now new : Collected) (job since end : ℕ) → IsAt old now job since →
     new ≡ record now { covered = slice_set now.covered job end } → IsAt old new job end
 IsAt-more old now new job since end so_far is = record {
-  rules = ap (λ (c : Collected). c.rules) is ∙ so_far.rules;
+  timings = ap (λ (c : Collected). c.timings) is ∙ so_far.timings;
   span = ap (λ (c : Collected). c.span) is ∙ so_far.span;
   limit = ap (λ (c : Collected). c.limit) is ∙ so_far.limit;
   ended = ap (λ (c : Collected). c.ended) is ∙ so_far.ended;
@@ -63,20 +62,20 @@ only_room :
 only_room belonging ended adjoining room b e a = rw (b, e, a) refl
 
 more_than :
-    (old now : Collected) {job since : ℕ} → IsAt old now job since → now.limit < length (agenda now.rules now.span) →
-    old.limit < length (agenda old.rules old.span)
+    (old now : Collected) {job since : ℕ} → IsAt old now job since → now.limit < length (agenda_of_windows now.timings now.span) →
+    old.limit < length (agenda_of_windows old.timings old.span)
 more_than old now so_far many =
-    let all : length (agenda now.rules now.span) ≡ length (agenda old.rules old.span) =
-    (λ i. length (agenda (so_far.rules i) (so_far.span i))) in
+    let all : length (agenda_of_windows now.timings now.span) ≡ length (agenda_of_windows old.timings old.span) =
+    (λ i. length (agenda_of_windows (so_far.timings i) (so_far.span i))) in
     let limit = so_far.limit in
     omega arith
 
 -- a plan stops with this error
 abbrev pub Fails : Collected → PlanFault → Type 0
-Fails c fault = fault ≢ plan.NoMemory → agenda_within c.rules c.span c.limit ≡ Err fault
+Fails c fault = fault ≢ plan.NoMemory → agenda_within c.timings c.span c.limit ≡ Err fault
 
-too_many : (c : Collected) → c.limit < length (agenda c.rules c.span) → Fails c (plan.Collect TooMany)
-too_many c many other = let more : nat_le (length (agenda c.rules c.span)) c.limit ≡ false = lt-leb _ _ many in rw more refl
+too_many : (c : Collected) → c.limit < length (agenda_of_windows c.timings c.span) → Fails c (plan.Collect TooMany)
+too_many c many other = let more : nat_le (length (agenda_of_windows c.timings c.span)) c.limit ≡ false = lt-leb _ _ many in rw more refl
 
 -- the answer to a message that is rejected
 abbrev pub refused_by : CollectFault → Result (Unit {0}) CollectFault
@@ -84,20 +83,20 @@ refused_by fault = Err fault
 
 -- a rejected piece of a plan by one planner, if all tests but that of the limit pass
 pub piece_refused :
-    (old now : Collected) (job : ℕ) (rule : Rule) (piece : Part) (since upto : ℕ) (fault : CollectFault) → IsAt old now job since →
-    old.ended ≡ false ∷ [] → old.span.upto ≡ upto → slice_get old.rules job ≡ Some rule → piece.rule ≡ rule → piece.since ≡ since →
-    piece.upto ≤ upto → Answers (Err fault) (refusal now 0 (note.Part job piece)) →
-    (refused_by fault ≡ refused_by TooMany → now.limit < length (agenda now.rules now.span)) → Fails old (of_collect fault)
-piece_refused old now job rule piece since upto fault so_far unended ends known own begins within answer many =
+    (old now : Collected) (job : ℕ) (timing : Timing) (piece : Part) (since upto : ℕ) (fault : CollectFault) → IsAt old now job since →
+    old.ended ≡ false ∷ [] → old.span.upto ≡ upto → slice_get old.timings job ≡ Some timing → piece.rule ≡ timing.rule →
+    piece.since ≡ since → piece.upto ≤ upto → Answers (Err fault) (refusal now 0 (note.Part job piece)) →
+    (refused_by fault ≡ refused_by TooMany → now.limit < length (agenda_of_windows now.timings now.span)) → Fails old (of_collect fault)
+piece_refused old now job timing piece since upto fault so_far unended ends known own begins within answer many =
     let none_ended : now.ended ≡ false ∷ [] = so_far.ended ∙ unended in
-    let there : slice_get now.rules job ≡ Some piece.rule = ap (λ rules. slice_get rules job) so_far.rules ∙ known ∙ ap Some (sym own) in
-    let same : is_rule_of (slice_get now.rules job) piece.rule ≡ true = ap (λ r. is_rule_of r piece.rule) there ∙
-    (same_rule-Decides piece.rule piece.rule).1 refl in
+    let there : slice_get now.timings job ≡ Some timing = ap (λ timings. slice_get timings job) so_far.timings ∙ known in
+    let same : is_rule_of (slice_get now.timings job) piece.rule ≡ true = ap (λ t. is_rule_of t piece.rule) there ∙
+    (same_rule-Decides timing.rule piece.rule).1 (sym own) in
     let remainder : (job % 1 == 0) ≡ true = eq-eqb (job % 1) 0 (omega arith) in
     let belonging : belongs now 0 (note.Part job piece) ≡ true =
     ap (λ (ended : List Bool). nat_lt 0
-    (length ended) && (job % length ended == 0 && is_rule_of (slice_get now.rules job) piece.rule)) none_ended
-    ∙ and_from (job % 1 == 0) (is_rule_of (slice_get now.rules job) piece.rule) remainder same in
+    (length ended) && (job % length ended == 0 && is_rule_of (slice_get now.timings job) piece.rule)) none_ended
+    ∙ and_from (job % 1 == 0) (is_rule_of (slice_get now.timings job) piece.rule) remainder same in
     let going_on : has_ended now 0 ≡ false = ap (λ (ended : List Bool). unwrap_or (slice_get ended 0) false) none_ended in
     let at_begin : (slice_index now.covered job == piece.since) ≡ true = eq-eqb (slice_index now.covered job) piece.since
     (get_or_from_slice_get now.covered job since 0 so_far.here ∙ sym begins) in
