@@ -1,5 +1,6 @@
 pub mod AgendaOrder
 pub mod WindowsLemmas
+pub mod EntriesLemmas
 pub mod StartsLemmas
 pub mod HeldLemmas
 pub mod HoldsLemmas

@@ -21,7 +21,7 @@ pub weigh-length : (xs : List (ℕ × ℕ)) → weigh (λ _. 1) xs ≡ length xs
 weigh-length [] = refl
 weigh-length (x ∷ xs) = omega (arith, weigh-length xs)
 
-weigh-sum_by : (weight : ℕ × ℕ → ℕ) (xs : List (ℕ × ℕ)) → weigh weight xs ≡ sum_by weight xs
+pub weigh-sum_by : (weight : ℕ × ℕ → ℕ) (xs : List (ℕ × ℕ)) → weigh weight xs ≡ sum_by weight xs
 weigh-sum_by weight [] = refl
 weigh-sum_by weight (x ∷ xs) = ap (λ n. weight x + n) (weigh-sum_by weight xs) ∙ sym (sum_by-cons weight x xs)
 

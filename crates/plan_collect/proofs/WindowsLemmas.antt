@@ -175,11 +175,11 @@ windows_are_starts job (first ∷ jobs) span second from before =
 pub nominal_agenda : WithoutDelaysIsAgenda
 unfolding agenda agenda_of_windows
 nominal_agenda jobs span ordered =
-    let rows = windows_from 0 (timings_of (map nominal jobs)) span in
+    let windows = windows_from 0 (timings_of (map nominal jobs)) span in
     let whole : span.upto ≡ span.since + (span.upto - span.since) = omega arith in
     let start : 0 + span.since ≡ span.since = omega arith in
-    ap (λ n. flat_map rows (range_with_len 0 n)) whole
-    ∙ skip_rows rows 0 span.since (span.upto - span.since) (λ k lt. no_windows 0 jobs span k ordered (omega arith))
-    ∙ ap (λ n. flat_map rows (range_with_len n (span.upto - span.since))) start
-    ∙ same_rows rows (row_from 0 (rules_of jobs)) span.since (span.upto - span.since)
+    ap (λ n. flat_map windows (range_with_len 0 n)) whole
+    ∙ skip_rows windows 0 span.since (span.upto - span.since) (λ k lt. no_windows 0 jobs span k ordered (omega arith))
+    ∙ ap (λ n. flat_map windows (range_with_len n (span.upto - span.since))) start
+    ∙ same_rows windows (row_from 0 (rules_of jobs)) span.since (span.upto - span.since)
     (λ k low high. windows_are_starts 0 jobs span k low (omega arith))

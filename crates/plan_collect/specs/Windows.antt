@@ -1,6 +1,6 @@
 -- The agenda of windows: a job may start later than at the times of its rule, by up to its delay (systemd.timer(5),
 -- `RandomizedDelaySec=`, `AccuracySec=`). The window of a start is from that time to the latest one, both included.
-use Rattle.std.specs.Prelude.{◌≡◌, ℕ, ◌+◌, ◌-◌, ◌≤◌, Bool, ◌&&◌, nat_le, nat_lt, min, if◌then◌else◌, List, [], ◌∷◌, map, refl}
+use Rattle.std.specs.Prelude.{◌≡◌, ℕ, ◌+◌, ◌-◌, ◌≤◌, Bool, false, ◌&&◌, ◌==◌, nat_le, nat_lt, min, if◌then◌else◌, List, [], ◌∷◌, count_by, map, slice_get, Option, None, Some, refl}
 use Rattle.std.specs.Coded.{Coded, code_by, coded×, coded_ℕ}
 use Rattle.std.specs.List.{flat_map, range_with_len}
 use Rattle.plan_sets.specs.Limits.{end_second}
@@ -61,6 +61,17 @@ agenda_of_windows timings span = flat_map (windows_from 0 timings span) (range_w
 -- the agenda of windows over a span, with the span
 abbrev pub planned_windows : List Timing → Bounds → Planned
 planned_windows timings span = record { span = span; entries = agenda_of_windows timings span }
+
+-- the window of a job's start at `second` meets the span, if there is such a job
+abbrev pub has_window : Option JobParts → Bounds → (second : ℕ) → Bool
+has_window None span second = false
+has_window (Some job) span second = is_start job.rule second && meets span job.delay second
+
+-- each start of a job whose window meets the span is an entry once, and there are no other entries
+abbrev pub HasEachWindowOnce : Type 0
+HasEachWindowOnce = (jobs : List JobParts) (span : Bounds) (second number : ℕ)
+    → count_by (λ entry. entry.0 == second && entry.1 == number) (agenda_of_windows (timings_of jobs) span)
+    ≡ (if has_window (slice_get jobs number) span second then 1 else 0)
 
 -- where all delays are 0, the agenda of windows is the agenda
 abbrev pub WithoutDelaysIsAgenda : Type 0

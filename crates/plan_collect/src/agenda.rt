@@ -8,7 +8,8 @@ use plan_next::Span;
 use plan_sets::END_SECOND;
 use std::marker::Model;
 
-/// The starts of jobs in a span. Each is a second and a job's number; they ascend by second and then by job.
+/// The starts of jobs in a span, and earlier ones if the job's delay reaches into the span. Each is a second and
+/// a job's number; they ascend by second and then by job.
 #[derive(Debug, Drop)]
 pub struct Agenda {
     span: Span,

@@ -107,8 +107,8 @@ impl From<AllocError> for CollectFault {
 /// Keeps the starts of jobs in a span, which planners send piece by piece.
 ///
 /// The planner of a job is the job's number modulo the number of planners. For each job, the collector holds
-/// all starts from the job's first second to the second to which the job is covered. The first second is the
-/// start of the span, or earlier by the job's delay.
+/// all starts from the start of the span, or earlier by the job's delay, to the second to which the job is
+/// covered.
 #[derive(Drop)]
 pub struct Collector {
     timings: Vec<JobTiming>,

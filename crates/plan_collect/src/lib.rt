@@ -1,9 +1,11 @@
-//! The agenda of jobs over a span: which job starts when. Planners send pieces of the jobs' starts. A
-//! collector checks and keeps them, and makes the agenda, sorted by time and then by job.
+//! The agenda of jobs over a span: which job starts when. A job with a delay may start later than at a time of
+//! its rule. So such times before the span belong to the agenda too, if the delay reaches into the span.
+//! Planners send pieces of the jobs' starts. A collector checks and keeps them, and makes the agenda, sorted by
+//! time and then by job.
 //!
 //! The crate uses plan_rules for the jobs, and plan_next for the pieces. Read `collector` first, then
-//! `agenda`. `plan_fault` has the errors of a plan, and `upcoming` the next start of each job. plan_write makes
-//! the texts.
+//! `agenda`. `timing` has the delays, and `windows` the laws of them. `plan_fault` has the errors of a plan, and
+//! `upcoming` the next start of each job. plan_write makes the texts.
 #![tactic(auto)]
 
 mod agenda;
@@ -28,4 +30,4 @@ pub use sizes::Sizes;
 pub use start::Start;
 pub use timing::first_second;
 pub use upcoming::Upcoming;
-pub use windows::without_delays_windows_are_the_agenda;
+pub use windows::{agenda_has_each_window_once, without_delays_windows_are_the_agenda};

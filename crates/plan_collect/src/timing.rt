@@ -1,4 +1,4 @@
-//! When a job may start: the rule and the delay of a job.
+//! When a job may start: its rule and its delay.
 
 ghost use Rattle.std.specs.Prelude.{◌≡◌, ◌≤◌, length, IfOk};
 ghost use Rattle.plan_rules.specs.Limits.{most_jobs};
@@ -57,9 +57,9 @@ impl JobTiming {
     }
 }
 
-/// Returns the second from which on a job's starts belong to a span, for the job's delay in seconds. The job may
-/// start up to its delay later than at a time of its rule. So such times before the span belong to it too, if it
-/// isn't empty. Both are counted from 1970-01-01T00:00:00Z.
+/// Returns the second from which on the starts of a job with this delay, in seconds, are planned for a span. A
+/// job may start up to its delay later than at a time of its rule. So it is earlier than the span's start by the
+/// delay, but not before 1970. If the span is empty, it is the span's start.
 pub fn first_second(span: Span, delay: u64) -> u64
     ensures value { result ≡ first_second span delay }
     ensures within { result ≤ span.upto }
@@ -85,7 +85,7 @@ pub(crate) fn timings_in(alloc: Global, jobs: &Jobs) -> Result<Vec<JobTiming>, A
     Ok(timings)
 }
 
-// Returns the first second of each job's starts that belong to a span.
+// Returns for each job the second from which on its starts are planned for a span.
 pub(crate) fn firsts_in(
     alloc: Global,
     timings: &[JobTiming],
