@@ -16,7 +16,7 @@ use Rattle.plan_rules.specs.LineFaults.{LineReading, TextReading, in_line, on_li
 use Rattle.plan_rules.specs.Job.{JobParts}
 use Rattle.plan_rules.specs.Timer.{Effect, Reset, Event, Starts, Nothing, section_name, setting_of, inside_after, line_effect, effects_from, has_timer, events_from, first_unit, job_with, settings_from, timer_of_lines, timer_setting}
 use Rattle.plan_rules.specs.TimerDelays.{Setting, accuracy_key, delay_seconds, delays_after, delays_with, last_or, last_span, random_key, span_after, span_of}
-use Rattle.plan_rules.specs.TimerEntries.{EventCount, count_after, effect_in, event_line, line_by, state_after}
+use Rattle.plan_rules.specs.TimerEntries.{EventCount, count_after, effect_in, event_line, line_by}
 use Rattle.plan_rules.specs.TimerSteps.{Draft, after_step, after_line, after_reading, no_settings}
 
 -- ---- the unit
