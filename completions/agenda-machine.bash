@@ -62,16 +62,16 @@ _agenda_machine() {
     local sources='--zone= --crontab= --system-crontab= --cron-d= --spool= --help'
     case $command:$cur in
         :-*)
-            mapfile -t COMPREPLY < <(compgen -W '--root --all --strict --help' -- "$cur")
+            mapfile -t COMPREPLY < <(compgen -W '--root --all --strict --nominal --help' -- "$cur")
             ;;
         :*)
             mapfile -t COMPREPLY < <(compgen -W 'plan upcoming quiet check sources' -- "$cur")
             ;;
         plan:-*)
-            mapfile -t COMPREPLY < <(compgen -W "--since= --upto= --planners= --room= --limit= $sources" -- "$cur")
+            mapfile -t COMPREPLY < <(compgen -W "--since= --upto= --planners= --room= --limit= --delays $sources" -- "$cur")
             ;;
         upcoming:-*)
-            mapfile -t COMPREPLY < <(compgen -W "--after= $sources" -- "$cur")
+            mapfile -t COMPREPLY < <(compgen -W "--after= --delays $sources" -- "$cur")
             ;;
         quiet:-*)
             mapfile -t COMPREPLY < <(compgen -W "--since= --upto= --least= --planners= --room= --limit= $sources" -- "$cur")

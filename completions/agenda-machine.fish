@@ -5,13 +5,14 @@ complete -c agenda-machine -f
 set -l none 'not __fish_seen_subcommand_from plan upcoming quiet check sources'
 complete -c agenda-machine -n $none -a plan -d 'Print every start in a span of time'
 complete -c agenda-machine -n $none -a upcoming -d 'Print when each job starts next'
-complete -c agenda-machine -n $none -a quiet -d 'Print the gaps in which no job starts'
+complete -c agenda-machine -n $none -a quiet -d 'Print the gaps in which no job can start'
 complete -c agenda-machine -n $none -a check -d 'Print errors and likely mistakes in the files'
 complete -c agenda-machine -n $none -a sources -d 'Print the sources that were found'
 complete -c agenda-machine -n $none -l root -x -d 'The directory that has the files of the machine' \
     -a '(__fish_complete_directories)'
 complete -c agenda-machine -n $none -l all -d 'Include timers that are not enabled'
 complete -c agenda-machine -n $none -l strict -d 'Let one invalid file stop plan, upcoming and quiet'
+complete -c agenda-machine -n $none -l nominal -d 'Let quiet ignore the delays of timers'
 complete -c agenda-machine -l help -d 'Print help'
 
 set -l span '__fish_seen_subcommand_from plan quiet'
@@ -22,6 +23,7 @@ complete -c agenda-machine -n $span -l room -x -d 'How many messages of each thr
 complete -c agenda-machine -n $span -l limit -x -d 'The maximum number of starts, from 1 to 1000000'
 complete -c agenda-machine -n '__fish_seen_subcommand_from quiet' -l least -x -d 'The minimum length of a gap in seconds [1800]'
 complete -c agenda-machine -n '__fish_seen_subcommand_from upcoming' -l after -x -d 'Only starts later than this time'
+complete -c agenda-machine -n '__fish_seen_subcommand_from plan upcoming' -l delays -d 'Print when each start may come at the latest'
 
 # Names of the tz database: those of zones begin with a capital letter, and those of other files don't.
 function __agenda_machine_zones

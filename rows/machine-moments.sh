@@ -43,15 +43,15 @@ machine_moments() {
 
 machine_moments <<'ROWS'
 plan>plan|--event-zones|--keep-going|--since|NOW|--upto|NEXT
-quiet>quiet|--event-zones|--keep-going|--since|NOW|--upto|NEXT
+quiet>quiet|--event-zones|--keep-going|--delays|--since|NOW|--upto|NEXT
 upcoming>upcoming|--event-zones|--keep-going|--after|NOW
 check>check|--event-zones
 plan|--limit|5|x>plan|--event-zones|--keep-going|--since|NOW|--upto|NEXT|--limit|5|x
-quiet|--least|5>quiet|--event-zones|--keep-going|--since|NOW|--upto|NEXT|--least|5
+quiet|--least|5>quiet|--event-zones|--keep-going|--delays|--since|NOW|--upto|NEXT|--least|5
 upcoming|x>upcoming|--event-zones|--keep-going|--after|NOW|x
 plan|--since|DAY>plan|--event-zones|--keep-going|--upto|2024-01-02T00:00:00Z|--since|DAY
 plan|--since=DAY>plan|--event-zones|--keep-going|--upto|2024-01-02T00:00:00Z|--since=DAY
-quiet|--since|2024-02-28T23:59:59Z>quiet|--event-zones|--keep-going|--upto|2024-02-29T23:59:59Z|--since|2024-02-28T23:59:59Z
+quiet|--since|2024-02-28T23:59:59Z>quiet|--event-zones|--keep-going|--delays|--upto|2024-02-29T23:59:59Z|--since|2024-02-28T23:59:59Z
 plan|--since=2023-12-31T12:34:56Z>plan|--event-zones|--keep-going|--upto|2024-01-01T12:34:56Z|--since=2023-12-31T12:34:56Z
 plan|--upto|2999-01-01T00:00:00Z>plan|--event-zones|--keep-going|--since|NOW|--upto|2999-01-01T00:00:00Z
 plan|--upto=2999-01-01T00:00:00Z>plan|--event-zones|--keep-going|--since|NOW|--upto=2999-01-01T00:00:00Z
@@ -61,7 +61,7 @@ upcoming|--after=DAY>upcoming|--event-zones|--keep-going|--after=DAY
 plan|x|--since|DAY|y|--upto=DAY|z>plan|--event-zones|--keep-going|x|--since|DAY|y|--upto=DAY|z
 plan|--|--since|DAY>plan|--event-zones|--keep-going|--since|NOW|--upto|NEXT|--|--since|DAY
 plan|--since|DAY|--|--upto=DAY>plan|--event-zones|--keep-going|--upto|2024-01-02T00:00:00Z|--since|DAY|--|--upto=DAY
-quiet|--|--upto|frob|--since=frob>quiet|--event-zones|--keep-going|--since|NOW|--upto|NEXT|--|--upto|frob|--since=frob
+quiet|--|--upto|frob|--since=frob>quiet|--event-zones|--keep-going|--delays|--since|NOW|--upto|NEXT|--|--upto|frob|--since=frob
 upcoming|--|--after|frob>upcoming|--event-zones|--keep-going|--after|NOW|--|--after|frob
 plan|--sinces|DAY|--upton=DAY>plan|--event-zones|--keep-going|--since|NOW|--upto|NEXT|--sinces|DAY|--upton=DAY
 plan|since|--sinc|-since|x>plan|--event-zones|--keep-going|--since|NOW|--upto|NEXT|since|--sinc|-since|x
@@ -78,12 +78,12 @@ plan|--since|2024-01-01T00:00:00z>plan|--event-zones|--keep-going|--upto|2024-01
 plan|--since|2024-01-01T00:00:00+01:00>plan|--event-zones|--keep-going|--upto|2024-01-01T23:00:00Z|--since|2023-12-31T23:00:00Z
 plan|--since|2024-01-01T00:00Z>plan|--event-zones|--keep-going|--upto|2024-01-02T00:00:00Z|--since|2024-01-01T00:00:00Z
 plan|--since|DAY|--upto|2024-01-31 06:00>plan|--event-zones|--keep-going|--since|DAY|--upto|2024-01-31T06:00:00Z
-quiet|--since|DAY|--upto=1 feb 2024>quiet|--event-zones|--keep-going|--since|DAY|--upto=2024-02-01T00:00:00Z
+quiet|--since|DAY|--upto=1 feb 2024>quiet|--event-zones|--keep-going|--delays|--since|DAY|--upto=2024-02-01T00:00:00Z
 plan|--since|DAY|--upto|+8 hours>plan|--event-zones|--keep-going|--since|DAY|--upto|2024-01-01T08:00:00Z
 plan|--since|DAY|--upto=+8 hours>plan|--event-zones|--keep-going|--since|DAY|--upto=2024-01-01T08:00:00Z
 plan|--upto|+90 min|--since=2024-02-28 23:00>plan|--event-zones|--keep-going|--upto|2024-02-29T00:30:00Z|--since=2024-02-28T23:00:00Z
 plan|--since|2024-01-31|--upto|+1 month>plan|--event-zones|--keep-going|--since|2024-01-31T00:00:00Z|--upto|2024-03-02T00:00:00Z
-quiet|--upto=+1 week|--since|DAY>quiet|--event-zones|--keep-going|--upto=2024-01-08T00:00:00Z|--since|DAY
+quiet|--upto=+1 week|--since|DAY>quiet|--event-zones|--keep-going|--delays|--upto=2024-01-08T00:00:00Z|--since|DAY
 plan|--upto|+1 day>plan|--event-zones|--keep-going|--since|NOW|--upto|NEXT
 plan|--upto=+24 hours|x>plan|--event-zones|--keep-going|--since|NOW|--upto=NEXT|x
 plan|--since|now>plan|--event-zones|--keep-going|--upto|NEXT|--since|NOW
@@ -94,7 +94,7 @@ upcoming|--after|now|x>upcoming|--event-zones|--keep-going|--after|NOW|x
 plan|--upto|DAY|--since>plan|--event-zones|--keep-going|--upto|DAY|--since
 plan|--since|DAY|--upto>plan|--event-zones|--keep-going|--since|DAY|--upto
 upcoming|--after>upcoming|--event-zones|--keep-going|--after
-quiet|x|--upto=DAY|--since>quiet|--event-zones|--keep-going|x|--upto=DAY|--since
+quiet|x|--upto=DAY|--since>quiet|--event-zones|--keep-going|--delays|x|--upto=DAY|--since
 check|--since|now|--upto=+1 day|--after|x>check|--event-zones|--since|now|--upto=+1 day|--after|x
 ROWS
 

@@ -402,9 +402,20 @@ machine_answers <<'ROWS'
 x/|upcoming|
 etc/crontab=@daily\x20root\x20a\n *a@b.timer U/a@.timer=[Timer]\nOnCalendar=6:00\n|upcoming --after 2024-01-01T00:00:00Z|2024-01-01T06:00:00Z\ta-b.timer\ta-b.service\n2024-01-02T00:00:00Z\tsystem:1\troot a\n
 C/a=@reboot\x20root\x20a S/a=@daily\x20b|upcoming --after 2024-01-01T00:00:00Z|2024-01-02T00:00:00Z\ta.user:1\tb\nnone\ta:1\troot a\n
-etc/crontab=@daily\x20root\x20a\n *a@b.timer U/a@.timer=[Timer]\nOnCalendar=6:00\n|quiet --since 2024-01-01T00:00:00Z|2024-01-01T00:00:00Z\t2024-01-01T06:00:00Z\t21600\n2024-01-01T06:00:00Z\t2024-01-02T00:00:00Z\t64800\n
+etc/crontab=@daily\x20root\x20a\n *a@b.timer U/a@.timer=[Timer]\nOnCalendar=6:00\n|quiet --since 2024-01-01T00:00:00Z|2024-01-01T00:00:00Z\t2024-01-01T06:00:00Z\t21600\n2024-01-01T06:01:00Z\t2024-01-02T00:00:00Z\t64740\n
 x/|quiet --since 2024-01-01T00:00:00Z --upto +1hour --least 3600|2024-01-01T00:00:00Z\t2024-01-01T01:00:00Z\t3600\n
 x/|quiet --since 2024-01-01T00:00:00Z --upto +1hour --least 3601|
+ROWS
+# delays, which quiet counts by itself: a setting of a drop-in, which its last value decides, and one of a template
+machine_answers <<'ROWS'
+*a.timer U/a.timer=[Timer]\nOnCalendar=6:00\nAccuracySec=1us\n E/a.timer.d/x.conf=[Timer]\nRandomizedDelaySec=1h|quiet --since 2024-01-01T00:00:00Z|2024-01-01T00:00:00Z\t2024-01-01T06:00:00Z\t21600\n2024-01-01T07:00:01Z\t2024-01-02T00:00:00Z\t61199\n
+*a.timer U/a.timer=[Timer]\nOnCalendar=6:00\nAccuracySec=1us\n E/a.timer.d/x.conf=[Timer]\nRandomizedDelaySec=1h|--nominal quiet --since 2024-01-01T00:00:00Z|2024-01-01T00:00:00Z\t2024-01-01T06:00:00Z\t21600\n2024-01-01T06:00:00Z\t2024-01-02T00:00:00Z\t64800\n
+*a.timer U/a.timer=[Timer]\nOnCalendar=6:00\nAccuracySec=1us\n E/a.timer.d/x.conf=[Timer]\nRandomizedDelaySec=1h|plan --since 2024-01-01T00:00:00Z|agenda 2\t2024-01-01T00:00:00Z\t2024-01-02T00:00:00Z\t1\n2024-01-01T06:00:00Z\ta.timer\ta.service\n
+*a.timer U/a.timer=[Timer]\nOnCalendar=6:00\nAccuracySec=1us\n E/a.timer.d/x.conf=[Timer]\nRandomizedDelaySec=1h|plan --delays --since 2024-01-01T00:00:00Z|agenda 3\t2024-01-01T00:00:00Z\t2024-01-02T00:00:00Z\t1\n2024-01-01T06:00:00Z\t2024-01-01T07:00:01Z\ta.timer\ta.service\n
+*a.timer U/a.timer=[Timer]\nOnCalendar=6:00\nAccuracySec=1us\n E/a.timer.d/x.conf=[Timer]\nRandomizedDelaySec=1h|--nominal upcoming --delays --after 2024-01-01T00:00:00Z|2024-01-01T06:00:00Z\t2024-01-01T07:00:01Z\ta.timer\ta.service\n
+*a.timer U/a.timer=[Timer]\nOnCalendar=6:00\nAccuracySec=1us\n E/a.timer.d/x.conf=[Timer]\nRandomizedDelaySec=1h\nAccuracySec=1h E/a.timer.d/y.conf=[Timer]\nRandomizedDelaySec=0|quiet --since 2024-01-01T00:00:00Z|2024-01-01T00:00:00Z\t2024-01-01T06:00:00Z\t21600\n2024-01-01T07:00:00Z\t2024-01-02T00:00:00Z\t61200\n
+*a.timer U/a.timer=[Timer]\nOnCalendar=6:00\nAccuracySec=1us\n E/a.timer.d/x.conf=[Timer]\nRandomizedDelaySec=1h E/a.timer.d/y.conf=RandomizedDelaySec=0|quiet --since 2024-01-01T00:00:00Z|2024-01-01T00:00:00Z\t2024-01-01T06:00:00Z\t21600\n2024-01-01T07:00:01Z\t2024-01-02T00:00:00Z\t61199\n
+*a@b.timer U/a@.timer=[Timer]\nOnCalendar=18:00\nRandomizedDelaySec=12h\n|quiet --since 2024-01-01T00:00:00Z|2024-01-01T06:01:00Z\t2024-01-01T18:00:00Z\t43140\n
 ROWS
 machine_faults <<'ROWS'
 C/a=@daily\n|a: line 1: NoCommand

@@ -38,7 +38,7 @@ zone_make() {
 # The row $1: the script with --root $2 passes on the zone $3. `-` is no zone, and `?` means that it is
 # unknown. sources needs no zone. Further lines of standard error are in the file err.further.
 zone_is() {
-  local command zone=() words given=words wanted
+  local command zone=() words added given=words wanted
   : >"$work/err.zone"
   case $3 in
     -) ;;
@@ -58,11 +58,10 @@ zone_is() {
     sort "$work/err.further" "$work/err.zone" >"$work/err.wanted"
     wanted=0
     [ "$command" = sources ] || ! grep -q ': not readable$' "$work/err.further" || wanted=1
-    if [ ${#words[@]} = 0 ]; then
-      printf '%s\n' "$command" "${zone[@]}" --event-zones
-    else
-      printf '%s\n' "$command" "${zone[@]}" --event-zones --keep-going "${words[@]}"
-    fi >"$work/words.wanted"
+    added=(--event-zones)
+    [ ${#words[@]} = 0 ] || added+=(--keep-going)
+    [ "$command" != quiet ] || added+=(--delays)
+    printf '%s\n' "$command" "${zone[@]}" "${added[@]}" "${words[@]}" >"$work/words.wanted"
     machine_run --root "$2" "$command" "${words[@]}"
     machine_compare "zone by $command of '$1'" /dev/null "$work/err.wanted" "$wanted" "$given" "$work/words.wanted"
   done
@@ -134,7 +133,7 @@ zone_usage() {
     IFS='|' read -r -a words <<<"$row"
     {
       echo "agenda-machine: $said"
-      echo 'Usage: agenda-machine [--root DIR] [--all] [--strict] plan|upcoming|quiet|check|sources [OPTIONS OF AGENDA ..]'
+      echo 'Usage: agenda-machine [--root DIR] [--all] [--strict] [--nominal] plan|upcoming|quiet|check|sources [OPTIONS OF AGENDA ..]'
     } | sort >"$work/err.wanted"
     machine_run --root root "${words[@]}"
     machine_compare "usage of '$row' in a zone" /dev/null "$work/err.wanted" 2 none
@@ -305,7 +304,7 @@ machine_by=()
 zone_words etc/localtime=CET <<'ROWS'
 plan|--since|2024-01-01T12:00:00Z|--upto|2024-07-01T12:00:00Z>plan|--zone|./root/etc/localtime|--event-zones|--keep-going|--since|2024-01-01T12:00:00Z|--upto|2024-07-01T12:00:00Z
 plan|--since|2024-01-01 12:00|--upto|2024-07-01 12:00>plan|--zone|./root/etc/localtime|--event-zones|--keep-going|--since|2024-01-01T11:00:00Z|--upto|2024-07-01T10:00:00Z
-quiet|--since=2024-07-01T12:00:00|--upto=2024-07-02>quiet|--zone|./root/etc/localtime|--event-zones|--keep-going|--since=2024-07-01T10:00:00Z|--upto=2024-07-01T22:00:00Z
+quiet|--since=2024-07-01T12:00:00|--upto=2024-07-02>quiet|--zone|./root/etc/localtime|--event-zones|--keep-going|--delays|--since=2024-07-01T10:00:00Z|--upto=2024-07-01T22:00:00Z
 upcoming|--after|2024-01-01>upcoming|--zone|./root/etc/localtime|--event-zones|--keep-going|--after|2023-12-31T23:00:00Z
 plan|--since|2024-07-01T12:00Z|--upto|2024-07-01 12:00 -0500>plan|--zone|./root/etc/localtime|--event-zones|--keep-going|--since|2024-07-01T12:00:00Z|--upto|2024-07-01T17:00:00Z
 plan|--since|@1720000000>plan|--zone|./root/etc/localtime|--event-zones|--keep-going|--upto|2024-07-04T09:46:40Z|--since|2024-07-03T09:46:40Z
@@ -326,7 +325,7 @@ plan|--since|2024-03-30T21:00:00Z|--upto=+1 day>plan|--zone|./root/etc/localtime
 plan|--since|2024-10-26 12:00|--upto|+1 day>plan|--zone|./root/etc/localtime|--event-zones|--keep-going|--since|2024-10-26T10:00:00Z|--upto|2024-10-27T11:00:00Z
 plan|--since|2024-10-26 12:00|--upto|+1 day 90 min>plan|--zone|./root/etc/localtime|--event-zones|--keep-going|--since|2024-10-26T10:00:00Z|--upto|2024-10-27T12:30:00Z
 plan|--since|2024-03-25|--upto|+1 week>plan|--zone|./root/etc/localtime|--event-zones|--keep-going|--since|2024-03-24T23:00:00Z|--upto|2024-03-31T22:00:00Z
-quiet|--upto|+1 month|--since|2024-02-01>quiet|--zone|./root/etc/localtime|--event-zones|--keep-going|--upto|2024-02-29T23:00:00Z|--since|2024-01-31T23:00:00Z
+quiet|--upto|+1 month|--since|2024-02-01>quiet|--zone|./root/etc/localtime|--event-zones|--keep-going|--delays|--upto|2024-02-29T23:00:00Z|--since|2024-01-31T23:00:00Z
 plan|--since|2024-10-27T00:30:00Z|--upto|+1 hour>plan|--zone|./root/etc/localtime|--event-zones|--keep-going|--since|2024-10-27T00:30:00Z|--upto|2024-10-27T01:30:00Z
 plan|--since|2024-10-27T01:30:00Z|--upto|+1 hour>plan|--zone|./root/etc/localtime|--event-zones|--keep-going|--since|2024-10-27T01:30:00Z|--upto|2024-10-27T02:30:00Z
 plan|--since|2024-10-27T00:30:00Z|--upto|+10 seconds>plan|--zone|./root/etc/localtime|--event-zones|--keep-going|--since|2024-10-27T00:30:00Z|--upto|2024-10-27T00:30:10Z
@@ -350,7 +349,7 @@ zone_words 'etc/localtime>/opt/x' <<'ROWS'
 plan|--zone|UTC|--since|2024-07-01 12:00|--upto|+1 day>plan|--event-zones|--keep-going|--zone|UTC|--since|2024-07-01T12:00:00Z|--upto|2024-07-02T12:00:00Z
 plan|--since|2024-07-01 12:00|--zone|./east>plan|--event-zones|--keep-going|--upto|2024-07-02T07:00:00Z|--since|2024-07-01T07:00:00Z|--zone|./east
 plan|--since|2024-07-01 12:00|--zone=../machine/east|x>plan|--event-zones|--keep-going|--upto|2024-07-02T07:00:00Z|--since|2024-07-01T07:00:00Z|--zone=../machine/east|x
-quiet|--zone|PWD/east|--since|2024-07-01 12:00|--upto|13:00 2024-07-01>quiet|--event-zones|--keep-going|--zone|PWD/east|--since|2024-07-01T07:00:00Z|--upto|2024-07-01T08:00:00Z
+quiet|--zone|PWD/east|--since|2024-07-01 12:00|--upto|13:00 2024-07-01>quiet|--event-zones|--keep-going|--delays|--zone|PWD/east|--since|2024-07-01T07:00:00Z|--upto|2024-07-01T08:00:00Z
 upcoming|x|--after=2024-07-01|--zone|./east|--|y>upcoming|--event-zones|--keep-going|x|--after=2024-06-30T19:00:00Z|--zone|./east|--|y
 check|--zone|./east>check|--event-zones|--zone|./east
 check|--zone=x y>check|--event-zones|--zone=x y
@@ -392,7 +391,7 @@ if [ -r /usr/share/zoneinfo/Asia/Tokyo ]; then
   zone_answers <<'ROWS'
 etc/localtime=CET *a.timer U/a.timer=[Timer]\nOnCalendar=02:30\x20Asia/Tokyo\nOnCalendar=02:30\n|upcoming --after 2024-03-30T18:00:00Z|2024-03-31T17:30:00Z\ta.timer\ta.service\n||0
 etc/localtime=CET *a.timer U/a.timer=[Timer]\nOnCalendar=02:30\x20Asia/Tokyo\nOnCalendar=02:30\n|--strict upcoming --after 2024-03-31T18:00:00Z|2024-04-01T00:30:00Z\ta.timer\ta.service\n||0
-*a.timer U/a.timer=[Timer]\nOnCalendar=daily\n E/a.timer.d/x.conf=[Timer]\nOnCalendar=\nOnCalendar=12:00\x20Asia/Tokyo|quiet --since 2024-01-01T00:00:00Z|2024-01-01T00:00:00Z\t2024-01-01T03:00:00Z\t10800\n2024-01-01T03:00:00Z\t2024-01-02T00:00:00Z\t75600\n||0
+*a.timer U/a.timer=[Timer]\nOnCalendar=daily\n E/a.timer.d/x.conf=[Timer]\nOnCalendar=\nOnCalendar=12:00\x20Asia/Tokyo|quiet --since 2024-01-01T00:00:00Z|2024-01-01T00:00:00Z\t2024-01-01T03:00:00Z\t10800\n2024-01-01T03:01:00Z\t2024-01-02T00:00:00Z\t75540\n||0
 ROWS
 else
   echo "agenda-machine: skipped the zones of events, since this machine has no tz database"

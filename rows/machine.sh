@@ -25,7 +25,7 @@ machine_helps() {
     IFS='|' read -r -a words <<<"$row"
     machine_run "${words[@]}"
     cp "$work/out" "$work/out.wanted"
-    for word in agenda-machine --root --all --strict plan upcoming quiet check sources; do
+    for word in agenda-machine --root --all --strict --nominal --delays plan upcoming quiet check sources; do
       grep -qe "$word" "$work/out" || echo "no word of $word" >>"$work/out.wanted"
     done
     machine_compare "help by '$row'" "$work/out.wanted" /dev/null 0 none
@@ -177,7 +177,10 @@ next|--cron|@daily
 --all
 --strict
 --strict=yes|sources
---all|--strict|--root|root
+--nominal
+--nominal=yes|quiet
+--delays|quiet
+--all|--strict|--nominal|--root|root
 --root|root|strict|plan
 --all|--root|root
 --frob|plan
@@ -187,6 +190,7 @@ next|--cron|@daily
 --root|root|sources|x
 --root|root|sources|--all
 --root|root|sources|--strict
+--root|root|sources|--nominal
 --root|root|sources|--help
 --root|root|sources|--
 --root|root|sources|--since|2024-01-01T00:00:00Z
@@ -210,6 +214,7 @@ machine_helps <<'ROWS'
 --help
 --all|--help
 --strict|--help
+--nominal|--help
 --root|root|--help
 --root|missing|--help
 ROWS
@@ -247,7 +252,7 @@ check|--|--upto>check|FILES|--event-zones|--|--upto
 check|--help>check|FILES|--event-zones|--help
 plan|--since|2024-01-01T00:00:00Z|--upto|2024-01-02T00:00:00Z>plan|FILES|--event-zones|--keep-going|--since|2024-01-01T00:00:00Z|--upto|2024-01-02T00:00:00Z
 plan|--limit|5|--since=2024-01-01T00:00:00Z|x y|--upto=2024-01-02T00:00:00Z|z>plan|FILES|--event-zones|--keep-going|--limit|5|--since=2024-01-01T00:00:00Z|x y|--upto=2024-01-02T00:00:00Z|z
-quiet|--least|9|--since|2024-01-01T00:00:00Z>quiet|FILES|--event-zones|--keep-going|--upto|2024-01-02T00:00:00Z|--least|9|--since|2024-01-01T00:00:00Z
+quiet|--least|9|--since|2024-01-01T00:00:00Z>quiet|FILES|--event-zones|--keep-going|--delays|--upto|2024-01-02T00:00:00Z|--least|9|--since|2024-01-01T00:00:00Z
 upcoming|x|--after|2024-01-01T00:00:00Z|--|y>upcoming|FILES|--event-zones|--keep-going|x|--after|2024-01-01T00:00:00Z|--|y
 ROWS
 
@@ -255,18 +260,42 @@ ROWS
 # another option, the text is no option.
 machine_words <<'ROWS'
 plan|--keep-going|--since|2024-01-01T00:00:00Z>plan|FILES|--event-zones|--upto|2024-01-02T00:00:00Z|--keep-going|--since|2024-01-01T00:00:00Z
-quiet|--since|2024-01-01T00:00:00Z|x|--keep-going>quiet|FILES|--event-zones|--upto|2024-01-02T00:00:00Z|--since|2024-01-01T00:00:00Z|x|--keep-going
+quiet|--since|2024-01-01T00:00:00Z|x|--keep-going>quiet|FILES|--event-zones|--delays|--upto|2024-01-02T00:00:00Z|--since|2024-01-01T00:00:00Z|x|--keep-going
 upcoming|--after|2024-01-01T00:00:00Z|--keep-going=x>upcoming|FILES|--event-zones|--after|2024-01-01T00:00:00Z|--keep-going=x
 upcoming|--keep-going|--keep-going|--after|2024-01-01T00:00:00Z>upcoming|FILES|--event-zones|--keep-going|--keep-going|--after|2024-01-01T00:00:00Z
 upcoming|--after|2024-01-01T00:00:00Z|--|--keep-going>upcoming|FILES|--event-zones|--keep-going|--after|2024-01-01T00:00:00Z|--|--keep-going
 upcoming|--after|2024-01-01T00:00:00Z|--keep-goings|keep-going>upcoming|FILES|--event-zones|--keep-going|--after|2024-01-01T00:00:00Z|--keep-goings|keep-going
 upcoming|--after|2024-01-01T00:00:00Z|--zone|--keep-going>upcoming|FILES|--event-zones|--keep-going|--after|2024-01-01T00:00:00Z|--zone|--keep-going
 --strict|plan|--since|2024-01-01T00:00:00Z>plan|FILES|--event-zones|--upto|2024-01-02T00:00:00Z|--since|2024-01-01T00:00:00Z
---strict|quiet|--since|2024-01-01T00:00:00Z|--upto|2024-01-02T00:00:00Z>quiet|FILES|--event-zones|--since|2024-01-01T00:00:00Z|--upto|2024-01-02T00:00:00Z
+--strict|quiet|--since|2024-01-01T00:00:00Z|--upto|2024-01-02T00:00:00Z>quiet|FILES|--event-zones|--delays|--since|2024-01-01T00:00:00Z|--upto|2024-01-02T00:00:00Z
 --strict|--strict|upcoming|--after|2024-01-01T00:00:00Z>upcoming|FILES|--event-zones|--after|2024-01-01T00:00:00Z
 --strict|upcoming|--after|2024-01-01T00:00:00Z|--keep-going>upcoming|FILES|--event-zones|--after|2024-01-01T00:00:00Z|--keep-going
 --strict|check>check|FILES|--event-zones
 check|--keep-going>check|FILES|--event-zones|--keep-going
+ROWS
+
+# quiet counts delays, also with --strict, and --nominal takes that away. plan and upcoming count them only if
+# the caller asks for it. agenda accepts this option once.
+machine_words <<'ROWS'
+quiet|--since|2024-01-01T00:00:00Z|--delays>quiet|FILES|--event-zones|--keep-going|--upto|2024-01-02T00:00:00Z|--since|2024-01-01T00:00:00Z|--delays
+quiet|--since|2024-01-01T00:00:00Z|--delays|--delays>quiet|FILES|--event-zones|--keep-going|--upto|2024-01-02T00:00:00Z|--since|2024-01-01T00:00:00Z|--delays|--delays
+quiet|--since|2024-01-01T00:00:00Z|--delays=x>quiet|FILES|--event-zones|--keep-going|--upto|2024-01-02T00:00:00Z|--since|2024-01-01T00:00:00Z|--delays=x
+quiet|--since|2024-01-01T00:00:00Z|--delay|delays>quiet|FILES|--event-zones|--keep-going|--delays|--upto|2024-01-02T00:00:00Z|--since|2024-01-01T00:00:00Z|--delay|delays
+quiet|--since|2024-01-01T00:00:00Z|--|--delays>quiet|FILES|--event-zones|--keep-going|--delays|--upto|2024-01-02T00:00:00Z|--since|2024-01-01T00:00:00Z|--|--delays
+quiet|--since|2024-01-01T00:00:00Z|--zone|--delays>quiet|FILES|--event-zones|--keep-going|--delays|--upto|2024-01-02T00:00:00Z|--since|2024-01-01T00:00:00Z|--zone|--delays
+quiet|--keep-going|--event-zones|--delays|--since|2024-01-01T00:00:00Z>quiet|FILES|--upto|2024-01-02T00:00:00Z|--keep-going|--event-zones|--delays|--since|2024-01-01T00:00:00Z
+--nominal|quiet|--since|2024-01-01T00:00:00Z>quiet|FILES|--event-zones|--keep-going|--upto|2024-01-02T00:00:00Z|--since|2024-01-01T00:00:00Z
+--nominal|--nominal|quiet|--since|2024-01-01T00:00:00Z>quiet|FILES|--event-zones|--keep-going|--upto|2024-01-02T00:00:00Z|--since|2024-01-01T00:00:00Z
+--strict|--nominal|quiet|--since|2024-01-01T00:00:00Z>quiet|FILES|--event-zones|--upto|2024-01-02T00:00:00Z|--since|2024-01-01T00:00:00Z
+--nominal|quiet|--since|2024-01-01T00:00:00Z|--delays>quiet|FILES|--event-zones|--keep-going|--upto|2024-01-02T00:00:00Z|--since|2024-01-01T00:00:00Z|--delays
+--nominal|plan|--since|2024-01-01T00:00:00Z>plan|FILES|--event-zones|--keep-going|--upto|2024-01-02T00:00:00Z|--since|2024-01-01T00:00:00Z
+--nominal|upcoming|--after|2024-01-01T00:00:00Z>upcoming|FILES|--event-zones|--keep-going|--after|2024-01-01T00:00:00Z
+--nominal|check>check|FILES|--event-zones
+plan|--delays|--since|2024-01-01T00:00:00Z>plan|FILES|--event-zones|--keep-going|--upto|2024-01-02T00:00:00Z|--delays|--since|2024-01-01T00:00:00Z
+--nominal|plan|--delays|--since|2024-01-01T00:00:00Z>plan|FILES|--event-zones|--keep-going|--upto|2024-01-02T00:00:00Z|--delays|--since|2024-01-01T00:00:00Z
+--strict|plan|--since|2024-01-01T00:00:00Z|--delays>plan|FILES|--event-zones|--upto|2024-01-02T00:00:00Z|--since|2024-01-01T00:00:00Z|--delays
+upcoming|--after|2024-01-01T00:00:00Z|--delays>upcoming|FILES|--event-zones|--keep-going|--after|2024-01-01T00:00:00Z|--delays
+check|--delays>check|FILES|--event-zones|--delays
 ROWS
 
 # The caller's own --event-zones, which agenda accepts once too.
@@ -279,14 +308,16 @@ check|--event-zone|event-zones>check|FILES|--event-zones|--event-zone|event-zone
 check|--|--event-zones>check|FILES|--event-zones|--|--event-zones
 check|--zone|--event-zones>check|FILES|--event-zones|--zone|--event-zones
 plan|--event-zones|--since|2024-01-01T00:00:00Z>plan|FILES|--keep-going|--upto|2024-01-02T00:00:00Z|--event-zones|--since|2024-01-01T00:00:00Z
-quiet|--since|2024-01-01T00:00:00Z|--keep-going|--event-zones>quiet|FILES|--upto|2024-01-02T00:00:00Z|--since|2024-01-01T00:00:00Z|--keep-going|--event-zones
+quiet|--since|2024-01-01T00:00:00Z|--keep-going|--event-zones>quiet|FILES|--delays|--upto|2024-01-02T00:00:00Z|--since|2024-01-01T00:00:00Z|--keep-going|--event-zones
 upcoming|--after|2024-01-01T00:00:00Z|--|--event-zones>upcoming|FILES|--event-zones|--keep-going|--after|2024-01-01T00:00:00Z|--|--event-zones
 --strict|upcoming|--after|2024-01-01T00:00:00Z|--event-zones>upcoming|FILES|--after|2024-01-01T00:00:00Z|--event-zones
 ROWS
 
-# --strict changes nothing about sources.
+# --strict and --nominal change nothing about sources.
 machine_make 'C/a S/b!'
 printf 'cron-d\ta\troot/etc/cron.d/a\n' >"$work/out.wanted"
 machine_left_out 'S/b not readable'
 machine_run --root root --strict sources
 machine_compare "sources with --strict" "$work/out.wanted" "$work/err.wanted" 0 none
+machine_run --root root --nominal sources
+machine_compare "sources with --nominal" "$work/out.wanted" "$work/err.wanted" 0 none
