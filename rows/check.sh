@@ -553,8 +553,8 @@ a.timer|[Timer]\nOnCalendar=daily\n#A=b\n;A=b\nA\n[A=b]\nC=d\n|
 a.timer|[Timer]\nOnCalendar=25:00\nA=b\nOnCalendar=x\n|:2: error hour [OutOfRange];:3: warning [UnknownKey];:4: error [UnknownWord]
 ROWS
 
-# Monotonic settings with a value that no later setting takes away, and a delay. The last value of the delay
-# counts.
+# Monotonic settings with a value that no later setting takes away, and a delay above 0. The last value of the
+# delay that is a time span counts.
 check_texts <<'ROWS'
 a.timer|[Timer]\nOnCalendar=daily\nOnActiveSec=1\n|: warning [Monotonic]
 a.timer|[Timer]\nOnCalendar=daily\nOnBootSec=1\n|: warning [Monotonic]
@@ -569,14 +569,39 @@ a.timer|[Unit]\nOnBootSec=1\n[Timer]\nOnCalendar=daily\n[Install]\nOnBootSec=1\n
 a.timer|[Timer]\nOnCalendar=daily\nRandomizedDelaySec=5\n|: warning [Delayed]
 a.timer|[Timer]\nOnCalendar=daily\nRandomizedDelaySec=0\n|
 a.timer|[Timer]\nOnCalendar=daily\nRandomizedDelaySec=000\n|
-a.timer|[Timer]\nOnCalendar=daily\nRandomizedDelaySec=0s\n|: warning [Delayed]
-a.timer|[Timer]\nOnCalendar=daily\nRandomizedDelaySec=1h\nRandomizedDelaySec=\n|
+a.timer|[Timer]\nOnCalendar=daily\nRandomizedDelaySec=0s\n|
+a.timer|[Timer]\nOnCalendar=daily\nRandomizedDelaySec=0.0000009s\n|
+a.timer|[Timer]\nOnCalendar=daily\nRandomizedDelaySec=0 0h\nAccuracySec=1h\n|
+a.timer|[Timer]\nOnCalendar=daily\nRandomizedDelaySec=1us\n|: warning [Delayed]
+a.timer|[Timer]\nOnCalendar=daily\nRandomizedDelaySec=0h 1us\n|: warning [Delayed]
+a.timer|[Timer]\nOnCalendar=daily\nRandomizedDelaySec=infinity\n|: warning [Delayed]
+a.timer|[Timer]\nOnCalendar=daily\nRandomizedDelaySec=1h\nRandomizedDelaySec=\n|: warning [Delayed]
+a.timer|[Timer]\nOnCalendar=daily\nRandomizedDelaySec=\nRandomizedDelaySec=0\n|
 a.timer|[Timer]\nOnCalendar=daily\nRandomizedDelaySec=1h\nRandomizedDelaySec=0\nOnCalendar=\nOnCalendar=weekly\n|
 a.timer|[Timer]\nRandomizedDelaySec=0\nOnCalendar=daily\n[Timer]\nRandomizedDelaySec=1\n|: warning [Delayed]
 a.timer|[Timer]\nOnBootSec=1\nRandomizedDelaySec=1\nA=b\n|: warning [NoEvents];: warning [Monotonic];: warning [Delayed];:4: warning [UnknownKey]
 a.timer|[Timer]\nOnCalendar=*:0/25\nRandomizedDelaySec=1\nOnActiveSec=1\nx=1\n|: warning [Monotonic];: warning [Delayed];:2: warning [SkippedStarts];:5: warning [UnknownKey]
 jobs|[Timer]\nOnCalendar=25:00\nOnBootSec=1\n|: error [BadTimerName];: warning [Monotonic];:2: error hour [OutOfRange]
 a.timer|[Timer]\nOnBootSec=1\n\xff\n|: error [NotUtf8]
+ROWS
+
+# Values of the two delays that aren't time spans. An empty one is ignored too, without a warning.
+check_texts <<'ROWS'
+a.timer|[Timer]\nOnCalendar=daily\nRandomizedDelaySec=x\n|:3: warning [BadDelay]
+a.timer|[Timer]\nOnCalendar=daily\nAccuracySec=1 hrs\n|:3: warning [BadDelay]
+a.timer|[Timer]\nOnCalendar=daily\nAccuracySec=\nRandomizedDelaySec = \t\n|
+a.timer|[Timer]\nAccuracySec=-1\nRandomizedDelaySec=1..5s\nAccuracySec=1. 5s\nRandomizedDelaySec=600000y\nOnCalendar=daily\n|:2: warning [BadDelay];:3: warning [BadDelay];:4: warning [BadDelay];:5: warning [BadDelay]
+a.timer|[Timer]\nOnCalendar=daily\nRandomizedDelaySec=1h\nRandomizedDelaySec=x\n|: warning [Delayed];:4: warning [BadDelay]
+a.timer|[Timer]\nOnCalendar=daily\nRandomizedDelaySec=x\nRandomizedDelaySec=1h\n|: warning [Delayed];:3: warning [BadDelay]
+a.timer|[Timer]\nOnCalendar=daily\nRandomizedDelaySec=1h\nRandomizedDelaySec=x\nRandomizedDelaySec=0s\nRandomizedDelaySec=INFINITY\n|:4: warning [BadDelay];:6: warning [BadDelay]
+a.timer|[Unit]\nRandomizedDelaySec=x\n[Timer]\nOnCalendar=daily\n[Install]\nAccuracySec=x\n[Timer]\nAccuracySec=x\n|:8: warning [BadDelay]
+a.timer|[Timer]\nOnCalendar=daily\nrandomizeddelaysec=x\nRandomizedDelay=x\nAccuracySec=x\nA=b\n|:3: warning [UnknownKey];:4: warning [UnknownKey];:5: warning [BadDelay];:6: warning [UnknownKey]
+a.timer|[Timer]\nOnCalendar=daily\nRandomizedDelaySec=5 \\\n#x\n secs\nAccuracySec\\\n=x\n|:3: warning [BadDelay];:6: warning [BadDelay]
+a.timer|[Timer]\nOnBootSec=1\nAccuracySec=x\nOnCalendar=25:00\n|: warning [Monotonic];:3: warning [BadDelay];:4: error hour [OutOfRange]
+a.timer|[Timer]\nOnCalendar=daily\nRandomizedDelaySec=1h\r\nAccuracySec=5\r\n|: warning [Delayed]
+a.timer|[Timer]\nOnCalendar=daily\nRandomizedDelaySec=%i\n|:3: warning [BadDelay]
+jobs|[Timer]\nOnCalendar=daily\nAccuracySec=x\n|: error [BadTimerName];:3: warning [BadDelay]
+a.timer|[Timer]\nOnCalendar=daily\nAccuracySec=x\n\xff\n|: error [NotUtf8]
 ROWS
 
 # A step without an end is carried into the next larger component if its next value leaves values of the
