@@ -1,0 +1,14 @@
+#!/usr/bin/env bash
+# Makes the machine of this example in the directory $1: a copy of root/, with its timers enabled.
+# The links are made here since rt accepts no project that has links.
+set -eu
+export LC_ALL=C
+
+machine=$1
+wants=$machine/etc/systemd/system/timers.target.wants
+mkdir -p -- "$machine"
+cp -R -- "$(dirname "$(readlink -f "$0")")/root/." "$machine/"
+mkdir -p -- "$wants"
+for timer in apt-daily apt-daily-upgrade dpkg-db-backup e2scrub_all fstrim man-db; do
+  ln -sf -- "/usr/lib/systemd/system/$timer.timer" "$wants/$timer.timer"
+done
