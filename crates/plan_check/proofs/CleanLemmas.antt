@@ -27,11 +27,12 @@ use Rattle.plan_rules.specs.Limits.{most_events, most_jobs}
 use Rattle.plan_grammar.specs.Event.{event_reading}
 use Rattle.plan_rules.specs.LineFaults.{LineReading, TextReading, fault_on_line, in_line, on_line}
 use Rattle.plan_rules.specs.NamedCrontabs.{is_crontab_name, kind_in}
-use Rattle.plan_rules.specs.Timer.{Effect, Reset, Event, Starts, Nothing, effects_from, first_unit, has_timer, is_timer_name, job_with, timer_job, timer_reading, timer_setting}
+use Rattle.plan_rules.specs.Timer.{Effect, Reset, Event, Starts, Nothing, effects_from, first_unit, has_timer, is_timer_name, job_with, settings_from, timer_job, timer_reading, timer_setting}
+use Rattle.plan_rules.specs.TimerDelays.{Setting, delay_of}
 use Rattle.plan_rules.specs.TimerEntries.{EventCount, LineStep, Idle, Empties, Has, Names, TimerState, count_after, entries_from, entry_of, event_line, events_after, held_after, line_by, line_in, lines_by_entries, no_events, no_lines, state_after, timer_by_entries, timer_lines}
 use Rattle.plan_check.specs.declared.finding.Finding.{Finding}
 use Rattle.plan_check.specs.declared.finding.Warning.{Warning}
-use Rattle.plan_check.specs.declared.finding.Warning.TheVariants.{NeverStarts, EitherDay, NoEvents, Percent, CarriageReturn, ZoneSetting, SkippedStarts, UnknownKey, Monotonic, Delayed}
+use Rattle.plan_check.specs.declared.finding.Warning.TheVariants.{NeverStarts, EitherDay, NoEvents, Percent, CarriageReturn, ZoneSetting, SkippedStarts, UnknownKey, BadDelay, Monotonic, Delayed}
 use Rattle.plan_check.specs.declared.finding.What.TheVariants.{Refused, SameName, Full, Warned}
 use Rattle.plan_check.specs.declared.form.Form.{Form}
 use Rattle.plan_check.specs.declared.form.Form.TheVariants.{Crontab, Named, Timer}
@@ -41,7 +42,7 @@ use Rattle.plan_check.specs.Files.{File, after_files, file_findings, file_of, af
 use Rattle.plan_check.specs.Form.{alone, form_reading, label_of}
 use Rattle.plan_check.specs.Known.{KnownJobs, after_other, no_jobs, with_jobs}
 use Rattle.plan_check.specs.Warnings.{command_warnings, ends_with_return, has_bare_percent, is_either_day, is_reboot, is_zone_setting, never_starts, rule_warnings, warnings_by}
-use Rattle.plan_check.specs.Settings.{Setting, is_delayed, is_monotonic, is_unknown_key, settings_from, value_of}
+use Rattle.plan_check.specs.Settings.{is_bad_delay, is_delayed, is_monotonic, is_unknown_key, value_of}
 use Rattle.plan_check.specs.Skipped.{may_skip_starts}
 use Rattle.plan_check.specs.Timers as timers
 use Rattle.plan_check.specs.Timers.{after_timer, event_warnings, events_with, right_events, right_job, setting_findings, step_findings, timer_warnings}
@@ -216,7 +217,8 @@ one_clean false line warning = refl
 pub setting_clean :
     (clock : Option (List Change)) (line : ℕ) (setting : Option Setting) → is_clean (setting_findings clock line setting) ≡ true
 setting_clean clock line None = refl
-setting_clean clock line (Some setting) = one_clean (is_some clock && is_unknown_key setting.0) line UnknownKey
+setting_clean clock line (Some setting) =
+    two_clean (is_some clock && is_unknown_key setting.0) (is_some clock && is_bad_delay setting) line UnknownKey BadDelay
 
 pub event_warnings_clean :
     (clock : Option (List Change)) (line : ℕ) (text : List ℕ) (event : Calendar) →
@@ -355,24 +357,24 @@ timer_wrong true false false found faulty = refl
 -- a timer whose name is good, with the job that is kept: that of all events, if none is rejected
 timer_agrees :
     (clock : Option (List Change)) (faults : List LineFault) (good has : Bool) (added : List JobParts) (name : List ℕ)
-    (unit : Option (List ℕ)) (events : List Calendar) (kept : JobParts) (found : List Finding) →
-    (n : ℕ) → n ≡ length added → good ≡ true → (is_none_of faults ≡ true → kept ≡ timer_job name unit events) →
+    (unit : Option (List ℕ)) (events : List Calendar) (delay : ℕ) (kept : JobParts) (found : List Finding) →
+    (n : ℕ) → n ≡ length added → good ≡ true → (is_none_of faults ≡ true → kept ≡ timer_job name unit events delay) →
     is_clean found ≡ is_none_of faults →
-    Agrees clock (jobs_by added ((unless_refused faults events >>= λ held. job_with has name unit held) >>= λ job. Ok (job ∷ [])))
+    Agrees clock (jobs_by added ((unless_refused faults events >>= λ held. job_with has name unit held delay) >>= λ job. Ok (job ∷ [])))
     (found_if (not has) 0 (Refused NoTimerSection)
     ++ (named_findings 0 (is_some (number_of name added)) (nat_lt n most_jobs) ++ found))
     (cond (good && has) (named_after clock (is_some (number_of kept.name added)) (nat_lt n most_jobs) added kept)
     (after_other (known_by clock added) name))
-timer_agrees clock [] good true added name unit events kept found n few is right clean =
-    let job = timer_job name unit events in
+timer_agrees clock [] good true added name unit events delay kept found n few is right clean =
+    let job = timer_job name unit events delay in
     let P : Bool → JobParts → Type 0 = λ good kept. Agrees clock (jobs_by added (Ok (job ∷ [])))
     (named_findings 0 (is_some (number_of name added)) (nat_lt (length added) most_jobs) ++ found)
     (cond (good && true) (named_after clock (is_some (number_of kept.name added)) (nat_lt (length added) most_jobs) added kept)
     (after_other (known_by clock added) name)) in
     rw few (subst (λ good. P good kept) (sym is) (subst (P true) (sym (right refl))
     (timer_right clock (is_some (number_of name added)) (nat_lt (length added) most_jobs) added job found clean)))
-timer_agrees clock [] good false added name unit events kept found n few is right clean = refl
-timer_agrees clock (fault ∷ more) good has added name unit events kept found n few is right clean =
+timer_agrees clock [] good false added name unit events delay kept found n few is right clean = refl
+timer_agrees clock (fault ∷ more) good has added name unit events delay kept found n few is right clean =
     timer_wrong has (is_some (number_of name added)) (nat_lt n most_jobs) found clean
 
 timer_text_agrees :
@@ -388,8 +390,9 @@ timer_text_agrees zones clock added name (Ok text) f good =
     let found = timers.lines_findings clock (no_lines zones) lines in
     timer_agrees clock (refusals (entries_from zones no_events effects)) (is_timer_name name) (has_timer lines) added name
     (first_unit effects)
-    (events_after zones [] effects) (right_job zones name lines) (timer_warnings clock lines ++ found) (0 + length added) (omega arith) good
-    (λ none. ap (timer_job name (first_unit effects)) (right_of_lines zones lines none))
+    (events_after zones [] effects) (delay_of (settings_from false lines)) (right_job zones name lines) (timer_warnings clock lines ++ found) (0 + length added) (omega arith) good
+    (λ none. ap (λ (held : List Calendar). timer_job name (first_unit effects) held (delay_of (settings_from false lines)))
+    (right_of_lines zones lines none))
     (timer_warnings_clean clock lines found ∙ timer_lines_clean clock (no_lines zones) lines)
 
 alone_named :

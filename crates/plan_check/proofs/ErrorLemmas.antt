@@ -16,6 +16,7 @@ use Rattle.plan_rules.specs.Job.{JobParts}
 use Rattle.plan_rules.specs.LineFaults.{LineReading, TextReading}
 use Rattle.plan_rules.specs.NamedCrontabs.{kind_in}
 use Rattle.plan_rules.specs.Timer.{has_timer, is_timer_name, timer_setting}
+use Rattle.plan_rules.specs.TimerDelays.{Setting}
 use Rattle.plan_rules.specs.TimerEntries.{LineStep, Idle, Empties, Has, Names, TimerState, line_in, no_lines, state_after, timer_lines}
 use Rattle.plan_check.specs.declared.finding.Finding.{Finding}
 use Rattle.plan_check.specs.declared.finding.Warning.TheVariants.{ZoneSetting}
@@ -27,7 +28,7 @@ use Rattle.plan_check.specs.Files.{File, after_file, after_text, file_findings, 
 use Rattle.plan_check.specs.Finding.{errors_of, finding_at, found_if, is_clean, is_warning, refused_at}
 use Rattle.plan_check.specs.Form.{label_of, name_cause}
 use Rattle.plan_check.specs.Known.{KnownJobs, after_job, after_other, has_room, is_taken, name_fault, without_warnings}
-use Rattle.plan_check.specs.Settings.{Setting, value_of}
+use Rattle.plan_check.specs.Settings.{value_of}
 use Rattle.plan_check.specs.Timers as timers
 use Rattle.plan_check.specs.Timers.{after_timer, event_warnings, job_findings, read_findings, right_job, setting_findings, step_findings, timer_findings, timer_warnings}
 use Rattle.plan_check.specs.Warnings.{is_zone_setting, warnings_by}

@@ -11,9 +11,10 @@ use Rattle.plan_texts.specs.declared.whole_lines.WholeLine.{WholeLine}
 use Rattle.plan_texts.specs.Lines.{lines}
 use Rattle.plan_texts.specs.WholeLines.{in_front, is_comment, is_joined, joined, line_text, numbered_texts, trimmed, whole_lines, with_space}
 use Rattle.plan_rules.specs.TimerEntries.{TimerState, shown_line, state_after}
-use Rattle.plan_rules.specs.Timer.{timer_setting}
+use Rattle.plan_rules.specs.Timer.{settings_from, timer_setting}
+use Rattle.plan_rules.specs.TimerDelays.{Setting, last_or}
 use Rattle.plan_check.specs.Quotes.{Ascends, text_on, trimmed_lines}
-use Rattle.plan_check.specs.Settings.{Setting, delay_after, is_delay, last_or, settings_from}
+use Rattle.plan_check.specs.Settings.{delay_after, is_delay}
 
 -- ---- whole lines ascend
 
@@ -140,7 +141,7 @@ nothing_found lines number at up parted =
 
 -- ---- the random delay
 
--- the last value of the random delay in settings, or the given one
+-- the last value of the random delay in settings that is a time span, or the given one
 abbrev pub delay_with : List ℕ → List Setting → List ℕ
 delay_with before settings = last_or before (map (λ setting. setting.1) (filter is_delay settings))
 

@@ -7,11 +7,14 @@ use Rattle.std.specs.Option.{option_or}
 use Rattle.plan_clock.specs.declared.row.Change.{Change}
 use Rattle.plan_match.specs.declared.event.Calendar.{Calendar}
 use Rattle.plan_grammar.specs.EventZones.{Zones}
+use Rattle.plan_rules.specs.declared.timer_delays.TimerDelays.{TimerDelays}
 use Rattle.plan_rules.specs.LineFaults.{LineReading}
-use Rattle.plan_rules.specs.Timer.{Effect, Reset, Event, Starts, Nothing, effects_from, first_unit, timer_setting}
+use Rattle.plan_rules.specs.Timer.{Effect, Reset, Event, Starts, Nothing, effects_from, first_unit, settings_from, timer_setting}
+use Rattle.plan_rules.specs.TimerDelays.{Setting, delays_after, delays_with}
 use Rattle.plan_rules.specs.TimerEntries.{EventCount, TimerState, effect_in, event_by, event_line, line_by, line_in, state_after}
+use Rattle.plan_rules.proofs.TimerLemmas.{delays_front}
 use Rattle.plan_check.specs.declared.finding.Finding.{Finding}
-use Rattle.plan_check.specs.Settings.{Setting, settings_from, stands, stands_after}
+use Rattle.plan_check.specs.Settings.{stands, stands_after}
 use Rattle.plan_check.specs.Timers.{events_with, line_findings, lines_findings, right_events, unit_with}
 
 -- what is found after one more line
@@ -69,6 +72,17 @@ stands_step test revokes before next state after line more whole is after_is so_
 pub stands_last : (test revokes : Setting → Bool) (before : Bool) → stands_with test revokes before [] ≡ before
 stands_last test revokes true = refl
 stands_last test revokes false = refl
+
+-- the time spans of the delay after one more line
+pub delays_step :
+    (before next : TimerDelays) (state after : TimerState) (line : ℕ × List ℕ) (more : List (ℕ × List ℕ)) (whole : TimerDelays) →
+    next ≡ delays_after before (timer_setting state.inside line.1) → after ≡ state_after state line.1 →
+    delays_with before (settings_from state.inside (line ∷ more)) ≡ whole →
+    delays_with next (settings_from after.inside more) ≡ whole
+delays_step before next state after line more whole is after_is so_far =
+    (λ i. delays_with (is i) (settings_from (after_is i).inside more))
+    ∙ sym (delays_front before (timer_setting state.inside line.1) (settings_from (state_after state line.1).inside more))
+    ∙ so_far
 
 -- ---- the job
 

@@ -22,6 +22,7 @@ warning_name warning.CarriageReturn = codes "CarriageReturn"
 warning_name warning.ZoneSetting = codes "ZoneSetting"
 warning_name warning.SkippedStarts = codes "SkippedStarts"
 warning_name warning.UnknownKey = codes "UnknownKey"
+warning_name warning.BadDelay = codes "BadDelay"
 warning_name warning.Monotonic = codes "Monotonic"
 warning_name warning.Delayed = codes "Delayed"
 

@@ -6,18 +6,19 @@ use Rattle.plan_texts.specs.Lines.{cut_word, lines}
 use Rattle.plan_texts.specs.WholeLines.{trimmed, whole_lines}
 use Rattle.plan_rules.specs.Crontab.{job_name}
 use Rattle.plan_rules.specs.FileText.{text_reading}
-use Rattle.plan_rules.specs.Timer.{setting_of}
+use Rattle.plan_rules.specs.Timer.{setting_of, settings_from}
+use Rattle.plan_rules.specs.TimerDelays.{Setting}
 use Rattle.plan_rules.specs.declared.line_fault.LineCause.TheVariants.{Rule}
 use Rattle.plan_check.specs.declared.finding.Finding.{Finding}
 use Rattle.plan_check.specs.declared.finding.Warning.{Warning}
-use Rattle.plan_check.specs.declared.finding.Warning.TheVariants.{SkippedStarts, UnknownKey, Delayed}
+use Rattle.plan_check.specs.declared.finding.Warning.TheVariants.{SkippedStarts, UnknownKey, BadDelay, Delayed}
 use Rattle.plan_check.specs.declared.finding.What.{What}
 use Rattle.plan_check.specs.declared.finding.What.TheVariants.{Refused, SameName, Full, Warned}
 use Rattle.plan_check.specs.declared.form.Form.{Form}
 use Rattle.plan_check.specs.declared.form.Form.TheVariants.{Crontab, Named, Timer}
 use Rattle.plan_check.specs.Files.{File}
 use Rattle.plan_check.specs.Form.{label_of}
-use Rattle.plan_check.specs.Settings.{Setting, key_of, last_delay, settings_from, value_of}
+use Rattle.plan_check.specs.Settings.{key_of, last_delay, value_of}
 
 -- a finding, and the text that its message quotes
 pub record QuotedFinding : Type 0 where
@@ -75,6 +76,7 @@ setting_on lines number = setting_of (text_on lines number)
 abbrev pub warned_text : Warning → (value key delay : List ℕ) → Option (List ℕ)
 warned_text SkippedStarts value key delay = Some value
 warned_text UnknownKey value key delay = Some key
+warned_text BadDelay value key delay = Some value
 warned_text Delayed value key delay = Some delay
 warned_text other value key delay = None
 

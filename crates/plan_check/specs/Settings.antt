@@ -1,15 +1,13 @@
 -- The settings in the `[Timer]` sections of a timer file, and what they say of the whole timer (systemd.timer(5), systemd.syntax(7)).
-use Rattle.std.specs.Prelude.{ℕ, Bool, false, not, ◌&&◌, ◌||◌, ◌==◌, if◌then◌else◌, List, [], ◌∷◌, filter, length, map, codes, Option, Some, None}
-use Rattle.std.specs.List.{cons_option, list_any}
-use Rattle.std.specs.Str.{byte, bytes_eq}
-use Rattle.plan_rules.specs.Timer.{inside_after, monotonic_keys, section_name, timer_setting}
+use Rattle.std.specs.Prelude.{ℕ, Bool, false, not, ◌&&◌, ◌||◌, ◌==◌, nat_lt, if◌then◌else◌, List, [], ◌∷◌, filter, length, map, codes, Option, Some, None, is_none, is_some}
+use Rattle.std.specs.List.{list_any}
+use Rattle.std.specs.Str.{bytes_eq}
+use Rattle.plan_spans.specs.Spans.{time_span}
+use Rattle.plan_rules.specs.Timer.{monotonic_keys}
+use Rattle.plan_rules.specs.TimerDelays.{Setting, accuracy_key, delays_after, last_or, last_span, random_key, span_of}
 use Rattle.plan_check.specs.declared.settings.Standing.{Standing}
 
 -- ---- one setting
-
--- a setting: its key and its value
-abbrev pub Setting : Type 0
-Setting = List ℕ × List ℕ
 
 -- the value of a setting, or nothing
 abbrev pub value_of : Option Setting → List ℕ
@@ -41,21 +39,17 @@ abbrev pub is_reset : Setting → Bool
 is_reset setting =
     (bytes_eq setting.0 (codes "OnCalendar") || list_any (bytes_eq setting.0) monotonic_keys) && (length setting.1 == 0)
 
--- a setting is that of the random delay (systemd.timer(5), `RandomizedDelaySec=`)
+-- a setting is that of the random delay, and its value is a time span (systemd.timer(5), `RandomizedDelaySec=`)
 abbrev pub is_delay : Setting → Bool
-is_delay setting = bytes_eq setting.0 (codes "RandomizedDelaySec")
+is_delay setting = is_some (span_of random_key setting)
 
--- it has a delay: its value is neither empty nor made of the digit 0 alone (agenda)
-abbrev pub is_long_delay : Setting → Bool
-is_long_delay setting = is_delay setting && list_any (λ b. not (b == byte "0")) setting.1
+-- a setting is that of the random delay or of the accuracy, and its value is neither empty nor a time span (systemd.timer(5))
+abbrev pub is_bad_delay : Setting → Bool
+is_bad_delay setting =
+    list_any (bytes_eq setting.0) (random_key ∷ accuracy_key ∷ [])
+    && (not (length setting.1 == 0) && is_none (time_span setting.1))
 
 -- ---- all settings
-
--- the settings of lines, by whether the first is in a `[Timer]` section (systemd.syntax(7))
-abbrev pub settings_from : Bool → List (ℕ × List ℕ) → List Setting
-settings_from inside [] = []
-settings_from inside (line ∷ more) =
-    cons_option (timer_setting inside line.1) (settings_from (inside_after inside (section_name line.1)) more)
 
 -- a setting that passes a test stands: no later one revokes it
 abbrev pub stands : (test revokes : Setting → Bool) → List Setting → Bool
@@ -66,22 +60,17 @@ stands test revokes (setting ∷ more) = (test setting && not (list_any revokes 
 abbrev pub is_monotonic : List Setting → Bool
 is_monotonic settings = stands is_span is_reset settings
 
--- the timer elapses later than at its events: the last value of the random delay is one
+-- the timer elapses later than at its events: its random delay is above 0 (systemd.timer(5), `RandomizedDelaySec=`)
 abbrev pub is_delayed : List Setting → Bool
-is_delayed settings = stands is_long_delay is_delay settings
+is_delayed settings = nat_lt 0 (last_span random_key 0 settings)
 
--- the last of some texts, or the given one if there are none
-abbrev pub last_or : List ℕ → List (List ℕ) → List ℕ
-last_or text [] = text
-last_or text (next ∷ more) = last_or next more
-
--- the last value of the random delay
+-- the last value of the random delay that is a time span
 abbrev pub last_delay : List Setting → List ℕ
 last_delay settings = last_or [] (map (λ setting. setting.1) (filter is_delay settings))
 
 -- ---- the settings so far
 
--- the value of the random delay after one more line, by its value before
+-- the last such value after one more line, by the one before it
 abbrev pub delay_after : List ℕ → Option Setting → List ℕ
 delay_after before None = before
 delay_after before (Some setting) = if is_delay setting then setting.1 else before
@@ -95,5 +84,5 @@ stands_after test revokes before (Some setting) = test setting || (before && not
 abbrev pub standing_after : Standing → Option Setting → Standing
 standing_after standing setting = record {
   monotonic = stands_after is_span is_reset standing.monotonic setting;
-  delayed = stands_after is_long_delay is_delay standing.delayed setting;
+  delays = delays_after standing.delays setting;
 }

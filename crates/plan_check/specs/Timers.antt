@@ -10,15 +10,16 @@ use Rattle.plan_grammar.specs.EventZones.{Zones}
 use Rattle.plan_rules.specs.declared.line_fault.LineCause.TheVariants.{NoTimerSection}
 use Rattle.plan_rules.specs.Job.{JobParts}
 use Rattle.plan_rules.specs.LineFaults.{LineReading, TextReading}
-use Rattle.plan_rules.specs.Timer.{effects_from, first_unit, has_timer, is_timer_name, timer_job, timer_setting}
+use Rattle.plan_rules.specs.Timer.{effects_from, first_unit, has_timer, is_timer_name, settings_from, timer_job, timer_setting}
+use Rattle.plan_rules.specs.TimerDelays.{Setting, delay_of}
 use Rattle.plan_rules.specs.TimerEntries.{LineStep, Idle, Empties, Has, Names, TimerState, held_after, line_in, no_lines, state_after}
 use Rattle.plan_check.specs.declared.draft.Draft.{Draft}
 use Rattle.plan_check.specs.declared.finding.Finding.{Finding}
-use Rattle.plan_check.specs.declared.finding.Warning.TheVariants.{NeverStarts, NoEvents, SkippedStarts, UnknownKey, Monotonic, Delayed}
+use Rattle.plan_check.specs.declared.finding.Warning.TheVariants.{NeverStarts, NoEvents, SkippedStarts, UnknownKey, BadDelay, Monotonic, Delayed}
 use Rattle.plan_check.specs.declared.finding.What.TheVariants.{Refused, Warned}
 use Rattle.plan_check.specs.Finding.{finding_at, found_if, refused_at}
 use Rattle.plan_check.specs.Known.{KnownJobs, after_job, after_other, name_fault}
-use Rattle.plan_check.specs.Settings.{Setting, is_delayed, is_monotonic, is_unknown_key, settings_from, value_of}
+use Rattle.plan_check.specs.Settings.{is_bad_delay, is_delayed, is_monotonic, is_unknown_key, value_of}
 use Rattle.plan_check.specs.Skipped.{may_skip_starts}
 use Rattle.plan_check.specs.Warnings.{never_starts}
 
@@ -44,10 +45,12 @@ step_findings clock setting Idle = []
 step_findings clock setting Empties = []
 step_findings clock setting (Names unit) = []
 
--- the finding of a line's setting, if there are to be warnings
+-- the warnings on a line's setting, if there are to be warnings: on its key, and on its value
 abbrev pub setting_findings : Option (List Change) → ℕ → Option Setting → List Finding
 setting_findings clock line None = []
-setting_findings clock line (Some setting) = found_if (is_some clock && is_unknown_key setting.0) line (Warned UnknownKey)
+setting_findings clock line (Some setting) =
+    found_if (is_some clock && is_unknown_key setting.0) line (Warned UnknownKey)
+    ++ found_if (is_some clock && is_bad_delay setting) line (Warned BadDelay)
 
 -- the findings of a line, in the state before it
 abbrev pub line_findings : Option (List Change) → TimerState → ℕ × List ℕ → List Finding
@@ -111,7 +114,9 @@ unit_of draft = option_map (λ unit. string_bytes unit) draft.unit
 
 -- the job of a timer with the events that are right, whatever else is rejected
 abbrev pub right_job : Zones → List ℕ → List (ℕ × List ℕ) → JobParts
-right_job zones name lines = timer_job name (first_unit (effects_from false lines)) (right_events (no_lines zones) [] lines)
+right_job zones name lines =
+    timer_job name (first_unit (effects_from false lines)) (right_events (no_lines zones) [] lines)
+    (delay_of (settings_from false lines))
 
 -- what is known after a timer: its job is kept if nothing of the whole file is rejected
 abbrev pub after_timer : Zones → KnownJobs → List ℕ → TextReading (List (ℕ × List ℕ)) → KnownJobs

@@ -24,6 +24,8 @@ pub enum Warning {
     SkippedStarts,
     /// The key of a setting in a `[Timer]` section isn't one of systemd.timer(5).
     UnknownKey,
+    /// The value of `RandomizedDelaySec=` or `AccuracySec=` isn't a time span (systemd.time(7)), so it is ignored.
+    BadDelay,
     /// The timer also starts by `OnBootSec=` or the like, which isn't planned (systemd.timer(5)).
     Monotonic,
     /// The timer starts later than planned, by up to the value of `RandomizedDelaySec=` (systemd.timer(5)).
@@ -66,6 +68,7 @@ impl Warning {
             Warning::ZoneSetting => "ZoneSetting",
             Warning::SkippedStarts => "SkippedStarts",
             Warning::UnknownKey => "UnknownKey",
+            Warning::BadDelay => "BadDelay",
             Warning::Monotonic => "Monotonic",
             Warning::Delayed => "Delayed",
         }

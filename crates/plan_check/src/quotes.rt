@@ -2,10 +2,11 @@
 
 ghost use Rattle.std.specs.Prelude.{◌≡◌, ◌≤◌, IfOk, false, length, map, option_map, string_bytes};
 ghost use Rattle.plan_texts.specs.Limits.{most_bytes};
+ghost use Rattle.plan_rules.specs.Timer.{settings_from};
 ghost use Rattle.plan_rules.specs.TimerEntries.{shown_line};
 ghost use Rattle.plan_check.specs.Files.{file_of};
 ghost use Rattle.plan_check.specs.Quotes.{Ascends, after_word, crontab_quote, crontab_quoted, first_word, line_at, setting_on, text_in, text_on, timer_quote, timer_quoted, trimmed_lines, with_quote, word_at};
-ghost use Rattle.plan_check.specs.Settings.{last_delay, settings_from};
+ghost use Rattle.plan_check.specs.Settings.{last_delay};
 
 use crate::finding::{Finding, Warning, What};
 use crate::form::{Form, label_of};
@@ -41,7 +42,7 @@ impl Form {
     ///
     /// - An error of a rule quotes the field that it is about, or the first word if it is about no field.
     /// - An error of an event, and `SkippedStarts`, quote the value of `OnCalendar=`.
-    /// - `SameName` quotes the name of the job, `UnknownKey` the key, and `Delayed` the value of
+    /// - `SameName` quotes the name of the job, `UnknownKey` the key, `BadDelay` the value, and `Delayed` the value of
     ///   `RandomizedDelaySec=`.
     /// - The other findings quote nothing.
     ///
@@ -206,7 +207,8 @@ fn timer_quote(
         ≡ timer_quote name.now (map shown_line lines.now) finding) }
 {
     let quote = match finding.what {
-        What::Refused(LineCause::Rule(_)) | What::Warned(Warning::SkippedStarts) => {
+        What::Refused(LineCause::Rule(_))
+        | What::Warned(Warning::SkippedStarts | Warning::BadDelay) => {
             value_of(setting_on(lines, finding.line))
         }
         What::Warned(Warning::UnknownKey) => key_of(setting_on(lines, finding.line)),
@@ -236,7 +238,7 @@ fn text_on(lines: &[WholeLine], number: u32) -> &str
     }
 }
 
-// Returns the last value of the random delay.
+// Returns the last value of the random delay that is a time span.
 fn last_delay(alloc: Global, lines: &[WholeLine]) -> Result<&str, AllocError>
     ensures { IfOk result (λ delay. delay.now ≡ last_delay (settings_from false (map shown_line lines.now))) }
 {

@@ -1,28 +1,32 @@
 //! The settings in the `[Timer]` sections of a timer file, and what they say of the whole timer (systemd.timer(5)).
 
-ghost use Rattle.std.specs.Prelude.{◌≡◌, ◌==◌, codes, false, not, option_map};
+ghost use Rattle.std.specs.Prelude.{◌≡◌, false, option_map};
 ghost use Rattle.std.specs.List.{list_any};
-ghost use Rattle.std.specs.Str.{byte, bytes_eq};
+ghost use Rattle.std.specs.Str.{bytes_eq};
 ghost use Rattle.plan_rules.specs.Timer.{monotonic_keys};
-ghost use Rattle.plan_check.specs.Settings.{delay_after, is_long_delay, is_reset, is_span, is_unknown_key, key_of, standing_after, value_of};
+ghost use Rattle.plan_rules.specs.TimerDelays.{default_delays};
+ghost use Rattle.plan_check.specs.Settings.{delay_after, is_bad_delay, is_delay, is_reset, is_span, is_unknown_key, key_of, standing_after, stands_after, value_of};
+
+use plan_rules::TimerDelays;
+use plan_spans::time_span;
 
 // What the settings so far say of the whole timer.
 #[derive(Clone, Copy)]
 pub(crate) struct Standing {
     // Whether a monotonic setting with a value comes after the last setting that empties the list.
     pub(crate) monotonic: bool,
-    // Whether the last value of `RandomizedDelaySec=` is a delay.
-    pub(crate) delayed: bool,
+    // The time spans of the delay.
+    pub(crate) delays: TimerDelays,
 }
 
 impl Standing {
     // Returns what stands before the first setting.
     pub(crate) fn new() -> Standing
-        ensures { result ≡ record { monotonic = false; delayed = false } }
+        ensures { result ≡ record { monotonic = false; delays = default_delays } }
     {
         Standing {
             monotonic: false,
-            delayed: false,
+            delays: TimerDelays::new(),
         }
     }
 
@@ -30,13 +34,20 @@ impl Standing {
     pub(crate) fn after(self, setting: Option<(&str, &str)>) -> Standing
         ensures { result ≡ standing_after self (option_map (λ setting. (setting.0.now, setting.1.now)) setting.entry) }
     {
-        match setting {
-            Some((key, value)) => Standing {
-                monotonic: is_span(key, value) || self.monotonic && !is_reset(key, value),
-                delayed: is_long_delay(key, value) || self.delayed && !is_delay(key),
-            },
-            None => self,
+        Standing {
+            monotonic: is_monotonic_after(self.monotonic, setting),
+            delays: self.delays.after(setting),
         }
+    }
+}
+
+// Returns whether a monotonic setting stands after one more line, by whether one stands before it.
+fn is_monotonic_after(before: bool, setting: Option<(&str, &str)>) -> bool
+    ensures { result ≡ stands_after is_span is_reset before (option_map (λ setting. (setting.0.now, setting.1.now)) setting.entry) }
+{
+    match setting {
+        Some((key, value)) => is_span(key, value) || before && !is_reset(key, value),
+        None => before,
     }
 }
 
@@ -60,12 +71,12 @@ pub(crate) fn key_of<'a>(setting: Option<(&'a str, &'a str)>) -> &'a str
     }
 }
 
-// Returns the value of the random delay after one more line, by its value before.
+// Returns the last value of the random delay that is a time span after one more line, by the one before it.
 pub(crate) fn delay_after<'a>(before: &'a str, setting: Option<(&'a str, &'a str)>) -> &'a str
     ensures { result.now ≡ delay_after before.now (option_map (λ setting. (setting.0.now, setting.1.now)) setting.entry) }
 {
     match setting {
-        Some((key, value)) if is_delay(key) => value,
+        Some((key, value)) if is_delay(key, value) => value,
         _ => before,
     }
 }
@@ -114,23 +125,19 @@ fn is_reset(key: &str, value: &str) -> bool
     (key == "OnCalendar" || is_monotonic_key(key)) && value.is_empty()
 }
 
-// Returns whether a key is that of the random delay.
-fn is_delay(key: &str) -> bool
-    ensures { result ≡ bytes_eq key.now (codes "RandomizedDelaySec") }
+// Returns whether a setting is that of the random delay, and its value is a time span.
+fn is_delay(key: &str, value: &str) -> bool
+    ensures { result ≡ is_delay (key.now, value.now) }
 {
-    key == "RandomizedDelaySec"
+    key == "RandomizedDelaySec" && time_span(value.as_bytes()).is_some()
 }
 
-// Returns whether a setting has a random delay.
-fn is_long_delay(key: &str, value: &str) -> bool
-    ensures { result ≡ is_long_delay (key.now, value.now) }
+// Returns whether a setting is that of the random delay or of the accuracy, and its value is neither empty nor a time
+// span.
+pub(crate) fn is_bad_delay(key: &str, value: &str) -> bool
+    ensures { result ≡ is_bad_delay (key.now, value.now) }
 {
-    is_delay(key) && is_not_zero(value.as_bytes())
-}
-
-// Returns whether a text has another byte than the digit 0.
-fn is_not_zero(text: &[u8]) -> bool
-    ensures { result ≡ list_any (λ b. not (b == byte "0")) text.now }
-{
-    text.iter().any(|digit| *digit != b'0')
+    matches!(key, "RandomizedDelaySec" | "AccuracySec")
+        && !value.is_empty()
+        && time_span(value.as_bytes()).is_none()
 }

@@ -5,10 +5,11 @@ ghost use Rattle.std.specs.List.{cons_option};
 ghost use Rattle.std.specs.Result.{result_ok};
 ghost use Rattle.plan_match.specs.Zone.{rule_in};
 ghost use Rattle.plan_match.specs.declared.rule.Rule.TheVariants as rule;
-ghost use Rattle.plan_rules.specs.Timer.{effects_from, first_unit, has_timer, is_timer_name, timer_job, timer_setting};
+ghost use Rattle.plan_rules.specs.Timer.{effects_from, first_unit, has_timer, is_timer_name, settings_from, timer_job, timer_setting};
+ghost use Rattle.plan_rules.specs.TimerDelays.{default_delays, delays_with, last_span, random_key};
 ghost use Rattle.plan_rules.specs.TimerEntries.{held_after, line_in, line_shown, no_lines, shown_line, state_after, timer_lines};
 ghost use Rattle.plan_check.specs.Known.{after_job, after_other};
-ghost use Rattle.plan_check.specs.Settings.{is_delayed, is_monotonic, settings_from, standing_after};
+ghost use Rattle.plan_check.specs.Settings.{is_monotonic, standing_after};
 ghost use Rattle.plan_check.specs.Timers.{after_timer, event_warnings, events_with, line_findings, lines_findings, read_findings, right_events, setting_findings, step_findings, timer_findings, timer_warnings, unit_of, unit_with};
 ghost use Rattle.plan_check.specs.Warnings.{never_starts};
 
@@ -16,7 +17,7 @@ use crate::draft::Draft;
 use crate::finding::{Finding, Warning, What};
 use crate::known::Known;
 use crate::report::{add_if, add_name_fault, refuse};
-use crate::settings::{Standing, is_unknown_key, value_of};
+use crate::settings::{Standing, is_bad_delay, is_unknown_key, value_of};
 use crate::skipped::may_skip_starts;
 use plan_clock::Clock;
 use plan_next::next_from;
@@ -74,22 +75,24 @@ fn add_lines(
     add_name_fault(known, found, 0, name)?;
     add_timer_warnings(found, known.clock(), &reader, standing, lines)?;
     found.append(&mut later)?;
-    add_timer_job(alloc, known, name, has_section, draft)
+    let delay = standing.delays.seconds();
+    add_timer_job(alloc, known, name, has_section, draft, delay)
 }
 
-// Adds the job of a timer, unless the whole timer is rejected.
+// Adds the job of a timer, whose delay is in seconds, unless the whole timer is rejected.
 fn add_timer_job(
     alloc: Global,
     known: &mut Known,
     name: &str,
     has_section: bool,
     draft: Draft,
+    delay: u64,
 ) -> Result<(), AllocError>
     ensures { OnOk result (known.new ≡ (if is_timer_name name.now && has_section
-        then after_job known.old (timer_job name.now (unit_of draft) draft.events) else after_other known.old name.now)) }
+        then after_job known.old (timer_job name.now (unit_of draft) draft.events delay) else after_other known.old name.now)) }
 {
     if is_timer_name(name.as_bytes()) && has_section {
-        let job = timer_job(alloc, name, draft.unit, draft.events)?;
+        let job = timer_job(alloc, name, draft.unit, draft.events, delay)?;
         return known.add(job);
     }
     known.add_other(alloc, name)
@@ -106,7 +109,7 @@ fn add_timer_warnings(
     requires section { reader.now.found ≡ has_timer (map shown_line lines.now) }
     requires held { reader.now.count.held ≡ held_after (map shown_line lines.now) }
     requires monotonic { standing.monotonic ≡ is_monotonic (settings_from false (map shown_line lines.now)) }
-    requires delayed { standing.delayed ≡ is_delayed (settings_from false (map shown_line lines.now)) }
+    requires delay { standing.delays.random ≡ last_span random_key 0 (settings_from false (map shown_line lines.now)) }
     ensures { OnOk result (found.new.items ≡ found.old.items ++ timer_warnings clock.now (map shown_line lines.now)) }
 {
     if clock.is_none() {
@@ -117,7 +120,7 @@ fn add_timer_warnings(
     let monotonic = What::Warned(Warning::Monotonic);
     add_if(found, standing.monotonic, 0, monotonic)?;
     let delayed = What::Warned(Warning::Delayed);
-    add_if(found, standing.delayed, 0, delayed)
+    add_if(found, standing.delays.random > 0, 0, delayed)
 }
 
 // Adds the findings of lines, in order. Returns the reader after the last line, what stands then, and what the lines
@@ -132,7 +135,7 @@ fn read_lines<'z>(
     ensures section { IfOk result (λ read. read.0.found ≡ has_timer (map shown_line lines.now)) }
     ensures held { IfOk result (λ read. read.0.count.held ≡ held_after (map shown_line lines.now)) }
     ensures monotonic { IfOk result (λ read. read.1.monotonic ≡ is_monotonic (settings_from false (map shown_line lines.now))) }
-    ensures delayed { IfOk result (λ read. read.1.delayed ≡ is_delayed (settings_from false (map shown_line lines.now))) }
+    ensures delays { IfOk result (λ read. read.1.delays ≡ delays_with default_delays (settings_from false (map shown_line lines.now))) }
     ensures unit { IfOk result (λ read. unit_of read.2 ≡ first_unit (effects_from false (map shown_line lines.now))) }
     ensures events { IfOk result (λ read. read.2.events ≡ right_events (no_lines zones.now) [] (map shown_line lines.now)) }
     ensures found { OnOk result (found.new.items ≡ found.old.items ++ lines_findings clock.now (no_lines zones.now) (map shown_line lines.now)) }
@@ -195,7 +198,7 @@ fn add_step(
     }
 }
 
-// Adds the finding of a line's setting, if there is one.
+// Adds the warnings on a line's setting, if there is a clock.
 fn add_setting(
     found: &mut Vec<Finding>,
     clock: &Option<Clock>,
@@ -206,10 +209,13 @@ fn add_setting(
         (option_map (λ setting. (setting.0.now, setting.1.now)) setting.entry)) }
 {
     match setting {
-        Some((key, _)) => {
-            let is_warned = clock.is_some() && is_unknown_key(key);
+        Some((key, value)) => {
+            let is_unknown = clock.is_some() && is_unknown_key(key);
             let unknown = What::Warned(Warning::UnknownKey);
-            add_if(found, is_warned, line, unknown)
+            add_if(found, is_unknown, line, unknown)?;
+            let is_bad = clock.is_some() && is_bad_delay(key, value);
+            let bad = What::Warned(Warning::BadDelay);
+            add_if(found, is_bad, line, bad)
         }
         None => Ok(()),
     }

@@ -2,7 +2,8 @@
 use Rattle.std.proofs.Common.{◌+◌, drop, map, ap, sym, ◌∙◌}
 use Rattle.plan_rules.specs.TimerEntries.{shown_line}
 use Rattle.plan_rules.proofs.TimerEntryLemmas.{lines_more}
-use Rattle.plan_check.specs.Settings.{delay_after, settings_from}
+use Rattle.plan_rules.specs.Timer.{settings_from}
+use Rattle.plan_check.specs.Settings.{delay_after}
 use Rattle.plan_check.proofs.QuoteLemmas.{delay_step, delay_with}
 use Rattle.plan_check.proofs.quotes.last_delay.Goals as goal
 

@@ -2,7 +2,8 @@ use denote.Shadow.{shadow}
 use denote.Text.{Utf8}
 use Rattle.std.proofs.Common.{◌≡◌, false, map, drop}
 use Rattle.plan_rules.specs.TimerEntries.{shown_line}
-use Rattle.plan_check.specs.Settings.{last_delay, settings_from}
+use Rattle.plan_rules.specs.Timer.{settings_from}
+use Rattle.plan_check.specs.Settings.{last_delay}
 use Rattle.plan_check.proofs.QuoteLemmas.{delay_with}
 use Rattle.plan_check.proofs.quotes.last_delay.Given as goal
 

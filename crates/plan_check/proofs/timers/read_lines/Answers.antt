@@ -1,13 +1,14 @@
 -- Line by line: what was found so far, with what the remaining lines add to it, is what is found in all lines.
 use Rattle.std.proofs.Common.{◌≡◌, ◌+◌, ◌++◌, ◌||◌, drop, map, ap, sym, ◌∙◌}
 use Rattle.std.specs.Option.{option_or}
-use Rattle.plan_rules.specs.Timer.{effects_from, first_unit, has_timer, timer_setting}
+use Rattle.plan_rules.specs.Timer.{effects_from, first_unit, has_timer, settings_from, timer_setting}
+use Rattle.plan_rules.specs.TimerDelays.{delays_with}
 use Rattle.plan_rules.specs.TimerEntries.{count_from, shown_line}
 use Rattle.plan_rules.proofs.TimerEntryLemmas.{lines_more, section_step, count_step}
 use Rattle.plan_check.specs.declared.settings.Standing.{Standing}
-use Rattle.plan_check.specs.Settings.{is_delay, is_long_delay, is_reset, is_span, settings_from, standing_after}
+use Rattle.plan_check.specs.Settings.{is_reset, is_span, standing_after}
 use Rattle.plan_check.specs.Timers.{lines_findings, right_events, unit_of}
-use Rattle.plan_check.proofs.TimerLinesLemmas.{events_step, lines_step, stands_step, stands_with, unit_step}
+use Rattle.plan_check.proofs.TimerLinesLemmas.{delays_step, events_step, lines_step, stands_step, stands_with, unit_step}
 use Rattle.plan_check.proofs.timers.read_lines.Goals as goal
 
 pub loop-line-preserved : goal.loop-line-preserved
@@ -33,10 +34,9 @@ loop-line-preserved c =
           (ap (λ (s : Standing). s.monotonic) stands) c.in_ok-add_line.ensures.reader
           (ap (λ left. stands_with is_span is_reset stood.monotonic (settings_from old.inside left)) next
           ∙ c.loop-line.invariant.monotonic);
-      delayed = stands_step is_long_delay is_delay stood.delayed c.after-standing.result.delayed old new line more _
-          (ap (λ (s : Standing). s.delayed) stands) c.in_ok-add_line.ensures.reader
-          (ap (λ left. stands_with is_long_delay is_delay stood.delayed (settings_from old.inside left)) next
-          ∙ c.loop-line.invariant.delayed);
+      delays = delays_step stood.delays c.after-standing.result.delays old new line more _
+          (ap (λ (s : Standing). s.delays) stands) c.in_ok-add_line.ensures.reader
+          (ap (λ left. delays_with stood.delays (settings_from old.inside left)) next ∙ c.loop-line.invariant.delays);
       unit = unit_step (unit_of c.loop-line.draft) (unit_of c.add_line.new.draft) old new line more _ c.in_ok-add_line.ensures.unit
           c.in_ok-add_line.ensures.reader
           (ap (λ left. option_or (unit_of c.loop-line.draft) (first_unit (effects_from old.inside left))) next

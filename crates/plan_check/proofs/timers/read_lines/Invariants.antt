@@ -1,8 +1,9 @@
 use Rattle.std.proofs.Common.{◌≡◌, false, ◌||◌, [], ◌++◌, map, drop}
 use Rattle.std.specs.Option.{option_or}
-use Rattle.plan_rules.specs.Timer.{effects_from, first_unit, has_timer}
+use Rattle.plan_rules.specs.Timer.{effects_from, first_unit, has_timer, settings_from}
+use Rattle.plan_rules.specs.TimerDelays.{default_delays, delays_with}
 use Rattle.plan_rules.specs.TimerEntries.{no_events, no_lines, count_from, shown_line}
-use Rattle.plan_check.specs.Settings.{is_delay, is_delayed, is_long_delay, is_monotonic, is_reset, is_span, settings_from}
+use Rattle.plan_check.specs.Settings.{is_monotonic, is_reset, is_span}
 use Rattle.plan_check.specs.Timers.{lines_findings, right_events, unit_of}
 use Rattle.plan_check.proofs.TimerLinesLemmas.{stands_with}
 use Rattle.plan_check.proofs.timers.read_lines.Given as goal
@@ -18,8 +19,8 @@ invariant-loop-line l =
       count : count_from l.reader.count (effects_from l.reader.inside left) ≡ count_from no_events (effects_from false all);
       monotonic : stands_with is_span is_reset l.standing.monotonic (settings_from l.reader.inside left)
           ≡ is_monotonic (settings_from false all);
-      delayed : stands_with is_long_delay is_delay l.standing.delayed (settings_from l.reader.inside left)
-          ≡ is_delayed (settings_from false all);
+      delays : delays_with l.standing.delays (settings_from l.reader.inside left)
+          ≡ delays_with default_delays (settings_from false all);
       unit : option_or (unit_of l.draft) (first_unit (effects_from l.reader.inside left)) ≡ first_unit (effects_from false all);
       events : right_events l.reader l.draft.events left ≡ right_events (no_lines l.zones) [] all;
     }
