@@ -2,7 +2,7 @@
 use Rattle.std.specs.Prelude.{ℕ, List, [], ◌∷◌, find, Option, codes}
 use Rattle.std.specs.Str.{str_eq_ignore_ascii_case}
 use Rattle.agenda_codes.specs.declared.code.Code.{Code}
-use Rattle.agenda_codes.specs.declared.code.Code.TheVariants.{Backwards, BadCount, BadForm, BadLeast, BadLimit, BadLine, BadName}
+use Rattle.agenda_codes.specs.declared.code.Code.TheVariants.{Backwards, BadCount, BadDelay, BadForm, BadLeast, BadLimit, BadLine, BadName}
 use Rattle.agenda_codes.specs.declared.code.Code.TheVariants.{BadNumber, BadSetting, BadSize, BadTabName, BadTimerName, BadZone}
 use Rattle.agenda_codes.specs.declared.code.Code.TheVariants.{BadZoneName, CarriageReturn, Delayed, Device, EitherDay, Fraction}
 use Rattle.agenda_codes.specs.declared.code.Code.TheVariants.{Full, Monotonic, NeverStarts, NoCommand, NoEvents, NoMemory}
@@ -19,12 +19,12 @@ use Rattle.agenda_codes.specs.declared.texts.rules.TheConstants.{UNKNOWN_WORD, W
 use Rattle.agenda_codes.specs.declared.texts.files.TheConstants.{BAD_LINE, BAD_SETTING, BAD_TAB_NAME, BAD_TIMER_NAME, FULL}
 use Rattle.agenda_codes.specs.declared.texts.files.TheConstants.{NO_COMMAND, NO_TIMER_SECTION, NOT_UTF8, SAME_NAME, TOO_LARGE}
 use Rattle.agenda_codes.specs.declared.texts.files.TheConstants.{TOO_MANY_LINES, TOO_MANY_STEPS}
-use Rattle.agenda_codes.specs.declared.texts.warnings.TheConstants.{CARRIAGE_RETURN, DELAYED, EITHER_DAY, MONOTONIC, NEVER_STARTS}
+use Rattle.agenda_codes.specs.declared.texts.warnings.TheConstants.{BAD_DELAY, CARRIAGE_RETURN, DELAYED, EITHER_DAY, MONOTONIC, NEVER_STARTS}
 use Rattle.agenda_codes.specs.declared.texts.warnings.TheConstants.{NO_EVENTS, PERCENT, SKIPPED_STARTS, UNKNOWN_KEY, ZONE_SETTING}
 
 -- all codes, in the order of their names
 unfoldable pub all_codes : List Code
-all_codes = Backwards ∷ BadCount ∷ BadForm ∷ BadLeast ∷ BadLimit ∷ BadLine ∷ BadName ∷ BadNumber ∷ BadSetting ∷ BadSize ∷ BadTabName
+all_codes = Backwards ∷ BadCount ∷ BadDelay ∷ BadForm ∷ BadLeast ∷ BadLimit ∷ BadLine ∷ BadName ∷ BadNumber ∷ BadSetting ∷ BadSize ∷ BadTabName
     ∷ BadTimerName ∷ BadZone ∷ BadZoneName ∷ CarriageReturn ∷ Delayed ∷ Device ∷ EitherDay ∷ Fraction ∷ Full ∷ Monotonic
     ∷ NeverStarts ∷ NoCommand ∷ NoEvents ∷ NoMemory ∷ NoSuchDate ∷ NoSuchZone ∷ NoTimerSection ∷ NotSettled ∷ NotUtf8
     ∷ OutOfRange ∷ OutOfYears ∷ Percent ∷ SameName ∷ SkippedStarts ∷ Specifier ∷ TooLarge ∷ TooMany ∷ TooManyLines
@@ -34,6 +34,7 @@ all_codes = Backwards ∷ BadCount ∷ BadForm ∷ BadLeast ∷ BadLimit ∷ Bad
 abbrev pub name_of : Code → List ℕ
 name_of Backwards = codes "Backwards"
 name_of BadCount = codes "BadCount"
+name_of BadDelay = codes "BadDelay"
 name_of BadForm = codes "BadForm"
 name_of BadLeast = codes "BadLeast"
 name_of BadLimit = codes "BadLimit"
@@ -91,6 +92,7 @@ code_named name = first_named name all_codes
 abbrev pub sentence_of : Code → List ℕ
 sentence_of Backwards = sentence.BACKWARDS.now
 sentence_of BadCount = sentence.BAD_COUNT.now
+sentence_of BadDelay = sentence.BAD_DELAY.now
 sentence_of BadForm = sentence.BAD_FORM.now
 sentence_of BadLeast = sentence.BAD_LEAST.now
 sentence_of BadLimit = sentence.BAD_LIMIT.now
@@ -140,6 +142,7 @@ sentence_of ZoneSetting = sentence.ZONE_SETTING.now
 abbrev pub text_of : Code → List ℕ
 text_of Backwards = BACKWARDS.now
 text_of BadCount = BAD_COUNT.now
+text_of BadDelay = BAD_DELAY.now
 text_of BadForm = BAD_FORM.now
 text_of BadLeast = BAD_LEAST.now
 text_of BadLimit = BAD_LIMIT.now

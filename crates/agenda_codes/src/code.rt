@@ -14,6 +14,8 @@ pub enum Code {
     Backwards,
     /// The number of --count isn't 1 to 1,000.
     BadCount,
+    /// The value of `RandomizedDelaySec=` or `AccuracySec=` isn't a time span, so systemd ignores it.
+    BadDelay,
     /// A time doesn't have the form `2024-01-01T00:00:00Z`.
     BadForm,
     /// The number of --least is 0.
@@ -108,12 +110,13 @@ pub enum Code {
 impl Code {
     /// Returns all codes, in the order of their names.
     #[tactic(auto, unfolding(crate::specs::Codes::all_codes))]
-    pub fn all() -> [Code; 46]
+    pub fn all() -> [Code; 47]
         ensures { result ≡ all_codes }
     {
         [
             Code::Backwards,
             Code::BadCount,
+            Code::BadDelay,
             Code::BadForm,
             Code::BadLeast,
             Code::BadLimit,
@@ -170,6 +173,7 @@ impl Code {
         match self {
             Code::Backwards => "Backwards",
             Code::BadCount => "BadCount",
+            Code::BadDelay => "BadDelay",
             Code::BadForm => "BadForm",
             Code::BadLeast => "BadLeast",
             Code::BadLimit => "BadLimit",
@@ -239,6 +243,7 @@ impl Code {
         match self {
             Code::Backwards => sentences::BACKWARDS,
             Code::BadCount => sentences::BAD_COUNT,
+            Code::BadDelay => sentences::BAD_DELAY,
             Code::BadForm => sentences::BAD_FORM,
             Code::BadLeast => sentences::BAD_LEAST,
             Code::BadLimit => sentences::BAD_LIMIT,
@@ -293,6 +298,7 @@ impl Code {
         match self {
             Code::Backwards => rules::BACKWARDS,
             Code::BadCount => requests::BAD_COUNT,
+            Code::BadDelay => warnings::BAD_DELAY,
             Code::BadForm => requests::BAD_FORM,
             Code::BadLeast => requests::BAD_LEAST,
             Code::BadLimit => requests::BAD_LIMIT,

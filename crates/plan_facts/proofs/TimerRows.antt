@@ -15,6 +15,7 @@ use Rattle.plan_grammar.specs.Shape.{date_reading, time_reading, dated, shape_re
 use Rattle.plan_grammar.specs.EventZones.{zone_clock}
 use Rattle.plan_grammar.specs.Event.{component_number, component_value, component_side, component_item, component_items, places_reading, component_reading, weekday_of, weekday_reading, weekday_item, weekday_items, weekdays_reading, event_of, spelled_out, zone_cut, expression_of, zoneless, words_reading, event_reading}
 use Rattle.plan_match.specs.Match.{rule_matches}
+use Rattle.plan_spans.specs.Spans.{number_in_front, pair_in_front, sum_of_pairs, time_span, unit_in_front}
 use Rattle.plan_texts.specs.Lines.{lines}
 use Rattle.plan_rules.specs.LineFaults.{TextReading, in_line, on_line}
 use Rattle.plan_rules.specs.Job.{JobParts}
@@ -41,11 +42,11 @@ joined_lines : map whole_lines
 unfolding whole_lines lines
 joined_lines = refl
 
--- the job with this name that starts a unit by the events of some texts
+-- the job with this name that starts a unit by the events of some texts, with the delay of a timer without any setting: a minute
 abbrev job_of : List ℕ → List ℕ → List (List ℕ) → TextReading JobParts
 job_of name unit texts =
     on_line 1 (in_line (each (event_reading None) texts)) >>= λ events.
-    Ok (record { name = name; user = None; command = unit; rule = Events events; delay = 0 })
+    Ok (record { name = name; user = None; command = unit; rule = Events events; delay = 60 })
 
 -- a reset empties the list of events
 reset_empties :
@@ -122,6 +123,28 @@ unfolding is_utf8 chars lib.Utf8.encode lines whole_lines is_timer_name section_
     places_reading component_reading weekday_of weekday_reading weekday_item weekday_items weekdays_reading event_of spelled_out
     zone_clock zone_cut expression_of zoneless words_reading
 other_lines = refl
+
+-- the delay of the job of a timer file
+abbrev delay_in : TextReading JobParts → ℕ
+delay_in (Ok job) = job.delay
+delay_in (Err fault) = 0
+
+-- the delays of timers, in seconds: a random delay, or the accuracy; of several values the last one counts that is a time span; the
+-- sum is rounded up; `infinity`; and settings of other sections don't count
+delays : map (λ (text : List ℕ). delay_in (timer_reading None (codes "x.timer") text))
+    (codes "[Timer]\nRandomizedDelaySec=12h"
+    ∷ codes "[Timer]\nAccuracySec=1us"
+    ∷ codes "[Timer]\nRandomizedDelaySec=2h\nAccuracySec=5min\n[Timer]\nRandomizedDelaySec=1h\nAccuracySec=0"
+    ∷ codes "[Timer]\nRandomizedDelaySec=1h\nRandomizedDelaySec=5secs\nAccuracySec=1s\nAccuracySec="
+    ∷ codes "[Timer]\nRandomizedDelaySec=1.5s\nAccuracySec=500ms"
+    ∷ codes "[Timer]\nRandomizedDelaySec=1.5s\nAccuracySec=501ms"
+    ∷ codes "[Timer]\nRandomizedDelaySec=infinity"
+    ∷ codes "RandomizedDelaySec=1h\n[Timer]\n[Install]\nRandomizedDelaySec=1h"
+    ∷ [])
+    ≡ 43_260 ∷ 1 ∷ 3_600 ∷ 3_601 ∷ 2 ∷ 3 ∷ 32_503_680_000 ∷ 60 ∷ []
+unfolding is_utf8 chars lib.Utf8.encode lines whole_lines is_timer_name section_name setting_of key_of time_span sum_of_pairs
+    pair_in_front number_in_front unit_in_front
+delays = refl
 
 -- invalid files, each with its error: a bad name, no section, and errors of events, also if a later line
 -- empties the list

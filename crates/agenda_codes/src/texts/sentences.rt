@@ -5,6 +5,9 @@ pub(crate) const BACKWARDS: &str =
 
 pub(crate) const BAD_COUNT: &str = "The number of --count isn't 1 to 1,000.";
 
+pub(crate) const BAD_DELAY: &str =
+    "The value of 'RandomizedDelaySec=' or 'AccuracySec=' isn't a time span, so systemd ignores it.";
+
 pub(crate) const BAD_FORM: &str = "A time doesn't have the form '2024-01-01T00:00:00Z'.";
 
 pub(crate) const BAD_LEAST: &str = "The number of --least is 0.";

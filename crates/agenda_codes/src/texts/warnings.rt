@@ -1,5 +1,17 @@
 //! What is said about warnings.
 
+pub(crate) const BAD_DELAY: &str = "\
+The value of 'RandomizedDelaySec=' or 'AccuracySec=' isn't a time span, so
+systemd ignores it. The last valid value counts. If there is none, the random
+delay is 0, or the accuracy a minute. Write numbers with units, such as '90s',
+'5min' or '1h 30min'. systemd.time(7) lists the units.
+
+Before:
+    AccuracySec=5mins
+After:
+    AccuracySec=5min
+";
+
 pub(crate) const CARRIAGE_RETURN: &str = "\
 The command of a line ends with a carriage return. The file was probably saved
 by an editor on Windows. cron hands the carriage return to the shell, which
@@ -9,7 +21,8 @@ with dos2unix(1).
 
 pub(crate) const DELAYED: &str = "\
 The timer starts up to the time of 'RandomizedDelaySec=' later than planned. If
-that doesn't matter, do nothing. Otherwise remove the setting, or set it to 0.
+that doesn't matter, do nothing. To see how late a job may start, give --delays
+to plan, upcoming or quiet. To start on time, remove the setting or set it to 0.
 
 Before:
     RandomizedDelaySec=1h
