@@ -162,6 +162,7 @@ explain_without_output() {
 explain_all_codes <<'ROWS'
 Backwards
 BadCount
+BadDelay
 BadForm
 BadLeast
 BadLimit
@@ -228,6 +229,7 @@ explain_without_output
 # what each example shows
 explain_examples <<'ROWS'
 Backwards crontab
+BadDelay setting
 BadForm moment
 BadLine step
 BadName crontab

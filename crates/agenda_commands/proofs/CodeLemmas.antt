@@ -95,6 +95,7 @@ warning_has warning.CarriageReturn = has code.CarriageReturn
 warning_has warning.ZoneSetting = has code.ZoneSetting
 warning_has warning.SkippedStarts = has code.SkippedStarts
 warning_has warning.UnknownKey = has code.UnknownKey
+warning_has warning.BadDelay = has code.BadDelay
 warning_has warning.Monotonic = has code.Monotonic
 warning_has warning.Delayed = has code.Delayed
 

@@ -204,6 +204,10 @@ skipped_starts event = around (codes "systemd 252 may pass over starts of ") eve
 abbrev pub unknown_key : (key : List ℕ) → List ℕ
 unknown_key key = around (codes "unknown setting ") key (codes " in [Timer]")
 
+-- the value of a delay isn't a time span
+abbrev pub bad_delay : (value : List ℕ) → List ℕ
+bad_delay value = around [] value (codes " is not a time span")
+
 -- a timer has a random delay
 abbrev pub delayed : (delay : List ℕ) → List ℕ
 delayed delay = around (codes "starts up to ") delay (codes " later than planned (RandomizedDelaySec=)")
@@ -212,6 +216,7 @@ delayed delay = around (codes "starts up to ") delay (codes " later than planned
 abbrev pub warning_message : Warning → (quote : List ℕ) → List ℕ
 warning_message warning.SkippedStarts quote = skipped_starts quote
 warning_message warning.UnknownKey quote = unknown_key quote
+warning_message warning.BadDelay quote = bad_delay quote
 warning_message warning.Delayed quote = delayed quote
 warning_message other quote = plain_warning other
 

@@ -4,7 +4,7 @@ ghost use Rattle.std.specs.Prelude.{◌≡◌, ◌<◌};
 ghost use Rattle.std.specs.Char.{digit_char};
 ghost use Rattle.std.specs.List.{flat_map};
 ghost use Rattle.plan_streams.specs.Writer.{Takes};
-ghost use Rattle.plan_write.specs.Messages.{around, code_of, cron_message, delayed, dots, escaped, event_message, expected_fields, field_message, field_name, field_values, full_message, message, missing_command, no_event, part_message, part_name, part_values, plain_message, plain_warning, problem, problem_text, quoted, range_of, rule_message, same_name, severity, shown, skipped_starts, unknown_key, unknown_word, warning_message, whole_event, whole_rule, with_specifiers};
+ghost use Rattle.plan_write.specs.Messages.{around, bad_delay, code_of, cron_message, delayed, dots, escaped, event_message, expected_fields, field_message, field_name, field_values, full_message, message, missing_command, no_event, part_message, part_name, part_values, plain_message, plain_warning, problem, problem_text, quoted, range_of, rule_message, same_name, severity, shown, skipped_starts, unknown_key, unknown_word, warning_message, whole_event, whole_rule, with_specifiers};
 
 use plan_check::{Form, Warning, What};
 use plan_grammar::{RuleCause, RuleFault};
@@ -76,6 +76,7 @@ fn put_warning<S: Stream>(warning: Warning, quote: &str, lines: &mut TextWriter<
     match warning {
         Warning::SkippedStarts => put_skipped_starts(quote, lines),
         Warning::UnknownKey => put_unknown_key(quote, lines),
+        Warning::BadDelay => put_bad_delay(quote, lines),
         Warning::Delayed => put_delayed(quote, lines),
         _ => lines.put(plain_warning(warning).as_bytes()),
     }
@@ -95,7 +96,7 @@ fn plain_warning(warning: Warning) -> &'static str
         Warning::ZoneSetting =>
             "CRON_TZ is read by cronie alone; agenda reads all rules in one zone",
         Warning::Monotonic => "also starts by OnBootSec= or the like, which is not planned",
-        Warning::SkippedStarts | Warning::UnknownKey | Warning::Delayed => "",
+        Warning::SkippedStarts | Warning::UnknownKey | Warning::BadDelay | Warning::Delayed => "",
     }
 }
 
@@ -116,6 +117,13 @@ fn put_unknown_key<S: Stream>(key: &str, lines: &mut TextWriter<'_, S>)
     ensures { Takes S.holds S.takes_all lines.old lines.new (unknown_key key.now) }
 {
     put_around("unknown setting ", key, " in [Timer]", lines);
+}
+
+// Puts that the value of a delay isn't a time span.
+fn put_bad_delay<S: Stream>(value: &str, lines: &mut TextWriter<'_, S>)
+    ensures { Takes S.holds S.takes_all lines.old lines.new (bad_delay value.now) }
+{
+    put_around("", value, " is not a time span", lines);
 }
 
 // Puts that a timer has a random delay.
