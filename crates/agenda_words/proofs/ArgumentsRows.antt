@@ -165,7 +165,7 @@ abbrev sized : (planners room limit : ℕ) → Sizes
 sized planners room limit = record { planners = planners; room = room; limit = limit }
 
 abbrev jobs_from : List SourcePath → (keep_going : Bool) → JobsRequest
-jobs_from sources keep_going = record { zones = in_utc; sources = sources; keep_going = keep_going }
+jobs_from sources keep_going = record { zones = in_utc; sources = sources; keep_going = keep_going; delays = false }
 
 abbrev planned : (upto : List ℕ) → List SourcePath → Sizes → PlanRequest
 planned upto sources sizes = record { since = moment; upto = upto; jobs = jobs_from sources false; sizes = sizes }
@@ -211,6 +211,39 @@ keep_going_with_a_value = refl
 keep_going_twice : asked_by (plan_with (codes "--keep-going" ∷ codes "--keep-going" ∷ [])) ≡ Err is_usage
 unfolding asked_by clap_on_literals agenda_on_literals
 keep_going_twice = refl
+
+-- `--delays`; the argument after it is a timer
+plan_with_delays : asked_by (plan_with (codes "--delays" ∷ codes "a.timer" ∷ []))
+    ≡ Ok (Plan (record (planned (codes "u") [] (sized 2 16 10000))
+    { jobs = record (jobs_from (path_of Timer (codes "a.timer") ∷ []) false) { delays = true } }))
+unfolding asked_by clap_on_literals agenda_on_literals
+plan_with_delays = refl
+
+-- `--delays` and `--keep-going`
+plan_with_both_flags : asked_by (plan_with (codes "--delays" ∷ codes "--keep-going" ∷ []))
+    ≡ Ok (Plan (record (planned (codes "u") [] (sized 2 16 10000)) { jobs = record (jobs_from [] true) { delays = true } }))
+unfolding asked_by clap_on_literals agenda_on_literals
+plan_with_both_flags = refl
+
+-- a value for `--delays`
+delays_with_a_value : asked_by (plan_with (codes "--delays=true" ∷ [])) ≡ Err is_usage
+unfolding asked_by clap_on_literals agenda_on_literals
+delays_with_a_value = refl
+
+-- `--delays` twice
+delays_twice : asked_by (plan_with (codes "--delays" ∷ codes "--delays" ∷ [])) ≡ Err is_usage
+unfolding asked_by clap_on_literals agenda_on_literals
+delays_twice = refl
+
+-- `check` has no `--delays`
+check_without_delays : asked_by (codes "agenda" ∷ codes "check" ∷ codes "--delays" ∷ []) ≡ Err is_usage
+unfolding asked_by clap_on_literals agenda_on_literals
+check_without_delays = refl
+
+-- `next` has no `--delays`
+next_without_delays : asked_by (next_with (codes "--delays" ∷ codes "--calendar" ∷ codes "daily" ∷ [])) ≡ Err is_usage
+unfolding asked_by clap_on_literals agenda_on_literals
+next_without_delays = refl
 
 -- `check` has no `--keep-going`
 check_keeps_no_going : asked_by (codes "agenda" ∷ codes "check" ∷ codes "--keep-going" ∷ []) ≡ Err is_usage
@@ -299,6 +332,13 @@ upcoming_with_event_zones :
 unfolding asked_by clap_on_literals agenda_on_literals
 upcoming_with_event_zones = refl
 
+-- `upcoming` with `--delays`
+upcoming_with_delays :
+    asked_by (codes "agenda" ∷ codes "upcoming" ∷ codes "--after" ∷ moment ∷ codes "--delays" ∷ [])
+    ≡ Ok (Upcoming moment (record (jobs_from [] false) { delays = true }))
+unfolding asked_by clap_on_literals agenda_on_literals
+upcoming_with_delays = refl
+
 -- `quiet` with all defaults: gaps of half an hour, and a limit of 1,000,000
 quiet_by_default : asked_by (codes "agenda" ∷ codes "quiet" ∷ codes "--since" ∷ moment ∷ codes "--upto" ∷ codes "z" ∷ [])
     ≡ Ok (Quiet (planned (codes "z") [] (sized 2 16 1000000)) 1800)
@@ -319,6 +359,13 @@ quiet_with_event_zones :
     { jobs = record (jobs_from [] false) { zones = zones_from None true } }) 1800)
 unfolding asked_by clap_on_literals agenda_on_literals
 quiet_with_event_zones = refl
+
+-- `quiet` with `--delays`
+quiet_with_delays :
+    asked_by (codes "agenda" ∷ codes "quiet" ∷ codes "--since" ∷ moment ∷ codes "--upto" ∷ codes "z" ∷ codes "--delays" ∷ [])
+    ≡ Ok (Quiet (record (planned (codes "z") [] (sized 2 16 1000000)) { jobs = record (jobs_from [] false) { delays = true } }) 1800)
+unfolding asked_by clap_on_literals agenda_on_literals
+quiet_with_delays = refl
 
 -- a negative gap
 quiet_of_less :

@@ -103,7 +103,12 @@ sources_in rows = flat_map (λ kind. map (path_of kind) (paths_in kind rows)) ki
 
 -- what jobs are read from, by the values; there may be no source (agenda)
 abbrev pub jobs_in : List Row → JobsRequest
-jobs_in rows = record { zones = zones_in rows; sources = sources_in rows; keep_going = is_given (codes "keep-going") rows }
+jobs_in rows = record {
+  zones = zones_in rows;
+  sources = sources_in rows;
+  keep_going = is_given (codes "keep-going") rows;
+  delays = is_given (codes "delays") rows;
+}
 
 -- what a plan is made from, by its values (agenda)
 unfoldable pub plan_in : List Row → Result PlanRequest Refusal

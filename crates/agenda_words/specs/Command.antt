@@ -36,6 +36,10 @@ event_zones_option = flag_option (codes "event-zones")
 abbrev pub keep_going_option : Rule
 keep_going_option = flag_option (codes "keep-going")
 
+-- the flag `--delays` (agenda)
+abbrev pub delays_option : Rule
+delays_option = flag_option (codes "delays")
+
 -- an option for a whole number of 32 bits, which has a default (agenda)
 abbrev pub number_option : List ℕ → List ℕ → Rule
 number_option name default = record (option_named name) {
@@ -89,21 +93,22 @@ unfoldable pub with_sizes : App → (default : List ℕ) → App
 with_sizes app default = with_rules app (number_option (codes "planners") (codes "2") ∷ number_option (codes "room") (codes "16")
     ∷ number_option (codes "limit") default ∷ [])
 
--- the span of a plan, the zones, and whether to keep going: `--since T --upto T [--zone ZONE] [--event-zones]
--- [--keep-going]` (agenda)
+-- the span of a plan, the zones, whether to keep going, and whether delays count: `--since T --upto T [--zone ZONE]
+-- [--event-zones] [--keep-going] [--delays]` (agenda)
 abbrev pub span_rules : List Rule
-span_rules = moment_option (codes "since") ∷ moment_option (codes "upto") ∷ zone_option ∷ event_zones_option ∷ keep_going_option ∷ []
+span_rules = moment_option (codes "since") ∷ moment_option (codes "upto") ∷ zone_option ∷ event_zones_option ∷ keep_going_option
+    ∷ delays_option ∷ []
 
--- `plan --since T --upto T [--zone ZONE] [--event-zones] [--keep-going]`, the sources and the sizes (agenda)
+-- `plan --since T --upto T [--zone ZONE] [--event-zones] [--keep-going] [--delays]`, the sources and the sizes (agenda)
 unfoldable pub plan : App
 plan = with_sizes (with_sources (subcommand_with (codes "plan") span_rules)) (codes "10000")
 
--- `upcoming --after T [--zone ZONE] [--event-zones] [--keep-going]` and the sources (agenda)
+-- `upcoming --after T [--zone ZONE] [--event-zones] [--keep-going] [--delays]` and the sources (agenda)
 unfoldable pub upcoming : App
 upcoming = with_sources (subcommand_with (codes "upcoming") (moment_option (codes "after") ∷ zone_option ∷ event_zones_option
-    ∷ keep_going_option ∷ []))
+    ∷ keep_going_option ∷ delays_option ∷ []))
 
--- `quiet --since T --upto T [--zone ZONE] [--event-zones] [--keep-going]`, the sources, `[--least N]` and the sizes (agenda)
+-- `quiet --since T --upto T [--zone ZONE] [--event-zones] [--keep-going] [--delays]`, the sources, `[--least N]` and the sizes (agenda)
 unfoldable pub quiet : App
 quiet = with_sizes
     (with_rules (with_sources (subcommand_with (codes "quiet") span_rules)) (number_option (codes "least") (codes "1800") ∷ []))

@@ -133,10 +133,12 @@ fn jobs_of(alloc: Global, given: &ArgMatches<'_>) -> Result<JobsRequest, AllocEr
     let zones = zones_of(alloc, given)?;
     let sources = sources_of(alloc, given)?;
     let keep_going = is_given(given, "keep-going");
+    let delays = is_given(given, "delays");
     Ok(JobsRequest {
         zones,
         sources,
         keep_going,
+        delays,
     })
 }
 

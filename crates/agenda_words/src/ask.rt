@@ -25,6 +25,8 @@ pub struct JobsRequest {
     pub sources: SourcePaths,
     /// Whether what is invalid or can't be read is skipped and reported.
     pub keep_going: bool,
+    /// Whether the delays of timers count, so that a start may happen later than planned.
+    pub delays: bool,
 }
 
 /// What a plan is made from.

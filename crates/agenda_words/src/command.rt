@@ -2,9 +2,9 @@
 ghost use Rattle.std.specs.Prelude.{◌≡◌, [], ◌∷◌, IfOk, false};
 ghost use Rattle.clap.specs.Words.{app_of, items_of, rule_of, with_rule, with_subcommand};
 ghost use Rattle.clap.specs.declared.builder.command.Command.TheViews.{out-Command};
-ghost use Rattle.agenda_words.specs.Command.{agenda, argument_named, check, code_argument, event_zones_option, explain, file_argument};
-ghost use Rattle.agenda_words.specs.Command.{keep_going_option, moment_option, next, number_option, option_named, plan, quiet, steps};
-ghost use Rattle.agenda_words.specs.Command.{source_rule, upcoming, with_sizes, with_sources, zone_option};
+ghost use Rattle.agenda_words.specs.Command.{agenda, argument_named, check, code_argument, delays_option, event_zones_option, explain};
+ghost use Rattle.agenda_words.specs.Command.{file_argument, flag_option, keep_going_option, moment_option, next, number_option};
+ghost use Rattle.agenda_words.specs.Command.{option_named, plan, quiet, source_rule, steps, upcoming, with_sizes, with_sources, zone_option};
 
 mod help;
 
@@ -75,6 +75,7 @@ fn plan_command<'a>(alloc: Global) -> Result<Command<'a>, AllocError>
     let command = with_argument(command, zone_option(alloc))?;
     let command = with_argument(command, event_zones_option(alloc))?;
     let command = with_argument(command, keep_going_option(alloc))?;
+    let command = with_argument(command, delays_option(alloc, help::DELAYS))?;
     let command = with_sources(alloc, command)?;
     let command = with_sizes(alloc, command, "10000")?;
     Ok(command)
@@ -92,6 +93,7 @@ fn upcoming_command<'a>(alloc: Global) -> Result<Command<'a>, AllocError>
     let command = with_argument(command, zone_option(alloc))?;
     let command = with_argument(command, event_zones_option(alloc))?;
     let command = with_argument(command, keep_going_option(alloc))?;
+    let command = with_argument(command, delays_option(alloc, help::DELAYS))?;
     let command = with_sources(alloc, command)?;
     Ok(command)
 }
@@ -109,6 +111,7 @@ fn quiet_command<'a>(alloc: Global) -> Result<Command<'a>, AllocError>
     let command = with_argument(command, zone_option(alloc))?;
     let command = with_argument(command, event_zones_option(alloc))?;
     let command = with_argument(command, keep_going_option(alloc))?;
+    let command = with_argument(command, delays_option(alloc, help::QUIET_DELAYS))?;
     let command = with_sources(alloc, command)?;
     let command = with_argument(command, number_option(alloc, "least", "1800", help::LEAST))?;
     let command = with_sizes(alloc, command, "1000000")?;
@@ -262,10 +265,7 @@ fn event_zones_option<'a>(alloc: Global) -> Arg<'a>
     ensures rule { rule_of result ≡ event_zones_option }
     ensures local { result.global ≡ false }
 {
-    Arg::new(alloc, "event-zones")
-        .long("event-zones")
-        .help(help::EVENT_ZONES)
-        .action(ArgAction::SetTrue)
+    flag_option(alloc, "event-zones", help::EVENT_ZONES)
 }
 
 // Returns the option `--keep-going`, which has no value.
@@ -273,9 +273,25 @@ fn keep_going_option<'a>(alloc: Global) -> Arg<'a>
     ensures rule { rule_of result ≡ keep_going_option }
     ensures local { result.global ≡ false }
 {
-    Arg::new(alloc, "keep-going")
-        .long("keep-going")
-        .help(help::KEEP_GOING)
+    flag_option(alloc, "keep-going", help::KEEP_GOING)
+}
+
+// Returns the option `--delays`, which has no value. What its help says depends on the command.
+fn delays_option<'a>(alloc: Global, help: &'a str) -> Arg<'a>
+    ensures rule { rule_of result ≡ delays_option }
+    ensures local { result.global ≡ false }
+{
+    flag_option(alloc, "delays", help)
+}
+
+// Returns the option `--name`, which has no value.
+fn flag_option<'a>(alloc: Global, name: &'a str, help: &'a str) -> Arg<'a>
+    ensures rule { rule_of result ≡ flag_option name.entry.now }
+    ensures local { result.global ≡ false }
+{
+    Arg::new(alloc, name)
+        .long(name)
+        .help(help)
         .action(ArgAction::SetTrue)
 }
 

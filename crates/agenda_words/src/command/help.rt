@@ -36,6 +36,10 @@ Read events that end with a time zone, such as
 
 pub(super) const KEEP_GOING: &str = "Skip what is invalid or can't be read, and report it";
 
+pub(super) const DELAYS: &str = "\
+Show each start with the latest time at which it may
+happen (RandomizedDelaySec= and AccuracySec=)";
+
 pub(super) const COUNT: &str = "How many starts, from 1 to 1000";
 
 pub(super) const CRON: &str = "\
@@ -93,7 +97,9 @@ pub(super) const AFTER_PLAN: &str = "\
 Prints a header line with the span and the number of starts, then a line for each start:
 the time, the job's name and what it runs, separated by tabs. Lines are sorted by time.
 Jobs that start at the same time are in this order: the user's crontab, the system
-crontab, --cron-d, --spool, timers. agenda(1) describes the formats of the files.
+crontab, --cron-d, --spool, timers. With --delays, the latest time follows the time, and
+a start before --since is included if it may be delayed into the span. agenda(1) describes
+the formats of the files.
 
 Example:
   agenda plan --since 2024-01-01T00:00:00Z --upto 2024-01-02T00:00:00Z \\
@@ -104,13 +110,17 @@ pub(super) const UPCOMING: &str = "Prints when each job of crontabs and timers s
 pub(super) const AFTER_UPCOMING: &str = "\
 Prints a line for each job: the time of its next start, the job's name and what it runs,
 separated by tabs. Lines are sorted by time, then by job, as in plan. Jobs that don't
-start again before the year 3000 come last, with 'none' instead of a time. agenda(1)
-describes the formats of the files.
+start again before the year 3000 come last, with 'none' instead of a time. With --delays,
+the latest time follows the time. agenda(1) describes the formats of the files.
 
 Example:
   agenda upcoming --after 2024-01-01T00:00:00Z --crontab jobs backup.timer";
 
 pub(super) const QUIET: &str = "Prints the gaps in which no job of crontabs and timers starts";
+
+pub(super) const QUIET_DELAYS: &str = "\
+Show gaps in which no job may start, delays included
+(RandomizedDelaySec= and AccuracySec=)";
 
 pub(super) const LEAST: &str = "\
 The minimum length of a gap in seconds,
@@ -119,7 +129,8 @@ from 1 to 4294967295";
 pub(super) const AFTER_QUIET: &str = "\
 Prints a line for each gap of the span in which nothing starts: its start, its end and its
 length in seconds, separated by tabs. A gap lasts from a job's start, or from --since, to
-the next job's start, or to --upto. agenda(1) describes the formats of the files.
+the next job's start, or to --upto. With --delays, it begins at the latest time of all
+starts before it. agenda(1) describes the formats of the files.
 
 Example:
   agenda quiet --since 2024-01-01T00:00:00Z --upto 2024-01-08T00:00:00Z \\
