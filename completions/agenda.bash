@@ -59,7 +59,7 @@ _agenda() {
     $split && return
 
     local sources='--zone= --event-zones --crontab= --system-crontab= --cron-d= --spool= --help'
-    local jobs="--keep-going $sources"
+    local jobs="--keep-going --delays $sources"
     case $command:$cur in
         :-*)
             mapfile -t COMPREPLY < <(compgen -W '--help --version' -- "$cur")

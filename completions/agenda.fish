@@ -53,6 +53,7 @@ complete -c agenda -n $quiet -l least -x -d 'The minimum length of a gap in seco
 
 set -l jobs '__fish_seen_subcommand_from plan upcoming quiet'
 complete -c agenda -n $jobs -l keep-going -d 'Skip what is invalid or can\'t be read, and report it'
+complete -c agenda -n $jobs -l delays -d 'Include the delays of timers'
 
 set -l sources '__fish_seen_subcommand_from plan upcoming quiet check'
 complete -c agenda -n $sources -l crontab -r -F -d 'A user\'s crontab'

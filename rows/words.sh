@@ -108,6 +108,8 @@ Options:
       --event-zones         Read events that end with a time zone, such as
                             'Mon..Fri 09:00 Europe/Berlin'
       --keep-going          Skip what is invalid or can't be read, and report it
+      --delays              Show each start with the latest time at which it may
+                            happen (RandomizedDelaySec= and AccuracySec=)
       --crontab <F>         A user's crontab, as 'crontab -l' prints it
       --system-crontab <F>  A crontab whose lines name a user, such as
                             /etc/crontab
@@ -127,7 +129,9 @@ Tuning (the output stays the same):
 Prints a header line with the span and the number of starts, then a line for each start:
 the time, the job's name and what it runs, separated by tabs. Lines are sorted by time.
 Jobs that start at the same time are in this order: the user's crontab, the system
-crontab, --cron-d, --spool, timers. agenda(1) describes the formats of the files.
+crontab, --cron-d, --spool, timers. With --delays, the latest time follows the time, and
+a start before --since is included if it may be delayed into the span. agenda(1) describes
+the formats of the files.
 
 Example:
   agenda plan --since 2024-01-01T00:00:00Z --upto 2024-01-02T00:00:00Z \
@@ -152,6 +156,8 @@ Options:
       --event-zones         Read events that end with a time zone, such as
                             'Mon..Fri 09:00 Europe/Berlin'
       --keep-going          Skip what is invalid or can't be read, and report it
+      --delays              Show each start with the latest time at which it may
+                            happen (RandomizedDelaySec= and AccuracySec=)
       --crontab <F>         A user's crontab, as 'crontab -l' prints it
       --system-crontab <F>  A crontab whose lines name a user, such as
                             /etc/crontab
@@ -163,8 +169,8 @@ Options:
 
 Prints a line for each job: the time of its next start, the job's name and what it runs,
 separated by tabs. Lines are sorted by time, then by job, as in plan. Jobs that don't
-start again before the year 3000 come last, with 'none' instead of a time. agenda(1)
-describes the formats of the files.
+start again before the year 3000 come last, with 'none' instead of a time. With --delays,
+the latest time follows the time. agenda(1) describes the formats of the files.
 
 Example:
   agenda upcoming --after 2024-01-01T00:00:00Z --crontab jobs backup.timer
@@ -190,6 +196,8 @@ Options:
       --event-zones         Read events that end with a time zone, such as
                             'Mon..Fri 09:00 Europe/Berlin'
       --keep-going          Skip what is invalid or can't be read, and report it
+      --delays              Show gaps in which no job may start, delays included
+                            (RandomizedDelaySec= and AccuracySec=)
       --crontab <F>         A user's crontab, as 'crontab -l' prints it
       --system-crontab <F>  A crontab whose lines name a user, such as
                             /etc/crontab
@@ -210,7 +218,8 @@ Tuning (the output stays the same):
 
 Prints a line for each gap of the span in which nothing starts: its start, its end and its
 length in seconds, separated by tabs. A gap lasts from a job's start, or from --since, to
-the next job's start, or to --upto. agenda(1) describes the formats of the files.
+the next job's start, or to --upto. With --delays, it begins at the latest time of all
+starts before it. agenda(1) describes the formats of the files.
 
 Example:
   agenda quiet --since 2024-01-01T00:00:00Z --upto 2024-01-08T00:00:00Z \
@@ -436,6 +445,7 @@ steps => error: the following required arguments were not provided:\n  <FILE>
 steps|a|b => error: unexpected argument 'b' found
 steps|--version => error: unexpected argument '--version' found
 steps|$after => error: unexpected argument '--after' found
+steps|--delays => error: unexpected argument '--delays' found
 explain|Zone|Full => error: unexpected argument 'Full' found
 explain|--version => error: unexpected argument '--version' found
 explain|$after => error: unexpected argument '--after' found
@@ -445,6 +455,7 @@ next|--version => error: unexpected argument '--version' found
 next|$after|--cron => error: a value is required for '--cron <TEXT>' but none was supplied
 next|$after|$cron|daily => error: unexpected argument 'daily' found
 next|$after|$cron|--least=1 => error: unexpected argument '--least' found
+next|$after|$cron|--delays => error: unexpected argument '--delays' found
 next|$after|$cron|--count|-1 => error: unexpected argument '-1' found
 next|$after|$cron|--count|4294967296 => error: invalid value '4294967296' for '--count <N>': 4294967296 is not in 0..=4294967295
 next|$after|$cron|$cron => error: the argument '--cron <TEXT>' cannot be used multiple times
@@ -469,6 +480,7 @@ plan|$span|--count=1 => error: unexpected argument '--count' found
 plan|$span|--after=x => error: unexpected argument '--after' found
 plan|$span|--least=1 => error: unexpected argument '--least' found
 plan|$span|--since=x => error: the argument '--since <T>' cannot be used multiple times
+plan|$span|--delays|--delays => error: the argument '--delays' cannot be used multiple times
 plan|$span|--crontab=a|--crontab=b => error: the argument '--crontab <F>' cannot be used multiple times
 plan|$span|--cron-d => error: a value is required for '--cron-d <F>' but none was supplied
 plan|$span|--spool=a|--spool => error: a value is required for '--spool <F>' but none was supplied
@@ -484,6 +496,7 @@ words_begin_usage_of_upcoming_and_quiet() {
 upcoming => $missing\n  --after <T>
 upcoming|--crontab|jobs|a.timer => $missing\n  --after <T>
 upcoming|$after|--after=x => error: the argument '--after <T>' cannot be used multiple times
+upcoming|$after|--delays|--delays => error: the argument '--delays' cannot be used multiple times
 upcoming|$after|--crontab=a|--crontab=b => error: the argument '--crontab <F>' cannot be used multiple times
 upcoming|$after|--cron-d => error: a value is required for '--cron-d <F>' but none was supplied
 upcoming|$after|--count=1 => error: unexpected argument '--count' found
@@ -510,6 +523,7 @@ quiet|$span|--planners=x => error: invalid value 'x' for '--planners <N>': inval
 quiet|$span|--room=-1 => error: invalid value '-1' for '--room <N>': -1 is not in 0..=4294967295
 quiet|$span|--limit=4294967296 => error: invalid value '4294967296' for '--limit <N>': 4294967296 is not in 0..=4294967295
 quiet|$span|--since=x => error: the argument '--since <T>' cannot be used multiple times
+quiet|$span|--delays|--delays => error: the argument '--delays' cannot be used multiple times
 quiet|$span|--spool=a|--spool => error: a value is required for '--spool <F>' but none was supplied
 quiet|$span|--count=1 => error: unexpected argument '--count' found
 quiet|$span|--after=x => error: unexpected argument '--after' found
@@ -518,7 +532,7 @@ quiet|$span|--version => error: unexpected argument '--version' found
 END
 }
 
-# What check doesn't take: a moment, a span, sizes and limits.
+# What check doesn't take: a moment, a span, delays, sizes and limits.
 words_begin_usage_of_check() {
   words_begin_usage <<END
 check|--crontab=a|--crontab=b => error: the argument '--crontab <F>' cannot be used multiple times
@@ -533,6 +547,7 @@ check|--least=1 => error: unexpected argument '--least' found
 check|--planners=1 => error: unexpected argument '--planners' found
 check|--room=1 => error: unexpected argument '--room' found
 check|--limit=1 => error: unexpected argument '--limit' found
+check|--delays => error: unexpected argument '--delays' found
 check|--cron=@daily => error: unexpected argument '--cron' found
 check|--calendar=daily => error: unexpected argument '--calendar' found
 check|--version => error: unexpected argument '--version' found
@@ -720,6 +735,21 @@ END
   done
 }
 
+# The word after `--delays` is not a value of it: here it is a timer or another option. The timer has the delay that is the default, a minute.
+words_ask_for_delays() {
+  local span="--since|2024-01-01T00:00:00Z|--upto|2024-01-02T00:00:00Z" start="2024-01-01T00:00:00Z" noon="2024-01-01T12:00:00Z"
+  words_ask_for_text "plan|--delays|b.timer|$span" <<END
+agenda 3|$start|2024-01-02T00:00:00Z|2
+$start|2024-01-01T00:01:00Z|b.timer|b.service
+$noon|2024-01-01T12:01:00Z|b.timer|b.service
+END
+  words_ask_for_text "upcoming|--delays|b.timer|--after|$start" <<<"$noon|2024-01-01T12:01:00Z|b.timer|b.service"
+  words_ask_for_text "quiet|b.timer|--delays|$span" <<END
+2024-01-01T00:01:00Z|$noon|43140
+2024-01-01T12:01:00Z|2024-01-02T00:00:00Z|43140
+END
+}
+
 # The words $1 ask for what is wrong with the files, which is that of standard input.
 words_ask_for_findings() {
   cat >"$work/words/answer"
@@ -795,6 +825,7 @@ words_ask_for_sources
 words_ask_for_timers
 words_ask_for_upcoming
 words_ask_for_quiet
+words_ask_for_delays
 words_ask_for_check
 words_ask_for_sizes
 words_ask_for_limit 10000 ''
