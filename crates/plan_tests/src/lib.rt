@@ -9,6 +9,8 @@
 #[cfg(test)]
 mod collector;
 #[cfg(test)]
+mod delays;
+#[cfg(test)]
 mod ends;
 #[cfg(test)]
 mod locks;
