@@ -113,6 +113,19 @@ quiet --since 1970-01-01T00:00:00Z --upto 3000-01-01T00:00:00Z years.timer|
 upcoming --after 2024-06-01T00:00:00Z years.timer|2025-01-01T00:00:00Z 3000-01-01T00:00:00Z years.timer years.service
 upcoming --after 2999-06-01T00:00:00Z years.timer|none none years.timer years.service
 ROWS
+  delays_timer seconds '*:*:*' RandomizedDelaySec=infinity
+  delays_rows <<'ROWS'
+upcoming --after @00:00:00Z seconds.timer|@00:00:01Z 3000-01-01T00:00:00Z seconds.timer seconds.service
+ROWS
+  delays_refused <<'ROWS'
+plan span --limit 1000000 seconds.timer|plan: TooMany
+quiet span seconds.timer|plan: TooMany
+plan --since 1970-01-01T02:46:39Z --upto 1970-01-01T02:46:40Z --limit 9999 seconds.timer|plan: TooMany
+ROWS
+  seq 0 9999 | awk '{ printf "1970-01-01T%02d:%02d:%02dZ\t3000-01-01T00:00:00Z\tseconds.timer\tseconds.service\n", int($1 / 3600), int($1 % 3600 / 60), $1 % 60 }' \
+    >"$work/lines.wanted"
+  delays_run "plan --since 1970-01-01T02:46:39Z --upto 1970-01-01T02:46:40Z --limit 10000 seconds.timer"
+  delays_compare 0
   delays_refused <<ROWS
 plan $june --limit 54 years.timer|plan: TooMany
 quiet $june --limit 54 years.timer|plan: TooMany

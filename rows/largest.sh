@@ -90,6 +90,36 @@ largest_resets() {
   largest_text "200,000 events that are reset each, of 5,800,008 bytes" reset.timer "agenda: reset.timer: line 0: TooLarge"
 }
 
+# Makes a timer of 1,048,576 bytes whose time span is standard input, from which the newlines are removed.
+largest_span_file() {
+  { printf '[Timer]\nOnCalendar=2024-1-1\nRandomizedDelaySec=' && tr -d '\n'; } | largest_file span.timer 1048576
+}
+
+# Plans the timer span.timer, whose only start is at most at the time $2. $1 is the name of the row.
+largest_span() {
+  [ "$(stat -c %s "$largest_folder/span.timer")" = 1048576 ] || tell "$(stat -c %s "$largest_folder/span.timer") bytes"
+  count "the size of $1"
+  largest_run span.timer 1 plan --delays "${largest_day[@]}" span.timer
+  compare_lines "$1" "$largest_since$tab$2${tab}span.timer${tab}span.service"$'\n'
+}
+
+# Time spans of 1,048,529 bytes: zeros, digits that are too many, pairs, a fraction, and blanks. The accuracy is a
+# minute.
+largest_spans() {
+  yes 0 | largest_span_file
+  largest_span "a time span of 1,048,529 zeros" 2024-01-01T00:01:00Z
+  yes 1 | largest_span_file
+  largest_span "a time span of 1,048,529 digits" 2024-01-01T00:01:00Z
+  yes 1s | largest_span_file
+  largest_span "a time span of 524,265 seconds" 2024-01-07T01:38:45Z
+  { echo 0. && yes 1; } | largest_span_file
+  largest_span "a time span of 1,048,527 digits after the point" 2024-01-01T00:01:01Z
+  { echo 1 && yes ' ' | head -n 1048527 && echo h; } | largest_span_file
+  largest_span "a time span of 1,048,527 blanks" 2024-01-01T01:01:00Z
+  { printf '[Timer]\nOnCalendar=2024-1-1\nRandomizedDelaySec=7' && yes $'\nRandomizedDelaySec=1s' | tr -s '\n'; } | largest_file span.timer 1048576
+  largest_span "47,661 time spans" 2024-01-01T00:01:01Z
+}
+
 # Lines that are continued: the text after all of them, and the number of the first.
 largest_continued() {
   { printf '[Timer]\nOnCalendar=\\\n' && yes $'\\' | head -n 400000 && echo daily; } | largest_file on.timer 1048576
@@ -183,6 +213,10 @@ largest_quotes() {
   largest_run on.timer 0 check on.timer
   compare_texts "check of an event of 1,048,557 digits" \
     "on.timer:2: error: '$quoted'... is not a calendar event [WrongParts]"$'\n' '' 1
+  { printf '[Timer]\nOnCalendar=daily\nAccuracySec=' && yes 1 | tr -d '\n'; } | largest_file on.timer 1048576
+  largest_run on.timer 0 check on.timer
+  compare_texts "check of a time span of 1,048,539 digits" \
+    "on.timer:3: warning: '$quoted'... is not a time span [BadDelay]"$'\n' '' 0
   { printf '[Timer]\nOnCalendar=\\\n' && yes $'\\' | head -n 400000 && echo 25:00; } | largest_file on.timer 1048576
   largest_run on.timer 0 check on.timer
   compare_texts "check of 400,000 lines that go on, and a faulty hour" \
@@ -239,6 +273,7 @@ largest_agendas() {
   local planners
   yes '* * * * * x' | head -n 1000 >"$largest_folder/minutes"
   printf '[Timer]\nOnCalendar=*:*:*\n' >"$largest_folder/s.timer"
+  printf '[Timer]\nOnCalendar=*:*:*\nRandomizedDelaySec=infinity\n' >"$largest_folder/late.timer"
   seq -f "$largest_since${tab}cron:%.0f${tab}x" 1000 >"$work/agenda.wanted"
   largest_run minutes 1000 plan --since "$largest_since" --upto 2024-01-01T00:01:00Z --limit 1000 --planners 8 --room 1 --crontab minutes
   compare_agenda "1,000 jobs of a minute by 8 planners, room 1, limit 1,000" "$work/agenda.wanted"
@@ -259,6 +294,8 @@ largest_agendas() {
 2024-01-01T16:40:00Z|1000001|--crontab minutes|BadLimit
 2024-01-02T00:00:00Z|86399|s.timer|TooMany
 2024-01-02T00:00:00Z|10000|s.timer|TooMany
+2024-01-01T00:00:01Z|10000|--delays late.timer|TooMany
+2024-01-01T00:00:01Z|1000000|--delays late.timer|TooMany
 ROWS
   largest_run s.timer 10000 plan "${largest_day[@]}" s.timer
   is_refused "a start each second, and the limit that is not given" "plan: TooMany" 1
@@ -293,6 +330,7 @@ largest_bound() {
 largest_newlines
 largest_lines
 largest_resets
+largest_spans
 largest_continued
 largest_jobs
 largest_files
