@@ -99,6 +99,38 @@ delays_by_planners() {
   done
 }
 
+# Prints the gaps of at least $1 seconds in the agenda on standard input, whose times are from December 2023 to January 2024.
+delays_gaps() {
+  awk -F '\t' -v least="$1" '
+    function seconds(time) {
+      return (substr(time, 9, 2) - (time < "2024" ? 31 : 0)) * 86400 + substr(time, 12, 2) * 3600 + substr(time, 15, 2) * 60 + substr(time, 18, 2)
+    }
+    function tell(time, gap) {
+      gap = seconds(time) - seconds(reach)
+      if (gap >= least) printf "%s\t%s\t%d\n", reach, time, gap
+    }
+    NR == 1 { reach = $2; upto = $3; next }
+    { tell($1) }
+    $2 > reach { reach = $2 }
+    END { tell(upto) }'
+}
+
+# Rows from standard input: a span and sources. The gaps are those that the agenda of the same sources leaves.
+delays_as_plan() {
+  local written least
+  while IFS= read -r written; do
+    delays_run "plan $written"
+    cp -- "$work/out" "$work/agenda"
+    [ "$(wc -l <"$work/agenda")" -gt 20 ] || tell "$(wc -l <"$work/agenda") lines"
+    count "delays: the agenda of $written"
+    for least in 1 600 1800 7200; do
+      delays_gaps "$least" <"$work/agenda" >"$work/lines.wanted"
+      delays_run "quiet $written --least $least"
+      delays_compare 0
+    done
+  done
+}
+
 # A delay without an end: each start since 1970 may fall into the span, and counts for the limit.
 delays_without_end() {
   local year june='--since 2024-06-01T00:00:00Z --upto 2024-06-02T00:00:00Z'
@@ -230,6 +262,18 @@ quiet span day.timer|
 quiet span --least 1 day.timer|
 quiet --since @00:00:00Z --upto 2024-01-02T00:00:01Z --least 1 day.timer|
 quiet span --crontab seven --crontab later|@00:00:00Z @07:00:00Z 25200;@07:00:00Z @07:30:00Z 1800;@07:30:00Z + 59400
+ROWS
+
+# The gaps are those that the lines of a plan leave.
+delays_timer three '0/3:20' 'RandomizedDelaySec=40min\nAccuracySec=1us'
+delays_timer quarters '9..17:0/15' 'RandomizedDelaySec=7min 30s\nAccuracySec=0'
+delays_timer weekly 'Wed,Sat 04:10' 'RandomizedDelaySec=7h'
+delays_file work '5 0-8/2 * * * a\n0 12 * * 1-5 b\n*/7 22 * * * c\n'
+delays_as_plan <<'ROWS'
+--since @00:00:00Z --upto 2024-01-03T00:00:00Z three.timer quarters.timer weekly.timer --crontab work
+--since @00:10:30Z --upto 2024-01-08T12:00:00Z three.timer weekly.timer inner.timer b.timer
+--since 2023-12-29T23:59:59Z --upto @09:07:15Z quarters.timer hour.timer over.timer --crontab work --planners 8 --room 1
+--since @00:00:00Z --upto 2024-01-29T00:00:00Z hour.timer weekly.timer --crontab seven
 ROWS
 
 # The limit counts the starts before the span, too.
