@@ -1,6 +1,7 @@
 pub mod StampLemmas
 pub mod QuietLemmas
 pub mod QuietLaws
+pub mod QuietRows
 pub mod NominalLaws
 pub mod NextLemmas
 pub mod ReplyRows

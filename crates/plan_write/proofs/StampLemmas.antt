@@ -1,43 +1,52 @@
--- The text of a time is that of its date and that of its time of day: for `change` of `Stamp`.
-use Rattle.std.proofs.Common.{◌≡◌, ℕ, ◌/◌, ◌%◌, List, ◌++◌, take, drop, pos, refl, ap, ◌∙◌, sym}
+-- The text of a time becomes that of another one of the same day, if the digits of its hour, minute and second are replaced; and
+-- of the same minute, if those of its second are. For `change` of `Stamp`.
+use Rattle.std.proofs.Common.{◌≡◌, ℕ, ◌+◌, ◌*◌, ◌/◌, ◌%◌, ◌<◌, List, ◌++◌, take, drop, pos, refl, ap, ◌∙◌, sym, arith, codes}
 use Rattle.plan_sets.specs.Limits.{first_year, seconds_a_day}
 use Rattle.plan_sets.specs.Civil.{civil_fields, year_and_day, month_and_day}
-use Rattle.plan_sets.specs.Moment.{moment_text_of, written_text}
-use Rattle.plan_write.specs.Stamp.{stamp_text, time_text_of}
+use Rattle.plan_sets.specs.Moment.{moment_text_of, two_digits, written_text}
+use Rattle.plan_write.specs.Stamp.{stamp_text}
 
--- the date of a day, by its number, and the `T` after it
-abbrev date_text : ℕ → List ℕ
-date_text days =
-    let in_year = year_and_day days first_year days in
+-- a text whose digits of two places from this one on are replaced
+abbrev pub replaced : (place : ℕ) → (digits : ℕ) → List ℕ → List ℕ
+replaced place digits text = take place text ++ (two_digits digits ++ drop 2 (drop place text))
+
+-- the text of a time by the number of its day, its hour, its minute and its second, and a tab
+abbrev text_of : (day hour minute second : ℕ) → List ℕ
+text_of day hour minute second =
+    let in_year = year_and_day day first_year day in
     let in_month = month_and_day 11 (pos in_year.0) 1 in_year.1 in
-    take 11 (written_text (record {
+    written_text (record {
       year = in_year.0;
       month = in_month.0;
       day = in_month.1;
-      hour = 0;
-      minute = 0;
-      second = 0;
-    }))
-
-date_first : (n : ℕ) → take 11 (stamp_text n) ≡ date_text (n / seconds_a_day)
-unfolding moment_text_of civil_fields
-date_first n = refl
+      hour = hour;
+      minute = minute;
+      second = second;
+    }) ++ codes "\t"
 
 in_parts :
-    (n : ℕ) → stamp_text n ≡ date_text (n / seconds_a_day) ++ (time_text_of (n % seconds_a_day) ++ drop 9 (drop 11 (stamp_text n)))
+    (n : ℕ) →
+    stamp_text n ≡ text_of (n / seconds_a_day) (n % seconds_a_day / 3600) (n % seconds_a_day / 60 % 60) (n % seconds_a_day % 60)
 unfolding moment_text_of civil_fields
 in_parts n = refl
 
-tab_last : (n m : ℕ) → drop 9 (drop 11 (stamp_text n)) ≡ drop 9 (drop 11 (stamp_text m))
-unfolding moment_text_of civil_fields
-tab_last n m = refl
+-- the text of a time becomes that of another one of the same minute, if its second is replaced
+pub other_second :
+    (n m place : ℕ) (text : List ℕ) → text ≡ stamp_text n → n / 60 * 60 + place ≡ m → place < 60 →
+    replaced 17 place text ≡ stamp_text m
+other_second n m place text is here before =
+    let day : n / seconds_a_day ≡ m / seconds_a_day = omega (arith, here, before) in
+    let hour : n % seconds_a_day / 3600 ≡ m % seconds_a_day / 3600 = omega (arith, here, before) in
+    let minute : n % seconds_a_day / 60 % 60 ≡ m % seconds_a_day / 60 % 60 = omega (arith, here, before) in
+    let second : place ≡ m % seconds_a_day % 60 = omega (arith, here, before) in
+    ap (replaced 17 place) (is ∙ in_parts n) ∙ (λ i. text_of (day i) (hour i) (minute i) (second i)) ∙ sym (in_parts m)
 
--- the text of a time becomes that of another one of the same day, if its time of day is replaced
+-- the text of a time becomes that of another one of the same day, if its hour, its minute and its second are replaced
 pub other_time :
-    (n m : ℕ) (text : List ℕ) → text ≡ stamp_text n → n / seconds_a_day ≡ m / seconds_a_day →
-    take 11 text ++ (time_text_of (m % seconds_a_day) ++ drop 9 (drop 11 text)) ≡ stamp_text m
-other_time n m text is day =
-    (λ i. take 11 (is i) ++ (time_text_of (m % seconds_a_day) ++ drop 9 (drop 11 (is i))))
-    ∙ ap (λ front. front ++ (time_text_of (m % seconds_a_day) ++ drop 9 (drop 11 (stamp_text n)))) (date_first n ∙ ap date_text day)
-    ∙ ap (λ end. date_text (m / seconds_a_day) ++ (time_text_of (m % seconds_a_day) ++ end)) (tab_last n m)
-    ∙ sym (in_parts m)
+    (n m time : ℕ) (text : List ℕ) → text ≡ stamp_text n → n / seconds_a_day * seconds_a_day + time ≡ m → time < seconds_a_day →
+    replaced 17 (time % 60) (replaced 14 (time / 60 % 60) (replaced 11 (time / 3600) text)) ≡ stamp_text m
+other_time n m time text is here before =
+    let day : n / seconds_a_day ≡ m / seconds_a_day = omega (arith, here, before) in
+    let of_day : time ≡ m % seconds_a_day = omega (arith, here, before) in
+    ap (λ old. replaced 17 (time % 60) (replaced 14 (time / 60 % 60) (replaced 11 (time / 3600) old))) (is ∙ in_parts n)
+    ∙ (λ i. text_of (day i) (of_day i / 3600) (of_day i / 60 % 60) (of_day i % 60)) ∙ sym (in_parts m)

@@ -9,7 +9,7 @@ use Rattle.plan_collect.specs.Span.{Bounds}
 use Rattle.plan_collect.specs.Agenda.{Planned, planned, rules_of}
 use Rattle.plan_collect.specs.Windows.{planned_windows, timings_of}
 
--- the delay of a job, if there is such a job
+-- the delay of a job, or 0 if there is no such job
 abbrev pub delay_of : Option JobParts → ℕ
 delay_of None = 0
 delay_of (Some job) = job.delay

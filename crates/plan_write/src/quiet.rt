@@ -16,10 +16,11 @@ use plan_streams::{Stream, TextWriter, WriteFault};
 
 /// Writes the gaps of an agenda of these jobs that last at least `least` seconds: one line for each, in order.
 ///
-/// A gap is a time in which nothing may start: it starts at the latest start for each earlier entry, and ends
-/// at the next entry. It may also start with the span, or end with it. A line has the time of its start, the
-/// time of its end, and the seconds between them, in decimal, with tabs between the three. A gap has at least 1
-/// second, also if `least` is 0. This requests no memory. The stream is flushed once, at the end.
+/// A gap is a part of the span in which nothing may start: from the last second at which an earlier entry may
+/// start to the time of the next entry. The first gap may start with the span, and the last one may end with it.
+/// A line has the start of the gap, its end, and the seconds between them, in decimal, with tabs between the
+/// three. A gap has at least 1 second, also if `least` is 0. This requests no memory. The stream is flushed
+/// once, at the end.
 ///
 /// # Errors
 ///
@@ -73,8 +74,9 @@ fn put_gap<S: Stream>(from: u64, to: u64, least: u64, lines: &mut TextWriter<'_,
     lines.put_both(Digits::new().format(seconds).as_bytes(), b"\n");
 }
 
-/// States the law of gaps: no job may start within a gap of an agenda, as `write_quiet` writes them, at any
-/// second from one of its starts to the latest start for it. The start and the end of a gap don't belong to it.
+/// States the law of gaps: no job may start within a gap of an agenda, as `write_quiet` writes them. A job may
+/// start at each second from a time of its rule to that time and its delay. The start and the end of a gap don't
+/// belong to it.
 ///
 /// The function does nothing: its contract is the law.
 pub fn nothing_starts_in_gaps()

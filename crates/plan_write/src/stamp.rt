@@ -1,31 +1,38 @@
 //! The text of a time, made once for all entries that show it.
 
-ghost use Rattle.std.specs.Prelude.{◌≡◌, ◌<◌, ◌≤◌};
-ghost use Rattle.plan_sets.specs.Limits.{end_second, seconds_a_day};
+ghost use Rattle.std.specs.Prelude.{◌≡◌, ◌<◌, ◌≤◌, ◌+◌, ◌⊎◌, IfSome, IfNone};
+ghost use Rattle.plan_sets.specs.Limits.{end_second};
 ghost use Rattle.plan_sets.specs.Moment.{two_digits};
-ghost use Rattle.plan_write.specs.Stamp.{stamp_text, time_text_of};
+ghost use Rattle.plan_write.specs.Stamp.{stamp_text};
 
 use plan_sets::{SECONDS_A_DAY, moment_text};
 use std::marker::Model;
 
 /// A second, at most `END_SECOND`, with its text and a tab. The text is made once for all entries of the
-/// second, and its date once for all entries of the day.
+/// second, its hour and minute once for all entries of the minute, and its date once for all of the day.
 #[derive(Drop)]
 pub(crate) struct Stamp {
     second: u64,
+    // The first second of its minute.
+    minute: u64,
+    // The first second of its day.
+    midnight: u64,
     text: [u8; 21],
 }
 
 impl Model for Stamp {
-    ghost use Rattle.std.specs.Prelude.{◌≡◌, ◌≤◌, ℕ};
-    ghost use Rattle.plan_sets.specs.Limits.{end_second};
+    ghost use Rattle.std.specs.Prelude.{◌≡◌, ◌≤◌, ◌*◌, ◌/◌, ℕ};
+    ghost use Rattle.plan_sets.specs.Limits.{end_second, seconds_a_day};
     ghost use Rattle.plan_write.specs.Stamp.{stamp_text};
 
     ghost Value = { ℕ };
 
     ghost view = { λ stamp. stamp.second };
 
-    ghost invariant = { λ stamp. (stamp.second ≤ end_second) × (stamp.text ≡ stamp_text stamp.second) };
+    ghost invariant = { λ stamp. (stamp.second ≤ end_second)
+        × (stamp.minute ≡ stamp.second / 60 * 60)
+        × (stamp.midnight ≡ stamp.second / seconds_a_day * seconds_a_day)
+        × (stamp.text ≡ stamp_text stamp.second) };
 }
 
 impl Stamp {
@@ -36,7 +43,12 @@ impl Stamp {
     {
         let mut text = [b'\t'; 21];
         text[..20].copy_from_slice(&moment_text(second));
-        Stamp { second, text }
+        Stamp {
+            second,
+            minute: second / 60 * 60,
+            midnight: second / SECONDS_A_DAY * SECONDS_A_DAY,
+            text,
+        }
     }
 
     /// Changes the stamp to that of a second.
@@ -50,14 +62,21 @@ impl Stamp {
         }
     }
 
-    // Changes the stamp to that of another second. On the same day only the time of day changes.
+    // Changes the stamp to that of another second. In the same minute only the digits of its seconds change, and
+    // on the same day only the time of day.
     #[inline(never)]
     fn change(&mut self, second: u64)
         requires { second ≤ end_second }
         ensures { self.new ≡ second }
     {
-        if second / SECONDS_A_DAY == self.second / SECONDS_A_DAY {
-            self.text[11..20].copy_from_slice(&time_text(second % SECONDS_A_DAY));
+        if let Some(seconds) = place_in(self.minute, 60, second) {
+            self.text[17..19].copy_from_slice(&digits(seconds));
+            self.second = second;
+        } else if let Some(time) = place_in(self.midnight, SECONDS_A_DAY, second) {
+            self.text[11..13].copy_from_slice(&digits(time / 3_600));
+            self.text[14..16].copy_from_slice(&digits(time / 60 % 60));
+            self.text[17..19].copy_from_slice(&digits(time % 60));
+            self.minute = second - time % 60;
             self.second = second;
         } else {
             *self = Stamp::new(second);
@@ -82,15 +101,17 @@ impl Stamp {
     }
 }
 
-// Returns the text of a time of day, which is given in seconds.
-fn time_text(time: u64) -> [u8; 9]
-    requires { time < seconds_a_day }
-    ensures { result ≡ time_text_of time }
+// Returns the place of a second, from 0, in the `length` seconds from `start` on, or `None` if it isn't one of
+// them.
+#[inline(always)]
+fn place_in(start: u64, length: u64, second: u64) -> Option<u64>
+    ensures within { IfSome result (λ place. (start + place ≡ second) × (place < length)) }
+    ensures outside { IfNone result ((second < start) ⊎ (start + length ≤ second)) }
 {
-    let [h1, h2] = digits(time / 3_600);
-    let [m1, m2] = digits(time / 60 % 60);
-    let [s1, s2] = digits(time % 60);
-    [h1, h2, b':', m1, m2, b':', s1, s2, b'Z']
+    if second < start || length <= second - start {
+        return None;
+    }
+    Some(second - start)
 }
 
 // Returns the two decimal digits of a number below 100.
