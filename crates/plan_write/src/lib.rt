@@ -1,6 +1,8 @@
 //! The texts of the answers: of agendas, their gaps, the next starts of jobs and of one rule, findings, what a plan
 //! skips, and the replies of a mailbox.
 //!
+//! Agendas and next starts have a second text, which shows the latest starts too: for jobs that have delays.
+//!
 //! The agendas come from plan_collect, the jobs from plan_rules and the findings from agenda_sources. Each text
 //! goes to a stream by a `TextWriter` of plan_streams. Read `agenda` first. Each other module has the text that
 //! it is named after.

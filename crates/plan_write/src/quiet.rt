@@ -3,7 +3,7 @@
 ghost use Rattle.std.specs.Prelude.{◌≡◌, ◌≤◌, slice_get};
 ghost use Rattle.plan_sets.specs.Limits.{end_second};
 ghost use Rattle.plan_collect.specs.Windows.{latest_start};
-ghost use Rattle.plan_write.specs.Quiet.{NominalGapsAreOfMarks, NothingStartsInGaps, delay_of, line_of_gap, quiet_text};
+ghost use Rattle.plan_write.specs.Quiet.{NominalGapsAreOfMarks, NothingStartsInGaps, delay_of, gap_line, line_of_gap, quiet_text};
 ghost use Rattle.plan_streams.specs.Stream.{Puts};
 ghost use Rattle.plan_streams.specs.Writer.{Takes};
 
@@ -60,6 +60,7 @@ fn latest_start_of(entry: Start, jobs: &Jobs) -> u64
 }
 
 // Puts the line of the gap between two times, if it is a gap and long enough.
+#[inline(always)]
 fn put_gap<S: Stream>(from: u64, to: u64, least: u64, lines: &mut TextWriter<'_, S>)
     requires from { from ≤ end_second }
     requires to { to ≤ end_second }
@@ -69,9 +70,22 @@ fn put_gap<S: Stream>(from: u64, to: u64, least: u64, lines: &mut TextWriter<'_,
     if seconds == 0 || seconds < least {
         return;
     }
+    put_gap_line(from, to, lines);
+}
+
+// Puts the line of a gap.
+#[inline(never)]
+fn put_gap_line<S: Stream>(from: u64, to: u64, lines: &mut TextWriter<'_, S>)
+    requires from { from ≤ end_second }
+    requires to { to ≤ end_second }
+    ensures { Takes S.holds S.takes_all lines.old lines.new (gap_line (from, to)) }
+{
     lines.put_both(&moment_text(from), b"\t");
     lines.put_both(&moment_text(to), b"\t");
-    lines.put_both(Digits::new().format(seconds).as_bytes(), b"\n");
+    lines.put_both(
+        Digits::new().format(to.saturating_sub(from)).as_bytes(),
+        b"\n",
+    );
 }
 
 /// States the law of gaps: no job may start within a gap of an agenda, as `write_quiet` writes them. A job may
