@@ -10,8 +10,8 @@
 //!   of them. It does so TIMES times.
 //! - `piece TIMES UPTO SOURCE` searches for a piece of that job's starts before the second UPTO, and finds how many
 //!   there are. It does so TIMES times.
-//! - `plan LIMIT SECONDS SOURCE` plans its jobs in one thread, and finds how many starts there are, or 0 if that is
-//!   more than the limit.
+//! - `plan LIMIT SECONDS SOURCE` plans its jobs in one thread, without their delays, and finds how many starts there
+//!   are, or 0 if that is more than the limit.
 //! - `ring COUNT ROOM -` and `lock COUNT ROOM -` send COUNT messages from one thread to another, with a capacity of
 //!   ROOM messages, and find how many arrived.
 //!
