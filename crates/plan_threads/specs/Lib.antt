@@ -4,6 +4,7 @@ pub use Rattle.plan_collect.specs.Windows
 pub use Rattle.plan_mailbox.specs.Ends
 pub use Rattle.plan_mailbox.specs.History
 pub mod Gathering
+pub mod Pausing
 pub mod Promise
 pub mod Sending
 pub mod Task

@@ -1,10 +1,10 @@
 //! A plan by several planners, each in its own thread.
 
-ghost use Rattle.std.specs.Prelude.{◌≡◌, ◌<◌, false, [], length, IfOk, IfErr, vec_len};
+ghost use Rattle.std.specs.Prelude.{◌≡◌, ◌<◌, false, [], length, All, IfOk, IfErr, vec_len};
 ghost use Rattle.plan_collect.specs.Agenda.{IsOfJobs};
 ghost use Rattle.plan_collect.specs.Planning.{Gives, plan_answer, valid_sizes};
 ghost use Rattle.plan_collect.specs.Windows.{timings_of};
-ghost use Rattle.plan_mailbox.specs.Ends.{inlet_of, outlet_of, receipt_of};
+ghost use Rattle.plan_mailbox.specs.Ends.{free_of, inlet_of, outlet_of, receipt_of};
 ghost use Rattle.plan_threads.specs.Gathering.{AreFresh, IsGathering};
 ghost use Rattle.plan_threads.specs.Task.{all_notes, answer_of, parts_of};
 
@@ -109,10 +109,11 @@ fn run_threads<R: Threads + Wait + Sync, G: Gate>(
     )
 }
 
-// Makes the outlets of the planners, and a desk at which nothing has arrived.
+// Makes the outlets of the planners, each with its whole capacity free, and a desk at which nothing has arrived.
 fn set_up(alloc: Global, jobs: &Jobs, task: &Task) -> Result<(Vec<Outlet<Note>>, Desk), PlanFault>
     ensures outlets { IfOk result (λ made. AreFresh (inlet_of made.1.inlet).rings 0 made.0.items) }
     ensures as_many { IfOk result (λ made. vec_len made.0 ≡ task.now.sizes.planners) }
+    ensures room { IfOk result (λ made. All (λ outlet. free_of outlet ≡ task.now.sizes.room) made.0.items) }
     ensures gathers { IfOk result (λ made. IsGathering (parts_of jobs.now task.now) made.1) }
     ensures memory { IfErr result (λ fault. fault ≡ PlanFault.NoMemory) }
 {
