@@ -8,10 +8,10 @@ use agenda_faults::{Failure, RunFault, fault_line};
 use plan_collect::Span;
 use plan_mailbox::{Core, Inlet, Outlet, Post, Reply, Rings};
 use plan_next::{next_from, next_start};
-use plan_rules::{EventZones, Jobs, Kind, Rule, calendar_rule, cron_rule, crontab};
+use plan_rules::{EventZones, Jobs, Kind, Rule, calendar_rule, cron_rule, crontab, timer};
 use plan_serial::plan_serial;
 use plan_sets::civil_of;
-use plan_write::{LineEnds, write_agenda};
+use plan_write::{LineEnds, write_agenda, write_delayed_agenda};
 use std::alloc::Global;
 use std::io;
 use std::io::Write;
@@ -124,6 +124,14 @@ impl Write for Lines {
     }
 }
 
+// Returns a writer that has no bytes.
+fn no_lines() -> Lines {
+    Lines {
+        bytes: [0; 128],
+        len: 0,
+    }
+}
+
 // Checks that a writer has these bytes.
 fn assert_lines(rt: &impl Abort, lines: &Lines, text: &str) {
     assert!(rt; lines.bytes.get(..lines.len) == Some(text.as_bytes()));
@@ -137,16 +145,7 @@ fn an_agenda_is_written(rt: HostRuntime) -> Result<(), Fail> {
     }
     let agenda = plan_serial(rt.alloc(), &jobs, Span::new(0, 86_400)?, 10)?;
     let line_ends = LineEnds::new(rt.alloc(), &jobs)?;
-    let (mut out, mut err) = (
-        Lines {
-            bytes: [0; 128],
-            len: 0,
-        },
-        Lines {
-            bytes: [0; 128],
-            len: 0,
-        },
-    );
+    let (mut out, mut err) = (no_lines(), no_lines());
     let ended = ends(rt.alloc());
     let span = Span::new(5, 86_400).expect(&rt, "a span");
     assert!(rt; span.since() == 5 && span.upto() == 86_400);
@@ -158,6 +157,30 @@ fn an_agenda_is_written(rt: HostRuntime) -> Result<(), Fail> {
     assert_lines(&rt, &out, text);
     assert!(rt; fault_line(&Failure::Run(RunFault::NoMemory), &[], &mut err) == 3);
     assert_lines(&rt, &err, "agenda: NoMemory\n");
+    assert_ended(&rt, ended);
+    Ok(())
+}
+
+// A timer may start up to a minute late if it has no other accuracy.
+#[test]
+fn a_delayed_agenda_is_written(rt: HostRuntime) -> Result<(), Fail> {
+    let mut jobs = Jobs::new(rt.alloc());
+    let zones = EventZones::utc_alone();
+    let daily = timer(
+        rt.alloc(),
+        "b.timer",
+        b"[Timer]\nOnCalendar=daily\n",
+        &zones,
+    )?;
+    jobs.add(daily)?;
+    let agenda = plan_serial(rt.alloc(), &jobs, Span::new(0, 86_400)?, 10)?;
+    let line_ends = LineEnds::new(rt.alloc(), &jobs)?;
+    let mut out = no_lines();
+    let ended = ends(rt.alloc());
+    assert!(rt; write_delayed_agenda(&agenda, &line_ends, &mut out).is_ok());
+    let text = "agenda 3\t1970-01-01T00:00:00Z\t1970-01-02T00:00:00Z\t1\n\
+        1970-01-01T00:00:00Z\t1970-01-01T00:01:00Z\tb.timer\tb.service\n";
+    assert_lines(&rt, &out, text);
     assert_ended(&rt, ended);
     Ok(())
 }
