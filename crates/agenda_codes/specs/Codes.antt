@@ -24,8 +24,8 @@ use Rattle.agenda_codes.specs.declared.texts.warnings.TheConstants.{NO_EVENTS, P
 
 -- all codes, in the order of their names
 unfoldable pub all_codes : List Code
-all_codes = Backwards ∷ BadCount ∷ BadDelay ∷ BadForm ∷ BadLeast ∷ BadLimit ∷ BadLine ∷ BadName ∷ BadNumber ∷ BadSetting ∷ BadSize ∷ BadTabName
-    ∷ BadTimerName ∷ BadZone ∷ BadZoneName ∷ CarriageReturn ∷ Delayed ∷ Device ∷ EitherDay ∷ Fraction ∷ Full ∷ Monotonic
+all_codes = Backwards ∷ BadCount ∷ BadDelay ∷ BadForm ∷ BadLeast ∷ BadLimit ∷ BadLine ∷ BadName ∷ BadNumber ∷ BadSetting ∷ BadSize
+    ∷ BadTabName ∷ BadTimerName ∷ BadZone ∷ BadZoneName ∷ CarriageReturn ∷ Delayed ∷ Device ∷ EitherDay ∷ Fraction ∷ Full ∷ Monotonic
     ∷ NeverStarts ∷ NoCommand ∷ NoEvents ∷ NoMemory ∷ NoSuchDate ∷ NoSuchZone ∷ NoTimerSection ∷ NotSettled ∷ NotUtf8
     ∷ OutOfRange ∷ OutOfYears ∷ Percent ∷ SameName ∷ SkippedStarts ∷ Specifier ∷ TooLarge ∷ TooMany ∷ TooManyLines
     ∷ TooManySteps ∷ UnknownKey ∷ UnknownWord ∷ WrongParts ∷ ZeroStep ∷ Zone ∷ ZoneSetting ∷ []

@@ -390,7 +390,8 @@ timer_text_agrees zones clock added name (Ok text) f good =
     let found = timers.lines_findings clock (no_lines zones) lines in
     timer_agrees clock (refusals (entries_from zones no_events effects)) (is_timer_name name) (has_timer lines) added name
     (first_unit effects)
-    (events_after zones [] effects) (delay_of (settings_from false lines)) (right_job zones name lines) (timer_warnings clock lines ++ found) (0 + length added) (omega arith) good
+    (events_after zones [] effects) (delay_of (settings_from false lines))
+    (right_job zones name lines) (timer_warnings clock lines ++ found) (0 + length added) (omega arith) good
     (λ none. ap (λ (held : List Calendar). timer_job name (first_unit effects) held (delay_of (settings_from false lines)))
     (right_of_lines zones lines none))
     (timer_warnings_clean clock lines found ∙ timer_lines_clean clock (no_lines zones) lines)

@@ -117,7 +117,8 @@ same_text :
 same_text zones others name (Err fault) f first second same = refl
 same_text zones others name (Ok text) f first second same =
     ap (λ (events : TextReading (List Calendar)). events
-    >>= λ held. job_with (has_timer (f text)) name (first_unit (effects_from false (f text))) held (delay_of (settings_from false (f text))))
+    >>= λ held. job_with (has_timer (f text)) name (first_unit (effects_from false (f text))) held
+    (delay_of (settings_from false (f text))))
     (same_events zones others [] (effects_from false (f text)) first second same)
 
 pub zones_law :
