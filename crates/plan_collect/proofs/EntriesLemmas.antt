@@ -62,7 +62,8 @@ row_later second number job (first ∷ jobs) span n later =
 -- the row of the second has the entry once, if the window of the job meets the span
 row_here :
     (second job place : ℕ) (jobs : List JobParts) (span : Bounds) →
-    weigh (one second (job + place)) (windows_from job (timings_of jobs) span second) ≡ cond (has_window (slice_get jobs place) span second) 1 0
+    weigh (one second (job + place)) (windows_from job (timings_of jobs) span second) ≡ cond
+    (has_window (slice_get jobs place) span second) 1 0
 row_here second job place [] span = refl
 row_here second job zero (first ∷ jobs) span =
     let number : job + 0 ≡ job = omega arith in
@@ -114,7 +115,8 @@ late_window job span second late =
     never true false = refl
     never false b = refl
 
-none_late : (jobs : List JobParts) (place : ℕ) (span : Bounds) (second : ℕ) → span.upto ≤ second → has_window (slice_get jobs place) span second ≡ false
+none_late : (jobs : List JobParts) (place : ℕ) (span : Bounds) (second : ℕ) → span.upto ≤ second →
+    has_window (slice_get jobs place) span second ≡ false
 none_late [] place span second late = refl
 none_late (job ∷ jobs) zero span second late = late_window job span second late
 none_late (job ∷ jobs) (suc place) span second late = none_late jobs place span second late

@@ -71,7 +71,8 @@ weigh-span :
     (flat_map (windows_from (job + 1) timings span) (seconds_of span))
 weigh-span weight job timing timings span ordered =
     weigh-rows weight job timing timings span (seconds_of span)
-    ∙ ap (λ seconds. weigh weight (entries_of job seconds) + weigh weight (flat_map (windows_from (job + 1) timings span) (seconds_of span)))
+    ∙ ap (λ seconds. weigh weight (entries_of job seconds) + weigh weight
+    (flat_map (windows_from (job + 1) timings span) (seconds_of span)))
     (planned_starts timing span ordered)
 
 -- each of the jobs is covered to a second from its first one to the end of the span

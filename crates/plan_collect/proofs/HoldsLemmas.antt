@@ -47,7 +47,8 @@ pub Holds-begun :
 Holds-begun timings span limit planners covered ended entries firsts none_ended size limited ordered few none =
     let long : length covered ≡ length timings = ap length firsts ∙ length-map timings _ in
     let senders : length ended ≡ planners = ap length none_ended ∙ length-replicate planners false in
-    let each : (job : ℕ) (timing : Timing) → slice_get timings job ≡ Some timing → slice_index covered job ≡ first_second span timing.delay =
+    let each : (job : ℕ) (timing : Timing) → slice_get timings job ≡ Some timing →
+    slice_index covered job ≡ first_second span timing.delay =
     λ job timing is. ap (λ xs. slice_index xs job) firsts ∙ first_of span timings job timing is in
     record {
       same = λ weight. ap (weigh weight) (none ∙ sym (ap (held_from 0 span timings) firsts ∙ nothing_held 0 span timings));

@@ -44,7 +44,8 @@ fits_next k job timing c from upto here reached low high = record {
   ordered = low;
 }
 
-at_job_covering : (k job : ℕ) (timing : Timing) (c : Collected) (upto : ℕ) → IsAtJob k job timing c → IsAtJob k job timing (covering c job upto)
+at_job_covering : (k job : ℕ) (timing : Timing) (c : Collected) (upto : ℕ) → IsAtJob k job timing c →
+    IsAtJob k job timing (covering c job upto)
 at_job_covering k job timing c upto here =
     let size = length-set c.covered job upto in
     let inside = here.inside in

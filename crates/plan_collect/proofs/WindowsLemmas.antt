@@ -91,7 +91,8 @@ planned_starts timing span ordered =
     (λ n from lt. and_false (is_start timing.rule n) (meets span timing.delay n) (meets_not span timing.delay n ordered lt)) in
     let after : passing test first span.upto ≡ starts timing.rule first span.upto =
     same_filter test (is_start timing.rule) first (span.upto - first)
-    (λ n from lt. and_true (is_start timing.rule n) (meets span timing.delay n) (meets_from span timing.delay n ordered from (omega arith))) in
+    (λ n from lt. and_true (is_start timing.rule n) (meets span timing.delay n)
+    (meets_from span timing.delay n ordered from (omega arith))) in
     ap (λ n. filter test (range_with_len 0 n)) (sym whole)
     ∙ passing-append test 0 first span.upto (omega arith) (omega arith)
     ∙ ap (λ xs. xs ++ passing test first span.upto) before
@@ -168,7 +169,8 @@ windows_are_starts job [] span second from before = refl
 windows_are_starts job (first ∷ jobs) span second from before =
     let low : first_second span 0 ≤ span.since = first-since span 0 in
     let always : meets span 0 second ≡ true = meets_from span 0 second (omega arith) (omega arith) before in
-    let is : (is_start first.rule second && meets span 0 second) ≡ is_start first.rule second = and_true (is_start first.rule second) _ always in
+    let is : (is_start first.rule second && meets span 0 second) ≡ is_start first.rule second =
+    and_true (is_start first.rule second) _ always in
     let later = windows_are_starts (job + 1) jobs span second from before in
     λ i. cond (is i) ((second, job) ∷ later i) (later i)
 

@@ -139,6 +139,7 @@ pub record Holds (c : Collected) (entries : List (ℕ × ℕ)) : Type 0 where
   pub size : is_size (length c.ended) ≡ true
   pub few_jobs : length c.timings ≤ most_jobs
   pub jobs : length c.covered ≡ length c.timings
-  pub since : (job : ℕ) (timing : Timing) → slice_get c.timings job ≡ Some timing → first_second c.span timing.delay ≤ slice_index c.covered job
+  pub since : (job : ℕ) (timing : Timing) → slice_get c.timings job ≡ Some timing →
+      first_second c.span timing.delay ≤ slice_index c.covered job
   pub upto : (job : ℕ) → job < length c.covered → slice_index c.covered job ≤ c.span.upto
   pub ordered : c.span.since ≤ c.span.upto

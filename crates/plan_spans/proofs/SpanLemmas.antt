@@ -23,7 +23,8 @@ add_later before value None = refl
 add_later before value (Some sum) = ap finite (sym (add_assoc before value sum))
 
 -- a text without a pair at its start
-pub no_pair : (before : ℕ) (text : List ℕ) (most : ℕ) → (length text == 0) ≡ false → pair_in_front text ≡ None → sum_with before text most ≡ None
+pub no_pair : (before : ℕ) (text : List ℕ) (most : ℕ) → (length text == 0) ≡ false → pair_in_front text ≡ None →
+    sum_with before text most ≡ None
 unfolding sum_of_pairs
 no_pair before [] most some none = absurd (true≢false some)
 no_pair before (b ∷ bs) zero some none = refl

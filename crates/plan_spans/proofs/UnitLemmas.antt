@@ -14,7 +14,8 @@ find-map p v [] = refl
 find-map p v (x ∷ xs) = grind (arith, nat_tests, find-map p v xs)
 
 -- what holds of the value that is seen holds of what it is seen from
-pub IfSome-seen : {X Y : Type 0} (Q : Y → Type 0) (v : X → Y) (r : Option X) (o : Option Y) → option_map v r ≡ o → IfSome o Q → IfSome r (λ x. Q (v x))
+pub IfSome-seen : {X Y : Type 0} (Q : Y → Type 0) (v : X → Y) (r : Option X) (o : Option Y) → option_map v r ≡ o → IfSome o Q →
+    IfSome r (λ x. Q (v x))
 IfSome-seen Q v None o is holds = tt
 IfSome-seen Q v (Some x) o is holds = subst (λ o. IfSome o Q) (sym is) holds
 

@@ -207,7 +207,8 @@ gathers_same task desk new so_far same taken rings still = record {
   history = so_far.history;
   known = so_far.known;
   each = λ j few. so_far.each j few ∙ ap (λ all. slice_index_or all j []) (sym taken);
-  stands = subst (λ r. Stands (answer_to (begun task.timings task.span task.planners task.limit) so_far.history) new.collector r) (sym still)
+  stands = subst (λ r. Stands (answer_to (begun task.timings task.span task.planners task.limit) so_far.history) new.collector r)
+      (sym still)
       (subst (λ c. Stands (answer_to (begun task.timings task.span task.planners task.limit) so_far.history) c desk.refused) (sym same)
       so_far.stands);
 }

@@ -8,10 +8,12 @@ loop-digit-preserved c =
     let i = c.loop-digit.digit-index in
     let held = c.loop-digit.invariant in
     let is : c.from.result ≡ get_or c.args.digits.now c.loop-digit.digit-index 0 - 48 = c.from.ensures in
-    let at_most : get_or c.args.digits.now c.loop-digit.digit-index 0 - 48 ≤ 9 = digit_small digits i c.requires.all c.loop-digit-test.true in
+    let at_most : get_or c.args.digits.now c.loop-digit.digit-index 0 - 48 ≤ 9 =
+    digit_small digits i c.requires.all c.loop-digit-test.true in
     let room = part_room c.from.result c.loop-digit.part (omega arith) in
     record {
       part = ap (λ n. n / 10) held.part ∙ next_part c.args.unit i;
-      left = fraction_step c.args.unit c.loop-digit.sum c.loop-digit.part c.from.result _ digits i c.loop-digit-test.true held.part is held.left;
+      left = fraction_step c.args.unit c.loop-digit.sum c.loop-digit.part c.from.result _ digits i c.loop-digit-test.true held.part is
+          held.left;
       small = omega (arith, room, held.small);
     }

@@ -45,4 +45,5 @@ pub returns : goal.returns
 returns c =
     let held = c.loop-rest.invariant in
     let small : c.loop-rest.sum < infinity = omega arith in
-    sym (finite-small c.loop-rest.sum small) ∙ sym (sum_with-end c.loop-rest.sum c.loop-rest.rest.now held.0 (sym c.loop-rest-test.ensures)) ∙ held.3
+    sym (finite-small c.loop-rest.sum small)
+    ∙ sym (sum_with-end c.loop-rest.sum c.loop-rest.rest.now held.0 (sym c.loop-rest-test.ensures)) ∙ held.3

@@ -31,5 +31,6 @@ returns-clause-some c =
 
 pub returns-clause-few : goal.returns-clause-few
 returns-clause-few c =
-    found_passes (has_unit c.args.text.now) (λ unit. nat_le unit.1 year) (λ unit. unit.1 ≤ year) (λ unit. (unit.0.now, unit.1)) c.copied.result
+    found_passes (has_unit c.args.text.now) (λ unit. nat_le unit.1 year) (λ unit. unit.1 ≤ year) (λ unit. (unit.0.now, unit.1))
+    c.copied.result
     units (λ unit. leb-true unit.1 year) refl (value c)

@@ -33,7 +33,8 @@ returns-in_err-count-clause-prefix g c =
     let new = (outlet_of c.send_job.new.outlet).sent in
     let there = timing_at c.args.jobs.now c.loop-number.number c.in-Some.job.now c.in-Some.ensures in
     let part = upto_own_part task c.sender-planner.result (outlet_of c.loop-number.outlet).sent new c.loop-number.count
-    c.loop-number.number (timing_of c.in-Some.job.now) c.loop-number.invariant.3 there c.if-number-task.false c.in_err-count.ensures.prefix in
+    c.loop-number.number (timing_of c.in-Some.job.now) c.loop-number.invariant.3 there c.if-number-task.false
+    c.in_err-count.ensures.prefix in
     on_err c.from_residual.result _ (IsPrefix new (all_notes task (outlet_of c.args.outlet.now).sender)) c.from_residual.ensures.1
     (subst (λ k. IsPrefix new (all_notes task k)) c.sender-planner.ensures part)
 

@@ -8,7 +8,8 @@ pub invariant_of-self : goal.invariant_of-self
 invariant_of-self c =
     let (years, minute, midnight, text) = c.self.invariant in
     let (here, before) = c.in-Some.ensures.within in
-    let place : c.self.inside.second / 60 * 60 + c.in-Some.seconds ≡ c.args.second = ap (λ n. n + c.in-Some.seconds) (sym minute) ∙ here in (
+    let place : c.self.inside.second / 60 * 60 + c.in-Some.seconds ≡ c.args.second = ap (λ n. n + c.in-Some.seconds) (sym minute)
+    ∙ here in (
       c.requires,
       omega (arith, minute, here, before),
       omega (arith, minute, midnight, here, before),
