@@ -28,7 +28,7 @@ use Rattle.agenda_commands.specs.Plan.{plan_output, planned_output}
 use Rattle.agenda_commands.specs.Quiet.{gaps_output, quiet_output, valid_least}
 use Rattle.agenda_commands.specs.Upcoming.{IsTextOfUpcoming, RefusesUpcoming}
 use Rattle.agenda_answers.specs.declared.keeping.Tried.{Tried}
-use Rattle.agenda_answers.specs.Answer.{Ends, HoldsAfter, Leaves, Printed, Stream, moment_of, outputs, outputs_if, plan_ends, prints, quiet_ends, span_of, upcoming_ends}
+use Rattle.agenda_answers.specs.Answer.{Ends, HoldsAfter, Leaves, Printed, Stream, moment_of, outputs, outputs_if, plan_ends, planning_of, prints, quiet_ends, span_of, upcoming_ends}
 use Rattle.agenda_answers.specs.EventZones.{time_zones}
 use Rattle.agenda_answers.specs.Files.{Held}
 use Rattle.agenda_answers.specs.Keeping.{AnswersBy, Outcome, Reports, answer_of, kept_by, lines_of_skipped, plan_goal, printed, quiet_goal, skipped_status, upcoming_goal}
@@ -132,14 +132,14 @@ plan_same :
     kept_by held goal request.jobs (Ok kept) → SkipsNothing (Ok kept) → plan_ends held request (printed kept.answer 0)
 plan_same law held request goal kept (stops failure _ is) by none = absurd cc
 plan_same law held request goal kept (goes span spanned is) by none =
-    let goal_is : goal ≡ of_jobs.Plan span request.sizes = cc in
-    let parts = parts_of law held (of_jobs.Plan span request.sizes) request.jobs kept
+    let goal_is : goal ≡ of_jobs.Plan (planning_of request span) = cc in
+    let parts = parts_of law held (of_jobs.Plan (planning_of request span)) request.jobs kept
     (subst (λ w. kept_by held w request.jobs (Ok kept)) goal_is by) none in
     let jobs = kept_jobs parts.zones parts.sources in
-    let same : plan_output parts.zones parts.sources span request.sizes ≡ planned_output jobs span request.sizes =
-    ap (λ r. step fault_of_sources r >>= (λ js. planned_output js span request.sizes)) parts.all_kept in
+    let same : plan_output parts.zones parts.sources (planning_of request span) ≡ planned_output jobs (planning_of request span) =
+    ap (λ r. step fault_of_sources r >>= (λ js. planned_output js (planning_of request span))) parts.all_kept in
     goes span spanned (goes (input_in parts) (input_read parts)
-    (same_output _ (planned_output jobs span request.sizes) kept.answer same parts.answered))
+    (same_output _ (planned_output jobs (planning_of request span)) kept.answer same parts.answered))
 
 quiet_same :
     (law : KeepsAll) (held : Held) (request : PlanRequest) (least : ℕ) (goal : Goal) (kept : Outcome) →
@@ -147,34 +147,36 @@ quiet_same :
     quiet_ends held request least (printed kept.answer 0)
 quiet_same law held request least goal kept (stops failure _ is) by none = absurd cc
 quiet_same law held request least goal kept (goes span spanned is) by none =
-    let goal_is : goal ≡ of_jobs.Quiet span request.sizes least = cc in
-    let parts = parts_of law held (of_jobs.Quiet span request.sizes least) request.jobs kept
+    let goal_is : goal ≡ of_jobs.Quiet (planning_of request span) least = cc in
+    let parts = parts_of law held (of_jobs.Quiet (planning_of request span) least) request.jobs kept
     (subst (λ w. kept_by held w request.jobs (Ok kept)) goal_is by) none in
     let jobs = kept_jobs parts.zones parts.sources in
-    let next : ℕ → Result (List ℕ) RunFault = λ wide. gaps_output jobs span request.sizes wide in
-    let same : quiet_output parts.zones parts.sources span request.sizes least ≡ (valid_least least >>= next) =
-    ap (λ r. valid_least least >>= (λ wide. step fault_of_sources r >>= (λ js. gaps_output js span request.sizes wide))) parts.all_kept in
+    let next : ℕ → Result (List ℕ) RunFault = λ wide. gaps_output jobs (planning_of request span) wide in
+    let same : quiet_output parts.zones parts.sources (planning_of request span) least ≡ (valid_least least >>= next) =
+    ap (λ r. valid_least least >>= (λ wide. step fault_of_sources r >>= (λ js. gaps_output js (planning_of request span) wide)))
+    parts.all_kept in
     goes span spanned (goes (input_in parts) (input_read parts)
     (same_output_if (valid_least least) _ next kept.answer same parts.answered))
 
 -- the next starts of jobs have no error but that an allocation failed
 upcoming_printed :
-    (zones : TimeZones) (sources : List Source) (jobs : List JobParts) (after : ℕ) (answer : Result (List ℕ) RunFault) →
-    jobs_reading zones sources ≡ Ok jobs → answer_of (of_jobs.Upcoming after) jobs (Ok answer) →
-    prints 0 (IsTextOfUpcoming zones sources after) (RefusesUpcoming zones sources) (printed answer 0)
-upcoming_printed zones sources jobs after (Ok text) same is = ((jobs, same, is), refl)
-upcoming_printed zones sources jobs after (Err fault) same is = absurd (is.0 is.1)
+    (zones : TimeZones) (sources : List Source) (jobs : List JobParts) (after : ℕ) (delays : Bool) (answer : Result (List ℕ) RunFault) →
+    jobs_reading zones sources ≡ Ok jobs → answer_of (of_jobs.Upcoming after delays) jobs (Ok answer) →
+    prints 0 (IsTextOfUpcoming zones sources after delays) (RefusesUpcoming zones sources) (printed answer 0)
+upcoming_printed zones sources jobs after delays (Ok text) same is = ((jobs, same, is), refl)
+upcoming_printed zones sources jobs after delays (Err fault) same is = absurd (is.0 is.1)
 
 upcoming_same :
     (law : KeepsAll) (held : Held) (after : List ℕ) (jobs : JobsRequest) (goal : Goal) (kept : Outcome) →
-    upcoming_goal after (Ok goal) → kept_by held goal jobs (Ok kept) → SkipsNothing (Ok kept) →
+    upcoming_goal after jobs (Ok goal) → kept_by held goal jobs (Ok kept) → SkipsNothing (Ok kept) →
     upcoming_ends held after jobs (printed kept.answer 0)
 upcoming_same law held after jobs goal kept (stops failure _ is) by none = absurd cc
 upcoming_same law held after jobs goal kept (goes moment read is) by none =
-    let goal_is : goal ≡ of_jobs.Upcoming moment = cc in
-    let parts = parts_of law held (of_jobs.Upcoming moment) jobs kept (subst (λ w. kept_by held w jobs (Ok kept)) goal_is by) none in
+    let goal_is : goal ≡ of_jobs.Upcoming moment jobs.delays = cc in
+    let parts = parts_of law held (of_jobs.Upcoming moment jobs.delays) jobs kept
+    (subst (λ w. kept_by held w jobs (Ok kept)) goal_is by) none in
     goes moment read (goes (input_in parts) (input_read parts)
-    (upcoming_printed parts.zones parts.sources _ moment kept.answer parts.all_kept parts.answered))
+    (upcoming_printed parts.zones parts.sources _ moment jobs.delays kept.answer parts.all_kept parts.answered))
 
 -- ---- the streams
 
@@ -224,21 +226,21 @@ plan_unchanged law held request (Ok goal) is (Ok kept) by none status out err en
 plan_unchanged law held request (Err failure) is (Ok kept) by none status out err ends = absurd cc
 plan_unchanged law held request goal is (Err failure) by other status out err ends =
     failed_same (plan_ends held request) request.jobs.sources failure status out err
-    (fails_same (span_of request.since request.upto) (λ span. of_jobs.Plan span request.sizes) held request.jobs
-    (λ span input. outputs 0 (plan_output input.zones input.sources span request.sizes)) goal failure is
+    (fails_same (span_of request.since request.upto) (λ span. of_jobs.Plan (planning_of request span)) held request.jobs
+    (λ span input. outputs 0 (plan_output input.zones input.sources (planning_of request span))) goal failure is
     (fails_first held goal request.jobs failure by other)) ends
 
 pub upcoming_unchanged :
     KeepsAll → (held : Held) → (after : List ℕ) → (jobs : JobsRequest) →
-    ChangesNothing held (upcoming_goal after) jobs (Upcoming after jobs)
+    ChangesNothing held (upcoming_goal after jobs) jobs (Upcoming after jobs)
 upcoming_unchanged law held after jobs (Ok goal) is (Ok kept) by none status out err ends =
     reported_same (upcoming_ends held after jobs) jobs.sources kept status out err none
     (upcoming_same law held after jobs goal kept is by none) ends
 upcoming_unchanged law held after jobs (Err failure) is (Ok kept) by none status out err ends = absurd cc
 upcoming_unchanged law held after jobs goal is (Err failure) by other status out err ends =
     failed_same (upcoming_ends held after jobs) jobs.sources failure status out err
-    (fails_same (moment_of After after) of_jobs.Upcoming held jobs
-    (λ moment input. prints 0 (IsTextOfUpcoming input.zones input.sources moment) (RefusesUpcoming input.zones input.sources)) goal
+    (fails_same (moment_of After after) (λ moment. of_jobs.Upcoming moment jobs.delays) held jobs
+    (λ moment input. prints 0 (IsTextOfUpcoming input.zones input.sources moment jobs.delays) (RefusesUpcoming input.zones input.sources)) goal
     failure is
     (fails_first held goal jobs failure by other)) ends
 
@@ -251,7 +253,7 @@ quiet_unchanged law held request least (Ok goal) is (Ok kept) by none status out
 quiet_unchanged law held request least (Err failure) is (Ok kept) by none status out err ends = absurd cc
 quiet_unchanged law held request least goal is (Err failure) by other status out err ends =
     failed_same (quiet_ends held request least) request.jobs.sources failure status out err
-    (fails_same (span_of request.since request.upto) (λ span. of_jobs.Quiet span request.sizes least) held request.jobs
-    (λ span input. outputs_if (valid_least least) (quiet_output input.zones input.sources span request.sizes least)) goal
+    (fails_same (span_of request.since request.upto) (λ span. of_jobs.Quiet (planning_of request span) least) held request.jobs
+    (λ span input. outputs_if (valid_least least) (quiet_output input.zones input.sources (planning_of request span) least)) goal
     failure is
     (fails_first held goal request.jobs failure by other)) ends

@@ -25,6 +25,7 @@ use Rattle.agenda_faults.specs.Faults.{refused_status, status_of}
 use Rattle.agenda_answers.specs.Files.{Held, whole_of}
 use Rattle.agenda_answers.specs.Sources.{input_of, rule_zones}
 use Rattle.agenda_answers.specs.Steps.{Step, fails, gives, ◌>>=◌}
+use Rattle.agenda_commands.specs.declared.Planning.{Planning}
 use Rattle.agenda_commands.specs.declared.Verdict.{Verdict}
 use Rattle.agenda_commands.specs.declared.Verdict.TheVariants.{Clean, Refused}
 use Rattle.agenda_commands.specs.Check.{check_output, sources_verdict}
@@ -90,26 +91,30 @@ next_ends held after request count rule = do
   zones ← rule_zones held request rule
   outputs_if (valid_count count) (next_output zones rule moment count)
 
+-- how the jobs of a request are planned over a span
+abbrev pub planning_of : PlanRequest → Bounds → Planning
+planning_of request span = record { span = span; sizes = request.sizes; delays = request.jobs.delays }
+
 -- `plan`: the span is read first, then the zone, then the files, and then the plan is made
 abbrev pub plan_ends : Held → PlanRequest → Step Printed
 plan_ends held request = do
   span ← span_of request.since request.upto
   input ← input_of held request.jobs.zones request.jobs.sources
-  outputs 0 (plan_output input.zones input.sources span request.sizes)
+  outputs 0 (plan_output input.zones input.sources (planning_of request span))
 
 -- `upcoming`: the timestamp is read first, then the zone, then the files, and then their texts
 abbrev pub upcoming_ends : Held → List ℕ → JobsRequest → Step Printed
 upcoming_ends held after jobs = do
   moment ← moment_of After after
   input ← input_of held jobs.zones jobs.sources
-  prints 0 (IsTextOfUpcoming input.zones input.sources moment) (RefusesUpcoming input.zones input.sources)
+  prints 0 (IsTextOfUpcoming input.zones input.sources moment jobs.delays) (RefusesUpcoming input.zones input.sources)
 
 -- `quiet`: in the same order as `plan`
 abbrev pub quiet_ends : Held → PlanRequest → (least : ℕ) → Step Printed
 quiet_ends held request least = do
   span ← span_of request.since request.upto
   input ← input_of held request.jobs.zones request.jobs.sources
-  outputs_if (valid_least least) (quiet_output input.zones input.sources span request.sizes least)
+  outputs_if (valid_least least) (quiet_output input.zones input.sources (planning_of request span) least)
 
 -- the exit status of `check`
 abbrev pub status_on : Verdict → ℕ

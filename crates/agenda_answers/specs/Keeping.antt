@@ -19,7 +19,7 @@ use Rattle.plan_streams.specs.Stream.{BreaksOff}
 use Rattle.agenda_commands.specs.declared.Goal.{Goal}
 use Rattle.agenda_commands.specs.declared.Goal.TheVariants.{Plan, Quiet, Upcoming}
 use Rattle.agenda_commands.specs.Goal.{IsFaultOfGoal, IsTextOfGoal}
-use Rattle.agenda_answers.specs.Answer.{Ends, HoldsAfter, Printed, Stream, moment_of, span_of}
+use Rattle.agenda_answers.specs.Answer.{Ends, HoldsAfter, Printed, Stream, moment_of, planning_of, span_of}
 use Rattle.agenda_answers.specs.EventZones.{time_zones}
 use Rattle.agenda_answers.specs.Files.{Held}
 use Rattle.agenda_answers.specs.Sources.{tries_of}
@@ -32,19 +32,19 @@ use Rattle.agenda_answers.specs.Zone.{clock_of}
 abbrev pub plan_goal : PlanRequest → Step Goal
 plan_goal request = do
   span ← span_of request.since request.upto
-  gives (Plan span request.sizes)
+  gives (Plan (planning_of request span))
 
 -- the goal of `upcoming` is the next start of each job
-abbrev pub upcoming_goal : List ℕ → Step Goal
-upcoming_goal after = do
+abbrev pub upcoming_goal : List ℕ → JobsRequest → Step Goal
+upcoming_goal after jobs = do
   moment ← moment_of After after
-  gives (Upcoming moment)
+  gives (Upcoming moment jobs.delays)
 
 -- the goal of `quiet` is the gaps of the span
 abbrev pub quiet_goal : PlanRequest → (least : ℕ) → Step Goal
 quiet_goal request least = do
   span ← span_of request.since request.upto
-  gives (Quiet span request.sizes least)
+  gives (Quiet (planning_of request span) least)
 
 -- ---- what is skipped, and the answer without it
 

@@ -38,7 +38,7 @@ abbrev pub AnswersAsk : Held → Ask → Answering
 AnswersAsk held (Plan request) = AnswersIf request.jobs.keep_going
     (AnswersGoals held (plan_goal request) request.jobs) (StopsAtFirst held (Plan request))
 AnswersAsk held (Upcoming after jobs) = AnswersIf jobs.keep_going
-    (AnswersGoals held (upcoming_goal after) jobs) (StopsAtFirst held (Upcoming after jobs))
+    (AnswersGoals held (upcoming_goal after jobs) jobs) (StopsAtFirst held (Upcoming after jobs))
 AnswersAsk held (Quiet request least) = AnswersIf request.jobs.keep_going
     (AnswersGoals held (quiet_goal request least) request.jobs) (StopsAtFirst held (Quiet request least))
 AnswersAsk held other = StopsAtFirst held other

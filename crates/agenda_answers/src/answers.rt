@@ -2,7 +2,7 @@
 
 ghost use Rattle.std.specs.Prelude.{◌≡◌, ◌≢◌, map, string_bytes};
 ghost use Rattle.agenda_answers.specs.Answer.{Ends, Leaves, SaysNotUtf8};
-ghost use Rattle.agenda_answers.specs.Answer.{ask_ends, check_ends, explain_ends, moment_of, next_ends, plan_ends, quiet_ends};
+ghost use Rattle.agenda_answers.specs.Answer.{ask_ends, check_ends, explain_ends, moment_of, next_ends, plan_ends, planning_of, quiet_ends};
 ghost use Rattle.agenda_answers.specs.Answer.{sources_in, span_of, status_on, steps_ends, upcoming_ends, usage_ends};
 ghost use Rattle.agenda_answers.specs.Program.{Answers, AnswersArguments, AnswersAsk};
 ghost use Rattle.agenda_answers.specs.Keeping.{plan_goal, quiet_goal, upcoming_goal};
@@ -14,7 +14,8 @@ use crate::sources::{read_input, read_rule_zones};
 use crate::status::{DONE, REFUSED};
 use agenda_codes::Code;
 use agenda_commands::{
-    Goal, Verdict, run_check, run_explain, run_next, run_plan, run_quiet, run_script, run_upcoming,
+    Goal, Planning, Verdict, run_check, run_explain, run_next, run_plan, run_quiet, run_script,
+    run_upcoming,
 };
 use agenda_faults::{Failure, RunFault, fault_line};
 use agenda_sources::{Asked, SourcePath, SourcePaths};
@@ -91,7 +92,7 @@ fn answer_ask<R: Threads + Wait + Sync, F: Files, O: Stream, E: Stream>(
             keep_going(rt, alloc, goal, &request.jobs, files, out, err)
         }
         Ask::Upcoming { after, jobs } if jobs.keep_going => {
-            let goal = upcoming_goal(after);
+            let goal = upcoming_goal(after, jobs);
             keep_going(rt, alloc, goal, jobs, files, out, err)
         }
         Ask::Quiet { plan, least } if plan.jobs.keep_going => {
@@ -110,18 +111,18 @@ fn plan_goal(request: &PlanRequest) -> Result<Goal, Failure>
     ensures { plan_goal request.now result }
 {
     let span = span_between(&request.since, &request.upto)?;
-    Ok(Goal::Plan {
-        span,
-        sizes: request.sizes,
-    })
+    Ok(Goal::Plan(planning_of(request, span)))
 }
 
 // Returns what `upcoming` makes of jobs.
-fn upcoming_goal(after: &Text) -> Result<Goal, Failure>
-    ensures { upcoming_goal after.now result }
+fn upcoming_goal(after: &Text, jobs: &JobsRequest) -> Result<Goal, Failure>
+    ensures { upcoming_goal after.now jobs.now result }
 {
     let after = moment_after(after)?;
-    Ok(Goal::Upcoming { after })
+    Ok(Goal::Upcoming {
+        after,
+        delays: jobs.delays,
+    })
 }
 
 // Returns what `quiet` makes of jobs.
@@ -130,10 +131,20 @@ fn quiet_goal(request: &PlanRequest, least: u32) -> Result<Goal, Failure>
 {
     let span = span_between(&request.since, &request.upto)?;
     Ok(Goal::Quiet {
-        span,
-        sizes: request.sizes,
+        planning: planning_of(request, span),
         least,
     })
+}
+
+// Returns how the jobs of a request are planned over a span.
+fn planning_of(request: &PlanRequest, span: Span) -> Planning
+    ensures { result ≡ planning_of request.now span }
+{
+    Planning {
+        span,
+        sizes: request.sizes,
+        delays: request.jobs.delays,
+    }
 }
 
 /// Returns the error for arguments that could not be read: a usage error if one isn't UTF-8, and out of
@@ -246,7 +257,7 @@ fn plan<R: Threads + Wait + Sync, F: Files, S: Stream>(
 {
     let span = span_between(&request.since, &request.upto)?;
     let input = read_input(alloc, files, &request.jobs.zones, &request.jobs.sources)?;
-    run_plan(rt, alloc, &input, span, request.sizes, out)?;
+    run_plan(rt, alloc, &input, &planning_of(request, span), out)?;
     Ok(DONE)
 }
 
@@ -262,7 +273,7 @@ fn upcoming<F: Files, S: Stream>(
 {
     let moment = moment_after(after)?;
     let input = read_input(alloc, files, &jobs.zones, &jobs.sources)?;
-    run_upcoming(alloc, &input, moment, out)?;
+    run_upcoming(alloc, &input, moment, jobs.delays, out)?;
     Ok(DONE)
 }
 
@@ -279,7 +290,7 @@ fn quiet<R: Threads + Wait + Sync, F: Files, S: Stream>(
 {
     let span = span_between(&request.since, &request.upto)?;
     let input = read_input(alloc, files, &request.jobs.zones, &request.jobs.sources)?;
-    run_quiet(rt, alloc, &input, span, request.sizes, least, out)?;
+    run_quiet(rt, alloc, &input, &planning_of(request, span), least, out)?;
     Ok(DONE)
 }
 

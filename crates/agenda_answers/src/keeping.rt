@@ -266,7 +266,7 @@ fn print_answer<S: Stream>(
 pub fn keeping_going_changes_nothing()
     ensures plan { (held : Held) → (request : PlanRequest) → ChangesNothing held (plan_goal request) request.jobs (Plan request) }
     ensures upcoming { (held : Held) → (after : List ℕ) → (jobs : JobsRequest)
-        → ChangesNothing held (upcoming_goal after) jobs (Upcoming after jobs) }
+        → ChangesNothing held (upcoming_goal after jobs) jobs (Upcoming after jobs) }
     ensures quiet { (held : Held) → (request : PlanRequest) → (least : ℕ)
         → ChangesNothing held (quiet_goal request least) request.jobs (Quiet request least) }
 {

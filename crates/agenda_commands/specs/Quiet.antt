@@ -2,10 +2,9 @@
 use Rattle.std.specs.Prelude.{ℕ, ◌==◌, if◌then◌else◌, List, Result, Ok, Err}
 use Rattle.plan_texts.specs.Steps.{◌>>=◌}
 use Rattle.plan_rules.specs.Job.{JobParts}
-use Rattle.plan_collect.specs.Agenda.{rules_of}
+use Rattle.plan_rules.specs.Delays.{counted}
 use Rattle.plan_collect.specs.Planning.{plan_answer}
-use Rattle.plan_collect.specs.Span.{Bounds}
-use Rattle.plan_collect.specs.declared.Sizes.{Sizes}
+use Rattle.plan_collect.specs.Windows.{timings_of}
 use Rattle.plan_write.specs.Quiet.{quiet_text}
 use Rattle.agenda_sources.specs.Sources.{jobs_reading}
 use Rattle.agenda_sources.specs.declared.Source.{Source}
@@ -13,21 +12,26 @@ use Rattle.agenda_sources.specs.declared.TimeZones.{TimeZones}
 use Rattle.agenda_faults.specs.declared.faults.RunFault.{RunFault}
 use Rattle.agenda_faults.specs.declared.faults.RunFault.TheVariants.{BadLeast}
 use Rattle.agenda_faults.specs.Faults.{fault_of_plan, fault_of_sources}
+use Rattle.agenda_commands.specs.declared.goal.Planning.{Planning}
 use Rattle.agenda_commands.specs.Command.{step}
 
 -- the minimum length of a gap is at least 1 second
 abbrev pub valid_least : ℕ → Result ℕ RunFault
 valid_least least = if least == 0 then Err BadLeast else Ok least
 
--- what `quiet` writes for jobs: the gaps of their plan that last at least `least` seconds
-abbrev pub gaps_output : List JobParts → Bounds → Sizes → (least : ℕ) → Result (List ℕ) RunFault
-gaps_output jobs span sizes least = do
-  made ← step fault_of_plan (plan_answer (rules_of jobs) span sizes)
-  Ok (quiet_text least made)
+-- what `quiet` writes for the jobs that are planned: the gaps of their plan that last at least `least` seconds
+abbrev pub gaps_of_jobs : List JobParts → Planning → (least : ℕ) → Result (List ℕ) RunFault
+gaps_of_jobs jobs planning least = do
+  made ← step fault_of_plan (plan_answer (timings_of jobs) planning.span planning.sizes)
+  Ok (quiet_text least made jobs)
+
+-- what `quiet` writes for jobs
+abbrev pub gaps_output : List JobParts → Planning → (least : ℕ) → Result (List ℕ) RunFault
+gaps_output jobs planning least = gaps_of_jobs (counted planning.delays jobs) planning least
 
 -- what `quiet` writes for sources: the gaps of the plan of their jobs
-abbrev pub quiet_output : TimeZones → List Source → Bounds → Sizes → (least : ℕ) → Result (List ℕ) RunFault
-quiet_output zones sources span sizes least = do
+abbrev pub quiet_output : TimeZones → List Source → Planning → (least : ℕ) → Result (List ℕ) RunFault
+quiet_output zones sources planning least = do
   wide ← valid_least least
   jobs ← step fault_of_sources (jobs_reading zones sources)
-  gaps_output jobs span sizes wide
+  gaps_output jobs planning wide

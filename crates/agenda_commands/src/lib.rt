@@ -22,7 +22,7 @@ mod upcoming;
 
 pub use check::{Verdict, run_check};
 pub use explain::run_explain;
-pub use goal::{Goal, PreparedAnswer, prepare_answer};
+pub use goal::{Goal, Planning, PreparedAnswer, prepare_answer};
 pub use input::Input;
 pub use laws::codes_are_explained;
 pub use next::run_next;

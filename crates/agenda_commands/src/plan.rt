@@ -6,20 +6,21 @@ ghost use Rattle.agenda_faults.specs.Faults.{fault_of_sources};
 ghost use Rattle.agenda_commands.specs.Command.{Outputs};
 ghost use Rattle.agenda_commands.specs.Plan.{plan_output};
 
+use crate::goal::{Planning, counted, put_agenda};
 use crate::input::Input;
 use agenda_faults::RunFault;
 use agenda_sources::jobs_of_sources;
-use plan_collect::{Sizes, Span};
 use plan_streams::Stream;
 use plan_threads::{NoGate, plan};
-use plan_write::{LineEnds, write_agenda};
+use plan_write::LineEnds;
 use std::alloc::Global;
 use std::sync::Wait;
 use std::thread::Threads;
 
 /// Writes the agenda of the jobs of the sources over a span: its header line, then one line for each start,
-/// sorted by time and then by job. The planners of `sizes` search for the starts, each in its own thread. The
-/// function waits for them.
+/// sorted by time and then by job. If delays count, a line also has the latest start, and the agenda has each start
+/// that may fall into the span. The planners of `planning.sizes` search for the starts, each in its own thread.
+/// The function waits for them.
 ///
 /// # Errors
 ///
@@ -34,18 +35,18 @@ pub fn run_plan<R: Threads + Wait + Sync, S: Stream>(
     rt: &R,
     alloc: Global,
     input: &Input,
-    span: Span,
-    sizes: Sizes,
+    planning: &Planning,
     out: &mut S,
 ) -> Result<(), RunFault>
-    ensures output { Outputs S.takes_all (plan_output input.now.zones input.now.sources span sizes) result (S.holds out.old) (S.holds out.new) }
+    ensures output { Outputs S.takes_all (plan_output input.now.zones input.now.sources planning.now) result (S.holds out.old) (S.holds out.new) }
 
     // These errors are found before any memory is allocated.
     ensures at_once { IfSome (fault_at_once input.now.sources) (λ fault. result ≡ Err (fault_of_sources fault)) }
 {
     let jobs = jobs_of_sources(alloc, &input.sources, &input.zones)?;
-    let agenda = plan(rt, alloc, &jobs, span, sizes, &NoGate)?;
+    let jobs = counted(jobs, planning.delays);
+    let agenda = plan(rt, alloc, &jobs, planning.span, planning.sizes, &NoGate)?;
     let ends = LineEnds::new(alloc, &jobs)?;
-    write_agenda(&agenda, &ends, out)?;
+    put_agenda(&agenda, &ends, planning.delays, out)?;
     Ok(())
 }

@@ -4,12 +4,13 @@ ghost use Rattle.std.specs.Prelude.{◌≡◌, ◌≤◌, IfErr, IfSome};
 ghost use Rattle.agenda_sources.specs.AtOnce.{fault_at_once};
 ghost use Rattle.agenda_faults.specs.Faults.{fault_of_sources};
 ghost use Rattle.agenda_commands.specs.Command.{Outputs};
-ghost use Rattle.agenda_commands.specs.Quiet.{quiet_output, valid_least};
+ghost use Rattle.agenda_commands.specs.Quiet.{gaps_of_jobs, quiet_output, valid_least};
 
+use crate::goal::{Planning, counted};
 use crate::input::Input;
 use agenda_faults::RunFault;
 use agenda_sources::jobs_of_sources;
-use plan_collect::{Sizes, Span};
+use plan_rules::Jobs;
 use plan_streams::Stream;
 use plan_threads::{NoGate, plan};
 use plan_write::write_quiet;
@@ -18,7 +19,8 @@ use std::sync::Wait;
 use std::thread::Threads;
 
 /// Writes the gaps of a span in which no job of the sources starts, one line for each, in order. Only gaps of
-/// `least` seconds or more are written. The plan is made as in `run_plan`.
+/// `least` seconds or more are written. If delays count, no job may start in a gap, at any second until its latest
+/// start. The plan is made as in `run_plan`.
 ///
 /// # Errors
 ///
@@ -28,12 +30,11 @@ pub fn run_quiet<R: Threads + Wait + Sync, S: Stream>(
     rt: &R,
     alloc: Global,
     input: &Input,
-    span: Span,
-    sizes: Sizes,
+    planning: &Planning,
     least: u32,
     out: &mut S,
 ) -> Result<(), RunFault>
-    ensures output { Outputs S.takes_all (quiet_output input.now.zones input.now.sources span sizes least) result (S.holds out.old) (S.holds out.new) }
+    ensures output { Outputs S.takes_all (quiet_output input.now.zones input.now.sources planning.now least) result (S.holds out.old) (S.holds out.new) }
 
     // These errors are found before any memory is allocated.
     ensures bad_least { IfErr (valid_least least) (λ fault. result ≡ Err fault) }
@@ -43,7 +44,22 @@ pub fn run_quiet<R: Threads + Wait + Sync, S: Stream>(
         return Err(RunFault::BadLeast);
     }
     let jobs = jobs_of_sources(alloc, &input.sources, &input.zones)?;
-    let agenda = plan(rt, alloc, &jobs, span, sizes, &NoGate)?;
-    write_quiet(&agenda, u64::from(least), out)?;
+    let jobs = counted(jobs, planning.delays);
+    write_gaps(rt, alloc, &jobs, planning, least, out)
+}
+
+// Writes the gaps of the plan of these jobs.
+fn write_gaps<R: Threads + Wait + Sync, S: Stream>(
+    rt: &R,
+    alloc: Global,
+    jobs: &Jobs,
+    planning: &Planning,
+    least: u32,
+    out: &mut S,
+) -> Result<(), RunFault>
+    ensures { Outputs S.takes_all (gaps_of_jobs jobs.now planning.now least) result (S.holds out.old) (S.holds out.new) }
+{
+    let agenda = plan(rt, alloc, jobs, planning.span, planning.sizes, &NoGate)?;
+    write_quiet(&agenda, jobs, u64::from(least), out)?;
     Ok(())
 }

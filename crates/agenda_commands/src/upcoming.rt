@@ -6,16 +6,17 @@ ghost use Rattle.agenda_faults.specs.Faults.{fault_of_sources};
 ghost use Rattle.agenda_commands.specs.Command.{Fails, Writes};
 ghost use Rattle.agenda_commands.specs.Upcoming.{IsTextOfUpcoming, RefusesUpcoming};
 
+use crate::goal::put_upcoming;
 use crate::input::Input;
 use agenda_faults::RunFault;
 use agenda_sources::jobs_of_sources;
 use plan_streams::Stream;
-use plan_write::{Upcoming, write_upcoming};
+use plan_write::Upcoming;
 use std::alloc::Global;
 
 /// Writes when each job of the sources starts next, later than `after`: one line for each job, sorted by time
 /// and then by job. `after` is in seconds since 1970-01-01T00:00:00Z. Jobs without a further start come last,
-/// with `none` in place of the timestamp.
+/// with `none` in place of the timestamp. If delays count, a line also has the latest start.
 ///
 /// # Errors
 ///
@@ -27,10 +28,11 @@ pub fn run_upcoming<S: Stream>(
     alloc: Global,
     input: &Input,
     after: u64,
+    delays: bool,
     out: &mut S,
 ) -> Result<(), RunFault>
-    ensures written { OnOk result (Writes (IsTextOfUpcoming input.now.zones input.now.sources after) (S.holds out.old) (S.holds out.new)) }
-    ensures refused { IfErr result (λ fault. Fails S.takes_all (IsTextOfUpcoming input.now.zones input.now.sources after)
+    ensures written { OnOk result (Writes (IsTextOfUpcoming input.now.zones input.now.sources after delays) (S.holds out.old) (S.holds out.new)) }
+    ensures refused { IfErr result (λ fault. Fails S.takes_all (IsTextOfUpcoming input.now.zones input.now.sources after delays)
         (RefusesUpcoming input.now.zones input.now.sources) fault
         (S.holds out.old) (S.holds out.new)) }
 
@@ -39,6 +41,6 @@ pub fn run_upcoming<S: Stream>(
 {
     let jobs = jobs_of_sources(alloc, &input.sources, &input.zones)?;
     let upcoming = Upcoming::new(alloc, &jobs, after)?;
-    write_upcoming(&upcoming, &jobs, out)?;
+    put_upcoming(&upcoming, &jobs, delays, out)?;
     Ok(())
 }

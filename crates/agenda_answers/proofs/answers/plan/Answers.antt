@@ -11,7 +11,7 @@ returns-in_err-input g c =
 pub returns-in_err-run_plan : goal.returns-in_err-run_plan
 returns-in_err-run_plan g c =
     went_on _ c.in_ok-span.ensures (went_on _ c.in_ok-input.ensures
-    (stopped _ _ _ _ _ _ _ _ c.in_err-run_plan.ensures.output c.from_residual-in_err-run_plan.ensures.1))
+    (stopped _ _ _ _ _ _ _ _ (rw c.planning_of.ensures at c.in_err-run_plan.ensures.output) c.from_residual-in_err-run_plan.ensures.1))
 
 pub returns : goal.returns
-returns g c = went_on _ c.in_ok-span.ensures (went_on _ c.in_ok-input.ensures (printed _ _ _ _ _ _ c.in_ok-run_plan.ensures.output))
+returns g c = went_on _ c.in_ok-span.ensures (went_on _ c.in_ok-input.ensures (printed _ _ _ _ _ _ (rw c.planning_of.ensures at c.in_ok-run_plan.ensures.output)))

@@ -13,9 +13,9 @@ returns-in_err-input g c =
 pub returns-in_err-run_quiet : goal.returns-in_err-run_quiet
 returns-in_err-run_quiet g c =
     went_on _ c.in_ok-span.ensures (went_on _ c.in_ok-input.ensures
-    (stopped_if (valid_least c.args.least) _ _ _ _ _ _ c.in_err-run_quiet.ensures.output
+    (stopped_if (valid_least c.args.least) _ _ _ _ _ _ (rw c.planning_of.ensures at c.in_err-run_quiet.ensures.output)
     (same_error (valid_least c.args.least) c.in_err-run_quiet.field-0.0 _ refl c.in_err-run_quiet.ensures.bad_least)
     c.from_residual-in_err-run_quiet.ensures.1))
 
 pub returns : goal.returns
-returns g c = went_on _ c.in_ok-span.ensures (went_on _ c.in_ok-input.ensures (printed _ _ _ _ _ _ c.in_ok-run_quiet.ensures.output))
+returns g c = went_on _ c.in_ok-span.ensures (went_on _ c.in_ok-input.ensures (printed _ _ _ _ _ _ (rw c.planning_of.ensures at c.in_ok-run_quiet.ensures.output)))
