@@ -102,10 +102,12 @@ fn send_job<R: Wait>(
 
     // For any messages that come after the job's.
     ensures all { let span = task.now.span in IfOk result (λ reached. (rest : List Note) →
-        (outlet_of outlet.old).sent ++ cut_rest task.now.sizes.limit count (map (Note.Part number) (pieces job.now.rule (first_second span job.now.delay) span.upto) ++ rest)
+        (outlet_of outlet.old).sent ++ cut_rest task.now.sizes.limit count
+        (map (Note.Part number) (pieces job.now.rule (first_second span job.now.delay) span.upto) ++ rest)
         ≡ (outlet_of outlet.new).sent ++ cut_rest task.now.sizes.limit reached rest) }
     ensures prefix { let span = task.now.span in OnErr result ((rest : List Note) → IsPrefix (outlet_of outlet.new).sent
-        ((outlet_of outlet.old).sent ++ cut_rest task.now.sizes.limit count (map (Note.Part number) (pieces job.now.rule (first_second span job.now.delay) span.upto) ++ rest))) }
+        ((outlet_of outlet.old).sent ++ cut_rest task.now.sizes.limit count
+        (map (Note.Part number) (pieces job.now.rule (first_second span job.now.delay) span.upto) ++ rest))) }
 {
     let upto = task.span.upto();
     let mut since = first_second(task.span, job.delay());
