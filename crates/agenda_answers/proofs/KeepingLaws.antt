@@ -240,8 +240,8 @@ upcoming_unchanged law held after jobs (Err failure) is (Ok kept) by none status
 upcoming_unchanged law held after jobs goal is (Err failure) by other status out err ends =
     failed_same (upcoming_ends held after jobs) jobs.sources failure status out err
     (fails_same (moment_of After after) (λ moment. of_jobs.Upcoming moment jobs.delays) held jobs
-    (λ moment input. prints 0 (IsTextOfUpcoming input.zones input.sources moment jobs.delays) (RefusesUpcoming input.zones input.sources)) goal
-    failure is
+    (λ moment input. prints 0 (IsTextOfUpcoming input.zones input.sources moment jobs.delays) (RefusesUpcoming input.zones input.sources))
+    goal failure is
     (fails_first held goal jobs failure by other)) ends
 
 pub quiet_unchanged :

@@ -18,4 +18,5 @@ returns-in_err-run_quiet g c =
     c.from_residual-in_err-run_quiet.ensures.1))
 
 pub returns : goal.returns
-returns g c = went_on _ c.in_ok-span.ensures (went_on _ c.in_ok-input.ensures (printed _ _ _ _ _ _ (rw c.planning_of.ensures at c.in_ok-run_quiet.ensures.output)))
+returns g c =
+    went_on _ c.in_ok-span.ensures (went_on _ c.in_ok-input.ensures (printed _ _ _ _ _ _ (rw c.planning_of.ensures at c.in_ok-run_quiet.ensures.output)))
