@@ -15,4 +15,5 @@ returns-in_err-run_plan g c =
 
 pub returns : goal.returns
 returns g c =
-    went_on _ c.in_ok-span.ensures (went_on _ c.in_ok-input.ensures (printed _ _ _ _ _ _ (rw c.planning_of.ensures at c.in_ok-run_plan.ensures.output)))
+    went_on _ c.in_ok-span.ensures (went_on _ c.in_ok-input.ensures
+    (printed _ _ _ _ _ _ (rw c.planning_of.ensures at c.in_ok-run_plan.ensures.output)))
