@@ -239,6 +239,7 @@ delays_timer inner 06:30 'RandomizedDelaySec=10min\nAccuracySec=0'
 delays_timer over 06:45 'RandomizedDelaySec=30min\nAccuracySec=0'
 delays_file seven '0 7 * * * y\n'
 delays_file later '30 7 * * * y\n'
+delays_file both '0 7 * * * y\n30 7 * * * y\n'
 delays_rows <<'ROWS'
 quiet span hour.timer|@00:00:00Z @06:00:00Z 21600;@07:00:00Z + 61200
 quiet span hour.timer inner.timer|@00:00:00Z @06:00:00Z 21600;@07:00:00Z + 61200
@@ -261,7 +262,7 @@ quiet --since @06:00:00Z --upto @06:00:00Z --least 1 hour.timer|
 quiet span day.timer|
 quiet span --least 1 day.timer|
 quiet --since @00:00:00Z --upto 2024-01-02T00:00:01Z --least 1 day.timer|
-quiet span --crontab seven --crontab later|@00:00:00Z @07:00:00Z 25200;@07:00:00Z @07:30:00Z 1800;@07:30:00Z + 59400
+quiet span --crontab both|@00:00:00Z @07:00:00Z 25200;@07:00:00Z @07:30:00Z 1800;@07:30:00Z + 59400
 ROWS
 
 # The gaps are those that the lines of a plan leave.
