@@ -1,6 +1,6 @@
 # shellcheck shell=bash disable=SC2154
 # Rows of bin/check-examples: what --delays adds to the answers of `agenda plan`, `agenda upcoming` and `agenda quiet`: the latest time of a
-# start, the starts before the span that may fall into it, and the gaps in which nothing can start. rows/check.sh and rows/messages.sh have
+# start, the starts before the span that may fall into it, and the gaps in which no job can start. rows/check.sh and rows/messages.sh have
 # the warnings about delays.
 
 delays_folder="$work/delays"
