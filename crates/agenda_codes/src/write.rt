@@ -14,7 +14,7 @@ use plan_streams::{Stream, TextWriter, WriteFault};
 ///
 /// # Errors
 ///
-/// `Device` if the stream fails. Then only the first bytes of the text were written.
+/// `Device` or `Closed` if the stream fails. Then only the first bytes of the text were written.
 pub fn write_explanation<S: Stream>(code: Code, out: &mut S) -> Result<(), WriteFault>
     ensures { Puts S.takes_all result (S.holds out.old) (S.holds out.new) (text_of code) }
 {
@@ -26,7 +26,7 @@ pub fn write_explanation<S: Stream>(code: Code, out: &mut S) -> Result<(), Write
 ///
 /// # Errors
 ///
-/// `Device` if the stream fails. Then only the first bytes of the text were written.
+/// `Device` or `Closed` if the stream fails. Then only the first bytes of the text were written.
 pub fn write_codes<S: Stream>(out: &mut S) -> Result<(), WriteFault>
     ensures { Puts S.takes_all result (S.holds out.old) (S.holds out.new) codes_text }
 {

@@ -20,6 +20,8 @@ use Rattle.plan_collect.specs.Span.{span_cause}
 use Rattle.plan_grammar.specs.Causes.{rule_cause}
 use Rattle.plan_rules.specs.Causes.{line_cause}
 use Rattle.plan_sets.specs.Causes.{moment_cause}
+use Rattle.plan_streams.specs.declared.WriteFault.{WriteFault}
+use Rattle.plan_streams.specs.declared.WriteFault.TheVariants as stream
 use Rattle.plan_zones.specs.declared.zone_fault.ZoneFault.{ZoneFault}
 use Rattle.plan_zones.specs.declared.zone_fault.ZoneFault.TheVariants as zone
 use Rattle.plan_zones.specs.Zones.{zone_fault_name}
@@ -95,6 +97,11 @@ plan_line (plan.Collect fault) = collect_line fault
 plan_line (plan.NotSettled unsettled) = codes "agenda: NotSettled\n"
 plan_line plan.BadLimit = codes "agenda: plan: BadLimit\n"
 
+-- a stream that failed; there is no line if the reader of a pipe closed it
+abbrev pub device_line : WriteFault → List ℕ
+device_line stream.Device = codes "agenda: Device\n"
+device_line stream.Closed = []
+
 -- a command that was not done, with the paths of the plan's sources
 abbrev pub run_line : List SourcePath → RunFault → List ℕ
 run_line sources NoMemory = memory_line
@@ -105,7 +112,7 @@ run_line sources (SameName name) = codes "agenda: job " ++ (name ++ codes ": Sam
 run_line sources Full = codes "agenda: jobs: Full\n"
 run_line sources (Plan fault) = plan_line fault
 run_line sources (Script fault) = script_line fault.line fault.cause
-run_line sources Device = codes "agenda: Device\n"
+run_line sources (Device fault) = device_line fault
 run_line sources BadLeast = codes "agenda: quiet: BadLeast\n"
 
 -- a zone that can't be used. If an allocation failed, the zone is not named

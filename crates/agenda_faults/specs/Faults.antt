@@ -111,7 +111,7 @@ run_status (SameName name) = refused_status
 run_status Full = refused_status
 run_status (Plan fault) = plan_status fault
 run_status (Script fault) = script_status fault.cause
-run_status Device = failed_status
+run_status (Device fault) = failed_status
 run_status BadLeast = refused_status
 
 -- the exit status for a failure (agenda)

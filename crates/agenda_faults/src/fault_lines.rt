@@ -2,7 +2,7 @@
 
 ghost use Rattle.std.specs.Prelude.{◌≡◌, ◌++◌, codes};
 ghost use Rattle.agenda_faults.specs.Faults.{status_of};
-ghost use Rattle.agenda_faults.specs.FaultLines.{caused_line, collect_line, fault_text, name_of, numbered_line, plan_line, rule_line, run_line};
+ghost use Rattle.agenda_faults.specs.FaultLines.{caused_line, collect_line, device_line, fault_text, name_of, numbered_line, plan_line, rule_line, run_line};
 ghost use Rattle.agenda_faults.specs.FaultLines.{script_line, source_line, source_name, source_rule_line, text_of_line, text_of_part, zone_line};
 ghost use Rattle.plan_streams.specs.Stream.{Puts, PutsOrBreaksOff};
 ghost use Rattle.plan_streams.specs.Writer.{Takes};
@@ -30,7 +30,7 @@ pub fn fault_line<S: Stream>(failure: &Failure, sources: &[SourcePath], stream: 
         (fault_text sources.now failure.now) }
 {
     match write_failure(failure, sources, stream) {
-        Ok(()) | Err(WriteFault::Device) => failure.status(),
+        Ok(()) | Err(_) => failure.status(),
     }
 }
 
@@ -111,8 +111,18 @@ fn put_run_fault<S: Stream>(fault: &RunFault, sources: &[SourcePath], line: &mut
         RunFault::Full => line.put(b"agenda: jobs: Full\n"),
         RunFault::Plan(fault) => put_plan_fault(*fault, line),
         RunFault::Script(fault) => put_script_fault(*fault, line),
-        RunFault::Device => line.put(b"agenda: Device\n"),
+        RunFault::Device(fault) => line.put(device_line(*fault)),
         RunFault::BadLeast => line.put(b"agenda: quiet: BadLeast\n"),
+    }
+}
+
+// Returns the line of a stream that failed. There is none if the reader of a pipe closed it.
+fn device_line(fault: WriteFault) -> &'static [u8]
+    ensures { result.now ≡ device_line fault }
+{
+    match fault {
+        WriteFault::Device => b"agenda: Device\n",
+        WriteFault::Closed => b"",
     }
 }
 

@@ -40,9 +40,9 @@ pub enum RunFault {
     /// The script is invalid.
     #[error("{0}")]
     Script(ScriptFault),
-    /// The writer failed.
-    #[error("Device")]
-    Device,
+    /// The stream failed.
+    #[error("{0}")]
+    Device(WriteFault),
     /// The minimum gap of `quiet` is 0 seconds.
     #[error("BadLeast")]
     BadLeast,
@@ -74,10 +74,10 @@ impl From<WriteFault> for RunFault {
     ghost use Rattle.std.specs.Prelude.{◌≡◌};
     ghost use Rattle.agenda_faults.specs.declared.faults.RunFault.TheVariants.{Device};
 
-    ghost from_gives = { λ _ fault. fault ≡ Device };
+    ghost from_gives = { λ fault answer. answer ≡ Device fault };
 
-    fn from(_fault: WriteFault) -> RunFault {
-        RunFault::Device
+    fn from(fault: WriteFault) -> RunFault {
+        RunFault::Device(fault)
     }
 }
 
@@ -255,7 +255,7 @@ impl RunFault {
             RunFault::BadCount | RunFault::BadLeast | RunFault::SameName(_) | RunFault::Full => {
                 REFUSED
             }
-            RunFault::NoMemory | RunFault::Device => FAILED,
+            RunFault::NoMemory | RunFault::Device(_) => FAILED,
         }
     }
 }

@@ -1,6 +1,15 @@
 -- What a stream holds after a text is put on it (agenda).
 use Rattle.std.specs.Prelude.{◌≡◌, ℕ, ◌≤◌, ◌⊎◌, Bool, false, List, ◌++◌, length, take, Option, Result, Ok, Err}
 use Rattle.std.specs.Io.KnownBytes.{Appends}
+use Rattle.std.specs.declared.io.ErrorKind.{ErrorKind}
+use Rattle.std.specs.declared.io.ErrorKind.TheVariants.{BrokenPipe}
+use Rattle.plan_streams.specs.declared.stream.WriteFault.{WriteFault}
+use Rattle.plan_streams.specs.declared.stream.WriteFault.TheVariants.{Closed, Device}
+
+-- why a text was not written, by the kind of the writer's error: a pipe whose reader has gone is closed (write(2), EPIPE)
+abbrev pub fault_of_kind : ErrorKind → WriteFault
+fault_of_kind BrokenPipe = Closed
+fault_of_kind kind = Device
 
 -- the stream took the first bytes of a text, any number of them
 abbrev pub AppendsPrefix : (old new : Option (List ℕ)) → List ℕ → Type 0

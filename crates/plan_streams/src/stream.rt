@@ -2,17 +2,20 @@
 
 ghost use Rattle.std.specs.Prelude.{◌≡◌, OnOk, OnErr};
 ghost use Rattle.std.specs.Io.KnownBytes.{Appends};
-ghost use Rattle.plan_streams.specs.Stream.{AppendsPrefix, Puts};
+ghost use Rattle.plan_streams.specs.Stream.{AppendsPrefix, Puts, fault_of_kind};
 
-use std::io::Write;
+use std::io::{ErrorKind, Write};
 use thiserror::Error;
 
 /// Why a text was not written.
 #[derive(Clone, Copy, Debug, PartialEq, Eq, Error)]
 pub enum WriteFault {
-    /// A write or the flush returned an error, or a write took no bytes.
+    /// A write or the flush returned another error than that of `Closed`, or a write took no bytes.
     #[error("Device")]
     Device,
+    /// The stream is a pipe, and its reader has closed it.
+    #[error("Closed")]
+    Closed,
 }
 
 /// A destination for whole texts, such as standard output.
@@ -29,7 +32,8 @@ pub trait Stream {
     ///
     /// # Errors
     ///
-    /// `Device` if the stream fails. Then only the first bytes of the text were written, perhaps none or all.
+    /// `Device` or `Closed` if the stream fails. Then only the first bytes of the text were written, perhaps none
+    /// or all.
     fn put(&mut self, text: &[u8]) -> Result<(), WriteFault>
         ensures { Puts takes_all result (holds self.old) (holds self.new) text.now };
 
@@ -63,7 +67,7 @@ fn write_text<W: Write>(text: &[u8], out: &mut W) -> Result<(), WriteFault>
     write_bytes(text, out)?;
     match out.flush() {
         Ok(()) => Ok(()),
-        Err(_) => Err(WriteFault::Device),
+        Err(error) => Err(fault_of_kind(error.kind())),
     }
 }
 
@@ -76,8 +80,19 @@ fn write_bytes<W: Write>(bytes: &[u8], out: &mut W) -> Result<(), WriteFault>
     while !rest.is_empty() {
         match out.write(rest) {
             Ok(taken) if taken > 0 => rest = &rest[taken..],
-            _ => return Err(WriteFault::Device),
+            Ok(_) => return Err(WriteFault::Device),
+            Err(error) => return Err(fault_of_kind(error.kind())),
         }
     }
     Ok(())
+}
+
+// Returns why a text was not written, by the kind of the writer's error.
+fn fault_of_kind(kind: ErrorKind) -> WriteFault
+    ensures { result ≡ fault_of_kind kind }
+{
+    match kind {
+        ErrorKind::BrokenPipe => WriteFault::Closed,
+        _ => WriteFault::Device,
+    }
 }

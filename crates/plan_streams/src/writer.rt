@@ -77,7 +77,7 @@ impl<'a, S: Stream> TextWriter<'a, S> {
     ///
     /// # Errors
     ///
-    /// `Device` if the stream failed. Then only the first bytes of the texts were written.
+    /// `Device` or `Closed` if the stream failed. Then only the first bytes of the texts were written.
     pub fn finish(&mut self) -> Result<(), WriteFault>
         ensures { Finishes S.holds S.takes_all result self.old self.new }
     {

@@ -9,9 +9,6 @@ returns-in-BadCount g c = rw c.in-BadCount.is c.put-in-BadCount.ensures
 pub returns-in-Full : goal.returns-in-Full
 returns-in-Full g c = rw c.in-Full.is c.put-in-Full.ensures
 
-pub returns-in-Device : goal.returns-in-Device
-returns-in-Device g c = rw c.in-Device.is c.put-in-Device.ensures
-
 pub returns-in-BadLeast : goal.returns-in-BadLeast
 returns-in-BadLeast g c = rw c.in-BadLeast.is c.put-in-BadLeast.ensures
 
