@@ -10,7 +10,7 @@ use plan_clock::Clock;
 use plan_texts::Text;
 use std::marker::Model;
 
-/// A time zone that events may name.
+/// A time zone with its name.
 #[derive(Debug, Drop)]
 pub struct NamedZone {
     /// The name, such as `Europe/Berlin`. Upper and lower case are different.

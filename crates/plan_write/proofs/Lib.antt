@@ -7,3 +7,5 @@ pub mod NextLemmas
 pub mod ReplyRows
 pub mod EndLemmas
 pub mod MessageLemmas
+pub mod JsonLemmas
+pub mod JsonLaws

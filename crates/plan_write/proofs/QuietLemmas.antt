@@ -8,28 +8,31 @@ use Rattle.plan_sets.specs.Limits.{end_second}
 use Rattle.plan_rules.specs.Job.{JobParts}
 use Rattle.plan_collect.specs.Agenda.{IsInYears}
 use Rattle.plan_collect.specs.Windows.{latest_start}
+use Rattle.plan_write.specs.declared.formats.Format.{Format}
 use Rattle.plan_write.specs.Quiet.{between, delay_of, is_gap, gap_line, line_of_gap, window_of}
 
 -- the text of the gaps that are left, of entries after a reach
-abbrev pub text_left : (least : ℕ) → List JobParts → (reach upto : ℕ) → List (ℕ × ℕ) → List ℕ
-text_left least jobs reach upto entries = flat_map gap_line (filter (is_gap least) (between reach upto (map (window_of jobs) entries)))
+abbrev pub text_left : (format : Format) (least : ℕ) → List JobParts → (reach upto : ℕ) → List (ℕ × ℕ) → List ℕ
+text_left format least jobs reach upto entries = flat_map (gap_line format) (filter (is_gap least) (between reach upto (map
+    (window_of jobs) entries)))
 
 first_pair :
-    (least : ℕ) (pair : ℕ × ℕ) (later : List (ℕ × ℕ)) →
-    flat_map gap_line (filter (is_gap least) (pair ∷ later)) ≡ line_of_gap least pair ++ flat_map gap_line (filter (is_gap least) later)
-first_pair least pair later = elim (cases_Bool (is_gap least pair)) [
+    (format : Format) (least : ℕ) (pair : ℕ × ℕ) (later : List (ℕ × ℕ)) →
+    flat_map (gap_line format) (filter (is_gap least) (pair ∷ later)) ≡ line_of_gap format least pair
+    ++ flat_map (gap_line format) (filter (is_gap least) later)
+first_pair format least pair later = elim (cases_Bool (is_gap least pair)) [
   | inl is ↦ rw is refl
   | inr not ↦ rw not refl
 ]
 
 -- two reaches that are the same in the planner's years
 same_line :
-    (least reach other to : ℕ) → min reach end_second ≡ min other end_second → to ≤ end_second →
-    line_of_gap least (reach, to) ≡ line_of_gap least (other, to)
-same_line least reach other to same years = elim (cases_lt reach to) [
+    (format : Format) (least reach other to : ℕ) → min reach end_second ≡ min other end_second → to ≤ end_second →
+    line_of_gap format least (reach, to) ≡ line_of_gap format least (other, to)
+same_line format least reach other to same years = elim (cases_lt reach to) [
   | inl lt ↦
       let one : reach ≡ other = omega (arith, same, years, lt) in
-      ap (λ n. line_of_gap least (n, to)) one
+      ap (λ n. line_of_gap format least (n, to)) one
   | inr ge ↦
       let none : nat_lt reach to ≡ false = le-ltb reach to ge in
       let no_other : nat_lt other to ≡ false = le-ltb other to (omega (arith, same, years, ge)) in
@@ -43,21 +46,24 @@ first_in_years entry entries all =
     (ltb-true entry.0 end_second both.0, both.1)
 
 same_left :
-    (least : ℕ) (jobs : List JobParts) (reach other upto : ℕ) (entries : List (ℕ × ℕ)) → min reach end_second ≡ min other end_second →
-    upto ≤ end_second → IsInYears entries → text_left least jobs reach upto entries ≡ text_left least jobs other upto entries
-same_left least jobs reach other upto [] same end years =
-    first_pair least (reach, upto) [] ∙ ap (λ line. line ++ []) (same_line least reach other upto same end)
-    ∙ sym (first_pair least (other, upto) [])
-same_left least jobs reach other upto (entry ∷ entries) same end years =
+    (format : Format) (least : ℕ) (jobs : List JobParts) (reach other upto : ℕ) (entries : List (ℕ × ℕ)) →
+    min reach end_second ≡ min other end_second →
+    upto ≤ end_second → IsInYears entries → text_left format least jobs reach upto entries ≡ text_left format least jobs other upto entries
+same_left format least jobs reach other upto [] same end years =
+    first_pair format least (reach, upto) [] ∙ ap (λ line. line ++ []) (same_line format least reach other upto same end)
+    ∙ sym (first_pair format least (other, upto) [])
+same_left format least jobs reach other upto (entry ∷ entries) same end years =
     let (before, later) = first_in_years entry entries years in
     let window = window_of jobs entry in
     let next = max reach window.1 in
     let other_next = max other window.1 in
     let same_next : min next end_second ≡ min other_next end_second = omega (arith, same) in
-    first_pair least (reach, entry.0) (between next upto (map (window_of jobs) entries))
-    ∙ ap (λ line. line ++ text_left least jobs next upto entries) (same_line least reach other entry.0 same (omega (arith, before)))
-    ∙ ap (λ text. line_of_gap least (other, entry.0) ++ text) (same_left least jobs next other_next upto entries same_next end later)
-    ∙ sym (first_pair least (other, entry.0) (between other_next upto (map (window_of jobs) entries)))
+    first_pair format least (reach, entry.0) (between next upto (map (window_of jobs) entries))
+    ∙ ap (λ line. line ++ text_left format least jobs next upto entries) (same_line format least reach other entry.0 same
+    (omega (arith, before)))
+    ∙ ap (λ text. line_of_gap format least (other, entry.0) ++ text) (same_left format least jobs next other_next upto
+    entries same_next end later)
+    ∙ sym (first_pair format least (other, entry.0) (between other_next upto (map (window_of jobs) entries)))
 
 rest_from : (entries : List (ℕ × ℕ)) (i : ℕ) (d : ℕ × ℕ) → i < length entries → drop i entries ≡ get_or entries i d ∷ drop (suc i) entries
 rest_from [] i d lt = absurd (omega arith)
@@ -72,18 +78,19 @@ years_from (entry ∷ entries) (suc i) all = years_from entries i (first_in_year
 
 -- the rest after a reach starts with what is before the next entry
 pub text_at :
-    (least : ℕ) (jobs : List JobParts) (reach upto : ℕ) (entries : List (ℕ × ℕ)) (i : ℕ) (entry : ℕ × ℕ) (latest : ℕ) →
+    (format : Format) (least : ℕ) (jobs : List JobParts) (reach upto : ℕ) (entries : List (ℕ × ℕ)) (i : ℕ) (entry : ℕ × ℕ) (latest : ℕ) →
     i < length entries → entry ≡ get_or entries i entry → latest ≡ latest_start (delay_of (slice_get jobs entry.1)) entry.0 →
     upto ≤ end_second → IsInYears entries →
-    text_left least jobs reach upto (drop i entries)
-    ≡ line_of_gap least (reach, entry.0) ++ text_left least jobs (max reach latest) upto (drop (i + 1) entries)
-text_at least jobs reach upto entries i entry latest lt here late end years =
+    text_left format least jobs reach upto (drop i entries)
+    ≡ line_of_gap format least (reach, entry.0) ++ text_left format least jobs (max reach latest) upto (drop (i + 1) entries)
+text_at format least jobs reach upto entries i entry latest lt here late end years =
     let one : suc i ≡ i + 1 = omega arith in
     let later = drop (i + 1) entries in
     let rest : drop i entries ≡ entry ∷ later =
     rest_from entries i entry lt ∙ ap (λ k. get_or entries i entry ∷ drop k entries) one ∙ ap (λ e. e ∷ later) (sym here) in
     let next = max reach (window_of jobs entry).1 in
     let same : min next end_second ≡ min (max reach latest) end_second = omega (arith, late) in
-    ap (text_left least jobs reach upto) rest ∙ first_pair least (reach, entry.0) (between next upto (map (window_of jobs) later))
-    ∙ ap (λ text. line_of_gap least (reach, entry.0) ++ text)
-    (same_left least jobs next (max reach latest) upto later same end (years_from entries (i + 1) years))
+    ap (text_left format least jobs reach upto) rest ∙ first_pair format least (reach, entry.0) (between next upto (map
+    (window_of jobs) later))
+    ∙ ap (λ text. line_of_gap format least (reach, entry.0) ++ text)
+    (same_left format least jobs next (max reach latest) upto later same end (years_from entries (i + 1) years))

@@ -50,3 +50,18 @@ other_time n m time text is here before =
     let of_day : time ≡ m % seconds_a_day = omega (arith, here, before) in
     ap (λ old. replaced 17 (time % 60) (replaced 14 (time / 60 % 60) (replaced 11 (time / 3600) old))) (is ∙ in_parts n)
     ∙ (λ i. text_of (day i) (of_day i / 3600) (of_day i / 60 % 60) (of_day i % 60)) ∙ sym (in_parts m)
+
+-- the text of a time without its tab
+pub moment_front : (n : ℕ) → take 20 (stamp_text n) ≡ moment_text_of n
+unfolding moment_text_of
+moment_front n = refl
+
+-- and without the letter of UTC
+pub date_time_front : (n : ℕ) → take 19 (stamp_text n) ≡ take 19 (moment_text_of n)
+unfolding moment_text_of
+date_time_front n = refl
+
+-- the text of a time is its date, its time of day and the letter of UTC
+pub date_time_utc : (n : ℕ) → take 19 (moment_text_of n) ++ codes "Z" ≡ moment_text_of n
+unfolding moment_text_of
+date_time_utc n = refl

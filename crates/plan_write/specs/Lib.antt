@@ -1,4 +1,9 @@
 pub use Rattle.plan_sets.specs.Moment
+pub mod Formats
+pub mod LocalTimes
+pub mod TimeFields
+pub mod Json
+pub mod Escapes
 pub mod Texts
 pub mod Stamp
 pub mod Upcoming

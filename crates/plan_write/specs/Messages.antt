@@ -102,6 +102,10 @@ range_of other values = []
 abbrev pub problem : RuleCause → (values wrong : List ℕ) → List ℕ
 problem cause values wrong = problem_text cause wrong ++ range_of cause values
 
+-- the same, after what the part is
+abbrev pub problem_after : RuleCause → (values wrong : List ℕ) → List ℕ
+problem_after cause values wrong = codes ": " ++ problem cause values wrong
+
 -- fields are missing
 abbrev pub expected_fields : List ℕ
 expected_fields = codes "expected five fields and a command"
@@ -120,8 +124,7 @@ abbrev pub field_message : RuleFault → (quote : List ℕ) → List ℕ
 field_message fault quote =
     field_name fault.part
     ++ (codes " "
-    ++ (quoted quote
-    ++ (codes ": " ++ problem fault.cause (field_values fault.part) (codes "empty value, or a step after a single value"))))
+    ++ (quoted quote ++ problem_after fault.cause (field_values fault.part) (codes "empty value, or a step after a single value")))
 
 -- the error of a cron rule; part 0 is the whole rule
 abbrev pub cron_message : RuleFault → (quote : List ℕ) → List ℕ
@@ -145,7 +148,7 @@ abbrev pub part_message : RuleFault → (quote : List ℕ) → List ℕ
 part_message fault quote =
     part_name fault.part
     ++ (codes " in "
-    ++ (quoted quote ++ (codes ": " ++ problem fault.cause (part_values fault.part) (codes "empty value, or a step after *"))))
+    ++ (quoted quote ++ problem_after fault.cause (part_values fault.part) (codes "empty value, or a step after *")))
 
 -- the error of an event; part 0 is the whole event
 abbrev pub event_message : RuleFault → (quote : List ℕ) → List ℕ

@@ -1,13 +1,15 @@
 -- The gaps of an agenda, in which no job may start (agenda).
-use Rattle.std.specs.Prelude.{◌≡◌, ℕ, ◌+◌, ◌-◌, ◌<◌, ◌≤◌, ◌&&◌, Bool, true, nat_le, nat_lt, max, if◌then◌else◌, List, [], ◌∷◌, ◌++◌, map, filter, codes, decimal, Option, Some, None, slice_get}
+use Rattle.std.specs.Prelude.{◌≡◌, ℕ, ◌+◌, ◌-◌, ◌<◌, ◌≤◌, ◌&&◌, Bool, true, false, nat_le, nat_lt, max, if◌then◌else◌, List, [], ◌∷◌, ◌++◌, map, filter, codes, decimal, Option, Some, None, slice_get}
 use Rattle.std.specs.List.{flat_map}
-use Rattle.plan_sets.specs.Moment.{moment_text_of}
 use Rattle.plan_next.specs.Starts.{is_start}
 use Rattle.plan_rules.specs.Delays.{nominal}
 use Rattle.plan_rules.specs.Job.{JobParts}
 use Rattle.plan_collect.specs.Span.{Bounds}
 use Rattle.plan_collect.specs.Agenda.{Planned, planned, rules_of}
 use Rattle.plan_collect.specs.Windows.{planned_windows, timings_of}
+use Rattle.plan_write.specs.TimeFields.{field_text}
+use Rattle.plan_write.specs.declared.formats.Format.{Format}
+use Rattle.plan_write.specs.declared.time_fields.TimeField.TheVariants.{From, Until}
 
 -- the delay of a job, or 0 if there is no such job
 abbrev pub delay_of : Option JobParts → ℕ
@@ -33,17 +35,27 @@ is_gap least pair = nat_lt pair.0 pair.1 && nat_le least (pair.1 - pair.0)
 abbrev pub gaps : (least : ℕ) → Planned → List JobParts → List (ℕ × ℕ)
 gaps least made jobs = filter (is_gap least) (between made.span.since made.span.upto (map (window_of jobs) made.entries))
 
--- the line of a gap: the time of its start, that of its end, and the number of seconds between them, in decimal
-abbrev pub gap_line : ℕ × ℕ → List ℕ
-gap_line gap = moment_text_of gap.0 ++ (codes "\t" ++ (moment_text_of gap.1 ++ (codes "\t" ++ (decimal (gap.1 - gap.0) ++ codes "\n"))))
+-- the member of the seconds of a gap, in decimal, and the end of its object
+abbrev pub seconds_member : ℕ → List ℕ
+seconds_member seconds = codes ",\"seconds\":" ++ (decimal seconds ++ codes "}\n")
+
+-- the number of seconds of a gap, in decimal, and the end of its line
+abbrev pub seconds_text : (json : Bool) → ℕ → List ℕ
+seconds_text true seconds = seconds_member seconds
+seconds_text false seconds = decimal seconds ++ codes "\n"
+
+-- the line of a gap: the time of its start, that of its end, and the number of seconds between them
+abbrev pub gap_line : Format → ℕ × ℕ → List ℕ
+gap_line format gap =
+    field_text format From (Some gap.0) ++ (field_text format Until (Some gap.1) ++ seconds_text format.json (gap.1 - gap.0))
 
 -- the line of a pair, if it is such a gap
-abbrev pub line_of_gap : (least : ℕ) → ℕ × ℕ → List ℕ
-line_of_gap least pair = if is_gap least pair then gap_line pair else []
+abbrev pub line_of_gap : Format → (least : ℕ) → ℕ × ℕ → List ℕ
+line_of_gap format least pair = if is_gap least pair then gap_line format pair else []
 
 -- a line for each gap, in order
-abbrev pub quiet_text : (least : ℕ) → Planned → List JobParts → List ℕ
-quiet_text least made jobs = flat_map gap_line (gaps least made jobs)
+abbrev pub quiet_text : Format → (least : ℕ) → Planned → List JobParts → List ℕ
+quiet_text format least made jobs = flat_map (gap_line format) (gaps least made jobs)
 
 -- no job may start between the start and the end of a gap of the agenda of its windows: at no second from one of its starts to
 -- that start and its delay

@@ -1,20 +1,41 @@
--- The text of an agenda.
-use Rattle.std.specs.Prelude.{ℕ, List, [], ◌++◌, codes, decimal, length, map, Option, Some, None, slice_get, refl}
+-- The text of an agenda, by its format.
+use Rattle.std.specs.Prelude.{ℕ, Bool, true, false, if◌then◌else◌, List, [], ◌++◌, codes, decimal, length, map, Option, Some, None, option_map, slice_get, refl}
 use Rattle.std.specs.Coded.{Coded, code_by, coded×, coded_list, coded_ℕ}
 use Rattle.std.specs.List.{flat_map}
-use Rattle.plan_sets.specs.Moment.{moment_text_of}
 use Rattle.plan_rules.specs.Job.{JobParts}
+use Rattle.plan_rules.specs.declared.NamedZone.{NamedZone}
 use Rattle.plan_collect.specs.Agenda.{Planned}
 use Rattle.plan_collect.specs.Windows.{latest_start}
+use Rattle.plan_write.specs.Json.{json_string}
+use Rattle.plan_write.specs.TimeFields.{field_text, time_column}
+use Rattle.plan_write.specs.declared.formats.Format.{Format}
+use Rattle.plan_write.specs.declared.time_fields.TimeField.TheVariants.{Start, Latest}
 
--- what a job runs, as a line shows it: the user and a space, if there is a user, and the command (agenda)
+-- ---- the ends of lines
+
+-- what a job runs, as a line of text shows it: the user and a space, if there is a user, and the command (agenda)
 abbrev pub run_text : (user : Option (List ℕ)) → (command : List ℕ) → List ℕ
 run_text None command = command
 run_text (Some user) command = user ++ (codes " " ++ command)
 
--- the end of each line of a job: its name, a tab, what it runs, and a newline (agenda)
+-- the end of each line of a job in text: its name, a tab, what it runs, and a newline (agenda)
 abbrev pub end_text : JobParts → List ℕ
 end_text job = job.name ++ (codes "\t" ++ (run_text job.user job.command ++ codes "\n"))
+
+-- the member of a job's user, if it has one (agenda)
+abbrev pub user_member : (user : Option (List ℕ)) → List ℕ
+user_member None = []
+user_member (Some user) = codes ",\"user\":" ++ json_string user
+
+-- the end of each object of a job: its name, its user, if it has one, and its command (agenda)
+abbrev pub end_members : JobParts → List ℕ
+end_members job =
+    codes ",\"job\":" ++ (json_string job.name ++ (user_member job.user ++ (codes ",\"run\":" ++ (json_string job.command ++ codes "}\n"))))
+
+-- the end of each line of a job
+abbrev pub end_in : (json : Bool) → JobParts → List ℕ
+end_in true job = end_members job
+end_in false job = end_text job
 
 -- what the lines of a job need: the text of their end, and the job's delay in seconds
 pub record EndParts : Type 0 where
@@ -28,56 +49,61 @@ end_code =
     (λ t. record { text = t.0; delay = t.1 }) (λ _. refl)
 
 -- what the lines of this job need
-abbrev pub line_end : JobParts → EndParts
-line_end job = record { text = end_text job; delay = job.delay }
+abbrev pub line_end : (json : Bool) → JobParts → EndParts
+line_end json job = record { text = end_in json job; delay = job.delay }
 
--- the line of an entry: the time, a tab, and the end of the lines of the entry's job (agenda)
-abbrev pub line_of : ℕ → (end : Option EndParts) → List ℕ
-line_of second None = []
-line_of second (Some end) = moment_text_of second ++ (codes "\t" ++ end.text)
+-- ---- lines
 
--- the same with delays: the time, a tab, the time of the latest start, a tab, and the end of the lines of the entry's job
--- (agenda)
-abbrev pub delayed_line_of : ℕ → (end : Option EndParts) → List ℕ
-delayed_line_of second None = []
-delayed_line_of second (Some end) =
-    moment_text_of second ++ (codes "\t" ++ (moment_text_of (latest_start end.delay second) ++ (codes "\t" ++ end.text)))
+-- the time of the latest start for a start of a job with this delay, if delays count (agenda)
+abbrev pub latest_field : Format → (delays : Bool) → (delay : ℕ) → (at : Option ℕ) → List ℕ
+latest_field format true delay at = field_text format Latest (option_map (latest_start delay) at)
+latest_field format false delay at = []
+
+-- the line of a job that starts at a time, if it starts: that time, the latest one, and the end of the job's lines (agenda)
+abbrev pub job_line : Format → (delays : Bool) → (at : Option ℕ) → EndParts → List ℕ
+job_line format delays at end = field_text format Start at ++ (latest_field format delays end.delay at ++ end.text)
+
+-- the same, if there is such a job
+abbrev pub line_of : Format → (delays : Bool) → (at : Option ℕ) → Option EndParts → List ℕ
+line_of format delays at None = []
+line_of format delays at (Some end) = job_line format delays at end
 
 -- the lines of entries, in order, by the ends of the lines of each job
-abbrev pub lines_of : List (ℕ × ℕ) → (ends : List EndParts) → List ℕ
-lines_of entries ends = flat_map (λ entry. line_of entry.0 (slice_get ends entry.1)) entries
+abbrev pub lines_of : Format → (delays : Bool) → List (ℕ × ℕ) → (ends : List EndParts) → List ℕ
+lines_of format delays entries ends = flat_map (λ entry. line_of format delays (Some entry.0) (slice_get ends entry.1)) entries
 
--- the same with delays
-abbrev pub delayed_lines_of : List (ℕ × ℕ) → (ends : List EndParts) → List ℕ
-delayed_lines_of entries ends = flat_map (λ entry. delayed_line_of entry.0 (slice_get ends entry.1)) entries
+-- ---- the header
 
--- the header of an agenda: the format of its text, the start of the span, its end, and the number of entries, in decimal
--- (agenda)
-abbrev pub header_with : (format : List ℕ) → Planned → List ℕ
-header_with format made =
-    format ++ (codes "\t" ++ (moment_text_of
-    made.span.since ++ (codes "\t" ++ (moment_text_of made.span.upto ++ (codes "\t" ++ (decimal (length made.entries) ++ codes "\n"))))))
+-- the version of the text: the second, or the third if delays count (agenda)
+abbrev pub version : (delays : Bool) → List ℕ
+version true = codes "agenda 3"
+version false = codes "agenda 2"
 
--- the header of an agenda without delays: the second format (agenda)
-abbrev pub header_of : Planned → List ℕ
-header_of made = header_with (codes "agenda 2") made
+-- the name of the zone by whose clock times are shown, if there is one (agenda)
+abbrev pub zone_mark : (local : Option NamedZone) → List ℕ
+zone_mark None = []
+zone_mark (Some zone) = codes " " ++ zone.name
 
--- the header of an agenda with delays: the third format (agenda)
-abbrev pub delayed_header_of : Planned → List ℕ
-delayed_header_of made = header_with (codes "agenda 3") made
+-- the start of the span of an agenda and its end, each between tabs (agenda)
+abbrev pub span_columns : (local : Option NamedZone) → Planned → List ℕ
+span_columns local made = codes "\t" ++ (time_column local (Some made.span.since) ++ time_column local (Some made.span.upto))
+
+-- the header of an agenda: the version of its text, the zone, the start of the span, its end, and the number of entries, in
+-- decimal (agenda)
+abbrev pub header_of : (local : Option NamedZone) → (delays : Bool) → Planned → List ℕ
+header_of local delays made =
+    version delays ++ (zone_mark local ++ (span_columns local made ++ (decimal (length made.entries) ++ codes "\n")))
+
+-- the same, which JSON doesn't have (agenda)
+abbrev pub header_in : Format → (delays : Bool) → Planned → List ℕ
+header_in format delays made = if format.json then [] else header_of format.local delays made
+
+-- ---- the whole text
 
 -- the agenda's text by the ends of the lines of each job: the header, then a line for each entry, in order (agenda)
-abbrev pub text_by_ends : Planned → (ends : List EndParts) → List ℕ
-text_by_ends made ends = header_of made ++ lines_of made.entries ends
-
--- the same with delays
-abbrev pub delayed_text_by_ends : Planned → (ends : List EndParts) → List ℕ
-delayed_text_by_ends made ends = delayed_header_of made ++ delayed_lines_of made.entries ends
+abbrev pub text_by_ends : Format → (delays : Bool) → Planned → (ends : List EndParts) → List ℕ
+text_by_ends format delays made ends = header_in format delays made ++ lines_of format delays made.entries ends
 
 -- the agenda's text: that by the ends of the lines of its jobs (agenda)
-abbrev pub agenda_text : Planned → List JobParts → List ℕ
-agenda_text made jobs = text_by_ends made (map line_end jobs)
-
--- the same with delays
-abbrev pub delayed_agenda_text : Planned → List JobParts → List ℕ
-delayed_agenda_text made jobs = delayed_text_by_ends made (map line_end jobs)
+abbrev pub agenda_text : Format → (delays : Bool) → Planned → List JobParts → List ℕ
+agenda_text format delays made jobs = text_by_ends format delays made (map (line_end format.json) jobs)

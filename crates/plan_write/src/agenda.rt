@@ -1,68 +1,193 @@
 //! The text of an agenda: its header, and a line for each entry.
 
-ghost use Rattle.std.specs.Prelude.{◌≡◌, ◌≤◌, length, slice_get};
+ghost use Rattle.std.specs.Prelude.{◌≡◌, ◌≤◌, Some, false, length, slice_get};
 ghost use Rattle.plan_collect.specs.Agenda.{IsOfJobs};
 ghost use Rattle.plan_streams.specs.Stream.{Puts};
-ghost use Rattle.plan_write.specs.Texts.{header_with, line_of, text_by_ends};
+ghost use Rattle.plan_write.specs.Formats.{utc_text};
+ghost use Rattle.plan_write.specs.Texts.{header_in, header_of, line_of, lines_of, span_columns, text_by_ends, version, zone_mark};
 ghost use Rattle.plan_streams.specs.Writer.{Takes};
 
+use crate::delayed::put_delayed_lines;
+use crate::formats::Format;
+use crate::job_lines::{JobStamps, put_line_at};
 use crate::line_ends::LineEnds;
 use crate::stamp::Stamp;
+use crate::time_fields::{Stamps, put_column};
 use itoa::Buffer as Digits;
 use plan_collect::{Agenda, Start};
-use plan_sets::{END_SECOND, moment_text};
+use plan_rules::NamedZone;
+use plan_sets::END_SECOND;
 use plan_streams::{Stream, TextWriter, WriteFault};
 
-/// Writes the text of an agenda, with the ends of the lines of its jobs.
+/// Writes the text of an agenda, with the ends of the lines of its jobs, which are of the same format.
 ///
-/// The header has `agenda 2`, the start of the span, its end, and the number of entries. Then comes one line
-/// for each entry: the time, the job's name, and what it runs. The parts of a line have tabs between them. This
-/// requests no memory. The stream is flushed once, at the end.
+/// Text has a header: `agenda 2`, or `agenda 3` if delays count, and the name of the zone by whose clock times are
+/// shown, if there is one; then the start of the span, its end, and the number of entries. Then comes one line for
+/// each entry: the time, the time of the latest start if delays count, the job's name, and what it runs. The parts
+/// of a line have tabs between them. The latest start is at most `END_SECOND`.
+///
+/// In JSON there is no header, and an object for each entry: its members are `start`, `local`, `latest` and
+/// `latest_local`, as far as the format and the delays request them, and then `job`, `user`, if the job has one, and
+/// `run`.
+///
+/// This requests no memory. The stream is flushed once, at the end.
 ///
 /// # Errors
 ///
-/// `Device` if the stream fails. Then only the first bytes of the text were written.
+/// `Device` or `Closed` if the stream fails. Then only the first bytes of the text were written.
 // Not inlined: its buffer of 64 KiB takes stack only while it runs.
 #[inline(never)]
 pub fn write_agenda<S: Stream>(
     agenda: &Agenda,
     ends: &LineEnds,
+    format: &Format,
+    delays: bool,
     out: &mut S,
 ) -> Result<(), WriteFault>
     requires { IsOfJobs (length ends.now) agenda.now.entries }
-    ensures { Puts S.takes_all result (S.holds out.old) (S.holds out.new) (text_by_ends agenda.now ends.now) }
+    ensures { Puts S.takes_all result (S.holds out.old) (S.holds out.new) (text_by_ends format.now delays agenda.now ends.now) }
 {
     let mut lines = TextWriter::new(out);
-    put_header(b"agenda 2", agenda, &mut lines);
-    let mut stamp = Stamp::new(0);
-    let entries = agenda.entries();
-    for entry in entries {
-        put_line(*entry, ends, &mut stamp, &mut lines);
-    }
+    put_header(agenda, format, delays, &mut lines);
+    put_lines(agenda, ends, format, delays, &mut lines);
     lines.finish()
 }
 
-/// Puts the header of an agenda, which begins with the format of its text.
-pub(crate) fn put_header<S: Stream>(format: &[u8], agenda: &Agenda, lines: &mut TextWriter<'_, S>)
-    ensures { Takes S.holds S.takes_all lines.old lines.new (header_with format.now agenda.now) }
+// Puts the header of an agenda, which JSON doesn't have.
+fn put_header<S: Stream>(
+    agenda: &Agenda,
+    format: &Format,
+    delays: bool,
+    lines: &mut TextWriter<'_, S>,
+)
+    ensures { Takes S.holds S.takes_all lines.old lines.new (header_in format.now delays agenda.now) }
 {
-    let upto = moment_text(agenda.upto());
-    lines.put_both(format, b"\t");
-    lines.put_both(&moment_text(agenda.since()), b"\t");
-    lines.put_both(&upto, b"\t");
+    if !format.json {
+        put_text_header(agenda, &format.local, delays, lines);
+    }
+}
+
+// Puts the header of an agenda in text.
+fn put_text_header<S: Stream>(
+    agenda: &Agenda,
+    local: &Option<NamedZone>,
+    delays: bool,
+    lines: &mut TextWriter<'_, S>,
+)
+    ensures { Takes S.holds S.takes_all lines.old lines.new (header_of local.now delays agenda.now) }
+{
+    lines.put(version(delays));
+    put_zone(local, lines);
+    put_span(agenda, local, lines);
     lines.put_both(Digits::new().format(agenda.len()).as_bytes(), b"\n");
 }
 
-// Puts the line of an entry.
+// Puts the start of the span of an agenda and its end, after a tab.
+fn put_span<S: Stream>(agenda: &Agenda, local: &Option<NamedZone>, lines: &mut TextWriter<'_, S>)
+    ensures { Takes S.holds S.takes_all lines.old lines.new (span_columns local.now agenda.now) }
+{
+    let upto = agenda.upto();
+    let mut stamps = Stamps::new();
+    lines.put(b"\t");
+    put_column(local, agenda.since(), b"", &mut stamps, lines);
+    put_column(local, upto, b"", &mut stamps, lines);
+}
+
+// Returns the version of the text.
+fn version(delays: bool) -> &'static [u8]
+    ensures { result.now ≡ version delays }
+{
+    if delays { b"agenda 3" } else { b"agenda 2" }
+}
+
+// Puts the name of the zone by whose clock times are shown, if there is one.
+fn put_zone<S: Stream>(local: &Option<NamedZone>, lines: &mut TextWriter<'_, S>)
+    ensures { Takes S.holds S.takes_all lines.old lines.new (zone_mark local.now) }
+{
+    if let Some(zone) = local {
+        lines.put_both(b" ", zone.name.as_str().as_bytes());
+    }
+}
+
+// Puts the lines of entries. Text in UTC has functions of its own, which are faster.
+fn put_lines<S: Stream>(
+    agenda: &Agenda,
+    ends: &LineEnds,
+    format: &Format,
+    delays: bool,
+    lines: &mut TextWriter<'_, S>,
+)
+    requires { IsOfJobs (length ends.now) agenda.now.entries }
+    ensures { Takes S.holds S.takes_all lines.old lines.new (lines_of format.now delays agenda.now.entries ends.now) }
+{
+    if !format.is_utc_text() {
+        put_lines_in(agenda, ends, format, delays, lines);
+    } else if delays {
+        put_delayed_lines(agenda, ends, lines);
+    } else {
+        put_plain_lines(agenda, ends, lines);
+    }
+}
+
+// Puts the lines of entries in any format.
+fn put_lines_in<S: Stream>(
+    agenda: &Agenda,
+    ends: &LineEnds,
+    format: &Format,
+    delays: bool,
+    lines: &mut TextWriter<'_, S>,
+)
+    requires { IsOfJobs (length ends.now) agenda.now.entries }
+    ensures { Takes S.holds S.takes_all lines.old lines.new (lines_of format.now delays agenda.now.entries ends.now) }
+{
+    let mut stamps = JobStamps::new();
+    let entries = agenda.entries();
+    for entry in entries {
+        put_entry(*entry, ends, format, delays, &mut stamps, lines);
+    }
+}
+
+// Puts the line of an entry in any format.
 #[inline(always)]
-fn put_line<S: Stream>(
+fn put_entry<S: Stream>(
+    entry: Start,
+    ends: &LineEnds,
+    format: &Format,
+    delays: bool,
+    stamps: &mut JobStamps,
+    lines: &mut TextWriter<'_, S>,
+)
+    requires { entry.0 ≤ END_SECOND }
+    ensures { Takes S.holds S.takes_all lines.old lines.new (line_of format.now delays (Some entry.0) (slice_get ends.now entry.1)) }
+{
+    let Some(end) = ends.get(entry.job() as usize) else {
+        return;
+    };
+    put_line_at(entry.second(), end, format, delays, stamps, lines);
+}
+
+// Puts the lines of entries in text, in UTC and without latest starts.
+fn put_plain_lines<S: Stream>(agenda: &Agenda, ends: &LineEnds, lines: &mut TextWriter<'_, S>)
+    requires { IsOfJobs (length ends.now) agenda.now.entries }
+    ensures { Takes S.holds S.takes_all lines.old lines.new (lines_of utc_text false agenda.now.entries ends.now) }
+{
+    let mut stamp = Stamp::new(0);
+    let entries = agenda.entries();
+    for entry in entries {
+        put_plain_line(*entry, ends, &mut stamp, lines);
+    }
+}
+
+// Puts the line of an entry in text, in UTC and without its latest start.
+#[inline(always)]
+fn put_plain_line<S: Stream>(
     entry: Start,
     ends: &LineEnds,
     stamp: &mut Stamp,
     lines: &mut TextWriter<'_, S>,
 )
     requires { entry.0 ≤ END_SECOND }
-    ensures { Takes S.holds S.takes_all lines.old lines.new (line_of entry.0 (slice_get ends.now entry.1)) }
+    ensures { Takes S.holds S.takes_all lines.old lines.new (line_of utc_text false (Some entry.0) (slice_get ends.now entry.1)) }
 {
     let Some(end) = ends.get(entry.job() as usize) else {
         return;

@@ -1,15 +1,17 @@
-//! The ends of the lines of an agenda, made once for each job.
+//! The ends of the lines of jobs, made once for each job.
 
-ghost use Rattle.std.specs.Prelude.{◌≡◌, IfOk, map, option_copied, slice_get};
-ghost use Rattle.plan_write.specs.Texts.{end_text, line_end};
+ghost use Rattle.std.specs.Prelude.{◌≡◌, ◌++◌, IfOk, OnOk, map, option_copied, slice_get};
+ghost use Rattle.plan_write.specs.Texts.{end_in, end_members, end_text, line_end, user_member};
 
-use plan_rules::{Job, Jobs, Text};
+use crate::json_strings::push_string;
+use plan_rules::{Job, Jobs};
 use std::alloc::{AllocError, Global};
 use std::marker::Model;
 
-/// For each job of a plan, by its number, the end of the lines that an agenda has for it: what comes after the
-/// times and their tabs. This is the job's name, a tab, what it runs, and a newline. What a job runs is its
-/// user, if it has one, a space, and its command. The job's delay is kept too.
+/// For each job of a plan, by its number, the end of the lines that an answer has for it: what comes after the
+/// times. In text this is the job's name, a tab, what it runs, and a newline. What a job runs is its user, if it has
+/// one, a space, and its command. In JSON it is the members of the job's name, of its user, if it has one, and of its
+/// command. The job's delay is kept too.
 #[derive(Drop)]
 pub struct LineEnds {
     ends: Vec<LineEnd>,
@@ -25,18 +27,18 @@ impl Model for LineEnds {
 }
 
 impl LineEnds {
-    /// Makes the ends of the lines of jobs.
+    /// Makes the ends of the lines of jobs, in text or in JSON.
     ///
     /// # Errors
     ///
     /// `AllocError` if an allocation fails.
-    pub fn new(alloc: Global, jobs: &Jobs) -> Result<LineEnds, AllocError>
-        ensures { IfOk result (λ ends. ends ≡ map line_end jobs.now) }
+    pub fn new(alloc: Global, jobs: &Jobs, json: bool) -> Result<LineEnds, AllocError>
+        ensures { IfOk result (λ ends. ends ≡ map (line_end json) jobs.now) }
     {
         let mut ends = Vec::with_capacity(alloc, jobs.len())?;
         for number in 0..jobs.len() {
             if let Some(job) = jobs.get(number) {
-                ends.push(LineEnd::new(alloc, job)?)?;
+                ends.push(LineEnd::new(alloc, job, json)?)?;
             }
         }
         Ok(LineEnds { ends })
@@ -54,7 +56,7 @@ impl LineEnds {
 /// The end of the lines of a job, and the job's delay in seconds.
 #[derive(Drop)]
 pub(crate) struct LineEnd {
-    text: Text,
+    text: Vec<u8>,
     delay: u64,
 }
 
@@ -65,15 +67,15 @@ impl Model for LineEnd {
 
     ghost coded = { end_code };
 
-    ghost view = { λ end. record { text = end.text; delay = end.delay } };
+    ghost view = { λ end. record { text = end.text.items; delay = end.delay } };
 }
 
 impl LineEnd {
     // Makes the end of the lines of a job.
-    fn new(alloc: Global, job: &Job) -> Result<LineEnd, AllocError>
-        ensures { IfOk result (λ end. end ≡ line_end job.now) }
+    fn new(alloc: Global, job: &Job, json: bool) -> Result<LineEnd, AllocError>
+        ensures { IfOk result (λ end. end ≡ line_end json job.now) }
     {
-        let text = text_of(alloc, job)?;
+        let text = text_of(alloc, job, json)?;
         Ok(LineEnd {
             text,
             delay: job.delay(),
@@ -85,7 +87,7 @@ impl LineEnd {
     pub(crate) fn text(&self) -> &[u8]
         ensures { result.now ≡ self.now.text }
     {
-        self.text.as_str().as_bytes()
+        &self.text
     }
 
     /// Returns the job's delay, in seconds.
@@ -98,8 +100,19 @@ impl LineEnd {
 }
 
 // Returns the text of the end of the lines of a job.
-fn text_of(alloc: Global, job: &Job) -> Result<Text, AllocError>
-    ensures { IfOk result (λ text. text ≡ end_text job.now) }
+fn text_of(alloc: Global, job: &Job, json: bool) -> Result<Vec<u8>, AllocError>
+    ensures { IfOk result (λ text. text.items ≡ end_in json job.now) }
+{
+    if json {
+        members_of(alloc, job)
+    } else {
+        columns_of(alloc, job)
+    }
+}
+
+// Returns the end of the lines of a job in text.
+fn columns_of(alloc: Global, job: &Job) -> Result<Vec<u8>, AllocError>
+    ensures { IfOk result (λ text. text.items ≡ end_text job.now) }
 {
     let name = job.name();
     let command = job.command();
@@ -107,5 +120,32 @@ fn text_of(alloc: Global, job: &Job) -> Result<Text, AllocError>
         Some(user) => format!(in alloc; "{name}\t{user} {command}\n")?,
         None => format!(in alloc; "{name}\t{command}\n")?,
     };
-    Ok(Text::new(text))
+    Ok(text.into_bytes())
+}
+
+// Returns the end of the objects of a job.
+fn members_of(alloc: Global, job: &Job) -> Result<Vec<u8>, AllocError>
+    ensures { IfOk result (λ text. text.items ≡ end_members job.now) }
+{
+    let mut text = Vec::new(alloc);
+    text.extend_from_slice(b",\"job\":")?;
+    push_string(&mut text, job.name())?;
+    push_user(&mut text, job)?;
+    text.extend_from_slice(b",\"run\":")?;
+    push_string(&mut text, job.command())?;
+    text.extend_from_slice(b"}\n")?;
+    Ok(text)
+}
+
+// Appends the member of a job's user, if it has one.
+fn push_user(text: &mut Vec<u8>, job: &Job) -> Result<(), AllocError>
+    ensures { OnOk result (text.new.items ≡ text.old.items ++ user_member job.now.user) }
+{
+    match job.user() {
+        None => Ok(()),
+        Some(user) => {
+            text.extend_from_slice(b",\"user\":")?;
+            push_string(text, user)
+        }
+    }
 }

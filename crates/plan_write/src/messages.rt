@@ -4,8 +4,10 @@ ghost use Rattle.std.specs.Prelude.{◌≡◌, ◌<◌};
 ghost use Rattle.std.specs.Char.{digit_char};
 ghost use Rattle.std.specs.List.{flat_map};
 ghost use Rattle.plan_streams.specs.Writer.{Takes};
-ghost use Rattle.plan_write.specs.Messages.{around, bad_delay, code_of, cron_message, delayed, dots, escaped, event_message, expected_fields, field_message, field_name, field_values, full_message, message, missing_command, no_event, part_message, part_name, part_values, plain_message, plain_warning, problem, problem_text, quoted, range_of, rule_message, same_name, severity, shown, skipped_starts, unknown_key, unknown_word, warning_message, whole_event, whole_rule, with_specifiers};
+ghost use Rattle.plan_write.specs.Json.{text_in};
+ghost use Rattle.plan_write.specs.Messages.{around, bad_delay, code_of, cron_message, delayed, dots, escaped, event_message, expected_fields, field_message, field_name, field_values, full_message, message, missing_command, no_event, part_message, part_name, part_values, plain_message, plain_warning, problem, problem_after, problem_text, quoted, range_of, rule_message, same_name, severity, shown, skipped_starts, unknown_key, unknown_word, warning_message, whole_event, whole_rule, with_specifiers};
 
+use crate::json_strings::put_text;
 use plan_check::{Form, Warning, What};
 use plan_grammar::{RuleCause, RuleFault};
 use plan_rules::{CrontabDirectory, Kind, LineCause};
@@ -42,24 +44,25 @@ pub(crate) fn put_message<S: Stream>(
     form: Form,
     what: What,
     quote: &str,
+    json: bool,
     lines: &mut TextWriter<'_, S>,
 )
-    ensures { Takes S.holds S.takes_all lines.old lines.new (message form what quote.now) }
+    ensures { Takes S.holds S.takes_all lines.old lines.new (text_in json (message form what quote.now)) }
 {
     match what {
-        What::Refused(LineCause::Rule(fault)) => put_rule_message(form, fault, quote, lines),
-        What::Refused(cause) => lines.put(plain_message(form, cause).as_bytes()),
-        What::SameName => put_same_name(quote, lines),
-        What::Full => lines.put(full_message().as_bytes()),
-        What::Warned(warning) => put_warning(warning, quote, lines),
+        What::Refused(LineCause::Rule(fault)) => put_rule_message(form, fault, quote, json, lines),
+        What::Refused(cause) => put_text(json, plain_message(form, cause).as_bytes(), lines),
+        What::SameName => put_same_name(quote, json, lines),
+        What::Full => put_text(json, full_message().as_bytes(), lines),
+        What::Warned(warning) => put_warning(warning, quote, json, lines),
     }
 }
 
 // Puts that another job has a name.
-fn put_same_name<S: Stream>(name: &str, lines: &mut TextWriter<'_, S>)
-    ensures { Takes S.holds S.takes_all lines.old lines.new (same_name name.now) }
+fn put_same_name<S: Stream>(name: &str, json: bool, lines: &mut TextWriter<'_, S>)
+    ensures { Takes S.holds S.takes_all lines.old lines.new (text_in json (same_name name.now)) }
 {
-    put_around("another job is named ", name, "", lines);
+    put_around("another job is named ", name, "", json, lines);
 }
 
 // Returns the message that there are too many jobs.
@@ -70,15 +73,15 @@ fn full_message() -> &'static str
 }
 
 // Puts the message of a warning.
-fn put_warning<S: Stream>(warning: Warning, quote: &str, lines: &mut TextWriter<'_, S>)
-    ensures { Takes S.holds S.takes_all lines.old lines.new (warning_message warning quote.now) }
+fn put_warning<S: Stream>(warning: Warning, quote: &str, json: bool, lines: &mut TextWriter<'_, S>)
+    ensures { Takes S.holds S.takes_all lines.old lines.new (text_in json (warning_message warning quote.now)) }
 {
     match warning {
-        Warning::SkippedStarts => put_skipped_starts(quote, lines),
-        Warning::UnknownKey => put_unknown_key(quote, lines),
-        Warning::BadDelay => put_bad_delay(quote, lines),
-        Warning::Delayed => put_delayed(quote, lines),
-        _ => lines.put(plain_warning(warning).as_bytes()),
+        Warning::SkippedStarts => put_skipped_starts(quote, json, lines),
+        Warning::UnknownKey => put_unknown_key(quote, json, lines),
+        Warning::BadDelay => put_bad_delay(quote, json, lines),
+        Warning::Delayed => put_delayed(quote, json, lines),
+        _ => put_text(json, plain_warning(warning).as_bytes(), lines),
     }
 }
 
@@ -101,39 +104,41 @@ fn plain_warning(warning: Warning) -> &'static str
 }
 
 // Puts that starts of an event may be passed over.
-fn put_skipped_starts<S: Stream>(event: &str, lines: &mut TextWriter<'_, S>)
-    ensures { Takes S.holds S.takes_all lines.old lines.new (skipped_starts event.now) }
+fn put_skipped_starts<S: Stream>(event: &str, json: bool, lines: &mut TextWriter<'_, S>)
+    ensures { Takes S.holds S.takes_all lines.old lines.new (text_in json (skipped_starts event.now)) }
 {
     put_around(
         "systemd 252 may pass over starts of ",
         event,
         ": give the step an end",
+        json,
         lines,
     );
 }
 
 // Puts that a key is unknown.
-fn put_unknown_key<S: Stream>(key: &str, lines: &mut TextWriter<'_, S>)
-    ensures { Takes S.holds S.takes_all lines.old lines.new (unknown_key key.now) }
+fn put_unknown_key<S: Stream>(key: &str, json: bool, lines: &mut TextWriter<'_, S>)
+    ensures { Takes S.holds S.takes_all lines.old lines.new (text_in json (unknown_key key.now)) }
 {
-    put_around("unknown setting ", key, " in [Timer]", lines);
+    put_around("unknown setting ", key, " in [Timer]", json, lines);
 }
 
 // Puts that the value of a delay isn't a time span.
-fn put_bad_delay<S: Stream>(value: &str, lines: &mut TextWriter<'_, S>)
-    ensures { Takes S.holds S.takes_all lines.old lines.new (bad_delay value.now) }
+fn put_bad_delay<S: Stream>(value: &str, json: bool, lines: &mut TextWriter<'_, S>)
+    ensures { Takes S.holds S.takes_all lines.old lines.new (text_in json (bad_delay value.now)) }
 {
-    put_around("", value, " is not a time span", lines);
+    put_around("", value, " is not a time span", json, lines);
 }
 
 // Puts that a timer has a random delay.
-fn put_delayed<S: Stream>(delay: &str, lines: &mut TextWriter<'_, S>)
-    ensures { Takes S.holds S.takes_all lines.old lines.new (delayed delay.now) }
+fn put_delayed<S: Stream>(delay: &str, json: bool, lines: &mut TextWriter<'_, S>)
+    ensures { Takes S.holds S.takes_all lines.old lines.new (text_in json (delayed delay.now)) }
 {
     put_around(
         "starts up to ",
         delay,
         " later than planned (RandomizedDelaySec=)",
+        json,
         lines,
     );
 }
@@ -177,44 +182,55 @@ fn put_rule_message<S: Stream>(
     form: Form,
     fault: RuleFault,
     quote: &str,
+    json: bool,
     lines: &mut TextWriter<'_, S>,
 )
-    ensures { Takes S.holds S.takes_all lines.old lines.new (rule_message form fault quote.now) }
+    ensures { Takes S.holds S.takes_all lines.old lines.new (text_in json (rule_message form fault quote.now)) }
 {
     match form {
-        Form::Crontab(_) | Form::Named(_) => put_cron_message(fault, quote, lines),
-        Form::Timer => put_event_message(fault, quote, lines),
+        Form::Crontab(_) | Form::Named(_) => put_cron_message(fault, quote, json, lines),
+        Form::Timer => put_event_message(fault, quote, json, lines),
     }
 }
 
 // ---- cron rules
 
 // Puts the error of a cron rule.
-fn put_cron_message<S: Stream>(fault: RuleFault, quote: &str, lines: &mut TextWriter<'_, S>)
-    ensures { Takes S.holds S.takes_all lines.old lines.new (cron_message fault quote.now) }
+fn put_cron_message<S: Stream>(
+    fault: RuleFault,
+    quote: &str,
+    json: bool,
+    lines: &mut TextWriter<'_, S>,
+)
+    ensures { Takes S.holds S.takes_all lines.old lines.new (text_in json (cron_message fault quote.now)) }
 {
     if fault.part == 0 {
-        put_whole_rule(fault.cause, quote, lines);
+        put_whole_rule(fault.cause, quote, json, lines);
     } else {
-        put_field_message(fault, quote, lines);
+        put_field_message(fault, quote, json, lines);
     }
 }
 
 // Puts the error of a whole cron rule.
-fn put_whole_rule<S: Stream>(cause: RuleCause, quote: &str, lines: &mut TextWriter<'_, S>)
-    ensures { Takes S.holds S.takes_all lines.old lines.new (whole_rule cause quote.now) }
+fn put_whole_rule<S: Stream>(
+    cause: RuleCause,
+    quote: &str,
+    json: bool,
+    lines: &mut TextWriter<'_, S>,
+)
+    ensures { Takes S.holds S.takes_all lines.old lines.new (text_in json (whole_rule cause quote.now)) }
 {
     match cause {
-        RuleCause::UnknownWord => put_unknown_word(quote, lines),
-        _ => lines.put(expected_fields().as_bytes()),
+        RuleCause::UnknownWord => put_unknown_word(quote, json, lines),
+        _ => put_text(json, expected_fields().as_bytes(), lines),
     }
 }
 
 // Puts that a word that begins with `@` is unknown.
-fn put_unknown_word<S: Stream>(word: &str, lines: &mut TextWriter<'_, S>)
-    ensures { Takes S.holds S.takes_all lines.old lines.new (unknown_word word.now) }
+fn put_unknown_word<S: Stream>(word: &str, json: bool, lines: &mut TextWriter<'_, S>)
+    ensures { Takes S.holds S.takes_all lines.old lines.new (text_in json (unknown_word word.now)) }
 {
-    put_around("unknown word ", word, "", lines);
+    put_around("unknown word ", word, "", json, lines);
 }
 
 // Returns the message that fields are missing.
@@ -225,14 +241,20 @@ fn expected_fields() -> &'static str
 }
 
 // Puts the error of a field of a cron rule.
-fn put_field_message<S: Stream>(fault: RuleFault, quote: &str, lines: &mut TextWriter<'_, S>)
-    ensures { Takes S.holds S.takes_all lines.old lines.new (field_message fault quote.now) }
+#[tactic(auto, using(crate::proofs::JsonLemmas::text_in_both))]
+fn put_field_message<S: Stream>(
+    fault: RuleFault,
+    quote: &str,
+    json: bool,
+    lines: &mut TextWriter<'_, S>,
+)
+    ensures { Takes S.holds S.takes_all lines.old lines.new (text_in json (field_message fault quote.now)) }
 {
-    lines.put_both(field_name(fault.part).as_bytes(), b" ");
-    put_quoted(quote, lines);
-    lines.put(b": ");
+    put_text(json, field_name(fault.part).as_bytes(), lines);
+    put_text(json, b" ", lines);
+    put_quoted(quote, json, lines);
     let wrong = "empty value, or a step after a single value";
-    put_problem(fault.cause, field_values(fault.part), wrong, lines);
+    put_problem_after(fault.cause, field_values(fault.part), wrong, json, lines);
 }
 
 // Returns the name of a field, by its place from 1.
@@ -266,49 +288,65 @@ fn field_values(part: u8) -> &'static str
 // ---- events
 
 // Puts the error of an event.
-fn put_event_message<S: Stream>(fault: RuleFault, quote: &str, lines: &mut TextWriter<'_, S>)
-    ensures { Takes S.holds S.takes_all lines.old lines.new (event_message fault quote.now) }
+fn put_event_message<S: Stream>(
+    fault: RuleFault,
+    quote: &str,
+    json: bool,
+    lines: &mut TextWriter<'_, S>,
+)
+    ensures { Takes S.holds S.takes_all lines.old lines.new (text_in json (event_message fault quote.now)) }
 {
     if fault.part == 0 {
-        put_whole_event(fault.cause, quote, lines);
+        put_whole_event(fault.cause, quote, json, lines);
     } else {
-        put_part_message(fault, quote, lines);
+        put_part_message(fault, quote, json, lines);
     }
 }
 
 // Puts the error of a whole event.
-fn put_whole_event<S: Stream>(cause: RuleCause, quote: &str, lines: &mut TextWriter<'_, S>)
-    ensures { Takes S.holds S.takes_all lines.old lines.new (whole_event cause quote.now) }
+fn put_whole_event<S: Stream>(
+    cause: RuleCause,
+    quote: &str,
+    json: bool,
+    lines: &mut TextWriter<'_, S>,
+)
+    ensures { Takes S.holds S.takes_all lines.old lines.new (text_in json (whole_event cause quote.now)) }
 {
     match cause {
-        RuleCause::Specifier => put_specifiers(quote, lines),
-        _ => put_no_event(quote, lines),
+        RuleCause::Specifier => put_specifiers(quote, json, lines),
+        _ => put_no_event(quote, json, lines),
     }
 }
 
 // Puts that an event contains specifiers.
-fn put_specifiers<S: Stream>(event: &str, lines: &mut TextWriter<'_, S>)
-    ensures { Takes S.holds S.takes_all lines.old lines.new (with_specifiers event.now) }
+fn put_specifiers<S: Stream>(event: &str, json: bool, lines: &mut TextWriter<'_, S>)
+    ensures { Takes S.holds S.takes_all lines.old lines.new (text_in json (with_specifiers event.now)) }
 {
-    put_around("specifiers in ", event, " are not expanded", lines);
+    put_around("specifiers in ", event, " are not expanded", json, lines);
 }
 
 // Puts that a text is no event.
-fn put_no_event<S: Stream>(event: &str, lines: &mut TextWriter<'_, S>)
-    ensures { Takes S.holds S.takes_all lines.old lines.new (no_event event.now) }
+fn put_no_event<S: Stream>(event: &str, json: bool, lines: &mut TextWriter<'_, S>)
+    ensures { Takes S.holds S.takes_all lines.old lines.new (text_in json (no_event event.now)) }
 {
-    put_around("", event, " is not a calendar event", lines);
+    put_around("", event, " is not a calendar event", json, lines);
 }
 
 // Puts the error of a part of an event.
-fn put_part_message<S: Stream>(fault: RuleFault, quote: &str, lines: &mut TextWriter<'_, S>)
-    ensures { Takes S.holds S.takes_all lines.old lines.new (part_message fault quote.now) }
+#[tactic(auto, using(crate::proofs::JsonLemmas::text_in_both))]
+fn put_part_message<S: Stream>(
+    fault: RuleFault,
+    quote: &str,
+    json: bool,
+    lines: &mut TextWriter<'_, S>,
+)
+    ensures { Takes S.holds S.takes_all lines.old lines.new (text_in json (part_message fault quote.now)) }
 {
-    lines.put_both(part_name(fault.part).as_bytes(), b" in ");
-    put_quoted(quote, lines);
-    lines.put(b": ");
+    put_text(json, part_name(fault.part).as_bytes(), lines);
+    put_text(json, b" in ", lines);
+    put_quoted(quote, json, lines);
     let wrong = "empty value, or a step after *";
-    put_problem(fault.cause, part_values(fault.part), wrong, lines);
+    put_problem_after(fault.cause, part_values(fault.part), wrong, json, lines);
 }
 
 // Returns the name of a part, by its place from 1.
@@ -344,19 +382,34 @@ fn part_values(part: u8) -> &'static str
 
 // ---- parts of rules
 
+// Puts what is wrong with a part, after what the part is.
+#[tactic(auto, using(crate::proofs::JsonLemmas::text_in_both))]
+fn put_problem_after<S: Stream>(
+    cause: RuleCause,
+    values: &str,
+    wrong: &str,
+    json: bool,
+    lines: &mut TextWriter<'_, S>,
+)
+    ensures { Takes S.holds S.takes_all lines.old lines.new (text_in json (problem_after cause values.now wrong.now)) }
+{
+    put_text(json, b": ", lines);
+    put_problem(cause, values, wrong, json, lines);
+}
+
 // Puts what is wrong with a part, whose possible values are given, and what may not be there.
+#[tactic(auto, using(crate::proofs::JsonLemmas::text_in_both))]
 fn put_problem<S: Stream>(
     cause: RuleCause,
     values: &str,
     wrong: &str,
+    json: bool,
     lines: &mut TextWriter<'_, S>,
 )
-    ensures { Takes S.holds S.takes_all lines.old lines.new (problem cause values.now wrong.now) }
+    ensures { Takes S.holds S.takes_all lines.old lines.new (text_in json (problem cause values.now wrong.now)) }
 {
-    lines.put_both(
-        problem_text(cause, wrong).as_bytes(),
-        range_of(cause, values).as_bytes(),
-    );
+    put_text(json, problem_text(cause, wrong).as_bytes(), lines);
+    put_text(json, range_of(cause, values).as_bytes(), lines);
 }
 
 // Returns what is wrong with a part, before its possible values.
@@ -392,23 +445,30 @@ fn range_of<'a>(cause: RuleCause, values: &'a str) -> &'a str
 // ---- quoted text
 
 // Puts a text in quotes, with what comes before and after it.
-#[tactic(auto, unfolding(crate::specs::Messages::around))]
-fn put_around<S: Stream>(before: &str, text: &str, after: &str, lines: &mut TextWriter<'_, S>)
-    ensures { Takes S.holds S.takes_all lines.old lines.new (around before.now text.now after.now) }
+#[tactic(auto, using(crate::proofs::JsonLemmas::text_in_both), unfolding(crate::specs::Messages::around))]
+fn put_around<S: Stream>(
+    before: &str,
+    text: &str,
+    after: &str,
+    json: bool,
+    lines: &mut TextWriter<'_, S>,
+)
+    ensures { Takes S.holds S.takes_all lines.old lines.new (text_in json (around before.now text.now after.now)) }
 {
-    lines.put(before.as_bytes());
-    put_quoted(text, lines);
-    lines.put(after.as_bytes());
+    put_text(json, before.as_bytes(), lines);
+    put_quoted(text, json, lines);
+    put_text(json, after.as_bytes(), lines);
 }
 
 // Puts a text in quotes.
-#[tactic(auto, unfolding(crate::specs::Messages::quoted))]
-fn put_quoted<S: Stream>(text: &str, lines: &mut TextWriter<'_, S>)
-    ensures { Takes S.holds S.takes_all lines.old lines.new (quoted text.now) }
+#[tactic(auto, using(crate::proofs::JsonLemmas::text_in_both), unfolding(crate::specs::Messages::quoted))]
+fn put_quoted<S: Stream>(text: &str, json: bool, lines: &mut TextWriter<'_, S>)
+    ensures { Takes S.holds S.takes_all lines.old lines.new (text_in json (quoted text.now)) }
 {
-    lines.put(b"'");
-    put_escaped(shown(text).as_bytes(), lines);
-    lines.put_both(b"'", dots(text).as_bytes());
+    put_text(json, b"'", lines);
+    put_escaped(shown(text).as_bytes(), json, lines);
+    put_text(json, b"'", lines);
+    put_text(json, dots(text).as_bytes(), lines);
 }
 
 // Returns the first characters of a text that fit into 64 bytes.
@@ -430,29 +490,31 @@ fn dots(text: &str) -> &'static str
 }
 
 // Puts the bytes of a text in quotes.
-fn put_escaped<S: Stream>(text: &[u8], lines: &mut TextWriter<'_, S>)
-    ensures { Takes S.holds S.takes_all lines.old lines.new (flat_map escaped text.now) }
+fn put_escaped<S: Stream>(text: &[u8], json: bool, lines: &mut TextWriter<'_, S>)
+    ensures { Takes S.holds S.takes_all lines.old lines.new (text_in json (flat_map escaped text.now)) }
 {
     for byte in text {
-        put_byte(*byte, lines);
+        put_byte(*byte, json, lines);
     }
 }
 
 // Puts a byte of a text in quotes.
-fn put_byte<S: Stream>(byte: u8, lines: &mut TextWriter<'_, S>)
-    ensures { Takes S.holds S.takes_all lines.old lines.new (escaped byte) }
+#[tactic(auto, using(crate::proofs::JsonLemmas::text_in_both))]
+fn put_byte<S: Stream>(byte: u8, json: bool, lines: &mut TextWriter<'_, S>)
+    ensures { Takes S.holds S.takes_all lines.old lines.new (text_in json (escaped byte)) }
 {
     if byte == b'\\' {
-        lines.put(b"\\\\");
+        put_text(json, b"\\\\", lines);
     } else if byte < 32 || byte == 127 {
-        lines.put_both(b"\\x", &[hex_digit(byte / 16), hex_digit(byte % 16)]);
+        put_text(json, b"\\x", lines);
+        put_text(json, &[hex_digit(byte / 16), hex_digit(byte % 16)], lines);
     } else {
-        lines.put(&[byte]);
+        put_text(json, &[byte], lines);
     }
 }
 
 // Returns the hexadecimal digit of a number below 16, in lower case.
-fn hex_digit(number: u8) -> u8
+pub(crate) fn hex_digit(number: u8) -> u8
     requires { number < 16 }
     ensures { result ≡ digit_char number }
 {

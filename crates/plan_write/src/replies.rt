@@ -16,7 +16,7 @@ use plan_streams::{Stream, TextWriter, WriteFault};
 ///
 /// # Errors
 ///
-/// `Device` if the stream fails. Then only the first bytes of the text were written.
+/// `Device` or `Closed` if the stream fails. Then only the first bytes of the text were written.
 // Not inlined: its buffer of 64 KiB takes stack only while it runs.
 #[inline(never)]
 pub fn write_replies<S: Stream>(

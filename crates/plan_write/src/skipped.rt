@@ -18,7 +18,7 @@ use plan_streams::{Stream, TextWriter, WriteFault};
 ///
 /// # Errors
 ///
-/// `Device` if the stream fails. Then only the first bytes of the text were written.
+/// `Device` or `Closed` if the stream fails. Then only the first bytes of the text were written.
 // Not inlined: its buffer of 64 KiB takes stack only while it runs.
 #[inline(never)]
 pub fn write_skipped<S: Stream>(
@@ -36,7 +36,7 @@ pub fn write_skipped<S: Stream>(
     }
     let mut lines = TextWriter::new(err);
     put_all_unread(unread, &mut lines);
-    put_all_found(paths, errors, &mut lines);
+    put_all_found(paths, errors, false, &mut lines);
     lines.finish()
 }
 

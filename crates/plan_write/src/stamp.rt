@@ -2,7 +2,8 @@
 
 ghost use Rattle.std.specs.Prelude.{◌≡◌, ◌<◌, ◌≤◌, ◌+◌, ◌⊎◌, IfSome, IfNone};
 ghost use Rattle.plan_sets.specs.Limits.{end_second};
-ghost use Rattle.plan_sets.specs.Moment.{two_digits};
+ghost use Rattle.plan_sets.specs.Moment.{moment_text_of, two_digits};
+ghost use Rattle.plan_write.specs.LocalTimes.{date_time};
 ghost use Rattle.plan_write.specs.Stamp.{stamp_text};
 
 use plan_sets::{SECONDS_A_DAY, moment_text};
@@ -90,6 +91,22 @@ impl Stamp {
         ensures years { self.now ≤ end_second }
     {
         self.second
+    }
+
+    /// Returns the text of the time.
+    #[inline(always)]
+    pub(crate) fn moment(&self) -> &[u8]
+        ensures { result.now ≡ moment_text_of self.now }
+    {
+        &self.text[..20]
+    }
+
+    /// Returns the date and the time of day, without the letter of UTC.
+    #[inline(always)]
+    pub(crate) fn date_time(&self) -> &[u8]
+        ensures { result.now ≡ date_time self.now }
+    {
+        &self.text[..19]
     }
 
     /// Returns the text of the time, and the tab.

@@ -10,5 +10,5 @@ use Rattle.plan_write.proofs.next.write_next.Given as goal
 abbrev pub invariant-loop-listed : goal.invariant-loop-listed
 invariant-loop-listed g l =
     let all = starts l.rule (l.fn.after + 1) end_second in
-    Takes g.S.Stream.holds g.S.Stream.takes_all l.initial.lines l.lines (flat_map moment_line (take l._listed all))
+    Takes g.S.Stream.holds g.S.Stream.takes_all l.initial.lines l.lines (flat_map (moment_line l.format) (take l._listed all))
     × (starts l.rule (l.latest + 1) end_second ≡ drop l._listed all) × (l._listed ≤ length all)

@@ -9,5 +9,6 @@ use Rattle.plan_write.proofs.quiet.write_quiet.Given as goal
 abbrev pub invariant-loop-entry : goal.invariant-loop-entry
 invariant-loop-entry g l =
     ((taken : List ℕ) × Takes g.S.Stream.holds g.S.Stream.takes_all l.initial.lines l.lines taken
-    × (taken ++ text_left l.least l.jobs l.reach l.upto (drop l.entry-index l.entries) ≡ quiet_text l.least l.agenda l.jobs))
+    × (taken ++ text_left l.format l.least l.jobs l.reach l.upto (drop l.entry-index l.entries)
+    ≡ quiet_text l.format l.least l.agenda l.jobs))
     × (l.reach ≤ end_second)

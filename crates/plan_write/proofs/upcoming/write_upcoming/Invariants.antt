@@ -6,4 +6,5 @@ use Rattle.plan_write.proofs.upcoming.write_upcoming.Given as goal
 -- the writer took the lines of all next starts so far
 abbrev pub invariant-loop-next : goal.invariant-loop-next
 invariant-loop-next g l =
-    Takes g.S.Stream.holds g.S.Stream.takes_all l.initial.lines l.lines (upcoming_text (take l.next-index l.nexts) l.jobs)
+    Takes g.S.Stream.holds g.S.Stream.takes_all l.initial.lines l.lines
+    (upcoming_text l.format l.delays (take l.next-index l.nexts) l.ends)

@@ -1,0 +1,47 @@
+-- Bytes of strings in JSON, for `json_strings`, and texts as parts of strings, for the messages of findings.
+use Rattle.std.proofs.Common.{◌≡◌, ℕ, ◌||◌, ◌≤◌, Bool, true, false, List, [], ◌∷◌, ◌++◌, refl, sym, ap, subst, ◌∙◌, inl, inr, arith}
+use Rattle.std.specs.List.{list_any}
+use Rattle.std.proofs.lemmas.Bool.{cases_eq, ne_eqb, le-ltb}
+use Rattle.std.proofs.lemmas.Bool.Decides.{nat_tests}
+use Rattle.std.proofs.lemmas.Grind.{flat_map-append}
+use Rattle.plan_write.specs.Json.{is_escaped, json_byte, json_bytes, text_in}
+
+-- two texts, one after the other
+pub text_in_both : (json : Bool) (a b : List ℕ) → text_in json (a ++ b) ≡ text_in json a ++ text_in json b
+text_in_both true a b = flat_map-append json_byte a b
+text_in_both false a b = refl
+
+-- a printed byte that isn't a quote or a backslash stands for itself
+pub printed_byte : (b : ℕ) → (b ≡ 34 → ⊥) → (b ≡ 92 → ⊥) → (b ≡ 127 → ⊥) → 32 ≤ b → json_byte b ≡ b ∷ []
+unfolding json_byte
+printed_byte b no_quote no_backslash no_delete printed =
+    rw (
+      ne_eqb b 34 no_quote,
+      ne_eqb b 92 no_backslash,
+      ne_eqb b 8 (λ is. omega arith),
+      ne_eqb b 9 (λ is. omega arith),
+      ne_eqb b 10 (λ is. omega arith),
+      ne_eqb b 12 (λ is. omega arith),
+      ne_eqb b 13 (λ is. omega arith),
+      le-ltb b 32 printed,
+      ne_eqb b 127 no_delete,
+    ) refl
+
+-- a byte without an escape
+pub plain_byte : (b : ℕ) → is_escaped b ≡ false → json_byte b ≡ b ∷ []
+plain_byte b plain =
+    let delete : (b ≡ 127 → ⊥) = grind (arith, nat_tests, plain) in
+    let quote : (b ≡ 34 → ⊥) = grind (arith, nat_tests, plain) in
+    let backslash : (b ≡ 92 → ⊥) = grind (arith, nat_tests, plain) in
+    let printed : 32 ≤ b = grind (arith, nat_tests, plain) in printed_byte b quote backslash delete printed
+
+neither : (a b : Bool) → (a || b) ≡ false → (a ≡ false) × (b ≡ false)
+neither true b is = absurd (let no : true ≡ false = is in cc)
+neither false b is = (refl, is)
+
+-- a text without an escape
+pub plain_text : (text : List ℕ) → list_any is_escaped text ≡ false → json_bytes text ≡ text
+plain_text [] plain = refl
+plain_text (b ∷ text) plain =
+    let (first, others) = neither (is_escaped b) (list_any is_escaped text) plain in
+    (λ i. plain_byte b first i ++ plain_text text others i)
