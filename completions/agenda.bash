@@ -51,7 +51,7 @@ _agenda() {
             mapfile -t COMPREPLY < <(compgen -W '1 2 3 4 5 6 7 8' -- "$cur")
             return
             ;;
-        *:--after | *:--count | *:--since | *:--upto | *:--least | *:--room | *:--limit)
+        *:--after | *:--count | *:--since | *:--upto | *:--until | *:--least | *:--room | *:--limit)
             # a time or a number: nothing to complete
             return
             ;;
@@ -59,7 +59,8 @@ _agenda() {
     $split && return
 
     local sources='--zone= --event-zones --crontab= --system-crontab= --cron-d= --spool= --help'
-    local jobs="--keep-going --delays $sources"
+    local jobs="--keep-going --delays --json --local $sources"
+    local span='--since= --upto= --until= --planners= --room= --limit='
     case $command:$cur in
         :-*)
             mapfile -t COMPREPLY < <(compgen -W '--help --version' -- "$cur")
@@ -68,11 +69,11 @@ _agenda() {
             mapfile -t COMPREPLY < <(compgen -W 'next plan upcoming quiet check steps explain' -- "$cur")
             ;;
         next:*)
-            mapfile -t COMPREPLY < <(compgen -W '--after= --zone= --event-zones --count= --cron= --calendar= --help' -- "$cur")
+            mapfile -t COMPREPLY < <(compgen -W '--after= --zone= --event-zones --count= --cron= --calendar= --json --local --help' -- "$cur")
             [[ ${COMPREPLY-} == *= ]] && compopt -o nospace
             ;;
         plan:-*)
-            mapfile -t COMPREPLY < <(compgen -W "--since= --upto= --planners= --room= --limit= $jobs" -- "$cur")
+            mapfile -t COMPREPLY < <(compgen -W "$span $jobs" -- "$cur")
             [[ ${COMPREPLY-} == *= ]] && compopt -o nospace
             ;;
         upcoming:-*)
@@ -80,11 +81,11 @@ _agenda() {
             [[ ${COMPREPLY-} == *= ]] && compopt -o nospace
             ;;
         quiet:-*)
-            mapfile -t COMPREPLY < <(compgen -W "--since= --upto= --least= --planners= --room= --limit= $jobs" -- "$cur")
+            mapfile -t COMPREPLY < <(compgen -W "$span --least= $jobs" -- "$cur")
             [[ ${COMPREPLY-} == *= ]] && compopt -o nospace
             ;;
         check:-*)
-            mapfile -t COMPREPLY < <(compgen -W "$sources" -- "$cur")
+            mapfile -t COMPREPLY < <(compgen -W "--json $sources" -- "$cur")
             [[ ${COMPREPLY-} == *= ]] && compopt -o nospace
             ;;
         plan:* | upcoming:* | quiet:* | check:*)

@@ -30,6 +30,10 @@ complete -c agenda -n $after -l after -x -d 'Only starts later than this time'
 set -l zone '__fish_seen_subcommand_from next plan upcoming quiet check'
 complete -c agenda -n $zone -l zone -r -F -d 'The time zone of the rules [UTC]' -a '(__fish_agenda_zones)'
 complete -c agenda -n $zone -l event-zones -d 'Read events that end with a time zone'
+complete -c agenda -n $zone -l json -d 'Print each line as a JSON object'
+
+set -l times '__fish_seen_subcommand_from next plan upcoming quiet'
+complete -c agenda -n $times -l local -d 'Print times in the time zone of the rules'
 
 set -l next '__fish_seen_subcommand_from next'
 complete -c agenda -n $next -l count -x -d 'How many starts, from 1 to 1000 [1]'
@@ -41,6 +45,7 @@ complete -c agenda -n $next -l calendar -x -d 'A calendar event' \
 set -l span '__fish_seen_subcommand_from plan quiet'
 complete -c agenda -n $span -l since -x -d 'The start of the span'
 complete -c agenda -n $span -l upto -x -d 'The end of the span, not included'
+complete -c agenda -n $span -l until -x -d 'The end of the span, not included'
 complete -c agenda -n $span -l planners -x -d 'How many threads search [2]' -a '1 2 3 4 5 6 7 8'
 complete -c agenda -n $span -l room -x -d 'How many messages of each thread may wait, from 1 to 1024 [16]'
 

@@ -6,10 +6,13 @@ use Rattle.std.specs.Str.{bytes_eq}
 use Rattle.clap.specs.Lexer.{long_of, short_of}
 use Rattle.clap.proofs.OnLiterals.{clap_on_literals}
 use Rattle.plan_collect.specs.declared.Sizes.{Sizes}
+use Rattle.agenda_words.specs.declared.ask.Ask.{Ask}
 use Rattle.agenda_words.specs.declared.ask.Ask.TheVariants.{Next, Plan, Upcoming, Quiet, Check, Steps}
+use Rattle.agenda_words.specs.declared.ask.FormatRequest.{FormatRequest}
 use Rattle.agenda_words.specs.declared.ask.JobsRequest.{JobsRequest}
 use Rattle.agenda_words.specs.declared.ask.PlanRequest.{PlanRequest}
 use Rattle.agenda_words.specs.declared.ask.ZonesRequest.{ZonesRequest}
+use Rattle.agenda_sources.specs.declared.Asked.{Asked}
 use Rattle.agenda_sources.specs.declared.Asked.TheVariants.{Cron, Event}
 use Rattle.agenda_sources.specs.declared.SourceKind.TheVariants.{Crontab, System, CronD, Spool, Timer}
 use Rattle.agenda_sources.specs.declared.SourcePath.{SourcePath}
@@ -32,15 +35,29 @@ zones_from zone event_zones = record { zone = zone; event_zones = event_zones }
 abbrev in_utc : ZonesRequest
 in_utc = zones_from None false
 
+abbrev format_from : (json local : Bool) → FormatRequest
+format_from json local = record { json = json; local = local }
+
+-- neither `--json` nor `--local`
+abbrev as_text : FormatRequest
+as_text = format_from false false
+
+-- a request for next starts
+abbrev asks_next : (after : List ℕ) → ZonesRequest → (count : ℕ) → Asked → FormatRequest → Ask
+asks_next after zones count rule format =
+    Next (record { after = after; zones = zones; count = count; rule = rule; format = format })
+
 -- both values and the number
-four_starts : asked_by (next_with (codes "--count" ∷ codes "4" ∷ codes "--cron" ∷ rule ∷ [])) ≡ Ok (Next moment in_utc 4 (Cron rule))
+four_starts :
+    asked_by (next_with (codes "--count" ∷ codes "4" ∷ codes "--cron" ∷ rule ∷ []))
+    ≡ Ok (asks_next moment in_utc 4 (Cron rule) as_text)
 unfolding asked_by clap_on_literals agenda_on_literals
 four_starts = refl
 
 -- a zone
 a_zone_is_given :
     asked_by (next_with (codes "--zone" ∷ codes "Europe/Oslo" ∷ codes "--cron" ∷ rule ∷ []))
-    ≡ Ok (Next moment (zones_from (Some (codes "Europe/Oslo")) false) 1 (Cron rule))
+    ≡ Ok (asks_next moment (zones_from (Some (codes "Europe/Oslo")) false) 1 (Cron rule) as_text)
 unfolding asked_by clap_on_literals agenda_on_literals
 a_zone_is_given = refl
 
@@ -53,7 +70,7 @@ two_zones_are_given = refl
 -- `--event-zones` without a zone
 next_with_event_zones :
     asked_by (next_with (codes "--event-zones" ∷ codes "--calendar" ∷ codes "daily Europe/Oslo" ∷ []))
-    ≡ Ok (Next moment (zones_from None true) 1 (Event (codes "daily Europe/Oslo")))
+    ≡ Ok (asks_next moment (zones_from None true) 1 (Event (codes "daily Europe/Oslo")) as_text)
 unfolding asked_by clap_on_literals agenda_on_literals
 next_with_event_zones = refl
 
@@ -69,19 +86,41 @@ event_zones_twice :
 unfolding asked_by clap_on_literals agenda_on_literals
 event_zones_twice = refl
 
+-- `--json` alone
+next_as_json :
+    asked_by (next_with (codes "--json" ∷ codes "--calendar=daily" ∷ []))
+    ≡ Ok (asks_next moment in_utc 1 (Event (codes "daily")) (format_from true false))
+unfolding asked_by clap_on_literals agenda_on_literals
+next_as_json = refl
+
+-- `--local` alone
+next_by_local_time :
+    asked_by (next_with (codes "--local" ∷ codes "--calendar=daily" ∷ []))
+    ≡ Ok (asks_next moment in_utc 1 (Event (codes "daily")) (format_from false true))
+unfolding asked_by clap_on_literals agenda_on_literals
+next_by_local_time = refl
+
+-- `next` has no end of a span
+next_until :
+    asked_by (next_with (codes "--until=u" ∷ codes "--calendar=daily" ∷ []))
+    ≡ Err is_usage
+unfolding asked_by clap_on_literals agenda_on_literals
+next_until = refl
+
 -- one start without `--count`
-one_start_by_default : asked_by (next_with (codes "--cron" ∷ rule ∷ [])) ≡ Ok (Next moment in_utc 1 (Cron rule))
+one_start_by_default : asked_by (next_with (codes "--cron" ∷ rule ∷ [])) ≡ Ok (asks_next moment in_utc 1 (Cron rule) as_text)
 unfolding asked_by clap_on_literals agenda_on_literals
 one_start_by_default = refl
 
 -- a count of 0 is accepted here
-no_start : asked_by (next_with (codes "--count" ∷ codes "0" ∷ codes "--cron" ∷ rule ∷ [])) ≡ Ok (Next moment in_utc 0 (Cron rule))
+no_start : asked_by (next_with (codes "--count" ∷ codes "0" ∷ codes "--cron" ∷ rule ∷ []))
+    ≡ Ok (asks_next moment in_utc 0 (Cron rule) as_text)
 unfolding asked_by clap_on_literals agenda_on_literals
 no_start = refl
 
 -- the largest number of 32 bits
 most_starts : asked_by (next_with (codes "--count=4294967295" ∷ codes "--cron" ∷ rule ∷ []))
-    ≡ Ok (Next moment in_utc 4294967295 (Cron rule))
+    ≡ Ok (asks_next moment in_utc 4294967295 (Cron rule) as_text)
 unfolding asked_by clap_on_literals agenda_on_literals
 most_starts = refl
 
@@ -123,13 +162,16 @@ record IsPlainWord (word : List ℕ) : Type 0 where
 
 -- any two plain words are accepted
 any_moment_and_rule : (name after cron : List ℕ) → IsPlainWord after → IsPlainWord cron
-    → asked_by (name ∷ codes "next" ∷ codes "--after" ∷ after ∷ codes "--cron" ∷ cron ∷ []) ≡ Ok (Next after in_utc 1 (Cron cron))
+    → asked_by (name ∷ codes "next" ∷ codes "--after" ∷ after ∷ codes "--cron" ∷ cron ∷ [])
+    ≡ Ok (asks_next after in_utc 1 (Cron cron) as_text)
 unfolding asked_by clap_on_literals agenda_on_literals
 any_moment_and_rule name after cron a c =
-    rw (a.trailing, a.long, a.short, c.trailing, c.long, c.short) (refl {a = Ok (Next after in_utc 1 (Cron cron))})
+    rw (a.trailing, a.long, a.short, c.trailing, c.long, c.short) (refl {a = Ok (asks_next after in_utc 1 (Cron cron) as_text)})
 
 -- a calendar event
-an_event_is_given : asked_by (next_with (codes "--calendar" ∷ codes "daily" ∷ [])) ≡ Ok (Next moment in_utc 1 (Event (codes "daily")))
+an_event_is_given :
+    asked_by (next_with (codes "--calendar" ∷ codes "daily" ∷ []))
+    ≡ Ok (asks_next moment in_utc 1 (Event (codes "daily")) as_text)
 unfolding asked_by clap_on_literals agenda_on_literals
 an_event_is_given = refl
 
@@ -165,7 +207,13 @@ abbrev sized : (planners room limit : ℕ) → Sizes
 sized planners room limit = record { planners = planners; room = room; limit = limit }
 
 abbrev jobs_from : List SourcePath → (keep_going : Bool) → JobsRequest
-jobs_from sources keep_going = record { zones = in_utc; sources = sources; keep_going = keep_going; delays = false }
+jobs_from sources keep_going = record {
+  zones = in_utc;
+  sources = sources;
+  keep_going = keep_going;
+  delays = false;
+  format = as_text;
+}
 
 abbrev planned : (upto : List ℕ) → List SourcePath → Sizes → PlanRequest
 planned upto sources sizes = record { since = moment; upto = upto; jobs = jobs_from sources false; sizes = sizes }
@@ -235,6 +283,64 @@ delays_twice : asked_by (plan_with (codes "--delays" ∷ codes "--delays" ∷ []
 unfolding asked_by clap_on_literals agenda_on_literals
 delays_twice = refl
 
+-- `--json` alone
+plan_as_json :
+    asked_by (plan_with (codes "--json" ∷ codes "a.timer" ∷ []))
+    ≡ Ok (Plan (record (planned (codes "u") [] (sized 2 16 10000))
+    { jobs = record (jobs_from (path_of Timer (codes "a.timer") ∷ []) false) { format = format_from true false } }))
+unfolding asked_by clap_on_literals agenda_on_literals
+plan_as_json = refl
+
+-- `--local` alone
+plan_by_local_time :
+    asked_by (plan_with (codes "--local" ∷ codes "a.timer" ∷ []))
+    ≡ Ok (Plan (record (planned (codes "u") [] (sized 2 16 10000))
+    { jobs = record (jobs_from (path_of Timer (codes "a.timer") ∷ []) false) { format = format_from false true } }))
+unfolding asked_by clap_on_literals agenda_on_literals
+plan_by_local_time = refl
+
+-- a value for `--json`
+json_with_a_value :
+    asked_by (plan_with (codes "--json=true" ∷ []))
+    ≡ Err is_usage
+unfolding asked_by clap_on_literals agenda_on_literals
+json_with_a_value = refl
+
+-- `--local` twice
+local_twice :
+    asked_by (plan_with (codes "--local" ∷ codes "--local" ∷ []))
+    ≡ Err is_usage
+unfolding asked_by clap_on_literals agenda_on_literals
+local_twice = refl
+
+-- `--until` instead of `--upto`
+plan_until :
+    asked_by (codes "agenda" ∷ codes "plan" ∷ codes "--until" ∷ codes "u" ∷ codes "--since" ∷ moment ∷ [])
+    ≡ Ok (Plan (planned (codes "u") [] (sized 2 16 10000)))
+unfolding asked_by clap_on_literals agenda_on_literals
+plan_until = refl
+
+-- `--until` with `=`
+plan_until_at_once :
+    asked_by (codes "agenda" ∷ codes "plan" ∷ codes "--since" ∷ moment ∷ codes "--until=u" ∷ [])
+    ≡ Ok (Plan (planned (codes "u") [] (sized 2 16 10000)))
+unfolding asked_by clap_on_literals agenda_on_literals
+plan_until_at_once = refl
+
+-- both names of the end
+plan_upto_and_until :
+    asked_by (plan_with (codes "--until" ∷ codes "u" ∷ []))
+    ≡ Err is_usage
+unfolding asked_by clap_on_literals agenda_on_literals
+plan_upto_and_until = refl
+
+-- `--until` without a value
+until_without_a_value :
+    asked_by (codes "agenda" ∷ codes "plan" ∷ codes "--since" ∷ moment ∷ codes "--until" ∷ [])
+    ≡ Err is_usage
+unfolding asked_by clap_on_literals agenda_on_literals
+until_without_a_value = refl
+
 -- `check` has no `--delays`
 check_without_delays : asked_by (codes "agenda" ∷ codes "check" ∷ codes "--delays" ∷ []) ≡ Err is_usage
 unfolding asked_by clap_on_literals agenda_on_literals
@@ -253,9 +359,30 @@ check_keeps_no_going = refl
 -- `check` with `--event-zones`; the argument after it is a timer
 check_with_event_zones :
     asked_by (codes "agenda" ∷ codes "check" ∷ codes "--event-zones" ∷ codes "a.timer" ∷ [])
-    ≡ Ok (Check (zones_from None true) (path_of Timer (codes "a.timer") ∷ []))
+    ≡ Ok (Check (zones_from None true) (path_of Timer (codes "a.timer") ∷ []) false)
 unfolding asked_by clap_on_literals agenda_on_literals
 check_with_event_zones = refl
+
+-- `check` with `--json`; the argument after it is a timer
+check_as_json :
+    asked_by (codes "agenda" ∷ codes "check" ∷ codes "--json" ∷ codes "a.timer" ∷ [])
+    ≡ Ok (Check in_utc (path_of Timer (codes "a.timer") ∷ []) true)
+unfolding asked_by clap_on_literals agenda_on_literals
+check_as_json = refl
+
+-- `check` prints no times, and has no `--local`
+check_without_local :
+    asked_by (codes "agenda" ∷ codes "check" ∷ codes "--local" ∷ [])
+    ≡ Err is_usage
+unfolding asked_by clap_on_literals agenda_on_literals
+check_without_local = refl
+
+-- `steps` has no `--json`
+steps_without_json :
+    asked_by (codes "agenda" ∷ codes "steps" ∷ codes "--json" ∷ codes "a" ∷ [])
+    ≡ Err is_usage
+unfolding asked_by clap_on_literals agenda_on_literals
+steps_without_json = refl
 
 -- `steps` has no `--event-zones`
 steps_without_event_zones : asked_by (codes "agenda" ∷ codes "steps" ∷ codes "--event-zones" ∷ codes "a" ∷ []) ≡ Err is_usage
@@ -339,6 +466,20 @@ upcoming_with_delays :
 unfolding asked_by clap_on_literals agenda_on_literals
 upcoming_with_delays = refl
 
+-- `upcoming` with `--json` and `--local`
+upcoming_as_json_by_local_time :
+    asked_by (codes "agenda" ∷ codes "upcoming" ∷ codes "--json" ∷ codes "--after" ∷ moment ∷ codes "--local" ∷ [])
+    ≡ Ok (Upcoming moment (record (jobs_from [] false) { format = format_from true true }))
+unfolding asked_by clap_on_literals agenda_on_literals
+upcoming_as_json_by_local_time = refl
+
+-- `upcoming` has no end
+upcoming_until :
+    asked_by (codes "agenda" ∷ codes "upcoming" ∷ codes "--after" ∷ moment ∷ codes "--until=u" ∷ [])
+    ≡ Err is_usage
+unfolding asked_by clap_on_literals agenda_on_literals
+upcoming_until = refl
+
 -- `quiet` with all defaults: gaps of half an hour, and a limit of 1,000,000
 quiet_by_default : asked_by (codes "agenda" ∷ codes "quiet" ∷ codes "--since" ∷ moment ∷ codes "--upto" ∷ codes "z" ∷ [])
     ≡ Ok (Quiet (planned (codes "z") [] (sized 2 16 1000000)) 1800)
@@ -366,6 +507,15 @@ quiet_with_delays :
     ≡ Ok (Quiet (record (planned (codes "z") [] (sized 2 16 1000000)) { jobs = record (jobs_from [] false) { delays = true } }) 1800)
 unfolding asked_by clap_on_literals agenda_on_literals
 quiet_with_delays = refl
+
+-- `quiet` with `--until`, `--json` and `--local`
+quiet_until_as_json_by_local_time :
+    asked_by (codes "agenda" ∷ codes "quiet" ∷ codes "--since" ∷ moment ∷ codes "--until" ∷ codes "z" ∷ codes "--local"
+    ∷ codes "--json" ∷ [])
+    ≡ Ok (Quiet (record (planned (codes "z") [] (sized 2 16 1000000))
+    { jobs = record (jobs_from [] false) { format = format_from true true } }) 1800)
+unfolding asked_by clap_on_literals agenda_on_literals
+quiet_until_as_json_by_local_time = refl
 
 -- a negative gap
 quiet_of_less :

@@ -18,6 +18,7 @@ use Rattle.agenda_codes.specs.declared.Code.{Code}
 use Rattle.agenda_codes.specs.Codes.{code_named}
 use Rattle.agenda_sources.specs.declared.Asked.{Asked}
 use Rattle.agenda_sources.specs.declared.Asked.TheVariants.{Cron, Event}
+use Rattle.agenda_words.specs.declared.ask.FormatRequest.{FormatRequest}
 use Rattle.agenda_words.specs.declared.ask.JobsRequest.{JobsRequest}
 use Rattle.agenda_words.specs.declared.ask.PlanRequest.{PlanRequest}
 use Rattle.agenda_words.specs.declared.ask.UsageFault.{UsageFault}
@@ -66,13 +67,17 @@ is_given name rows = option_map_or (λ value. bytes_eq value (codes "true")) (fi
 abbrev pub zones_in : List Row → ZonesRequest
 zones_in rows = record { zone = zone_in rows; event_zones = is_given (codes "event-zones") rows }
 
+-- how an answer is written, by the values (agenda)
+abbrev pub format_in : List Row → FormatRequest
+format_in rows = record { json = is_given (codes "json") rows; local = is_given (codes "local") rows }
+
 -- what `next` requests, by its values (agenda)
 abbrev pub asked_by_next : List Row → Result Ask Refusal
 asked_by_next rows = do
   after ← wanted (first_of (codes "after") rows)
   count ← wanted (number_in (one_of (codes "count") rows))
   rule ← one_rule (first_of (codes "cron") rows) (first_of (codes "calendar") rows)
-  Ok (Next after (zones_in rows) count rule)
+  Ok (Next (record { after = after; zones = zones_in rows; count = count; rule = rule; format = format_in rows }))
 
 -- the sizes of a plan, in the order in which they are checked (agenda)
 abbrev pub sizes_in : List Row → Result Sizes Refusal
@@ -108,9 +113,10 @@ jobs_in rows = record {
   sources = sources_in rows;
   keep_going = is_given (codes "keep-going") rows;
   delays = is_given (codes "delays") rows;
+  format = format_in rows;
 }
 
--- what a plan is made from, by its values (agenda)
+-- what a plan is made from, by its values; the end of the span is that of `--upto`, or of its other name (agenda)
 unfoldable pub plan_in : List Row → Result PlanRequest Refusal
 plan_in rows = do
   since ← wanted (first_of (codes "since") rows)
@@ -139,7 +145,7 @@ asked_by_quiet rows = do
 
 -- what `check` requests, by its values; there may be no source (agenda)
 abbrev pub asked_by_check : List Row → Result Ask Refusal
-asked_by_check rows = Ok (Check (zones_in rows) (sources_in rows))
+asked_by_check rows = Ok (Check (zones_in rows) (sources_in rows) (is_given (codes "json") rows))
 
 -- what `steps` requests, by its values (agenda)
 abbrev pub asked_by_steps : List Row → Result Ask Refusal

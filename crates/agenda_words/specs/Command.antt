@@ -24,21 +24,9 @@ flag_option name = record (new_rule name) { long = Some name; action = Some SetT
 abbrev pub moment_option : List ℕ → Rule
 moment_option name = record (option_named name) { required = true }
 
--- the option `--zone ZONE`, which is optional (agenda)
-abbrev pub zone_option : Rule
-zone_option = option_named (codes "zone")
-
--- the flag `--event-zones` (agenda)
-abbrev pub event_zones_option : Rule
-event_zones_option = flag_option (codes "event-zones")
-
--- the flag `--keep-going` (agenda)
-abbrev pub keep_going_option : Rule
-keep_going_option = flag_option (codes "keep-going")
-
--- the flag `--delays` (agenda)
-abbrev pub delays_option : Rule
-delays_option = flag_option (codes "delays")
+-- an argument with another long name (agenda)
+abbrev pub with_alias : Rule → (name : List ℕ) → Rule
+with_alias rule name = record rule { aliases = rule.aliases ++ name ∷ [] }
 
 -- an option for a whole number of 32 bits, which has a default (agenda)
 abbrev pub number_option : List ℕ → List ℕ → Rule
@@ -69,54 +57,61 @@ abbrev pub with_each : App → List Rule → App
 with_each app [] = app
 with_each app (rule ∷ rules) = with_each (with_rule app rule) rules
 
--- a subcommand with these options and arguments added (agenda)
-abbrev pub with_rules : App → List Rule → App
-with_rules app rules = on_top (λ s. record s { rules = s.rules ++ rules }) app
-
 -- a subcommand with these options and arguments (agenda)
 abbrev pub subcommand_with : List ℕ → List Rule → App
-subcommand_with name rules = with_rules (new_app name) rules
+subcommand_with name rules = with_each (new_app name) rules
 
 -- a command with the options and arguments that name sources added: `[--crontab F] [--system-crontab F]
 -- [--cron-d F ..] [--spool F ..] [TIMER ..]` (agenda)
 unfoldable pub with_sources : App → App
 with_sources app = with_each app (map source_rule kinds)
 
--- `next --after T [--zone ZONE] [--event-zones] [--count N] (--cron TEXT or --calendar TEXT)`; that exactly one
--- of the last two is present is checked after clap's parse (agenda)
-unfoldable pub next : App
-next = subcommand_with (codes "next") (moment_option (codes "after") ∷ zone_option ∷ event_zones_option
-    ∷ number_option (codes "count") (codes "1") ∷ option_named (codes "cron") ∷ option_named (codes "calendar") ∷ [])
+-- a command with the options for time zones added: `[--zone ZONE] [--event-zones]` (agenda)
+unfoldable pub with_zones : App → App
+with_zones app = with_each app (option_named (codes "zone") ∷ flag_option (codes "event-zones") ∷ [])
+
+-- a command with the flags for the form of its output added: `[--json] [--local]` (agenda)
+unfoldable pub with_format : App → App
+with_format app = with_each app (flag_option (codes "json") ∷ flag_option (codes "local") ∷ [])
+
+-- a command with what `plan`, `upcoming` and `quiet` have in common added: the zones, `[--keep-going] [--delays]`, the form of the
+-- output and the sources (agenda)
+unfoldable pub with_jobs : App → App
+with_jobs app =
+    with_sources (with_format (with_each (with_zones app) (flag_option (codes "keep-going") ∷ flag_option (codes "delays") ∷ [])))
+
+-- a command with the span of a plan added: `--since T --upto T`; `--until` is another name of `--upto` (agenda)
+unfoldable pub with_span : App → App
+with_span app = with_each app (moment_option (codes "since") ∷ with_alias (moment_option (codes "upto")) (codes "until") ∷ [])
 
 -- a command with the sizes of a plan added: `[--planners N] [--room N] [--limit N]`; `default` is the default of the limit (agenda)
 unfoldable pub with_sizes : App → (default : List ℕ) → App
-with_sizes app default = with_rules app (number_option (codes "planners") (codes "2") ∷ number_option (codes "room") (codes "16")
+with_sizes app default = with_each app (number_option (codes "planners") (codes "2") ∷ number_option (codes "room") (codes "16")
     ∷ number_option (codes "limit") default ∷ [])
 
--- the span of a plan, the zones, whether to keep going, and whether delays count: `--since T --upto T [--zone ZONE]
--- [--event-zones] [--keep-going] [--delays]` (agenda)
-abbrev pub span_rules : List Rule
-span_rules = moment_option (codes "since") ∷ moment_option (codes "upto") ∷ zone_option ∷ event_zones_option ∷ keep_going_option
-    ∷ delays_option ∷ []
+-- `next --after T`, the zones, `[--count N] (--cron TEXT or --calendar TEXT)` and the form of the output; that exactly one of `--cron`
+-- and `--calendar` is present is checked after clap's parse (agenda)
+unfoldable pub next : App
+next = with_format (with_each (with_zones (subcommand_with (codes "next") (moment_option (codes "after") ∷ [])))
+    (number_option (codes "count") (codes "1") ∷ option_named (codes "cron") ∷ option_named (codes "calendar") ∷ []))
 
--- `plan --since T --upto T [--zone ZONE] [--event-zones] [--keep-going] [--delays]`, the sources and the sizes (agenda)
+-- `plan` with the span, the jobs and the sizes (agenda)
 unfoldable pub plan : App
-plan = with_sizes (with_sources (subcommand_with (codes "plan") span_rules)) (codes "10000")
+plan = with_sizes (with_jobs (with_span (new_app (codes "plan")))) (codes "10000")
 
--- `upcoming --after T [--zone ZONE] [--event-zones] [--keep-going] [--delays]` and the sources (agenda)
+-- `upcoming --after T` and the jobs (agenda)
 unfoldable pub upcoming : App
-upcoming = with_sources (subcommand_with (codes "upcoming") (moment_option (codes "after") ∷ zone_option ∷ event_zones_option
-    ∷ keep_going_option ∷ delays_option ∷ []))
+upcoming = with_jobs (subcommand_with (codes "upcoming") (moment_option (codes "after") ∷ []))
 
--- `quiet --since T --upto T [--zone ZONE] [--event-zones] [--keep-going] [--delays]`, the sources, `[--least N]` and the sizes (agenda)
+-- `quiet` with the span, the jobs, `[--least N]` and the sizes (agenda)
 unfoldable pub quiet : App
 quiet = with_sizes
-    (with_rules (with_sources (subcommand_with (codes "quiet") span_rules)) (number_option (codes "least") (codes "1800") ∷ []))
+    (with_each (with_jobs (with_span (new_app (codes "quiet")))) (number_option (codes "least") (codes "1800") ∷ []))
     (codes "1000000")
 
--- `check [--zone ZONE] [--event-zones]` and the sources (agenda)
+-- `check` with the zones, `[--json]` and the sources (agenda)
 unfoldable pub check : App
-check = with_sources (subcommand_with (codes "check") (zone_option ∷ event_zones_option ∷ []))
+check = with_sources (with_each (with_zones (new_app (codes "check"))) (flag_option (codes "json") ∷ []))
 
 -- `steps FILE` (agenda)
 unfoldable pub steps : App

@@ -3,9 +3,11 @@ ghost use Rattle.std.specs.Prelude.{◌≡◌, IfOk, map, string_bytes};
 ghost use Rattle.clap.specs.Words.{found_of, kind_of, rows_of, subcommand_rows_of};
 ghost use Rattle.agenda_words.specs.Arguments.{Gives, IsAnswerTo, asked_by, asked_by_check, asked_by_explain, asked_by_next};
 ghost use Rattle.agenda_words.specs.Arguments.{asked_by_plan, asked_by_quiet, asked_by_steps, asked_by_subcommand};
-ghost use Rattle.agenda_words.specs.Arguments.{asked_by_upcoming, jobs_in, plan_in, sizes_in, zones_in};
+ghost use Rattle.agenda_words.specs.Arguments.{asked_by_upcoming, format_in, jobs_in, plan_in, sizes_in, zones_in};
 
-use crate::ask::{Ask, JobsRequest, PlanRequest, UsageFault, ZonesRequest};
+use crate::ask::{
+    Ask, FormatRequest, JobsRequest, NextRequest, PlanRequest, UsageFault, ZonesRequest,
+};
 use crate::codes::code_of;
 use crate::command::agenda_command;
 use crate::paths::sources_of;
@@ -79,12 +81,14 @@ fn asked_by_next(alloc: Global, given: &ArgMatches<'_>) -> Result<Ask, UsageFaul
         (None, Some(calendar)) => Asked::Event(calendar),
         _ => return Err(UsageFault::Usage(text(alloc, ONE_RULE)?)),
     };
-    Ok(Ask::Next {
+    let format = format_of(given);
+    Ok(Ask::Next(NextRequest {
         after,
         zones,
         count,
         rule,
-    })
+        format,
+    }))
 }
 
 fn asked_by_plan(alloc: Global, given: &ArgMatches<'_>) -> Result<Ask, UsageFault>
@@ -134,11 +138,13 @@ fn jobs_of(alloc: Global, given: &ArgMatches<'_>) -> Result<JobsRequest, AllocEr
     let sources = sources_of(alloc, given)?;
     let keep_going = is_given(given, "keep-going");
     let delays = is_given(given, "delays");
+    let format = format_of(given);
     Ok(JobsRequest {
         zones,
         sources,
         keep_going,
         delays,
+        format,
     })
 }
 
@@ -149,6 +155,15 @@ fn zones_of(alloc: Global, given: &ArgMatches<'_>) -> Result<ZonesRequest, Alloc
     let zone = text_if_given(alloc, given, "zone")?;
     let event_zones = is_given(given, "event-zones");
     Ok(ZonesRequest { zone, event_zones })
+}
+
+// Returns how the answer is written.
+fn format_of(given: &ArgMatches<'_>) -> FormatRequest
+    ensures { result ≡ format_in (rows_of (found_of given.now)) }
+{
+    let json = is_given(given, "json");
+    let local = is_given(given, "local");
+    FormatRequest { json, local }
 }
 
 // Returns the sizes of a plan. The numbers in the arguments have 32 bits. Here they get the types that a plan uses.
@@ -170,7 +185,12 @@ fn asked_by_check(alloc: Global, given: &ArgMatches<'_>) -> Result<Ask, UsageFau
 {
     let zones = zones_of(alloc, given)?;
     let sources = sources_of(alloc, given)?;
-    Ok(Ask::Check { zones, sources })
+    let json = is_given(given, "json");
+    Ok(Ask::Check {
+        zones,
+        sources,
+        json,
+    })
 }
 
 fn asked_by_steps(alloc: Global, given: &ArgMatches<'_>) -> Result<Ask, UsageFault>

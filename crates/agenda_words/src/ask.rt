@@ -16,6 +16,15 @@ pub struct ZonesRequest {
     pub event_zones: bool,
 }
 
+/// How an answer is written.
+#[derive(Clone, Copy, Debug)]
+pub struct FormatRequest {
+    /// Whether each line is a JSON object.
+    pub json: bool,
+    /// Whether times are shown by the clock of the time zone.
+    pub local: bool,
+}
+
 /// What jobs are read from.
 #[derive(Debug, Drop)]
 pub struct JobsRequest {
@@ -27,6 +36,8 @@ pub struct JobsRequest {
     pub keep_going: bool,
     /// Whether the delays of timers count, so that a start may happen later than planned.
     pub delays: bool,
+    /// How the answer is written.
+    pub format: FormatRequest,
 }
 
 /// What a plan is made from.
@@ -42,20 +53,26 @@ pub struct PlanRequest {
     pub sizes: Sizes,
 }
 
+/// What next starts are listed of.
+#[derive(Debug, Drop)]
+pub struct NextRequest {
+    /// The text of a timestamp. The starts are later.
+    pub after: Text,
+    /// The time zones of the rule.
+    pub zones: ZonesRequest,
+    /// The number of starts.
+    pub count: u32,
+    /// The rule.
+    pub rule: Asked,
+    /// How the answer is written.
+    pub format: FormatRequest,
+}
+
 /// A request to the program.
 #[derive(Debug, Drop)]
 pub enum Ask {
     /// Print the next starts of one rule.
-    Next {
-        /// The text of a timestamp. The starts are later.
-        after: Text,
-        /// The time zones of the rule.
-        zones: ZonesRequest,
-        /// The number of starts.
-        count: u32,
-        /// The rule.
-        rule: Asked,
-    },
+    Next(NextRequest),
     /// Print the agenda of the jobs of crontabs and timers.
     Plan(PlanRequest),
     /// Print when each job of crontabs and timers starts next.
@@ -78,6 +95,8 @@ pub enum Ask {
         zones: ZonesRequest,
         /// The paths of the sources, in the same order as for a plan.
         sources: SourcePaths,
+        /// Whether each line is a JSON object.
+        json: bool,
     },
     /// Print the replies to the steps of a script.
     Steps {

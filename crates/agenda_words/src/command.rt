@@ -2,9 +2,10 @@
 ghost use Rattle.std.specs.Prelude.{◌≡◌, [], ◌∷◌, IfOk, false};
 ghost use Rattle.clap.specs.Words.{app_of, items_of, rule_of, with_rule, with_subcommand};
 ghost use Rattle.clap.specs.declared.builder.command.Command.TheViews.{out-Command};
-ghost use Rattle.agenda_words.specs.Command.{agenda, argument_named, check, code_argument, delays_option, event_zones_option, explain};
-ghost use Rattle.agenda_words.specs.Command.{file_argument, flag_option, keep_going_option, moment_option, next, number_option};
-ghost use Rattle.agenda_words.specs.Command.{option_named, plan, quiet, source_rule, steps, upcoming, with_sizes, with_sources, zone_option};
+ghost use Rattle.agenda_words.specs.Command.{agenda, agenda_alone, argument_named, check, code_argument, explain, file_argument, flag_option};
+ghost use Rattle.agenda_words.specs.Command.{moment_option, next, number_option, option_named, plan, quiet, source_rule, steps};
+ghost use Rattle.agenda_words.specs.Command.{upcoming, with_alias, with_format, with_jobs, with_sizes, with_sources, with_span};
+ghost use Rattle.agenda_words.specs.Command.{with_zones};
 
 mod help;
 
@@ -24,13 +25,7 @@ const VERSION: &str = "0.1.0\nproved with rattle-kit-13f logic dac8208d650f15bf"
 pub(crate) fn agenda_command<'a>(alloc: Global) -> Result<Command<'a>, AllocError>
     ensures { IfOk result (λ command. app_of command ≡ agenda) }
 {
-    let command = Command::new(alloc, "agenda")
-        .bin_name("agenda")?
-        .version(VERSION)
-        .about(help::AGENDA)
-        .after_help(help::AFTER_AGENDA)
-        .subcommand_required(true)
-        .disable_help_subcommand(true);
+    let command = agenda_alone(alloc)?;
     let command = with_command(command, next_command(alloc)?)?;
     let command = with_command(command, plan_command(alloc)?)?;
     let command = with_command(command, upcoming_command(alloc)?)?;
@@ -38,6 +33,20 @@ pub(crate) fn agenda_command<'a>(alloc: Global) -> Result<Command<'a>, AllocErro
     let command = with_command(command, check_command(alloc)?)?;
     let command = with_command(command, steps_command(alloc)?)?;
     let command = with_command(command, explain_command(alloc)?)?;
+    Ok(command)
+}
+
+// Returns the command line without its subcommands.
+fn agenda_alone<'a>(alloc: Global) -> Result<Command<'a>, AllocError>
+    ensures { IfOk result (λ command. app_of command ≡ agenda_alone) }
+{
+    let command = Command::new(alloc, "agenda")
+        .bin_name("agenda")?
+        .version(VERSION)
+        .about(help::AGENDA)
+        .after_help(help::AFTER_AGENDA)
+        .subcommand_required(true)
+        .disable_help_subcommand(true);
     Ok(command)
 }
 
@@ -51,14 +60,14 @@ fn next_command<'a>(alloc: Global) -> Result<Command<'a>, AllocError>
         .override_usage(help::NEXT_USAGE)
         .after_help(help::AFTER_NEXT);
     let command = with_argument(command, moment_option(alloc, "after", help::AFTER))?;
-    let command = with_argument(command, zone_option(alloc))?;
-    let command = with_argument(command, event_zones_option(alloc))?;
+    let command = with_zones(alloc, command)?;
     let command = with_argument(command, number_option(alloc, "count", "1", help::COUNT))?;
     let command = with_argument(command, text_option(alloc, "cron", "TEXT", help::CRON))?;
     let command = with_argument(
         command,
         text_option(alloc, "calendar", "TEXT", help::CALENDAR),
     )?;
+    let command = with_format(alloc, command)?;
     Ok(command)
 }
 
@@ -70,13 +79,8 @@ fn plan_command<'a>(alloc: Global) -> Result<Command<'a>, AllocError>
     let command = Command::new(alloc, "plan")
         .about(help::PLAN)
         .after_help(help::AFTER_PLAN);
-    let command = with_argument(command, moment_option(alloc, "since", help::SINCE))?;
-    let command = with_argument(command, moment_option(alloc, "upto", help::UPTO))?;
-    let command = with_argument(command, zone_option(alloc))?;
-    let command = with_argument(command, event_zones_option(alloc))?;
-    let command = with_argument(command, keep_going_option(alloc))?;
-    let command = with_argument(command, delays_option(alloc, help::DELAYS))?;
-    let command = with_sources(alloc, command)?;
+    let command = with_span(alloc, command)?;
+    let command = with_jobs(alloc, command, help::DELAYS)?;
     let command = with_sizes(alloc, command, "10000")?;
     Ok(command)
 }
@@ -90,11 +94,7 @@ fn upcoming_command<'a>(alloc: Global) -> Result<Command<'a>, AllocError>
         .about(help::UPCOMING)
         .after_help(help::AFTER_UPCOMING);
     let command = with_argument(command, moment_option(alloc, "after", help::AFTER))?;
-    let command = with_argument(command, zone_option(alloc))?;
-    let command = with_argument(command, event_zones_option(alloc))?;
-    let command = with_argument(command, keep_going_option(alloc))?;
-    let command = with_argument(command, delays_option(alloc, help::DELAYS))?;
-    let command = with_sources(alloc, command)?;
+    let command = with_jobs(alloc, command, help::DELAYS)?;
     Ok(command)
 }
 
@@ -106,13 +106,8 @@ fn quiet_command<'a>(alloc: Global) -> Result<Command<'a>, AllocError>
     let command = Command::new(alloc, "quiet")
         .about(help::QUIET)
         .after_help(help::AFTER_QUIET);
-    let command = with_argument(command, moment_option(alloc, "since", help::SINCE))?;
-    let command = with_argument(command, moment_option(alloc, "upto", help::UPTO))?;
-    let command = with_argument(command, zone_option(alloc))?;
-    let command = with_argument(command, event_zones_option(alloc))?;
-    let command = with_argument(command, keep_going_option(alloc))?;
-    let command = with_argument(command, delays_option(alloc, help::QUIET_DELAYS))?;
-    let command = with_sources(alloc, command)?;
+    let command = with_span(alloc, command)?;
+    let command = with_jobs(alloc, command, help::QUIET_DELAYS)?;
     let command = with_argument(command, number_option(alloc, "least", "1800", help::LEAST))?;
     let command = with_sizes(alloc, command, "1000000")?;
     Ok(command)
@@ -126,8 +121,8 @@ fn check_command<'a>(alloc: Global) -> Result<Command<'a>, AllocError>
     let command = Command::new(alloc, "check")
         .about(help::CHECK)
         .after_help(help::AFTER_CHECK);
-    let command = with_argument(command, zone_option(alloc))?;
-    let command = with_argument(command, event_zones_option(alloc))?;
+    let command = with_zones(alloc, command)?;
+    let command = with_flag(alloc, command, "json", help::JSON)?;
     let command = with_sources(alloc, command)?;
     Ok(command)
 }
@@ -164,6 +159,62 @@ fn with_command<'a>(command: Command<'a>, below: Command<'a>) -> Result<Command<
     command.subcommand(below)
 }
 
+// Adds what `plan`, `upcoming` and `quiet` have in common. What the help of `--delays` says depends on the command.
+#[tactic(auto, unfolding(crate::specs::Command::with_jobs))]
+fn with_jobs<'a>(
+    alloc: Global,
+    command: Command<'a>,
+    delays: &'a str,
+) -> Result<Command<'a>, AllocError>
+    requires local { (out-Command command).has_globals ≡ false }
+    ensures app { IfOk result (λ new. app_of new ≡ with_jobs (app_of command.entry)) }
+    ensures local { IfOk result (λ new. (out-Command new).has_globals ≡ false) }
+{
+    let command = with_zones(alloc, command)?;
+    let command = with_flag(alloc, command, "keep-going", help::KEEP_GOING)?;
+    let command = with_flag(alloc, command, "delays", delays)?;
+    let command = with_format(alloc, command)?;
+    let command = with_sources(alloc, command)?;
+    Ok(command)
+}
+
+// Adds the options for time zones.
+#[tactic(auto, unfolding(crate::specs::Command::with_zones))]
+fn with_zones<'a>(alloc: Global, command: Command<'a>) -> Result<Command<'a>, AllocError>
+    requires local { (out-Command command).has_globals ≡ false }
+    ensures app { IfOk result (λ new. app_of new ≡ with_zones (app_of command.entry)) }
+    ensures local { IfOk result (λ new. (out-Command new).has_globals ≡ false) }
+{
+    let command = with_argument(command, text_option(alloc, "zone", "ZONE", help::ZONE))?;
+    let command = with_flag(alloc, command, "event-zones", help::EVENT_ZONES)?;
+    Ok(command)
+}
+
+// Adds the flags for the form of the output.
+#[tactic(auto, unfolding(crate::specs::Command::with_format))]
+fn with_format<'a>(alloc: Global, command: Command<'a>) -> Result<Command<'a>, AllocError>
+    requires local { (out-Command command).has_globals ≡ false }
+    ensures app { IfOk result (λ new. app_of new ≡ with_format (app_of command.entry)) }
+    ensures local { IfOk result (λ new. (out-Command new).has_globals ≡ false) }
+{
+    let command = with_flag(alloc, command, "json", help::JSON)?;
+    let command = with_flag(alloc, command, "local", help::LOCAL)?;
+    Ok(command)
+}
+
+// Adds the span of a plan.
+#[tactic(auto, unfolding(crate::specs::Command::with_span))]
+fn with_span<'a>(alloc: Global, command: Command<'a>) -> Result<Command<'a>, AllocError>
+    requires local { (out-Command command).has_globals ≡ false }
+    ensures app { IfOk result (λ new. app_of new ≡ with_span (app_of command.entry)) }
+    ensures local { IfOk result (λ new. (out-Command new).has_globals ≡ false) }
+{
+    let command = with_argument(command, moment_option(alloc, "since", help::SINCE))?;
+    let upto = with_alias(moment_option(alloc, "upto", help::UPTO), "until")?;
+    let command = with_argument(command, upto)?;
+    Ok(command)
+}
+
 // Adds the options and arguments that name the sources of jobs.
 #[tactic(auto, unfolding(crate::specs::Command::with_sources))]
 fn with_sources<'a>(alloc: Global, command: Command<'a>) -> Result<Command<'a>, AllocError>
@@ -195,6 +246,20 @@ fn with_sizes<'a>(
     let command = with_argument(command, room.help_heading(help::TUNING))?;
     let command = with_argument(command, number_option(alloc, "limit", limit, help::LIMIT))?;
     Ok(command)
+}
+
+// Adds the option `--name`, which has no value.
+fn with_flag<'a>(
+    alloc: Global,
+    command: Command<'a>,
+    name: &'a str,
+    help: &'a str,
+) -> Result<Command<'a>, AllocError>
+    requires local { (out-Command command).has_globals ≡ false }
+    ensures app { IfOk result (λ new. app_of new ≡ with_rule (app_of command.entry) (flag_option name.entry.now)) }
+    ensures local { IfOk result (λ new. (out-Command new).has_globals ≡ false) }
+{
+    with_argument(command, flag_option(alloc, name, help))
 }
 
 // Adds an argument to the command. It isn't global: subcommands don't have it.
@@ -252,36 +317,12 @@ fn moment_option<'a>(alloc: Global, name: &'a str, help: &'a str) -> Arg<'a>
     text_option(alloc, name, "T", help).required(true)
 }
 
-// Returns the option `--zone ZONE`, which is optional.
-fn zone_option<'a>(alloc: Global) -> Arg<'a>
-    ensures rule { rule_of result ≡ zone_option }
-    ensures local { result.global ≡ false }
+// Gives the option another name, which its help shows.
+fn with_alias<'a>(option: Arg<'a>, name: &'a str) -> Result<Arg<'a>, AllocError>
+    ensures rule { IfOk result (λ new. rule_of new ≡ with_alias (rule_of option.entry) name.entry.now) }
+    ensures local { IfOk result (λ new. new.global ≡ option.entry.global) }
 {
-    text_option(alloc, "zone", "ZONE", help::ZONE)
-}
-
-// Returns the option `--event-zones`, which has no value.
-fn event_zones_option<'a>(alloc: Global) -> Arg<'a>
-    ensures rule { rule_of result ≡ event_zones_option }
-    ensures local { result.global ≡ false }
-{
-    flag_option(alloc, "event-zones", help::EVENT_ZONES)
-}
-
-// Returns the option `--keep-going`, which has no value.
-fn keep_going_option<'a>(alloc: Global) -> Arg<'a>
-    ensures rule { rule_of result ≡ keep_going_option }
-    ensures local { result.global ≡ false }
-{
-    flag_option(alloc, "keep-going", help::KEEP_GOING)
-}
-
-// Returns the option `--delays`, which has no value. What its help says depends on the command.
-fn delays_option<'a>(alloc: Global, help: &'a str) -> Arg<'a>
-    ensures rule { rule_of result ≡ delays_option }
-    ensures local { result.global ≡ false }
-{
-    flag_option(alloc, "delays", help)
+    option.visible_alias(name)
 }
 
 // Returns the option `--name`, which has no value.

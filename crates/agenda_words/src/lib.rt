@@ -13,4 +13,6 @@ mod paths;
 mod values;
 
 pub use arguments::read_words;
-pub use ask::{Ask, JobsRequest, PlanRequest, UsageFault, ZonesRequest};
+pub use ask::{
+    Ask, FormatRequest, JobsRequest, NextRequest, PlanRequest, UsageFault, ZonesRequest,
+};

@@ -4,9 +4,9 @@ pub(super) const AGENDA: &str = "Shows when cron jobs and systemd timers will ru
 
 pub(super) const AFTER_AGENDA: &str = "\
 Times are given and printed in UTC, for the years 1970 to 2999. Rules are read in UTC, or
-in the time zone that you give with --zone. agenda-machine(1) finds the crontabs, the
-timers and the time zone of a machine. agenda(1) describes the formats, the limits and
-every error.
+in the time zone that you give with --zone; --local prints times in that zone, too.
+agenda-machine(1) finds the crontabs, the timers and the time zone of a machine. agenda(1)
+describes the formats, the limits and every error.
 
 Examples:
   agenda next --cron @daily --after 2024-01-01T00:00:00Z
@@ -20,7 +20,7 @@ Examples:
 pub(super) const NEXT: &str = "Prints the next starts of one rule";
 
 pub(super) const NEXT_USAGE: &str =
-    "agenda next --after <T> [--zone <ZONE>] [--event-zones] [--count <N>] (--cron <TEXT> | --calendar <TEXT>)";
+    "agenda next [OPTIONS] --after <T> (--cron <TEXT> | --calendar <TEXT>)";
 
 pub(super) const AFTER: &str = "\
 Only starts later than this time, in UTC, such as
@@ -40,6 +40,14 @@ pub(super) const DELAYS: &str = "\
 Show each start with the latest time at which it may
 happen (RandomizedDelaySec= and AccuracySec=)";
 
+pub(super) const JSON: &str = "\
+Print each line as a JSON object; agenda(1)
+describes the keys";
+
+pub(super) const LOCAL: &str = "\
+Print times in the time zone of --zone, such as
+2024-03-31T03:00:00+02:00";
+
 pub(super) const COUNT: &str = "How many starts, from 1 to 1000";
 
 pub(super) const CRON: &str = "\
@@ -50,7 +58,8 @@ pub(super) const CALENDAR: &str = "A calendar event, such as 'Mon..Fri *-*-* 04:
 
 pub(super) const AFTER_NEXT: &str = "\
 Give exactly one of --cron and --calendar. Prints one time per line. If the rule has fewer
-starts before the year 3000, the last line is 'none'. agenda(1) describes both grammars.
+starts before the year 3000, the last line is 'none'. With --json, there is no such line.
+agenda(1) describes both grammars.
 
 Example:
   agenda next --cron '30 4 1,15 * 5' --after 2024-01-01T00:00:00Z --count 4";
@@ -98,8 +107,8 @@ Prints a header line with the span and the number of starts, then a line for eac
 the time, the job's name and what it runs, separated by tabs. Lines are sorted by time.
 Jobs that start at the same time are in this order: the user's crontab, the system
 crontab, --cron-d, --spool, timers. With --delays, the latest time follows the time, and
-a start before --since is included if it may be delayed into the span. agenda(1) describes
-the formats of the files.
+a start before --since is included if it may be delayed into the span. With --json, there
+is no header. agenda(1) describes the formats of the files.
 
 Example:
   agenda plan --since 2024-01-01T00:00:00Z --upto 2024-01-02T00:00:00Z \\
@@ -111,7 +120,8 @@ pub(super) const AFTER_UPCOMING: &str = "\
 Prints a line for each job: the time of its next start, the job's name and what it runs,
 separated by tabs. Lines are sorted by time, then by job, as in plan. Jobs that don't
 start again before the year 3000 come last, with 'none' instead of a time. With --delays,
-the latest time follows the time. agenda(1) describes the formats of the files.
+the latest time follows the time. With --json, null stands for 'none'. agenda(1) describes
+the formats of the files.
 
 Example:
   agenda upcoming --after 2024-01-01T00:00:00Z --crontab jobs backup.timer";
