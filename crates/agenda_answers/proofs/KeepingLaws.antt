@@ -6,6 +6,7 @@ use Rattle.plan_clock.specs.declared.row.Change.{Change}
 use Rattle.plan_texts.specs.Steps.{◌>>=◌}
 use Rattle.plan_rules.specs.Job.{JobParts}
 use Rattle.plan_write.specs.Skipped.{skipped_text}
+use Rattle.plan_write.specs.declared.Format.{Format}
 use Rattle.agenda_sources.specs.declared.Source.{Source}
 use Rattle.agenda_sources.specs.declared.SourcePath.{SourcePath}
 use Rattle.agenda_sources.specs.declared.TimeZones.{TimeZones}
@@ -28,9 +29,10 @@ use Rattle.agenda_commands.specs.Plan.{plan_output, planned_output}
 use Rattle.agenda_commands.specs.Quiet.{gaps_output, quiet_output, valid_least}
 use Rattle.agenda_commands.specs.Upcoming.{IsTextOfUpcoming, RefusesUpcoming}
 use Rattle.agenda_answers.specs.declared.keeping.Tried.{Tried}
-use Rattle.agenda_answers.specs.Answer.{Ends, HoldsAfter, Leaves, Printed, Stream, moment_of, outputs, outputs_if, plan_ends, planning_of, prints, quiet_ends, span_of, upcoming_ends}
+use Rattle.agenda_answers.specs.Answer.{Ends, HoldsAfter, Leaves, Printed, Stream, moment_of, outputs, outputs_if, plan_after, plan_ends, planning_of, prints, quiet_after, quiet_ends, span_of, upcoming_after, upcoming_ends}
 use Rattle.agenda_answers.specs.EventZones.{time_zones}
 use Rattle.agenda_answers.specs.Files.{Held}
+use Rattle.agenda_answers.specs.Formats.{format_of}
 use Rattle.agenda_answers.specs.Keeping.{AnswersBy, Outcome, Reports, answer_of, kept_by, lines_of_skipped, plan_goal, printed, quiet_goal, skipped_status, upcoming_goal}
 use Rattle.agenda_answers.specs.Program.{ChangesNothing, SkipsNothing}
 use Rattle.agenda_answers.specs.Sources.{input_of, sources_of, tries_of, with_first}
@@ -65,7 +67,7 @@ record Parts (held : Held) (goal : Goal) (jobs : JobsRequest) (answer : Result (
   read : sources_of held jobs.sources (Ok sources)
   named : time_zones held jobs.zones clock (zone_names sources) (Ok zones)
   all_kept : jobs_reading zones sources ≡ Ok (kept_jobs zones sources)
-  answered : answer_of goal (kept_jobs zones sources) (Ok answer)
+  answered : answer_of (format_of jobs.format jobs.zones.zone zones.clock) goal (kept_jobs zones sources) (Ok answer)
 
 -- the law of agenda_sources: without errors all jobs are kept
 abbrev pub KeepsAll : Type 0
@@ -90,7 +92,8 @@ parts_of law held goal jobs kept (goes clock zone (goes tried read (goes zones n
       read = all_read held jobs.sources tried read (ap (λ k. k.unread) (sym same) ∙ none.0);
       named = named;
       all_kept = law zones tried.sources (ap (λ k. k.errors) (sym same) ∙ none.1);
-      answered = subst (λ a. answer_of goal (kept_jobs zones tried.sources) (Ok a)) (sym (ap (λ k. k.answer) same)) answered;
+      answered = subst (λ a. answer_of (format_of jobs.format jobs.zones.zone zones.clock) goal (kept_jobs zones
+          tried.sources) (Ok a)) (sym (ap (λ k. k.answer) same)) answered;
     }
 parts_of law held goal jobs kept (goes clock zone (goes tried read (goes zones named (stops failure _ is)))) none = absurd cc
 parts_of law held goal jobs kept (goes clock zone (goes tried read (stops failure _ is))) none = absurd cc
@@ -136,10 +139,12 @@ plan_same law held request goal kept (goes span spanned is) by none =
     let parts = parts_of law held (of_jobs.Plan (planning_of request span)) request.jobs kept
     (subst (λ w. kept_by held w request.jobs (Ok kept)) goal_is by) none in
     let jobs = kept_jobs parts.zones parts.sources in
-    let same : plan_output parts.zones parts.sources (planning_of request span) ≡ planned_output jobs (planning_of request span) =
-    ap (λ r. step fault_of_sources r >>= (λ js. planned_output js (planning_of request span))) parts.all_kept in
-    goes span spanned (goes (input_in parts) (input_read parts)
-    (same_output _ (planned_output jobs (planning_of request span)) kept.answer same parts.answered))
+    let format = format_of request.jobs.format request.jobs.zones.zone parts.zones.clock in
+    let same : plan_output parts.zones parts.sources (planning_of request span) format
+    ≡ planned_output format jobs (planning_of request span) =
+    ap (λ r. step fault_of_sources r >>= (λ js. planned_output format js (planning_of request span))) parts.all_kept in
+    goes span spanned (goes (input_in parts) (input_read parts) (goes format refl
+    (same_output _ (planned_output format jobs (planning_of request span)) kept.answer same parts.answered)))
 
 quiet_same :
     (law : KeepsAll) (held : Held) (request : PlanRequest) (least : ℕ) (goal : Goal) (kept : Outcome) →
@@ -151,20 +156,22 @@ quiet_same law held request least goal kept (goes span spanned is) by none =
     let parts = parts_of law held (of_jobs.Quiet (planning_of request span) least) request.jobs kept
     (subst (λ w. kept_by held w request.jobs (Ok kept)) goal_is by) none in
     let jobs = kept_jobs parts.zones parts.sources in
-    let next : ℕ → Result (List ℕ) RunFault = λ wide. gaps_output jobs (planning_of request span) wide in
-    let same : quiet_output parts.zones parts.sources (planning_of request span) least ≡ (valid_least least >>= next) =
-    ap (λ r. valid_least least >>= (λ wide. step fault_of_sources r >>= (λ js. gaps_output js (planning_of request span) wide)))
+    let format = format_of request.jobs.format request.jobs.zones.zone parts.zones.clock in
+    let next : ℕ → Result (List ℕ) RunFault = λ wide. gaps_output format jobs (planning_of request span) wide in
+    let same : quiet_output parts.zones parts.sources (planning_of request span) least format ≡ (valid_least least >>= next) =
+    ap (λ r. valid_least least >>= (λ wide. step fault_of_sources r >>= (λ js. gaps_output format js (planning_of request span) wide)))
     parts.all_kept in
-    goes span spanned (goes (input_in parts) (input_read parts)
-    (same_output_if (valid_least least) _ next kept.answer same parts.answered))
+    goes span spanned (goes (input_in parts) (input_read parts) (goes format refl
+    (same_output_if (valid_least least) _ next kept.answer same parts.answered)))
 
 -- the next starts of jobs have no error but that an allocation failed
 upcoming_printed :
-    (zones : TimeZones) (sources : List Source) (jobs : List JobParts) (after : ℕ) (delays : Bool) (answer : Result (List ℕ) RunFault) →
-    jobs_reading zones sources ≡ Ok jobs → answer_of (of_jobs.Upcoming after delays) jobs (Ok answer) →
-    prints 0 (IsTextOfUpcoming zones sources after delays) (RefusesUpcoming zones sources) (printed answer 0)
-upcoming_printed zones sources jobs after delays (Ok text) same is = ((jobs, same, is), refl)
-upcoming_printed zones sources jobs after delays (Err fault) same is = absurd (is.0 is.1)
+    (format : Format) (zones : TimeZones) (sources : List Source) (jobs : List JobParts) (after : ℕ) (delays : Bool)
+    (answer : Result (List ℕ) RunFault) →
+    jobs_reading zones sources ≡ Ok jobs → answer_of format (of_jobs.Upcoming after delays) jobs (Ok answer) →
+    prints 0 (IsTextOfUpcoming zones sources after delays format) (RefusesUpcoming zones sources) (printed answer 0)
+upcoming_printed format zones sources jobs after delays (Ok text) same is = ((jobs, same, is), refl)
+upcoming_printed format zones sources jobs after delays (Err fault) same is = absurd (is.0 is.1)
 
 upcoming_same :
     (law : KeepsAll) (held : Held) (after : List ℕ) (jobs : JobsRequest) (goal : Goal) (kept : Outcome) →
@@ -175,8 +182,9 @@ upcoming_same law held after jobs goal kept (goes moment read is) by none =
     let goal_is : goal ≡ of_jobs.Upcoming moment jobs.delays = cc in
     let parts = parts_of law held (of_jobs.Upcoming moment jobs.delays) jobs kept
     (subst (λ w. kept_by held w jobs (Ok kept)) goal_is by) none in
-    goes moment read (goes (input_in parts) (input_read parts)
-    (upcoming_printed parts.zones parts.sources _ moment jobs.delays kept.answer parts.all_kept parts.answered))
+    let format = format_of jobs.format jobs.zones.zone parts.zones.clock in
+    goes moment read (goes (input_in parts) (input_read parts) (goes format refl
+    (upcoming_printed format parts.zones parts.sources _ moment jobs.delays kept.answer parts.all_kept parts.answered)))
 
 -- ---- the streams
 
@@ -227,7 +235,7 @@ plan_unchanged law held request (Err failure) is (Ok kept) by none status out er
 plan_unchanged law held request goal is (Err failure) by other status out err ends =
     failed_same (plan_ends held request) request.jobs.sources failure status out err
     (fails_same (span_of request.since request.upto) (λ span. of_jobs.Plan (planning_of request span)) held request.jobs
-    (λ span input. outputs 0 (plan_output input.zones input.sources (planning_of request span))) goal failure is
+    (plan_after request) goal failure is
     (fails_first held goal request.jobs failure by other)) ends
 
 pub upcoming_unchanged :
@@ -240,8 +248,7 @@ upcoming_unchanged law held after jobs (Err failure) is (Ok kept) by none status
 upcoming_unchanged law held after jobs goal is (Err failure) by other status out err ends =
     failed_same (upcoming_ends held after jobs) jobs.sources failure status out err
     (fails_same (moment_of After after) (λ moment. of_jobs.Upcoming moment jobs.delays) held jobs
-    (λ moment input. prints 0 (IsTextOfUpcoming input.zones input.sources moment jobs.delays) (RefusesUpcoming input.zones input.sources))
-    goal failure is
+    (upcoming_after jobs) goal failure is
     (fails_first held goal jobs failure by other)) ends
 
 pub quiet_unchanged :
@@ -254,6 +261,5 @@ quiet_unchanged law held request least (Err failure) is (Ok kept) by none status
 quiet_unchanged law held request least goal is (Err failure) by other status out err ends =
     failed_same (quiet_ends held request least) request.jobs.sources failure status out err
     (fails_same (span_of request.since request.upto) (λ span. of_jobs.Quiet (planning_of request span) least) held request.jobs
-    (λ span input. outputs_if (valid_least least) (quiet_output input.zones input.sources (planning_of request span) least)) goal
-    failure is
+    (quiet_after request least) goal failure is
     (fails_first held goal request.jobs failure by other)) ends

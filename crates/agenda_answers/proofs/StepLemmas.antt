@@ -50,8 +50,8 @@ pub stopped :
     (old new : Option (List ℕ)) → Fails takes_all P R fault old new → IsErrAnd result (λ found. found ≡ Run fault) →
     Leaves takes_all (prints status P R) result old new
 stopped P R takes_all status (Ok done) fault old new fails passed = absurd passed
-stopped P R takes_all status (Err found) run.Device old new (text, is, off) passed =
-    record { end = Ok (record { text = text; status = status }); ends = (is, refl); puts = (passed, off) }
+stopped P R takes_all status (Err found) (run.Device stream) old new (text, is, off) passed =
+    record { end = Ok (record { text = text; status = status }); ends = (is, refl); puts = (stream, passed, off) }
 stopped P R takes_all status (Err found) other old new fails passed =
     record { end = Err (Run other); ends = fails.0; puts = (passed, fails.1) }
 
@@ -62,8 +62,8 @@ pub stopped_if :
     IfErr number (λ found. fault ≡ found) → IsErrAnd result (λ found. found ≡ Run fault) →
     Leaves takes_all (outputs_if number output) result old new
 stopped_if number output takes_all (Ok done) fault old new fails first passed = absurd passed
-stopped_if number output takes_all (Err found) run.Device old new (text, is, off) first passed =
-    record { end = Ok (record { text = text; status = 0 }); ends = (is, refl); puts = (passed, off) }
+stopped_if number output takes_all (Err found) (run.Device stream) old new (text, is, off) first passed =
+    record { end = Ok (record { text = text; status = 0 }); ends = (is, refl); puts = (stream, passed, off) }
 stopped_if number output takes_all (Err found) other old new fails first passed =
     record { end = Err (Run other); ends = (fails.0, first); puts = (passed, fails.1) }
 

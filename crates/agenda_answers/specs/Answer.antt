@@ -8,6 +8,7 @@ use Rattle.agenda_codes.specs.declared.Code.{Code}
 use Rattle.agenda_words.specs.declared.Ask.{Ask}
 use Rattle.agenda_words.specs.declared.Ask.TheVariants.{Next, Plan, Upcoming, Quiet, Check, Steps, Explain}
 use Rattle.agenda_words.specs.declared.JobsRequest.{JobsRequest}
+use Rattle.agenda_words.specs.declared.NextRequest.{NextRequest}
 use Rattle.agenda_words.specs.declared.PlanRequest.{PlanRequest}
 use Rattle.agenda_words.specs.declared.ZonesRequest.{ZonesRequest}
 use Rattle.agenda_words.specs.declared.UsageFault.{UsageFault}
@@ -16,15 +17,16 @@ use Rattle.agenda_faults.specs.declared.faults.RunFault.{RunFault}
 use Rattle.agenda_faults.specs.declared.faults.RunFault.TheVariants as run
 use Rattle.agenda_faults.specs.declared.faults.Failure.{Failure}
 use Rattle.agenda_faults.specs.declared.faults.Failure.TheVariants.{Usage, After, Since, Upto, Span, Run, File}
-use Rattle.agenda_sources.specs.declared.Asked.{Asked}
 use Rattle.agenda_sources.specs.declared.SourcePath.{SourcePath}
 use Rattle.plan_collect.specs.Span.{Bounds}
 use Rattle.plan_collect.specs.declared.SpanFault.TheVariants.{Backwards}
 use Rattle.agenda_faults.specs.FaultLines.{fault_text}
 use Rattle.agenda_faults.specs.Faults.{refused_status, status_of}
 use Rattle.agenda_answers.specs.Files.{Held, whole_of}
+use Rattle.agenda_answers.specs.Formats.{format_made}
 use Rattle.agenda_answers.specs.Sources.{input_of, rule_zones}
 use Rattle.agenda_answers.specs.Steps.{Step, fails, gives, ◌>>=◌}
+use Rattle.agenda_commands.specs.declared.Input.{Input}
 use Rattle.agenda_commands.specs.declared.Planning.{Planning}
 use Rattle.agenda_commands.specs.declared.Verdict.{Verdict}
 use Rattle.agenda_commands.specs.declared.Verdict.TheVariants.{Clean, Refused}
@@ -37,6 +39,7 @@ use Rattle.agenda_commands.specs.Quiet.{quiet_output, valid_least}
 use Rattle.agenda_commands.specs.Script.{IsTextOfRun, RefusesRun}
 use Rattle.agenda_commands.specs.Upcoming.{IsTextOfUpcoming, RefusesUpcoming}
 use Rattle.plan_streams.specs.Stream.{BreaksOff, PutsOrBreaksOff}
+use Rattle.plan_streams.specs.declared.WriteFault.{WriteFault}
 
 -- the text of usage if an argument isn't UTF-8, unless an allocation failed
 abbrev pub SaysNotUtf8 : UsageFault → Type 0
@@ -85,36 +88,55 @@ abbrev pub outputs_if : (number : Result ℕ RunFault) → Result (List ℕ) Run
 outputs_if number output = prints 0 (IsTextOf output) (λ fault. IsFaultOf output fault × IfErr number (λ found. fault ≡ found))
 
 -- `next`: the timestamp is read first, then the zones, then the count and the rule
-abbrev pub next_ends : Held → List ℕ → ZonesRequest → (count : ℕ) → Asked → Step Printed
-next_ends held after request count rule = do
-  moment ← moment_of After after
-  zones ← rule_zones held request rule
-  outputs_if (valid_count count) (next_output zones rule moment count)
+abbrev pub next_ends : Held → NextRequest → Step Printed
+next_ends held request = do
+  moment ← moment_of After request.after
+  zones ← rule_zones held request.zones request.rule
+  format ← format_made request.format request.zones.zone zones.clock
+  outputs_if (valid_count request.count) (next_output zones request.rule moment request.count format)
 
 -- how the jobs of a request are planned over a span
 abbrev pub planning_of : PlanRequest → Bounds → Planning
 planning_of request span = record { span = span; sizes = request.sizes; delays = request.jobs.delays }
+
+-- the plan over a span, after the zone and the files were read
+abbrev pub plan_after : PlanRequest → Bounds → Input → Step Printed
+plan_after request span input = do
+  format ← format_made request.jobs.format request.jobs.zones.zone input.zones.clock
+  outputs 0 (plan_output input.zones input.sources (planning_of request span) format)
 
 -- `plan`: the span is read first, then the zone, then the files, and then the plan is made
 abbrev pub plan_ends : Held → PlanRequest → Step Printed
 plan_ends held request = do
   span ← span_of request.since request.upto
   input ← input_of held request.jobs.zones request.jobs.sources
-  outputs 0 (plan_output input.zones input.sources (planning_of request span))
+  plan_after request span input
+
+-- the next starts after a second, after the zone and the files were read
+abbrev pub upcoming_after : JobsRequest → (moment : ℕ) → Input → Step Printed
+upcoming_after jobs moment input = do
+  format ← format_made jobs.format jobs.zones.zone input.zones.clock
+  prints 0 (IsTextOfUpcoming input.zones input.sources moment jobs.delays format) (RefusesUpcoming input.zones input.sources)
 
 -- `upcoming`: the timestamp is read first, then the zone, then the files, and then their texts
 abbrev pub upcoming_ends : Held → List ℕ → JobsRequest → Step Printed
 upcoming_ends held after jobs = do
   moment ← moment_of After after
   input ← input_of held jobs.zones jobs.sources
-  prints 0 (IsTextOfUpcoming input.zones input.sources moment jobs.delays) (RefusesUpcoming input.zones input.sources)
+  upcoming_after jobs moment input
+
+-- the gaps of a plan over a span, after the zone and the files were read
+abbrev pub quiet_after : PlanRequest → (least : ℕ) → Bounds → Input → Step Printed
+quiet_after request least span input = do
+  format ← format_made request.jobs.format request.jobs.zones.zone input.zones.clock
+  outputs_if (valid_least least) (quiet_output input.zones input.sources (planning_of request span) least format)
 
 -- `quiet`: in the same order as `plan`
 abbrev pub quiet_ends : Held → PlanRequest → (least : ℕ) → Step Printed
 quiet_ends held request least = do
   span ← span_of request.since request.upto
   input ← input_of held request.jobs.zones request.jobs.sources
-  outputs_if (valid_least least) (quiet_output input.zones input.sources (planning_of request span) least)
+  quiet_after request least span input
 
 -- the exit status of `check`
 abbrev pub status_on : Verdict → ℕ
@@ -122,10 +144,10 @@ status_on Clean = 0
 status_on Refused = refused_status
 
 -- `check`: the zone is read first, then the files and the zones of events; after that only an allocation can fail
-abbrev pub check_ends : Held → ZonesRequest → List SourcePath → Step Printed
-check_ends held zones paths = do
+abbrev pub check_ends : Held → ZonesRequest → List SourcePath → (json : Bool) → Step Printed
+check_ends held zones paths json = do
   input ← input_of held zones paths
-  outputs (status_on (sources_verdict input.zones input.sources)) (check_output input.zones paths input.sources)
+  outputs (status_on (sources_verdict input.zones input.sources)) (check_output input.zones paths input.sources json)
 
 -- `steps`: the file is read first, then the script in it is run
 abbrev pub steps_ends : Held → List ℕ → Step Printed
@@ -141,11 +163,11 @@ explain_ends code = outputs 0 (explain_output code)
 
 -- a request
 abbrev pub ask_ends : Held → Ask → Step Printed
-ask_ends held (Next after zones count rule) = next_ends held after zones count rule
+ask_ends held (Next request) = next_ends held request
 ask_ends held (Plan request) = plan_ends held request
 ask_ends held (Upcoming after jobs) = upcoming_ends held after jobs
 ask_ends held (Quiet request least) = quiet_ends held request least
-ask_ends held (Check zones sources) = check_ends held zones sources
+ask_ends held (Check zones sources json) = check_ends held zones sources json
 ask_ends held (Steps file) = steps_ends held file
 ask_ends held (Explain code) = explain_ends code
 
@@ -159,7 +181,8 @@ usage_ends usage.NoMemory = fails (Run run.NoMemory)
 -- or what it held before, if the request failed
 abbrev pub HoldsAfter : Bool → Result Printed Failure → Result ℕ Failure → (old new : Option (List ℕ)) → Type 0
 HoldsAfter takes_all (Ok printed) (Ok status) old new = (status ≡ printed.status) × Appends old new printed.text
-HoldsAfter takes_all (Ok printed) (Err failure) old new = (failure ≡ Run run.Device) × BreaksOff takes_all old new printed.text
+HoldsAfter takes_all (Ok printed) (Err failure) old new =
+    (fault : WriteFault) × (failure ≡ Run (run.Device fault)) × BreaksOff takes_all old new printed.text
 HoldsAfter takes_all (Err failure) (Ok status) old new = ⊥
 HoldsAfter takes_all (Err failure) (Err found) old new = (found ≡ failure) × Keeps old new
 
@@ -186,5 +209,5 @@ abbrev pub sources_in : Ask → List SourcePath
 sources_in (Plan request) = request.jobs.sources
 sources_in (Upcoming _ jobs) = jobs.sources
 sources_in (Quiet request _) = request.jobs.sources
-sources_in (Check _ sources) = sources
+sources_in (Check _ sources _) = sources
 sources_in other = []

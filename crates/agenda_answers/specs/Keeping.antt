@@ -15,6 +15,7 @@ use Rattle.agenda_sources.specs.Findings.{kept_jobs, sources_errors}
 use Rattle.agenda_sources.specs.ZoneNames.{zone_names}
 use Rattle.plan_rules.specs.Job.{JobParts}
 use Rattle.plan_write.specs.Skipped.{skipped_text}
+use Rattle.plan_write.specs.declared.Format.{Format}
 use Rattle.plan_streams.specs.Stream.{BreaksOff}
 use Rattle.agenda_commands.specs.declared.Goal.{Goal}
 use Rattle.agenda_commands.specs.declared.Goal.TheVariants.{Plan, Quiet, Upcoming}
@@ -22,6 +23,7 @@ use Rattle.agenda_commands.specs.Goal.{IsFaultOfGoal, IsTextOfGoal}
 use Rattle.agenda_answers.specs.Answer.{Ends, HoldsAfter, Printed, Stream, moment_of, planning_of, span_of}
 use Rattle.agenda_answers.specs.EventZones.{time_zones}
 use Rattle.agenda_answers.specs.Files.{Held}
+use Rattle.agenda_answers.specs.Formats.{format_of}
 use Rattle.agenda_answers.specs.Sources.{tries_of}
 use Rattle.agenda_answers.specs.Steps.{Step, fails, gives, ◌>>=◌}
 use Rattle.agenda_answers.specs.Zone.{clock_of}
@@ -61,10 +63,10 @@ abbrev pub AnswersBy : (List ℕ → Type 0) → (RunFault → Type 0) → Resul
 AnswersBy IsText IsRefused (Ok text) = IsText text
 AnswersBy IsText IsRefused (Err fault) = (fault ≢ NoMemory) × IsRefused fault
 
--- the answer of jobs; if an allocation failed, the whole request fails
-abbrev pub answer_of : Goal → List JobParts → Step (Result (List ℕ) RunFault)
-answer_of goal jobs (Ok answer) = AnswersBy (IsTextOfGoal jobs goal) (IsFaultOfGoal jobs goal) answer
-answer_of goal jobs (Err failure) = failure ≡ Run NoMemory
+-- the answer of jobs, in a format; if an allocation failed, the whole request fails
+abbrev pub answer_of : Format → Goal → List JobParts → Step (Result (List ℕ) RunFault)
+answer_of format goal jobs (Ok answer) = AnswersBy (IsTextOfGoal format jobs goal) (IsFaultOfGoal format jobs goal) answer
+answer_of format goal jobs (Err failure) = failure ≡ Run NoMemory
 
 -- the zone is read first, then the files and the zones of their events; then come the errors of the sources and the answer of the
 -- jobs that are left
@@ -73,7 +75,7 @@ kept_by held goal jobs = do
   clock ← clock_of held jobs.zones.zone
   tried ← tries_of held jobs.sources
   zones ← time_zones held jobs.zones clock (zone_names tried.sources)
-  answer ← answer_of goal (kept_jobs zones tried.sources)
+  answer ← answer_of (format_of jobs.format jobs.zones.zone zones.clock) goal (kept_jobs zones tried.sources)
   gives (record { unread = tried.unread; paths = tried.paths; errors = sources_errors zones tried.sources; answer = answer })
 
 -- the same, unless the timestamps are rejected

@@ -1,6 +1,7 @@
 pub mod Answer
 pub mod EventZones
 pub mod Files
+pub mod Formats
 pub mod Keeping
 pub mod Program
 pub mod Sources

@@ -9,6 +9,7 @@ ghost use Rattle.agenda_answers.specs.Keeping.{plan_goal, quiet_goal, upcoming_g
 ghost use Rattle.agenda_faults.specs.declared.faults.Failure.TheVariants.{After};
 
 use crate::files::{Files, read_path};
+use crate::formats::make_format;
 use crate::keeping::keep_going;
 use crate::sources::{read_input, read_rule_zones};
 use crate::status::{DONE, REFUSED};
@@ -18,8 +19,10 @@ use agenda_commands::{
     run_upcoming,
 };
 use agenda_faults::{Failure, RunFault, fault_line};
-use agenda_sources::{Asked, SourcePath, SourcePaths};
-use agenda_words::{Ask, JobsRequest, PlanRequest, UsageFault, ZonesRequest, read_words};
+use agenda_sources::{SourcePath, SourcePaths};
+use agenda_words::{
+    Ask, JobsRequest, NextRequest, PlanRequest, UsageFault, ZonesRequest, read_words,
+};
 use plan_collect::Span;
 use plan_rules::Text;
 use plan_sets::read_moment;
@@ -198,16 +201,15 @@ fn carry_out<R: Threads + Wait + Sync, F: Files, S: Stream>(
     ensures { Leaves S.takes_all (ask_ends (F.held files.old) ask.now) result (S.holds out.old) (S.holds out.new) }
 {
     match ask {
-        Ask::Next {
-            after,
-            zones,
-            count,
-            rule,
-        } => next(alloc, after, zones, *count, rule, files, out),
+        Ask::Next(request) => next(alloc, request, files, out),
         Ask::Plan(request) => plan(rt, alloc, request, files, out),
         Ask::Upcoming { after, jobs } => upcoming(alloc, after, jobs, files, out),
         Ask::Quiet { plan, least } => quiet(rt, alloc, plan, *least, files, out),
-        Ask::Check { zones, sources } => check(alloc, zones, sources, files, out),
+        Ask::Check {
+            zones,
+            sources,
+            json,
+        } => check(alloc, zones, sources, *json, files, out),
         Ask::Steps { file } => steps(alloc, file, files, out),
         Ask::Explain(code) => explain(*code, out),
     }
@@ -230,18 +232,17 @@ fn decline<S: Stream>(fault: UsageFault, out: &mut S) -> Result<u8, Failure>
 // Runs the command `next`.
 fn next<F: Files, S: Stream>(
     alloc: Global,
-    after: &Text,
-    zones: &ZonesRequest,
-    count: u32,
-    rule: &Asked,
+    request: &NextRequest,
     files: &mut F,
     out: &mut S,
 ) -> Result<u8, Failure>
-    ensures { Leaves S.takes_all (next_ends (F.held files.old) after.now zones.now count rule.now) result (S.holds out.old) (S.holds out.new) }
+    ensures { Leaves S.takes_all (next_ends (F.held files.old) request.now) result (S.holds out.old) (S.holds out.new) }
 {
-    let moment = moment_after(after)?;
-    let zones = read_rule_zones(alloc, files, zones, rule)?;
-    run_next(alloc, rule, &zones, moment, u64::from(count), out)?;
+    let moment = moment_after(&request.after)?;
+    let zones = read_rule_zones(alloc, files, &request.zones, &request.rule)?;
+    let format = make_format(alloc, request.format, &request.zones.zone, &zones.clock)?;
+    let count = u64::from(request.count);
+    run_next(alloc, &request.rule, &zones, moment, count, &format, out)?;
     Ok(DONE)
 }
 
@@ -256,8 +257,10 @@ fn plan<R: Threads + Wait + Sync, F: Files, S: Stream>(
     ensures { Leaves S.takes_all (plan_ends (F.held files.old) request.now) result (S.holds out.old) (S.holds out.new) }
 {
     let span = span_between(&request.since, &request.upto)?;
-    let input = read_input(alloc, files, &request.jobs.zones, &request.jobs.sources)?;
-    run_plan(rt, alloc, &input, &planning_of(request, span), out)?;
+    let jobs = &request.jobs;
+    let input = read_input(alloc, files, &jobs.zones, &jobs.sources)?;
+    let format = make_format(alloc, jobs.format, &jobs.zones.zone, &input.zones.clock)?;
+    run_plan(rt, alloc, &input, &planning_of(request, span), &format, out)?;
     Ok(DONE)
 }
 
@@ -273,7 +276,8 @@ fn upcoming<F: Files, S: Stream>(
 {
     let moment = moment_after(after)?;
     let input = read_input(alloc, files, &jobs.zones, &jobs.sources)?;
-    run_upcoming(alloc, &input, moment, jobs.delays, out)?;
+    let format = make_format(alloc, jobs.format, &jobs.zones.zone, &input.zones.clock)?;
+    run_upcoming(alloc, &input, moment, jobs.delays, &format, out)?;
     Ok(DONE)
 }
 
@@ -289,8 +293,18 @@ fn quiet<R: Threads + Wait + Sync, F: Files, S: Stream>(
     ensures { Leaves S.takes_all (quiet_ends (F.held files.old) request.now least) result (S.holds out.old) (S.holds out.new) }
 {
     let span = span_between(&request.since, &request.upto)?;
-    let input = read_input(alloc, files, &request.jobs.zones, &request.jobs.sources)?;
-    run_quiet(rt, alloc, &input, &planning_of(request, span), least, out)?;
+    let jobs = &request.jobs;
+    let input = read_input(alloc, files, &jobs.zones, &jobs.sources)?;
+    let format = make_format(alloc, jobs.format, &jobs.zones.zone, &input.zones.clock)?;
+    run_quiet(
+        rt,
+        alloc,
+        &input,
+        &planning_of(request, span),
+        least,
+        &format,
+        out,
+    )?;
     Ok(DONE)
 }
 
@@ -299,13 +313,14 @@ fn check<F: Files, S: Stream>(
     alloc: Global,
     zones: &ZonesRequest,
     paths: &SourcePaths,
+    json: bool,
     files: &mut F,
     out: &mut S,
 ) -> Result<u8, Failure>
-    ensures { Leaves S.takes_all (check_ends (F.held files.old) zones.now paths.now) result (S.holds out.old) (S.holds out.new) }
+    ensures { Leaves S.takes_all (check_ends (F.held files.old) zones.now paths.now json) result (S.holds out.old) (S.holds out.new) }
 {
     let input = read_input(alloc, files, zones, paths)?;
-    let verdict = run_check(alloc, paths.as_slice(), &input, out)?;
+    let verdict = run_check(alloc, paths.as_slice(), &input, json, out)?;
     Ok(status_on(verdict))
 }
 

@@ -18,6 +18,7 @@ ghost use Rattle.agenda_words.specs.declared.PlanRequest.{PlanRequest};
 use crate::answers::end;
 use crate::event_zones::{names_of_sources, read_zones};
 use crate::files::Files;
+use crate::formats::make_format;
 use crate::sources::read_source;
 use crate::status::{DONE, FAILED, REFUSED};
 use crate::zone::read_clock;
@@ -29,7 +30,7 @@ use agenda_sources::{
 use agenda_words::JobsRequest;
 use plan_rules::{Jobs, Text};
 use plan_streams::Stream;
-use plan_write::write_skipped;
+use plan_write::{Format, write_skipped};
 use std::alloc::{AllocError, Global};
 use std::marker::Model;
 use std::sync::Wait;
@@ -106,7 +107,8 @@ fn make_outcome<R: Threads + Wait + Sync, F: Files>(
     let names = names_of_sources(alloc, &jobs.zones, &tried.sources)?;
     let zones = read_zones(alloc, files, &jobs.zones.zone, clock, names)?;
     let kept = kept_of_sources(alloc, &tried.sources, &zones)?;
-    let answer = answer_jobs(rt, alloc, kept.jobs, &goal)?;
+    let format = make_format(alloc, jobs.format, &jobs.zones.zone, &zones.clock)?;
+    let answer = answer_jobs(rt, alloc, kept.jobs, &goal, format)?;
     Ok(Outcome {
         unread: tried.unread,
         paths: tried.paths,
@@ -121,10 +123,11 @@ fn answer_jobs<R: Threads + Wait + Sync>(
     alloc: Global,
     jobs: Jobs,
     goal: &Goal,
+    format: Format,
 ) -> Result<Result<PreparedAnswer, RunFault>, Failure>
-    ensures { answer_of goal.now jobs result }
+    ensures { answer_of format goal.now jobs result }
 {
-    match prepare_answer(rt, alloc, jobs, goal) {
+    match prepare_answer(rt, alloc, jobs, goal, format) {
         Ok(answer) => Ok(Ok(answer)),
         Err(RunFault::NoMemory) => Err(Failure::Run(RunFault::NoMemory)),
         Err(fault) => Ok(Err(fault)),

@@ -7,6 +7,7 @@
 mod answers;
 mod event_zones;
 mod files;
+mod formats;
 mod keeping;
 mod sources;
 mod status;

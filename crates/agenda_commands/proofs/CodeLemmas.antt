@@ -28,6 +28,7 @@ use Rattle.agenda_sources.specs.declared.SourcePath.{SourcePath}
 use Rattle.agenda_script.specs.Causes.{script_cause}
 use Rattle.agenda_script.specs.declared.ScriptCause.{ScriptCause}
 use Rattle.agenda_script.specs.declared.ScriptCause.TheVariants as script
+use Rattle.plan_streams.specs.declared.WriteFault.TheVariants as stream
 use Rattle.agenda_codes.specs.declared.Code.{Code}
 use Rattle.agenda_codes.specs.declared.Code.TheVariants as code
 use Rattle.agenda_codes.specs.Codes.{name_of}
@@ -176,7 +177,8 @@ ends_run sources (run.SameName name) comes = longer (codes "agenda: job ") _ (lo
 ends_run sources run.Full comes = ends (codes "agenda: jobs: ") code.Full
 ends_run sources (run.Plan fault) comes = ends_plan fault comes
 ends_run sources (run.Script fault) comes = ends_script fault.line fault.cause
-ends_run sources run.Device comes = ends (codes "agenda: ") code.Device
+ends_run sources (run.Device stream.Device) comes = ends (codes "agenda: ") code.Device
+ends_run sources (run.Device stream.Closed) comes = absurd comes
 ends_run sources run.BadLeast comes = ends (codes "agenda: quiet: ") code.BadLeast
 
 ends_zone : (fault : ZoneFault) → EndsWithCode (zone_line fault)

@@ -20,5 +20,5 @@ abbrev pub sources_verdict : TimeZones → List Source → Verdict
 sources_verdict zones sources = verdict_of (is_ok (sources_reading zones.named sources))
 
 -- what `check` writes for sources: all findings
-abbrev pub check_output : TimeZones → List SourcePath → List Source → Result (List ℕ) RunFault
-check_output zones paths sources = Ok (check_text paths (sources_findings zones sources))
+abbrev pub check_output : TimeZones → List SourcePath → List Source → (json : Bool) → Result (List ℕ) RunFault
+check_output zones paths sources json = Ok (check_text json paths (sources_findings zones sources))

@@ -12,6 +12,7 @@ use Rattle.agenda_faults.specs.declared.faults.RunFault.{RunFault}
 use Rattle.agenda_faults.specs.declared.faults.RunFault.TheVariants as run
 use Rattle.agenda_faults.specs.declared.faults.Failure.{Failure}
 use Rattle.agenda_faults.specs.declared.faults.Failure.TheVariants as failure
+use Rattle.plan_streams.specs.declared.WriteFault.TheVariants as stream
 use Rattle.agenda_codes.specs.declared.Code.{Code}
 use Rattle.agenda_codes.specs.Codes.{name_of}
 
@@ -43,8 +44,9 @@ ComesInPlan (plan.Collect collect.TooMany) = ⊤
 ComesInPlan (plan.Collect other) = ⊥
 ComesInPlan other = ⊤
 
--- the error of a command
+-- the error of a command; a pipe whose reader closed it has no line
 abbrev pub ComesInRun : RunFault → Type 0
+ComesInRun (run.Device stream.Closed) = ⊥
 ComesInRun (run.Rule fault) = ComesInRule fault.cause
 ComesInRun (run.InSource place fault) = ComesOnLine fault.cause
 ComesInRun (run.Plan fault) = ComesInPlan fault

@@ -4,6 +4,9 @@ use Rattle.plan_texts.specs.Steps.{◌>>=◌}
 use Rattle.plan_collect.specs.Agenda.{IsOfJobs}
 use Rattle.plan_rules.specs.Job.{JobParts}
 use Rattle.plan_write.specs.Quiet.{quiet_text}
+use Rattle.plan_write.specs.Texts.{text_by_ends}
+use Rattle.plan_write.specs.Upcoming.{upcoming_text}
+use Rattle.plan_write.specs.declared.Format.{Format}
 use Rattle.agenda_faults.specs.declared.faults.RunFault.{RunFault}
 use Rattle.agenda_faults.specs.declared.faults.RunFault.TheVariants.{NoMemory}
 use Rattle.agenda_commands.specs.declared.goal.Goal.{Goal}
@@ -12,33 +15,33 @@ use Rattle.agenda_commands.specs.declared.goal.Planning.{Planning}
 use Rattle.agenda_commands.specs.declared.goal.Made.{Made}
 use Rattle.agenda_commands.specs.declared.goal.Made.TheVariants as made
 use Rattle.agenda_commands.specs.Command.{IsFaultOf, IsTextOf}
-use Rattle.agenda_commands.specs.Plan.{agenda_by_ends, planned_output}
+use Rattle.agenda_commands.specs.Plan.{planned_output}
 use Rattle.agenda_commands.specs.Quiet.{gaps_output, valid_least}
-use Rattle.agenda_commands.specs.Upcoming.{IsTextOfNexts, nexts_text}
+use Rattle.agenda_commands.specs.Upcoming.{IsTextOfNexts}
 
 -- the gaps of at least `least` seconds, if that is a length of a gap
-abbrev pub wide_output : List JobParts → Planning → (least : ℕ) → Result (List ℕ) RunFault
-wide_output jobs planning least = do
+abbrev pub wide_output : Format → List JobParts → Planning → (least : ℕ) → Result (List ℕ) RunFault
+wide_output format jobs planning least = do
   wide ← valid_least least
-  gaps_output jobs planning wide
+  gaps_output format jobs planning wide
 
 -- the text of the answer
-abbrev pub IsTextOfGoal : List JobParts → Goal → List ℕ → Type 0
-IsTextOfGoal jobs (goal.Plan planning) = IsTextOf (planned_output jobs planning)
-IsTextOfGoal jobs (goal.Upcoming after delays) = IsTextOfNexts jobs after delays
-IsTextOfGoal jobs (goal.Quiet planning least) = IsTextOf (wide_output jobs planning least)
+abbrev pub IsTextOfGoal : Format → List JobParts → Goal → List ℕ → Type 0
+IsTextOfGoal format jobs (goal.Plan planning) = IsTextOf (planned_output format jobs planning)
+IsTextOfGoal format jobs (goal.Upcoming after delays) = IsTextOfNexts format jobs after delays
+IsTextOfGoal format jobs (goal.Quiet planning least) = IsTextOf (wide_output format jobs planning least)
 
 -- why there is no such text, unless an allocation failed. The next starts of jobs have no other error
-abbrev pub IsFaultOfGoal : List JobParts → Goal → RunFault → Type 0
-IsFaultOfGoal jobs (goal.Plan planning) = IsFaultOf (planned_output jobs planning)
-IsFaultOfGoal jobs (goal.Upcoming after delays) = λ fault. fault ≡ NoMemory
-IsFaultOfGoal jobs (goal.Quiet planning least) = IsFaultOf (wide_output jobs planning least)
+abbrev pub IsFaultOfGoal : Format → List JobParts → Goal → RunFault → Type 0
+IsFaultOfGoal format jobs (goal.Plan planning) = IsFaultOf (planned_output format jobs planning)
+IsFaultOfGoal format jobs (goal.Upcoming after delays) = λ fault. fault ≡ NoMemory
+IsFaultOfGoal format jobs (goal.Quiet planning least) = IsFaultOf (wide_output format jobs planning least)
 
--- the text of a result
-abbrev pub text_of : Made → List ℕ
-text_of (made.Plan agenda ends delays) = agenda_by_ends delays agenda ends
-text_of (made.Upcoming nexts jobs delays) = nexts_text delays nexts jobs
-text_of (made.Quiet agenda jobs least) = quiet_text least agenda jobs
+-- the text of a result, in its format
+abbrev pub text_of : Format → Made → List ℕ
+text_of format (made.Plan agenda ends delays) = text_by_ends format delays agenda ends
+text_of format (made.Upcoming nexts ends delays) = upcoming_text format delays nexts ends
+text_of format (made.Quiet agenda jobs least) = quiet_text format least agenda jobs
 
 -- an agenda is one of as many jobs as there are ends of lines
 abbrev pub CanBeWritten : Made → Type 0

@@ -8,6 +8,7 @@ use Rattle.plan_rules.specs.EventZones.{Zones}
 use Rattle.plan_rules.specs.Readings.{Reading}
 use Rattle.plan_texts.specs.Steps.{◌>>=◌}
 pub use Rattle.plan_write.specs.Next.{next_text}
+use Rattle.plan_write.specs.declared.Format.{Format}
 use Rattle.agenda_sources.specs.declared.TimeZones.{TimeZones}
 use Rattle.agenda_sources.specs.declared.Asked.{Asked}
 use Rattle.agenda_sources.specs.declared.Asked.TheVariants.{Cron, Event}
@@ -36,8 +37,8 @@ abbrev pub valid_count : ℕ → Result ℕ RunFault
 valid_count count = if nat_le 1 count && nat_le count most_starts then Ok count else Err BadCount
 
 -- what `next` writes for the requested rule: the count is checked first, then the rule (agenda)
-abbrev pub next_output : TimeZones → Asked → (after count : ℕ) → Result (List ℕ) RunFault
-next_output zones asked after count = do
+abbrev pub next_output : TimeZones → Asked → (after count : ℕ) → Format → Result (List ℕ) RunFault
+next_output zones asked after count format = do
   many ← valid_count count
   rule ← step fault_of_rule (asked_reading zones asked)
-  Ok (next_text rule after many)
+  Ok (next_text format rule after many)

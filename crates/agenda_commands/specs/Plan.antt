@@ -1,12 +1,12 @@
 -- What a plan writes. All of it is our choice (agenda).
-use Rattle.std.specs.Prelude.{ℕ, Bool, true, false, List, map, Result, Ok}
+use Rattle.std.specs.Prelude.{ℕ, List, Result, Ok}
 use Rattle.plan_texts.specs.Steps.{◌>>=◌}
 use Rattle.plan_rules.specs.Job.{JobParts}
 use Rattle.plan_rules.specs.Delays.{counted}
-use Rattle.plan_collect.specs.Agenda.{Planned}
 use Rattle.plan_collect.specs.Planning.{plan_answer}
 use Rattle.plan_collect.specs.Windows.{timings_of}
-use Rattle.plan_write.specs.Texts.{EndParts, delayed_text_by_ends, line_end, text_by_ends}
+use Rattle.plan_write.specs.Texts.{agenda_text}
+use Rattle.plan_write.specs.declared.Format.{Format}
 use Rattle.agenda_sources.specs.Sources.{jobs_reading}
 use Rattle.agenda_sources.specs.declared.Source.{Source}
 use Rattle.agenda_sources.specs.declared.TimeZones.{TimeZones}
@@ -15,23 +15,18 @@ use Rattle.agenda_faults.specs.Faults.{fault_of_plan, fault_of_sources}
 use Rattle.agenda_commands.specs.declared.goal.Planning.{Planning}
 use Rattle.agenda_commands.specs.Command.{step}
 
--- the text of an agenda, by the ends of the lines of its jobs; if delays count, its lines have the latest starts
-abbrev pub agenda_by_ends : (delays : Bool) → Planned → (ends : List EndParts) → List ℕ
-agenda_by_ends true made ends = delayed_text_by_ends made ends
-agenda_by_ends false made ends = text_by_ends made ends
-
 -- what `plan` writes for the jobs that are planned
-abbrev pub text_of_jobs : List JobParts → Planning → Result (List ℕ) RunFault
-text_of_jobs jobs planning = do
+abbrev pub text_of_jobs : Format → List JobParts → Planning → Result (List ℕ) RunFault
+text_of_jobs format jobs planning = do
   made ← step fault_of_plan (plan_answer (timings_of jobs) planning.span planning.sizes)
-  Ok (agenda_by_ends planning.delays made (map line_end jobs))
+  Ok (agenda_text format planning.delays made jobs)
 
 -- what `plan` writes for jobs: their agenda
-abbrev pub planned_output : List JobParts → Planning → Result (List ℕ) RunFault
-planned_output jobs planning = text_of_jobs (counted planning.delays jobs) planning
+abbrev pub planned_output : Format → List JobParts → Planning → Result (List ℕ) RunFault
+planned_output format jobs planning = text_of_jobs format (counted planning.delays jobs) planning
 
 -- what `plan` writes for sources: the agenda of their jobs, in these time zones
-abbrev pub plan_output : TimeZones → List Source → Planning → Result (List ℕ) RunFault
-plan_output zones sources planning = do
+abbrev pub plan_output : TimeZones → List Source → Planning → Format → Result (List ℕ) RunFault
+plan_output zones sources planning format = do
   jobs ← step fault_of_sources (jobs_reading zones sources)
-  planned_output jobs planning
+  planned_output format jobs planning

@@ -6,6 +6,7 @@ use Rattle.plan_rules.specs.Delays.{counted}
 use Rattle.plan_collect.specs.Planning.{plan_answer}
 use Rattle.plan_collect.specs.Windows.{timings_of}
 use Rattle.plan_write.specs.Quiet.{quiet_text}
+use Rattle.plan_write.specs.declared.Format.{Format}
 use Rattle.agenda_sources.specs.Sources.{jobs_reading}
 use Rattle.agenda_sources.specs.declared.Source.{Source}
 use Rattle.agenda_sources.specs.declared.TimeZones.{TimeZones}
@@ -20,18 +21,18 @@ abbrev pub valid_least : ℕ → Result ℕ RunFault
 valid_least least = if least == 0 then Err BadLeast else Ok least
 
 -- what `quiet` writes for the jobs that are planned: the gaps of their plan that last at least `least` seconds
-abbrev pub gaps_of_jobs : List JobParts → Planning → (least : ℕ) → Result (List ℕ) RunFault
-gaps_of_jobs jobs planning least = do
+abbrev pub gaps_of_jobs : Format → List JobParts → Planning → (least : ℕ) → Result (List ℕ) RunFault
+gaps_of_jobs format jobs planning least = do
   made ← step fault_of_plan (plan_answer (timings_of jobs) planning.span planning.sizes)
-  Ok (quiet_text least made jobs)
+  Ok (quiet_text format least made jobs)
 
 -- what `quiet` writes for jobs
-abbrev pub gaps_output : List JobParts → Planning → (least : ℕ) → Result (List ℕ) RunFault
-gaps_output jobs planning least = gaps_of_jobs (counted planning.delays jobs) planning least
+abbrev pub gaps_output : Format → List JobParts → Planning → (least : ℕ) → Result (List ℕ) RunFault
+gaps_output format jobs planning least = gaps_of_jobs format (counted planning.delays jobs) planning least
 
 -- what `quiet` writes for sources: the gaps of the plan of their jobs
-abbrev pub quiet_output : TimeZones → List Source → Planning → (least : ℕ) → Result (List ℕ) RunFault
-quiet_output zones sources planning least = do
+abbrev pub quiet_output : TimeZones → List Source → Planning → (least : ℕ) → Format → Result (List ℕ) RunFault
+quiet_output zones sources planning least format = do
   wide ← valid_least least
   jobs ← step fault_of_sources (jobs_reading zones sources)
-  gaps_output jobs planning wide
+  gaps_output format jobs planning wide

@@ -29,7 +29,7 @@ pub enum Verdict {
 ///
 /// A line has the path of the source, which is at the same place in `paths`, then the number of the line,
 /// unless the finding is about the whole file, then whether it is an error or a warning, the message in words, and
-/// the code: `PATH:LINE: error: MESSAGE [CODE]`.
+/// the code: `PATH:LINE: error: MESSAGE [CODE]`. In JSON it is an object.
 ///
 /// # Errors
 ///
@@ -39,13 +39,14 @@ pub fn run_check<S: Stream>(
     alloc: Global,
     paths: &[SourcePath],
     input: &Input,
+    json: bool,
     out: &mut S,
 ) -> Result<Verdict, RunFault>
     ensures verdict { IfOk result (λ verdict. verdict ≡ sources_verdict input.now.zones input.now.sources) }
-    ensures output { Outputs S.takes_all (check_output input.now.zones paths.now input.now.sources) result (S.holds out.old) (S.holds out.new) }
+    ensures output { Outputs S.takes_all (check_output input.now.zones paths.now input.now.sources json) result (S.holds out.old) (S.holds out.new) }
 {
     let found = findings_of_sources(alloc, &input.sources, &input.zones)?;
-    write_findings(paths, found.as_slice(), out)?;
+    write_findings(paths, found.as_slice(), json, out)?;
     Ok(verdict_on(found.as_slice()))
 }
 

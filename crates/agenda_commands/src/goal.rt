@@ -1,11 +1,12 @@
 //! Prepares the answer of jobs, before a byte of it is written.
 
-ghost use Rattle.std.specs.Prelude.{◌≡◌, IfErr, IfOk, length};
-ghost use Rattle.plan_collect.specs.Agenda.{IsOfJobs};
+ghost use Rattle.std.specs.Prelude.{◌≡◌, IfErr, IfOk};
 ghost use Rattle.plan_rules.specs.Delays.{counted};
-ghost use Rattle.agenda_commands.specs.Plan.{agenda_by_ends};
-ghost use Rattle.agenda_commands.specs.Upcoming.{nexts_text};
-ghost use Rattle.agenda_commands.specs.Goal.{CanBeWritten, IsFaultOfGoal, IsTextOfGoal, text_of};
+ghost use Rattle.agenda_commands.specs.Command.{IsFaultOf, IsTextOf};
+ghost use Rattle.agenda_commands.specs.Goal.{CanBeWritten, IsFaultOfGoal, IsTextOfGoal, text_of, wide_output};
+ghost use Rattle.agenda_commands.specs.Plan.{planned_output, text_of_jobs};
+ghost use Rattle.agenda_commands.specs.Upcoming.{IsTextOfNexts};
+ghost use Rattle.agenda_faults.specs.declared.faults.RunFault.TheVariants.{NoMemory};
 ghost use Rattle.plan_streams.specs.Stream.{Puts};
 
 use agenda_faults::RunFault;
@@ -13,10 +14,7 @@ use plan_collect::{Agenda, Sizes, Span};
 use plan_rules::Jobs;
 use plan_streams::{Stream, WriteFault};
 use plan_threads::{NoGate, plan};
-use plan_write::{
-    LineEnds, Upcoming, write_agenda, write_delayed_agenda, write_delayed_upcoming, write_quiet,
-    write_upcoming,
-};
+use plan_write::{Format, LineEnds, Upcoming, write_agenda, write_quiet, write_upcoming};
 use std::alloc::Global;
 use std::marker::Model;
 use std::sync::Wait;
@@ -60,8 +58,8 @@ pub enum Goal {
 enum Made {
     // An agenda, with the ends of its lines, and whether its lines have the latest starts.
     Plan(Agenda, LineEnds, bool),
-    // The next starts of these jobs, and whether their lines have the latest starts.
-    Upcoming(Upcoming, Jobs, bool),
+    // The next starts of jobs, with the ends of their lines, and whether the lines have the latest starts.
+    Upcoming(Upcoming, LineEnds, bool),
     // An agenda of these jobs that is searched for gaps of at least so many seconds.
     Quiet(Agenda, Jobs, u32),
 }
@@ -70,6 +68,7 @@ enum Made {
 #[derive(Drop)]
 pub struct PreparedAnswer {
     made: Made,
+    format: Format,
 }
 
 impl Model for PreparedAnswer {
@@ -78,12 +77,13 @@ impl Model for PreparedAnswer {
 
     ghost Value = { List ℕ };
 
-    ghost view = { λ answer. text_of answer.made };
+    ghost view = { λ answer. text_of answer.format answer.made };
 
     ghost invariant = { λ answer. CanBeWritten answer.made };
 }
 
-/// Prepares the answer of jobs that `goal` requests. Nothing is written. The function waits for the planners of a plan.
+/// Prepares the answer of jobs that `goal` requests, in a format. Nothing is written. The function waits for the planners
+/// of a plan.
 ///
 /// # Errors
 ///
@@ -95,29 +95,102 @@ pub fn prepare_answer<R: Threads + Wait + Sync>(
     alloc: Global,
     jobs: Jobs,
     goal: &Goal,
+    format: Format,
 ) -> Result<PreparedAnswer, RunFault>
-    ensures text { IfOk result (IsTextOfGoal jobs goal.now) }
-    ensures refused { IfErr result (IsFaultOfGoal jobs goal.now) }
+    ensures text { IfOk result (IsTextOfGoal format jobs goal.now) }
+    ensures refused { IfErr result (IsFaultOfGoal format jobs goal.now) }
 {
-    let made = match goal {
-        Goal::Plan(planning) => {
-            let jobs = counted(jobs, planning.delays);
-            let agenda = plan(rt, alloc, &jobs, planning.span, planning.sizes, &NoGate)?;
-            let ends = LineEnds::new(alloc, &jobs)?;
-            Made::Plan(agenda, ends, planning.delays)
-        }
-        Goal::Upcoming { after, delays } => {
-            let upcoming = Upcoming::new(alloc, &jobs, *after)?;
-            Made::Upcoming(upcoming, jobs, *delays)
-        }
-        Goal::Quiet { least: 0, .. } => return Err(RunFault::BadLeast),
-        Goal::Quiet { planning, least } => {
-            let jobs = counted(jobs, planning.delays);
-            let agenda = plan(rt, alloc, &jobs, planning.span, planning.sizes, &NoGate)?;
-            Made::Quiet(agenda, jobs, *least)
-        }
-    };
-    Ok(PreparedAnswer { made })
+    let made = make(rt, alloc, jobs, goal, &format)?;
+    Ok(PreparedAnswer { made, format })
+}
+
+// Makes what `goal` requests of jobs.
+fn make<R: Threads + Wait + Sync>(
+    rt: &R,
+    alloc: Global,
+    jobs: Jobs,
+    goal: &Goal,
+    format: &Format,
+) -> Result<Made, RunFault>
+    ensures text { IfOk result (λ made. IsTextOfGoal format.now jobs goal.now (text_of format.now made)) }
+    ensures written { IfOk result CanBeWritten }
+    ensures refused { IfErr result (IsFaultOfGoal format.now jobs goal.now) }
+{
+    match goal {
+        Goal::Plan(planning) => make_plan(rt, alloc, jobs, planning, format),
+        Goal::Upcoming { after, delays } => make_upcoming(alloc, jobs, *after, *delays, format),
+        Goal::Quiet { planning, least } => make_quiet(rt, alloc, jobs, planning, *least, format),
+    }
+}
+
+// Makes the agenda of jobs.
+fn make_plan<R: Threads + Wait + Sync>(
+    rt: &R,
+    alloc: Global,
+    jobs: Jobs,
+    planning: &Planning,
+    format: &Format,
+) -> Result<Made, RunFault>
+    ensures text { IfOk result (λ made. IsTextOf (planned_output format.now jobs planning.now) (text_of format.now made)) }
+    ensures written { IfOk result CanBeWritten }
+    ensures refused { IfErr result (IsFaultOf (planned_output format.now jobs planning.now)) }
+{
+    make_plan_of(rt, alloc, counted(jobs, planning.delays), planning, format)
+}
+
+// Makes the agenda of jobs that are planned as they are.
+fn make_plan_of<R: Threads + Wait + Sync>(
+    rt: &R,
+    alloc: Global,
+    jobs: Jobs,
+    planning: &Planning,
+    format: &Format,
+) -> Result<Made, RunFault>
+    ensures text { IfOk result (λ made. IsTextOf (text_of_jobs format.now jobs planning.now) (text_of format.now made)) }
+    ensures written { IfOk result CanBeWritten }
+    ensures refused { IfErr result (IsFaultOf (text_of_jobs format.now jobs planning.now)) }
+{
+    let agenda = plan(rt, alloc, &jobs, planning.span, planning.sizes, &NoGate)?;
+    let ends = LineEnds::new(alloc, &jobs, format.json)?;
+    Ok(Made::Plan(agenda, ends, planning.delays))
+}
+
+// Makes the next starts of jobs.
+fn make_upcoming(
+    alloc: Global,
+    jobs: Jobs,
+    after: u64,
+    delays: bool,
+    format: &Format,
+) -> Result<Made, RunFault>
+    ensures text { IfOk result (λ made. IsTextOfNexts format.now jobs after delays (text_of format.now made)) }
+    ensures written { IfOk result CanBeWritten }
+    ensures refused { IfErr result (λ fault. fault ≡ NoMemory) }
+{
+    let upcoming = Upcoming::new(alloc, &jobs, after)?;
+    let ends = LineEnds::new(alloc, &jobs, format.json)?;
+    Ok(Made::Upcoming(upcoming, ends, delays))
+}
+
+// Makes the agenda of jobs that is searched for gaps.
+fn make_quiet<R: Threads + Wait + Sync>(
+    rt: &R,
+    alloc: Global,
+    jobs: Jobs,
+    planning: &Planning,
+    least: u32,
+    format: &Format,
+) -> Result<Made, RunFault>
+    ensures text { IfOk result (λ made. IsTextOf (wide_output format.now jobs planning.now least) (text_of format.now made)) }
+    ensures written { IfOk result CanBeWritten }
+    ensures refused { IfErr result (IsFaultOf (wide_output format.now jobs planning.now least)) }
+{
+    if least == 0 {
+        return Err(RunFault::BadLeast);
+    }
+    let jobs = counted(jobs, planning.delays);
+    let agenda = plan(rt, alloc, &jobs, planning.span, planning.sizes, &NoGate)?;
+    Ok(Made::Quiet(agenda, jobs, least))
 }
 
 impl PreparedAnswer {
@@ -125,14 +198,19 @@ impl PreparedAnswer {
     ///
     /// # Errors
     ///
-    /// `Device` if the stream fails. Then only the first bytes of the text were written.
+    /// `Device` or `Closed` if the stream fails. Then only the first bytes of the text were written.
     pub fn write<S: Stream>(&self, out: &mut S) -> Result<(), WriteFault>
         ensures { Puts S.takes_all result (S.holds out.old) (S.holds out.new) self.now }
     {
+        let format = &self.format;
         match &self.made {
-            Made::Plan(agenda, ends, delays) => put_agenda(agenda, ends, *delays, out),
-            Made::Upcoming(upcoming, jobs, delays) => put_upcoming(upcoming, jobs, *delays, out),
-            Made::Quiet(agenda, jobs, least) => write_quiet(agenda, jobs, u64::from(*least), out),
+            Made::Plan(agenda, ends, delays) => write_agenda(agenda, ends, format, *delays, out),
+            Made::Upcoming(upcoming, ends, delays) => {
+                write_upcoming(upcoming, ends, format, *delays, out)
+            }
+            Made::Quiet(agenda, jobs, least) => {
+                write_quiet(agenda, jobs, u64::from(*least), format, out)
+            }
         }
     }
 }
@@ -142,37 +220,4 @@ pub(crate) fn counted(jobs: Jobs, delays: bool) -> Jobs
     ensures { result ≡ counted delays jobs }
 {
     if delays { jobs } else { jobs.without_delays() }
-}
-
-// Writes the text of an agenda. If delays count, its lines have the latest starts.
-pub(crate) fn put_agenda<S: Stream>(
-    agenda: &Agenda,
-    ends: &LineEnds,
-    delays: bool,
-    out: &mut S,
-) -> Result<(), WriteFault>
-    requires { IsOfJobs (length ends.now) agenda.now.entries }
-    ensures { Puts S.takes_all result (S.holds out.old) (S.holds out.new) (agenda_by_ends delays agenda.now ends.now) }
-{
-    if delays {
-        write_delayed_agenda(agenda, ends, out)
-    } else {
-        write_agenda(agenda, ends, out)
-    }
-}
-
-// Writes the next start of each job. If delays count, the lines have the latest starts.
-pub(crate) fn put_upcoming<S: Stream>(
-    upcoming: &Upcoming,
-    jobs: &Jobs,
-    delays: bool,
-    out: &mut S,
-) -> Result<(), WriteFault>
-    ensures { Puts S.takes_all result (S.holds out.old) (S.holds out.new) (nexts_text delays upcoming.now jobs.now) }
-{
-    if delays {
-        write_delayed_upcoming(upcoming, jobs, out)
-    } else {
-        write_upcoming(upcoming, jobs, out)
-    }
 }

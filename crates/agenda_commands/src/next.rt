@@ -9,7 +9,7 @@ use agenda_faults::RunFault;
 use agenda_sources::{Asked, TimeZones};
 use plan_rules::{EventZones, Rule, RuleFault, calendar_rule, cron_rule};
 use plan_streams::Stream;
-use plan_write::write_next;
+use plan_write::{Format, write_next};
 use std::alloc::Global;
 
 /// The maximum number of starts that can be requested.
@@ -30,9 +30,10 @@ pub fn run_next<S: Stream>(
     zones: &TimeZones,
     after: u64,
     count: u64,
+    format: &Format,
     out: &mut S,
 ) -> Result<(), RunFault>
-    ensures output { Outputs S.takes_all (next_output zones.now asked.now after count) result (S.holds out.old) (S.holds out.new) }
+    ensures output { Outputs S.takes_all (next_output zones.now asked.now after count format.now) result (S.holds out.old) (S.holds out.new) }
 
     // A bad count is found before anything else, and before memory is allocated.
     ensures bad_count { IfErr (valid_count count) (λ fault. result ≡ Err fault) }
@@ -41,7 +42,7 @@ pub fn run_next<S: Stream>(
         return Err(RunFault::BadCount);
     }
     let rule = zoned_rule(alloc, asked, zones)?;
-    write_next(&rule, after, count, out)?;
+    write_next(&rule, after, count, format, out)?;
     Ok(())
 }
 

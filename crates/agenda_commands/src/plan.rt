@@ -4,15 +4,16 @@ ghost use Rattle.std.specs.Prelude.{◌≡◌, IfSome};
 ghost use Rattle.agenda_sources.specs.AtOnce.{fault_at_once};
 ghost use Rattle.agenda_faults.specs.Faults.{fault_of_sources};
 ghost use Rattle.agenda_commands.specs.Command.{Outputs};
-ghost use Rattle.agenda_commands.specs.Plan.{plan_output};
+ghost use Rattle.agenda_commands.specs.Plan.{plan_output, text_of_jobs};
 
-use crate::goal::{Planning, counted, put_agenda};
+use crate::goal::{Planning, counted};
 use crate::input::Input;
 use agenda_faults::RunFault;
 use agenda_sources::jobs_of_sources;
+use plan_rules::Jobs;
 use plan_streams::Stream;
 use plan_threads::{NoGate, plan};
-use plan_write::LineEnds;
+use plan_write::{Format, LineEnds, write_agenda};
 use std::alloc::Global;
 use std::sync::Wait;
 use std::thread::Threads;
@@ -36,17 +37,32 @@ pub fn run_plan<R: Threads + Wait + Sync, S: Stream>(
     alloc: Global,
     input: &Input,
     planning: &Planning,
+    format: &Format,
     out: &mut S,
 ) -> Result<(), RunFault>
-    ensures output { Outputs S.takes_all (plan_output input.now.zones input.now.sources planning.now) result (S.holds out.old) (S.holds out.new) }
+    ensures output { Outputs S.takes_all (plan_output input.now.zones input.now.sources planning.now format.now) result (S.holds out.old) (S.holds out.new) }
 
     // These errors are found before any memory is allocated.
     ensures at_once { IfSome (fault_at_once input.now.sources) (λ fault. result ≡ Err (fault_of_sources fault)) }
 {
     let jobs = jobs_of_sources(alloc, &input.sources, &input.zones)?;
     let jobs = counted(jobs, planning.delays);
-    let agenda = plan(rt, alloc, &jobs, planning.span, planning.sizes, &NoGate)?;
-    let ends = LineEnds::new(alloc, &jobs)?;
-    put_agenda(&agenda, &ends, planning.delays, out)?;
+    write_plan(rt, alloc, &jobs, planning, format, out)
+}
+
+// Writes the agenda of these jobs.
+fn write_plan<R: Threads + Wait + Sync, S: Stream>(
+    rt: &R,
+    alloc: Global,
+    jobs: &Jobs,
+    planning: &Planning,
+    format: &Format,
+    out: &mut S,
+) -> Result<(), RunFault>
+    ensures { Outputs S.takes_all (text_of_jobs format.now jobs.now planning.now) result (S.holds out.old) (S.holds out.new) }
+{
+    let agenda = plan(rt, alloc, jobs, planning.span, planning.sizes, &NoGate)?;
+    let ends = LineEnds::new(alloc, jobs, format.json)?;
+    write_agenda(&agenda, &ends, format, planning.delays, out)?;
     Ok(())
 }

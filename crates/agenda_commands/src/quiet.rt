@@ -13,7 +13,7 @@ use agenda_sources::jobs_of_sources;
 use plan_rules::Jobs;
 use plan_streams::Stream;
 use plan_threads::{NoGate, plan};
-use plan_write::write_quiet;
+use plan_write::{Format, write_quiet};
 use std::alloc::Global;
 use std::sync::Wait;
 use std::thread::Threads;
@@ -32,9 +32,11 @@ pub fn run_quiet<R: Threads + Wait + Sync, S: Stream>(
     input: &Input,
     planning: &Planning,
     least: u32,
+    format: &Format,
     out: &mut S,
 ) -> Result<(), RunFault>
-    ensures output { Outputs S.takes_all (quiet_output input.now.zones input.now.sources planning.now least) result (S.holds out.old) (S.holds out.new) }
+    ensures output { Outputs S.takes_all (quiet_output input.now.zones input.now.sources planning.now least format.now) result
+        (S.holds out.old) (S.holds out.new) }
 
     // These errors are found before any memory is allocated.
     ensures bad_least { IfErr (valid_least least) (λ fault. result ≡ Err fault) }
@@ -45,7 +47,7 @@ pub fn run_quiet<R: Threads + Wait + Sync, S: Stream>(
     }
     let jobs = jobs_of_sources(alloc, &input.sources, &input.zones)?;
     let jobs = counted(jobs, planning.delays);
-    write_gaps(rt, alloc, &jobs, planning, least, out)
+    write_gaps(rt, alloc, &jobs, planning, least, format, out)
 }
 
 // Writes the gaps of the plan of these jobs.
@@ -55,11 +57,12 @@ fn write_gaps<R: Threads + Wait + Sync, S: Stream>(
     jobs: &Jobs,
     planning: &Planning,
     least: u32,
+    format: &Format,
     out: &mut S,
 ) -> Result<(), RunFault>
-    ensures { Outputs S.takes_all (gaps_of_jobs jobs.now planning.now least) result (S.holds out.old) (S.holds out.new) }
+    ensures { Outputs S.takes_all (gaps_of_jobs format.now jobs.now planning.now least) result (S.holds out.old) (S.holds out.new) }
 {
     let agenda = plan(rt, alloc, jobs, planning.span, planning.sizes, &NoGate)?;
-    write_quiet(&agenda, jobs, u64::from(least), out)?;
+    write_quiet(&agenda, jobs, u64::from(least), format, out)?;
     Ok(())
 }

@@ -6,12 +6,11 @@ ghost use Rattle.agenda_faults.specs.Faults.{fault_of_sources};
 ghost use Rattle.agenda_commands.specs.Command.{Fails, Writes};
 ghost use Rattle.agenda_commands.specs.Upcoming.{IsTextOfUpcoming, RefusesUpcoming};
 
-use crate::goal::put_upcoming;
 use crate::input::Input;
 use agenda_faults::RunFault;
 use agenda_sources::jobs_of_sources;
 use plan_streams::Stream;
-use plan_write::Upcoming;
+use plan_write::{Format, LineEnds, Upcoming, write_upcoming};
 use std::alloc::Global;
 
 /// Writes when each job of the sources starts next, later than `after`: one line for each job, sorted by time
@@ -29,10 +28,11 @@ pub fn run_upcoming<S: Stream>(
     input: &Input,
     after: u64,
     delays: bool,
+    format: &Format,
     out: &mut S,
 ) -> Result<(), RunFault>
-    ensures written { OnOk result (Writes (IsTextOfUpcoming input.now.zones input.now.sources after delays) (S.holds out.old) (S.holds out.new)) }
-    ensures refused { IfErr result (λ fault. Fails S.takes_all (IsTextOfUpcoming input.now.zones input.now.sources after delays)
+    ensures written { OnOk result (Writes (IsTextOfUpcoming input.now.zones input.now.sources after delays format.now) (S.holds out.old) (S.holds out.new)) }
+    ensures refused { IfErr result (λ fault. Fails S.takes_all (IsTextOfUpcoming input.now.zones input.now.sources after delays format.now)
         (RefusesUpcoming input.now.zones input.now.sources) fault
         (S.holds out.old) (S.holds out.new)) }
 
@@ -41,6 +41,7 @@ pub fn run_upcoming<S: Stream>(
 {
     let jobs = jobs_of_sources(alloc, &input.sources, &input.zones)?;
     let upcoming = Upcoming::new(alloc, &jobs, after)?;
-    put_upcoming(&upcoming, &jobs, delays, out)?;
+    let ends = LineEnds::new(alloc, &jobs, format.json)?;
+    write_upcoming(&upcoming, &ends, format, delays, out)?;
     Ok(())
 }

@@ -11,7 +11,7 @@ use plan_next::{next_from, next_start};
 use plan_rules::{EventZones, Jobs, Kind, Rule, calendar_rule, cron_rule, crontab, timer};
 use plan_serial::plan_serial;
 use plan_sets::civil_of;
-use plan_write::{LineEnds, write_agenda, write_delayed_agenda};
+use plan_write::{Format, LineEnds, write_agenda};
 use std::alloc::Global;
 use std::io;
 use std::io::Write;
@@ -132,6 +132,14 @@ fn no_lines() -> Lines {
     }
 }
 
+// Returns the format of text in UTC.
+fn utc_text() -> Format {
+    Format {
+        json: false,
+        local: None,
+    }
+}
+
 // Checks that a writer has these bytes.
 fn assert_lines(rt: &impl Abort, lines: &Lines, text: &str) {
     assert!(rt; lines.bytes.get(..lines.len) == Some(text.as_bytes()));
@@ -144,19 +152,41 @@ fn an_agenda_is_written(rt: HostRuntime) -> Result<(), Fail> {
         jobs.add(job)?;
     }
     let agenda = plan_serial(rt.alloc(), &jobs, Span::new(0, 86_400)?, 10)?;
-    let line_ends = LineEnds::new(rt.alloc(), &jobs)?;
+    let line_ends = LineEnds::new(rt.alloc(), &jobs, false)?;
     let (mut out, mut err) = (no_lines(), no_lines());
     let ended = ends(rt.alloc());
     let span = Span::new(5, 86_400).expect(&rt, "a span");
     assert!(rt; span.since() == 5 && span.upto() == 86_400);
     assert!(rt; agenda.since() == 0 && agenda.upto() == 86_400);
     assert!(rt; agenda.len() == 1 && agenda.entry(0) == Some((0, 0)) && agenda.entry(1).is_none());
-    assert!(rt; write_agenda(&agenda, &line_ends, &mut out).is_ok());
+    assert!(rt; write_agenda(&agenda, &line_ends, &utc_text(), false, &mut out).is_ok());
     let text = "agenda 2\t1970-01-01T00:00:00Z\t1970-01-02T00:00:00Z\t1\n\
         1970-01-01T00:00:00Z\tcron:1\tb\n";
     assert_lines(&rt, &out, text);
     assert!(rt; fault_line(&Failure::Run(RunFault::NoMemory), &[], &mut err) == 3);
     assert_lines(&rt, &err, "agenda: NoMemory\n");
+    assert_ended(&rt, ended);
+    Ok(())
+}
+
+// A quote in a command has an escape.
+#[test]
+fn an_agenda_is_written_in_json(rt: HostRuntime) -> Result<(), Fail> {
+    let mut jobs = Jobs::new(rt.alloc());
+    for job in crontab(rt.alloc(), "cron", b"@daily \"\n", Kind::User)? {
+        jobs.add(job)?;
+    }
+    let agenda = plan_serial(rt.alloc(), &jobs, Span::new(0, 86_400)?, 10)?;
+    let line_ends = LineEnds::new(rt.alloc(), &jobs, true)?;
+    let format = Format {
+        json: true,
+        local: None,
+    };
+    let mut out = no_lines();
+    let ended = ends(rt.alloc());
+    assert!(rt; write_agenda(&agenda, &line_ends, &format, false, &mut out).is_ok());
+    let text = "{\"start\":\"1970-01-01T00:00:00Z\",\"job\":\"cron:1\",\"run\":\"\\\"\"}\n";
+    assert_lines(&rt, &out, text);
     assert_ended(&rt, ended);
     Ok(())
 }
@@ -174,10 +204,10 @@ fn a_delayed_agenda_is_written(rt: HostRuntime) -> Result<(), Fail> {
     )?;
     jobs.add(daily)?;
     let agenda = plan_serial(rt.alloc(), &jobs, Span::new(0, 86_400)?, 10)?;
-    let line_ends = LineEnds::new(rt.alloc(), &jobs)?;
+    let line_ends = LineEnds::new(rt.alloc(), &jobs, false)?;
     let mut out = no_lines();
     let ended = ends(rt.alloc());
-    assert!(rt; write_delayed_agenda(&agenda, &line_ends, &mut out).is_ok());
+    assert!(rt; write_agenda(&agenda, &line_ends, &utc_text(), true, &mut out).is_ok());
     let text = "agenda 3\t1970-01-01T00:00:00Z\t1970-01-02T00:00:00Z\t1\n\
         1970-01-01T00:00:00Z\t1970-01-01T00:01:00Z\tb.timer\tb.service\n";
     assert_lines(&rt, &out, text);

@@ -1,8 +1,9 @@
 //! What arguments leave on both streams, and how often a file is opened, if files and streams fail.
 use crate::tests::files::FewFiles;
-use crate::tests::writers::{End, Limited};
+use crate::tests::writers::{End, Limited, Pieces};
 use agenda_answers::answer_arguments;
 use std::alloc::Global;
+use std::io::Write;
 use std::process::Abort;
 use std::sync::Wait;
 use std::test::Fail;
@@ -22,7 +23,7 @@ fn run(
     rt: &(impl Threads + Wait + Sync + AllocGlobal),
     words: &str,
     files: &mut FewFiles<'_>,
-    out: &mut Limited,
+    out: &mut impl Write,
     err: &mut Limited,
 ) -> Result<u8, Fail> {
     let line = command_line(rt.alloc(), words)?;
@@ -181,9 +182,24 @@ fn a_script_that_is_too_large(rt: HostRuntime) -> Result<(), Fail> {
     leaves(&rt, "agenda|steps|a", files, 1, ("", line), 1)
 }
 
+// Returns the line of a standard output that fails in this way.
+fn line_of(end: End) -> &'static str {
+    match end {
+        End::BrokenPipe => "",
+        _ => "agenda: Device\n",
+    }
+}
+
+const EACH_END: [End; 4] = [
+    End::Error,
+    End::BrokenPipe,
+    End::Interrupted,
+    End::TakesNothing,
+];
+
 // Asserts that arguments end with this status, over these files, with this standard output. Standard output
 // then has the first bytes of their text, as many as it accepts. Standard error has the line of a device that
-// failed, if it failed.
+// failed, if it failed and isn't a pipe whose reader has gone.
 fn writes_to(
     rt: &(impl Threads + Wait + Sync + Abort + AllocGlobal),
     words: &str,
@@ -195,7 +211,7 @@ fn writes_to(
     let mut files = FewFiles::new(held, 4_096, false);
     let (mut out, mut err) = (out, Limited::ample());
     let ended = run(rt, words, &mut files, &mut out, &mut err)?;
-    let line = if status == 0 { "" } else { "agenda: Device\n" };
+    let line = if status == 0 { "" } else { line_of(out.end) };
     assert_eq!(rt; ended, status, "{words}");
     assert_eq!(rt; Some(out.bytes()), text.get(..text.len().min(out.room)));
     assert_eq!(rt; err.bytes(), line.as_bytes());
@@ -213,13 +229,15 @@ fn fails_at_each_byte(
 ) -> Result<(), Fail> {
     assert_eq!(rt; text.len(), len);
     for room in 0..len {
-        for end in [End::Error, End::Interrupted, End::TakesNothing] {
+        for end in EACH_END {
             writes_to(rt, words, held, Limited::new(room, 3, end), text, 3)?;
         }
     }
-    let mut no_flush = Limited::ample();
-    no_flush.flush_fails = true;
-    writes_to(rt, words, held, no_flush, text, 3)?;
+    for end in EACH_END {
+        let mut no_flush = Limited::new(512, 512, end);
+        no_flush.flush_fails = true;
+        writes_to(rt, words, held, no_flush, text, 3)?;
+    }
     writes_to(rt, words, held, Limited::new(512, 1, End::Error), text, 0)
 }
 
@@ -281,11 +299,12 @@ fn faults_after(
     held: &[(&str, &[u8])],
     line: &[u8],
     room: usize,
+    end: End,
     wanted: u8,
 ) -> Result<(), Fail> {
     let mut files = FewFiles::new(held, 4_096, false);
     let mut out = Limited::ample();
-    let mut err = Limited::new(room, 5, End::TakesNothing);
+    let mut err = Limited::new(room, 5, end);
     let status = run(rt, words, &mut files, &mut out, &mut err)?;
     assert_eq!(rt; status, wanted, "{room}");
     assert_eq!(rt; out.calls, 0);
@@ -302,7 +321,9 @@ fn faults_at_each_byte(
     wanted: u8,
 ) -> Result<(), Fail> {
     for room in 0..line.len() {
-        faults_after(rt, words, held, line, room, wanted)?;
+        for end in EACH_END {
+            faults_after(rt, words, held, line, room, end, wanted)?;
+        }
     }
     Ok(())
 }
@@ -325,6 +346,157 @@ fn standard_error_that_fails_at_each_byte(rt: HostRuntime) -> Result<(), Fail> {
     )?;
     let line = b"agenda: b: Device\n";
     faults_at_each_byte(&rt, "agenda|steps|b", &STEPS, line, 3)
+}
+
+// Asserts that arguments end with status 3 if standard output fails in each way: at its first write, or after writes
+// of at most three bytes. What they report on standard error before that stays; the line of a device follows, unless
+// the reader of a pipe has gone.
+fn stops(
+    rt: &(impl Threads + Wait + Sync + Abort + AllocGlobal),
+    words: &str,
+    held: &[(&str, &[u8])],
+    reported: &str,
+) -> Result<(), Fail> {
+    for end in EACH_END {
+        for (room, calls) in [(0, 1), (3, 2), (7, 4)] {
+            let mut files = FewFiles::new(held, 4_096, false);
+            let (mut out, mut err) = (Limited::new(room, 3, end), Limited::ample());
+            let status = run(rt, words, &mut files, &mut out, &mut err)?;
+            let told = format!(in rt.alloc(); "{reported}{}", line_of(end))?;
+            assert_eq!(rt; status, 3, "{words}");
+            assert_eq!(rt; out.len, room, "{words}");
+            assert_eq!(rt; out.calls, calls, "{words}");
+            assert_eq!(rt; out.flushes, 0, "{words}");
+            assert_eq!(rt; err.bytes(), told.as_bytes(), "{words}");
+        }
+    }
+    Ok(())
+}
+
+// Help, the version, codes, and every kind of answer, as text and as JSON.
+#[test]
+fn a_pipe_whose_reader_has_gone(rt: HostRuntime) -> Result<(), Fail> {
+    let plan =
+        "agenda|plan|--since|2024-01-01T00:00:00Z|--upto|2024-01-02T00:00:00Z|--crontab|crontab";
+    let quiet =
+        "agenda|quiet|--since|2024-01-01T00:00:00Z|--upto|2024-01-02T00:00:00Z|--crontab|crontab";
+    let upcoming = "agenda|upcoming|--after|2024-01-01T00:00:00Z|--crontab|crontab";
+    for words in [
+        "agenda|--help",
+        "agenda|plan|--help",
+        "agenda|--version",
+        "agenda|explain",
+        FRIDAYS,
+    ] {
+        stops(&rt, words, &[], "")?;
+    }
+    for words in [plan, quiet, upcoming] {
+        stops(&rt, words, &NIGHTLY, "")?;
+        for more in [
+            "--json",
+            "--local",
+            "--json|--local|--delays",
+            "--keep-going",
+        ] {
+            let words = format!(in rt.alloc(); "{words}|{more}")?;
+            stops(&rt, words.as_str(), &NIGHTLY, "")?;
+        }
+    }
+    let next = format!(in rt.alloc(); "{FRIDAYS}|--json")?;
+    stops(&rt, next.as_str(), &[], "")?;
+    stops(&rt, "agenda|check|--crontab|crontab|n.timer", &UNMEANT, "")?;
+    stops(
+        &rt,
+        "agenda|check|--json|--crontab|crontab|n.timer",
+        &UNMEANT,
+        "",
+    )?;
+    stops(&rt, "agenda|steps|a", &TWELVE, "")?;
+    let skipped = "crontab:2: error: unknown word '@dayly' [UnknownWord]\n";
+    let words = format!(in rt.alloc(); "{upcoming}|--keep-going")?;
+    stops(&rt, words.as_str(), &BROKEN, skipped)
+}
+
+// Asserts that arguments end with status 3 if standard output accepts the first piece of their text, and fails in each
+// way at the second one; and that they end with the status `ended`, and write `len` bytes, if it accepts all of them.
+fn stops_in_the_second_piece(
+    rt: &(impl Threads + Wait + Sync + Abort + AllocGlobal),
+    words: &str,
+    crontab: &str,
+    ended: u8,
+    len: usize,
+) -> Result<(), Fail> {
+    let held = [("crontab", crontab.as_bytes())];
+    for end in EACH_END {
+        let mut files = FewFiles::new(&held, 4_096, false);
+        let (mut out, mut err) = (Pieces::new(1, end), Limited::ample());
+        let status = run(rt, words, &mut files, &mut out, &mut err)?;
+        assert_eq!(rt; status, 3, "{words}");
+        assert!(rt; out.len > 0 && out.len <= 65_536, "{words}");
+        assert!(rt; out.calls == 2 && out.flushes == 0, "{words}");
+        assert_eq!(rt; err.bytes(), line_of(end).as_bytes(), "{words}");
+    }
+    let mut files = FewFiles::new(&held, 4_096, false);
+    let (mut out, mut err) = (Pieces::new(9, End::Error), Limited::ample());
+    let status = run(rt, words, &mut files, &mut out, &mut err)?;
+    assert_eq!(rt; status, ended, "{words}");
+    assert_eq!(rt; out.len, len, "{words}");
+    assert_eq!(rt; out.flushes, 1, "{words}");
+    assert_eq!(rt; err.len, 0, "{words}");
+    Ok(())
+}
+
+// Returns a text of a thousand times the same line.
+fn a_thousand(alloc: Global, line: &str) -> Result<String, Fail> {
+    let mut text = String::from_str(alloc, "")?;
+    for _line in 0..1_000 {
+        text.push_str(line)?;
+    }
+    Ok(text)
+}
+
+// Each text is longer than 65,536 bytes: a thousand lines of 69 bytes; 1,440 lines of 58 and of 76 bytes; and a
+// thousand lines of 66 and of 125 bytes, without the digits of their numbers, of which there are 2,893.
+#[test]
+fn answers_in_json_that_fail_in_the_second_piece(rt: HostRuntime) -> Result<(), Fail> {
+    let minutes = "* * * * * x\n";
+    let jobs = a_thousand(rt.alloc(), "* * * * * xxxxxxxxxx\n")?;
+    let faults = a_thousand(rt.alloc(), "x\n")?;
+    for (words, crontab, ended, len) in [
+        (
+            "agenda|next|--json|--local|--count|1000|--after|2024-01-01T00:00:00Z|--cron|* * * * *",
+            "",
+            0,
+            69_000,
+        ),
+        (
+            "agenda|plan|--json|--since|2024-01-01T00:00:00Z|--upto|2024-01-02T00:00:00Z|--crontab|crontab",
+            minutes,
+            0,
+            83_520,
+        ),
+        (
+            "agenda|quiet|--json|--least|60|--since|2024-01-01T00:00:00Z|--upto|2024-01-02T00:00:00Z|--crontab|crontab",
+            minutes,
+            0,
+            109_440,
+        ),
+        (
+            "agenda|upcoming|--json|--after|2024-01-01T00:00:00Z|--crontab|crontab",
+            jobs.as_str(),
+            0,
+            68_893,
+        ),
+        (
+            "agenda|check|--json|--crontab|crontab",
+            faults.as_str(),
+            1,
+            127_893,
+        ),
+    ] {
+        stops_in_the_second_piece(&rt, words, crontab, ended, len)?;
+    }
+    Ok(())
 }
 
 // A crontab with a job and an error. The other source of `SKIPPING` is missing.

@@ -4,6 +4,7 @@ use agenda_commands::run_next;
 use agenda_sources::{Asked, TimeZones};
 use plan_clock::Clock;
 use plan_rules::{EventZones, Text};
+use plan_write::Format;
 use std::test::Fail;
 
 // After the last time of all, which no argument can give.
@@ -15,7 +16,11 @@ fn no_start_follows_the_last_moment_of_all(rt: HostRuntime) -> Result<(), Fail> 
         clock: Clock::utc(),
         named: EventZones::utc_alone(),
     };
-    run_next(rt.alloc(), &asked, &zones, u64::MAX, 1, &mut out)?;
+    let format = Format {
+        json: false,
+        local: None,
+    };
+    run_next(rt.alloc(), &asked, &zones, u64::MAX, 1, &format, &mut out)?;
     took(&rt, &out, "none\n");
     Ok(())
 }

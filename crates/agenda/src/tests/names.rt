@@ -47,8 +47,10 @@ fn names_of_faults_of_commands(rt: HostRuntime) -> Result<(), Fail> {
     let missing = PlanFault::Collect(CollectFault::Missing);
     prints(&rt, &RunFault::Plan(missing), "Missing")?;
     prints(&rt, &RunFault::Plan(PlanFault::BadSize), "BadSize")?;
-    prints(&rt, &RunFault::Device, "Device")?;
-    prints(&rt, &WriteFault::Device, "Device")
+    prints(&rt, &RunFault::Device(WriteFault::Device), "Device")?;
+    prints(&rt, &RunFault::Device(WriteFault::Closed), "Closed")?;
+    prints(&rt, &WriteFault::Device, "Device")?;
+    prints(&rt, &WriteFault::Closed, "Closed")
 }
 
 #[test]

@@ -1,4 +1,4 @@
-//! A writer that accepts a limited number of bytes.
+//! Writers that accept a limited number of bytes, or of writes.
 use std::io::{self, Write};
 use std::process::Abort;
 
@@ -27,8 +27,19 @@ pub struct Limited {
 #[derive(Clone, Copy, Debug, PartialEq, Eq)]
 pub enum End {
     Error,
+    BrokenPipe,
     Interrupted,
     TakesNothing,
+}
+
+// Returns the error of a writer that fails in this way, unless it takes nothing.
+fn fail(end: End) -> io::Result<()> {
+    match end {
+        End::Error => Err(io::Error::from(io::ErrorKind::Other)),
+        End::BrokenPipe => Err(io::Error::from(io::ErrorKind::BrokenPipe)),
+        End::Interrupted => Err(io::Error::from(io::ErrorKind::Interrupted)),
+        End::TakesNothing => Ok(()),
+    }
 }
 
 impl Limited {
@@ -63,12 +74,8 @@ impl Write for Limited {
         self.calls = self.calls.saturating_add(1);
         let left = self.room.saturating_sub(self.len);
         let count = bytes.len().min(self.at_a_call).min(left);
-        match self.end {
-            End::Error if count == 0 => return Err(io::Error::from(io::ErrorKind::Other)),
-            End::Interrupted if count == 0 => {
-                return Err(io::Error::from(io::ErrorKind::Interrupted));
-            }
-            _ => {}
+        if count == 0 {
+            fail(self.end)?;
         }
         for byte in &bytes[..count] {
             if self.len < 512 {
@@ -81,9 +88,55 @@ impl Write for Limited {
 
     fn flush(&mut self) -> io::Result<()> {
         self.flushes = self.flushes.saturating_add(1);
-        if self.flush_fails {
-            return Err(io::Error::from(io::ErrorKind::Other));
+        match self.end {
+            _ if !self.flush_fails => Ok(()),
+            End::BrokenPipe => Err(io::Error::from(io::ErrorKind::BrokenPipe)),
+            _ => Err(io::Error::from(io::ErrorKind::Other)),
         }
+    }
+}
+
+/// A writer that accepts a number of writes, each of them whole, and then fails.
+#[derive(Drop)]
+pub struct Pieces {
+    /// How many writes are accepted.
+    pub accepted: usize,
+    /// How it fails after them.
+    pub end: End,
+    /// How many bytes were written.
+    pub len: usize,
+    /// The number of writes.
+    pub calls: usize,
+    /// The number of flushes.
+    pub flushes: usize,
+}
+
+impl Pieces {
+    /// Returns a writer that accepts `accepted` writes.
+    pub fn new(accepted: usize, end: End) -> Pieces {
+        Pieces {
+            accepted,
+            end,
+            len: 0,
+            calls: 0,
+            flushes: 0,
+        }
+    }
+}
+
+impl Write for Pieces {
+    fn write(&mut self, bytes: &[u8]) -> io::Result<usize> {
+        self.calls = self.calls.saturating_add(1);
+        if self.calls > self.accepted {
+            fail(self.end)?;
+            return Ok(0);
+        }
+        self.len = self.len.saturating_add(bytes.len());
+        Ok(bytes.len())
+    }
+
+    fn flush(&mut self) -> io::Result<()> {
+        self.flushes = self.flushes.saturating_add(1);
         Ok(())
     }
 }

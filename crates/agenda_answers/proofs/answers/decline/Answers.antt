@@ -17,7 +17,7 @@ returns-in-Help g c =
     rw c.in-Help.is (record {
       end = Ok (record { text = c.in-Help.text; status = 0 });
       ends = refl;
-      puts = (ap Run c.from.ensures, rw (c.as_bytes.ensures.value, c.as_str.ensures) at c.in-Err.ensures);
+      puts = (_, ap Run c.from.ensures, rw (c.as_bytes.ensures.value, c.as_str.ensures) at c.in-Err.ensures);
     })
 
 pub returns-in-Usage : goal.returns-in-Usage

@@ -8,12 +8,17 @@ pub returns-in_err-input : goal.returns-in_err-input
 returns-in_err-input g c =
     went_on _ c.in_ok-span.ensures (failed_first _ _ _ c.in_err-input.ensures c.from_residual-in_err-input.ensures.1)
 
+pub returns-in_err-format : goal.returns-in_err-format
+returns-in_err-format g c =
+    went_on _ c.in_ok-span.ensures (went_on _ c.in_ok-input.ensures
+    (failed_first _ _ _ c.in_err-format.ensures c.from_residual-in_err-format.ensures.1))
+
 pub returns-in_err-run_plan : goal.returns-in_err-run_plan
 returns-in_err-run_plan g c =
-    went_on _ c.in_ok-span.ensures (went_on _ c.in_ok-input.ensures
-    (stopped _ _ _ _ _ _ _ _ (rw c.planning_of.ensures at c.in_err-run_plan.ensures.output) c.from_residual-in_err-run_plan.ensures.1))
+    went_on _ c.in_ok-span.ensures (went_on _ c.in_ok-input.ensures (went_on _ c.in_ok-format.ensures
+    (stopped _ _ _ _ _ _ _ _ (rw c.planning_of.ensures at c.in_err-run_plan.ensures.output) c.from_residual-in_err-run_plan.ensures.1)))
 
 pub returns : goal.returns
 returns g c =
-    went_on _ c.in_ok-span.ensures (went_on _ c.in_ok-input.ensures
-    (printed _ _ _ _ _ _ (rw c.planning_of.ensures at c.in_ok-run_plan.ensures.output)))
+    went_on _ c.in_ok-span.ensures (went_on _ c.in_ok-input.ensures (went_on _ c.in_ok-format.ensures
+    (printed _ _ _ _ _ _ (rw c.planning_of.ensures at c.in_ok-run_plan.ensures.output))))

@@ -34,6 +34,13 @@ returns-in_err-kept g c =
     (goes _ (goes _ c.in_ok-names.ensures (rw (c.in_ok-tried.ensures.same, c.in_ok-clock.ensures.same) at c.in_ok-zones.ensures))
     (failed _ (Run run.NoMemory) refl c.from_residual-in_err-kept.ensures.1))))
 
+pub returns-in_err-format : goal.returns-in_err-format
+returns-in_err-format g c =
+    rw c.in_ok-goal.was (goes _ c.in_ok-clock.ensures.read
+    (goes _ (rw (c.in_ok-clock.ensures.same, c.as_slice.ensures) at c.in_ok-tried.ensures.read)
+    (goes _ (goes _ c.in_ok-names.ensures (rw (c.in_ok-tried.ensures.same, c.in_ok-clock.ensures.same) at c.in_ok-zones.ensures))
+    (failed _ (Run run.NoMemory) refl (rw c.in_err-format.ensures.0 at c.from_residual-in_err-format.ensures.1)))))
+
 pub returns-in_err-answer : goal.returns-in_err-answer
 returns-in_err-answer g c =
     rw c.in_ok-goal.was (goes _ c.in_ok-clock.ensures.read
@@ -46,4 +53,4 @@ returns g c =
     rw c.in_ok-goal.was (goes _ c.in_ok-clock.ensures.read
     (goes _ (rw (c.in_ok-clock.ensures.same, c.as_slice.ensures) at c.in_ok-tried.ensures.read)
     (goes _ (goes _ c.in_ok-names.ensures (rw (c.in_ok-tried.ensures.same, c.in_ok-clock.ensures.same) at c.in_ok-zones.ensures))
-    (goes _ (rw c.in_ok-kept.ensures.jobs at c.in_ok-answer.ensures) (rw c.in_ok-kept.ensures.errors refl)))))
+    (goes _ (rw (c.in_ok-kept.ensures.jobs, c.in_ok-format.ensures) at c.in_ok-answer.ensures) (rw c.in_ok-kept.ensures.errors refl)))))
