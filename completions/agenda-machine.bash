@@ -25,19 +25,22 @@ _agenda_machine() {
                 # the directory is not a command
                 ((++at))
                 ;;
-            plan | upcoming | quiet | check | sources)
+            plan | upcoming | quiet | check | sources | next)
                 command=${words[at]}
                 break
                 ;;
         esac
     done
+    for (( ; at < cword; at++)); do
+        if [[ ${words[at]} == -- ]]; then
+            _filedir timer
+            return
+        fi
+    done
 
     case $command:$prev in
-        :--root)
+        *:--root)
             _filedir -d
-            return
-            ;;
-        sources:*)
             return
             ;;
         *:--crontab | *:--system-crontab | *:--cron-d | *:--spool)
@@ -52,32 +55,49 @@ _agenda_machine() {
             mapfile -t COMPREPLY < <(compgen -W '1 2 3 4 5 6 7 8' -- "$cur")
             return
             ;;
-        *:--since | *:--upto | *:--after | *:--room | *:--limit | *:--least)
-            # a time or a number: nothing to complete
+        *:--since | *:--until | *:--upto | *:--after)
+            mapfile -t COMPREPLY < <(compgen -W 'now today tomorrow yesterday' -- "$cur")
+            return
+            ;;
+        *:--room | *:--limit | *:--least | *:--count | *:--cron | *:--calendar)
+            # a number or a rule: nothing to complete
             return
             ;;
     esac
     $split && return
 
-    local sources='--zone= --crontab= --system-crontab= --cron-d= --spool= --help'
+    local own='--root= --help --version'
+    local sources='--all --utc --zone= --json --crontab= --system-crontab= --cron-d= --spool='
+    local shown='--strict --table --text --local'
+    local span='--since= --until= --upto= --planners= --room= --limit='
     case $command:$cur in
         :-*)
-            mapfile -t COMPREPLY < <(compgen -W '--root --all --strict --nominal --help' -- "$cur")
+            mapfile -t COMPREPLY < <(compgen -W "$own --all --utc --strict --nominal --table --text" -- "$cur")
             ;;
         :*)
-            mapfile -t COMPREPLY < <(compgen -W 'plan upcoming quiet check sources' -- "$cur")
+            mapfile -t COMPREPLY < <(compgen -W 'plan upcoming quiet check sources next' -- "$cur")
             ;;
         plan:-*)
-            mapfile -t COMPREPLY < <(compgen -W "--since= --upto= --planners= --room= --limit= --delays $sources" -- "$cur")
+            mapfile -t COMPREPLY < <(compgen -W "$span --delays $shown $sources $own" -- "$cur")
             ;;
         upcoming:-*)
-            mapfile -t COMPREPLY < <(compgen -W "--after= --delays $sources" -- "$cur")
+            mapfile -t COMPREPLY < <(compgen -W "--after= --delays $shown $sources $own" -- "$cur")
             ;;
         quiet:-*)
-            mapfile -t COMPREPLY < <(compgen -W "--since= --upto= --least= --planners= --room= --limit= $sources" -- "$cur")
+            mapfile -t COMPREPLY < <(compgen -W "$span --least= --nominal $shown $sources $own" -- "$cur")
             ;;
         check:-*)
-            mapfile -t COMPREPLY < <(compgen -W "$sources" -- "$cur")
+            mapfile -t COMPREPLY < <(compgen -W "$sources $own" -- "$cur")
+            ;;
+        sources:-*)
+            mapfile -t COMPREPLY < <(compgen -W "--all $own" -- "$cur")
+            ;;
+        next:-*)
+            mapfile -t COMPREPLY < <(compgen -W "--count= --after= --zone= --utc --table --text --local --json $own" -- "$cur")
+            ;;
+        sources:* | next:*)
+            # no file, and a rule
+            return
             ;;
         *)
             _filedir timer

@@ -25,7 +25,8 @@ is_current() {
 
 # Lets bin/agenda prove and build the program if it is missing or older than its sources.
 build_program() {
-  "$top/bin/agenda" --version >/dev/null
+  # a command that reads no file; help and the version would build nothing
+  "$top/bin/agenda" explain >/dev/null
 }
 
 # Makes the temporary directory $work, which is removed when the script ends.

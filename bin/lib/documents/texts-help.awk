@@ -1,10 +1,10 @@
 # Prints the prose of help texts for words.awk: the path, the number and the text of a line, with tabs between. An empty line ends a
-# paragraph. The texts are the constants of a file of the program (*.rt), and what say_usage and say_help print in a script. Options, text
-# between single quotes and the lines of examples are literal: @.
+# paragraph. The texts are the constants of a file of the program (*.rt), and what functions of a script print whose names begin with
+# say_usage or say_help. Options, text between single quotes and the lines of examples are literal: @.
 
 # Prints the text of a line of help.
 function put(text) {
-  if (text == "" || text ~ /^  agenda /) {
+  if (text == "" || text ~ /^  agenda(-machine)? /) {
     print ""
     return
   }
@@ -33,8 +33,8 @@ FILENAME ~ /\.rt$/ {
   next
 }
 
-/^say_(usage|help)\(\)/ { inside = 1 }
+/^say_(usage|help)[a-z_]*\(\)/ { inside = 1 }
 /^}/ { inside = shows = 0 }
 shows && $0 == "TEXT" { shows = 0 }
 shows { put($0) }
-inside && /<<'?TEXT'?$/ { shows = 1 }
+inside && /<<'?TEXT'?( &&)?$/ { shows = 1 }

@@ -68,17 +68,37 @@ find_cron_d() {
   done
 }
 
+# Sets `spool` to the directory of the users' crontabs: that of Debian, else that of SUSE, else that of Fedora and
+# Arch. A regular file is none of the first two, since it may be a crontab of the last.
+find_spool_folder() {
+  spool=var/spool/cron
+  # if it can't be searched, nobody can say which one it is
+  ! look "$spool" || [[ ! -d $base/$real || -x $base/$real ]] || return 0
+  for spool in var/spool/cron/crontabs var/spool/cron/tabs; do
+    look "$spool"
+    case $? in
+      0) [[ -f $base/$real ]] || return 0 ;;
+      2) return 0 ;;
+    esac
+  done
+  spool=var/spool/cron
+}
+
 # Adds the crontabs of users. If a file of cron.d has the same name, `.user` is appended to the name, unless
 # an entry with that name exists.
 find_spool() {
-  local name given spool=var/spool/cron/crontabs
+  local name given spool
+  find_spool_folder
   list_folder "$spool" || return 0
   for name in "${ordered[@]}"; do
     given=$name
     if [[ -n ${taken["cron-d/$name"]-} && ! -e $base/$folder/$name.user && ! -L $base/$folder/$name.user ]]; then
       given=$name.user
     fi
-    if [[ $name = *[!A-Za-z0-9_.-]* ]]; then
+    if [[ $spool = var/spool/cron ]] && follow "$folder" "$name" && [[ -d $base/$real ]]; then
+      # such as atjobs
+      continue
+    elif [[ $name = *[!A-Za-z0-9_.-]* ]]; then
       left_out "$spool/$name" 'bad name'
     else
       take_crontab spool "$spool" "$name" "$given"

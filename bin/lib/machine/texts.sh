@@ -1,7 +1,7 @@
 # shellcheck shell=bash disable=SC2154,SC2034
 # Makes the files for agenda that differ from the machine's files: timers are merged with their drop-ins,
 # specifiers of instances are expanded, and files get other names. agenda-machine sources this file, after
-# sources.sh.
+# sources.sh and others.sh.
 
 # agenda reads no larger file
 most_bytes=1048576
@@ -14,6 +14,8 @@ given_words=()
 declare -A ranges_of=()
 range_starts=()
 range_paths=()
+# The indices and numbers of `ranges_of`, for paths as `check --json` prints them.
+declare -A object_ranges=()
 
 # Records that agenda reads the text of the path $2 from line $1 on.
 add_range() {
@@ -102,8 +104,8 @@ put_pieces() {
   done
 }
 
-# Writes the text of the timer in row $1 and of its drop-ins, which end before row $2, to standard output.
-# Status 1: the timer's own file can't be read.
+# Writes the text of the timer in row $1 and of its drop-ins, which end before row $2, to standard output, and
+# adds it to `timer_text`. Status 1: the timer's own file can't be read.
 join_texts() {
   local row line=1
   for ((row = $1; row < $2; row++)); do
@@ -114,10 +116,12 @@ join_texts() {
     fi
     if [[ $row != "$1" ]]; then
       printf '\n[Unit]\n' || stop "can't write below $work"
+      timer_text+=$'\n[Unit]\n'
       line=$((line + 2))
     fi
     [[ ${units[row]} != *@* ]] || write_out "${units[row]}"
     put_pieces || stop "can't write below $work"
+    keep_pieces
     add_range "$line" "${paths[row]}"
     line=$((line + line_count))
   done
@@ -152,9 +156,10 @@ give_plain() {
   fi
 }
 
-# Sets `given_words` to the options and paths of all sources.
+# Sets `given_words` to the options and paths of all sources. Records the timers that start only by monotonic
+# settings, except for `check`, where agenda warns of them.
 give_sources() {
-  local row end given
+  local row end given timer_text
   mkdir -- "$work/system-crontab" "$work/cron-d" "$work/spool" "$work/timer" || stop "can't write below $work"
   for ((row = 0; row < ${#kinds[@]}; row = end)); do
     end=$((row + 1))
@@ -162,12 +167,17 @@ give_sources() {
     if [[ ${kinds[row]} != timer ]]; then
       give_plain "$row"
       given_words+=("--${kinds[row]}" "$given")
-    elif ((end > row + 1)) || [[ ${units[row]} = *@* ]]; then
-      give_joined "$row" "$end" && given_words+=("$given")
+      continue
+    fi
+    timer_text=
+    if ((end > row + 1)) || [[ ${units[row]} = *@* ]]; then
+      give_joined "$row" "$end" || continue
     else
       give_plain "$row"
-      given_words+=("$given")
+      [[ $command = check ]] || ! read_text "$base/${reals[row]}" "${sizes[row]}" || keep_pieces
     fi
+    given_words+=("$given")
+    [[ $command = check ]] || note_timer "$row"
   done
 }
 
@@ -199,15 +209,68 @@ translate() {
 # Sets `finding` from $1, the rest of a line after its path, which begins with a line number or a blank. $2 is
 # the index of the first range and the number of ranges.
 name_place() {
-  local at=${2% *} end line=
-  end=$((at + ${2#* }))
-  if [[ $1 =~ ^([0-9]+): ]]; then
-    line=${BASH_REMATCH[1]}
-    while ((at + 1 < end && range_starts[at + 1] <= line)); do ((++at)); done
-    show "$dir/${range_paths[at]}"
-    finding=$shown:$((line - range_starts[at] + 1))${1:${#line}}
-  else
-    show "$dir/${range_paths[at]}"
-    finding=$shown:$1
-  fi
+  local at line=
+  [[ ! $1 =~ ^([0-9]+): ]] || line=${BASH_REMATCH[1]}
+  local rest=${1:${#line}}
+  find_range "$2"
+  show "$dir/${range_paths[at]}"
+  finding=$shown:$line$rest
+}
+
+# Sets `at` to the range that has the line number `line` of what agenda reads, and `line` to the number that the
+# line has there. An empty `line` stays, and is in the first range. $1 is the index of the first range and the
+# number of ranges.
+find_range() {
+  local end
+  at=${1% *}
+  [[ -n $line ]] || return 0
+  end=$((at + ${1#* }))
+  while ((at + 1 < end && range_starts[at + 1] <= line)); do ((++at)); done
+  line=$((line - range_starts[at] + 1))
+}
+
+# Does the same as translate, for the line $1 of `check --json`.
+translate_object() {
+  local rest=${1#'{"path":"'} front at line=
+  finding=$1
+  # in a string each quote is after a backslash, so that these bytes end it
+  front=${rest%%'","line":'*}
+  [[ $1 = '{"path":"'* && -n $front && -n ${object_ranges[$front]-} ]] || return 0
+  rest=${rest:${#front}}
+  rest=${rest#'","line":'}
+  [[ ! $rest =~ ^([0-9]+), ]] || line=${BASH_REMATCH[1]}
+  rest=${rest:${#line}}
+  find_range "${object_ranges[$front]}"
+  escape "$dir/${range_paths[at]}"
+  finding='{"path":"'$escaped'","line":'$line$rest
+}
+
+# Sets `object_ranges` to `ranges_of` with the paths as they are in strings of JSON.
+escape_paths() {
+  local path
+  for path in "${!ranges_of[@]}"; do
+    escape "$path"
+    object_ranges[$escaped]=${ranges_of[$path]}
+  done
+}
+
+# Sets `escaped` to the text $1 as agenda writes it in a string of JSON.
+escape() {
+  local byte mark back=\\ quote=\"
+  escaped=${1//"$back"/"$back$back"}
+  escaped=${escaped//"$quote"/"$back$quote"}
+  # at most once for each control character that there is
+  while [[ $escaped = *[[:cntrl:]]* ]]; do
+    byte=${escaped#"${escaped%%[[:cntrl:]]*}"}
+    byte=${byte:0:1}
+    case $byte in
+      $'\b') mark='\b' ;;
+      $'\f') mark='\f' ;;
+      $'\n') mark='\n' ;;
+      $'\r') mark='\r' ;;
+      $'\t') mark='\t' ;;
+      *) printf -v mark '\\u%04x' "'$byte" ;;
+    esac
+    escaped=${escaped//"$byte"/"$mark"}
+  done
 }

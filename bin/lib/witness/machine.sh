@@ -70,13 +70,13 @@ compare_machine() {
   templates=$(grep -c '@[.]timer$' "$work/wishes")
   plan_machine
   echo "the packages as one machine: $(wc -l <"$work/all") sources, of which $wishes timers are wished for, $templates of them by a template; \
-$(sort -u "$work/all.left" "$work/wished.left" | wc -l) files are left out; a day has $planned starts"
+$(cat "$work/all.left" "$work/wished.left" | grep ' left out ' | sort -u | wc -l) files are left out; a day has $planned starts"
 }
 
 # Lets agenda plan the first day of the month of all of them.
 plan_machine() {
   "$work/machine.bin/agenda-machine" --root "$machine" --all plan --since "$since" --upto '+1 day' --limit 1000000 \
-    >"$work/planned" 2>"$work/planned.told" </dev/null || tell "the plan of a day: status $?, $(grep -v 'left out' "$work/planned.told")"
+    >"$work/planned" 2>"$work/planned.told" </dev/null || tell "the plan of a day: status $?, $(grep -vE '^agenda-machine: (left out|not planned|no cron daemon) ' "$work/planned.told")"
   planned=$(($(wc -l <"$work/planned") - 1))
   [ "$planned" -gt 0 ] || tell "the plan of a day has no starts"
   count "a day of the packages as one machine"
