@@ -11,6 +11,7 @@ printf '@daily a\n' >"$devices_folder/jobs"
 printf '* * * * * x\n' >"$devices_folder/minutes"
 printf '[Timer]\nOnCalendar=daily\n' >"$devices_folder/d.timer"
 printf 'mailbox 1 1\ntake\n' >"$devices_folder/script"
+printf '@dayly a\n' >"$devices_folder/faulty"
 mkfifo "$devices_folder/pipe" "$devices_folder/pipe.timer"
 devices_day="--since 2024-01-01T00:00:00Z --upto 2024-01-02T00:00:00Z"
 devices_limits='ulimit -c 0; ulimit -t 2; ulimit -s 512; ulimit -d 16384'
@@ -88,7 +89,38 @@ devices_streams() {
     exit "${PIPESTATUS[0]}"'
   compare_texts "a pipe whose reader leaves after a header and a line" \
     "agenda 2${tab}1970-01-01T00:00:00Z${tab}1971-11-26T10:40:00Z${tab}1000000"$'\n'"1970-01-01T00:00:00Z${tab}cron:1${tab}x"$'\n' \
-    $'agenda: Device\n' 3
+    '' 3
+}
+
+# Rows from standard input: arguments. Standard output is a pipe whose reader has gone, as `| head` leaves it:
+# the status is 3, and nothing is on standard error. To a device that is full the same answer is an error.
+devices_left() {
+  local words
+  mkfifo "$devices_folder/left"
+  while IFS= read -r words; do
+    words=${words/ day/ $devices_day}
+    # the shell is the only reader for a moment, so that the pipe can be opened for writing
+    devices_run "exec 3<>left 4>left 3>&-; exec agenda $words >&4 4>&-"
+    compare_texts "agenda $words to a pipe without a reader" '' '' 3
+    [ -c /dev/full ] || continue
+    devices_run "exec agenda $words >/dev/full"
+    is_refused "agenda $words >/dev/full" Device 3
+  done
+  # an answer without a byte writes nothing, so it can't fail
+  devices_run 'exec 3<>left 4>left 3>&-; exec agenda check --crontab jobs >&4 4>&-'
+  compare_texts "an empty answer to a pipe without a reader" '' '' 0
+  # what is skipped is reported before the answer, and other errors are reported as always
+  devices_run "exec 3<>left 4>left 3>&-; exec agenda plan $devices_day --keep-going --crontab jobs nothing >&4 4>&-"
+  compare_texts "a plan that keeps going to a pipe without a reader" '' $'agenda: nothing: Device\n' 3
+  devices_run 'exec 3<>left 4>left 3>&-; exec agenda steps nothing >&4 4>&-'
+  is_refused "no script, to a pipe without a reader" "nothing: Device" 3
+  devices_run 'exec 3<>left 4>left 3>&-; exec agenda next --after 2024 --cron @daily >&4 4>&-'
+  is_refused "no time, to a pipe without a reader" "after: BadForm" 1
+  # a line of standard error has no reader either
+  devices_run 'exec 3<>left 4>left 3>&-; exec agenda steps nothing 2>&4 4>&-'
+  compare_texts "an error to a pipe without a reader" '' '' 3
+  devices_run 'exec 3<>left 4>left 3>&-; exec agenda next --bad 2>&4 4>&-'
+  compare_texts "usage to a pipe without a reader" '' '' 2
 }
 
 # The help of each command, most of which is longer than 1,024 bytes: to a pipe it is whole, and to a device
@@ -180,6 +212,27 @@ check loop.timer|3
 ROWS
 fi
 devices_streams
+devices_left <<'ROWS'
+--help
+--version
+plan --help
+next --after 2024-01-01T00:00:00Z --cron @daily
+next --after 2024-01-01T00:00:00Z --cron @daily --json
+next --after 2024-01-01T00:00:00Z --cron @daily --count 1000 --local
+plan day --crontab jobs
+plan day --crontab jobs --json
+plan day --crontab minutes --local
+plan day --crontab minutes --keep-going
+upcoming --after 2024-01-01T00:00:00Z --crontab jobs d.timer
+upcoming --after 2024-01-01T00:00:00Z --crontab jobs d.timer --json --keep-going
+quiet day --crontab jobs
+quiet day --crontab jobs --json
+check --crontab faulty
+check --crontab faulty --json
+steps script
+explain
+explain Device
+ROWS
 devices_help
 devices_long_paths <<'ROWS'
 steps

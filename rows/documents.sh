@@ -329,7 +329,8 @@ PAGE
 
 documents_row "words of the scripts' help" "report_words /dev/null" bin/other \
   "bin/other:4: word 'FOLDER': write 'directory', or add an exception" \
-  "bin/other:6: word 'passed over': write 'skip' or 'ignore', or add an exception" <<'PAGE'
+  "bin/other:6: word 'passed over': write 'skip' or 'ignore', or add an exception" \
+  "bin/other:14: word 'folder': write 'directory', or add an exception" <<'PAGE'
 # makes a folder
 say_usage() {
   cat <<'TEXT'
@@ -341,6 +342,14 @@ TEXT
 cat <<TEXT
 a folder
 TEXT
+say_help_of_plan() {
+  cat <<'TEXT' &&
+A folder.
+  agenda-machine plan folder
+  agenda plan folder
+TEXT
+    true
+}
 PAGE
 
 # Runs the rule of words with the exceptions of `documents_exceptions`.

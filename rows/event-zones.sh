@@ -272,7 +272,7 @@ END
 
 # The option has no value and is given once. `steps` and `explain` don't have it. After `--` it is a file.
 event_zones_usage <<'END'
-next|--event-zones|--after=2024-01-01T00:00:00Z|--cron=@daily|--event-zones => error: the argument '--event-zones' cannot be used multiple times\n\nUsage: agenda next --after <T> [--zone <ZONE>] [--event-zones] [--count <N>] (--cron <TEXT> | --calendar <TEXT>)
+next|--event-zones|--after=2024-01-01T00:00:00Z|--cron=@daily|--event-zones => error: the argument '--event-zones' cannot be used multiple times\n\nUsage: agenda next [OPTIONS] --after <T> (--cron <TEXT> | --calendar <TEXT>)
 next|--after=2024-01-01T00:00:00Z|--cron=@daily|--event-zones=yes => error: unexpected value 'yes' for '--event-zones' found; no more were expected
 next|--after=2024-01-01T00:00:00Z|--cron=@daily|--event-zone => error: unexpected argument '--event-zone' found\n\n  tip: a similar argument exists: '--event-zones'
 plan|--event-zones|--since=2024-01-01T00:00:00Z|--upto=2024-01-02T00:00:00Z|--event-zones => error: the argument '--event-zones' cannot be used multiple times\n\nUsage: agenda plan [OPTIONS] --since <T> --upto <T> [TIMER]...

@@ -143,7 +143,7 @@ explain_unknown() {
   compare "explain '$1'" /dev/null "$explain_folder/usage" 2
 }
 
-# Standard output fails: the error is that of every command.
+# Standard output fails: the error is that of every command. If it is a pipe that nobody reads, there is no error line.
 explain_without_output() {
   local words
   for words in explain 'explain Device'; do
@@ -155,7 +155,7 @@ explain_without_output() {
     is_refused "agenda $words, standard output closed" Device 3
     # shellcheck disable=SC2016
     run_in "$explain_folder" bash -c 'exec 3> >(exit); wait "$!"; exec agenda '"$words"' >&3'
-    is_refused "agenda $words, to a pipe that nobody reads" Device 3
+    compare_texts "agenda $words, to a pipe that nobody reads" '' '' 3
   done
 }
 

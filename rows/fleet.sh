@@ -219,7 +219,8 @@ fleet_names() {
   local name names=(-d '{}' '{1}' '%d' '$HOME' '`id`' "a'b" 'a"b' 'a\tb' 'a\\b' '&' '*' 'a;b' '~' '\0' 1e3 ' a ' ä '#')
   fleet_want </dev/null
   for name in "${names[@]}"; do
-    mkdir -p -- "$fleet_folder/names/$name/etc"
+    mkdir -p -- "$fleet_folder/names/$name/etc" "$fleet_folder/names/$name/usr/sbin"
+    : >"$fleet_folder/names/$name/usr/sbin/cron"
     echo '0 6 * * * root g' >"$fleet_folder/names/$name/etc/crontab"
     printf '2024-01-01T06:00:00Z\t%s\tsystem:1\troot g\n' "$name" >>"$work/out.wanted"
   done
@@ -235,7 +236,8 @@ fleet_forty() {
   for number in {40..01}; do
     folders+=("m$number")
     [ ! -d "$fleet_folder/m$number" ] || continue
-    mkdir -p "$fleet_folder/m$number/etc"
+    mkdir -p "$fleet_folder/m$number/etc" "$fleet_folder/m$number/usr/sbin"
+    : >"$fleet_folder/m$number/usr/sbin/cron"
     echo '0 1,2 * * * root h' >"$fleet_folder/m$number/etc/crontab"
   done
   echo '0 1,24 * * * root h' | tee "$fleet_folder/m07/etc/crontab" >"$fleet_folder/m33/etc/crontab"
@@ -358,7 +360,7 @@ DAY|DAY>2>Usage: fleet.sh [--limit COUNT] SINCE UPTO DIRECTORY ..
 --limit|5|DAY|DAY>2>Usage: fleet.sh [--limit COUNT] SINCE UPTO DIRECTORY ..
 --limit>2>Usage: fleet.sh [--limit COUNT] SINCE UPTO DIRECTORY ..
 --help|DAY|DAY|one>2>Usage: fleet.sh [--limit COUNT] SINCE UPTO DIRECTORY ..
-frob|DAY|one|sub/one>2>agenda-machine: --since: no moment: 'frob'
+frob|DAY|one|sub/one>2>agenda-machine: --since: not a time: 'frob' (examples: 'tomorrow 02:00', +8h, 2025-03-30T20:00:00Z)
 DAY|2023-12-31T00:00:00Z|one|sub/one>1>agenda: span: Backwards
 ROWS
   fleet_stubs

@@ -49,6 +49,42 @@ machine_findings() {
   done
 }
 
+# Compares the findings of the program itself, in any order, with those in the file $2, below the root $1. The
+# options $3 and later are those of `check`.
+machine_check() {
+  local root=$1 wanted=$2
+  # shellcheck disable=SC2034
+  local machine_bin=$machine_folder/whole
+  shift 2
+  machine_run --root "$machine_root" check "$@" --crontab "$machine_root/own:1"
+  sort -o "$wanted" "$wanted"
+  sort -o "$work/out" "$work/out"
+  machine_compare "check $* of '$root'" "$wanted" /dev/null 1
+}
+
+# Each row: a root, and the findings of the program on it, with `;` between them: a path, a line or nothing, a
+# code, a text, and the path as it is in JSON if that differs, with `,` between them. A path that bash quotes in
+# lines of text ends with `?`. A crontab that is named on the command line has a finding too.
+machine_objects() {
+  local root findings finding path line code text string
+  local -a list
+  while IFS='|' read -r root findings; do
+    machine_make "own:1=0\x2024\x20*\x20*\x20*\x20a\n $root"
+    IFS=';' read -r -a list <<<"own:1,1,OutOfRange,hour '24': out of range 0-23;$findings"
+    for finding in "${list[@]}"; do
+      IFS=, read -r path line code text string <<<"$finding"
+      machine_path "${path%\?}"
+      printf '{"path":"%s","line":%s,"severity":"error","code":"%s","text":"%s"}\n' \
+        "$machine_root/${string:-$path}" "${line:-null}" "$code" "$text" >&3
+      path=$machine_root/$path
+      [[ $finding != *\?,* ]] || path=${path@Q}
+      echo "$path${line:+:$line}: error: $text [$code]"
+    done >"$work/lines.wanted" 3>"$work/objects.wanted"
+    machine_check "$root" "$work/lines.wanted"
+    machine_check "$root" "$work/objects.wanted" --json
+  done
+}
+
 # A root whose name has special characters of the shell: what is found, what agenda gets, and what is reported about it.
 machine_odd_root() {
   local machine_root=$1
@@ -216,6 +252,35 @@ etc/crontab>/opt/x opt/x=p\n C/a>../../opt/y opt/y=q\n S/b>/opt/y|etc/crontab;et
 *a.timer U/a.timer=1\n2\n3\n4\n5\n6\n7\n8\n9\n10\n E/a.timer.d/x.conf=\n\n\n\n\n\n\n\n\n10\n|U/a.timer;U/a.timer:1: 1;U/a.timer:2: 2;U/a.timer:3: 3;U/a.timer:4: 4;U/a.timer:5: 5;U/a.timer:6: 6;U/a.timer:7: 7;U/a.timer:8: 8;U/a.timer:9: 9;U/a.timer:10: 10;E/a.timer.d/x.conf:10: 10
 ROWS
 
+# The same findings as lines of text and as objects, of timers with drop-ins, of instances, of crontabs with
+# other names, and of whole files. In a string of JSON each byte has the escape of RFC 8259, section 7.
+machine_objects <<'ROWS'
+*a.timer U/a.timer=[Timer]\nOnCalendar=24:00\n|U/a.timer,2,OutOfRange,hour in '24:00': out of range 0-23
+*a.timer U/a.timer=[Timer]\nOnCalendar=daily\n E/a.timer.d/x.conf=\n[Timer]\nOnCalendar=24:00\n|E/a.timer.d/x.conf,3,OutOfRange,hour in '24:00': out of range 0-23
+*a.timer U/a.timer=[Timer]\nOnCalendar=24:00\n E/a.timer.d/x.conf=[Timer]\nOnCalendar=25:00 U/timer.d/y.conf=[Timer]\n\nOnCalendar=26:00\n|U/a.timer,2,OutOfRange,hour in '24:00': out of range 0-23;E/a.timer.d/x.conf,2,OutOfRange,hour in '25:00': out of range 0-23;U/timer.d/y.conf,3,OutOfRange,hour in '26:00': out of range 0-23
+*a.timer U/a.timer=[Unit]\n|U/a.timer,,NoTimerSection,no [Timer] section
+*a.timer U/a.timer=[Unit]\n E/a.timer.d/x.conf=[Unit]\n|U/a.timer,,NoTimerSection,no [Timer] section
+*a@24.timer U/a@.timer=[Timer]\nOnCalendar=%i:00\n|U/a@.timer,2,OutOfRange,hour in '24:00': out of range 0-23
+C/a=@daily\x20root\x20a\n S/a=\n0\x2024\x20*\x20*\x20*\x20a\n|S/a,2,OutOfRange,hour '24': out of range 0-23
+C/a>/opt/b.c opt/b.c=0\x2024\x20*\x20*\x20*\x20root\x20a\n|C/a,1,OutOfRange,hour '24': out of range 0-23
+*a\x5cx2db.timer U/a\x5cx2db.timer=[Unit]\n|U/a\x5cx2db.timer,,NoTimerSection,no [Timer] section,usr/lib/systemd/system/a\\x2db.timer
+*a\x5cx2db.timer U/a\x5cx2db.timer=[Unit]\n U/timer.d/x.conf=[Timer]\nOnCalendar=24:00\n|U/timer.d/x.conf,2,OutOfRange,hour in '24:00': out of range 0-23
+*a\x5cx2db.timer U/a\x5cx2db.timer=[Unit]\n U/timer.d/x.conf=\n|U/a\x5cx2db.timer,,NoTimerSection,no [Timer] section,usr/lib/systemd/system/a\\x2db.timer
+*a.timer U/a.timer=[Timer]\nOnCalendar=daily\n U/timer.d/\x22x\x5c\x22\x5c\x5cy\x22.conf=[Timer]\nOnCalendar=24:00\n|U/timer.d/\x22x\x5c\x22\x5c\x5cy\x22.conf,2,OutOfRange,hour in '24:00': out of range 0-23,usr/lib/systemd/system/timer.d/\"x\\\"\\\\y\".conf
+*a.timer U/a.timer=[Timer]\nOnCalendar=daily\n U/timer.d/&\xc3\xa0\x20$x].conf=[Timer]\nOnCalendar=24:00\n|U/timer.d/&\xc3\xa0\x20$x].conf,2,OutOfRange,hour in '24:00': out of range 0-23
+*a.timer U/a.timer=[Timer]\nOnCalendar=daily\n U/timer.d/\x01\x07\x08\x09\x0a\x0b\x0c\x0d\x1f\x7f\x01.conf=[Timer]\nOnCalendar=24:00\n|U/timer.d/\x01\x07\x08\x09\x0a\x0b\x0c\x0d\x1f\x7f\x01.conf?,2,OutOfRange,hour in '24:00': out of range 0-23,usr/lib/systemd/system/timer.d/\u0001\u0007\b\t\n\u000b\f\r\u001f\u007f\u0001.conf
+ROWS
+
+# The temporary directory has a quote and a backslash in its name.
+machine_plain=$machine_temporary
+machine_temporary+='/a"\x'
+mkdir -m 1777 "$machine_temporary"
+machine_objects <<'ROWS'
+*a.timer U/a.timer=[Timer]\nOnCalendar=daily\n E/a.timer.d/x.conf=[Timer]\nOnCalendar=24:00\n|E/a.timer.d/x.conf,2,OutOfRange,hour in '24:00': out of range 0-23
+ROWS
+rmdir "$machine_temporary"
+machine_temporary=$machine_plain
+
 while IFS= read -r machine_odd; do
   machine_odd_root "$machine_odd"
 done <<'ROWS'
@@ -231,4 +296,5 @@ r:1: x
 r&
 %i
 #
+{"path":"r","line":1,
 ROWS

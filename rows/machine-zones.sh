@@ -6,24 +6,6 @@
 # shellcheck source=/dev/null
 . "$top/rows/lib/machine.sh"
 
-# Sets `tzif` to the escaped text of a TZif file: $1 seconds east of UTC, with the name $2, in 1970, and the
-# footer $3 after that.
-zone_text() {
-  local zeros='\x00\x00\x00\x00' head='' offset
-  printf -v head '%s' 'TZif2\x00\x00\x00' "$zeros$zeros$zeros" "$zeros$zeros$zeros"
-  printf -v offset '\\x%02x\\x%02x\\x%02x\\x%02x' $(($1 >> 24 & 255)) $(($1 >> 16 & 255)) $(($1 >> 8 & 255)) $(($1 & 255))
-  # in the first version one type without a name; in the second one change, one type and its name
-  tzif="$head$zeros"'\x00\x00\x00\x01\x00\x00\x00\x01'"$zeros"'\x00\x00\x00'
-  tzif+="$head"'\x00\x00\x00\x01\x00\x00\x00\x01\x00\x00\x00'"\\x0$((${#2} + 1))$zeros$zeros"'\x00'
-  tzif+="$offset"'\x00\x00'"$2"'\x00\n'"$3"'\n'
-}
-
-# Like Berlin: clocks are put forward on 2024-03-31 and back on 2024-10-27, both at 01:00 UTC.
-zone_text 3600 CET CET-1CEST,M3.5.0,M10.5.0/3
-zone_cet=$tzif
-# five hours east, which is different from all zones of this machine whose names are in the rows
-zone_text 18000 +05 '<+05>-5'
-zone_east=$tzif
 zone_day=(--since 2024-01-01T00:00:00Z --upto 2024-01-02T00:00:00Z)
 
 # The commands in the rows about zones.
@@ -31,8 +13,8 @@ zone_commands=(plan quiet upcoming check sources)
 
 # Makes the root from the description $1, in which CET and EAST are the texts of files.
 zone_make() {
-  local root=${1//CET/$zone_cet}
-  machine_make "${root//EAST/$zone_east}"
+  local root=${1//CET/$machine_cet}
+  machine_make "${root//EAST/$machine_east}"
 }
 
 # The row $1: the script with --root $2 passes on the zone $3. `-` is no zone, and `?` means that it is
@@ -131,10 +113,7 @@ zone_usage() {
   zone_make "$1"
   while IFS='>' read -r row said; do
     IFS='|' read -r -a words <<<"$row"
-    {
-      echo "agenda-machine: $said"
-      echo 'Usage: agenda-machine [--root DIR] [--all] [--strict] [--nominal] plan|upcoming|quiet|check|sources [OPTIONS OF AGENDA ..]'
-    } | sort >"$work/err.wanted"
+    printf '%s\n' "agenda-machine: $said" "Try 'agenda-machine ${words[0]} --help'." | sort >"$work/err.wanted"
     machine_run --root root "${words[@]}"
     machine_compare "usage of '$row' in a zone" /dev/null "$work/err.wanted" 2 none
   done
@@ -333,18 +312,18 @@ plan|--since|2024-03-31T01:00:00Z|--upto|+0 hours>plan|--zone|./root/etc/localti
 ROWS
 # local times that clocks skip, and texts that date can't read
 zone_usage etc/localtime=CET <<'ROWS'
-plan|--since|2024-03-31 02:30>--since: no moment: '2024-03-31 02:30'
-plan|--since|2024-03-30 22:00|--upto=2024-03-31 02:00>--upto: no moment: '2024-03-31 02:00'
-upcoming|--after|2024-03-31 02:59:59>--after: no moment: '2024-03-31 02:59:59'
-plan|--since|2024-03-30 22:00|--upto|+8>--upto: no moment: '+8'
-plan|--since|2024-02-30T00:00:00Z|--upto|+8 hours>--upto: no moment: '+8 hours'
-plan|--since|--zone|UTC>--since: no moment: '--zone'
+plan|--since|2024-03-31 02:30>--since: clocks skip this time: '2024-03-31 02:30'
+plan|--since|2024-03-30 22:00|--upto=2024-03-31 02:00>--upto: clocks skip this time: '2024-03-31 02:00'
+upcoming|--after|2024-03-31 02:59:59>--after: clocks skip this time: '2024-03-31 02:59:59'
+plan|--since|2024-03-30 22:00|--upto|+8>--upto: not a time: '+8' (examples: 'tomorrow 02:00', +8h, 2025-03-30T20:00:00Z)
+plan|--since|2024-02-30T00:00:00Z|--upto|+8 hours>--upto: not a time: '+8 hours' (examples: 'tomorrow 02:00', +8h, 2025-03-30T20:00:00Z)
+plan|--since|--zone|UTC>--since: not a time: '--zone' (examples: 'tomorrow 02:00', +8h, 2025-03-30T20:00:00Z)
 ROWS
 zone_now
 
 # The caller's --zone is used, wherever it is given, and no other is searched. If agenda rejects it, the texts
 # are read in UTC.
-printf '%b' "$zone_east" >"$machine_folder/east"
+printf '%b' "$machine_east" >"$machine_folder/east"
 zone_words 'etc/localtime>/opt/x' <<'ROWS'
 plan|--zone|UTC|--since|2024-07-01 12:00|--upto|+1 day>plan|--event-zones|--keep-going|--zone|UTC|--since|2024-07-01T12:00:00Z|--upto|2024-07-02T12:00:00Z
 plan|--since|2024-07-01 12:00|--zone|./east>plan|--event-zones|--keep-going|--upto|2024-07-02T07:00:00Z|--since|2024-07-01T07:00:00Z|--zone|./east

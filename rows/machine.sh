@@ -18,17 +18,71 @@ machine_usage() {
   done
 }
 
-# Rows of arguments that request help: some lines that name the script and its commands.
+# Rows of arguments that request help, its first line, and words that it has, with commas between them. The whole
+# help has lines of at most 80 characters. The root isn't read.
 machine_helps() {
-  local row word words
+  local row first has word words
+  while IFS='>' read -r row first has; do
+    IFS='|' read -r -a words <<<"$row"
+    machine_run "${words[@]}"
+    {
+      [ "$(head -n 1 "$work/out")" = "$first" ] || echo "the first line isn't: $first"
+      IFS=, read -r -a words <<<"$has"
+      for word in "${words[@]}"; do
+        grep -qwe "$word" "$work/out" || echo "no word $word"
+      done
+      grep -nE '.{81}' "$work/out"
+    } >"$work/help.wanted"
+    # nothing is wanted of these lines
+    mv -- "$work/help.wanted" "$work/out"
+    machine_compare "help by '$row'" /dev/null /dev/null 0 none
+  done
+}
+
+# Rows of a command, and of the own options that its help has: those that change something, and no others.
+machine_help_options() {
+  local command options
+  while IFS='>' read -r command options; do
+    machine_run "$command" --help
+    printf '%s\n' "${options//,/$'\n'}" | sort >"$work/out.wanted"
+    grep -oE '^  (-., )?--[a-z]+' "$work/out" | grep -oE '[a-z]+$' |
+      grep -xE 'root|all|utc|strict|nominal|table|text|help|version' | sort >"$work/options"
+    mv -- "$work/options" "$work/out"
+    machine_compare "the own options in the help of $command" "$work/out.wanted" /dev/null 0 none
+  done
+}
+
+# --version prints what agenda's prints, and nothing else is read.
+machine_versions() {
+  local row words
+  while IFS= read -r row; do
+    IFS='|' read -r -a words <<<"$row"
+    printf 'agenda 7.7.7\nproved\n' >"$work/out.wanted"
+    echo --version >"$work/words.wanted"
+    MACHINE_SAYS='agenda 7.7.7\nproved\n' machine_run "${words[@]}"
+    machine_compare "version by '$row'" "$work/out.wanted" /dev/null 0 words "$work/words.wanted"
+  done
+  MACHINE_STATUS=3 machine_run --version
+  machine_compare "a version that can't be printed" /dev/null /dev/null 3 words "$work/words.wanted"
+}
+
+# Rows of arguments that differ only in where the own options are: agenda gets the same as in the first row.
+machine_places() {
+  local row words first=
+  machine_make 'etc/crontab U/a.timer U/b.timer *a.timer E/b.timer.d/x.conf'
   while IFS= read -r row; do
     IFS='|' read -r -a words <<<"$row"
     machine_run "${words[@]}"
-    cp "$work/out" "$work/out.wanted"
-    for word in agenda-machine --root --all --strict --nominal --delays plan upcoming quiet check sources; do
-      grep -qe "$word" "$work/out" || echo "no word of $word" >>"$work/out.wanted"
-    done
-    machine_compare "help by '$row'" "$work/out.wanted" /dev/null 0 none
+    if [ -z "$first" ]; then
+      first=$row
+      cp "$work/out" "$work/out.wanted"
+      [ ! -e "$MACHINE_LOG.words" ] || cp "$MACHINE_LOG.words" "$work/words.wanted"
+    fi
+    if [[ $row = *sources* ]]; then
+      machine_compare "'$row' and '$first'" "$work/out.wanted" /dev/null 0 none
+    else
+      machine_compare "'$row' and '$first'" "$work/out.wanted" /dev/null 0 words "$work/words.wanted"
+    fi
   done
 }
 
@@ -118,7 +172,7 @@ U/a.timer||
 C/a C/_ C/B C/0 C/- C/aa C/a-|C/- C/0 C/B C/_ C/a C/a- C/aa|
 S/a S/_ S/B S/0 S/- S/a.b S/a. S/a0|S/- S/0 S/B S/_ S/a S/a. S/a.b S/a0|
 C/.a C/.b.c S/.a S/.b~ C/.c/ S/.c>nowhere||
-etc/cron.daily/a etc/anacrontab var/spool/cron/a var/spool/cron/crontabs.x/a||
+etc/cron.daily/a S/ F/a F/crontabs.x/a T/a||
 ROWS
 
 # What can't be a source, and which of the reasons is reported.
@@ -136,7 +190,6 @@ C/a>nowhere C/b>/dev/null C/c>c C/d>e C/e>d C/f>/opt opt/x||C/a not readable,C/b
 S/a>nowhere S/b>/dev/null S/c>c||S/a not readable,S/b not readable,S/c not readable
 C/a.b/ C/c.d>nowhere C/e~! S/a~/ S/b~>nowhere||C/a.b bad name,C/c.d bad name,C/e~ bad name,S/a~ bad name,S/b~ bad name
 etc/cron.d||etc/cron.d not readable
-var/spool/cron/crontabs||var/spool/cron/crontabs not readable
 etc/cron.d>nowhere||etc/cron.d not readable
 etc/cron.d>cron.d||etc/cron.d not readable
 etc/systemd/system U/x.target.wants/a.timer>x U/a.timer|U/a.timer|etc/systemd/system not readable
@@ -164,22 +217,69 @@ C/system S/system|C/system S/system=system.user|
 etc/crontab/ C/system|C/system|etc/crontab not readable
 ROWS
 
+# The users' crontabs where there is no directory var/spool/cron/crontabs: those of SUSE, or else those of Fedora,
+# RHEL and Arch.
+machine_sources <<'ROWS'
+T/a T/b.c etc/crontab|etc/crontab T/a T/b.c|
+T/a F/b|T/a|
+T/ F/b||
+T/.a T/a~ T/b T/c/|T/b|T/a~ bad name,T/c not readable
+C/a T/a|C/a T/a=a.user|
+C/a T/a T/a.user|C/a T/a.user|T/a name taken
+F/a F/b.c etc/crontab|etc/crontab F/a F/b.c|
+F/root F/.b F/c~ F/d#e|F/root|F/c~ bad name,F/d#e bad name
+F/a F/atjobs/.SEQ F/atspool/x F/lastrun/cron.daily F/b~/|F/a|
+C/a F/a|C/a F/a=a.user|
+C/a F/a F/a.user|C/a F/a.user|F/a name taken
+F/a>nowhere F/b>/opt/b opt/b F/c>atspool F/atspool/ F/d!|F/b|F/a not readable,F/d not readable
+etc/crontab F/system|etc/crontab|F/system name taken
+F/||
+ROWS
+
+# What is named as a directory of crontabs, but is none. A user may have that name.
+machine_sources <<'ROWS'
+F/crontabs F/tabs F/a|F/a F/crontabs F/tabs|
+F/crontabs T/a|T/a|
+F/tabs F/a S/b|S/b|
+F/crontabs>/opt/c opt/c/a T/b|F/crontabs/a|
+F/crontabs>/opt/c opt/c T/b|T/b|
+F/crontabs>nowhere T/a F/b||F/crontabs not readable
+F/crontabs>crontabs T/a F/b||F/crontabs not readable
+F/crontabs! T/a F/b||F/crontabs not readable
+F/tabs>nowhere F/a||F/tabs not readable
+var/spool/cron||var/spool/cron not readable
+var/spool/cron>nowhere||var/spool/cron not readable
+var/spool/cron>/opt/s opt/s/a|F/a|
+var/spool/cron>/opt/s opt/s/tabs/a opt/s/b|T/a|
+ROWS
+
 machine_usage <<'ROWS'
 
 frob
 steps
-next|--cron|@daily
---version
+help
 -r|root|sources
 --root
 --root|root
---root=root|sources
+plan|--root
+plan|x|--root
+--root|root|sources|--root|root
+--root=root|plan|--root=root
 --all
+--utc
 --strict
 --strict=yes|sources
 --nominal
 --nominal=yes|quiet
+plan|--nominal=yes
+plan|--all=
+upcoming|--table=no
+upcoming|--text=
+--table
+--text
 --delays|quiet
+--json|plan
+--zone|UTC|plan
 --all|--strict|--nominal|--root|root
 --root|root|strict|plan
 --all|--root|root
@@ -188,11 +288,9 @@ next|--cron|@daily
 --root|root|frob
 --root|root||
 --root|root|sources|x
---root|root|sources|--all
---root|root|sources|--strict
---root|root|sources|--nominal
---root|root|sources|--help
+--root|root|sources|plan
 --root|root|sources|--
+--root|root|sources|--json
 --root|root|sources|--since|2024-01-01T00:00:00Z
 --root|root|all|plan
 --root|missing|frob
@@ -202,21 +300,105 @@ next|--cron|@daily
 --root|root|plan|--since|frob
 --root|root|plan|--since=frob
 --root|root|plan|--upto|frob
+--root|root|plan|--until|frob
+--root|root|plan|--until=frob
 --root|root|plan|--upto=frob|--since|2024-01-01T00:00:00Z
 --root|root|quiet|--upto|+frob
 --root|root|quiet|--since|+frob
+--root|root|quiet|--since|-frob
+--root|root|quiet|--until|-1
+--root|root|quiet|--until|+8y
+--root|root|quiet|--until|+8m
+--root|root|quiet|--until|+1.5h
+--root|root|quiet|--until|+h
+--root|root|quiet|--until|+
+--root|root|quiet|--until|+99999999999999999999h
+--root|root|quiet|--until|2024-01-01T00:00:00ZZ
 --root|root|plan|--since|--upto
 --root|root|upcoming|--after|frob
 --root|root|upcoming|--after=frob
+--root|root|upcoming|--after|tomorow
+--root|root|next
+--root|root|next|--count|5
+--root|root|next|--utc
+--root|root|next|--
+--root|root|next|30|4|*|*|*
+--root|root|next|@daily|@weekly
+--root|root|next|@daily|--|@weekly
+--root|root|next|@daily|--after|frob
 ROWS
 
 machine_helps <<'ROWS'
---help
---all|--help
---strict|--help
---nominal|--help
---root|root|--help
---root|missing|--help
+--help>Shows when the cron jobs and systemd timers of this machine will run>plan,upcoming,quiet,check,sources,next,root,all,utc,strict,nominal,table,text,help,version
+-h>Shows when the cron jobs and systemd timers of this machine will run>plan
+--help|plan>Shows when the cron jobs and systemd timers of this machine will run>plan
+--all|--help>Shows when the cron jobs and systemd timers of this machine will run>plan
+--strict|--nominal|--utc|--table|--text|-h>Shows when the cron jobs and systemd timers of this machine will run>plan
+--root|root|--help>Shows when the cron jobs and systemd timers of this machine will run>plan
+--root|missing|--help>Shows when the cron jobs and systemd timers of this machine will run>plan
+plan|--help>Lists all starts of the machine's jobs in a span of time>since,until,upto,delays,limit,zone,local,json,crontab,spool
+plan|-h>Lists all starts of the machine's jobs in a span of time>plan
+--all|plan|x|--since|frob|--help>Lists all starts of the machine's jobs in a span of time>plan
+--root|missing|plan|-hx>Lists all starts of the machine's jobs in a span of time>plan
+upcoming|--help>Lists when each of the machine's jobs starts next>after,delays,zone,local,json,cron-d
+quiet|--help>Lists the gaps in which no job of the machine can start>since,until,upto,least,limit,zone,local,json,system-crontab
+check|--help>Reports errors and likely mistakes in the machine's crontabs and timers>zone,json,crontab
+check|-h>Reports errors and likely mistakes in the machine's crontabs and timers>check
+sources|--help>Lists the crontabs and timers that were found on the machine>sources
+--root|missing|sources|x|-h>Lists the crontabs and timers that were found on the machine>sources
+next|--help>Lists the next starts of a rule that you give, in the machine's time zone>count,after,zone,local,json
+next|@daily|@weekly|-h>Lists the next starts of a rule that you give, in the machine's time zone>next
+ROWS
+machine_help_options <<'ROWS'
+plan>root,all,utc,strict,table,text,help,version
+upcoming>root,all,utc,strict,table,text,help,version
+quiet>root,all,utc,strict,nominal,table,text,help,version
+check>root,all,utc,help,version
+sources>root,all,help,version
+next>root,utc,table,text,help,version
+ROWS
+
+machine_versions <<'ROWS'
+--version
+-V
+--root|missing|--version
+plan|--version
+plan|--since|frob|-V
+sources|x|--version
+next|--version
+check|-Vx
+ROWS
+
+# Own options before and after the command.
+machine_places <<'ROWS'
+--root|root|plan|--since|2024-01-01T00:00:00Z
+--root=root|plan|--since|2024-01-01T00:00:00Z
+plan|--root|root|--since|2024-01-01T00:00:00Z
+plan|--root=root|--since|2024-01-01T00:00:00Z
+plan|--since|2024-01-01T00:00:00Z|--root|root
+plan|--since|2024-01-01T00:00:00Z|--root=root
+--text|plan|--since|2024-01-01T00:00:00Z|--root=root
+plan|--text|--since|2024-01-01T00:00:00Z|--root=root
+plan|--table|--since|2024-01-01T00:00:00Z|--text|--root=root
+--table|plan|--since|2024-01-01T00:00:00Z|--root=root|--text
+ROWS
+machine_places <<'ROWS'
+--root|root|--all|upcoming|--after|2024-01-01T00:00:00Z
+--root|root|upcoming|--all|--after|2024-01-01T00:00:00Z
+upcoming|--after|2024-01-01T00:00:00Z|--all|--root|root
+--all|upcoming|--after|2024-01-01T00:00:00Z|--all|--root|root
+ROWS
+machine_places <<'ROWS'
+--root|root|--all|sources
+--root|root|sources|--all
+sources|--all|--root=root
+sources|--all|--root=root|--strict|--nominal|--utc|--table|--text
+ROWS
+machine_places <<'ROWS'
+--root|root|--strict|--nominal|--utc|quiet|--since|2024-01-01T00:00:00Z
+quiet|--root|root|--strict|--nominal|--utc|--since|2024-01-01T00:00:00Z
+quiet|--since|2024-01-01T00:00:00Z|--root|root|--strict|--nominal|--utc
+--strict|quiet|--since|2024-01-01T00:00:00Z|--nominal|--root|root|--utc
 ROWS
 
 machine_no_folders <<'ROWS'
@@ -249,11 +431,75 @@ machine_words <<'ROWS'
 check>check|FILES|--event-zones
 check|--since|yesterday|x.timer>check|FILES|--event-zones|--since|yesterday|x.timer
 check|--|--upto>check|FILES|--event-zones|--|--upto
-check|--help>check|FILES|--event-zones|--help
 plan|--since|2024-01-01T00:00:00Z|--upto|2024-01-02T00:00:00Z>plan|FILES|--event-zones|--keep-going|--since|2024-01-01T00:00:00Z|--upto|2024-01-02T00:00:00Z
 plan|--limit|5|--since=2024-01-01T00:00:00Z|x y|--upto=2024-01-02T00:00:00Z|z>plan|FILES|--event-zones|--keep-going|--limit|5|--since=2024-01-01T00:00:00Z|x y|--upto=2024-01-02T00:00:00Z|z
 quiet|--least|9|--since|2024-01-01T00:00:00Z>quiet|FILES|--event-zones|--keep-going|--delays|--upto|2024-01-02T00:00:00Z|--least|9|--since|2024-01-01T00:00:00Z
 upcoming|x|--after|2024-01-01T00:00:00Z|--|y>upcoming|FILES|--event-zones|--keep-going|x|--after|2024-01-01T00:00:00Z|--|y
+ROWS
+
+# Own options after a `--`, and where they are the value of an option of agenda, are arguments for agenda.
+machine_words <<'ROWS'
+check|--|--all|--root|x|--help>check|FILES|--event-zones|--|--all|--root|x|--help
+check|--crontab|--all>check|FILES|--event-zones|--crontab|--all
+check|--cron-d|--help>check|FILES|--event-zones|--cron-d|--help
+check|--crontab=--all>check|FILES|--event-zones|--crontab=--all
+check|--spool|--|--all>check|FILES|--event-zones|--spool|--|--all
+upcoming|--after|2024-01-01T00:00:00Z|--system-crontab|--version|x>upcoming|FILES|--event-zones|--keep-going|--after|2024-01-01T00:00:00Z|--system-crontab|--version|x
+plan|--since|2024-01-01T00:00:00Z|--limit|--strict>plan|FILES|--event-zones|--keep-going|--upto|2024-01-02T00:00:00Z|--since|2024-01-01T00:00:00Z|--limit|--strict
+ROWS
+
+# --utc, and a --zone beside it.
+machine_words <<'ROWS'
+--utc|check>check|FILES|--zone|UTC|--event-zones
+check|--utc>check|FILES|--zone|UTC|--event-zones
+check|--utc|--zone|x y>check|FILES|--event-zones|--zone|x y
+--utc|check|--zone=x>check|FILES|--event-zones|--zone=x
+upcoming|--utc|--after|2024-01-01 12:00>upcoming|FILES|--zone|UTC|--event-zones|--keep-going|--after|2024-01-01T12:00:00Z
+ROWS
+
+# Lengths of --least: with units they become seconds. agenda reports any other text.
+machine_words <<'ROWS'
+quiet|--since|2024-01-01T00:00:00Z|--least|3600>quiet|FILES|--event-zones|--keep-going|--delays|--upto|2024-01-02T00:00:00Z|--since|2024-01-01T00:00:00Z|--least|3600
+quiet|--since|2024-01-01T00:00:00Z|--least|1h>quiet|FILES|--event-zones|--keep-going|--delays|--upto|2024-01-02T00:00:00Z|--since|2024-01-01T00:00:00Z|--least|3600
+quiet|--since|2024-01-01T00:00:00Z|--least=90min>quiet|FILES|--event-zones|--keep-going|--delays|--upto|2024-01-02T00:00:00Z|--since|2024-01-01T00:00:00Z|--least=5400
+quiet|--since|2024-01-01T00:00:00Z|--least|2d>quiet|FILES|--event-zones|--keep-going|--delays|--upto|2024-01-02T00:00:00Z|--since|2024-01-01T00:00:00Z|--least|172800
+quiet|--since|2024-01-01T00:00:00Z|--least|1w>quiet|FILES|--event-zones|--keep-going|--delays|--upto|2024-01-02T00:00:00Z|--since|2024-01-01T00:00:00Z|--least|604800
+quiet|--since|2024-01-01T00:00:00Z|--least|45s>quiet|FILES|--event-zones|--keep-going|--delays|--upto|2024-01-02T00:00:00Z|--since|2024-01-01T00:00:00Z|--least|45
+quiet|--since|2024-01-01T00:00:00Z|--least|08h>quiet|FILES|--event-zones|--keep-going|--delays|--upto|2024-01-02T00:00:00Z|--since|2024-01-01T00:00:00Z|--least|28800
+quiet|--since|2024-01-01T00:00:00Z|--least|1h30min>quiet|FILES|--event-zones|--keep-going|--delays|--upto|2024-01-02T00:00:00Z|--since|2024-01-01T00:00:00Z|--least|5400
+quiet|--since|2024-01-01T00:00:00Z|--least|2 hours 5 minutes>quiet|FILES|--event-zones|--keep-going|--delays|--upto|2024-01-02T00:00:00Z|--since|2024-01-01T00:00:00Z|--least|7500
+quiet|--since|2024-01-01T00:00:00Z|--least|4294967295s>quiet|FILES|--event-zones|--keep-going|--delays|--upto|2024-01-02T00:00:00Z|--since|2024-01-01T00:00:00Z|--least|4294967295
+quiet|--since|2024-01-01T00:00:00Z|--least|4294967296s>quiet|FILES|--event-zones|--keep-going|--delays|--upto|2024-01-02T00:00:00Z|--since|2024-01-01T00:00:00Z|--least|4294967296s
+quiet|--since|2024-01-01T00:00:00Z|--least|99999999999999999999h>quiet|FILES|--event-zones|--keep-going|--delays|--upto|2024-01-02T00:00:00Z|--since|2024-01-01T00:00:00Z|--least|99999999999999999999h
+quiet|--since|2024-01-01T00:00:00Z|--least|1m>quiet|FILES|--event-zones|--keep-going|--delays|--upto|2024-01-02T00:00:00Z|--since|2024-01-01T00:00:00Z|--least|1m
+quiet|--since|2024-01-01T00:00:00Z|--least|1.5h>quiet|FILES|--event-zones|--keep-going|--delays|--upto|2024-01-02T00:00:00Z|--since|2024-01-01T00:00:00Z|--least|1.5h
+quiet|--since|2024-01-01T00:00:00Z|--least|+1h>quiet|FILES|--event-zones|--keep-going|--delays|--upto|2024-01-02T00:00:00Z|--since|2024-01-01T00:00:00Z|--least|+1h
+quiet|--since|2024-01-01T00:00:00Z|--least|h>quiet|FILES|--event-zones|--keep-going|--delays|--upto|2024-01-02T00:00:00Z|--since|2024-01-01T00:00:00Z|--least|h
+quiet|--since|2024-01-01T00:00:00Z|--least|1h30>quiet|FILES|--event-zones|--keep-going|--delays|--upto|2024-01-02T00:00:00Z|--since|2024-01-01T00:00:00Z|--least|1h30
+quiet|--since|2024-01-01T00:00:00Z|--least>quiet|FILES|--event-zones|--keep-going|--delays|--upto|2024-01-02T00:00:00Z|--since|2024-01-01T00:00:00Z|--least
+quiet|--since|2024-01-01T00:00:00Z|--|--least|1h>quiet|FILES|--event-zones|--keep-going|--delays|--upto|2024-01-02T00:00:00Z|--since|2024-01-01T00:00:00Z|--|--least|1h
+ROWS
+
+# next reads no sources, and gives agenda the rule first. After a `--` stands a rule too.
+machine_words <<'ROWS'
+next|30 4 * * *|--after|2024-01-01T00:00:00Z>next|--cron=30 4 * * *|--event-zones|--after|2024-01-01T00:00:00Z
+next|--after|2024-01-01T00:00:00Z|30 4 * * *>next|--cron=30 4 * * *|--event-zones|--after|2024-01-01T00:00:00Z
+next|@daily|--after|2024-01-01T00:00:00Z|--count|3>next|--cron=@daily|--event-zones|--after|2024-01-01T00:00:00Z|--count|3
+next|@frob x|--after=2024-01-01T00:00:00Z>next|--cron=@frob x|--event-zones|--after=2024-01-01T00:00:00Z
+next|  1	2 3  4 5 |--after=2024-01-01T00:00:00Z>next|--cron=  1	2 3  4 5 |--event-zones|--after=2024-01-01T00:00:00Z
+next|1 2 3 4|--after=2024-01-01T00:00:00Z>next|--calendar=1 2 3 4|--event-zones|--after=2024-01-01T00:00:00Z
+next|1 2 3 4 5 6|--after=2024-01-01T00:00:00Z>next|--calendar=1 2 3 4 5 6|--event-zones|--after=2024-01-01T00:00:00Z
+next|daily|--after=2024-01-01T00:00:00Z>next|--calendar=daily|--event-zones|--after=2024-01-01T00:00:00Z
+next|Mon..Fri 09:00 Europe/Berlin|--after=2024-01-01T00:00:00Z>next|--calendar=Mon..Fri 09:00 Europe/Berlin|--event-zones|--after=2024-01-01T00:00:00Z
+next||--after=2024-01-01T00:00:00Z>next|--calendar=|--event-zones|--after=2024-01-01T00:00:00Z
+next|--after=2024-01-01T00:00:00Z|--|-1 * * * *>next|--cron=-1 * * * *|--event-zones|--after=2024-01-01T00:00:00Z
+next|--after=2024-01-01T00:00:00Z|--|--count>next|--calendar=--count|--event-zones|--after=2024-01-01T00:00:00Z
+next|--cron|30 4 * * *|--after=2024-01-01T00:00:00Z>next|--event-zones|--cron|30 4 * * *|--after=2024-01-01T00:00:00Z
+next|--calendar=daily|--after=2024-01-01T00:00:00Z>next|--event-zones|--calendar=daily|--after=2024-01-01T00:00:00Z
+next|@daily|--event-zones|--after=2024-01-01T00:00:00Z>next|--cron=@daily|--event-zones|--after=2024-01-01T00:00:00Z
+next|@daily|--utc|--after|2024-01-01 12:00>next|--cron=@daily|--zone|UTC|--event-zones|--after|2024-01-01T12:00:00Z
+--strict|--nominal|--all|next|@daily|--after=2024-01-01T00:00:00Z>next|--cron=@daily|--event-zones|--after=2024-01-01T00:00:00Z
+next|@daily|--json|--after=2024-01-01T00:00:00Z|--local>next|--cron=@daily|--event-zones|--json|--after=2024-01-01T00:00:00Z|--local
 ROWS
 
 # The caller's own --keep-going, which agenda accepts once, and --strict. After a `--`, and as the value of

@@ -232,10 +232,11 @@ package_runs() {
     "2024-01-01T03:00:00Z${tab}a.timer${tab}a.service"$'\n'"2024-01-01T04:00:00Z${tab}system:1${tab}root b"$'\n'
 }
 
-# Makes what the rows read: a crontab, and a machine's root with a crontab and an enabled timer.
+# Makes what the rows read: a crontab, and a machine's root with cron, a crontab and an enabled timer.
 package_make_files() {
   local units=$package_dir/root/usr/lib/systemd/system enabled=$package_dir/root/etc/systemd/system/timers.target.wants
-  mkdir -p "$package_dir" "$units" "$enabled"
+  mkdir -p "$package_dir" "$units" "$enabled" "$package_dir/root/usr/sbin"
+  : >"$package_dir/root/usr/sbin/cron"
   echo '30 1 * * * dump-database' >"$package_dir/jobs"
   echo '0 4 * * * root b' >"$package_dir/root/etc/crontab"
   printf '[Timer]\nOnCalendar=3:00\n' >"$units/a.timer"
@@ -802,8 +803,13 @@ package_lists "the files of the archive" "$package_archive/" share/doc/agenda <<
 755 share/
 755 share/agenda/
 755 share/agenda/machine/
+644 share/agenda/machine/help.sh
 644 share/agenda/machine/links.sh
+644 share/agenda/machine/moments.sh
+644 share/agenda/machine/others.sh
 644 share/agenda/machine/sources.sh
+644 share/agenda/machine/table.awk
+644 share/agenda/machine/table.sh
 644 share/agenda/machine/texts.sh
 644 share/agenda/machine/units.sh
 644 share/agenda/machine/zone.sh
@@ -833,8 +839,13 @@ ROWS
 package_unpacks
 package_same "$package_dir/un packed/moved to" <<'ROWS'
 bin/agenda-machine bin/agenda-machine
+bin/lib/machine/help.sh share/agenda/machine/help.sh
 bin/lib/machine/links.sh share/agenda/machine/links.sh
+bin/lib/machine/moments.sh share/agenda/machine/moments.sh
+bin/lib/machine/others.sh share/agenda/machine/others.sh
 bin/lib/machine/sources.sh share/agenda/machine/sources.sh
+bin/lib/machine/table.awk share/agenda/machine/table.awk
+bin/lib/machine/table.sh share/agenda/machine/table.sh
 bin/lib/machine/texts.sh share/agenda/machine/texts.sh
 bin/lib/machine/units.sh share/agenda/machine/units.sh
 bin/lib/machine/zone.sh share/agenda/machine/zone.sh
@@ -865,8 +876,13 @@ if ! passed_over "the package" dpkg-deb readelf; then
 755 usr/share/
 755 usr/share/agenda/
 755 usr/share/agenda/machine/
+644 usr/share/agenda/machine/help.sh
 644 usr/share/agenda/machine/links.sh
+644 usr/share/agenda/machine/moments.sh
+644 usr/share/agenda/machine/others.sh
 644 usr/share/agenda/machine/sources.sh
+644 usr/share/agenda/machine/table.awk
+644 usr/share/agenda/machine/table.sh
 644 usr/share/agenda/machine/texts.sh
 644 usr/share/agenda/machine/units.sh
 644 usr/share/agenda/machine/zone.sh
@@ -897,8 +913,13 @@ ROWS
   package_fields
   package_same "$package_dir/files" <<'ROWS'
 bin/agenda-machine usr/bin/agenda-machine
+bin/lib/machine/help.sh usr/share/agenda/machine/help.sh
 bin/lib/machine/links.sh usr/share/agenda/machine/links.sh
+bin/lib/machine/moments.sh usr/share/agenda/machine/moments.sh
+bin/lib/machine/others.sh usr/share/agenda/machine/others.sh
 bin/lib/machine/sources.sh usr/share/agenda/machine/sources.sh
+bin/lib/machine/table.awk usr/share/agenda/machine/table.awk
+bin/lib/machine/table.sh usr/share/agenda/machine/table.sh
 bin/lib/machine/texts.sh usr/share/agenda/machine/texts.sh
 bin/lib/machine/units.sh usr/share/agenda/machine/units.sh
 bin/lib/machine/zone.sh usr/share/agenda/machine/zone.sh
@@ -961,8 +982,13 @@ package_installed <<'ROWS'
 755 usr/local/share/
 755 usr/local/share/agenda/
 755 usr/local/share/agenda/machine/
+644 usr/local/share/agenda/machine/help.sh
 644 usr/local/share/agenda/machine/links.sh
+644 usr/local/share/agenda/machine/moments.sh
+644 usr/local/share/agenda/machine/others.sh
 644 usr/local/share/agenda/machine/sources.sh
+644 usr/local/share/agenda/machine/table.awk
+644 usr/local/share/agenda/machine/table.sh
 644 usr/local/share/agenda/machine/texts.sh
 644 usr/local/share/agenda/machine/units.sh
 644 usr/local/share/agenda/machine/zone.sh

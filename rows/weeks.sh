@@ -131,9 +131,9 @@ weeks_cells() {
     { for (h = 1; h <= 24; h++) printf "%s:%s%s", ($h == 0 ? "" : $h), colour($h), (h < 24 ? " " : "\n") }'
 }
 
-# Draws week.agenda, and keeps the cells of both pictures in the files `svg` and `png`.
+# Draws week.json, and keeps the cells of both pictures in the files `svg` and `png`.
 weeks_draw() {
-  run_in "$weeks_folder" gnuplot week.gnuplot
+  run_in "$weeks_folder" gnuplot -c week.gnuplot "$weeks_since" "$weeks_upto"
   compare_texts "the picture of $1" '' '' 0
   weeks_svg >"$weeks_folder/svg"
   weeks_png >"$weeks_folder/png"
@@ -146,8 +146,8 @@ weeks_drawn() {
   shift
   weeks_cells >"$weeks_folder/cells"
   sed 's/[0-9]*://g' "$weeks_folder/cells" >"$weeks_folder/colours"
-  run_in "$weeks_folder" agenda plan --since "$weeks_since" --upto "$weeks_upto" "$@"
-  cp -- "$work/out" "$weeks_folder/week.agenda"
+  run_in "$weeks_folder" agenda plan --json --since "$weeks_since" --upto "$weeks_upto" "$@"
+  cp -- "$work/out" "$weeks_folder/week.json"
   weeks_draw "$name"
   diff "$weeks_folder/cells" "$weeks_folder/svg" >"$work/told" 2>&1
   count "the numbers and the colours in week.svg of $name"
@@ -161,28 +161,34 @@ weeks_differ() {
   [ "$(cat "$work/differs")" = "$3c$3" ] || tell "$2 differs otherwise: $(tr '\n' ' ' <"$work/differs")"
 }
 
-# A picture without the last start differs from that of the agenda that was drawn last in the cell $1, and only there.
+# A picture without the last start differs from that of the plan that was drawn last in the cell $1, and only there.
 weeks_wrong() {
-  sed -i '$d' "$weeks_folder/week.agenda"
+  sed -i '$d' "$weeks_folder/week.json"
   weeks_draw "a week with a missing start"
   weeks_differ cells svg "$1"
   weeks_differ colours png "$1"
   count "the cells of a picture with a missing start"
 }
 
-# A plan that is rejected gives no picture, and the status isn't 0.
+# A file that is missing, or isn't JSON, gives no picture, and the status isn't 0.
 weeks_no_picture() {
-  rm -f "$weeks_folder"/week.{agenda,png,svg}
-  : >"$weeks_folder/week.agenda"
+  rm -f "$weeks_folder"/week.{json,png,svg}
+  for _ in missing text; do
+    run_in "$weeks_folder" gnuplot -c week.gnuplot "$weeks_since" "$weeks_upto"
+    [ "$status" = 1 ] || tell "status $status, and not 1"
+    grep -q "week.json has no plan" "$work/err" || tell "standard error doesn't say that there is no plan"
+    [ -z "$(find "$weeks_folder" -name 'week.[ps][nv]g')" ] || tell "there is a picture"
+    count "no plan as a picture"
+    echo 'agenda 2' >"$weeks_folder/week.json"
+  done
   run_in "$weeks_folder" gnuplot week.gnuplot
   [ "$status" = 1 ] || tell "status $status, and not 1"
-  grep -q "week.agenda has no agenda" "$work/err" || tell "standard error doesn't say that there is no agenda"
-  [ -z "$(find "$weeks_folder" -name 'week.[ps][nv]g')" ] || tell "there is a picture"
-  count "no agenda as a picture"
+  grep -q "usage: gnuplot -c week.gnuplot SINCE UPTO" "$work/err" || tell "standard error doesn't say how to use it"
+  count "a picture without a span"
 }
 
 weeks_pictures() {
-  ! passed_over "the pictures of rows/weeks.sh" gnuplot || return
+  ! passed_over "the pictures of rows/weeks.sh" gnuplot jq || return
   weeks_no_picture
   weeks_drawn "the example" --crontab crontab --system-crontab etc-crontab mirror.timer <<'COUNTS'
 1 2 0 0 0 0 3 13 13 13 13 13 14 13 13 13 13 13 14 7 7 1 1 0

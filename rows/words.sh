@@ -46,9 +46,9 @@ Options:
   -V, --version  Print version
 
 Times are given and printed in UTC, for the years 1970 to 2999. Rules are read in UTC, or
-in the time zone that you give with --zone. agenda-machine(1) finds the crontabs, the
-timers and the time zone of a machine. agenda(1) describes the formats, the limits and
-every error.
+in the time zone that you give with --zone; --local prints times in that zone, too.
+agenda-machine(1) finds the crontabs, the timers and the time zone of a machine. agenda(1)
+describes the formats, the limits and every error.
 
 Examples:
   agenda next --cron @daily --after 2024-01-01T00:00:00Z
@@ -65,7 +65,7 @@ words_make_help_of_next() {
   cat >"$work/words/next.text" <<'END'
 Prints the next starts of one rule
 
-Usage: agenda next --after <T> [--zone <ZONE>] [--event-zones] [--count <N>] (--cron <TEXT> | --calendar <TEXT>)
+Usage: agenda next [OPTIONS] --after <T> (--cron <TEXT> | --calendar <TEXT>)
 
 Options:
       --after <T>        Only starts later than this time, in UTC, such as
@@ -78,10 +78,15 @@ Options:
       --cron <TEXT>      A cron rule: minute, hour, day of month, month and day
                          of week, or @hourly, @daily, @weekly, @monthly, @yearly
       --calendar <TEXT>  A calendar event, such as 'Mon..Fri *-*-* 04:30' or daily
+      --json             Print each line as a JSON object; agenda(1)
+                         describes the keys
+      --local            Print times in the time zone of --zone, such as
+                         2024-03-31T03:00:00+02:00
   -h, --help             Print help
 
 Give exactly one of --cron and --calendar. Prints one time per line. If the rule has fewer
-starts before the year 3000, the last line is 'none'. agenda(1) describes both grammars.
+starts before the year 3000, the last line is 'none'. With --json, there is no such line.
+agenda(1) describes both grammars.
 
 Example:
   agenda next --cron '30 4 1,15 * 5' --after 2024-01-01T00:00:00Z --count 4
@@ -102,7 +107,7 @@ Options:
       --since <T>           The start of the span, in UTC, such as
                             2024-01-01T00:00:00Z; the years are 1970 to 2999
       --upto <T>            The end of the span, written in the same way; a start
-                            at this time isn't included
+                            at this time isn't included [alias: --until]
       --zone <ZONE>         The time zone of the rules, such as Europe/Berlin,
                             or the path of a TZif file; UTC if it isn't given
       --event-zones         Read events that end with a time zone, such as
@@ -110,6 +115,10 @@ Options:
       --keep-going          Skip what is invalid or can't be read, and report it
       --delays              Show each start with the latest time at which it may
                             happen (RandomizedDelaySec= and AccuracySec=)
+      --json                Print each line as a JSON object; agenda(1)
+                            describes the keys
+      --local               Print times in the time zone of --zone, such as
+                            2024-03-31T03:00:00+02:00
       --crontab <F>         A user's crontab, as 'crontab -l' prints it
       --system-crontab <F>  A crontab whose lines name a user, such as
                             /etc/crontab
@@ -130,8 +139,8 @@ Prints a header line with the span and the number of starts, then a line for eac
 the time, the job's name and what it runs, separated by tabs. Lines are sorted by time.
 Jobs that start at the same time are in this order: the user's crontab, the system
 crontab, --cron-d, --spool, timers. With --delays, the latest time follows the time, and
-a start before --since is included if it may be delayed into the span. agenda(1) describes
-the formats of the files.
+a start before --since is included if it may be delayed into the span. With --json, there
+is no header. agenda(1) describes the formats of the files.
 
 Example:
   agenda plan --since 2024-01-01T00:00:00Z --upto 2024-01-02T00:00:00Z \
@@ -158,6 +167,10 @@ Options:
       --keep-going          Skip what is invalid or can't be read, and report it
       --delays              Show each start with the latest time at which it may
                             happen (RandomizedDelaySec= and AccuracySec=)
+      --json                Print each line as a JSON object; agenda(1)
+                            describes the keys
+      --local               Print times in the time zone of --zone, such as
+                            2024-03-31T03:00:00+02:00
       --crontab <F>         A user's crontab, as 'crontab -l' prints it
       --system-crontab <F>  A crontab whose lines name a user, such as
                             /etc/crontab
@@ -170,7 +183,8 @@ Options:
 Prints a line for each job: the time of its next start, the job's name and what it runs,
 separated by tabs. Lines are sorted by time, then by job, as in plan. Jobs that don't
 start again before the year 3000 come last, with 'none' instead of a time. With --delays,
-the latest time follows the time. agenda(1) describes the formats of the files.
+the latest time follows the time. With --json, null stands for 'none'. agenda(1) describes
+the formats of the files.
 
 Example:
   agenda upcoming --after 2024-01-01T00:00:00Z --crontab jobs backup.timer
@@ -190,7 +204,7 @@ Options:
       --since <T>           The start of the span, in UTC, such as
                             2024-01-01T00:00:00Z; the years are 1970 to 2999
       --upto <T>            The end of the span, written in the same way; a start
-                            at this time isn't included
+                            at this time isn't included [alias: --until]
       --zone <ZONE>         The time zone of the rules, such as Europe/Berlin,
                             or the path of a TZif file; UTC if it isn't given
       --event-zones         Read events that end with a time zone, such as
@@ -198,6 +212,10 @@ Options:
       --keep-going          Skip what is invalid or can't be read, and report it
       --delays              Show gaps in which no job may start, delays included
                             (RandomizedDelaySec= and AccuracySec=)
+      --json                Print each line as a JSON object; agenda(1)
+                            describes the keys
+      --local               Print times in the time zone of --zone, such as
+                            2024-03-31T03:00:00+02:00
       --crontab <F>         A user's crontab, as 'crontab -l' prints it
       --system-crontab <F>  A crontab whose lines name a user, such as
                             /etc/crontab
@@ -241,6 +259,8 @@ Options:
                             or the path of a TZif file; UTC if it isn't given
       --event-zones         Read events that end with a time zone, such as
                             'Mon..Fri 09:00 Europe/Berlin'
+      --json                Print each line as a JSON object; agenda(1)
+                            describes the keys
       --crontab <F>         A user's crontab, as 'crontab -l' prints it
       --system-crontab <F>  A crontab whose lines name a user, such as
                             /etc/crontab
@@ -389,7 +409,7 @@ words_tell_usage_of_commands() {
 error: the following required arguments were not provided:
   --after <T>
 
-Usage: agenda next --after <T> [--zone <ZONE>] [--event-zones] [--count <N>] (--cron <TEXT> | --calendar <TEXT>)
+Usage: agenda next [OPTIONS] --after <T> (--cron <TEXT> | --calendar <TEXT>)
 
 For more information, try '--help'.
 END
@@ -446,9 +466,13 @@ steps|a|b => error: unexpected argument 'b' found
 steps|--version => error: unexpected argument '--version' found
 steps|$after => error: unexpected argument '--after' found
 steps|--delays => error: unexpected argument '--delays' found
+steps|--json => error: unexpected argument '--json' found
+steps|--local => error: unexpected argument '--local' found
 explain|Zone|Full => error: unexpected argument 'Full' found
 explain|--version => error: unexpected argument '--version' found
 explain|$after => error: unexpected argument '--after' found
+explain|--json => error: unexpected argument '--json' found
+explain|--local => error: unexpected argument '--local' found
 explain|Zon => error: invalid value 'Zon' for '[CODE]'
 next => error: the following required arguments were not provided:\n  --after <T>
 next|--version => error: unexpected argument '--version' found
@@ -456,6 +480,9 @@ next|$after|--cron => error: a value is required for '--cron <TEXT>' but none wa
 next|$after|$cron|daily => error: unexpected argument 'daily' found
 next|$after|$cron|--least=1 => error: unexpected argument '--least' found
 next|$after|$cron|--delays => error: unexpected argument '--delays' found
+next|$after|$cron|--until=x => error: unexpected argument '--until' found
+next|$after|$cron|--json|--json => error: the argument '--json' cannot be used multiple times
+next|$after|$cron|--local=yes => error: unexpected value 'yes' for '--local' found; no more were expected
 next|$after|$cron|--count|-1 => error: unexpected argument '-1' found
 next|$after|$cron|--count|4294967296 => error: invalid value '4294967296' for '--count <N>': 4294967296 is not in 0..=4294967295
 next|$after|$cron|$cron => error: the argument '--cron <TEXT>' cannot be used multiple times
@@ -471,6 +498,10 @@ plan => $missing\n  --since <T>\n  --upto <T>
 plan|--since|x => $missing\n  --upto <T>
 plan|--since|2024-01-01T00:00:00Z|a.timer => $missing\n  --upto <T>
 plan|--upto|2024-01-02T00:00:00Z => $missing\n  --since <T>
+plan|--until|2024-01-02T00:00:00Z => $missing\n  --since <T>
+plan|--since=x|--until => error: a value is required for '--upto <T>' but none was supplied
+plan|$span|--until=x => error: the argument '--upto <T>' cannot be used multiple times
+plan|--since=x|--until=y|--until=z => error: the argument '--upto <T>' cannot be used multiple times
 plan|$span|--planners=x => error: invalid value 'x' for '--planners <N>': invalid digit found in string
 plan|$span|--planners= => error: invalid value '' for '--planners <N>': cannot parse integer from empty string
 plan|$span|--planners|-1 => error: unexpected argument '-1' found
@@ -481,6 +512,9 @@ plan|$span|--after=x => error: unexpected argument '--after' found
 plan|$span|--least=1 => error: unexpected argument '--least' found
 plan|$span|--since=x => error: the argument '--since <T>' cannot be used multiple times
 plan|$span|--delays|--delays => error: the argument '--delays' cannot be used multiple times
+plan|$span|--json|--json => error: the argument '--json' cannot be used multiple times
+plan|$span|--json=yes => error: unexpected value 'yes' for '--json' found; no more were expected
+plan|$span|--local|--local => error: the argument '--local' cannot be used multiple times
 plan|$span|--crontab=a|--crontab=b => error: the argument '--crontab <F>' cannot be used multiple times
 plan|$span|--cron-d => error: a value is required for '--cron-d <F>' but none was supplied
 plan|$span|--spool=a|--spool => error: a value is required for '--spool <F>' but none was supplied
@@ -502,6 +536,9 @@ upcoming|$after|--cron-d => error: a value is required for '--cron-d <F>' but no
 upcoming|$after|--count=1 => error: unexpected argument '--count' found
 upcoming|$after|--since=x => error: unexpected argument '--since' found
 upcoming|$after|--upto=x => error: unexpected argument '--upto' found
+upcoming|$after|--until=x => error: unexpected argument '--until' found
+upcoming|$after|--local|--local => error: the argument '--local' cannot be used multiple times
+upcoming|$after|--json=yes => error: unexpected value 'yes' for '--json' found; no more were expected
 upcoming|$after|--least=1 => error: unexpected argument '--least' found
 upcoming|$after|--planners=1 => error: unexpected argument '--planners' found
 upcoming|$after|--room=1 => error: unexpected argument '--room' found
@@ -523,7 +560,10 @@ quiet|$span|--planners=x => error: invalid value 'x' for '--planners <N>': inval
 quiet|$span|--room=-1 => error: invalid value '-1' for '--room <N>': -1 is not in 0..=4294967295
 quiet|$span|--limit=4294967296 => error: invalid value '4294967296' for '--limit <N>': 4294967296 is not in 0..=4294967295
 quiet|$span|--since=x => error: the argument '--since <T>' cannot be used multiple times
+quiet|$span|--until=x => error: the argument '--upto <T>' cannot be used multiple times
 quiet|$span|--delays|--delays => error: the argument '--delays' cannot be used multiple times
+quiet|$span|--json|--json => error: the argument '--json' cannot be used multiple times
+quiet|$span|--local=yes => error: unexpected value 'yes' for '--local' found; no more were expected
 quiet|$span|--spool=a|--spool => error: a value is required for '--spool <F>' but none was supplied
 quiet|$span|--count=1 => error: unexpected argument '--count' found
 quiet|$span|--after=x => error: unexpected argument '--after' found
@@ -532,7 +572,7 @@ quiet|$span|--version => error: unexpected argument '--version' found
 END
 }
 
-# What check doesn't take: a moment, a span, delays, sizes and limits.
+# What check doesn't take: a moment, a span, delays, local times, sizes and limits.
 words_begin_usage_of_check() {
   words_begin_usage <<END
 check|--crontab=a|--crontab=b => error: the argument '--crontab <F>' cannot be used multiple times
@@ -542,12 +582,16 @@ check|--spool=a|--spool => error: a value is required for '--spool <F>' but none
 check|--after=x => error: unexpected argument '--after' found
 check|--since=x => error: unexpected argument '--since' found
 check|--upto=x => error: unexpected argument '--upto' found
+check|--until=x => error: unexpected argument '--until' found
 check|--count=1 => error: unexpected argument '--count' found
 check|--least=1 => error: unexpected argument '--least' found
 check|--planners=1 => error: unexpected argument '--planners' found
 check|--room=1 => error: unexpected argument '--room' found
 check|--limit=1 => error: unexpected argument '--limit' found
 check|--delays => error: unexpected argument '--delays' found
+check|--local => error: unexpected argument '--local' found
+check|--json|--json => error: the argument '--json' cannot be used multiple times
+check|--json=yes => error: unexpected value 'yes' for '--json' found; no more were expected
 check|--cron=@daily => error: unexpected argument '--cron' found
 check|--calendar=daily => error: unexpected argument '--calendar' found
 check|--version => error: unexpected argument '--version' found
@@ -589,6 +633,7 @@ next|--cron|daily|$after => 1 rule: part 0: WrongParts
 next|--calendar|@daily|$after => 1 rule: part 0: WrongParts
 plan|c|--since=x|a|b|--upto=|a|--|--limit => 1 since: BadForm
 plan|c|--since=2024-01-01T00:00:00Z|a|b|--upto=|a|--|--limit => 1 upto: BadForm
+plan|--since=2024-01-01T00:00:00Z|--until=x => 1 upto: BadForm
 plan|--since|2024-01-02T00:00:00Z|--upto|2024-01-01T00:00:00Z => 1 span: Backwards
 plan|c.timer|--since=2024-01-01T00:00:00Z|a.timer|b.timer|--upto=2024-01-02T00:00:00Z|a.timer|--|--limit => 1 job a.timer: SameName
 plan|$span|--|--limit => 1 --limit: line 0: BadTimerName
@@ -735,6 +780,21 @@ END
   done
 }
 
+# `--until` is another name of `--upto`: here it has each place and form that `--upto` may have.
+words_ask_for_until() {
+  local start="2024-01-01T00:00:00Z" noon="2024-01-01T12:00:00Z"
+  words_ask_for_text "plan|--until|$noon|--since|$start|b.timer" <<END
+agenda 2|$start|$noon|1
+$start|b.timer|b.service
+END
+  words_ask_for_text "plan|b.timer|--since=$start|--until=2024-01-01T12:00:01Z" <<END
+agenda 2|$start|2024-01-01T12:00:01Z|2
+$start|b.timer|b.service
+$noon|b.timer|b.service
+END
+  words_ask_for_text "quiet|--since|$start|b.timer|--until|$noon" <<<"$start|$noon|43200"
+}
+
 # The word after `--delays` is not a value of it: here it is a timer or another option. The timer has the delay that is the default, a minute.
 words_ask_for_delays() {
   local span="--since|2024-01-01T00:00:00Z|--upto|2024-01-02T00:00:00Z" start="2024-01-01T00:00:00Z" noon="2024-01-01T12:00:00Z"
@@ -825,6 +885,7 @@ words_ask_for_sources
 words_ask_for_timers
 words_ask_for_upcoming
 words_ask_for_quiet
+words_ask_for_until
 words_ask_for_delays
 words_ask_for_check
 words_ask_for_sizes

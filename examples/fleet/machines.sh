@@ -1,12 +1,17 @@
 #!/usr/bin/env bash
 # Makes the machines of this example in the directory $1: copies of roots/, with the links that such machines have. The links are in the
-# table below, since rt accepts no project that has links.
+# table below, since rt accepts no project that has links. Each machine has cron, which is an empty file here: without one, agenda-machine
+# reports that nothing reads the crontabs.
 set -eu
 export LC_ALL=C
 
 machines=$1
 mkdir -p -- "$machines"
 cp -R -- "$(dirname "$(readlink -f "$0")")/roots/." "$machines/"
+for machine in "$machines"/*/; do
+  mkdir -p -- "$machine/usr/sbin"
+  : >"$machine/usr/sbin/cron"
+done
 while IFS='|' read -r link text; do
   mkdir -p -- "$machines/${link%/*}"
   ln -s -- "$text" "$machines/$link"

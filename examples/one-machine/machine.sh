@@ -1,6 +1,7 @@
 #!/usr/bin/env bash
 # Makes the machine of this example in the directory $1: a copy of root/, with its timers enabled.
-# The links are made here since rt accepts no project that has links.
+# The links are made here since rt accepts no project that has links. cron is an empty file: it has to be there, so that
+# agenda-machine doesn't report that nothing reads the crontabs.
 set -eu
 export LC_ALL=C
 
@@ -8,7 +9,8 @@ machine=$1
 wants=$machine/etc/systemd/system/timers.target.wants
 mkdir -p -- "$machine"
 cp -R -- "$(dirname "$(readlink -f "$0")")/root/." "$machine/"
-mkdir -p -- "$wants"
+mkdir -p -- "$wants" "$machine/usr/sbin"
+: >"$machine/usr/sbin/cron"
 for timer in fstrim logrotate renew-certs; do
   ln -sf -- "/usr/lib/systemd/system/$timer.timer" "$wants/$timer.timer"
 done

@@ -1,8 +1,10 @@
-# Draws how many jobs start in each hour of a week. It reads week.agenda, which `agenda plan` wrote, and writes week.png and week.svg.
-header = system("head -n 1 week.agenda")
-if (words(header) != 5) { exit error "week.agenda has no agenda" }
-since = word(header, 3)
-upto = word(header, 4)
+# Draws how many jobs start in each hour of a week. It reads week.json, which `agenda plan --json` wrote, by jq, and writes week.png
+# and week.svg. Usage: gnuplot -c week.gnuplot SINCE UPTO, with the times of the plan.
+if (ARGC != 2) { exit error "usage: gnuplot -c week.gnuplot SINCE UPTO" }
+since = ARG1
+upto = ARG2
+starts = system("jq -s length <week.json")
+if (words(starts) != 1) { exit error "week.json has no plan" }
 first = strptime("%Y-%m-%d", since)
 days = int((strptime("%Y-%m-%dT%H:%M:%SZ", upto) - 1 - first) / 86400) + 1
 dates = ""
@@ -10,10 +12,9 @@ do for [d = 0:days - 1] { dates = dates . strftime(" %Y-%m-%d", first + 86400 * 
 
 # A line for each hour of each day: the day, from 0 on, the hour and its starts.
 set table $hours
-plot '< awk -v dates="' . dates . '" ''' . \
-  'NR > 1 { starts[substr($1, 1, 13)]++ } ' . \
+plot "< jq -r '.start[:13]' week.json | awk -v dates='" . dates . "' '{ starts[$1]++ } " . \
   'END { days = split(dates, date); for (d = 1; d <= days; d++) for (h = 0; h < 24; h++) ' . \
-  'print d - 1, h, starts[sprintf("%sT%02d", date[d], h)] + 0 }'' week.agenda' using 1:2:3 with table
+  'print d - 1, h, starts[sprintf("%sT%02d", date[d], h)] + 0 }' . "'" using 1:2:3 with table
 unset table
 
 # Six classes of hours. The colours go from light to dark too, so that they can be told apart without seeing red or green.
@@ -22,7 +23,7 @@ array colour[6] = [0xf0f0f0, 0xffffcc, 0xa1dab4, 0x41b6c4, 0x2c7fb8, 0x253494]
 array range[6] = ["none", "1 to 3", "4 to 11", "12 to 29", "30 to 59", "60 or more"]
 ink(starts) = class(starts) < 5 ? 0x202020 : 0xffffff
 
-set label 1 "Starts in each hour, " . since . " to " . upto . ": " . word(header, 5) . " in all" at screen 0.5, 0.94 center font ",13"
+set label 1 "Starts in each hour, " . since . " to " . upto . ": " . starts . " in all" at screen 0.5, 0.94 center font ",13"
 do for [c = 1:6] {
   left = 0.11 + 0.148 * (c - 1)
   set object c rectangle from screen left, 0.05 to screen left + 0.03, 0.1 fillcolor rgb colour[c] fillstyle solid border rgb 0xa0a0a0

@@ -1,4 +1,4 @@
-# shellcheck shell=bash disable=SC2154
+# shellcheck shell=bash disable=SC2154,SC2034
 # Rows of agenda-machine: small roots that are made from one line, and a copy of the script next to a stub for
 # the program `agenda`. The tables of rows/ that need it source it.
 #
@@ -13,8 +13,10 @@
 #   *NAME        the enablement link for a timer: a link in D to /lib/systemd/system/NAME
 #
 # The first letter of a PATH may be short for a directory: E, R, L, B and U for the five unit directories in
-# their order, C for etc/cron.d, S for the spool directory, and D for the directory of the enablement links of
-# x.target in E.
+# their order, C for etc/cron.d, S for the spool directory of Debian, T and F for those of SUSE and Fedora, and
+# D for the directory of the enablement links of x.target in E.
+#
+# Each root has the cron daemon usr/sbin/cron too, unless machine_has_cron is `no`.
 
 machine_folder=$work/machine
 machine_bin=$machine_folder/bin
@@ -22,9 +24,12 @@ machine_temporary=$machine_folder/temporary
 # What comes before the script's own name, such as a program that drops permissions.
 machine_by=()
 machine_root=root
+# The directory of the stub for date.
+machine_clock=$machine_folder/clock
+machine_has_cron=yes
 declare -A machine_short=(
   [E]=etc/systemd/system [R]=run/systemd/system [L]=usr/local/lib/systemd/system [B]=lib/systemd/system [U]=usr/lib/systemd/system
-  [C]=etc/cron.d [S]=var/spool/cron/crontabs [D]=etc/systemd/system/x.target.wants
+  [C]=etc/cron.d [S]=var/spool/cron/crontabs [T]=var/spool/cron/tabs [F]=var/spool/cron [D]=etc/systemd/system/x.target.wants
 )
 
 # The stub records its arguments, one per line, and for each file except that of a zone its option, the end of
@@ -68,6 +73,30 @@ STUB
   chmod 755 "$machine_folder/bin/agenda"
 }
 
+# The stub for date runs the real one as if its clock stood still: it reads the time of MACHINE_NOW. A text that is
+# counted from now, such as 'tomorrow 02:00', gets the date of that time before it, and the time too if it ends
+# with ago.
+machine_write_clock() {
+  mkdir -p "$machine_clock"
+  {
+    echo '#!/usr/bin/env bash'
+    printf 'real=%q\n' "$(command -v date)"
+    cat <<'STUB'
+if [ "${1-}" != -d ]; then
+  exec "$real" -d "$MACHINE_NOW" "$@"
+fi
+text=$2
+case $text in
+  *[0-9][0-9][0-9][0-9]-[0-9][0-9]-* | @*) ;;
+  *ago*) text="$("$real" -d "$MACHINE_NOW" '+%T %F') $text" ;;
+  *) text="$("$real" -d "$MACHINE_NOW" +%F) $text" ;;
+esac
+exec "$real" -d "$text" "${@:3}"
+STUB
+  } >"$machine_clock/date"
+  chmod 755 "$machine_clock/date"
+}
+
 # Makes the directories of the rows: `bin` with a copy of the script and its parts next to the stub, and
 # `whole` with another copy next to the program.
 machine_begin() {
@@ -79,6 +108,7 @@ machine_begin() {
     cp -R -- "$top/bin/lib/machine" "$machine_folder/$folder/lib/"
   done
   machine_write_stub
+  machine_write_clock
   ln -s "$program" "$machine_folder/whole/agenda"
   export MACHINE_LOG=$machine_folder/log
 }
@@ -145,6 +175,7 @@ machine_make() {
   for entry in "${entries[@]}"; do
     machine_entry "$entry"
   done
+  [ "$machine_has_cron" = no ] || machine_entry usr/sbin/cron
 }
 
 # Runs the script with the arguments $@, from the directory with the root. Its temporary directory must be
@@ -203,7 +234,7 @@ machine_listing() {
       +*) kind=drop-in name=$given ;;
       etc/crontab) kind=system-crontab ;;
       C/*) kind=cron-d ;;
-      S/*) kind=spool ;;
+      [STF]/*) kind=spool ;;
       *) kind=timer given=$name ;;
     esac
     printf '%s\t%s\t%s\n' "$kind" "$name" "$machine_root/$path" >>"$work/out.wanted"
@@ -266,6 +297,25 @@ machine_texts() {
   done
 }
 
+# Sets `tzif` to the escaped text of a TZif file: $1 seconds east of UTC, with the name $2, in 1970, and the
+# footer $3 after that.
+machine_zone_text() {
+  local zeros='\x00\x00\x00\x00' head='' offset
+  printf -v head '%s' 'TZif2\x00\x00\x00' "$zeros$zeros$zeros" "$zeros$zeros$zeros"
+  printf -v offset '\\x%02x\\x%02x\\x%02x\\x%02x' $(($1 >> 24 & 255)) $(($1 >> 16 & 255)) $(($1 >> 8 & 255)) $(($1 & 255))
+  # in the first version one type without a name; in the second one change, one type and its name
+  tzif="$head$zeros"'\x00\x00\x00\x01\x00\x00\x00\x01'"$zeros"'\x00\x00\x00'
+  tzif+="$head"'\x00\x00\x00\x01\x00\x00\x00\x01\x00\x00\x00'"\\x0$((${#2} + 1))$zeros$zeros"'\x00'
+  tzif+="$offset"'\x00\x00'"$2"'\x00\n'"$3"'\n'
+}
+
+# Like Berlin: clocks are put forward on 2024-03-31 and 2025-03-30, and back on 2024-10-27 and 2025-10-26, all at
+# 01:00 UTC.
+machine_zone_text 3600 CET CET-1CEST,M3.5.0,M10.5.0/3
+machine_cet=$tzif
+# Five hours east, which is different from all zones of this machine whose names are in the rows.
+machine_zone_text 18000 +05 '<+05>-5'
+machine_east=$tzif
 # Sets machine_by to a command that drops root's permissions, if the rows run as root. Fails if that isn't possible.
 machine_as_nobody() {
   [ "$(id -u)" = 0 ] || return 0
