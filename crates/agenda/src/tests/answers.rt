@@ -358,18 +358,32 @@ fn stops(
     reported: &str,
 ) -> Result<(), Fail> {
     for end in EACH_END {
-        for (room, calls) in [(0, 1), (3, 2), (7, 4)] {
-            let mut files = FewFiles::new(held, 4_096, false);
-            let (mut out, mut err) = (Limited::new(room, 3, end), Limited::ample());
-            let status = run(rt, words, &mut files, &mut out, &mut err)?;
-            let told = format!(in rt.alloc(); "{reported}{}", line_of(end))?;
-            assert_eq!(rt; status, 3, "{words}");
-            assert_eq!(rt; out.len, room, "{words}");
-            assert_eq!(rt; out.calls, calls, "{words}");
-            assert_eq!(rt; out.flushes, 0, "{words}");
-            assert_eq!(rt; err.bytes(), told.as_bytes(), "{words}");
+        for accepted in [(0, 1), (3, 2), (7, 4)] {
+            stops_after(rt, words, held, reported, accepted, end)?;
         }
     }
+    Ok(())
+}
+
+// Asserts the same if standard output accepts so many bytes, and is called so often.
+fn stops_after(
+    rt: &(impl Threads + Wait + Sync + Abort + AllocGlobal),
+    words: &str,
+    held: &[(&str, &[u8])],
+    reported: &str,
+    accepted: (usize, usize),
+    end: End,
+) -> Result<(), Fail> {
+    let (room, calls) = accepted;
+    let mut files = FewFiles::new(held, 4_096, false);
+    let (mut out, mut err) = (Limited::new(room, 3, end), Limited::ample());
+    let status = run(rt, words, &mut files, &mut out, &mut err)?;
+    let told = format!(in rt.alloc(); "{reported}{}", line_of(end))?;
+    assert_eq!(rt; status, 3, "{words}");
+    assert_eq!(rt; out.len, room, "{words}");
+    assert_eq!(rt; out.calls, calls, "{words}");
+    assert_eq!(rt; out.flushes, 0, "{words}");
+    assert_eq!(rt; err.bytes(), told.as_bytes(), "{words}");
     Ok(())
 }
 
