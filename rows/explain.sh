@@ -87,16 +87,21 @@ explain_example() {
   sed -n "/^$2:$/,/^[A-Z].*:$/s/^    //p" "$explain_folder/$1"
 }
 
-# Rows from standard input: a code, and how its example is checked. Before the correction the program reports the code, and after it no
-# more. The lines are those of a user's crontab, a system's crontab, a timer or a script, the name of a file, or arguments.
+# Rows from standard input: a code and how its example is checked, and the lines of the example before the correction and after it, with
+# `;` between lines. Before the correction the program reports the code, and after it no more. The lines are those of a user's crontab, a
+# system's crontab, a timer or a script, the name of a file, or arguments.
 explain_examples() {
-  local code how when
-  while read -r code how; do
+  local code how before after when lines
+  while IFS='|' read -r code before after; do
+    how=${code#* } code=${code%% *}
     for when in Before After; do
+      lines=$after
+      [ "$when" = After ] || lines=$before
+      tr ';' '\n' <<<"$lines" >"$explain_folder/example.wanted"
       explain_example "$code" "$when" >"$explain_folder/example"
       explain_try "$how" >"$explain_folder/answer" 2>&1
       {
-        [ -s "$explain_folder/example" ] || echo "no example"
+        diff -u --label "lines wanted" --label "lines" -- "$explain_folder/example.wanted" "$explain_folder/example"
         if [ "$when" = Before ]; then
           grep -qw "$code" "$explain_folder/answer" || { echo "the code isn't reported:" && cat "$explain_folder/answer"; }
         else
@@ -228,33 +233,33 @@ explain_without_output
 
 # what each example shows
 explain_examples <<'ROWS'
-Backwards crontab
-BadDelay setting
-BadForm moment
-BadLine step
-BadName crontab
-BadNumber crontab
-BadSetting crontab
-BadSize script
-BadTabName cron-d
-BadTimerName timer-name
-BadZoneName zone
-Delayed setting
-EitherDay crontab
-Fraction event
-NeverStarts crontab
-NoCommand system
-NoEvents event
-NoSuchDate span
-NoSuchZone zone
-NoTimerSection timer
-OutOfRange crontab
-Percent crontab
-SkippedStarts event
-Specifier event
-UnknownKey setting
-UnknownWord crontab
-WrongParts crontab
-ZeroStep crontab
-Zone event-zone
+Backwards crontab|0 22-4 * * * backup|0 22-23,0-4 * * * backup
+BadDelay setting|AccuracySec=5mins|AccuracySec=5min
+BadForm moment|agenda upcoming --after '2024-01-01 6:00' --crontab jobs|agenda upcoming --after 2024-01-01T06:00:00Z --crontab jobs
+BadLine step|take 0|take
+BadName crontab|0 6 * * monday report|0 6 * * mon report
+BadNumber crontab|0 6 ? * 1-5 report|0 6 * * 1-5 report
+BadSetting crontab|backup --all|@daily backup --all
+BadSize script|mailbox 9 16|mailbox 8 16
+BadTabName cron-d|/etc/cron.d/backup.sh|/etc/cron.d/backup
+BadTimerName timer-name|backup@home.timer|backup-home.timer
+BadZoneName zone|--zone 'America/New York'|--zone America/New_York
+Delayed setting|RandomizedDelaySec=1h|RandomizedDelaySec=0
+EitherDay crontab|0 9 13 * 5 report|0 9 13 * * test $(date +\%u) != 5 || report
+Fraction event|OnCalendar=*:*:29.5|OnCalendar=*:*:30
+NeverStarts crontab|0 0 31 4,6,9,11 * close-month|0 0 30 4,6,9,11 * close-month
+NoCommand system|30 4 * * * backup|30 4 * * * root backup
+NoEvents event|OnCalendar=daily;OnCalendar=|OnCalendar=;OnCalendar=daily
+NoSuchDate span|--upto 2024-01-31T24:00:00Z|--upto 2024-02-01T00:00:00Z
+NoSuchZone zone|--zone europe/berlin|--zone Europe/Berlin
+NoTimerSection timer|OnCalendar=daily|[Timer];OnCalendar=daily
+OutOfRange crontab|0 24 * * * backup|0 0 * * * backup
+Percent crontab|0 4 * * * backup --name $(date +%F)|0 4 * * * backup --name $(date +\%F)
+SkippedStarts event|OnCalendar=*:0/25|OnCalendar=*:0..50/25
+Specifier event|OnCalendar=*:%i|OnCalendar=*:15
+UnknownKey setting|OnCalender=daily|OnCalendar=daily
+UnknownWord crontab|@every_hour poll|@hourly poll
+WrongParts crontab|5/15 * * * * poll|5-59/15 * * * * poll
+ZeroStep crontab|*/0 * * * * poll|*/10 * * * * poll
+Zone event-zone|OnCalendar=Mon..Fri 09:00 europe/berlin|OnCalendar=Mon..Fri 09:00 Europe/Berlin
 ROWS

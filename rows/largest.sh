@@ -166,6 +166,39 @@ largest_files() {
   compare "the gaps of 100 small timers" "$work/gaps.wanted" /dev/null 0
   largest_run 001.timer 0 check "${files[@]}"
   compare "check of 100 small timers" /dev/null /dev/null 0
+  awk -F '\t' '{ printf "{\"start\":\"%s\",\"job\":\"%s\",\"run\":\"%s\"}\n", $1, $2, $3 }' "$work/agenda.wanted" >"$work/json.wanted"
+  largest_run 001.timer 100 plan "${largest_day[@]}" --limit 100 --json "${files[@]}"
+  compare "100 small timers as JSON" "$work/json.wanted" /dev/null 0
+  largest_zone_file cet
+  sed 's/^[^\t]*/2024-01-01T23:00:00Z/' "$work/agenda.wanted" >"$work/zone.wanted"
+  largest_run 001.timer 100 plan "${largest_day[@]}" --zone ./cet --event-zones --limit 100 "${files[@]}"
+  compare_agenda "100 small timers in the zone of a small file" "$work/zone.wanted"
+}
+
+# The same with an error in each timer and in a crontab: `check` reports them, and a plan that keeps going skips them.
+largest_errors() {
+  local number files=()
+  printf '60 * * * * x\n' >"$largest_folder/error"
+  echo "error:1: error: minute '60': out of range 0-59 [OutOfRange]" >"$work/findings.wanted"
+  : >"$work/agenda.wanted"
+  for number in {001..100}; do
+    files+=("$number.timer")
+    printf '[Timer]\nOnCalendar=x\nOnCalendar=daily\n' >"$largest_folder/$number.timer"
+    printf '%s\t%s.timer\t%s.service\n' "$largest_since" "$number" "$number" >>"$work/agenda.wanted"
+    echo "$number.timer:2: error: 'x' is not a calendar event [UnknownWord]"
+  done >>"$work/findings.wanted"
+  largest_run 001.timer 0 check --crontab error "${files[@]}"
+  compare "check of 100 small timers and a crontab, each with an error" "$work/findings.wanted" /dev/null 1
+  largest_run 001.timer 100 plan --keep-going "${largest_day[@]}" --limit 100 --crontab error "${files[@]}"
+  headed "${ran[@]}" <"$work/agenda.wanted" >"$work/agenda.headed"
+  compare "100 small timers and a crontab, whose errors are skipped" "$work/agenda.headed" "$work/findings.wanted" 1
+}
+
+# Makes the file $1: that of a zone (RFC 9636) of version 2 without transitions, with the rule of Berlin.
+largest_zone_file() {
+  local zeros='\0\0\0\0' header
+  header="TZif2\0\0\0$zeros$zeros$zeros$zeros$zeros$zeros$zeros\0\0\0\1"
+  printf '%b' "$header\0\0\0\1$zeros\0\0\0$header\0\0\0\4\0\0\016\020\0\0CET\0\nCET-1CEST,M3.5.0,M10.5.0/3\n" >"$largest_folder/$1"
 }
 
 # What `check` reports about texts of 1,048,576 bytes: an error in each line, a job in each line, or an event
@@ -334,6 +367,7 @@ largest_spans
 largest_continued
 largest_jobs
 largest_files
+largest_errors
 largest_checks
 largest_quotes
 largest_zones

@@ -19,6 +19,7 @@ local_make_files() {
   local zeros='\0\0\0\0' header
   header="TZif2\0\0\0$zeros$zeros$zeros$zeros$zeros$zeros$zeros\0\0\0\1"
   printf '%b' "$header\0\0\0\1$zeros\0\0\0$header\0\0\0\4\0\0\016\020\0\0CET\0\nCET-1CEST,M3.5.0,M10.5.0/3\n" | tee cet >'my zone'
+  head -c -1 cet >shorter
   cd "$top" || return
 }
 
@@ -59,11 +60,15 @@ local_times <<'END'
 UTC|1970-01-01T00:00:01Z|1970-01-01T00:00:01+00:00
 UTC|2024-02-29T12:34:56Z|2024-02-29T12:34:56+00:00
 UTC|2999-12-31T23:59:59Z|2999-12-31T23:59:59+00:00
+./cet|1970-03-29T00:59:59Z|1970-03-29T01:59:59+01:00
+./cet|1970-03-29T01:00:00Z|1970-03-29T03:00:00+02:00
 ./cet|2025-03-30T00:59:59Z|2025-03-30T01:59:59+01:00
 ./cet|2025-03-30T01:00:00Z|2025-03-30T03:00:00+02:00
 ../local/cet|2025-10-26T00:59:59Z|2025-10-26T02:59:59+02:00
 ../local/cet|2025-10-26T01:00:00Z|2025-10-26T02:00:00+01:00
 END
+run_in "$local_folder" agenda next --zone ./shorter --after 2024-01-01T00:00:00Z --cron @daily
+is_refused "the file of a zone without its last byte" "zone: BadZone" 1
 local_rows next --local --after 2024-01-01T00:00:00Z --count 2 --cron '30 4 1 * *' <<'END'
 2024-01-01T04:30:00+00:00
 2024-02-01T04:30:00+00:00

@@ -46,9 +46,9 @@ plan>plan|--event-zones|--keep-going|--since|NOW|--upto|NEXT
 quiet>quiet|--event-zones|--keep-going|--delays|--since|NOW|--upto|NEXT
 upcoming>upcoming|--event-zones|--keep-going|--after|NOW
 check>check|--event-zones
-plan|--limit|5|x>plan|--event-zones|--keep-going|--since|NOW|--upto|NEXT|--limit|5|x
+plan|--limit|5|x.timer>plan|--event-zones|--keep-going|--since|NOW|--upto|NEXT|--limit|5|x.timer
 quiet|--least|5>quiet|--event-zones|--keep-going|--delays|--since|NOW|--upto|NEXT|--least|5
-upcoming|x>upcoming|--event-zones|--keep-going|--after|NOW|x
+upcoming|x.timer>upcoming|--event-zones|--keep-going|--after|NOW|x.timer
 plan|--since|DAY>plan|--event-zones|--keep-going|--upto|2024-01-02T00:00:00Z|--since|DAY
 plan|--since=DAY>plan|--event-zones|--keep-going|--upto|2024-01-02T00:00:00Z|--since=DAY
 quiet|--since|2024-02-28T23:59:59Z>quiet|--event-zones|--keep-going|--delays|--upto|2024-02-29T23:59:59Z|--since|2024-02-28T23:59:59Z
@@ -58,7 +58,7 @@ plan|--upto=2999-01-01T00:00:00Z>plan|--event-zones|--keep-going|--since|NOW|--u
 plan|--since|DAY|--upto|DAY>plan|--event-zones|--keep-going|--since|DAY|--upto|DAY
 upcoming|--after|DAY>upcoming|--event-zones|--keep-going|--after|DAY
 upcoming|--after=DAY>upcoming|--event-zones|--keep-going|--after=DAY
-plan|x|--since|DAY|y|--upto=DAY|z>plan|--event-zones|--keep-going|x|--since|DAY|y|--upto=DAY|z
+plan|x.timer|--since|DAY|y.timer|--upto=DAY|z.timer>plan|--event-zones|--keep-going|x.timer|--since|DAY|y.timer|--upto=DAY|z.timer
 plan|--|--since|DAY>plan|--event-zones|--keep-going|--since|NOW|--upto|NEXT|--|--since|DAY
 plan|--since|DAY|--|--upto=DAY>plan|--event-zones|--keep-going|--upto|2024-01-02T00:00:00Z|--since|DAY|--|--upto=DAY
 quiet|--|--upto|frob|--since=frob>quiet|--event-zones|--keep-going|--delays|--since|NOW|--upto|NEXT|--|--upto|frob|--since=frob
@@ -85,16 +85,16 @@ plan|--upto|+90 min|--since=2024-02-28 23:00>plan|--event-zones|--keep-going|--u
 plan|--since|2024-01-31|--upto|+1 month>plan|--event-zones|--keep-going|--since|2024-01-31T00:00:00Z|--upto|2024-03-02T00:00:00Z
 quiet|--upto=+1 week|--since|DAY>quiet|--event-zones|--keep-going|--delays|--upto=2024-01-08T00:00:00Z|--since|DAY
 plan|--upto|+1 day>plan|--event-zones|--keep-going|--since|NOW|--upto|NEXT
-plan|--upto=+24 hours|x>plan|--event-zones|--keep-going|--since|NOW|--upto=NEXT|x
+plan|--upto=+24 hours|x.timer>plan|--event-zones|--keep-going|--since|NOW|--upto=NEXT|x.timer
 plan|--since|now>plan|--event-zones|--keep-going|--upto|NEXT|--since|NOW
 plan|--since=now|--upto|+1 day>plan|--event-zones|--keep-going|--since=NOW|--upto|NEXT
 upcoming|--after|2024-02-29 12:00>upcoming|--event-zones|--keep-going|--after|2024-02-29T12:00:00Z
 upcoming|--after=now>upcoming|--event-zones|--keep-going|--after=NOW
-upcoming|--after|now|x>upcoming|--event-zones|--keep-going|--after|NOW|x
+upcoming|--after|now|x.timer>upcoming|--event-zones|--keep-going|--after|NOW|x.timer
 plan|--upto|DAY|--since>plan|--event-zones|--keep-going|--upto|DAY|--since
 plan|--since|DAY|--upto>plan|--event-zones|--keep-going|--since|DAY|--upto
 upcoming|--after>upcoming|--event-zones|--keep-going|--after
-quiet|x|--upto=DAY|--since>quiet|--event-zones|--keep-going|--delays|x|--upto=DAY|--since
+quiet|x.timer|--upto=DAY|--since>quiet|--event-zones|--keep-going|--delays|x.timer|--upto=DAY|--since
 check|--since|now|--upto=+1 day|--after|x>check|--event-zones|--since|now|--upto=+1 day|--after|x
 ROWS
 

@@ -202,6 +202,7 @@ machine_has_cron=yes
 # With --all, each timer that isn't a template.
 others_told 'plan check' --all <<'ROWS'
 U/a.timer=[Timer]\nOnBootSec=5\n U/b@.timer=[Timer]\nOnBootSec=5\n|timer U/a.timer
+U/a.timer=[Timer]\nOnBootSec=5\n E/a.timer.d/x.conf=[Timer]\nAccuracySec=1h|timer U/a.timer
 ROWS
 
 # A timer that is skipped for another reason isn't reported again; an instance is reported by the file that it is read from.

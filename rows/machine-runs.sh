@@ -38,14 +38,16 @@ machine_locked() {
   done
 }
 
-# The script ends by a signal, $1, with the option of timeout in $2, while agenda runs: what agenda has reported
-# is printed, and the temporary directory is removed.
+# The script ends by a signal, $1, with the option of timeout in $2, while agenda runs: agenda ends first, what it has
+# reported is printed, and the temporary directory is removed.
 machine_signalled() {
   local machine_by=(timeout ${2:+"$2"} -s "$1" 0.4)
+  rm -f "$MACHINE_LOG.ended"
   MACHINE_COMPLAINS='a\nb\n' MACHINE_SLEEPS=1.5 machine_run --root root plan
   printf '%s\n' a b >"$work/err.wanted"
   diff -u --label "standard error wanted" --label "standard error" "$work/err.wanted" "$work/err" >>"$work/told"
   [ -e "$MACHINE_LOG.words" ] || tell "agenda wasn't run"
+  [ ! -e "$MACHINE_LOG.ended" ] || tell "agenda went on"
   [ "$status" != 0 ] || tell "status 0"
   [ -z "$machine_left" ] || tell "left in the temporary folder: $machine_left"
   count "agenda-machine: the signal $1 ${2:+by $2}"
@@ -81,6 +83,9 @@ machine_errors() {
   printf '%s\n' one b a >"$work/out.wanted"
   machine_compare "what is skipped, after the answer" "$work/out.wanted" /dev/null 0
   echo one >"$work/out.wanted"
+  machine_by=(bash -c 'exec "$@" <&-' closed)
+  MACHINE_SAYS='one\n' machine_run --root root plan
+  machine_compare "standard input that is closed" "$work/out.wanted" /dev/null 0
   machine_by=(bash -c 'exec "$@" 2>&-' closed)
   MACHINE_COMPLAINS='a\n' MACHINE_SAYS='one\n' machine_run --root root plan
   machine_compare "standard error that is closed" "$work/out.wanted" /dev/null 3
@@ -129,6 +134,22 @@ machine_cut() {
   machine_compare "a temporary directory that is full" "$work/out.wanted" /dev/null 3
 }
 
+# A timer and a drop-in that are gone when they are read: they are skipped, and nothing else is. A stub for the program that
+# reads them fails then.
+machine_gone() {
+  local machine_by folder=$machine_folder/gone
+  mkdir -p "$folder"
+  # shellcheck disable=SC2016
+  printf '%s\n' '#!/bin/sh' 'case $* in *gone*) exit 1 ;; esac' "exec $(command -v head) \"\$@\"" >"$folder/head"
+  chmod 755 "$folder/head"
+  machine_by=(env "PATH=$folder:$PATH")
+  machine_make '*a.timer U/a.timer=p\n E/a.timer.d/x.conf>/opt/gone opt/gone=q E/a.timer.d/y.conf=r\n *b.timer U/b.timer>/opt/gone E/b.timer.d/x.conf *c.timer U/c.timer=s\n'
+  machine_left_out 'E/a.timer.d/x.conf not readable,U/b.timer not readable'
+  printf '%s\n' '== timer a.timer' p '' '[Unit]' r '<end>' '== timer c.timer' s '<end>' >"$work/texts.wanted"
+  machine_run --root root plan
+  machine_compare "files that are gone when they are read" /dev/null "$work/err.wanted" 1 texts "$work/texts.wanted"
+}
+
 # An answer without a file that can't be read. After a `--`, `--help` requests no help.
 machine_missing() {
   local written
@@ -145,36 +166,66 @@ machine_missing() {
 # Standard output fails: the status of each command is 3, and standard error says so. The crontab has a warning,
 # so that check would end with 0.
 machine_streams() {
-  local to strict command machine_by machine_bin=$machine_folder/whole
+  local to command machine_by machine_bin=$machine_folder/whole
   machine_make 'C/a=0\x200\x2031\x202\x20*\x20root\x20x\n'
   for to in '>&-' '>/dev/full'; do
     [[ $to != *full ]] || [ -c /dev/full ] || continue
     machine_by=(bash -c "exec \"\$@\" $to" streams)
-    for strict in '' --strict; do
-      for command in sources check plan upcoming quiet; do
-        machine_run --root root ${strict:+"$strict"} "$command"
-        [ "$status" = 3 ] || tell "status $status"
-        [ -s "$work/err" ] || tell "nothing on standard error"
-        [ -z "$machine_left" ] || tell "left in the temporary folder: $machine_left"
-        count "agenda-machine: ${strict:+$strict }$command $to"
-      done
+    for command in sources check 'check --json' plan '--strict plan' upcoming quiet 'next @daily' 'plan --table'; do
+      # shellcheck disable=SC2086
+      machine_run --root root $command
+      [ "$status" = 3 ] || tell "status $status"
+      [ -s "$work/err" ] || tell "nothing on standard error"
+      [ -z "$machine_left" ] || tell "left in the temporary folder: $machine_left"
+      count "agenda-machine: $command $to"
     done
   done
 }
 
-# The help, and a check that finds an error, without an output.
+# Each help, the version, and a check that finds an error, without an output.
 machine_unsaid() {
-  local to machine_by machine_bin=$machine_folder/whole
+  local to command machine_by machine_bin=$machine_folder/whole
   machine_make 'C/a=A\n'
   for to in '>&-' '>/dev/full'; do
     [[ $to != *full ]] || [ -c /dev/full ] || continue
     machine_by=(bash -c "exec \"\$@\" $to" streams)
-    machine_run --help
-    [ "$status" = 3 ] || tell "status $status"
-    count "agenda-machine: --help $to"
-    machine_run --root root check
-    [ "$status" = 3 ] || tell "status $status"
-    count "agenda-machine: check of an error $to"
+    for command in --help {plan,upcoming,quiet,check,sources,next}' --help' --version; do
+      # shellcheck disable=SC2086
+      machine_run $command
+      [ "$status" = 3 ] || tell "status $status"
+      [ -s "$work/err" ] || tell "nothing on standard error"
+      count "agenda-machine: $command $to"
+    done
+    for command in check 'check --json'; do
+      # shellcheck disable=SC2086
+      machine_run --root root $command
+      [ "$status" = 3 ] || tell "status $status"
+      count "agenda-machine: $command of an error $to"
+    done
+  done
+}
+
+# Rows of a root, of commands with commas between them, and of their status: standard error fails, and the script has a
+# line for it, or none. What is on standard output stays the same.
+machine_unreported() {
+  local root commands wanted command to machine_by
+  local -a list
+  while IFS='|' read -r root commands wanted; do
+    machine_has_cron=no machine_make "$root"
+    IFS=, read -r -a list <<<"$commands"
+    for command in "${list[@]}"; do
+      machine_by=()
+      # shellcheck disable=SC2086
+      MACHINE_SAYS='one\n' machine_run --root root $command
+      cp "$work/out" "$work/out.wanted"
+      for to in '2>&-' '2>/dev/full'; do
+        [[ $to != *full ]] || [ -c /dev/full ] || continue
+        machine_by=(bash -c "exec \"\$@\" $to" streams)
+        # shellcheck disable=SC2086
+        MACHINE_SAYS='one\n' machine_run --root root $command
+        machine_compare "$command of '$root' $to" "$work/out.wanted" /dev/null "$wanted"
+      done
+    done
   done
 }
 
@@ -368,6 +419,7 @@ fi
 machine_by=()
 machine_signals
 machine_errors
+machine_gone
 machine_missing <<'ROWS'
 plan -- --help
 plan --crontab --help
@@ -375,6 +427,19 @@ plan --crontab x
 ROWS
 machine_streams
 machine_unsaid
+# a name that is skipped, a file that can't be read, what isn't planned, crontabs without a cron daemon, and the zone; then
+# errors, whose status stays, and none of these
+machine_unreported <<'ROWS'
+C/a.b|sources,plan,--strict plan,plan --table --since 2024-01-01|3
+C/a/|sources,check|3
+etc/anacrontab|sources,check|3
+*a.timer U/a.timer=[Timer]\nOnBootSec=5|upcoming|3
+F/atjobs/a root/.config/systemd/user/a.timer|quiet|3
+etc/crontab|sources,plan|3
+etc/localtime>UTC|check,next @daily|3
+etc/anacrontab|plan x,next,sources x,quiet --since frob,--frob,--root root plan|2
+C/.b|sources,plan,check,next @daily,plan --table --since 2024-01-01|0
+ROWS
 machine_alone
 machine_settings
 

@@ -204,7 +204,8 @@ Mon 2024-01-01 00:00:00  Tue 2024-01-02 00:00:00  1 d
 1 gap from Mon 2024-01-01 00:00:00 to Tue 2024-01-02 00:00:00, UTC
 TABLE
 
-# In the machine's zone, on both sides of clock changes: 02:30 is shown twice, and times from now are real ones.
+# In the machine's zone, on both sides of clock changes: times from now are real ones. On the day on which clocks are
+# put back they show 02:30 twice, so each time of that day has its offset.
 machine_make "etc/localtime>/usr/share/zoneinfo/No/Where usr/share/zoneinfo/No/Where=$machine_cet"
 table_at 2025-03-29T11:00:00Z
 table_is 'agenda 2 Z\tSINCE\tUPTO\t3\n2025-03-30T01:30:00+01:00\ta\tb\n2025-03-30T03:00:00+02:00\ta\tb\n2025-03-30T03:30:00+02:00\ta\tb\n' \
@@ -218,29 +219,76 @@ TABLE
 table_at 2025-10-25T22:00:00Z
 table_is '2025-10-26T00:00:00+02:00\t2025-10-26T02:30:00+02:00\t9000\n2025-10-26T02:30:00+02:00\t2025-10-26T02:30:00+01:00\t3600\n2025-10-26T02:30:00+01:00\t2025-10-26T04:00:00+01:00\t5400\n' \
   'quiet|--table|--until|04:00 2025-10-26' <<'TABLE'
-START                    END       FROM NOW       LENGTH
-Sun 2025-10-26 00:00:00  02:30:00  now            2 h 30 min
-Sun 2025-10-26 02:30:00  02:30:00  in 2 h 30 min  1 h
-Sun 2025-10-26 02:30:00  04:00:00  in 3 h 30 min  1 h 30 min
-3 gaps from Sun 2025-10-26 00:00:00 to Sun 2025-10-26 04:00:00, No/Where
+START                          END             FROM NOW       LENGTH
+Sun 2025-10-26 00:00:00+02:00  02:30:00+02:00  now            2 h 30 min
+Sun 2025-10-26 02:30:00+02:00  02:30:00+01:00  in 2 h 30 min  1 h
+Sun 2025-10-26 02:30:00+01:00  04:00:00+01:00  in 3 h 30 min  1 h 30 min
+3 gaps from Sun 2025-10-26 00:00:00+02:00 to Sun 2025-10-26 04:00:00+01:00, No/Where
+TABLE
+table_at 2025-10-25T12:00:00Z
+table_is 'agenda 2 Z\tSINCE\tUPTO\t5\n2025-10-25T23:30:00+02:00\ta\tb\n2025-10-26T01:00:00+02:00\ta\tb\n2025-10-26T02:30:00+02:00\ta\tb\n2025-10-26T02:30:00+01:00\ta\tb\n2025-10-27T02:30:00+01:00\ta\tb\n' \
+  'plan|--table|--until|+2d' <<'TABLE'
+START                          FROM NOW        JOB  RUNS
+Sat 2025-10-25 23:30:00        in 9 h 30 min   a    b
+Sun 2025-10-26 01:00:00+02:00  in 11 h         a    b
+Sun 2025-10-26 02:30:00+02:00  in 12 h 30 min  a    b
+Sun 2025-10-26 02:30:00+01:00  in 13 h 30 min  a    b
+Mon 2025-10-27 02:30:00        in 1 d 13 h     a    b
+5 starts from Sat 2025-10-25 14:00:00 to Mon 2025-10-27 14:00:00, No/Where
+TABLE
+# the end of the span is on that day too, or its start
+table_is 'agenda 2 Z\tSINCE\tUPTO\t1\n2025-10-26T02:30:00+02:00\ta\tb\n' 'plan|--table|--until|2025-10-26 12:00' <<'TABLE'
+START                          FROM NOW        JOB  RUNS
+Sun 2025-10-26 02:30:00+02:00  in 12 h 30 min  a    b
+1 start from Sat 2025-10-25 14:00:00 to Sun 2025-10-26 12:00:00+01:00, No/Where
+TABLE
+table_is '2025-10-26T02:30:00+01:00\tcron:1\tb\nnone\ta.timer\tc\n' 'upcoming|--table|--after|2025-10-26 00:00' <<'TABLE'
+START                          JOB      RUNS
+Sun 2025-10-26 02:30:00+01:00  cron:1   b
+none                           a.timer  c
+2 jobs after Sun 2025-10-26 00:00:00+02:00, No/Where
+TABLE
+# a time from before the change, or from after it, isn't on that day
+table_is '2025-10-25T23:30:00+02:00\n2025-10-26T02:30:00+01:00\n' 'next|*:30|--count|2|--table' <<'TABLE'
+START                    FROM NOW
+Sat 2025-10-25 23:30:00  in 9 h 30 min
+Sun 2025-10-26 02:30:00  in 13 h 30 min
+2 starts after Sat 2025-10-25 14:00:00, No/Where
+TABLE
+# the latest time, on the next day or on the same, may be read before an earlier start
+table_is '2025-10-25T23:30:00+02:00\t2025-10-26T04:00:00+01:00\ta.timer\tc\n2025-10-26T01:00:00+02:00\t2025-10-26T01:01:00+02:00\tb.timer\tc\n' \
+  'upcoming|--delays|--table' <<'TABLE'
+START                          LATEST                         FROM NOW       JOB      RUNS
+Sat 2025-10-25 23:30:00        Sun 2025-10-26 04:00:00+01:00  in 9 h 30 min  a.timer  c
+Sun 2025-10-26 01:00:00+02:00  01:01:00+02:00                 in 11 h        b.timer  c
+2 jobs after Sat 2025-10-25 14:00:00, No/Where
 TABLE
 
 # The name of the zone: that of the caller, a path that isn't in a zone database, and UTC. Offsets with seconds,
 # west of UTC, and times that stay in UTC because the local time is outside of the years.
-table_is '1970-01-01T00:44:29-00:44:31\n1970-01-01T00:10:00Z\n' 'next|@daily|--count=2|--table|--after|1970-01-01T00:00:00Z|--zone|/nowhere/zoneinfo/A/B' <<'TABLE'
+table_is '1970-01-01T00:44:29-00:44:31\n1970-01-01T00:10:00Z\n' 'next|@daily|--count=2|--table|--after|1970-01-01T00:00:00Z|--zone|/zoneinfo/no/zoneinfo/A/B' <<'TABLE'
 START
-Thu 1970-01-01 00:44:29
+Thu 1970-01-01 00:44:29-00:44:31
 Thu 1970-01-01 00:10:00Z
-2 starts after Thu 1970-01-01 00:00:00, A/B
+2 starts after Thu 1970-01-01 00:00:00+00:00, A/B
+TABLE
+# a zone whose local time is in 1969 until 05:00 UTC
+machine_zone_text -18000 -05 '<-05>5'
+machine_make "etc/localtime=$tzif"
+table_is '1970-01-01T00:10:00Z\n1970-01-01T00:00:00-05:00\n' 'next|@daily|--count=2|--table|--after|1970-01-01T00:00:00Z' <<'TABLE'
+START
+Thu 1970-01-01 00:10:00Z
+Thu 1970-01-01 00:00:00
+2 starts after Thu 1970-01-01 00:00:00Z, ./root/etc/localtime
 TABLE
 machine_make "etc/localtime=$machine_east"
 table_at 1970-01-01T00:00:00Z
 table_is '1970-01-01T00:00:59-00:44:30\n1970-01-01T05:00:00+05:00\n1970-01-01T00:10:00Z\n' 'next|@daily|--count=3|--table' <<'TABLE'
-START                     FROM NOW
-Thu 1970-01-01 00:00:59   in 45 min
-Thu 1970-01-01 05:00:00   now
-Thu 1970-01-01 00:10:00Z  in 10 min
-3 starts after Thu 1970-01-01 05:00:00, ./root/etc/localtime
+START                             FROM NOW
+Thu 1970-01-01 00:00:59-00:44:30  in 45 min
+Thu 1970-01-01 05:00:00+05:00     now
+Thu 1970-01-01 00:10:00Z          in 10 min
+3 starts after Thu 1970-01-01 05:00:00+05:00, ./root/etc/localtime
 TABLE
 table_is '1970-01-01T00:30:00+00:00\n' 'next|@daily|--utc|--table' <<'TABLE'
 START                    FROM NOW
@@ -395,10 +443,10 @@ table_by_awks() {
     machine_by=(env MACHINE_NOW=2025-03-29T11:00:00Z "PATH=$folder:$machine_clock:$PATH")
     table_is '2025-03-29T11:00:59-00:00:30\t2025-03-29T23:00:00+00:00\tx.timer\tx\nnone\tnone\té€:12\tc\t€\n' \
       'upcoming|--delays|--table' <<'TABLE'
-START                    LATEST    FROM NOW  JOB      RUNS
-Sat 2025-03-29 11:00:59  23:00:00  in 1 min  x.timer  x
-none                     none                é€:12    c	€
-2 jobs after Sat 2025-03-29 11:00:00, UTC
+START                             LATEST          FROM NOW  JOB      RUNS
+Sat 2025-03-29 11:00:59-00:00:30  23:00:00+00:00  in 1 min  x.timer  x
+none                              none                      é€:12    c	€
+2 jobs after Sat 2025-03-29 11:00:00+00:00, UTC
 TABLE
     # the program prints 100,000 lines
     mkdir -p "$bin/lib" && cp -R -- "$machine_bin/lib/machine" "$bin/lib/" && cp -- "$machine_bin/agenda-machine" "$bin/"

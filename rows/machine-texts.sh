@@ -183,6 +183,19 @@ E/a.timer|x=A\n *a.timer|timer a.timer
 etc/cron.d|x/a=A\n|cron-d a
 ROWS
 
+# Prints a root in which the path $1 leads to /l/x by 40 links: 20 of them are the same link to a directory.
+machine_folder_chain() {
+  local number
+  printf '%s>/d/2 d>l' "$1"
+  for ((number = 2; number < 20; number++)); do
+    printf ' l/%d>/d/%d' "$number" $((number + 1))
+  done
+  printf ' l/20>/d/x'
+}
+
+machine_texts < <(printf '%s l/x=A\\n|cron-d a|A\\n\n' "$(machine_folder_chain C/a)")
+machine_sources < <(printf '%s l/x>y l/y=A\\n||C/a not readable\n' "$(machine_folder_chain C/a)")
+
 # How files are merged: an empty line and a line [Unit] between them, and a newline at the end of each file.
 machine_texts <<'ROWS'
 *a.timer U/a.timer=A|timer a.timer|A

@@ -76,6 +76,7 @@ machine_sources <<'ROWS'
 *a.timer E/a.timer>/opt/e opt/e= U/a.timer||E/a.timer masked
 *a.timer E/a.timer>/opt/e opt/e>/opt/f opt/f>../dev/null||E/a.timer masked
 *a.timer R/a.timer>/dev/null U/a.timer||R/a.timer masked
+*a.timer E/a.timer>/dev/null dev/null=x U/a.timer||E/a.timer masked
 *a.timer L/a.timer= B/a.timer U/a.timer||L/a.timer masked
 D/a.timer>y B/a.timer= U/a.timer||B/a.timer masked
 *a.timer B/a.timer= U/a.timer||D/a.timer masked
@@ -163,6 +164,10 @@ machine_sources <<'ROWS'
 *a@b.timer U/a.timer U/a@c.timer||D/a@b.timer no such timer
 E/x.target.wants/a\x20b.timer>y U/y.target.wants/a\x20b.timer>y||D/a\x20b.timer bad name
 ROWS
+
+# The longest name that a file can have.
+printf -v timers_name 'n%.0s' {1..249}
+machine_sources < <(echo "*$timers_name.timer U/$timers_name.timer E/a.timer|U/$timers_name.timer|")
 
 # Instances: the file with their own name, or else their template's.
 machine_sources <<'ROWS'

@@ -47,8 +47,16 @@ times_spans() {
 
 # The clock is read once: now, what is added, and what is counted from it are the same time.
 times_once() {
-  local machine_by=(env MACHINE_NOW=2025-03-29T11:00:00Z "PATH=$machine_clock:$PATH")
+  local words machine_by=(env MACHINE_NOW=2025-03-29T11:00:00Z "PATH=$machine_clock:$PATH")
   machine_make x/
+  for words in plan 'quiet --until +1w' 'plan --since today --until +8h' 'plan --since now --until tomorrow' \
+    'upcoming --after -1d' 'next @daily' 'plan --table'; do
+    rm -f "$MACHINE_LOG.clock"
+    # shellcheck disable=SC2086
+    machine_run --root root $words
+    [ "$(cat "$MACHINE_LOG.clock")" = read ] || tell "$(cat "$MACHINE_LOG.clock")"
+    count "agenda-machine: how often $words reads the clock"
+  done
   machine_run --root root plan
   printf '%s\n' plan --event-zones --keep-going --since 2025-03-29T11:00:00Z --upto 2025-03-30T11:00:00Z >"$work/words.wanted"
   machine_compare "a plan from now" /dev/null /dev/null 0 words "$work/words.wanted"
@@ -65,8 +73,8 @@ times_once() {
   machine_compare "tomorrow with --utc" /dev/null /dev/null 0 words "$work/words.wanted"
 }
 
-
-# The day before clocks are put forward, at 12:00 local time. At 02:00 of the next day they show 03:00.
+# The day before clocks are put forward, at 12:00 local time, and at 00:30, when UTC still has the date before. At 02:00
+# of the next day they show 03:00.
 times_read "$machine_cet" <<'ROWS'
 2025-03-29T11:00:00Z|2025-03-30T20:00:00Z|2025-03-30T20:00:00Z
 2025-03-29T11:00:00Z|now|2025-03-29T11:00:00Z
@@ -74,6 +82,12 @@ times_read "$machine_cet" <<'ROWS'
 2025-03-29T11:00:00Z|tomorrow|2025-03-29T23:00:00Z
 2025-03-29T11:00:00Z|yesterday|2025-03-27T23:00:00Z
 2025-03-29T11:00:00Z|Tomorrow|2025-03-29T23:00:00Z
+2025-03-29T11:00:00Z|NOW|2025-03-29T11:00:00Z
+2025-03-29T11:00:00Z|Today|2025-03-28T23:00:00Z
+2025-03-29T11:00:00Z|YESTERDAY|2025-03-27T23:00:00Z
+2025-03-28T23:30:00Z|today|2025-03-28T23:00:00Z
+2025-03-28T23:30:00Z|tomorrow|2025-03-29T23:00:00Z
+2025-03-28T23:30:00Z|yesterday|2025-03-27T23:00:00Z
 2025-03-29T11:00:00Z|+30s|2025-03-29T11:00:30Z
 2025-03-29T11:00:00Z|+90min|2025-03-29T12:30:00Z
 2025-03-29T11:00:00Z|+8h|2025-03-29T19:00:00Z

@@ -327,12 +327,12 @@ printf '%b' "$machine_east" >"$machine_folder/east"
 zone_words 'etc/localtime>/opt/x' <<'ROWS'
 plan|--zone|UTC|--since|2024-07-01 12:00|--upto|+1 day>plan|--event-zones|--keep-going|--zone|UTC|--since|2024-07-01T12:00:00Z|--upto|2024-07-02T12:00:00Z
 plan|--since|2024-07-01 12:00|--zone|./east>plan|--event-zones|--keep-going|--upto|2024-07-02T07:00:00Z|--since|2024-07-01T07:00:00Z|--zone|./east
-plan|--since|2024-07-01 12:00|--zone=../machine/east|x>plan|--event-zones|--keep-going|--upto|2024-07-02T07:00:00Z|--since|2024-07-01T07:00:00Z|--zone=../machine/east|x
+plan|--since|2024-07-01 12:00|--zone=../machine/east|x.timer>plan|--event-zones|--keep-going|--upto|2024-07-02T07:00:00Z|--since|2024-07-01T07:00:00Z|--zone=../machine/east|x.timer
 quiet|--zone|PWD/east|--since|2024-07-01 12:00|--upto|13:00 2024-07-01>quiet|--event-zones|--keep-going|--delays|--zone|PWD/east|--since|2024-07-01T07:00:00Z|--upto|2024-07-01T08:00:00Z
-upcoming|x|--after=2024-07-01|--zone|./east|--|y>upcoming|--event-zones|--keep-going|x|--after=2024-06-30T19:00:00Z|--zone|./east|--|y
+upcoming|x.timer|--after=2024-07-01|--zone|./east|--|y>upcoming|--event-zones|--keep-going|x.timer|--after=2024-06-30T19:00:00Z|--zone|./east|--|y
 check|--zone|./east>check|--event-zones|--zone|./east
 check|--zone=x y>check|--event-zones|--zone=x y
-check|x|--zone>check|--event-zones|x|--zone
+check|x.timer|--zone>check|--event-zones|x.timer|--zone
 check|--zone|--|x>check|--event-zones|--zone|--|x
 upcoming|--zone=|--after|2024-07-01 12:00>upcoming|--event-zones|--keep-going|--zone=|--after|2024-07-01T12:00:00Z
 upcoming|--zone|Europe//Oslo|--after|2024-07-01 12:00>upcoming|--event-zones|--keep-going|--zone|Europe//Oslo|--after|2024-07-01T12:00:00Z
@@ -345,7 +345,7 @@ zone_words etc/localtime=EAST <<'ROWS'
 check|--|--zone|UTC>check|--zone|./root/etc/localtime|--event-zones|--|--zone|UTC
 check|--|--zone=UTC>check|--zone|./root/etc/localtime|--event-zones|--|--zone=UTC
 check|--zones=UTC|-zone|zone>check|--zone|./root/etc/localtime|--event-zones|--zones=UTC|-zone|zone
-check|x>check|--zone|./root/etc/localtime|--event-zones|x
+check|x.timer>check|--zone|./root/etc/localtime|--event-zones|x.timer
 upcoming|--after|2024-07-01 12:00|--|--zone|UTC>upcoming|--zone|./root/etc/localtime|--event-zones|--keep-going|--after|2024-07-01T07:00:00Z|--|--zone|UTC
 ROWS
 

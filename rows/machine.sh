@@ -18,6 +18,33 @@ machine_usage() {
   done
 }
 
+# Rows of arguments, with bars between them, that are a usage error, and of the reported error.
+machine_no_files() {
+  local row said words
+  machine_make 'etc/crontab'
+  while IFS='>' read -r row said; do
+    IFS='|' read -r -a words <<<"$row|"
+    printf '%s\n' "agenda-machine: $said" "Try 'agenda-machine ${words[0]} --help'." | sort >"$work/err.wanted"
+    machine_run --root root "${words[@]}"
+    machine_compare "no file of '$row'" /dev/null "$work/err.wanted" 2 none
+  done
+}
+
+# Rows of arguments, with bars between them, of which the last ones are passed to agenda as they are.
+machine_files() {
+  local row words
+  machine_make 'etc/crontab'
+  ln -s nowhere "$machine_folder/link"
+  while IFS= read -r row; do
+    IFS='|' read -r -a words <<<"$row"
+    machine_run --root root "${words[@]}"
+    printf '%s\n' "${words[@]:1}" >"$work/words.wanted"
+    tail -n $((${#words[@]} - 1)) "$MACHINE_LOG.words" >"$work/words" && mv -- "$work/words" "$MACHINE_LOG.words"
+    machine_compare "files of '$row'" /dev/null /dev/null 0 words "$work/words.wanted"
+  done
+  rm -- "$machine_folder/link"
+}
+
 # Rows of arguments that request help, its first line, and words that it has, with commas between them. The whole
 # help has lines of at most 80 characters. The root isn't read.
 machine_helps() {
@@ -49,6 +76,37 @@ machine_help_options() {
       grep -xE 'root|all|utc|strict|nominal|table|text|help|version' | sort >"$work/options"
     mv -- "$work/options" "$work/out"
     machine_compare "the own options in the help of $command" "$work/out.wanted" /dev/null 0 none
+  done
+}
+
+# Prints the options in the help $1, each once, with its default if it has one.
+machine_options() {
+  awk '
+    /^ +(-., )?--[a-z]/ {
+      rest = $0
+      while (match(rest, /--[a-z-]+/)) {
+        option = substr(rest, RSTART, RLENGTH)
+        print option
+        rest = substr(rest, RSTART + RLENGTH)
+      }
+    }
+    match($0, /alias: --[a-z-]+/) { print substr($0, RSTART + 7, RLENGTH - 7) }
+    match($0, /default: [0-9]+/) { print option, substr($0, RSTART, RLENGTH) }' "$1" | sort -u
+}
+
+# The options in the help of each command, except for own ones, are those of agenda, and have the same defaults. Not in
+# it are those of tuning, and those for which the script has its own ways.
+machine_help_defaults() {
+  local command without='root|all|utc|strict|nominal|table|text|version|planners|room|event-zones|keep-going'
+  for command in plan upcoming quiet check next; do
+    [ "$command" != quiet ] || without+='|delays'
+    [ "$command" != next ] || without+='|cron|calendar'
+    run_in "$work" agenda "$command" --help
+    machine_options "$work/out" | grep -vE -e "^--($without)( |\$)" >"$work/out.wanted"
+    machine_run "$command" --help
+    machine_options "$work/out" | grep -vE -e "^--($without)( |\$)" >"$work/options"
+    mv -- "$work/options" "$work/out"
+    machine_compare "agenda's options in the help of $command" "$work/out.wanted" /dev/null 0 none
   done
 }
 
@@ -186,6 +244,7 @@ etc/crontab/||etc/crontab not readable
 etc/crontab!||etc/crontab not readable
 etc/crontab>nowhere||etc/crontab not readable
 etc/crontab>/dev/null||etc/crontab not readable
+etc/crontab>/dev/null dev/null=x||etc/crontab not readable
 C/a>nowhere C/b>/dev/null C/c>c C/d>e C/e>d C/f>/opt opt/x||C/a not readable,C/b not readable,C/c not readable,C/d not readable,C/e not readable,C/f not readable
 S/a>nowhere S/b>/dev/null S/c>c||S/a not readable,S/b not readable,S/c not readable
 C/a.b/ C/c.d>nowhere C/e~! S/a~/ S/b~>nowhere||C/a.b bad name,C/c.d bad name,C/e~ bad name,S/a~ bad name,S/b~ bad name
@@ -297,6 +356,7 @@ upcoming|--text=
 --root|missing
 --root|missing|sources|x
 --root|missing|plan|--since|frob
+--root|missing|plan|tomorrow
 --root|root|plan|--since|frob
 --root|root|plan|--since=frob
 --root|root|plan|--upto|frob
@@ -328,6 +388,37 @@ upcoming|--text=
 --root|root|next|@daily|--after|frob
 ROWS
 
+# An argument that is no option, no value of one and no timer's file, such as a time without its option. What exists, what
+# ends with .timer, and what follows a `--` is left to agenda, and so is an option that it doesn't have.
+machine_no_files <<'ROWS'
+plan|tomorrow>plan: no such timer file: 'tomorrow' (for a time, use --since or --until)
+plan|tomorrow 02:00>plan: no such timer file: 'tomorrow 02:00' (for a time, use --since or --until)
+plan|+8h>plan: no such timer file: '+8h' (for a time, use --since or --until)
+plan|2024-01-01T00:00:00Z>plan: no such timer file: '2024-01-01T00:00:00Z' (for a time, use --since or --until)
+plan|--since|today|tomorrow>plan: no such timer file: 'tomorrow' (for a time, use --since or --until)
+plan|--since=today|now>plan: no such timer file: 'now' (for a time, use --since or --until)
+plan|--json|--delays|--local|--keep-going|--event-zones|tomorrow>plan: no such timer file: 'tomorrow' (for a time, use --since or --until)
+plan|--limit|5|--zone|UTC|root/etc/x.timer|tomorrow>plan: no such timer file: 'tomorrow' (for a time, use --since or --until)
+quiet|today|tomorrow>quiet: no such timer file: 'today' (for a time, use --since or --until)
+quiet|--table|tomorrow>quiet: no such timer file: 'tomorrow' (for a time, use --since or --until)
+upcoming|tomorrow>upcoming: no such timer file: 'tomorrow' (for a time, use --after)
+check|tomorrow>check: no such timer file: 'tomorrow'
+check|a.service>check: no such timer file: 'a.service'
+plan|>plan: no such timer file: '' (for a time, use --since or --until)
+ROWS
+machine_files <<'ROWS'
+plan|tomorrow.timer
+plan|root/etc
+plan|root/etc/crontab
+plan|--|tomorrow
+plan|--limt|5
+plan|-limit|5
+plan|--limit=5|--crontab|tomorrow
+check|link
+check|--json|root
+upcoming|-|tomorrow
+ROWS
+
 machine_helps <<'ROWS'
 --help>Shows when the cron jobs and systemd timers of this machine will run>plan,upcoming,quiet,check,sources,next,root,all,utc,strict,nominal,table,text,help,version
 -h>Shows when the cron jobs and systemd timers of this machine will run>plan
@@ -357,6 +448,8 @@ check>root,all,utc,help,version
 sources>root,all,help,version
 next>root,utc,table,text,help,version
 ROWS
+
+machine_help_defaults
 
 machine_versions <<'ROWS'
 --version
@@ -404,7 +497,7 @@ ROWS
 machine_no_folders <<'ROWS'
 --root|missing|plan>missing
 --root|missing|sources>missing
---root|missing|check|x>missing
+--root|missing|check|x.timer>missing
 --root|missing|--all|quiet>missing
 --all|--root|missing|upcoming>missing
 --root|missing//|sources>missing
@@ -432,9 +525,9 @@ check>check|FILES|--event-zones
 check|--since|yesterday|x.timer>check|FILES|--event-zones|--since|yesterday|x.timer
 check|--|--upto>check|FILES|--event-zones|--|--upto
 plan|--since|2024-01-01T00:00:00Z|--upto|2024-01-02T00:00:00Z>plan|FILES|--event-zones|--keep-going|--since|2024-01-01T00:00:00Z|--upto|2024-01-02T00:00:00Z
-plan|--limit|5|--since=2024-01-01T00:00:00Z|x y|--upto=2024-01-02T00:00:00Z|z>plan|FILES|--event-zones|--keep-going|--limit|5|--since=2024-01-01T00:00:00Z|x y|--upto=2024-01-02T00:00:00Z|z
+plan|--limit|5|--since=2024-01-01T00:00:00Z|x y.timer|--upto=2024-01-02T00:00:00Z|z.timer>plan|FILES|--event-zones|--keep-going|--limit|5|--since=2024-01-01T00:00:00Z|x y.timer|--upto=2024-01-02T00:00:00Z|z.timer
 quiet|--least|9|--since|2024-01-01T00:00:00Z>quiet|FILES|--event-zones|--keep-going|--delays|--upto|2024-01-02T00:00:00Z|--least|9|--since|2024-01-01T00:00:00Z
-upcoming|x|--after|2024-01-01T00:00:00Z|--|y>upcoming|FILES|--event-zones|--keep-going|x|--after|2024-01-01T00:00:00Z|--|y
+upcoming|x.timer|--after|2024-01-01T00:00:00Z|--|y>upcoming|FILES|--event-zones|--keep-going|x.timer|--after|2024-01-01T00:00:00Z|--|y
 ROWS
 
 # Own options after a `--`, and where they are the value of an option of agenda, are arguments for agenda.
@@ -444,7 +537,7 @@ check|--crontab|--all>check|FILES|--event-zones|--crontab|--all
 check|--cron-d|--help>check|FILES|--event-zones|--cron-d|--help
 check|--crontab=--all>check|FILES|--event-zones|--crontab=--all
 check|--spool|--|--all>check|FILES|--event-zones|--spool|--|--all
-upcoming|--after|2024-01-01T00:00:00Z|--system-crontab|--version|x>upcoming|FILES|--event-zones|--keep-going|--after|2024-01-01T00:00:00Z|--system-crontab|--version|x
+upcoming|--after|2024-01-01T00:00:00Z|--system-crontab|--version|x.timer>upcoming|FILES|--event-zones|--keep-going|--after|2024-01-01T00:00:00Z|--system-crontab|--version|x.timer
 plan|--since|2024-01-01T00:00:00Z|--limit|--strict>plan|FILES|--event-zones|--keep-going|--upto|2024-01-02T00:00:00Z|--since|2024-01-01T00:00:00Z|--limit|--strict
 ROWS
 
@@ -506,7 +599,7 @@ ROWS
 # another option, the text is no option.
 machine_words <<'ROWS'
 plan|--keep-going|--since|2024-01-01T00:00:00Z>plan|FILES|--event-zones|--upto|2024-01-02T00:00:00Z|--keep-going|--since|2024-01-01T00:00:00Z
-quiet|--since|2024-01-01T00:00:00Z|x|--keep-going>quiet|FILES|--event-zones|--delays|--upto|2024-01-02T00:00:00Z|--since|2024-01-01T00:00:00Z|x|--keep-going
+quiet|--since|2024-01-01T00:00:00Z|x.timer|--keep-going>quiet|FILES|--event-zones|--delays|--upto|2024-01-02T00:00:00Z|--since|2024-01-01T00:00:00Z|x.timer|--keep-going
 upcoming|--after|2024-01-01T00:00:00Z|--keep-going=x>upcoming|FILES|--event-zones|--after|2024-01-01T00:00:00Z|--keep-going=x
 upcoming|--keep-going|--keep-going|--after|2024-01-01T00:00:00Z>upcoming|FILES|--event-zones|--keep-going|--keep-going|--after|2024-01-01T00:00:00Z
 upcoming|--after|2024-01-01T00:00:00Z|--|--keep-going>upcoming|FILES|--event-zones|--keep-going|--after|2024-01-01T00:00:00Z|--|--keep-going
@@ -547,7 +640,7 @@ ROWS
 # The caller's own --event-zones, which agenda accepts once too.
 machine_words <<'ROWS'
 check|--event-zones>check|FILES|--event-zones
-check|x|--event-zones|--crontab|y>check|FILES|x|--event-zones|--crontab|y
+check|x.timer|--event-zones|--crontab|y>check|FILES|x.timer|--event-zones|--crontab|y
 check|--event-zones|--event-zones>check|FILES|--event-zones|--event-zones
 check|--event-zones=x>check|FILES|--event-zones=x
 check|--event-zone|event-zones>check|FILES|--event-zones|--event-zone|event-zones

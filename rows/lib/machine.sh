@@ -67,15 +67,15 @@ for word in "$@"; do
 done
 [ -z "${MACHINE_SAYS:-}" ] || printf '%b' "$MACHINE_SAYS"
 [ -z "${MACHINE_COMPLAINS:-}" ] || printf '%b' "$MACHINE_COMPLAINS" >&2
-[ -z "${MACHINE_SLEEPS:-}" ] || sleep "$MACHINE_SLEEPS"
+[ -z "${MACHINE_SLEEPS:-}" ] || { sleep "$MACHINE_SLEEPS" && echo ended >"$MACHINE_LOG.ended"; }
 exit "${MACHINE_STATUS:-0}"
 STUB
   chmod 755 "$machine_folder/bin/agenda"
 }
 
-# The stub for date runs the real one as if its clock stood still: it reads the time of MACHINE_NOW. A text that is
-# counted from now, such as 'tomorrow 02:00', gets the date of that time before it, and the time too if it ends
-# with ago.
+# The stub for date runs the real one as if its clock stood still: it reads the time of MACHINE_NOW, and records
+# that. A text that is counted from now, such as 'tomorrow 02:00', gets the date of that time before it, and the time
+# too if it ends with ago or has no number.
 machine_write_clock() {
   mkdir -p "$machine_clock"
   {
@@ -83,13 +83,15 @@ machine_write_clock() {
     printf 'real=%q\n' "$(command -v date)"
     cat <<'STUB'
 if [ "${1-}" != -d ]; then
+  echo read >>"$MACHINE_LOG.clock"
   exec "$real" -d "$MACHINE_NOW" "$@"
 fi
 text=$2
 case $text in
   *[0-9][0-9][0-9][0-9]-[0-9][0-9]-* | @*) ;;
-  *ago*) text="$("$real" -d "$MACHINE_NOW" '+%T %F') $text" ;;
-  *) text="$("$real" -d "$MACHINE_NOW" +%F) $text" ;;
+  *[0-9]*ago*) text="$("$real" -d "$MACHINE_NOW" '+%T %F') $text" ;;
+  *[0-9]*) text="$("$real" -d "$MACHINE_NOW" +%F) $text" ;;
+  *) text="$("$real" -d "$MACHINE_NOW" '+%T %F') $text" ;;
 esac
 exec "$real" -d "$text" "${@:3}"
 STUB

@@ -8,8 +8,14 @@
 
 declare -A link_texts=() said=() walk_ends=() walk_links=()
 most_links=40
-# Whether something was skipped because it can't be read.
+# Whether something was skipped because it can't be read, and whether a line on standard error can't be written.
 unreadable=no
+is_unsaid=no
+
+# Prints the line $1 to standard error, with the name of the script before it.
+say() {
+  printf 'agenda-machine: %s\n' "$1" >&2 || is_unsaid=yes
+}
 
 # Sets `shown` to the path $1 on one line: if it has control characters, it is quoted for bash.
 show() {
@@ -17,14 +23,18 @@ show() {
   [[ $shown != *[[:cntrl:]]* ]] || shown=${shown@Q}
 }
 
+# Does the same as say, once for each line.
+say_once() {
+  [[ -z ${said[$1]-} ]] || return 0
+  said[$1]=yes
+  say "$1"
+}
+
 # Reports once that the path $1 is skipped, and why: $2.
 left_out() {
   [[ $2 != 'not readable' ]] || unreadable=yes
   show "$dir/$1"
-  local line="agenda-machine: left out $shown: $2"
-  [[ -z ${said[$line]-} ]] || return 0
-  said[$line]=yes
-  printf '%s\n' "$line" >&2
+  say_once "left out $shown: $2"
 }
 
 # Sets `link_text` to the target of the link $1. Only the last name of $1 is a link.

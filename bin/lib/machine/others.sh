@@ -14,10 +14,7 @@ monotonic_timers=()
 # Reports once that what the path $1 names isn't planned, and why: $2.
 not_planned() {
   show "$dir/$1"
-  local line="agenda-machine: not planned: $shown: $2"
-  [[ -z ${said["$line"]-} ]] || return 0
-  said["$line"]=yes
-  printf '%s\n' "$line" >&2
+  say_once "not planned: $shown: $2"
 }
 
 # Sets `real` to the directory with the path $1. Status 1: it doesn't exist or can't be listed, which isn't
@@ -72,7 +69,7 @@ tell_cron_daemon() {
     esac
   done
   show "${dir:-/}"
-  printf '%s\n' "agenda-machine: no cron daemon found below $shown: crontabs start nothing there" >&2
+  say "no cron daemon found below $shown: crontabs start nothing there"
 }
 
 # Adds the `pieces` of a file to `timer_text`, with a byte 1 for each byte 0.

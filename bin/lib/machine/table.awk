@@ -1,5 +1,6 @@
-# Formats agenda's answer with local times, which is read twice, as a table. In the pass 1 the widths of the
-# columns are found, and in the pass 2 the lines are printed. Bytes are characters: awk gets LC_ALL=C.
+# Formats agenda's answer with local times, which is read three times, as a table. In the pass 0 the days on
+# which clocks are put back are found, in the pass 1 the widths of the columns, and in the pass 2 the lines are
+# printed. Bytes are characters: awk gets LC_ALL=C.
 #
 # Variables: the command; the columns of the terminal, or 0; delays, which is 1 if there are latest times; the
 # begin of the span; its end, if it has one; and the begin again as the reference, if that is now.
@@ -8,8 +9,20 @@ BEGIN {
   split("Sun Mon Tue Wed Thu Fri Sat", weekdays, " ")
   if (reference != "") now = seconds(reference)
   rows = 0
+  note_day(begin)
+  if (end != "") note_day(end)
   name_columns()
   measure()
+}
+
+# Keeps the first timestamp of its date, or records that on this date an earlier one has a larger offset.
+function note_day(text,    day, first) {
+  day = substr(text, 1, 10)
+  if (!(day in firsts)) firsts[day] = text
+  first = firsts[day]
+  # most dates have one offset
+  if (substr(text, 20) == substr(first, 20) || day in put_back || text ~ /Z$/ || first ~ /Z$/) return
+  if ((seconds(text) - seconds(first)) * (offset(text) - offset(first)) < 0) put_back[day] = 1
 }
 
 # Returns the days from 1970-01-01 to the date of a timestamp. The years count from March, in groups of 400.
@@ -38,14 +51,20 @@ function clock(text) {
   return substr(text, 1, 2) * 3600 + substr(text, 4, 2) * 60 + substr(text, 7, 2)
 }
 
-# Returns the seconds from 1970 to a timestamp that ends with Z or an offset.
-function seconds(text,    zone) {
-  keep_date(text)
-  zone = substr(text, 20, 1)
-  return day_number * 86400 + clock(substr(text, 12, 8)) - (zone == "Z" ? 0 : (zone == "-" ? -1 : 1) * clock(substr(text, 21)))
+# Returns the seconds from UTC to the local time of a timestamp.
+function offset(text,    sign) {
+  sign = substr(text, 20, 1)
+  return sign == "Z" ? 0 : (sign == "-" ? -1 : 1) * clock(substr(text, 21))
 }
 
-# Returns the local date and time of a timestamp, with the weekday. One that is still in UTC keeps its Z.
+# Returns the seconds from 1970 to a timestamp that ends with Z or an offset.
+function seconds(text) {
+  keep_date(text)
+  return day_number * 86400 + clock(substr(text, 12, 8)) - offset(text)
+}
+
+# Returns the local date and time of a timestamp, with the weekday. One that is still in UTC keeps its Z, and one
+# of a day on which clocks are put back its offset.
 function shown(text) {
   if (text == "none") return text
   keep_date(text)
@@ -53,7 +72,7 @@ function shown(text) {
 }
 
 function shown_clock(text) {
-  return substr(text, 12, 8) (substr(text, 20, 1) == "Z" ? "Z" : "")
+  return substr(text, 12, 8) (substr(text, 20) == "Z" || (substr(text, 1, 10) in put_back) ? substr(text, 20) : "")
 }
 
 # Returns the same of a second timestamp of the line, without the day if that is the day of the first.
@@ -186,6 +205,12 @@ function summary(    what) {
 
 # the header of the text
 command == "plan" && FNR == 1 { next }
+pass == 0 {
+  rest = $0
+  note_day(next_field())
+  if (command == "quiet" || delays) note_day(next_field())
+  next
+}
 pass == 1 {
   read_line()
   measure()

@@ -74,7 +74,7 @@ format_answer() {
   [[ $since != "$now" ]] || reference=$begin
   AGENDA_ZONE=$zone_name exec awk -v command="$command" -v columns="$columns" -v delays="$delays" \
     -v begin="$begin" -v end="$end" -v reference="$reference" \
-    -f "$parts/table.awk" pass=1 "$work/answer" pass=2 "$work/answer" 2>/dev/null
+    -f "$parts/table.awk" pass=0 "$work/answer" pass=1 "$work/answer" pass=2 "$work/answer" 2>/dev/null
 }
 
 # Prints the table of the file $work/answer, if that has an answer. If the reader of a pipe has gone, the script

@@ -15,9 +15,14 @@ mod tests;
 struct HostFiles<'a>(&'a HostRuntime);
 
 impl Files for HostFiles<'_> {
+    ghost use Rattle.std.specs.Prelude.{None};
     ghost use Rattle.agenda_answers.specs.Files.{unknown};
 
     ghost held = { λ _ _. unknown };
+
+    ghost opened = { λ _. None };
+
+    ghost errors = { λ _. None };
 
     fn front(&mut self, alloc: Global, path: &str, most: u64) -> io::Result<Vec<u8>> {
         read_front(alloc, File::open(self.0, path)?, most)

@@ -5,7 +5,7 @@ use Rattle.std.proofs.KnownBytes.{Appends-kept, Appends-trans}
 use Rattle.plan_clock.specs.declared.row.Change.{Change}
 use Rattle.plan_texts.specs.Steps.{◌>>=◌}
 use Rattle.plan_rules.specs.Job.{JobParts}
-use Rattle.plan_write.specs.Skipped.{skipped_text}
+use Rattle.agenda_findings.specs.Skipped.{skipped_text}
 use Rattle.plan_write.specs.declared.Format.{Format}
 use Rattle.agenda_sources.specs.declared.Source.{Source}
 use Rattle.agenda_sources.specs.declared.SourcePath.{SourcePath}

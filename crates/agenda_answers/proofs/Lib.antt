@@ -3,6 +3,7 @@ pub mod FailureLemmas
 pub mod FileLemmas
 pub mod KeepingLaws
 pub mod KeepingLemmas
+pub mod OpenedLemmas
 pub mod ScriptLemmas
 pub mod SourcesLemmas
 pub mod StepLemmas

@@ -14,7 +14,7 @@ use Rattle.agenda_sources.specs.declared.SourcePath.{SourcePath}
 use Rattle.agenda_sources.specs.Findings.{kept_jobs, sources_errors}
 use Rattle.agenda_sources.specs.ZoneNames.{zone_names}
 use Rattle.plan_rules.specs.Job.{JobParts}
-use Rattle.plan_write.specs.Skipped.{skipped_text}
+use Rattle.agenda_findings.specs.Skipped.{skipped_text}
 use Rattle.plan_write.specs.declared.Format.{Format}
 use Rattle.plan_streams.specs.Stream.{BreaksOff}
 use Rattle.agenda_commands.specs.declared.Goal.{Goal}

@@ -3,6 +3,7 @@ pub mod EventZones
 pub mod Files
 pub mod Formats
 pub mod Keeping
+pub mod Opened
 pub mod Program
 pub mod Sources
 pub mod Steps

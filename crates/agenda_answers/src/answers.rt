@@ -1,6 +1,6 @@
 //! Does what the arguments request, over any files and streams.
 
-ghost use Rattle.std.specs.Prelude.{◌≡◌, ◌≢◌, map, string_bytes};
+ghost use Rattle.std.specs.Prelude.{◌≡◌, ◌≢◌, IsOk, IsTrue, OnOk, map, string_bytes, true};
 ghost use Rattle.agenda_answers.specs.Answer.{Ends, Leaves, SaysNotUtf8};
 ghost use Rattle.agenda_answers.specs.Answer.{ask_ends, check_ends, explain_ends, moment_of, next_ends, plan_ends, planning_of, quiet_ends};
 ghost use Rattle.agenda_answers.specs.Answer.{sources_in, span_of, status_on, steps_ends, upcoming_ends, usage_ends};
@@ -50,9 +50,11 @@ pub fn answer_arguments<R: Threads + Wait + Sync, F: Files, O: Stream, E: Stream
     out: &mut O,
     err: &mut E,
 ) -> u8
-    ensures { AnswersArguments (F.held files.old) (map string_bytes words.now) result
+    ensures answers { AnswersArguments (F.held files.old) (map string_bytes words.now) result
         (record { takes_all = O.takes_all; old = O.holds out.old; new = O.holds out.new })
         (record { takes_all = E.takes_all; old = E.holds err.old; new = E.holds err.new }) }
+    ensures out_flushed { result ≡ 0 → IsTrue (O.is_flushed out.new) }
+    ensures err_flushed { E.takes_all ≡ true → IsTrue (E.is_flushed err.old) → IsTrue (E.is_flushed err.new) }
 {
     answer(rt, alloc, read_words(alloc, words), files, out, err)
 }
@@ -66,9 +68,11 @@ pub fn answer<R: Threads + Wait + Sync, F: Files, O: Stream, E: Stream>(
     out: &mut O,
     err: &mut E,
 ) -> u8
-    ensures { Answers (F.held files.old) asked result
+    ensures answers { Answers (F.held files.old) asked result
         (record { takes_all = O.takes_all; old = O.holds out.old; new = O.holds out.new })
         (record { takes_all = E.takes_all; old = E.holds err.old; new = E.holds err.new }) }
+    ensures out_flushed { result ≡ 0 → IsTrue (O.is_flushed out.new) }
+    ensures err_flushed { E.takes_all ≡ true → IsTrue (E.is_flushed err.old) → IsTrue (E.is_flushed err.new) }
 {
     match asked {
         Ok(ask) => answer_ask(rt, alloc, &ask, files, out, err),
@@ -85,9 +89,11 @@ fn answer_ask<R: Threads + Wait + Sync, F: Files, O: Stream, E: Stream>(
     out: &mut O,
     err: &mut E,
 ) -> u8
-    ensures { AnswersAsk (F.held files.old) ask.now result
+    ensures answers { AnswersAsk (F.held files.old) ask.now result
         (record { takes_all = O.takes_all; old = O.holds out.old; new = O.holds out.new })
         (record { takes_all = E.takes_all; old = E.holds err.old; new = E.holds err.new }) }
+    ensures out_flushed { result ≡ 0 → IsTrue (O.is_flushed out.new) }
+    ensures err_flushed { E.takes_all ≡ true → IsTrue (E.is_flushed err.old) → IsTrue (E.is_flushed err.new) }
 {
     match ask {
         Ask::Plan(request) if request.jobs.keep_going => {
@@ -168,8 +174,10 @@ pub fn unread_arguments(alloc: Global, kind: ErrorKind) -> UsageFault
 // Returns the exit status after a request, and writes the line of its error. `sources` are the paths of the
 // sources that it names.
 pub(crate) fn end<S: Stream>(done: Result<u8, Failure>, sources: &[SourcePath], err: &mut S) -> u8
-    ensures { Ends sources.now done result
+    ensures ends { Ends sources.now done result
         (record { takes_all = S.takes_all; old = S.holds err.old; new = S.holds err.new }) }
+    ensures succeeded { result ≡ 0 → IsOk done }
+    ensures flushed { S.takes_all ≡ true → IsTrue (S.is_flushed err.old) → IsTrue (S.is_flushed err.new) }
 {
     match done {
         Ok(status) => status,
@@ -198,7 +206,8 @@ fn carry_out<R: Threads + Wait + Sync, F: Files, S: Stream>(
     files: &mut F,
     out: &mut S,
 ) -> Result<u8, Failure>
-    ensures { Leaves S.takes_all (ask_ends (F.held files.old) ask.now) result (S.holds out.old) (S.holds out.new) }
+    ensures ends { Leaves S.takes_all (ask_ends (F.held files.old) ask.now) result (S.holds out.old) (S.holds out.new) }
+    ensures flushed { OnOk result (IsTrue (S.is_flushed out.new)) }
 {
     match ask {
         Ask::Next(request) => next(alloc, request, files, out),
@@ -217,7 +226,8 @@ fn carry_out<R: Threads + Wait + Sync, F: Files, S: Stream>(
 
 // Prints help, or returns the failure of arguments that request no command.
 fn decline<S: Stream>(fault: UsageFault, out: &mut S) -> Result<u8, Failure>
-    ensures { Leaves S.takes_all (usage_ends fault) result (S.holds out.old) (S.holds out.new) }
+    ensures ends { Leaves S.takes_all (usage_ends fault) result (S.holds out.old) (S.holds out.new) }
+    ensures flushed { OnOk result (IsTrue (S.is_flushed out.new)) }
 {
     match fault {
         UsageFault::Help(text) => match out.put(text.as_str().as_bytes()) {
@@ -236,7 +246,8 @@ fn next<F: Files, S: Stream>(
     files: &mut F,
     out: &mut S,
 ) -> Result<u8, Failure>
-    ensures { Leaves S.takes_all (next_ends (F.held files.old) request.now) result (S.holds out.old) (S.holds out.new) }
+    ensures ends { Leaves S.takes_all (next_ends (F.held files.old) request.now) result (S.holds out.old) (S.holds out.new) }
+    ensures flushed { OnOk result (IsTrue (S.is_flushed out.new)) }
 {
     let moment = moment_after(&request.after)?;
     let zones = read_rule_zones(alloc, files, &request.zones, &request.rule)?;
@@ -254,7 +265,8 @@ fn plan<R: Threads + Wait + Sync, F: Files, S: Stream>(
     files: &mut F,
     out: &mut S,
 ) -> Result<u8, Failure>
-    ensures { Leaves S.takes_all (plan_ends (F.held files.old) request.now) result (S.holds out.old) (S.holds out.new) }
+    ensures ends { Leaves S.takes_all (plan_ends (F.held files.old) request.now) result (S.holds out.old) (S.holds out.new) }
+    ensures flushed { OnOk result (IsTrue (S.is_flushed out.new)) }
 {
     let span = span_between(&request.since, &request.upto)?;
     let jobs = &request.jobs;
@@ -272,7 +284,8 @@ fn upcoming<F: Files, S: Stream>(
     files: &mut F,
     out: &mut S,
 ) -> Result<u8, Failure>
-    ensures { Leaves S.takes_all (upcoming_ends (F.held files.old) after.now jobs.now) result (S.holds out.old) (S.holds out.new) }
+    ensures ends { Leaves S.takes_all (upcoming_ends (F.held files.old) after.now jobs.now) result (S.holds out.old) (S.holds out.new) }
+    ensures flushed { OnOk result (IsTrue (S.is_flushed out.new)) }
 {
     let moment = moment_after(after)?;
     let input = read_input(alloc, files, &jobs.zones, &jobs.sources)?;
@@ -290,7 +303,8 @@ fn quiet<R: Threads + Wait + Sync, F: Files, S: Stream>(
     files: &mut F,
     out: &mut S,
 ) -> Result<u8, Failure>
-    ensures { Leaves S.takes_all (quiet_ends (F.held files.old) request.now least) result (S.holds out.old) (S.holds out.new) }
+    ensures ends { Leaves S.takes_all (quiet_ends (F.held files.old) request.now least) result (S.holds out.old) (S.holds out.new) }
+    ensures flushed { OnOk result (IsTrue (S.is_flushed out.new)) }
 {
     let span = span_between(&request.since, &request.upto)?;
     let jobs = &request.jobs;
@@ -317,7 +331,8 @@ fn check<F: Files, S: Stream>(
     files: &mut F,
     out: &mut S,
 ) -> Result<u8, Failure>
-    ensures { Leaves S.takes_all (check_ends (F.held files.old) zones.now paths.now json) result (S.holds out.old) (S.holds out.new) }
+    ensures ends { Leaves S.takes_all (check_ends (F.held files.old) zones.now paths.now json) result (S.holds out.old) (S.holds out.new) }
+    ensures flushed { OnOk result (IsTrue (S.is_flushed out.new)) }
 {
     let input = read_input(alloc, files, zones, paths)?;
     let verdict = run_check(alloc, paths.as_slice(), &input, json, out)?;
@@ -341,7 +356,8 @@ fn steps<F: Files, S: Stream>(
     files: &mut F,
     out: &mut S,
 ) -> Result<u8, Failure>
-    ensures { Leaves S.takes_all (steps_ends (F.held files.old) file.now) result (S.holds out.old) (S.holds out.new) }
+    ensures ends { Leaves S.takes_all (steps_ends (F.held files.old) file.now) result (S.holds out.old) (S.holds out.new) }
+    ensures flushed { OnOk result (IsTrue (S.is_flushed out.new)) }
 {
     let script = read_path(alloc, files, file.as_str())?;
     run_script(alloc, script.as_slice(), out)?;
@@ -350,7 +366,8 @@ fn steps<F: Files, S: Stream>(
 
 // Runs the command `explain`.
 fn explain<S: Stream>(code: Option<Code>, out: &mut S) -> Result<u8, Failure>
-    ensures { Leaves S.takes_all (explain_ends code) result (S.holds out.old) (S.holds out.new) }
+    ensures ends { Leaves S.takes_all (explain_ends code) result (S.holds out.old) (S.holds out.new) }
+    ensures flushed { OnOk result (IsTrue (S.is_flushed out.new)) }
 {
     run_explain(code, out)?;
     Ok(DONE)

@@ -3,9 +3,11 @@
 ghost use Rattle.std.specs.Prelude.{◌≡◌, ◌<◌, [], IfErr, IfOk, OnOk, get_or, length, ◌++◌};
 ghost use Rattle.std.specs.List.{cons_option};
 ghost use Rattle.agenda_answers.specs.EventZones.{found_zone, is_given, looked_up, names_if, zones_by, zones_found};
+ghost use Rattle.agenda_answers.specs.Opened.{OpensFirst, files_by, files_of_names, files_unless, followed_by, zone_files};
 ghost use Rattle.agenda_faults.specs.declared.faults.Failure.TheVariants.{Run};
 ghost use Rattle.agenda_faults.specs.declared.faults.RunFault.TheVariants.{NoMemory};
 ghost use Rattle.agenda_sources.specs.ZoneNames.{asked_zones, zone_names};
+ghost use Rattle.plan_zones.specs.ZoneTexts.{source_of};
 
 use crate::files::Files;
 use crate::zone::clock_of_text;
@@ -59,6 +61,7 @@ pub(crate) fn names_of_rule(
 /// # Errors
 ///
 /// `Run(NoMemory)` if an allocation failed.
+#[tactic(auto, using(crate::proofs::OpenedLemmas::none_more))]
 pub(crate) fn read_zones<F: Files>(
     alloc: Global,
     files: &mut F,
@@ -66,7 +69,9 @@ pub(crate) fn read_zones<F: Files>(
     clock: Clock,
     names: Option<Names>,
 ) -> Result<TimeZones, Failure>
-    ensures { zones_by (F.held files.old) given.now clock names result }
+    ensures read { zones_by (F.held files.old) given.now clock names result }
+    ensures opens { OnOk result (F.opened files.new ≡ followed_by (F.opened files.old) (files_by given.now names)) }
+    ensures first { OpensFirst (files_by given.now names) (F.opened files.old) (F.opened files.new) }
 {
     let Some(names) = names else {
         return Ok(TimeZones {
@@ -86,7 +91,9 @@ fn find_zones<F: Files>(
     clock: &Clock,
     names: &Names,
 ) -> Result<EventZones, Failure>
-    ensures { zones_found (F.held files.old) given.now clock.now names.now result }
+    ensures read { zones_found (F.held files.old) given.now clock.now names.now result }
+    ensures opens { OnOk result (F.opened files.new ≡ followed_by (F.opened files.old) (files_of_names given.now names.now)) }
+    ensures first { OpensFirst (files_of_names given.now names.now) (F.opened files.old) (F.opened files.new) }
 {
     let mut known = Vec::new(alloc);
     for place in 0..names.len() {
@@ -122,6 +129,10 @@ fn zone_at<F: Files>(
     requires { place < length names.now }
     ensures read { found_zone (F.held files.old) given.now clock.now (get_or names.now place []) result }
     ensures same { F.held files.new ≡ F.held files.old }
+    ensures opens { OnOk result (F.opened files.new ≡ followed_by (F.opened files.old)
+        (files_unless (is_given given.now (get_or names.now place [])) (get_or names.now place []))) }
+    ensures first { OpensFirst (files_unless (is_given given.now (get_or names.now place [])) (get_or names.now place []))
+        (F.opened files.old) (F.opened files.new) }
 {
     match names.get(place) {
         Some(name) => find_zone(alloc, files, given, clock, name),
@@ -139,6 +150,8 @@ fn find_zone<F: Files>(
 ) -> Result<Option<NamedZone>, Failure>
     ensures read { found_zone (F.held files.old) given.now clock.now name.now result }
     ensures same { F.held files.new ≡ F.held files.old }
+    ensures opens { OnOk result (F.opened files.new ≡ followed_by (F.opened files.old) (files_unless (is_given given.now name.now) name.now)) }
+    ensures first { OpensFirst (files_unless (is_given given.now name.now) name.now) (F.opened files.old) (F.opened files.new) }
 {
     if !is_given(alloc, given, name)? {
         return look_up(alloc, files, name);
@@ -167,6 +180,8 @@ fn is_given(alloc: Global, given: &Option<Text>, name: &str) -> Result<bool, All
 fn look_up<F: Files>(alloc: Global, files: &mut F, name: &str) -> Result<Option<NamedZone>, Failure>
     ensures read { looked_up (F.held files.old) name.now result }
     ensures same { F.held files.new ≡ F.held files.old }
+    ensures opens { OnOk result (F.opened files.new ≡ followed_by (F.opened files.old) (zone_files (source_of name.now))) }
+    ensures first { OpensFirst (zone_files (source_of name.now)) (F.opened files.old) (F.opened files.new) }
 {
     let kept = Text::new(String::from_str(alloc, name)?);
     match clock_of_text(alloc, files, name) {

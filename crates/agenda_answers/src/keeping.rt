@@ -3,14 +3,16 @@
 //! The answer is made before a byte is written, so if an allocation fails, only its line is written. Then the lines of
 //! what is skipped go to standard error, and after them the answer to standard output.
 
-ghost use Rattle.std.specs.Prelude.{◌≡◌, ℕ, IfErr, IfOk, List, OnOk};
+ghost use Rattle.std.specs.Prelude.{◌≡◌, [], ◌∷◌, ℕ, IfErr, IfOk, List, OnOk, IsTrue, true};
 ghost use Rattle.agenda_answers.specs.Answer.{HoldsAfter};
 ghost use Rattle.agenda_answers.specs.Files.{Held};
 ghost use Rattle.agenda_answers.specs.Keeping.{AnswersKept, Reports, answer_of, kept_of, plan_goal, printed, quiet_goal, skipped_status, upcoming_goal};
+ghost use Rattle.agenda_answers.specs.Opened.{OpensFirst, followed_by, input_files, source_files};
 ghost use Rattle.agenda_answers.specs.Program.{ChangesNothing};
 ghost use Rattle.agenda_answers.specs.Sources.{tried_of, tries_of, with_last};
 ghost use Rattle.agenda_faults.specs.declared.faults.Failure.TheVariants.{Run};
 ghost use Rattle.agenda_faults.specs.declared.faults.RunFault.TheVariants.{NoMemory};
+ghost use Rattle.agenda_sources.specs.declared.Source.{Source};
 ghost use Rattle.agenda_words.specs.declared.Ask.TheVariants.{Plan, Quiet, Upcoming};
 ghost use Rattle.agenda_words.specs.declared.JobsRequest.{JobsRequest};
 ghost use Rattle.agenda_words.specs.declared.PlanRequest.{PlanRequest};
@@ -24,13 +26,14 @@ use crate::status::{DONE, FAILED, REFUSED};
 use crate::zone::read_clock;
 use agenda_commands::{Goal, PreparedAnswer, prepare_answer};
 use agenda_faults::{Failure, RunFault};
+use agenda_findings::write_skipped;
 use agenda_sources::{
     Found, Source, SourcePath, SourcePaths, Sources, kept_of_sources, without_errors_all_is_kept,
 };
 use agenda_words::JobsRequest;
 use plan_rules::{Jobs, Text};
 use plan_streams::Stream;
-use plan_write::{Format, write_skipped};
+use plan_write::Format;
 use std::alloc::{AllocError, Global};
 use std::marker::Model;
 use std::sync::Wait;
@@ -81,9 +84,11 @@ pub(crate) fn keep_going<R: Threads + Wait + Sync, F: Files, O: Stream, E: Strea
     out: &mut O,
     err: &mut E,
 ) -> u8
-    ensures { AnswersKept (F.held files.old) goal jobs.now result
+    ensures answers { AnswersKept (F.held files.old) goal jobs.now result
         (record { takes_all = O.takes_all; old = O.holds out.old; new = O.holds out.new })
         (record { takes_all = E.takes_all; old = E.holds err.old; new = E.holds err.new }) }
+    ensures out_flushed { result ≡ 0 → IsTrue (O.is_flushed out.new) }
+    ensures err_flushed { E.takes_all ≡ true → IsTrue (E.is_flushed err.old) → IsTrue (E.is_flushed err.new) }
 {
     match make_outcome(rt, alloc, goal, jobs, files) {
         Ok(outcome) => report(outcome, jobs.sources.as_slice(), out, err),
@@ -99,7 +104,8 @@ fn make_outcome<R: Threads + Wait + Sync, F: Files>(
     jobs: &JobsRequest,
     files: &mut F,
 ) -> Result<Outcome, Failure>
-    ensures { kept_of (F.held files.old) goal jobs.now result }
+    ensures read { kept_of (F.held files.old) goal jobs.now result }
+    ensures first { (sources : List Source) × OpensFirst (input_files jobs.now.zones jobs.now.sources sources) (F.opened files.old) (F.opened files.new) }
 {
     let goal = goal?;
     let clock = read_clock(alloc, files, &jobs.zones.zone)?;
@@ -142,6 +148,8 @@ fn try_sources<F: Files>(
 ) -> Result<Tried, Failure>
     ensures read { tries_of (F.held files.old) given.now result }
     ensures same { F.held files.new ≡ F.held files.old }
+    ensures opens { OnOk result (F.opened files.new ≡ followed_by (F.opened files.old) (source_files given.now)) }
+    ensures first { OpensFirst (source_files given.now) (F.opened files.old) (F.opened files.new) }
 {
     let mut sources = Vec::new(alloc);
     let mut paths = SourcePaths::new(alloc);
@@ -188,6 +196,8 @@ fn try_source<F: Files>(
 ) -> Result<Option<Source>, Failure>
     ensures read { tried_of (F.held files.old) given.now result }
     ensures same { F.held files.new ≡ F.held files.old }
+    ensures opens { OnOk result (F.opened files.new ≡ followed_by (F.opened files.old) (given.now.path ∷ [])) }
+    ensures first { OpensFirst (given.now.path ∷ []) (F.opened files.old) (F.opened files.new) }
 {
     match read_source(alloc, files, given) {
         Ok(source) => Ok(Some(source)),
@@ -214,9 +224,11 @@ fn report<O: Stream, E: Stream>(
     out: &mut O,
     err: &mut E,
 ) -> u8
-    ensures { Reports sources.now outcome result
+    ensures answers { Reports sources.now outcome result
         (record { takes_all = O.takes_all; old = O.holds out.old; new = O.holds out.new })
         (record { takes_all = E.takes_all; old = E.holds err.old; new = E.holds err.new }) }
+    ensures out_flushed { result ≡ 0 → IsTrue (O.is_flushed out.new) }
+    ensures err_flushed { E.takes_all ≡ true → IsTrue (E.is_flushed err.old) → IsTrue (E.is_flushed err.new) }
 {
     let Outcome {
         unread,
@@ -251,7 +263,8 @@ fn print_answer<S: Stream>(
     status: u8,
     out: &mut S,
 ) -> Result<u8, Failure>
-    ensures { HoldsAfter S.takes_all (printed answer status) result (S.holds out.old) (S.holds out.new) }
+    ensures ends { HoldsAfter S.takes_all (printed answer status) result (S.holds out.old) (S.holds out.new) }
+    ensures flushed { OnOk result (IsTrue (S.is_flushed out.new)) }
 {
     match answer {
         Ok(answer) => match answer.write(out) {

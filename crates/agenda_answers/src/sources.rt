@@ -1,7 +1,12 @@
 //! Reads the clock of the zone, the sources, and the zones of events from files.
 
-ghost use Rattle.std.specs.Prelude.{◌≡◌};
+ghost use Rattle.std.specs.Prelude.{◌≡◌, ◌≢◌, [], ◌∷◌, ◌++◌, Err, IfOk, List, OnOk};
+ghost use Rattle.agenda_answers.specs.Opened.{OpensFirst, clock_files, event_files, followed_by, input_files, source_files};
 ghost use Rattle.agenda_answers.specs.Sources.{input_of, rule_zones, source_of, sources_of};
+ghost use Rattle.agenda_faults.specs.declared.faults.Failure.TheVariants.{Run};
+ghost use Rattle.agenda_faults.specs.declared.faults.RunFault.TheVariants.{NoMemory};
+ghost use Rattle.agenda_sources.specs.ZoneNames.{asked_zones};
+ghost use Rattle.agenda_sources.specs.declared.Source.{Source};
 
 use crate::event_zones::{names_of_rule, names_of_sources, read_zones};
 use crate::files::{Files, read_path};
@@ -26,7 +31,9 @@ pub(crate) fn read_input<F: Files>(
     request: &ZonesRequest,
     paths: &SourcePaths,
 ) -> Result<Input, Failure>
-    ensures { input_of (F.held files.old) request.now paths.now result }
+    ensures read { input_of (F.held files.old) request.now paths.now result }
+    ensures opens { IfOk result (λ input. F.opened files.new ≡ followed_by (F.opened files.old) (input_files request.now paths.now input.sources)) }
+    ensures first { (sources : List Source) × OpensFirst (input_files request.now paths.now sources) (F.opened files.old) (F.opened files.new) }
 {
     let clock = read_clock(alloc, files, &request.zone)?;
     let sources = read_sources(alloc, files, paths.as_slice())?;
@@ -46,7 +53,11 @@ pub(crate) fn read_rule_zones<F: Files>(
     request: &ZonesRequest,
     rule: &Asked,
 ) -> Result<TimeZones, Failure>
-    ensures { rule_zones (F.held files.old) request.now rule.now result }
+    ensures read { rule_zones (F.held files.old) request.now rule.now result }
+    ensures opens { OnOk result (F.opened files.new ≡ followed_by (F.opened files.old)
+        (clock_files request.now.zone ++ event_files request.now (asked_zones rule.now))) }
+    ensures first { OpensFirst (clock_files request.now.zone ++ event_files request.now (asked_zones rule.now))
+        (F.opened files.old) (F.opened files.new) }
 {
     let clock = read_clock(alloc, files, &request.zone)?;
     let names = names_of_rule(alloc, request, rule)?;
@@ -61,6 +72,8 @@ fn read_sources<F: Files>(
 ) -> Result<Sources, Failure>
     ensures read { sources_of (F.held files.old) paths.now result }
     ensures same { F.held files.new ≡ F.held files.old }
+    ensures opens { OnOk result (F.opened files.new ≡ followed_by (F.opened files.old) (source_files paths.now)) }
+    ensures first { OpensFirst (source_files paths.now) (F.opened files.old) (F.opened files.new) }
 {
     let mut sources = Vec::new(alloc);
     for path in paths {
@@ -78,6 +91,8 @@ pub(crate) fn read_source<F: Files>(
 ) -> Result<Source, Failure>
     ensures read { source_of (F.held files.old) given.now result }
     ensures same { F.held files.new ≡ F.held files.old }
+    ensures opens { result ≢ Err (Run NoMemory) → F.opened files.new ≡ followed_by (F.opened files.old) (given.now.path ∷ []) }
+    ensures first { OpensFirst (given.now.path ∷ []) (F.opened files.old) (F.opened files.new) }
 {
     let bytes = read_path(alloc, files, given.path.as_str())?;
     let name = Text::new(String::from_str(alloc, file_name(given.path.as_str()))?);

@@ -1,8 +1,10 @@
 //! Reads the clock of the time zone of the rules.
 
-ghost use Rattle.std.specs.Prelude.{◌≡◌};
+ghost use Rattle.std.specs.Prelude.{◌≡◌, ◌≢◌, [], ◌∷◌, Err};
+ghost use Rattle.agenda_answers.specs.Opened.{OpensFirst, clock_files, followed_by, zone_files};
 ghost use Rattle.agenda_answers.specs.Zone.{clock_from, clock_of, clock_of_bytes, clock_of_file};
-ghost use Rattle.agenda_faults.specs.declared.faults.Failure.TheVariants.{File, Zone};
+ghost use Rattle.agenda_faults.specs.declared.faults.Failure.TheVariants.{File, Run, Zone};
+ghost use Rattle.agenda_faults.specs.declared.faults.RunFault.TheVariants.{NoMemory};
 ghost use Rattle.plan_zones.specs.declared.zone_fault.ZoneFault.TheVariants.{NoSuchZone};
 ghost use Rattle.plan_zones.specs.ZoneTexts.{source_of, zone_path};
 
@@ -26,6 +28,8 @@ pub fn read_clock<F: Files>(
 ) -> Result<Clock, Failure>
     ensures read { clock_of (F.held files.old) zone.now result }
     ensures same { F.held files.new ≡ F.held files.old }
+    ensures opens { result ≢ Err (Run NoMemory) → F.opened files.new ≡ followed_by (F.opened files.old) (clock_files zone.now) }
+    ensures first { OpensFirst (clock_files zone.now) (F.opened files.old) (F.opened files.new) }
 {
     match zone {
         Some(text) => clock_of_text(alloc, files, text.as_str()),
@@ -41,6 +45,8 @@ pub(crate) fn clock_of_text<F: Files>(
 ) -> Result<Clock, Failure>
     ensures read { clock_from (F.held files.old) (source_of text.now) result }
     ensures same { F.held files.new ≡ F.held files.old }
+    ensures opens { result ≢ Err (Run NoMemory) → F.opened files.new ≡ followed_by (F.opened files.old) (zone_files (source_of text.now)) }
+    ensures first { OpensFirst (zone_files (source_of text.now)) (F.opened files.old) (F.opened files.new) }
 {
     match zone_source(text) {
         Ok(ZoneSource::Utc) => Ok(Clock::utc()),
@@ -54,6 +60,8 @@ pub(crate) fn clock_of_text<F: Files>(
 fn clock_of_path<F: Files>(alloc: Global, files: &mut F, path: &str) -> Result<Clock, Failure>
     ensures read { clock_of_file (F.held files.old path.now) (File path.now) result }
     ensures same { F.held files.new ≡ F.held files.old }
+    ensures opens { result ≢ Err (Run NoMemory) → F.opened files.new ≡ followed_by (F.opened files.old) (path.now ∷ []) }
+    ensures first { OpensFirst (path.now ∷ []) (F.opened files.old) (F.opened files.new) }
 {
     let bytes = read_path(alloc, files, path)?;
     clock_of_bytes(alloc, bytes.as_slice())
@@ -63,6 +71,8 @@ fn clock_of_path<F: Files>(alloc: Global, files: &mut F, path: &str) -> Result<C
 fn clock_of_name<F: Files>(alloc: Global, files: &mut F, name: &str) -> Result<Clock, Failure>
     ensures read { clock_of_file (F.held files.old (zone_path name.now)) (Zone NoSuchZone) result }
     ensures same { F.held files.new ≡ F.held files.old }
+    ensures opens { result ≢ Err (Run NoMemory) → F.opened files.new ≡ followed_by (F.opened files.old) (zone_path name.now ∷ []) }
+    ensures first { OpensFirst (zone_path name.now ∷ []) (F.opened files.old) (F.opened files.new) }
 {
     let path = zone_path(alloc, name)?;
     let unread = Failure::Zone(ZoneFault::NoSuchZone);

@@ -1,6 +1,6 @@
 //! Writes what `agenda explain` prints.
 
-ghost use Rattle.std.specs.Prelude.{◌≡◌};
+ghost use Rattle.std.specs.Prelude.{◌≡◌, IsTrue, OnOk};
 ghost use Rattle.std.specs.List.{flat_map};
 ghost use Rattle.plan_streams.specs.Stream.{Puts};
 ghost use Rattle.plan_streams.specs.Writer.{Takes};
@@ -16,7 +16,8 @@ use plan_streams::{Stream, TextWriter, WriteFault};
 ///
 /// `Device` or `Closed` if the stream fails. Then only the first bytes of the text were written.
 pub fn write_explanation<S: Stream>(code: Code, out: &mut S) -> Result<(), WriteFault>
-    ensures { Puts S.takes_all result (S.holds out.old) (S.holds out.new) (text_of code) }
+    ensures text { Puts S.takes_all result (S.holds out.old) (S.holds out.new) (text_of code) }
+    ensures flushed { OnOk result (IsTrue (S.is_flushed out.new)) }
 {
     out.put(code.text().as_bytes())
 }
@@ -28,7 +29,8 @@ pub fn write_explanation<S: Stream>(code: Code, out: &mut S) -> Result<(), Write
 ///
 /// `Device` or `Closed` if the stream fails. Then only the first bytes of the text were written.
 pub fn write_codes<S: Stream>(out: &mut S) -> Result<(), WriteFault>
-    ensures { Puts S.takes_all result (S.holds out.old) (S.holds out.new) codes_text }
+    ensures text { Puts S.takes_all result (S.holds out.old) (S.holds out.new) codes_text }
+    ensures flushed { OnOk result (IsTrue (S.is_flushed out.new)) }
 {
     write_lines(&Code::all(), out)
 }
@@ -37,7 +39,8 @@ pub fn write_codes<S: Stream>(out: &mut S) -> Result<(), WriteFault>
 // Not inlined: its buffer of 64 KiB takes stack only while it runs.
 #[inline(never)]
 fn write_lines<S: Stream>(codes: &[Code], out: &mut S) -> Result<(), WriteFault>
-    ensures { Puts S.takes_all result (S.holds out.old) (S.holds out.new) (flat_map code_line codes.now) }
+    ensures text { Puts S.takes_all result (S.holds out.old) (S.holds out.new) (flat_map code_line codes.now) }
+    ensures flushed { OnOk result (IsTrue (S.is_flushed out.new)) }
 {
     let mut lines = TextWriter::new(out);
     for code in codes {

@@ -1,6 +1,6 @@
 -- What `check` writes about the findings on sources. All of it is our choice (agenda).
 use Rattle.std.specs.Prelude.{ℕ, Bool, true, false, List, is_ok, Result, Ok}
-pub use Rattle.plan_write.specs.Findings.{check_text}
+pub use Rattle.agenda_findings.specs.Findings.{check_text}
 use Rattle.agenda_sources.specs.Findings.{sources_findings}
 use Rattle.agenda_sources.specs.Sources.{sources_reading}
 use Rattle.agenda_sources.specs.declared.Source.{Source}

@@ -1,5 +1,5 @@
 -- The answer of jobs by its goal: its text and its errors. All of it is our choice (agenda).
-use Rattle.std.specs.Prelude.{◌≡◌, ⊤, ℕ, List, length, Result}
+use Rattle.std.specs.Prelude.{◌≡◌, ⊤, ℕ, List, length, Result, Ok}
 use Rattle.plan_texts.specs.Steps.{◌>>=◌}
 use Rattle.plan_collect.specs.Agenda.{IsOfJobs}
 use Rattle.plan_rules.specs.Job.{JobParts}
@@ -15,7 +15,7 @@ use Rattle.agenda_commands.specs.declared.goal.Planning.{Planning}
 use Rattle.agenda_commands.specs.declared.goal.Made.{Made}
 use Rattle.agenda_commands.specs.declared.goal.Made.TheVariants as made
 use Rattle.agenda_commands.specs.Command.{IsFaultOf, IsTextOf}
-use Rattle.agenda_commands.specs.Plan.{planned_output}
+use Rattle.agenda_commands.specs.Plan.{checked_sizes, planned_output}
 use Rattle.agenda_commands.specs.Quiet.{gaps_output, valid_least}
 use Rattle.agenda_commands.specs.Upcoming.{IsTextOfNexts}
 
@@ -24,6 +24,17 @@ abbrev pub wide_output : Format → List JobParts → Planning → (least : ℕ)
 wide_output format jobs planning least = do
   wide ← valid_least least
   gaps_output format jobs planning wide
+
+-- a goal whose numbers are valid, or its first error, which is found before any memory is requested
+abbrev pub checked_goal : Goal → Result Goal RunFault
+checked_goal (goal.Plan planning) = do
+  sizes ← checked_sizes planning
+  Ok (goal.Plan planning)
+checked_goal (goal.Upcoming after delays) = Ok (goal.Upcoming after delays)
+checked_goal (goal.Quiet planning least) = do
+  wide ← valid_least least
+  sizes ← checked_sizes planning
+  Ok (goal.Quiet planning wide)
 
 -- the text of the answer
 abbrev pub IsTextOfGoal : Format → List JobParts → Goal → List ℕ → Type 0

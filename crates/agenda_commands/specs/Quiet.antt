@@ -3,8 +3,6 @@ use Rattle.std.specs.Prelude.{ℕ, ◌==◌, if◌then◌else◌, List, Result, 
 use Rattle.plan_texts.specs.Steps.{◌>>=◌}
 use Rattle.plan_rules.specs.Job.{JobParts}
 use Rattle.plan_rules.specs.Delays.{counted}
-use Rattle.plan_collect.specs.Planning.{plan_answer}
-use Rattle.plan_collect.specs.Windows.{timings_of}
 use Rattle.plan_write.specs.Quiet.{quiet_text}
 use Rattle.plan_write.specs.declared.Format.{Format}
 use Rattle.agenda_sources.specs.Sources.{jobs_reading}
@@ -12,9 +10,10 @@ use Rattle.agenda_sources.specs.declared.Source.{Source}
 use Rattle.agenda_sources.specs.declared.TimeZones.{TimeZones}
 use Rattle.agenda_faults.specs.declared.faults.RunFault.{RunFault}
 use Rattle.agenda_faults.specs.declared.faults.RunFault.TheVariants.{BadLeast}
-use Rattle.agenda_faults.specs.Faults.{fault_of_plan, fault_of_sources}
+use Rattle.agenda_faults.specs.Faults.{fault_of_sources}
 use Rattle.agenda_commands.specs.declared.goal.Planning.{Planning}
 use Rattle.agenda_commands.specs.Command.{step}
+use Rattle.agenda_commands.specs.Plan.{agenda_of_jobs}
 
 -- the minimum length of a gap is at least 1 second
 abbrev pub valid_least : ℕ → Result ℕ RunFault
@@ -23,7 +22,7 @@ valid_least least = if least == 0 then Err BadLeast else Ok least
 -- what `quiet` writes for the jobs that are planned: the gaps of their plan that last at least `least` seconds
 abbrev pub gaps_of_jobs : Format → List JobParts → Planning → (least : ℕ) → Result (List ℕ) RunFault
 gaps_of_jobs format jobs planning least = do
-  made ← step fault_of_plan (plan_answer (timings_of jobs) planning.span planning.sizes)
+  made ← agenda_of_jobs jobs planning
   Ok (quiet_text format least made jobs)
 
 -- what `quiet` writes for jobs

@@ -1,6 +1,6 @@
 //! Finds all errors of crontabs and timer files, and warns of what may not be meant.
 
-ghost use Rattle.std.specs.Prelude.{◌≡◌, IfOk};
+ghost use Rattle.std.specs.Prelude.{◌≡◌, IfOk, IsTrue, OnOk};
 ghost use Rattle.std.specs.List.{list_all};
 ghost use Rattle.plan_check.specs.Finding.{is_warning};
 ghost use Rattle.agenda_sources.specs.Findings.{is_all_clean, sources_findings};
@@ -9,10 +9,10 @@ ghost use Rattle.agenda_commands.specs.Check.{check_output, sources_verdict, ver
 
 use crate::input::Input;
 use agenda_faults::RunFault;
+use agenda_findings::write_findings;
 use agenda_sources::{Found, SourcePath, findings_of_sources};
 use plan_check::What;
 use plan_streams::Stream;
-use plan_write::write_findings;
 use std::alloc::Global;
 
 /// The verdict of a check.
@@ -44,6 +44,7 @@ pub fn run_check<S: Stream>(
 ) -> Result<Verdict, RunFault>
     ensures verdict { IfOk result (λ verdict. verdict ≡ sources_verdict input.now.zones input.now.sources) }
     ensures output { Outputs S.takes_all (check_output input.now.zones paths.now input.now.sources json) result (S.holds out.old) (S.holds out.new) }
+    ensures flushed { OnOk result (IsTrue (S.is_flushed out.new)) }
 {
     let found = findings_of_sources(alloc, &input.sources, &input.zones)?;
     write_findings(paths, found.as_slice(), json, out)?;

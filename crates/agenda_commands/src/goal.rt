@@ -1,19 +1,20 @@
 //! Prepares the answer of jobs, before a byte of it is written.
 
-ghost use Rattle.std.specs.Prelude.{◌≡◌, IfErr, IfOk};
+ghost use Rattle.std.specs.Prelude.{◌≡◌, ◌≤◌, Err, IfErr, IfOk, IsTrue, OnOk};
 ghost use Rattle.plan_rules.specs.Delays.{counted};
 ghost use Rattle.agenda_commands.specs.Command.{IsFaultOf, IsTextOf};
-ghost use Rattle.agenda_commands.specs.Goal.{CanBeWritten, IsFaultOfGoal, IsTextOfGoal, text_of, wide_output};
-ghost use Rattle.agenda_commands.specs.Plan.{planned_output, text_of_jobs};
+ghost use Rattle.agenda_commands.specs.Goal.{CanBeWritten, IsFaultOfGoal, IsTextOfGoal, checked_goal, text_of, wide_output};
+ghost use Rattle.agenda_commands.specs.Plan.{checked_sizes, planned_output, text_of_jobs};
+ghost use Rattle.agenda_commands.specs.Quiet.{valid_least};
 ghost use Rattle.agenda_commands.specs.Upcoming.{IsTextOfNexts};
 ghost use Rattle.agenda_faults.specs.declared.faults.RunFault.TheVariants.{NoMemory};
 ghost use Rattle.plan_streams.specs.Stream.{Puts};
 
+use crate::agenda_of::make_agenda;
 use agenda_faults::RunFault;
 use plan_collect::{Agenda, Sizes, Span};
 use plan_rules::Jobs;
 use plan_streams::{Stream, WriteFault};
-use plan_threads::{NoGate, plan};
 use plan_write::{Format, LineEnds, Upcoming, write_agenda, write_quiet, write_upcoming};
 use std::alloc::Global;
 use std::marker::Model;
@@ -89,7 +90,7 @@ impl Model for PreparedAnswer {
 ///
 /// `BadLeast` if the minimum length of a gap is 0; `Plan(BadSize)` if the number of planners or their capacity is out
 /// of range; `Plan(BadLimit)` if the limit is; `Plan(Collect(TooMany))` if the agenda has more entries than the limit.
-/// `NoMemory` may come in place of each of them if an allocation failed.
+/// `NoMemory` may come in place of the last of them if an allocation failed.
 pub fn prepare_answer<R: Threads + Wait + Sync>(
     rt: &R,
     alloc: Global,
@@ -99,9 +100,14 @@ pub fn prepare_answer<R: Threads + Wait + Sync>(
 ) -> Result<PreparedAnswer, RunFault>
     ensures text { IfOk result (IsTextOfGoal format jobs goal.now) }
     ensures refused { IfErr result (IsFaultOfGoal format jobs goal.now) }
+
+    // These errors are found before any memory is requested.
+    ensures at_once { IfErr (checked_goal goal.now) (λ fault. result ≡ Err fault) }
 {
-    let made = make(rt, alloc, jobs, goal, &format)?;
-    Ok(PreparedAnswer { made, format })
+    match make(rt, alloc, jobs, goal, &format) {
+        Ok(made) => Ok(PreparedAnswer { made, format }),
+        Err(fault) => Err(fault),
+    }
 }
 
 // Makes what `goal` requests of jobs.
@@ -115,6 +121,7 @@ fn make<R: Threads + Wait + Sync>(
     ensures text { IfOk result (λ made. IsTextOfGoal format.now jobs goal.now (text_of format.now made)) }
     ensures written { IfOk result CanBeWritten }
     ensures refused { IfErr result (IsFaultOfGoal format.now jobs goal.now) }
+    ensures at_once { IfErr (checked_goal goal.now) (λ fault. result ≡ Err fault) }
 {
     match goal {
         Goal::Plan(planning) => make_plan(rt, alloc, jobs, planning, format),
@@ -134,6 +141,7 @@ fn make_plan<R: Threads + Wait + Sync>(
     ensures text { IfOk result (λ made. IsTextOf (planned_output format.now jobs planning.now) (text_of format.now made)) }
     ensures written { IfOk result CanBeWritten }
     ensures refused { IfErr result (IsFaultOf (planned_output format.now jobs planning.now)) }
+    ensures at_once { IfErr (checked_sizes planning.now) (λ fault. result ≡ Err fault) }
 {
     make_plan_of(rt, alloc, counted(jobs, planning.delays), planning, format)
 }
@@ -149,8 +157,9 @@ fn make_plan_of<R: Threads + Wait + Sync>(
     ensures text { IfOk result (λ made. IsTextOf (text_of_jobs format.now jobs planning.now) (text_of format.now made)) }
     ensures written { IfOk result CanBeWritten }
     ensures refused { IfErr result (IsFaultOf (text_of_jobs format.now jobs planning.now)) }
+    ensures at_once { IfErr (checked_sizes planning.now) (λ fault. result ≡ Err fault) }
 {
-    let agenda = plan(rt, alloc, &jobs, planning.span, planning.sizes, &NoGate)?;
+    let agenda = make_agenda(rt, alloc, &jobs, planning)?;
     let ends = LineEnds::new(alloc, &jobs, format.json)?;
     Ok(Made::Plan(agenda, ends, planning.delays))
 }
@@ -184,12 +193,14 @@ fn make_quiet<R: Threads + Wait + Sync>(
     ensures text { IfOk result (λ made. IsTextOf (wide_output format.now jobs planning.now least) (text_of format.now made)) }
     ensures written { IfOk result CanBeWritten }
     ensures refused { IfErr result (IsFaultOf (wide_output format.now jobs planning.now least)) }
+    ensures bad_least { IfErr (valid_least least) (λ fault. result ≡ Err fault) }
+    ensures at_once { 1 ≤ least → IfErr (checked_sizes planning.now) (λ fault. result ≡ Err fault) }
 {
     if least == 0 {
         return Err(RunFault::BadLeast);
     }
     let jobs = counted(jobs, planning.delays);
-    let agenda = plan(rt, alloc, &jobs, planning.span, planning.sizes, &NoGate)?;
+    let agenda = make_agenda(rt, alloc, &jobs, planning)?;
     Ok(Made::Quiet(agenda, jobs, least))
 }
 
@@ -200,7 +211,8 @@ impl PreparedAnswer {
     ///
     /// `Device` or `Closed` if the stream fails. Then only the first bytes of the text were written.
     pub fn write<S: Stream>(&self, out: &mut S) -> Result<(), WriteFault>
-        ensures { Puts S.takes_all result (S.holds out.old) (S.holds out.new) self.now }
+        ensures text { Puts S.takes_all result (S.holds out.old) (S.holds out.new) self.now }
+        ensures flushed { OnOk result (IsTrue (S.is_flushed out.new)) }
     {
         let format = &self.format;
         match &self.made {

@@ -6,9 +6,10 @@
 //!
 //! The crate uses plan_threads, agenda_sources, agenda_script and agenda_codes, which do the work, and agenda_faults
 //! for the errors. There is a module for each command. Read `plan` first. The module `goal` prepares an answer before
-//! a byte of it is written.
+//! a byte of it is written, and `agenda_of` makes the agenda of jobs.
 #![tactic(auto)]
 
+mod agenda_of;
 mod check;
 mod explain;
 mod goal;

@@ -1,6 +1,6 @@
 //! Writes the next starts of one rule.
 
-ghost use Rattle.std.specs.Prelude.{◌≡◌, IfErr};
+ghost use Rattle.std.specs.Prelude.{◌≡◌, IfErr, IsTrue, OnOk};
 ghost use Rattle.agenda_commands.specs.Command.{Outputs};
 ghost use Rattle.agenda_commands.specs.Next.{asked_reading, asked_rule, next_output, valid_count};
 ghost use Rattle.plan_rules.specs.Readings.{Gives};
@@ -34,6 +34,7 @@ pub fn run_next<S: Stream>(
     out: &mut S,
 ) -> Result<(), RunFault>
     ensures output { Outputs S.takes_all (next_output zones.now asked.now after count format.now) result (S.holds out.old) (S.holds out.new) }
+    ensures flushed { OnOk result (IsTrue (S.is_flushed out.new)) }
 
     // A bad count is found before anything else, and before memory is allocated.
     ensures bad_count { IfErr (valid_count count) (λ fault. result ≡ Err fault) }

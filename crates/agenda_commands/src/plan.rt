@@ -1,18 +1,18 @@
 //! Plans and writes the agenda of the jobs of crontabs and timer files.
 
-ghost use Rattle.std.specs.Prelude.{◌≡◌, IfSome};
+ghost use Rattle.std.specs.Prelude.{◌≡◌, [], Err, IfErr, IfSome, IsTrue, OnOk};
 ghost use Rattle.agenda_sources.specs.AtOnce.{fault_at_once};
 ghost use Rattle.agenda_faults.specs.Faults.{fault_of_sources};
 ghost use Rattle.agenda_commands.specs.Command.{Outputs};
-ghost use Rattle.agenda_commands.specs.Plan.{plan_output, text_of_jobs};
+ghost use Rattle.agenda_commands.specs.Plan.{checked_sizes, plan_output, text_of_jobs};
 
+use crate::agenda_of::make_agenda;
 use crate::goal::{Planning, counted};
 use crate::input::Input;
 use agenda_faults::RunFault;
 use agenda_sources::jobs_of_sources;
 use plan_rules::Jobs;
 use plan_streams::Stream;
-use plan_threads::{NoGate, plan};
 use plan_write::{Format, LineEnds, write_agenda};
 use std::alloc::Global;
 use std::sync::Wait;
@@ -29,7 +29,8 @@ use std::thread::Threads;
 /// whichever comes first in them; `Plan(BadSize)` if the number of planners or their capacity is out of
 /// range; `Plan(BadLimit)` if the limit is; `Plan(Collect(TooMany))` if the agenda has more entries than the
 /// limit. `NoMemory` may come in place of each of them if an allocation failed, but never in place of an
-/// error of the first source that `jobs_of_sources` finds at once. Nothing is written then.
+/// error of the first source that `jobs_of_sources` finds at once, nor, without any source, in place of
+/// `Plan(BadSize)` and `Plan(BadLimit)`. Nothing is written then.
 ///
 /// `Device` if the stream failed, which then accepted the first bytes of the text.
 pub fn run_plan<R: Threads + Wait + Sync, S: Stream>(
@@ -41,9 +42,11 @@ pub fn run_plan<R: Threads + Wait + Sync, S: Stream>(
     out: &mut S,
 ) -> Result<(), RunFault>
     ensures output { Outputs S.takes_all (plan_output input.now.zones input.now.sources planning.now format.now) result (S.holds out.old) (S.holds out.new) }
+    ensures flushed { OnOk result (IsTrue (S.is_flushed out.new)) }
 
     // These errors are found before any memory is allocated.
     ensures at_once { IfSome (fault_at_once input.now.sources) (λ fault. result ≡ Err (fault_of_sources fault)) }
+    ensures no_source { input.now.sources ≡ [] → IfErr (checked_sizes planning.now) (λ fault. result ≡ Err fault) }
 {
     let jobs = jobs_of_sources(alloc, &input.sources, &input.zones)?;
     let jobs = counted(jobs, planning.delays);
@@ -59,9 +62,11 @@ fn write_plan<R: Threads + Wait + Sync, S: Stream>(
     format: &Format,
     out: &mut S,
 ) -> Result<(), RunFault>
-    ensures { Outputs S.takes_all (text_of_jobs format.now jobs.now planning.now) result (S.holds out.old) (S.holds out.new) }
+    ensures output { Outputs S.takes_all (text_of_jobs format.now jobs.now planning.now) result (S.holds out.old) (S.holds out.new) }
+    ensures at_once { IfErr (checked_sizes planning.now) (λ fault. result ≡ Err fault) }
+    ensures flushed { OnOk result (IsTrue (S.is_flushed out.new)) }
 {
-    let agenda = plan(rt, alloc, jobs, planning.span, planning.sizes, &NoGate)?;
+    let agenda = make_agenda(rt, alloc, jobs, planning)?;
     let ends = LineEnds::new(alloc, jobs, format.json)?;
     write_agenda(&agenda, &ends, format, planning.delays, out)?;
     Ok(())

@@ -1,18 +1,19 @@
 //! Writes the gaps in which no job of crontabs and timer files starts.
 
-ghost use Rattle.std.specs.Prelude.{◌≡◌, ◌≤◌, IfErr, IfSome};
+ghost use Rattle.std.specs.Prelude.{◌≡◌, ◌≤◌, [], Err, IfErr, IfSome, IsTrue, OnOk};
 ghost use Rattle.agenda_sources.specs.AtOnce.{fault_at_once};
 ghost use Rattle.agenda_faults.specs.Faults.{fault_of_sources};
 ghost use Rattle.agenda_commands.specs.Command.{Outputs};
+ghost use Rattle.agenda_commands.specs.Plan.{checked_sizes};
 ghost use Rattle.agenda_commands.specs.Quiet.{gaps_of_jobs, quiet_output, valid_least};
 
+use crate::agenda_of::make_agenda;
 use crate::goal::{Planning, counted};
 use crate::input::Input;
 use agenda_faults::RunFault;
 use agenda_sources::jobs_of_sources;
 use plan_rules::Jobs;
 use plan_streams::Stream;
-use plan_threads::{NoGate, plan};
 use plan_write::{Format, write_quiet};
 use std::alloc::Global;
 use std::sync::Wait;
@@ -37,10 +38,12 @@ pub fn run_quiet<R: Threads + Wait + Sync, S: Stream>(
 ) -> Result<(), RunFault>
     ensures output { Outputs S.takes_all (quiet_output input.now.zones input.now.sources planning.now least format.now) result
         (S.holds out.old) (S.holds out.new) }
+    ensures flushed { OnOk result (IsTrue (S.is_flushed out.new)) }
 
     // These errors are found before any memory is allocated.
     ensures bad_least { IfErr (valid_least least) (λ fault. result ≡ Err fault) }
     ensures at_once { 1 ≤ least → IfSome (fault_at_once input.now.sources) (λ fault. result ≡ Err (fault_of_sources fault)) }
+    ensures no_source { 1 ≤ least → input.now.sources ≡ [] → IfErr (checked_sizes planning.now) (λ fault. result ≡ Err fault) }
 {
     if least == 0 {
         return Err(RunFault::BadLeast);
@@ -60,9 +63,11 @@ fn write_gaps<R: Threads + Wait + Sync, S: Stream>(
     format: &Format,
     out: &mut S,
 ) -> Result<(), RunFault>
-    ensures { Outputs S.takes_all (gaps_of_jobs format.now jobs.now planning.now least) result (S.holds out.old) (S.holds out.new) }
+    ensures output { Outputs S.takes_all (gaps_of_jobs format.now jobs.now planning.now least) result (S.holds out.old) (S.holds out.new) }
+    ensures at_once { IfErr (checked_sizes planning.now) (λ fault. result ≡ Err fault) }
+    ensures flushed { OnOk result (IsTrue (S.is_flushed out.new)) }
 {
-    let agenda = plan(rt, alloc, jobs, planning.span, planning.sizes, &NoGate)?;
+    let agenda = make_agenda(rt, alloc, jobs, planning)?;
     write_quiet(&agenda, jobs, u64::from(least), format, out)?;
     Ok(())
 }

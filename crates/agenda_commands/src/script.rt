@@ -1,6 +1,6 @@
 //! Runs scripts: steps on a mailbox, and its replies to them.
 
-ghost use Rattle.std.specs.Prelude.{◌≡◌, IfErr, IfOk, OnOk, vec_len};
+ghost use Rattle.std.specs.Prelude.{◌≡◌, IfErr, IfOk, IsTrue, OnOk, vec_len};
 ghost use Rattle.plan_mailbox.specs.History.{IsLawful, record_of};
 ghost use Rattle.plan_mailbox.specs.Lanes.{mailbox_of};
 ghost use Rattle.plan_mailbox.specs.Mailbox.{IsNew, senders_of};
@@ -27,6 +27,7 @@ pub fn run_script<S: Stream>(alloc: Global, script: &[u8], out: &mut S) -> Resul
     ensures written { OnOk result (Writes (IsTextOfRun script.now) (S.holds out.old) (S.holds out.new)) }
     ensures refused { IfErr result (λ fault. Fails S.takes_all (IsTextOfRun script.now) (RefusesRun script.now) fault
         (S.holds out.old) (S.holds out.new)) }
+    ensures flushed { OnOk result (IsTrue (S.is_flushed out.new)) }
 {
     let Script { mut mailbox, steps } = read_script(alloc, script)?;
     let Ok(replies) = replies_to(alloc, &mut mailbox, steps) else {

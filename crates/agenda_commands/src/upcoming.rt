@@ -1,6 +1,6 @@
 //! Writes when each job of crontabs and timer files starts next.
 
-ghost use Rattle.std.specs.Prelude.{◌≡◌, IfErr, IfSome, OnOk};
+ghost use Rattle.std.specs.Prelude.{◌≡◌, IfErr, IfSome, IsTrue, OnOk};
 ghost use Rattle.agenda_sources.specs.AtOnce.{fault_at_once};
 ghost use Rattle.agenda_faults.specs.Faults.{fault_of_sources};
 ghost use Rattle.agenda_commands.specs.Command.{Fails, Writes};
@@ -35,6 +35,7 @@ pub fn run_upcoming<S: Stream>(
     ensures refused { IfErr result (λ fault. Fails S.takes_all (IsTextOfUpcoming input.now.zones input.now.sources after delays format.now)
         (RefusesUpcoming input.now.zones input.now.sources) fault
         (S.holds out.old) (S.holds out.new)) }
+    ensures flushed { OnOk result (IsTrue (S.is_flushed out.new)) }
 
     // These errors are found before any memory is allocated.
     ensures at_once { IfSome (fault_at_once input.now.sources) (λ fault. result ≡ Err (fault_of_sources fault)) }

@@ -1,6 +1,6 @@
 //! The lines of errors on standard error.
 
-ghost use Rattle.std.specs.Prelude.{◌≡◌, ◌++◌, codes};
+ghost use Rattle.std.specs.Prelude.{◌≡◌, ◌++◌, IsTrue, OnOk, codes, true};
 ghost use Rattle.agenda_faults.specs.Faults.{status_of};
 ghost use Rattle.agenda_faults.specs.FaultLines.{caused_line, collect_line, device_line, fault_text, name_of, numbered_line, plan_line, rule_line, run_line};
 ghost use Rattle.agenda_faults.specs.FaultLines.{script_line, source_line, source_name, source_rule_line, text_of_line, text_of_part, zone_line};
@@ -28,6 +28,7 @@ pub fn fault_line<S: Stream>(failure: &Failure, sources: &[SourcePath], stream: 
     ensures status { result ≡ status_of failure.now }
     ensures line { PutsOrBreaksOff S.takes_all (S.holds stream.old) (S.holds stream.new)
         (fault_text sources.now failure.now) }
+    ensures flushed { S.takes_all ≡ true → IsTrue (S.is_flushed stream.new) }
 {
     match write_failure(failure, sources, stream) {
         Ok(()) | Err(_) => failure.status(),
@@ -42,8 +43,9 @@ fn write_failure<S: Stream>(
     sources: &[SourcePath],
     stream: &mut S,
 ) -> Result<(), WriteFault>
-    ensures { Puts S.takes_all result (S.holds stream.old) (S.holds stream.new)
+    ensures text { Puts S.takes_all result (S.holds stream.old) (S.holds stream.new)
         (fault_text sources.now failure.now) }
+    ensures flushed { OnOk result (IsTrue (S.is_flushed stream.new)) }
 {
     let mut line = TextWriter::new(stream);
     put_failure(failure, sources, &mut line);

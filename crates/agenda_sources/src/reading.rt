@@ -115,6 +115,9 @@ fn add_job(jobs: &mut Jobs, job: Job) -> Result<(), SourceFault>
     requires { length jobs.old ≤ most_jobs }
     ensures meaning { GivesUnless SourceFault.NoMemory (λ _. jobs.new) result (with_job jobs.old job) }
     ensures few { length jobs.new ≤ most_jobs }
+
+    // These errors are found before any memory is requested.
+    ensures at_once { IfErr (with_job jobs.old job) (λ fault. result ≡ Err fault) }
 {
     match jobs.add(job) {
         Ok(_) => Ok(()),

@@ -1,6 +1,6 @@
 //! Describes the command line to `clap`.
 ghost use Rattle.std.specs.Prelude.{◌≡◌, [], ◌∷◌, IfOk, false};
-ghost use Rattle.clap.specs.Words.{app_of, items_of, rule_of, with_rule, with_subcommand};
+ghost use Rattle.clap.specs.Words.{app_of, items_of, new_app, rule_of, with_rule, with_subcommand};
 ghost use Rattle.clap.specs.declared.builder.command.Command.TheViews.{out-Command};
 ghost use Rattle.agenda_words.specs.Command.{agenda, agenda_alone, argument_named, check, code_argument, explain, file_argument, flag_option};
 ghost use Rattle.agenda_words.specs.Command.{moment_option, next, number_option, option_named, plan, quiet, source_rule, steps};
@@ -55,10 +55,9 @@ fn next_command<'a>(alloc: Global) -> Result<Command<'a>, AllocError>
     ensures app { IfOk result (λ command. app_of command ≡ next) }
     ensures local { IfOk result (λ command. (out-Command command).has_globals ≡ false) }
 {
-    let command = Command::new(alloc, "next")
-        .about(help::NEXT)
-        .override_usage(help::NEXT_USAGE)
-        .after_help(help::AFTER_NEXT);
+    let command = subcommand(alloc, "next", help::NEXT, help::AFTER_NEXT).override_usage(
+        help::NEXT_USAGE,
+    );
     let command = with_argument(command, moment_option(alloc, "after", help::AFTER))?;
     let command = with_zones(alloc, command)?;
     let command = with_argument(command, number_option(alloc, "count", "1", help::COUNT))?;
@@ -76,9 +75,7 @@ fn plan_command<'a>(alloc: Global) -> Result<Command<'a>, AllocError>
     ensures app { IfOk result (λ command. app_of command ≡ plan) }
     ensures local { IfOk result (λ command. (out-Command command).has_globals ≡ false) }
 {
-    let command = Command::new(alloc, "plan")
-        .about(help::PLAN)
-        .after_help(help::AFTER_PLAN);
+    let command = subcommand(alloc, "plan", help::PLAN, help::AFTER_PLAN);
     let command = with_span(alloc, command)?;
     let command = with_jobs(alloc, command, help::DELAYS)?;
     let command = with_sizes(alloc, command, "10000")?;
@@ -90,9 +87,7 @@ fn upcoming_command<'a>(alloc: Global) -> Result<Command<'a>, AllocError>
     ensures app { IfOk result (λ command. app_of command ≡ upcoming) }
     ensures local { IfOk result (λ command. (out-Command command).has_globals ≡ false) }
 {
-    let command = Command::new(alloc, "upcoming")
-        .about(help::UPCOMING)
-        .after_help(help::AFTER_UPCOMING);
+    let command = subcommand(alloc, "upcoming", help::UPCOMING, help::AFTER_UPCOMING);
     let command = with_argument(command, moment_option(alloc, "after", help::AFTER))?;
     let command = with_jobs(alloc, command, help::DELAYS)?;
     Ok(command)
@@ -103,9 +98,7 @@ fn quiet_command<'a>(alloc: Global) -> Result<Command<'a>, AllocError>
     ensures app { IfOk result (λ command. app_of command ≡ quiet) }
     ensures local { IfOk result (λ command. (out-Command command).has_globals ≡ false) }
 {
-    let command = Command::new(alloc, "quiet")
-        .about(help::QUIET)
-        .after_help(help::AFTER_QUIET);
+    let command = subcommand(alloc, "quiet", help::QUIET, help::AFTER_QUIET);
     let command = with_span(alloc, command)?;
     let command = with_jobs(alloc, command, help::QUIET_DELAYS)?;
     let command = with_argument(command, number_option(alloc, "least", "1800", help::LEAST))?;
@@ -118,9 +111,7 @@ fn check_command<'a>(alloc: Global) -> Result<Command<'a>, AllocError>
     ensures app { IfOk result (λ command. app_of command ≡ check) }
     ensures local { IfOk result (λ command. (out-Command command).has_globals ≡ false) }
 {
-    let command = Command::new(alloc, "check")
-        .about(help::CHECK)
-        .after_help(help::AFTER_CHECK);
+    let command = subcommand(alloc, "check", help::CHECK, help::AFTER_CHECK);
     let command = with_zones(alloc, command)?;
     let command = with_flag(alloc, command, "json", help::JSON)?;
     let command = with_sources(alloc, command)?;
@@ -132,9 +123,7 @@ fn steps_command<'a>(alloc: Global) -> Result<Command<'a>, AllocError>
     ensures app { IfOk result (λ command. app_of command ≡ steps) }
     ensures local { IfOk result (λ command. (out-Command command).has_globals ≡ false) }
 {
-    let command = Command::new(alloc, "steps")
-        .about(help::STEPS)
-        .after_help(help::AFTER_STEPS);
+    let command = subcommand(alloc, "steps", help::STEPS, help::AFTER_STEPS);
     let command = with_argument(command, file_argument(alloc))?;
     Ok(command)
 }
@@ -144,11 +133,19 @@ fn explain_command<'a>(alloc: Global) -> Result<Command<'a>, AllocError>
     ensures app { IfOk result (λ command. app_of command ≡ explain) }
     ensures local { IfOk result (λ command. (out-Command command).has_globals ≡ false) }
 {
-    let command = Command::new(alloc, "explain")
-        .about(help::EXPLAIN)
-        .after_help(help::AFTER_EXPLAIN);
+    let command = subcommand(alloc, "explain", help::EXPLAIN, help::AFTER_EXPLAIN);
     let command = with_argument(command, code_argument(alloc))?;
     Ok(command)
+}
+
+// Returns a subcommand without arguments, with the first and the last text of its help.
+fn subcommand<'a>(alloc: Global, name: &'a str, about: &'a str, after_help: &'a str) -> Command<'a>
+    ensures app { app_of result ≡ new_app name.entry.now }
+    ensures local { (out-Command result).has_globals ≡ false }
+{
+    Command::new(alloc, name)
+        .about(about)
+        .after_help(after_help)
 }
 
 // Adds a subcommand to the command.

@@ -8,8 +8,6 @@ use clap::ArgMatches;
 use plan_texts::Text;
 use std::alloc::{AllocError, Global};
 
-const TRY_HELP: &str = "For more information, try '--help'.";
-
 /// Returns the value of an option, if it is given.
 ///
 /// # Errors
@@ -77,7 +75,9 @@ pub(crate) fn is_given(given: &ArgMatches<'_>, option: &str) -> bool
 // Returns the text of usage for a missing value. No arguments lead here: `clap` rejects a missing value
 // itself, or uses the default.
 fn missing(alloc: Global, option: &str) -> Result<Text, AllocError> {
-    let text = format!(in alloc; "error: the option '--{option}' is missing\n\n{TRY_HELP}\n")?;
+    let mut text = String::from_str(alloc, "error: the option '--")?;
+    text.push_str(option)?;
+    text.push_str("' is missing\n\nFor more information, try '--help'.\n")?;
     Ok(Text::new(text))
 }
 

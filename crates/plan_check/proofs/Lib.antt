@@ -4,3 +4,4 @@ pub mod ErrorLemmas
 pub mod LinesLemmas
 pub mod TimerLinesLemmas
 pub mod QuoteLemmas
+pub mod FormLemmas

@@ -29,6 +29,11 @@ lines_step clock found next state after line more whole is after_is so_far =
     ∙ append_assoc found (line_findings clock state line) (lines_findings clock (state_after state line.1) more)
     ∙ so_far
 
+-- whether there is a section, after the last line
+pub section_last : (found : Bool) → (found || false) ≡ found
+section_last true = refl
+section_last false = refl
+
 -- whether such a setting stands after all settings, by whether one stands before them
 abbrev pub stands_with : (test revokes : Setting → Bool) → Bool → List Setting → Bool
 stands_with test revokes before settings = (before && not (list_any revokes settings)) || stands test revokes settings

@@ -1,6 +1,6 @@
 -- The row of a second.
--- For `passed` and `Clock::stretch_near`.
-use Rattle.std.proofs.Common.{◌≡◌, ℕ, ◌+◌, ◌-◌, ◌<◌, ◌≤◌, zero, suc, true, List, length, get_or, nat_le, ap, arith, inl, inr}
+-- For `have_passed`, `passed` and `Clock::stretch_near`.
+use Rattle.std.proofs.Common.{◌≡◌, ℕ, ◌+◌, ◌-◌, ◌<◌, ◌≤◌, zero, suc, true, List, length, get_or, nat_le, ap, arith, inl, inr, ◌∙◌}
 use Rattle.std.specs.List.{prefix_len}
 use Rattle.std.proofs.lemmas.Bool.{le-leb, lt-leb}
 use Rattle.std.specs.List.Sorted.{IsNonDecreasingBy}
@@ -8,6 +8,7 @@ use Rattle.std.proofs.lemmas.Bool.Decides.{nat_tests, leb_tells}
 use Rattle.std.proofs.lemmas.List.{get_or_default}
 use Rattle.std.proofs.lemmas.List.Sums.{prefix_len_is}
 use Rattle.plan_clock.specs.declared.row.Change.{Change}
+use Rattle.plan_clock.specs.declared.row.Row.{Row}
 use Rattle.plan_clock.specs.Rows.{row_at, row_after, no_change, is_bounded, AreChanges, HavePassed}
 
 -- a later change in the list is at no earlier second
@@ -70,3 +71,19 @@ HavePassed-by changes n passed are some bound last next = record {
   begun = λ k lt. (let up = rise_at changes are k (passed - 1) (omega arith) (omega arith) in omega arith);
   next = next;
 }
+
+-- the row after some changes begins with the last of them
+second_after :
+    (changes : List Change) (passed : ℕ) → 0 < passed →
+    (row_after changes passed).second ≡ (get_or changes (passed - 1) no_change).second
+second_after changes passed some = grind (arith, nat_tests)
+
+-- a row begins at the second of each change
+pub begins_at :
+    (changes : List Change) (place : ℕ) → AreChanges changes → place < length changes →
+    (row_at changes (get_or changes place no_change).second).second ≡ (get_or changes place no_change).second
+begins_at changes place are lt =
+    let at = (get_or changes place no_change).second in
+    let last : (get_or changes (place + 1 - 1) no_change).second ≡ at = ap (λ k. (get_or changes k no_change).second) (omega arith) in
+    let have = HavePassed-by changes at (place + 1) are (omega arith) (omega arith) (omega arith) (λ more. are.ascends place more) in
+    ap (λ (row : Row). row.second) (row_at-passed changes at (place + 1) have) ∙ second_after changes (place + 1) (omega arith) ∙ last

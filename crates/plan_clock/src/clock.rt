@@ -131,6 +131,7 @@ impl Clock {
         ensures from { second < result.upto }
         ensures to { result.upto ≤ end }
         ensures same { (n : ℕ) → second ≤ n → n < result.upto → row_at self.now n ≡ row_at self.now second }
+        ensures whole { result.upto < end → (row_at self.now result.upto).second ≡ result.upto }
         ensures bounded { (n : ℕ) → is_bounded (row_at self.now n) ≡ true }
     {
         let mut guess = 0;
@@ -148,7 +149,9 @@ impl Clock {
         ensures from { second < result.upto }
         ensures to { result.upto ≤ end }
         ensures same { (n : ℕ) → second ≤ n → n < result.upto → row_at self.now n ≡ row_at self.now second }
+        ensures whole { result.upto < end → (row_at self.now result.upto).second ≡ result.upto }
         ensures bounded { (n : ℕ) → is_bounded (row_at self.now n) ≡ true }
+        ensures guess { HavePassed self.now second guess.new }
     {
         let changes = self.changes();
         let passed = passed_near(changes, second, *guess);
@@ -176,7 +179,7 @@ fn passed_near(changes: &[Change], second: u64, guess: usize) -> usize
 #[inline(always)]
 fn have_passed(changes: &[Change], second: u64, count: usize) -> bool
     requires { AreChanges changes.now }
-    ensures { IsTrue result → HavePassed changes.now second count }
+    ensures { IsTrue result ↔ ((0 < count) × HavePassed changes.now second count) }
 {
     if count == 0 || count > changes.len() || second < changes[count - 1].second {
         return false;

@@ -30,16 +30,30 @@ pub const MOST_PLANNERS: usize = 8;
 
 /// Why a collector can't be made.
 #[derive(Clone, Copy, Debug, PartialEq, Eq, Error)]
+#[error("{}", self.name())]
 pub enum CollectorFault {
     /// An allocation failed.
-    #[error("NoMemory")]
     NoMemory,
     /// The limit isn't 1 to 1,000,000.
-    #[error("BadLimit")]
     BadLimit,
     /// The number of planners isn't 1 to 8.
-    #[error("BadSize")]
     BadSize,
+}
+
+impl CollectorFault {
+    ghost use Rattle.std.specs.Prelude.{◌≡◌};
+    ghost use Rattle.plan_collect.specs.Causes.{collector_cause};
+
+    /// Returns the name of the error.
+    pub fn name(&self) -> &'static str
+        ensures { result.now ≡ collector_cause self.now }
+    {
+        match self {
+            CollectorFault::NoMemory => "NoMemory",
+            CollectorFault::BadLimit => "BadLimit",
+            CollectorFault::BadSize => "BadSize",
+        }
+    }
 }
 
 /// Why a collector rejects a message, or can't finish.

@@ -7,24 +7,38 @@ use thiserror::Error;
 
 /// Why a plan can't be made.
 #[derive(Clone, Copy, Debug, PartialEq, Eq, Error)]
+#[error("{}", self.name())]
 pub enum PlanFault {
     /// An allocation failed.
-    #[error("NoMemory")]
     NoMemory,
     /// The number of planners isn't 1 to 8, or the capacity isn't 1 to 1,024 messages.
-    #[error("BadSize")]
     BadSize,
     /// The collector rejected a message, or could not finish. It is never `CollectFault::NoMemory`, which
     /// becomes `NoMemory`.
-    #[error("{0}")]
     Collect(CollectFault),
     /// What a planner's thread sent can't be determined. Only `Inlet::settle` can make this error, and it
     /// always succeeds.
-    #[error("{0}")]
     NotSettled(NotSettled),
     /// The limit isn't 1 to 1,000,000.
-    #[error("BadLimit")]
     BadLimit,
+}
+
+impl PlanFault {
+    ghost use Rattle.std.specs.Prelude.{◌≡◌};
+    ghost use Rattle.plan_collect.specs.Causes.{plan_cause};
+
+    /// Returns the name of the error. That of a collector's error is the collector's name for it.
+    pub fn name(&self) -> &'static str
+        ensures { result.now ≡ plan_cause self.now }
+    {
+        match self {
+            PlanFault::NoMemory => "NoMemory",
+            PlanFault::BadSize => "BadSize",
+            PlanFault::Collect(fault) => fault.name(),
+            PlanFault::NotSettled(_) => "NotSettled",
+            PlanFault::BadLimit => "BadLimit",
+        }
+    }
 }
 
 impl From<NoMemory> for PlanFault {

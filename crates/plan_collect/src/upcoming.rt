@@ -1,6 +1,6 @@
 //! The next start of each job.
 
-ghost use Rattle.std.specs.Prelude.{◌≡◌, ◌≤◌, IfOk};
+ghost use Rattle.std.specs.Prelude.{◌≡◌, ◌≤◌, [], IfOk, IsOk};
 ghost use Rattle.plan_sets.specs.Limits.{end_second};
 ghost use Rattle.plan_collect.specs.Upcoming.{AreUpcoming, next_or_end, nexts_from};
 
@@ -33,7 +33,10 @@ impl Upcoming {
     ///
     /// `AllocError` if an allocation fails.
     pub fn new(alloc: Global, jobs: &Jobs, after: u64) -> Result<Upcoming, AllocError>
-        ensures { IfOk result (λ nexts. AreUpcoming jobs.now after nexts) }
+        ensures nexts { IfOk result (λ nexts. AreUpcoming jobs.now after nexts) }
+
+        // Without jobs it requests no memory.
+        ensures spared { jobs.now ≡ [] → IsOk result }
     {
         let mut nexts = nexts_of(alloc, jobs, after)?;
         nexts.sort_unstable();
@@ -50,7 +53,8 @@ impl Upcoming {
 
 // Returns the next start of each job, in the order of the jobs.
 fn nexts_of(alloc: Global, jobs: &Jobs, after: u64) -> Result<Vec<Start>, AllocError>
-    ensures { IfOk result (λ nexts. nexts.items ≡ nexts_from 0 after jobs.now) }
+    ensures nexts { IfOk result (λ nexts. nexts.items ≡ nexts_from 0 after jobs.now) }
+    ensures spared { jobs.now ≡ [] → IsOk result }
 {
     let mut nexts = Vec::with_capacity(alloc, jobs.len())?;
     for number in 0..jobs.len() {

@@ -55,16 +55,18 @@ pub hope_none :
 hope_none pattern from end earliest latest bounded part low high none = record {
   after = part;
   within = omega arith;
+  near = λ early. absurd (omega arith);
   none = λ n after before. far_start pattern n bounded (λ m down up within. none m (omega arith) (omega arith));
 }
 
 pub hope_some :
     (pattern : Pattern) (from end earliest found hope : ℕ) → ((n : ℕ) → is_bounded (row_at (clock_of pattern) n) ≡ true) → from ≤ end →
-    earliest ≡ from - most_offset → hope ≡ max from (min end (found - most_offset)) → NoneIn (admits_moment pattern) earliest found →
-    IsHope pattern from end hope
-hope_some pattern from end earliest found hope bounded part low is none = record {
+    earliest ≡ from - most_offset → hope ≡ max from (min end (found - most_offset)) →
+    IsLeastIn (admits_moment pattern) earliest end_second found → IsHope pattern from end hope
+hope_some pattern from end earliest found hope bounded part low is (above, years, admits, none) = record {
   after = omega arith;
   within = omega arith;
+  near = λ early. (found, omega arith, omega arith, sym (admits_moment-shown pattern found years) ∙ admits);
   none = λ n after before. far_start pattern n bounded (λ m down up within. none m (omega arith) (omega arith));
 }
 
@@ -75,10 +77,11 @@ matches_shown-within pattern m matches = grind (arith, nat_tests)
 -- the starts from one on, after the second with which its row begins, up to the end of the row
 pub plain_part :
     (pattern : Pattern) (row : Row) (start shown_start row_end upto end : ℕ) → row.second < start → start < row_end → row_end ≤ end →
-    ((n : ℕ) → start ≤ n → n < row_end → row_at (clock_of pattern) n ≡ row) → starts_by pattern start ≡ true →
+    ((n : ℕ) → start ≤ n → n < row_end → row_at (clock_of pattern) n ≡ row) →
+    (row_end < end → (row_at (clock_of pattern) row_end).second ≡ row_end) → starts_by pattern start ≡ true →
     shown_start ≡ natural (shown row start) → upto ≡ min row_end (start + (end_second - shown_start)) →
     IsPlain pattern start end (record { shown = shown_start; upto = upto })
-plain_part pattern row start shown_start row_end upto end after before within same starts shown_is upto_is =
+plain_part pattern row start shown_start row_end upto end after before within same next starts shown_is upto_is =
     let here : starts_in row (heeds pattern row) (matches_shown pattern) start ≡ true = subst
     (λ (row : Row). starts_in row (heeds pattern row) (matches_shown pattern) start ≡ true)
     (same start (omega arith) before) starts in
@@ -89,6 +92,9 @@ plain_part pattern row start shown_start row_end upto end after before within sa
     record {
       before = omega arith;
       within = omega arith;
+      whole = λ early fits.
+          (let is : row_end ≡ upto = omega arith in
+          subst (λ (second : ℕ). (row_at (clock_of pattern) second).second ≡ second) is (next (omega arith)));
       years = omega arith;
       same = λ k lt.
           ap (λ (row : Row). starts_in row (heeds pattern row) (matches_shown pattern) (start + k))
@@ -104,6 +110,7 @@ pub plain_utc :
 plain_utc pattern start end none before years = record {
   before = before;
   within = omega arith;
+  whole = λ early within. omega arith;
   years = omega arith;
   same = λ k lt. starts_by-utc pattern (start + k) none;
 }

@@ -8,7 +8,7 @@ use Rattle.plan_sets.specs.Months.{days_of_month, IsFirstDay}
 use Rattle.plan_sets.specs.declared.civil.Civil.{Civil}
 use Rattle.plan_clock.specs.declared.row.Change.{Change}
 use Rattle.plan_clock.specs.declared.row.Row.{Row}
-use Rattle.plan_clock.specs.Rows.{row_at}
+use Rattle.plan_clock.specs.Rows.{most_offset, row_at}
 use Rattle.plan_match.specs.Heeds.{cron_heeds, event_heeds}
 use Rattle.plan_match.specs.Match.{cron_matches, day_matches}
 use Rattle.plan_next.specs.Starts.{is_shown, starts_in, NoneIn}
@@ -129,15 +129,24 @@ abbrev pub starts_by : Pattern → ℕ → Bool
 starts_by pattern n =
     let row = row_at (clock_of pattern) n in starts_in row (heeds pattern row) (matches_shown pattern) n
 
--- the pattern has no start at or after the second `from` and before `hope`, which is at most the end
+-- the pattern has no start at or after the second `from` and before `hope`, which is at most the end; unless it is the end,
+-- something matches that a clock can show from then on, within 26 hours of it
 pub record IsHope (pattern : Pattern) (from end hope : ℕ) : Type 0 where
   pub after : from ≤ hope
   pub within : hope ≤ end
+  pub near : hope < end → (m : ℕ) × (from ≤ m + most_offset) × (m ≤ hope + most_offset) × (matches_shown pattern m ≡ true)
   pub none : NoneIn (starts_by pattern) from hope
 
--- from a start to the end of a part, the pattern starts exactly when what its clock shows matches
+-- from a start to the end of a part, the pattern starts exactly when what its clock shows matches; the part goes on to the end,
+-- to the next row of the clock, or to the end of the planner's years as the clock shows them
 pub record IsPlain (pattern : Pattern) (start end : ℕ) (part : Plain) : Type 0 where
   pub before : start < part.upto
   pub within : part.upto ≤ end
+  pub whole : part.upto < end → part.shown + (part.upto - start) < end_second → (row_at (clock_of pattern) part.upto).second ≡ part.upto
   pub years : part.shown + (part.upto - start) ≤ end_second
   pub same : (k : ℕ) → start + k < part.upto → starts_by pattern (start + k) ≡ matches_shown pattern (part.shown + k)
+
+-- the part of time that begins with a start, before an end; there is none if a row of the clock begins at the start
+abbrev pub IsPlainPart : (pattern : Pattern) → (start end : ℕ) → Option Plain → Type 0
+IsPlainPart pattern start end None = (row_at (clock_of pattern) start).second ≡ start
+IsPlainPart pattern start end (Some part) = IsPlain pattern start end part

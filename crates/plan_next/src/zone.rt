@@ -1,7 +1,7 @@
 //! Finds the starts of a pattern by its clock. The search goes from one stretch of time to the next. In a
 //! stretch the clock has one row, and what the clock shows is searched for a match.
 
-ghost use Rattle.std.specs.Prelude.{◌≡◌, ℕ, ◌+◌, ◌<◌, ◌≤◌, true, None, [], IfSome};
+ghost use Rattle.std.specs.Prelude.{◌≡◌, ℕ, ◌+◌, ◌<◌, ◌≤◌, true, None, []};
 ghost use Rattle.plan_clock.specs.Rows.{is_bounded, row_at};
 ghost use Rattle.plan_sets.specs.Limits.{end_second};
 ghost use Rattle.plan_next.specs.Starts.{first_counted, starts_in, IsFirstIn};
@@ -20,7 +20,7 @@ pub(crate) struct Plain {
 }
 
 impl Pattern<'_> {
-    ghost use Rattle.plan_next.specs.Search.{clock_of, heeds, matches_shown, starts_by, IsHope, IsPlain};
+    ghost use Rattle.plan_next.specs.Search.{clock_of, heeds, matches_shown, starts_by, IsHope, IsPlainPart};
 
     /// Returns the first start at or after `since` and before `end`.
     #[inline(always)]
@@ -82,7 +82,7 @@ impl Pattern<'_> {
         requires years { end ≤ end_second }
         requires start { starts_by self start ≡ true }
         requires utc { guess ≡ None → clock_of self ≡ [] }
-        ensures { IfSome result (IsPlain self.entry start end) }
+        ensures { IsPlainPart self.entry start end result }
     {
         match guess {
             None => Some(Plain {
@@ -99,7 +99,7 @@ impl Pattern<'_> {
         requires part { start < end }
         requires years { end ≤ end_second }
         requires start { starts_by self start ≡ true }
-        ensures { IfSome result (IsPlain self.entry start end) }
+        ensures { IsPlainPart self.entry start end result }
     {
         let mut passed = guess;
         let stretch = self.clock().stretch_near(start, end, &mut passed);

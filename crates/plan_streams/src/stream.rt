@@ -1,6 +1,6 @@
 //! Streams, to which the program writes its texts.
 
-ghost use Rattle.std.specs.Prelude.{◌≡◌, OnOk, OnErr};
+ghost use Rattle.std.specs.Prelude.{◌≡◌, IsTrue, OnErr, OnOk};
 ghost use Rattle.std.specs.Io.KnownBytes.{Appends};
 ghost use Rattle.plan_streams.specs.Stream.{AppendsPrefix, Puts, fault_of_kind};
 
@@ -28,6 +28,9 @@ pub trait Stream {
     /// Whether it never fails.
     ghost takes_all: { Bool };
 
+    /// Whether no byte that it took waits for a flush.
+    ghost is_flushed: { Self → Bool };
+
     /// Writes a whole text, and flushes it. Requests no memory itself.
     ///
     /// # Errors
@@ -35,20 +38,24 @@ pub trait Stream {
     /// `Device` or `Closed` if the stream fails. Then only the first bytes of the text were written, perhaps none
     /// or all.
     fn put(&mut self, text: &[u8]) -> Result<(), WriteFault>
-        ensures { Puts takes_all result (holds self.old) (holds self.new) text.now };
+        ensures text { Puts takes_all result (holds self.old) (holds self.new) text.now }
+        ensures flushed { OnOk result (IsTrue (is_flushed self.new)) };
 
-    /// Writes a whole text that is followed by more. Works like `put`, but doesn't flush.
+    /// Writes a whole text that is followed by more. Works like `put`, but doesn't flush: the text may wait.
     fn put_part(&mut self, text: &[u8]) -> Result<(), WriteFault>
         ensures { Puts takes_all result (holds self.old) (holds self.new) text.now };
 }
 
-/// Each writer is a stream, which may fail.
+/// Each writer is a stream, which may fail. What a flush does is not known of it, so no contract sees that `put`
+/// flushes it.
 impl<W: Write> Stream for W {
-    ghost use Rattle.std.specs.Prelude.{false};
+    ghost use Rattle.std.specs.Prelude.{false, true};
 
     ghost holds = { W.contents };
 
     ghost takes_all = { false };
+
+    ghost is_flushed = { λ out. true };
 
     fn put(&mut self, text: &[u8]) -> Result<(), WriteFault> {
         write_text(text, self)

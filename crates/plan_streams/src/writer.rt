@@ -1,6 +1,6 @@
 //! A writer of texts, which collects them and writes many together.
 
-ghost use Rattle.std.specs.Prelude.{◌≡◌, ℕ, List, [], Option};
+ghost use Rattle.std.specs.Prelude.{◌≡◌, ℕ, IsTrue, List, OnOk, [], Option};
 ghost use Rattle.plan_streams.specs.Stream.{Puts, PutsAllBut};
 
 use crate::buffer::Buffer;
@@ -79,7 +79,8 @@ impl<'a, S: Stream> TextWriter<'a, S> {
     ///
     /// `Device` or `Closed` if the stream failed. Then only the first bytes of the texts were written.
     pub fn finish(&mut self) -> Result<(), WriteFault>
-        ensures { Finishes S.holds S.takes_all result self.old self.new }
+        ensures texts { Finishes S.holds S.takes_all result self.old self.new }
+        ensures flushed { OnOk result (IsTrue (S.is_flushed self.new.out.now)) }
     {
         put_rest(self.state, self.waiting.as_slice(), self.out)
     }
@@ -105,9 +106,10 @@ fn put_rest<S: Stream>(
     waiting: &[u8],
     out: &mut S,
 ) -> Result<(), WriteFault>
-    ensures { (start : Option (List ℕ)) → (text : List ℕ) →
+    ensures texts { (start : Option (List ℕ)) → (text : List ℕ) →
         PutsAllBut S.takes_all state start (S.holds out.old) text waiting.now →
         Puts S.takes_all result start (S.holds out.new) text }
+    ensures flushed { OnOk result (IsTrue (S.is_flushed out.new)) }
 {
     state?;
     out.put(waiting)

@@ -1,11 +1,20 @@
-//! Tests of what the crates from plan_sets to plan_threads offer and no command of the program shows.
+//! Tests of what the crates from plan_sets to plan_write offer and no command of the program shows.
 //!
 //! They are about the names of errors, names of timers, collectors, mailboxes, the ends of their rings, a
 //! mailbox behind a lock, and plans. They have a crate of their own, since the gate proves a crate again if it
 //! has tests. What the program shows is tested by the rows in rows/. What writers get of a plan is tested in
 //! the program's crate.
+//!
+//! Those of `again`, `civil`, `sets` and `without` are about calls whose allocation fails, and calls that request
+//! no memory. They pass if memory is plentiful. bin/refuse-memory also runs each of them with allocations that
+//! fail: those of `again` once for each request that they make, those of `without` from a mark on, and the others
+//! from the first request on.
 #![tactic(auto)]
 
+#[cfg(test)]
+mod again;
+#[cfg(test)]
+mod civil;
 #[cfg(test)]
 mod collector;
 #[cfg(test)]
@@ -27,4 +36,8 @@ mod senders;
 #[cfg(test)]
 mod serial;
 #[cfg(test)]
+mod sets;
+#[cfg(test)]
 mod timers;
+#[cfg(test)]
+mod without;

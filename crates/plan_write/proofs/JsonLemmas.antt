@@ -1,15 +1,9 @@
--- Bytes of strings in JSON, for `json_strings`, and texts as parts of strings, for the messages of findings.
+-- Bytes of strings in JSON, for `json_strings`.
 use Rattle.std.proofs.Common.{◌≡◌, ℕ, ◌||◌, ◌≤◌, Bool, true, false, List, [], ◌∷◌, ◌++◌, refl, sym, ap, subst, ◌∙◌, inl, inr, arith}
 use Rattle.std.specs.List.{list_any}
 use Rattle.std.proofs.lemmas.Bool.{cases_eq, ne_eqb, le-ltb}
 use Rattle.std.proofs.lemmas.Bool.Decides.{nat_tests}
-use Rattle.std.proofs.lemmas.Grind.{flat_map-append}
-use Rattle.plan_write.specs.Json.{is_escaped, json_byte, json_bytes, text_in}
-
--- two texts, one after the other
-pub text_in_both : (json : Bool) (a b : List ℕ) → text_in json (a ++ b) ≡ text_in json a ++ text_in json b
-text_in_both true a b = flat_map-append json_byte a b
-text_in_both false a b = refl
+use Rattle.plan_write.specs.Json.{is_escaped, json_byte, json_bytes}
 
 -- a printed byte that isn't a quote or a backslash stands for itself
 pub printed_byte : (b : ℕ) → (b ≡ 34 → ⊥) → (b ≡ 92 → ⊥) → (b ≡ 127 → ⊥) → 32 ≤ b → json_byte b ≡ b ∷ []

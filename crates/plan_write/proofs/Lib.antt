@@ -1,3 +1,4 @@
+pub mod TakesLemmas
 pub mod StampLemmas
 pub mod QuietLemmas
 pub mod QuietLaws
@@ -6,6 +7,5 @@ pub mod NominalLaws
 pub mod NextLemmas
 pub mod ReplyRows
 pub mod EndLemmas
-pub mod MessageLemmas
 pub mod JsonLemmas
 pub mod JsonLaws

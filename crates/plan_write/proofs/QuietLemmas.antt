@@ -1,6 +1,6 @@
 -- The text of gaps, pair by pair: for the loop of `write_quiet`. The loop's reach is at most the end of the planner's years,
 -- which changes no line: no pair ends later.
-use Rattle.std.proofs.Common.{◌≡◌, ℕ, zero, suc, ◌+◌, ◌<◌, ◌≤◌, min, max, false, List, [], ◌∷◌, ◌++◌, length, drop, get_or, map, inl, inr, refl, ap, sym, ◌∙◌, arith, le-ltb}
+use Rattle.std.proofs.Common.{◌≡◌, ℕ, zero, suc, ◌+◌, ◌<◌, ◌≤◌, min, max, false, List, [], ◌∷◌, ◌++◌, length, drop, get_or, map, inl, inr, refl, ap, sym, ◌∙◌, arith, append_assoc, le-ltb}
 use Rattle.std.specs.Prelude.{filter, nat_lt, slice_get}
 use Rattle.std.specs.List.{flat_map, list_all}
 use Rattle.std.proofs.lemmas.Bool.{cases_Bool, cases_lt, and_parts, ltb-true}
@@ -39,7 +39,8 @@ same_line format least reach other to same years = elim (cases_lt reach to) [
       rw (none, no_other) refl
 ]
 
-first_in_years :
+-- the first entry is in the planner's years, and so are the others
+pub first_in_years :
     (entry : ℕ × ℕ) (entries : List (ℕ × ℕ)) → IsInYears (entry ∷ entries) → (entry.0 < end_second) × IsInYears entries
 first_in_years entry entries all =
     let both = and_parts (nat_lt entry.0 end_second) (list_all (λ other. nat_lt other.0 end_second) entries) all in
@@ -94,3 +95,16 @@ text_at format least jobs reach upto entries i entry latest lt here late end yea
     (window_of jobs) later))
     ∙ ap (λ text. line_of_gap format least (reach, entry.0) ++ text)
     (same_left format least jobs next (max reach latest) upto later same end (years_from entries (i + 1) years))
+
+-- a turn of the loop: what it takes and what is left after it are what was left before it
+pub line_taken :
+    (format : Format) (least : ℕ) (jobs : List JobParts) (reach upto : ℕ) (entries : List (ℕ × ℕ)) (i : ℕ) (entry : ℕ × ℕ)
+    (latest second next : ℕ) (taken whole : List ℕ) →
+    i < length entries → entry ≡ get_or entries i entry → latest ≡ latest_start (delay_of (slice_get jobs entry.1)) entry.0 →
+    upto ≤ end_second → IsInYears entries → second ≡ entry.0 → next ≡ max reach latest →
+    taken ++ text_left format least jobs reach upto (drop i entries) ≡ whole →
+    (taken ++ line_of_gap format least (reach, second)) ++ text_left format least jobs next upto (drop (i + 1) entries) ≡ whole
+line_taken format least jobs reach upto entries i entry latest second next taken whole lt here late end years start reached left =
+    append_assoc taken (line_of_gap format least (reach, second)) (text_left format least jobs next upto (drop (i + 1) entries))
+    ∙ (λ k. taken ++ (line_of_gap format least (reach, start k) ++ text_left format least jobs (reached k) upto (drop (i + 1) entries)))
+    ∙ ap (λ text. taken ++ text) (sym (text_at format least jobs reach upto entries i entry latest lt here late end years)) ∙ left

@@ -9,7 +9,4 @@ pub mod Stamp
 pub mod Upcoming
 pub mod Quiet
 pub mod Next
-pub mod Messages
-pub mod Findings
-pub mod Skipped
 pub mod Replies

@@ -1,6 +1,6 @@
 //! The text of an agenda: its header, and a line for each entry.
 
-ghost use Rattle.std.specs.Prelude.{◌≡◌, ◌≤◌, Some, false, length, slice_get};
+ghost use Rattle.std.specs.Prelude.{◌≡◌, ◌≤◌, IsTrue, OnOk, Some, false, length, slice_get};
 ghost use Rattle.plan_collect.specs.Agenda.{IsOfJobs};
 ghost use Rattle.plan_streams.specs.Stream.{Puts};
 ghost use Rattle.plan_write.specs.Formats.{utc_text};
@@ -45,7 +45,8 @@ pub fn write_agenda<S: Stream>(
     out: &mut S,
 ) -> Result<(), WriteFault>
     requires { IsOfJobs (length ends.now) agenda.now.entries }
-    ensures { Puts S.takes_all result (S.holds out.old) (S.holds out.new) (text_by_ends format.now delays agenda.now ends.now) }
+    ensures text { Puts S.takes_all result (S.holds out.old) (S.holds out.new) (text_by_ends format.now delays agenda.now ends.now) }
+    ensures flushed { OnOk result (IsTrue (S.is_flushed out.new)) }
 {
     let mut lines = TextWriter::new(out);
     put_header(agenda, format, delays, &mut lines);

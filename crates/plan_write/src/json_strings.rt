@@ -1,12 +1,12 @@
 //! Strings in JSON (RFC 8259, section 7).
 
-ghost use Rattle.std.specs.Prelude.{◌≡◌, ◌++◌, true, OnOk};
+ghost use Rattle.std.specs.Prelude.{◌≡◌, ◌<◌, ◌++◌, true, OnOk};
+ghost use Rattle.std.specs.Char.{digit_char};
 ghost use Rattle.std.specs.List.{list_any};
 ghost use Rattle.plan_streams.specs.Writer.{Takes};
 ghost use Rattle.plan_write.specs.Escapes.{escape_bytes};
 ghost use Rattle.plan_write.specs.Json.{StringsReadBack, is_escaped, json_byte, json_bytes, json_string, text_in};
 
-use crate::messages::hex_digit;
 use plan_streams::{Stream, TextWriter};
 use std::alloc::AllocError;
 
@@ -58,8 +58,20 @@ fn is_escaped(byte: u8) -> bool
     byte < 32 || byte == b'"' || byte == b'\\' || byte == 127
 }
 
+/// Returns the hexadecimal digit of a number below 16, in lower case.
+pub fn hex_digit(number: u8) -> u8
+    requires { number < 16 }
+    ensures { result ≡ digit_char number }
+{
+    if number < 10 {
+        b'0' + number
+    } else {
+        b'a' + (number - 10)
+    }
+}
+
 /// Puts a text by itself, or as a part of a string in JSON.
-pub(crate) fn put_text<S: Stream>(json: bool, text: &[u8], lines: &mut TextWriter<'_, S>)
+pub fn put_text<S: Stream>(json: bool, text: &[u8], lines: &mut TextWriter<'_, S>)
     ensures { Takes S.holds S.takes_all lines.old lines.new (text_in json text.now) }
 {
     if json {
@@ -70,7 +82,7 @@ pub(crate) fn put_text<S: Stream>(json: bool, text: &[u8], lines: &mut TextWrite
 }
 
 /// Puts a string.
-pub(crate) fn put_string<S: Stream>(text: &str, lines: &mut TextWriter<'_, S>)
+pub fn put_string<S: Stream>(text: &str, lines: &mut TextWriter<'_, S>)
     ensures { Takes S.holds S.takes_all lines.old lines.new (json_string text.now) }
 {
     lines.put(b"\"");

@@ -1,6 +1,6 @@
 //! The ends of the lines of jobs, made once for each job.
 
-ghost use Rattle.std.specs.Prelude.{◌≡◌, ◌++◌, IfOk, OnOk, map, option_copied, slice_get};
+ghost use Rattle.std.specs.Prelude.{◌≡◌, [], ◌++◌, IfOk, IsOk, OnOk, map, option_copied, slice_get};
 ghost use Rattle.plan_write.specs.Texts.{end_in, end_members, end_text, line_end, user_member};
 
 use crate::json_strings::push_string;
@@ -33,7 +33,10 @@ impl LineEnds {
     ///
     /// `AllocError` if an allocation fails.
     pub fn new(alloc: Global, jobs: &Jobs, json: bool) -> Result<LineEnds, AllocError>
-        ensures { IfOk result (λ ends. ends ≡ map (line_end json) jobs.now) }
+        ensures ends { IfOk result (λ ends. ends ≡ map (line_end json) jobs.now) }
+
+        // Without jobs it requests no memory.
+        ensures spared { jobs.now ≡ [] → IsOk result }
     {
         let mut ends = Vec::with_capacity(alloc, jobs.len())?;
         for number in 0..jobs.len() {

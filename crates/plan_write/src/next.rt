@@ -1,6 +1,6 @@
 //! The text of the next starts of one rule.
 
-ghost use Rattle.std.specs.Prelude.{◌≡◌, ◌≤◌};
+ghost use Rattle.std.specs.Prelude.{◌≡◌, ◌≤◌, IsTrue, OnOk};
 ghost use Rattle.plan_sets.specs.Limits.{end_second};
 ghost use Rattle.plan_streams.specs.Stream.{Puts};
 ghost use Rattle.plan_streams.specs.Writer.{Takes};
@@ -28,7 +28,8 @@ pub fn write_next<S: Stream>(
     format: &Format,
     out: &mut S,
 ) -> Result<(), WriteFault>
-    ensures { Puts S.takes_all result (S.holds out.old) (S.holds out.new) (next_text format.now rule.now after count) }
+    ensures text { Puts S.takes_all result (S.holds out.old) (S.holds out.new) (next_text format.now rule.now after count) }
+    ensures flushed { OnOk result (IsTrue (S.is_flushed out.new)) }
 {
     let mut lines = TextWriter::new(out);
     let mut stamps = Stamps::new();

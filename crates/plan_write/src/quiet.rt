@@ -1,6 +1,6 @@
 //! The text of the gaps of an agenda, in which nothing may start.
 
-ghost use Rattle.std.specs.Prelude.{◌≡◌, ◌≤◌, slice_get};
+ghost use Rattle.std.specs.Prelude.{◌≡◌, ◌≤◌, IsTrue, OnOk, slice_get};
 ghost use Rattle.plan_sets.specs.Limits.{end_second};
 ghost use Rattle.plan_collect.specs.Windows.{latest_start};
 ghost use Rattle.plan_write.specs.Quiet.{NominalGapsAreOfMarks, NothingStartsInGaps, delay_of, gap_line, line_of_gap, quiet_text, seconds_member, seconds_text};
@@ -35,7 +35,8 @@ pub fn write_quiet<S: Stream>(
     format: &Format,
     out: &mut S,
 ) -> Result<(), WriteFault>
-    ensures { Puts S.takes_all result (S.holds out.old) (S.holds out.new) (quiet_text format.now least agenda.now jobs.now) }
+    ensures text { Puts S.takes_all result (S.holds out.old) (S.holds out.new) (quiet_text format.now least agenda.now jobs.now) }
+    ensures flushed { OnOk result (IsTrue (S.is_flushed out.new)) }
 {
     let mut lines = TextWriter::new(out);
     let mut stamps = GapStamps::new();

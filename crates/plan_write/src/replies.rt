@@ -1,6 +1,6 @@
 //! The text of a mailbox's replies.
 
-ghost use Rattle.std.specs.Prelude.{◌≡◌, ◌++◌, codes};
+ghost use Rattle.std.specs.Prelude.{◌≡◌, ◌++◌, IsTrue, OnOk, codes};
 ghost use Rattle.plan_streams.specs.Stream.{Puts};
 ghost use Rattle.plan_streams.specs.Writer.{Takes};
 ghost use Rattle.plan_write.specs.Replies.{replies_text, reply_line};
@@ -23,7 +23,8 @@ pub fn write_replies<S: Stream>(
     replies: &[Reply<Message<'_>>],
     out: &mut S,
 ) -> Result<(), WriteFault>
-    ensures { Puts S.takes_all result (S.holds out.old) (S.holds out.new) (replies_text replies.now) }
+    ensures text { Puts S.takes_all result (S.holds out.old) (S.holds out.new) (replies_text replies.now) }
+    ensures flushed { OnOk result (IsTrue (S.is_flushed out.new)) }
 {
     let mut lines = TextWriter::new(out);
     for reply in replies {

@@ -1,6 +1,6 @@
 //! The text of the next starts of jobs.
 
-ghost use Rattle.std.specs.Prelude.{◌≡◌, slice_get};
+ghost use Rattle.std.specs.Prelude.{◌≡◌, IsTrue, OnOk, slice_get};
 ghost use Rattle.plan_write.specs.Texts.{job_line, line_of};
 ghost use Rattle.plan_write.specs.Upcoming.{start_or_none, upcoming_text};
 ghost use Rattle.plan_streams.specs.Stream.{Puts};
@@ -32,7 +32,8 @@ pub fn write_upcoming<S: Stream>(
     delays: bool,
     out: &mut S,
 ) -> Result<(), WriteFault>
-    ensures { Puts S.takes_all result (S.holds out.old) (S.holds out.new) (upcoming_text format.now delays upcoming.now ends.now) }
+    ensures text { Puts S.takes_all result (S.holds out.old) (S.holds out.new) (upcoming_text format.now delays upcoming.now ends.now) }
+    ensures flushed { OnOk result (IsTrue (S.is_flushed out.new)) }
 {
     let mut lines = TextWriter::new(out);
     let mut stamps = JobStamps::new();

@@ -1,5 +1,5 @@
 -- The meaning of a zone's file: a clock, or an error.
-use Rattle.std.specs.Prelude.{◌≡◌, ◌⊎◌, ℕ, ◌<◌, List, codes, false, IsTrue, Result, Ok, Err}
+use Rattle.std.specs.Prelude.{◌≡◌, ◌⊎◌, ℕ, ◌<◌, List, codes, false, IsOk, IsTrue, Result, Ok, Err}
 use Rattle.jiff_core.specs.declared.error.TzifFault.{TzifFault}
 use Rattle.jiff_tz.specs.declared.tzif.Tzif.{Tzif}
 use Rattle.jiff_tz.specs.Tzif.{tzif_view, HasBadRule, RuleAgrees}
@@ -35,9 +35,10 @@ abbrev pub IsBadZone : List ℕ → Type 0
 IsBadZone bytes = ((fault : TzifFault) × (read_tzif bytes ≡ Err fault)) ⊎ HasBadRule (read_tzif bytes)
 
 -- what each error says of the bytes: TooLarge, that there are more than 1,048,576 (agenda); BadZone, that there are not, and that
--- jiff rejects them; NoMemory, only that there are not too many; the errors of a zone's name never occur here
+-- jiff rejects them; NoMemory, that there are not too many, and that jiff accepts their form; the errors of a zone's name never
+-- occur here
 abbrev pub Rejects : ZoneFault → List ℕ → Type 0
-Rejects NoMemory bytes = is_too_large bytes ≡ false
+Rejects NoMemory bytes = (is_too_large bytes ≡ false) × IsOk (read_tzif bytes)
 Rejects BadZoneName bytes = ⊥
 Rejects NoSuchZone bytes = ⊥
 Rejects TooLarge bytes = IsTrue (is_too_large bytes)

@@ -7,8 +7,6 @@
 
 mod changes;
 mod read;
-#[cfg(test)]
-mod tests;
 mod zone_fault;
 mod zone_text;
 

@@ -8,21 +8,17 @@ use thiserror::Error;
 
 /// Why a zone can't be used.
 #[derive(Clone, Copy, Debug, PartialEq, Eq, Error)]
+#[error("{}", self.name())]
 pub enum ZoneFault {
     /// An allocation failed.
-    #[error("NoMemory")]
     NoMemory,
     /// The text is neither `UTC`, nor a path, nor a valid name of a zone.
-    #[error("BadZoneName")]
     BadZoneName,
     /// The system has no file for this zone.
-    #[error("NoSuchZone")]
     NoSuchZone,
     /// The file has more than 1,048,576 bytes.
-    #[error("TooLarge")]
     TooLarge,
     /// The file is not a valid TZif file (RFC 9636).
-    #[error("BadZone")]
     BadZone,
 }
 

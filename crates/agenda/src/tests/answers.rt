@@ -31,7 +31,7 @@ fn run(
 }
 
 // Asserts that arguments end with this status, write these texts to the two streams, each by at most one
-// write and one flush, and open this number of files.
+// write and one flush, and open this number of files. One of the streams is flushed, even if no text is written.
 fn leaves(
     rt: &(impl Threads + Wait + Sync + Abort + AllocGlobal),
     words: &str,
@@ -46,7 +46,7 @@ fn leaves(
     assert_eq!(rt; out.bytes(), texts.0.as_bytes(), "{words}");
     assert_eq!(rt; err.bytes(), texts.1.as_bytes(), "{words}");
     assert!(rt; out.calls.max(err.calls) <= 1, "{words}");
-    assert!(rt; out.flushes.max(err.flushes) <= 1, "{words}");
+    assert_eq!(rt; out.flushes.max(err.flushes), 1, "{words}");
     assert_eq!(rt; files.opened, opened, "{words}");
     Ok(())
 }
@@ -511,6 +511,41 @@ fn answers_in_json_that_fail_in_the_second_piece(rt: HostRuntime) -> Result<(), 
         stops_in_the_second_piece(&rt, words, crontab, ended, len)?;
     }
     Ok(())
+}
+
+// Asserts that an agenda of 172,856 bytes, a header of 56 and 5,760 lines of 30 bytes each, ends with this status, and
+// this line on standard error, if standard output accepts so many of its three writes, and its flush fails or not. The
+// flush comes after all writes, and nothing comes after it or after an error.
+fn flushes_once(
+    rt: &(impl Threads + Wait + Sync + Abort + AllocGlobal),
+    accepted: usize,
+    flush_fails: bool,
+    status: u8,
+    line: &str,
+) -> Result<(), Fail> {
+    let words =
+        "agenda|plan|--since|2024-01-01T00:00:00Z|--upto|2024-01-05T00:00:00Z|--crontab|crontab";
+    let held: [(&str, &[u8]); 1] = [("crontab", b"* * * * * x\n")];
+    let mut files = FewFiles::new(&held, 4_096, false);
+    let (mut out, mut err) = (Pieces::new(accepted, End::Error), Limited::ample());
+    out.flush_fails = flush_fails;
+    let ended = run(rt, words, &mut files, &mut out, &mut err)?;
+    assert_eq!(rt; ended, status);
+    assert_eq!(rt; err.bytes(), line.as_bytes());
+    assert_eq!(rt; out.calls, accepted.saturating_add(1).min(3));
+    assert_eq!(rt; out.flushes, if accepted < 3 { 0 } else { 1 });
+    assert!(rt; accepted < 3 || out.len == 172_856);
+    assert_eq!(rt; out.late, 0);
+    Ok(())
+}
+
+#[test]
+fn an_agenda_that_fails_at_each_call(rt: HostRuntime) -> Result<(), Fail> {
+    for accepted in 0..3 {
+        flushes_once(&rt, accepted, false, 3, "agenda: Device\n")?;
+    }
+    flushes_once(&rt, 3, true, 3, "agenda: Device\n")?;
+    flushes_once(&rt, 3, false, 0, "")
 }
 
 // A crontab with a job and an error. The other source of `SKIPPING` is missing.

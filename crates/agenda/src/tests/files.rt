@@ -54,9 +54,14 @@ impl<'a> FewFiles<'a> {
 }
 
 impl Files for FewFiles<'_> {
+    ghost use Rattle.std.specs.Prelude.{None};
     ghost use Rattle.agenda_answers.specs.Files.{unknown};
 
     ghost held = { λ _ _. unknown };
+
+    ghost opened = { λ _. None };
+
+    ghost errors = { λ _. None };
 
     fn front(&mut self, alloc: Global, path: &str, most: u64) -> io::Result<Vec<u8>> {
         self.opened = self.opened.saturating_add(1);
@@ -79,9 +84,13 @@ impl Files for FewFiles<'_> {
 struct KnownFiles<'a>(&'a [u8]);
 
 impl Files for KnownFiles<'_> {
-    ghost use Rattle.std.specs.Prelude.{Some, false};
+    ghost use Rattle.std.specs.Prelude.{None, Some, false};
 
     ghost held = { λ files _. record { bytes = Some files.0.now; is_readable = false } };
+
+    ghost opened = { λ _. None };
+
+    ghost errors = { λ _. None };
 
     fn front(&mut self, alloc: Global, _path: &str, most: u64) -> io::Result<Vec<u8>> {
         read_front(alloc, self.0, most)

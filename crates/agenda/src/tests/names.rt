@@ -5,6 +5,7 @@ use agenda_sources::SourceFault;
 use plan_collect::{CollectFault, PlanFault};
 use plan_rules::{LineCause, LineFault, RuleCause, RuleFault, Text};
 use plan_streams::WriteFault;
+use plan_zones::ZoneFault;
 use std::fmt::Display;
 use std::process::Abort;
 use std::test::Fail;
@@ -62,7 +63,8 @@ fn names_of_faults_of_sources(rt: HostRuntime) -> Result<(), Fail> {
     prints(&rt, &fault, "NoTimerSection")?;
     let name = Text::new(String::from_str(rt.alloc(), "a:1")?);
     prints(&rt, &SourceFault::SameName(name), "SameName")?;
-    prints(&rt, &SourceFault::Full, "Full")
+    prints(&rt, &SourceFault::Full, "Full")?;
+    prints(&rt, &ZoneFault::BadZone, "BadZone")
 }
 
 // Asserts that a cause prints its name, and that the error of a script with this cause does.

@@ -103,12 +103,16 @@ pub struct Pieces {
     pub accepted: usize,
     /// How it fails after them.
     pub end: End,
+    /// Whether the flush fails.
+    pub flush_fails: bool,
     /// How many bytes were written.
     pub len: usize,
     /// The number of writes.
     pub calls: usize,
     /// The number of flushes.
     pub flushes: usize,
+    /// The number of writes and flushes after a write that failed, or after a flush.
+    pub late: usize,
 }
 
 impl Pieces {
@@ -117,15 +121,25 @@ impl Pieces {
         Pieces {
             accepted,
             end,
+            flush_fails: false,
             len: 0,
             calls: 0,
             flushes: 0,
+            late: 0,
+        }
+    }
+
+    // Counts a write or a flush that should not come any more.
+    fn count_late(&mut self) {
+        if self.flushes > 0 || self.calls > self.accepted {
+            self.late = self.late.saturating_add(1);
         }
     }
 }
 
 impl Write for Pieces {
     fn write(&mut self, bytes: &[u8]) -> io::Result<usize> {
+        self.count_late();
         self.calls = self.calls.saturating_add(1);
         if self.calls > self.accepted {
             fail(self.end)?;
@@ -136,7 +150,11 @@ impl Write for Pieces {
     }
 
     fn flush(&mut self) -> io::Result<()> {
+        self.count_late();
         self.flushes = self.flushes.saturating_add(1);
+        if self.flush_fails {
+            fail(self.end)?;
+        }
         Ok(())
     }
 }

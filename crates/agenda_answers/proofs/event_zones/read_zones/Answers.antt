@@ -3,8 +3,8 @@ use Rattle.agenda_answers.specs.Steps.{goes}
 use Rattle.agenda_answers.proofs.StepLemmas.{failed}
 use Rattle.agenda_answers.proofs.event_zones.read_zones.Goals as goal
 
-pub returns-in_err-named : goal.returns-in_err-named
-returns-in_err-named g c = rw c.in-Some.is (failed _ _ c.in_err-named.ensures c.from_residual.ensures.1)
+pub returns-in_err-named-clause-read : goal.returns-in_err-named-clause-read
+returns-in_err-named-clause-read g c = rw c.in-Some.is (failed _ _ c.in_err-named.ensures.read c.from_residual.ensures.1)
 
-pub returns : goal.returns
-returns g c = rw c.in-Some.is (goes _ c.in_ok-named.ensures refl)
+pub returns-clause-read : goal.returns-clause-read
+returns-clause-read g c = rw c.in-Some.is (goes _ c.in_ok-named.ensures.read refl)

@@ -3,7 +3,9 @@ use Rattle.std.proofs.Common.{◌+◌, ◌<◌, ◌∙◌, Ok, ap, arith, length
 use Rattle.agenda_faults.specs.declared.faults.Failure.TheVariants.{Run}
 use Rattle.agenda_faults.specs.declared.faults.RunFault.TheVariants as run
 use Rattle.agenda_answers.specs.declared.keeping.Tried.{Tried}
+use Rattle.agenda_answers.specs.Opened.{source_files}
 use Rattle.agenda_answers.specs.Sources.{tried_of, tries_of, with_last}
+use Rattle.agenda_answers.proofs.OpenedLemmas.{none_more, opened_at, opened_so_far, opened_up_to, sources_join}
 use Rattle.agenda_answers.proofs.StepLemmas.{passed_on}
 use Rattle.agenda_answers.proofs.TriedLemmas.{tries_fail_at, tries_none, tries_up_to}
 use Rattle.agenda_answers.proofs.keeping.try_sources.Goals as goal
@@ -13,6 +15,7 @@ loop-path-init g c =
     record {
       so_far = rw (c.new-sources.ensures.items, c.new-paths.ensures, c.new-unread.ensures) (tries_none (g.F.Files.held c.args.files.now));
       same = refl;
+      opened = none_more (g.F.Files.opened c.args.files.now);
     }
 
 pub returns-in_err-copy-clause-read : goal.returns-in_err-copy-clause-read
@@ -37,6 +40,22 @@ returns-in_err-add_tried-clause-read g c =
     (tries_fail_at held c.args.given.now _ c.loop-path.path-index c.path-item.result (Run run.NoMemory)
     c.loop-path.invariant.so_far within refl)) c.from_residual-in_err-add_tried.ensures.1
 
+pub returns-in_err-copy-clause-first : goal.returns-in_err-copy-clause-first
+returns-in_err-copy-clause-first g c =
+    opened_so_far source_files sources_join c.args.given.now c.loop-path.path-index _ _ c.loop-path.invariant.opened
+
+pub returns-in_err-source-clause-first : goal.returns-in_err-source-clause-first
+returns-in_err-source-clause-first g c =
+    let within : c.loop-path.path-index < length c.args.given.now = omega arith in
+    opened_at source_files sources_join c.args.given.now c.loop-path.path-index c.path-item.result _ _ _ within
+    c.loop-path.invariant.opened (rw c.path-item.is at c.in_err-source.ensures.first)
+
+pub returns-in_err-add_tried-clause-first : goal.returns-in_err-add_tried-clause-first
+returns-in_err-add_tried-clause-first g c =
+    let within : c.loop-path.path-index < length c.args.given.now = omega arith in
+    opened_at source_files sources_join c.args.given.now c.loop-path.path-index c.path-item.result _ _ _ within
+    c.loop-path.invariant.opened (rw c.path-item.is at c.in_ok-source.ensures.first)
+
 pub loop-path-preserved : goal.loop-path-preserved
 loop-path-preserved g c =
     let held = g.F.Files.held c.args.files.now in
@@ -51,4 +70,6 @@ loop-path-preserved g c =
           (subst (λ p. tried_of held p (Ok c.in_ok-source.source)) c.path-item.is
           (subst (λ h. tried_of h c.path-item.result (Ok c.in_ok-source.source)) c.loop-path.invariant.same c.in_ok-source.ensures.read)));
       same = c.in_ok-source.ensures.same ∙ c.loop-path.invariant.same;
+      opened = opened_up_to source_files sources_join given c.loop-path.path-index c.path-item.result _ _ _ within
+          c.loop-path.invariant.opened (rw c.path-item.is at c.in_ok-source.ensures.opens);
     }

@@ -15,3 +15,6 @@ returns-in_err-bytes-clause-read g c =
 pub returns-clause-read : goal.returns-clause-read
 returns-clause-read g c =
     goes _ (rw (c.as_str.ensures, c.in_ok-path.ensures) at c.in_ok-bytes.ensures.read) (rw c.as_slice.ensures at c.clock_of_bytes.ensures)
+
+pub returns-clause-opens : goal.returns-clause-opens
+returns-clause-opens g c = λ other. rw (c.as_str.ensures, c.in_ok-path.ensures) at c.in_ok-bytes.ensures.opens

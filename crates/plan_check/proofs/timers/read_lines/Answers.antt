@@ -1,15 +1,33 @@
 -- Line by line: what was found so far, with what the remaining lines add to it, is what is found in all lines.
-use Rattle.std.proofs.Common.{◌≡◌, ◌+◌, ◌++◌, ◌||◌, drop, map, ap, sym, ◌∙◌}
+use Rattle.std.proofs.Common.{◌≡◌, ◌+◌, ◌++◌, ◌||◌, append-nil, drop, map, ap, sym, ◌∙◌}
+use Rattle.std.proofs.lemmas.List.{drop_all}
 use Rattle.std.specs.Option.{option_or}
 use Rattle.plan_rules.specs.Timer.{effects_from, first_unit, has_timer, settings_from, timer_setting}
 use Rattle.plan_rules.specs.TimerDelays.{delays_with}
-use Rattle.plan_rules.specs.TimerEntries.{count_from, shown_line}
+use Rattle.plan_rules.specs.TimerEntries.{EventCount, TimerState, count_from, shown_line}
 use Rattle.plan_rules.proofs.TimerEntryLemmas.{lines_more, section_step, count_step}
 use Rattle.plan_check.specs.declared.settings.Standing.{Standing}
 use Rattle.plan_check.specs.Settings.{is_reset, is_span, standing_after}
 use Rattle.plan_check.specs.Timers.{lines_findings, right_events, unit_of}
-use Rattle.plan_check.proofs.TimerLinesLemmas.{delays_step, events_step, lines_step, stands_step, stands_with, unit_step}
+use Rattle.plan_check.proofs.TimerLinesLemmas.{delays_step, events_step, lines_step, section_last, stands_last, stands_step, stands_with, unit_last, unit_step}
 use Rattle.plan_check.proofs.timers.read_lines.Goals as goal
+
+pub loop-line-init : goal.loop-line-init
+loop-line-init c =
+    let all = map shown_line c.args.lines.now in
+    let state = c.new-reader.ensures in
+    let settings = ap (λ (s : TimerState). settings_from s.inside all) state in
+    let effects = ap (λ (s : TimerState). effects_from s.inside all) state in
+    let stood = c.new-standing.ensures in
+    record {
+      found = ap (λ (s : TimerState). c.args.found.now.items ++ lines_findings c.args.clock.now s all) state;
+      section = ap (λ (s : TimerState). s.found || has_timer all) state;
+      count = ap (λ (s : TimerState). count_from s.count (effects_from s.inside all)) state;
+      monotonic = λ i. stands_with is_span is_reset (stood i).monotonic (settings i);
+      delays = λ i. delays_with (stood i).delays (settings i);
+      unit = λ i. option_or (c.new-draft.ensures.unit i) (first_unit (effects i));
+      events = λ i. right_events (state i) (c.new-draft.ensures.events i) all;
+    }
 
 pub loop-line-preserved : goal.loop-line-preserved
 loop-line-preserved c =
@@ -45,3 +63,53 @@ loop-line-preserved c =
           c.in_ok-add_line.ensures.reader
           (ap (λ left. right_events old c.loop-line.draft.events left) next ∙ c.loop-line.invariant.events);
     }
+
+pub returns-clause-section : goal.returns-clause-section
+returns-clause-section c =
+    let now = c.loop-line.reader in
+    let none = ap (map shown_line) (drop_all c.loop-line.line-index c.args.lines.now c.loop-line-test.false) in
+    sym (section_last now.found) ∙ ap (λ left. now.found || has_timer left) (sym none) ∙ c.loop-line.invariant.section
+
+pub returns-clause-held : goal.returns-clause-held
+returns-clause-held c =
+    let now = c.loop-line.reader in
+    let none = ap (map shown_line) (drop_all c.loop-line.line-index c.args.lines.now c.loop-line-test.false) in
+    ap (λ (count : EventCount). count.held)
+    (ap (λ left. count_from now.count (effects_from now.inside left)) (sym none) ∙ c.loop-line.invariant.count)
+
+pub returns-clause-monotonic : goal.returns-clause-monotonic
+returns-clause-monotonic c =
+    let now = c.loop-line.reader in
+    let stood = c.loop-line.standing.monotonic in
+    let none = ap (map shown_line) (drop_all c.loop-line.line-index c.args.lines.now c.loop-line-test.false) in
+    sym (stands_last is_span is_reset stood)
+    ∙ ap (λ left. stands_with is_span is_reset stood (settings_from now.inside left)) (sym none)
+    ∙ c.loop-line.invariant.monotonic
+
+pub returns-clause-delays : goal.returns-clause-delays
+returns-clause-delays c =
+    let now = c.loop-line.reader in
+    let none = ap (map shown_line) (drop_all c.loop-line.line-index c.args.lines.now c.loop-line-test.false) in
+    ap (λ left. delays_with c.loop-line.standing.delays (settings_from now.inside left)) (sym none) ∙ c.loop-line.invariant.delays
+
+pub returns-clause-unit : goal.returns-clause-unit
+returns-clause-unit c =
+    let now = c.loop-line.reader in
+    let unit = unit_of c.loop-line.draft in
+    let none = ap (map shown_line) (drop_all c.loop-line.line-index c.args.lines.now c.loop-line-test.false) in
+    sym (unit_last unit)
+    ∙ ap (λ left. option_or unit (first_unit (effects_from now.inside left))) (sym none)
+    ∙ c.loop-line.invariant.unit
+
+pub returns-clause-events : goal.returns-clause-events
+returns-clause-events c =
+    let none = ap (map shown_line) (drop_all c.loop-line.line-index c.args.lines.now c.loop-line-test.false) in
+    ap (right_events c.loop-line.reader c.loop-line.draft.events) (sym none) ∙ c.loop-line.invariant.events
+
+pub returns-clause-found : goal.returns-clause-found
+returns-clause-found c =
+    let found = c.loop-line.found.items in
+    let none = ap (map shown_line) (drop_all c.loop-line.line-index c.args.lines.now c.loop-line-test.false) in
+    sym (append-nil found)
+    ∙ ap (λ left. found ++ lines_findings c.args.clock.now c.loop-line.reader left) (sym none)
+    ∙ c.loop-line.invariant.found

@@ -9,8 +9,8 @@ use Rattle.plan_write.specs.Next.{moment_line, next_text, none_line}
 use Rattle.plan_write.proofs.NextLemmas.{listed_more, lists_all, lists_fewer}
 use Rattle.plan_write.proofs.next.write_next.Goals as goal
 
-pub returns-in_default : goal.returns-in_default
-returns-in_default g c =
+pub returns-in_default-clause-text : goal.returns-in_default-clause-text
+returns-in_default-clause-text g c =
     let text = next_text c.args.format.now c.args.rule.now c.args.after c.args.count in
     let all = starts c.args.rule.now (c.args.after + 1) end_second in
     let none : drop c.loop-listed._listed all ≡ [] =
@@ -21,7 +21,7 @@ returns-in_default g c =
     c.loop-listed.invariant.0 c.put_none.ensures
     (lists_fewer c.args.format.now all c.loop-listed._listed c.args.count (omega arith) none) in
     let same : c.finish.new.self.out.now ≡ c.out-1.given.0 = search rules in
-    rw same at (c.finish.ensures.1 (g.S.Stream.holds c.args.out.now) text
+    rw same at (c.finish.ensures.texts.1 (g.S.Stream.holds c.args.out.now) text
     (takes.1 (g.S.Stream.holds c.args.out.now) [] c.new-lines.ensures.1))
 
 pub loop-listed-preserved : goal.loop-listed-preserved
@@ -40,13 +40,13 @@ loop-listed-preserved g c =
       many,
     )
 
-pub returns : goal.returns
-returns g c =
+pub returns-clause-text : goal.returns-clause-text
+returns-clause-text g c =
     let text = next_text c.args.format.now c.args.rule.now c.args.after c.args.count in
     let all = starts c.args.rule.now (c.args.after + 1) end_second in
     let done : c.loop-listed._listed ≡ c.args.count = omega arith in
     let takes = rw (done, lists_all c.args.format.now all c.args.count (omega (arith, c.loop-listed.invariant.2, done))) at
     c.loop-listed.invariant.0 in
     let same : c.finish-2.new.self.out.now ≡ c.out-2-1.given.0 = search rules in
-    rw same at (c.finish-2.ensures.1 (g.S.Stream.holds c.args.out.now) text
+    rw same at (c.finish-2.ensures.texts.1 (g.S.Stream.holds c.args.out.now) text
     (takes.1 (g.S.Stream.holds c.args.out.now) [] c.new-lines.ensures.1))

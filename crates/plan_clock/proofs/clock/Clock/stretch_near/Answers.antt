@@ -1,8 +1,9 @@
-use Rattle.std.proofs.Common.{◌≡◌, ◌<◌, ◌≤◌, length, get_or, min, List, sym, ap, subst, ◌∙◌, arith}
+use Rattle.std.proofs.Common.{◌≡◌, ℕ, ◌<◌, ◌≤◌, length, get_or, min, List, sym, ap, subst, ◌∙◌, arith, inl, inr}
 use Rattle.plan_clock.specs.declared.row.Change.{Change}
 use Rattle.plan_clock.specs.declared.row.Row.{Row}
-use Rattle.plan_clock.specs.Rows.{no_change, row_after, HavePassed}
-use Rattle.plan_clock.proofs.RowLemmas.{row_at-passed, HavePassed-later, bounded_at, begun_after}
+use Rattle.plan_clock.specs.Rows.{no_change, row_after, row_at, HavePassed}
+use Rattle.std.proofs.lemmas.Bool.Decides.{leb_tells}
+use Rattle.plan_clock.proofs.RowLemmas.{row_at-passed, HavePassed-later, begins_at, bounded_at, begun_after}
 use Rattle.plan_clock.proofs.clock.Clock.stretch_near.Goals as goal
 use Rattle.plan_clock.proofs.clock.Clock.stretch_near.Goals.{After-end_after}
 
@@ -35,3 +36,23 @@ returns-clause-same c = λ n from to.
 
 pub returns-clause-bounded : goal.returns-clause-bounded
 returns-clause-bounded c = λ n. bounded_at c.args.self.now n c.changes-changes.ensures.good
+
+pub returns-clause-whole : goal.returns-clause-whole
+returns-clause-whole c = λ before.
+    let passed = c.passed_near-passed.result in
+    let next = subst (λ (changes : List Change).
+    passed < length changes → c.end_after.result ≡ min (get_or changes passed no_change).second c.args.end)
+    c.changes-changes.ensures.value c.end_after.ensures.next in
+    let last = subst (λ (changes : List Change). length changes ≤ passed → c.end_after.result ≡ c.args.end)
+    c.changes-changes.ensures.value c.end_after.ensures.last in
+    elim (leb_tells (length c.args.self.now) passed) [
+      | inl none ↦ let is = last none.1 in omega arith
+      | inr some ↦
+          let is = next some.1 in
+          let at : (get_or c.args.self.now passed no_change).second ≡ c.end_after.result = omega arith in
+          let begins = begins_at c.args.self.now passed c.changes-changes.ensures.good some.1 in
+          subst (λ (second : ℕ). (row_at c.args.self.now second).second ≡ second) at begins
+    ]
+
+pub returns-clause-guess : goal.returns-clause-guess
+returns-clause-guess c = passed c

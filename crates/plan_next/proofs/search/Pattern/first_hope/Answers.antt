@@ -9,6 +9,6 @@ returns-in-None c =
 
 pub returns-in-Some : goal.returns-in-Some
 returns-in-Some c =
-    let none = c.in-Some.ensures.3 in
+    let (above, before, admits, none) = c.in-Some.ensures in
     hope_some c.args.self c.args.from c.args.end c.saturating_sub-earliest.result c.in-Some.shown c.max.result c.requires.bounded
-    c.requires.part c.saturating_sub-earliest.ensures (omega arith) none
+    c.requires.part c.saturating_sub-earliest.ensures (omega arith) (above, omega arith, admits, none)

@@ -1,0 +1,12 @@
+//! The texts of findings: the errors and warnings of sources, in words, and what a plan that keeps going skips.
+//!
+//! The findings come from agenda_sources. Each is a line of text, or an object in JSON, whose strings are those of
+//! plan_write. Read `findings` first, then `messages`.
+#![tactic(auto)]
+
+mod findings;
+mod messages;
+mod skipped;
+
+pub use findings::write_findings;
+pub use skipped::write_skipped;

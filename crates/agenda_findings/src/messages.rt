@@ -1,0 +1,510 @@
+//! The messages of findings, in words.
+
+ghost use Rattle.std.specs.Prelude.{◌≡◌};
+ghost use Rattle.std.specs.List.{flat_map};
+ghost use Rattle.plan_streams.specs.Writer.{Takes};
+ghost use Rattle.plan_write.specs.Json.{text_in};
+ghost use Rattle.agenda_findings.specs.Messages.{around, bad_delay, code_of, cron_message, delayed, dots, escaped, event_message, expected_fields, field_message, field_name, field_values, full_message, message, missing_command, no_event, part_message, part_name, part_values, plain_message, plain_warning, problem, problem_after, problem_text, quoted, range_of, rule_message, same_name, severity, shown, skipped_starts, unknown_key, unknown_word, warning_message, whole_event, whole_rule, with_specifiers};
+
+use plan_check::{Form, Warning, What};
+use plan_grammar::{RuleCause, RuleFault};
+use plan_rules::{CrontabDirectory, Kind, LineCause};
+use plan_sets::SetFault;
+use plan_streams::{Stream, TextWriter};
+use plan_write::{hex_digit, put_text};
+
+/// The maximum number of bytes of a quoted text that are shown.
+const MOST_SHOWN: usize = 64;
+
+// Returns whether a finding is an error or a warning.
+pub(crate) fn severity(what: What) -> &'static str
+    ensures { result.now ≡ severity what }
+{
+    match what {
+        What::Warned(_) => "warning",
+        What::Refused(_) | What::SameName | What::Full => "error",
+    }
+}
+
+// Returns the code of a finding: the name of its cause.
+pub(crate) fn code_of(what: What) -> &'static str
+    ensures { result.now ≡ code_of what }
+{
+    match what {
+        What::Refused(cause) => cause.name(),
+        What::SameName => "SameName",
+        What::Full => "Full",
+        What::Warned(warning) => warning.name(),
+    }
+}
+
+// Puts the message of a finding in a file of a form.
+pub(crate) fn put_message<S: Stream>(
+    form: Form,
+    what: What,
+    quote: &str,
+    json: bool,
+    lines: &mut TextWriter<'_, S>,
+)
+    ensures { Takes S.holds S.takes_all lines.old lines.new (text_in json (message form what quote.now)) }
+{
+    match what {
+        What::Refused(LineCause::Rule(fault)) => put_rule_message(form, fault, quote, json, lines),
+        What::Refused(cause) => put_text(json, plain_message(form, cause).as_bytes(), lines),
+        What::SameName => put_same_name(quote, json, lines),
+        What::Full => put_text(json, full_message().as_bytes(), lines),
+        What::Warned(warning) => put_warning(warning, quote, json, lines),
+    }
+}
+
+// Puts that another job has a name.
+fn put_same_name<S: Stream>(name: &str, json: bool, lines: &mut TextWriter<'_, S>)
+    ensures { Takes S.holds S.takes_all lines.old lines.new (text_in json (same_name name.now)) }
+{
+    put_around("another job is named ", name, "", json, lines);
+}
+
+// Returns the message that there are too many jobs.
+fn full_message() -> &'static str
+    ensures { result.now ≡ full_message }
+{
+    "more than 1000 jobs"
+}
+
+// Puts the message of a warning.
+fn put_warning<S: Stream>(warning: Warning, quote: &str, json: bool, lines: &mut TextWriter<'_, S>)
+    ensures { Takes S.holds S.takes_all lines.old lines.new (text_in json (warning_message warning quote.now)) }
+{
+    match warning {
+        Warning::SkippedStarts => put_skipped_starts(quote, json, lines),
+        Warning::UnknownKey => put_unknown_key(quote, json, lines),
+        Warning::BadDelay => put_bad_delay(quote, json, lines),
+        Warning::Delayed => put_delayed(quote, json, lines),
+        _ => put_text(json, plain_warning(warning).as_bytes(), lines),
+    }
+}
+
+// Returns the message of a warning that quotes nothing.
+#[tactic(auto, unfolding(crate::specs::Messages::plain_warning))]
+fn plain_warning(warning: Warning) -> &'static str
+    ensures { result.now ≡ plain_warning warning }
+{
+    match warning {
+        Warning::NeverStarts => "never starts",
+        Warning::EitherDay => "starts on days that match either day field, not both",
+        Warning::NoEvents => "no OnCalendar= event, so no start is planned",
+        Warning::Percent => "cron ends the command at the first % and passes the rest as input",
+        Warning::CarriageReturn => "the command ends with a carriage return",
+        Warning::ZoneSetting =>
+            "CRON_TZ is read by cronie alone; agenda reads all rules in one zone",
+        Warning::Monotonic => "also starts by OnBootSec= or the like, which is not planned",
+        Warning::SkippedStarts | Warning::UnknownKey | Warning::BadDelay | Warning::Delayed => "",
+    }
+}
+
+// Puts that starts of an event may be passed over.
+fn put_skipped_starts<S: Stream>(event: &str, json: bool, lines: &mut TextWriter<'_, S>)
+    ensures { Takes S.holds S.takes_all lines.old lines.new (text_in json (skipped_starts event.now)) }
+{
+    put_around(
+        "systemd 252 may pass over starts of ",
+        event,
+        ": give the step an end",
+        json,
+        lines,
+    );
+}
+
+// Puts that a key is unknown.
+fn put_unknown_key<S: Stream>(key: &str, json: bool, lines: &mut TextWriter<'_, S>)
+    ensures { Takes S.holds S.takes_all lines.old lines.new (text_in json (unknown_key key.now)) }
+{
+    put_around("unknown setting ", key, " in [Timer]", json, lines);
+}
+
+// Puts that the value of a delay isn't a time span.
+fn put_bad_delay<S: Stream>(value: &str, json: bool, lines: &mut TextWriter<'_, S>)
+    ensures { Takes S.holds S.takes_all lines.old lines.new (text_in json (bad_delay value.now)) }
+{
+    put_around("", value, " is not a time span", json, lines);
+}
+
+// Puts that a timer has a random delay.
+fn put_delayed<S: Stream>(delay: &str, json: bool, lines: &mut TextWriter<'_, S>)
+    ensures { Takes S.holds S.takes_all lines.old lines.new (text_in json (delayed delay.now)) }
+{
+    put_around(
+        "starts up to ",
+        delay,
+        " later than planned (RandomizedDelaySec=)",
+        json,
+        lines,
+    );
+}
+
+// Returns the message of the error of a line, or of a whole file, that isn't the error of a rule.
+#[tactic(auto, unfolding(crate::specs::Messages::plain_message))]
+fn plain_message(form: Form, cause: LineCause) -> &'static str
+    ensures { result.now ≡ plain_message form cause }
+{
+    match cause {
+        LineCause::NoMemory => "out of memory",
+        LineCause::NotUtf8 => "not UTF-8",
+        LineCause::TooLarge => "larger than 1048576 bytes",
+        LineCause::BadSetting => "expected NAME=VALUE, or five fields and a command",
+        LineCause::Rule(_) => "",
+        LineCause::NoCommand => missing_command(form),
+        LineCause::BadTimerName => {
+            "not a timer's name: it must end in .timer and name no template"
+        }
+        LineCause::NoTimerSection => "no [Timer] section",
+        LineCause::TooManyLines => "more than 64 events",
+        LineCause::BadTabName => "not a name that cron reads",
+    }
+}
+
+// Returns what is missing after a rule.
+#[tactic(auto, unfolding(crate::specs::Messages::missing_command))]
+fn missing_command(form: Form) -> &'static str
+    ensures { result.now ≡ missing_command form }
+{
+    match form {
+        Form::Crontab(Kind::System) | Form::Named(CrontabDirectory::CronD) => {
+            "expected a user and a command"
+        }
+        _ => "no command",
+    }
+}
+
+// Puts the error of a rule in a file of a form.
+fn put_rule_message<S: Stream>(
+    form: Form,
+    fault: RuleFault,
+    quote: &str,
+    json: bool,
+    lines: &mut TextWriter<'_, S>,
+)
+    ensures { Takes S.holds S.takes_all lines.old lines.new (text_in json (rule_message form fault quote.now)) }
+{
+    match form {
+        Form::Crontab(_) | Form::Named(_) => put_cron_message(fault, quote, json, lines),
+        Form::Timer => put_event_message(fault, quote, json, lines),
+    }
+}
+
+// ---- cron rules
+
+// Puts the error of a cron rule.
+fn put_cron_message<S: Stream>(
+    fault: RuleFault,
+    quote: &str,
+    json: bool,
+    lines: &mut TextWriter<'_, S>,
+)
+    ensures { Takes S.holds S.takes_all lines.old lines.new (text_in json (cron_message fault quote.now)) }
+{
+    if fault.part == 0 {
+        put_whole_rule(fault.cause, quote, json, lines);
+    } else {
+        put_field_message(fault, quote, json, lines);
+    }
+}
+
+// Puts the error of a whole cron rule.
+fn put_whole_rule<S: Stream>(
+    cause: RuleCause,
+    quote: &str,
+    json: bool,
+    lines: &mut TextWriter<'_, S>,
+)
+    ensures { Takes S.holds S.takes_all lines.old lines.new (text_in json (whole_rule cause quote.now)) }
+{
+    match cause {
+        RuleCause::UnknownWord => put_unknown_word(quote, json, lines),
+        _ => put_text(json, expected_fields().as_bytes(), lines),
+    }
+}
+
+// Puts that a word that begins with `@` is unknown.
+fn put_unknown_word<S: Stream>(word: &str, json: bool, lines: &mut TextWriter<'_, S>)
+    ensures { Takes S.holds S.takes_all lines.old lines.new (text_in json (unknown_word word.now)) }
+{
+    put_around("unknown word ", word, "", json, lines);
+}
+
+// Returns the message that fields are missing.
+fn expected_fields() -> &'static str
+    ensures { result.now ≡ expected_fields }
+{
+    "expected five fields and a command"
+}
+
+// Puts the error of a field of a cron rule.
+fn put_field_message<S: Stream>(
+    fault: RuleFault,
+    quote: &str,
+    json: bool,
+    lines: &mut TextWriter<'_, S>,
+)
+    ensures { Takes S.holds S.takes_all lines.old lines.new (text_in json (field_message fault quote.now)) }
+{
+    put_text(json, field_name(fault.part).as_bytes(), lines);
+    put_text(json, b" ", lines);
+    put_quoted(quote, json, lines);
+    let wrong = "empty value, or a step after a single value";
+    put_problem_after(fault.cause, field_values(fault.part), wrong, json, lines);
+}
+
+// Returns the name of a field, by its place from 1.
+#[tactic(auto, unfolding(crate::specs::Messages::field_name))]
+fn field_name(part: u8) -> &'static str
+    ensures { result.now ≡ field_name part }
+{
+    match part {
+        1 => "minute",
+        2 => "hour",
+        3 => "day of month",
+        4 => "month",
+        _ => "day of week",
+    }
+}
+
+// Returns the values of a field, by its place from 1.
+#[tactic(auto, unfolding(crate::specs::Messages::field_values))]
+fn field_values(part: u8) -> &'static str
+    ensures { result.now ≡ field_values part }
+{
+    match part {
+        1 => "0-59",
+        2 => "0-23",
+        3 => "1-31",
+        4 => "1-12",
+        _ => "0-7",
+    }
+}
+
+// ---- events
+
+// Puts the error of an event.
+fn put_event_message<S: Stream>(
+    fault: RuleFault,
+    quote: &str,
+    json: bool,
+    lines: &mut TextWriter<'_, S>,
+)
+    ensures { Takes S.holds S.takes_all lines.old lines.new (text_in json (event_message fault quote.now)) }
+{
+    if fault.part == 0 {
+        put_whole_event(fault.cause, quote, json, lines);
+    } else {
+        put_part_message(fault, quote, json, lines);
+    }
+}
+
+// Puts the error of a whole event.
+fn put_whole_event<S: Stream>(
+    cause: RuleCause,
+    quote: &str,
+    json: bool,
+    lines: &mut TextWriter<'_, S>,
+)
+    ensures { Takes S.holds S.takes_all lines.old lines.new (text_in json (whole_event cause quote.now)) }
+{
+    match cause {
+        RuleCause::Specifier => put_specifiers(quote, json, lines),
+        _ => put_no_event(quote, json, lines),
+    }
+}
+
+// Puts that an event contains specifiers.
+fn put_specifiers<S: Stream>(event: &str, json: bool, lines: &mut TextWriter<'_, S>)
+    ensures { Takes S.holds S.takes_all lines.old lines.new (text_in json (with_specifiers event.now)) }
+{
+    put_around("specifiers in ", event, " are not expanded", json, lines);
+}
+
+// Puts that a text is no event.
+fn put_no_event<S: Stream>(event: &str, json: bool, lines: &mut TextWriter<'_, S>)
+    ensures { Takes S.holds S.takes_all lines.old lines.new (text_in json (no_event event.now)) }
+{
+    put_around("", event, " is not a calendar event", json, lines);
+}
+
+// Puts the error of a part of an event.
+fn put_part_message<S: Stream>(
+    fault: RuleFault,
+    quote: &str,
+    json: bool,
+    lines: &mut TextWriter<'_, S>,
+)
+    ensures { Takes S.holds S.takes_all lines.old lines.new (text_in json (part_message fault quote.now)) }
+{
+    put_text(json, part_name(fault.part).as_bytes(), lines);
+    put_text(json, b" in ", lines);
+    put_quoted(quote, json, lines);
+    let wrong = "empty value, or a step after *";
+    put_problem_after(fault.cause, part_values(fault.part), wrong, json, lines);
+}
+
+// Returns the name of a part, by its place from 1.
+#[tactic(auto, unfolding(crate::specs::Messages::part_name))]
+fn part_name(part: u8) -> &'static str
+    ensures { result.now ≡ part_name part }
+{
+    match part {
+        1 => "weekday",
+        2 => "year",
+        3 => "month",
+        4 => "day",
+        5 => "hour",
+        6 => "minute",
+        7 => "second",
+        _ => "time zone",
+    }
+}
+
+// Returns the values of a part, by its place from 1.
+#[tactic(auto, unfolding(crate::specs::Messages::part_values))]
+fn part_values(part: u8) -> &'static str
+    ensures { result.now ≡ part_values part }
+{
+    match part {
+        2 => "1970-2999",
+        3 => "1-12",
+        4 => "1-31",
+        5 => "0-23",
+        _ => "0-59",
+    }
+}
+
+// ---- parts of rules
+
+// Puts what is wrong with a part, after what the part is.
+#[tactic(auto, using(crate::proofs::TextLemmas::text_in_both))]
+fn put_problem_after<S: Stream>(
+    cause: RuleCause,
+    values: &str,
+    wrong: &str,
+    json: bool,
+    lines: &mut TextWriter<'_, S>,
+)
+    ensures { Takes S.holds S.takes_all lines.old lines.new (text_in json (problem_after cause values.now wrong.now)) }
+{
+    put_text(json, b": ", lines);
+    put_problem(cause, values, wrong, json, lines);
+}
+
+// Puts what is wrong with a part, whose possible values are given, and what may not be there.
+#[tactic(auto, using(crate::proofs::TextLemmas::text_in_both))]
+fn put_problem<S: Stream>(
+    cause: RuleCause,
+    values: &str,
+    wrong: &str,
+    json: bool,
+    lines: &mut TextWriter<'_, S>,
+)
+    ensures { Takes S.holds S.takes_all lines.old lines.new (text_in json (problem cause values.now wrong.now)) }
+{
+    put_text(json, problem_text(cause, wrong).as_bytes(), lines);
+    put_text(json, range_of(cause, values).as_bytes(), lines);
+}
+
+// Returns what is wrong with a part, before its possible values.
+#[tactic(auto, unfolding(crate::specs::Messages::problem_text))]
+fn problem_text<'a>(cause: RuleCause, wrong: &'a str) -> &'a str
+    ensures { result.now ≡ problem_text cause wrong.now }
+{
+    match cause {
+        RuleCause::Values(SetFault::NoItem) => "no value",
+        RuleCause::Values(SetFault::OutOfRange) => "out of range ",
+        RuleCause::Values(SetFault::Backwards) => "range runs backwards",
+        RuleCause::Values(SetFault::ZeroStep) => "step of zero",
+        RuleCause::BadNumber => "not a number of one to four digits",
+        RuleCause::BadName => "unknown name",
+        RuleCause::Fraction => "fractions are not supported",
+        RuleCause::Zone => "only UTC is supported",
+        RuleCause::UnknownZone => "unknown",
+        _ => wrong,
+    }
+}
+
+// Returns the possible values of a part, if a value is out of them.
+#[tactic(auto, unfolding(crate::specs::Messages::range_of))]
+fn range_of<'a>(cause: RuleCause, values: &'a str) -> &'a str
+    ensures { result.now ≡ range_of cause values.now }
+{
+    match cause {
+        RuleCause::Values(SetFault::OutOfRange) => values,
+        _ => "",
+    }
+}
+
+// ---- quoted text
+
+// Puts a text in quotes, with what comes before and after it.
+#[tactic(auto, using(crate::proofs::TextLemmas::text_in_both), unfolding(crate::specs::Messages::around))]
+fn put_around<S: Stream>(
+    before: &str,
+    text: &str,
+    after: &str,
+    json: bool,
+    lines: &mut TextWriter<'_, S>,
+)
+    ensures { Takes S.holds S.takes_all lines.old lines.new (text_in json (around before.now text.now after.now)) }
+{
+    put_text(json, before.as_bytes(), lines);
+    put_quoted(text, json, lines);
+    put_text(json, after.as_bytes(), lines);
+}
+
+// Puts a text in quotes.
+fn put_quoted<S: Stream>(text: &str, json: bool, lines: &mut TextWriter<'_, S>)
+    ensures { Takes S.holds S.takes_all lines.old lines.new (text_in json (quoted text.now)) }
+{
+    put_text(json, b"'", lines);
+    put_escaped(shown(text).as_bytes(), json, lines);
+    put_text(json, b"'", lines);
+    put_text(json, dots(text).as_bytes(), lines);
+}
+
+// Returns the first characters of a text that fit into 64 bytes.
+fn shown(text: &str) -> &str
+    ensures { result.now ≡ shown text.now }
+{
+    if text.len() <= MOST_SHOWN {
+        return text;
+    }
+    &text[..text.floor_char_boundary(MOST_SHOWN)]
+}
+
+// Returns what follows the closing quote of a text of which not all is shown.
+#[tactic(auto, unfolding(crate::specs::Messages::dots))]
+fn dots(text: &str) -> &'static str
+    ensures { result.now ≡ dots text.now }
+{
+    if text.len() <= MOST_SHOWN { "" } else { "..." }
+}
+
+// Puts the bytes of a text in quotes.
+fn put_escaped<S: Stream>(text: &[u8], json: bool, lines: &mut TextWriter<'_, S>)
+    ensures { Takes S.holds S.takes_all lines.old lines.new (text_in json (flat_map escaped text.now)) }
+{
+    for byte in text {
+        put_byte(*byte, json, lines);
+    }
+}
+
+// Puts a byte of a text in quotes.
+#[tactic(auto, using(crate::proofs::TextLemmas::text_in_both))]
+fn put_byte<S: Stream>(byte: u8, json: bool, lines: &mut TextWriter<'_, S>)
+    ensures { Takes S.holds S.takes_all lines.old lines.new (text_in json (escaped byte)) }
+{
+    if byte == b'\\' {
+        put_text(json, b"\\\\", lines);
+    } else if byte < 32 || byte == 127 {
+        put_text(json, b"\\x", lines);
+        put_text(json, &[hex_digit(byte / 16), hex_digit(byte % 16)], lines);
+    } else {
+        put_text(json, &[byte], lines);
+    }
+}
