@@ -10,4 +10,5 @@ mod commands;
 mod fault_lines;
 mod files;
 mod names;
+mod streams;
 mod writers;

@@ -1,3 +1,2 @@
 pub mod OnLiterals
 pub mod RefusalLemmas
-mod ArgumentsRows

@@ -5,3 +5,4 @@ mod EventRows
 mod CrontabRows
 mod TimerRows
 mod ZoneRows
+mod ArgumentsRows

@@ -1,7 +1,7 @@
-//! Worked rows of the definitions of plan_sets, plan_clock, plan_grammar, plan_rules and plan_next, proved by
-//! computing.
+//! Worked rows of the definitions of plan_sets, plan_clock, plan_grammar, plan_rules, plan_next and agenda_words,
+//! proved by computing.
 //!
-//! The rows are about known seconds and timestamps, cron rules, calendar events, crontabs, timer files, and
-//! starts in a time zone. Their values are from manual pages and calendars. No proof of a function uses them,
-//! so they are in a crate that the program doesn't depend on, and no build waits for them.
+//! The rows are about known seconds and timestamps, cron rules, calendar events, crontabs, timer files, starts in
+//! a time zone, and what arguments request. Their values are from manual pages and calendars. No proof of a
+//! function uses them, so they are in a crate that the program doesn't depend on, and no build waits for them.
 #![tactic(auto)]

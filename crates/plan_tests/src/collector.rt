@@ -194,3 +194,8 @@ fn a_job_of_another_planner(rt: HostRuntime) -> Result<(), Fail> {
     let stranger = Err(CollectFault::Stranger);
     assert_part(&rt, &mut collector, 1, OTHER, 0, 180, stranger)
 }
+
+#[test]
+fn the_law_of_delays_can_be_cited() {
+    without_delays_windows_are_the_agenda();
+}

@@ -30,44 +30,6 @@ fn ends_of_two(alloc: Global, room: usize) -> Result<(Outlet<u32>, Outlet<u32>, 
     Ok((first, second, inlet))
 }
 
-/// Sends messages, and checks the answer to each.
-fn assert_sends(rt: &impl Abort, outlet: &mut Outlet<u32>, wanted: &[(u32, Result<(), u32>)]) {
-    for (message, want) in wanted {
-        assert_eq!(rt; outlet.try_send(*message), *want, "{message}");
-    }
-}
-
-/// Takes once for each wanted answer, and checks the answers.
-fn assert_takes(rt: &impl Abort, inlet: &mut Inlet<u32>, wanted: &[Option<(usize, u32)>]) {
-    for want in wanted {
-        assert_eq!(rt; inlet.try_take(), *want);
-    }
-}
-
-#[test]
-fn messages_go_through_the_ends_in_order(rt: HostRuntime) -> Result<(), Fail> {
-    let (mut first, mut second, mut inlet) = ends_of_two(rt.alloc(), 2)?;
-    assert_takes(&rt, &mut inlet, &[None]);
-    assert_sends(
-        &rt,
-        &mut first,
-        &[(10, Ok(())), (11, Ok(())), (12, Err(12))],
-    );
-    assert_sends(&rt, &mut second, &[(20, Ok(()))]);
-    assert_takes(&rt, &mut inlet, &[Some((0, 10)), Some((1, 20))]);
-    assert_sends(&rt, &mut first, &[(13, Ok(()))]);
-    assert_takes(&rt, &mut inlet, &[Some((0, 11)), Some((0, 13)), None]);
-    Ok(())
-}
-
-#[test]
-fn the_ends_know_their_senders(rt: HostRuntime) -> Result<(), Fail> {
-    let (first, second, _) = ends_of_two(rt.alloc(), 1)?;
-    assert_eq!(rt; (first.sender(), second.sender()), (0, 1));
-    assert_eq!(rt; second.close().sender(), 1);
-    Ok(())
-}
-
 /// The promise that the receipt is that of this outlet's ring.
 #[derive(Drop)]
 struct ReceiptOf(Snapshot<Outlet<u32>>);

@@ -5,20 +5,15 @@
 //! has tests. What the program shows is tested by the rows in rows/. What writers get of a plan is tested in
 //! the program's crate.
 //!
-//! Those of `again`, `civil`, `sets` and `without` are about calls whose allocation fails, and calls that request
-//! no memory. They pass if memory is plentiful. bin/refuse-memory also runs each of them with allocations that
-//! fail: those of `again` once for each request that they make, those of `without` from a mark on, and the others
-//! from the first request on.
+//! Those of `again` and `without` are about calls whose allocation fails, and calls that request no memory. They
+//! pass if memory is plentiful. bin/refuse-memory also runs each of them with allocations that fail: those of
+//! `again` once for each request that they make, and those of `without` from a mark on.
 #![tactic(auto)]
 
 #[cfg(test)]
 mod again;
 #[cfg(test)]
-mod civil;
-#[cfg(test)]
 mod collector;
-#[cfg(test)]
-mod delays;
 #[cfg(test)]
 mod ends;
 #[cfg(test)]
@@ -35,8 +30,6 @@ mod plans;
 mod senders;
 #[cfg(test)]
 mod serial;
-#[cfg(test)]
-mod sets;
 #[cfg(test)]
 mod timers;
 #[cfg(test)]

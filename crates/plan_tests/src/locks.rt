@@ -8,17 +8,6 @@ use std::test::Fail;
 use std::thread;
 
 #[test]
-fn one_sender_with_room_for_two(rt: HostRuntime) -> Result<(), Fail> {
-    let locked = Locked::new(rt.alloc(), 1, 2)?;
-    assert_reply(&rt, locked.send(&rt, 0, 'a'), Reply::Sent);
-    assert_reply(&rt, locked.close(&rt, 0), Reply::Shut);
-    assert_reply(&rt, locked.send(&rt, 0, 'b'), Reply::Closed('b'));
-    assert_reply(&rt, locked.take(&rt), Reply::Took(0, 'a'));
-    assert_reply(&rt, locked.take(&rt), Reply::Ended);
-    Ok(())
-}
-
-#[test]
 fn calls_of_senders_that_are_not_there(rt: HostRuntime) -> Result<(), Fail> {
     let locked = Locked::new(rt.alloc(), 1, 2)?;
     assert_reply(&rt, locked.close(&rt, 0), Reply::Shut);

@@ -1,17 +1,13 @@
-//! Tests of the two kinds of mailboxes, `Core` and `Rings`: both give the same replies to the same steps.
+//! Tests of the two kinds of mailboxes, `Core` and `Rings`, at their largest sizes, and of laws.
 
 use plan_mailbox::{
-    Core, MOST_ROOM, MOST_SENDERS, Post, Reply, Rings, Step, run_steps, takes_what_outlets_sent,
+    Core, MOST_ROOM, MOST_SENDERS, Reply, Rings, Step, run_steps, takes_what_outlets_sent,
     takes_what_was_sent,
 };
 use std::alloc::Global;
 use std::fmt::Debug;
 use std::process::Abort;
 use std::test::Fail;
-
-/// A message that can't be copied.
-#[derive(Debug, PartialEq, Eq, Drop)]
-struct Parcel(u8);
 
 /// Checks a reply of a mailbox.
 pub fn assert_reply<M: Debug + PartialEq + Drop>(
@@ -44,104 +40,6 @@ fn replies_of_rings(
     let mut rings = Rings::new(alloc, senders, room)?;
     let replies = run_steps(alloc, &mut rings, steps)?;
     Ok(replies)
-}
-
-/// Checks the replies of both mailboxes, each with two senders of this capacity. The same steps are given
-/// twice, once for each mailbox.
-fn assert_replies(
-    rt: &(impl Abort + AllocGlobal),
-    room: usize,
-    of_core: Vec<Step<char>>,
-    of_rings: Vec<Step<char>>,
-    wanted: &[Reply<char>],
-) -> Result<(), Fail> {
-    let replies = replies_of_core(rt.alloc(), 2, room, of_core)?;
-    assert_eq!(rt; replies.as_slice(), wanted, "Core");
-    let replies = replies_of_rings(rt.alloc(), 2, room, of_rings)?;
-    assert_eq!(rt; replies.as_slice(), wanted, "Rings");
-    Ok(())
-}
-
-fn steps_on_unknown_senders(alloc: Global) -> Result<Vec<Step<char>>, Fail> {
-    Ok(Vec::from_array(
-        alloc,
-        [
-            Step::Close(5),
-            Step::Close(1),
-            Step::Close(1),
-            Step::Send(7, 'x'),
-            Step::Take,
-        ],
-    )?)
-}
-
-fn replies_of_unknown_senders() -> [Reply<char>; 5] {
-    [
-        Reply::Unknown,
-        Reply::Shut,
-        Reply::AlreadyShut,
-        Reply::NoSender('x'),
-        Reply::Nothing,
-    ]
-}
-
-#[test]
-fn closing_and_sending_to_senders_that_are_not_there(rt: HostRuntime) -> Result<(), Fail> {
-    assert_replies(
-        &rt,
-        1,
-        steps_on_unknown_senders(rt.alloc())?,
-        steps_on_unknown_senders(rt.alloc())?,
-        &replies_of_unknown_senders(),
-    )
-}
-
-fn twelve_steps(alloc: Global) -> Result<Vec<Step<char>>, Fail> {
-    Ok(Vec::from_array(
-        alloc,
-        [
-            Step::Send(0, 'a'),
-            Step::Send(0, 'b'),
-            Step::Send(0, 'c'),
-            Step::Send(1, 'd'),
-            Step::Take,
-            Step::Take,
-            Step::Close(0),
-            Step::Send(0, 'e'),
-            Step::Take,
-            Step::Take,
-            Step::Close(1),
-            Step::Take,
-        ],
-    )?)
-}
-
-fn twelve_replies() -> [Reply<char>; 12] {
-    [
-        Reply::Sent,
-        Reply::Sent,
-        Reply::Full('c'),
-        Reply::Sent,
-        Reply::Took(0, 'a'),
-        Reply::Took(1, 'd'),
-        Reply::Shut,
-        Reply::Closed('e'),
-        Reply::Took(0, 'b'),
-        Reply::Nothing,
-        Reply::Shut,
-        Reply::Ended,
-    ]
-}
-
-#[test]
-fn two_senders_with_room_for_two(rt: HostRuntime) -> Result<(), Fail> {
-    assert_replies(
-        &rt,
-        2,
-        twelve_steps(rt.alloc())?,
-        twelve_steps(rt.alloc())?,
-        &twelve_replies(),
-    )
 }
 
 /// Returns ten thousand sends, by the eight senders in turn.
@@ -183,26 +81,7 @@ fn ten_thousand_steps_at_the_largest_sizes(rt: HostRuntime) -> Result<(), Fail> 
 }
 
 #[test]
-fn a_message_comes_back_as_it_was(rt: HostRuntime) -> Result<(), Fail> {
-    assert_comes_back(&rt, &mut Core::new(rt.alloc(), 1, 1)?);
-    assert_comes_back(&rt, &mut Rings::new(rt.alloc(), 1, 1)?);
-    Ok(())
-}
-
-fn assert_comes_back<P: Post<Parcel>>(rt: &impl Abort, post: &mut P) {
-    assert_reply(rt, post.send(1, Parcel(1)), Reply::NoSender(Parcel(1)));
-    assert!(rt; post.is_new(), "nothing was sent");
-    assert_reply(rt, post.send(0, Parcel(2)), Reply::Sent);
-    assert_reply(rt, post.send(0, Parcel(3)), Reply::Full(Parcel(3)));
-    assert_reply(rt, post.close(0), Reply::Shut);
-    assert_reply(rt, post.send(0, Parcel(4)), Reply::Closed(Parcel(4)));
-    assert_reply(rt, post.take(), Reply::Took(0, Parcel(2)));
-    assert_reply(rt, post.take(), Reply::Ended);
-    assert!(rt; !post.is_new(), "a message was sent");
-}
-
-#[test]
 fn the_laws_can_be_cited() {
-    takes_what_was_sent::<Parcel>();
-    takes_what_outlets_sent::<Parcel>();
+    takes_what_was_sent::<char>();
+    takes_what_outlets_sent::<char>();
 }

@@ -7,10 +7,8 @@ ghost use Rattle.plan_mailbox.specs.Ends.{inlet_of, outlet_of};
 use agenda_faults::{Failure, RunFault, fault_line};
 use plan_collect::Span;
 use plan_mailbox::{Core, Inlet, Outlet, Post, Reply, Rings};
-use plan_next::{next_from, next_start};
-use plan_rules::{EventZones, Jobs, Kind, Rule, calendar_rule, cron_rule, crontab, timer};
+use plan_rules::{EventZones, Jobs, Kind, crontab, timer};
 use plan_serial::plan_serial;
-use plan_sets::civil_of;
 use plan_write::{Format, LineEnds, write_agenda};
 use std::alloc::Global;
 use std::io;
@@ -29,21 +27,6 @@ fn ends(alloc: Global) -> bool {
 // Checks that requests still fail if the mark failed.
 fn assert_ended(rt: &(impl Abort + AllocGlobal), ended: bool) {
     assert!(rt; Box::new(rt.alloc(), 0_u8).is_err() == ended);
-}
-
-#[test]
-fn rules_match_and_start(rt: HostRuntime) -> Result<(), Fail> {
-    let nightly = cron_rule(rt.alloc(), "30 4 1,15 * 5")?;
-    let third = calendar_rule(rt.alloc(), "*-02~03", &EventZones::utc_alone())?;
-    let ended = ends(rt.alloc());
-    assert!(rt; next_start(&nightly, 1_704_067_200) == Some(1_704_083_400));
-    assert!(rt; next_from(&nightly, 1_704_083_400) == Some(1_704_083_400));
-    assert!(rt; nightly.matches(&civil_of(1_704_083_400)));
-    assert!(rt; next_start(&third, 1_704_067_200) == Some(1_708_992_000));
-    assert!(rt; !third.matches(&civil_of(0)));
-    assert!(rt; next_start(&Rule::Never, 0).is_none());
-    assert_ended(&rt, ended);
-    Ok(())
 }
 
 // Checks the replies of a mailbox of two senders with a capacity of one message.
