@@ -192,16 +192,20 @@ machine_unsaid() {
     for command in --help {plan,upcoming,quiet,check,sources,next}' --help' --version; do
       # shellcheck disable=SC2086
       machine_run $command
-      [ "$status" = 3 ] || tell "status $status"
-      [ -s "$work/err" ] || tell "nothing on standard error"
-      count "agenda-machine: $command $to"
+      echo "agenda-machine: can't write the help" >"$work/err.wanted"
+      # the version is written by agenda
+      [ "$command" != --version ] || echo 'agenda: Device' >"$work/err.wanted"
+      machine_compare "$command $to" /dev/null "$work/err.wanted" 3
     done
     for command in check 'check --json'; do
       # shellcheck disable=SC2086
       machine_run --root root $command
-      [ "$status" = 3 ] || tell "status $status"
-      count "agenda-machine: $command of an error $to"
+      echo "agenda-machine: can't write the findings" >"$work/err.wanted"
+      machine_compare "$command of an error $to" /dev/null "$work/err.wanted" 3
     done
+    machine_run --root root sources
+    echo "agenda-machine: can't write the sources" >"$work/err.wanted"
+    machine_compare "sources $to" /dev/null "$work/err.wanted" 3
   done
 }
 

@@ -17,7 +17,7 @@ say_help() {
   text=$(sed -n "/^words_make_help_of_$1()/,/^}/p" "$help_source" | sed -n "/<<'END'\$/,/^END\$/p" | sed '1d;$d')
   # without the text the program has to be built
   [ -n "$text" ] || return
-  printf '%s\n' "$text" || exit 3
+  printf '%s\n' "$text" 2>/dev/null || refuse_device
   say_unbuilt
   exit 0
 }
@@ -27,9 +27,15 @@ say_version() {
   local version
   version=$(sed -n 's/^const VERSION: &str = "\([^"\\]*\).*/\1/p' "$command_source")
   [ -n "$version" ] || return
-  printf 'agenda %s\n' "$version" || exit 3
+  printf 'agenda %s\n' "$version" 2>/dev/null || refuse_device
   say_unbuilt
   exit 0
+}
+
+# Reports that standard output can't be written, as the program does, and ends the script.
+refuse_device() {
+  echo 'agenda: Device' >&2
+  exit 3
 }
 
 say_unbuilt() {

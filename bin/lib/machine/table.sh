@@ -88,6 +88,6 @@ print_table() {
   code=$?
   child=
   [[ $code != 0 ]] || return 0
-  [[ $code = 141 || -p /dev/stdout ]] || stop "can't write the table"
+  [[ $code = 141 ]] || stop_unwritten "the table"
   exit 3
 }
