@@ -2,11 +2,11 @@
 
 use plan_mailbox::NewFault;
 use std::alloc::{AllocError, AllocFailed};
-use thiserror::Error;
+use std::error::Error;
+use std::fmt::{self, Display, Formatter};
 
 /// What is wrong with a script.
-#[derive(Clone, Copy, Debug, PartialEq, Eq, Error)]
-#[error("{}", self.name())]
+#[derive(Clone, Copy, Debug, PartialEq, Eq)]
 pub enum ScriptCause {
     /// An allocation failed. The line is 0.
     NoMemory,
@@ -41,15 +41,40 @@ impl ScriptCause {
     }
 }
 
+impl Display for ScriptCause {
+    ghost use Rattle.std.specs.Prelude.{Some};
+    ghost use Rattle.agenda_script.specs.Causes.{script_cause};
+
+    ghost output = { λ fault. Some (script_cause fault) };
+
+    fn fmt<W: fmt::Write>(&self, f: &mut Formatter<W>) -> fmt::Result {
+        f.write_str(self.name())
+    }
+}
+
+impl Error for ScriptCause {}
+
 /// The first error of a script.
-#[derive(Clone, Copy, Debug, PartialEq, Eq, Error)]
-#[error("{cause}")]
+#[derive(Clone, Copy, Debug, PartialEq, Eq)]
 pub struct ScriptFault {
     /// The line, from 1. The whole script is 0.
     pub line: u32,
     /// What is wrong with it.
     pub cause: ScriptCause,
 }
+
+impl Display for ScriptFault {
+    ghost use Rattle.std.specs.Prelude.{Some};
+    ghost use Rattle.agenda_script.specs.Causes.{script_cause};
+
+    ghost output = { λ fault. Some (script_cause fault.cause) };
+
+    fn fmt<W: fmt::Write>(&self, f: &mut Formatter<W>) -> fmt::Result {
+        f.write_str(self.cause.name())
+    }
+}
+
+impl Error for ScriptFault {}
 
 impl From<AllocError> for ScriptFault {
     ghost use Rattle.std.specs.Prelude.{◌≡◌};

@@ -19,8 +19,9 @@ use plan_match::Rule;
 use plan_next::{Piece, Span};
 use plan_rules::Jobs;
 use std::alloc::{AllocError, Global};
+use std::error::Error;
+use std::fmt::{self, Display, Formatter};
 use std::marker::Model;
-use thiserror::Error;
 
 /// The maximum limit of an agenda, in entries.
 pub const MOST_ENTRIES: u64 = 1_000_000;
@@ -29,8 +30,7 @@ pub const MOST_ENTRIES: u64 = 1_000_000;
 pub const MOST_PLANNERS: usize = 8;
 
 /// Why a collector can't be made.
-#[derive(Clone, Copy, Debug, PartialEq, Eq, Error)]
-#[error("{}", self.name())]
+#[derive(Clone, Copy, Debug, PartialEq, Eq)]
 pub enum CollectorFault {
     /// An allocation failed.
     NoMemory,
@@ -56,9 +56,21 @@ impl CollectorFault {
     }
 }
 
+impl Display for CollectorFault {
+    ghost use Rattle.std.specs.Prelude.{Some};
+    ghost use Rattle.plan_collect.specs.Causes.{collector_cause};
+
+    ghost output = { λ fault. Some (collector_cause fault) };
+
+    fn fmt<W: fmt::Write>(&self, f: &mut Formatter<W>) -> fmt::Result {
+        f.write_str(self.name())
+    }
+}
+
+impl Error for CollectorFault {}
+
 /// Why a collector rejects a message, or can't finish.
-#[derive(Clone, Copy, Debug, PartialEq, Eq, Error)]
-#[error("{}", self.name())]
+#[derive(Clone, Copy, Debug, PartialEq, Eq)]
 pub enum CollectFault {
     /// An allocation failed.
     NoMemory,
@@ -93,6 +105,19 @@ impl CollectFault {
         }
     }
 }
+
+impl Display for CollectFault {
+    ghost use Rattle.std.specs.Prelude.{Some};
+    ghost use Rattle.plan_collect.specs.Causes.{collect_cause};
+
+    ghost output = { λ fault. Some (collect_cause fault) };
+
+    fn fmt<W: fmt::Write>(&self, f: &mut Formatter<W>) -> fmt::Result {
+        f.write_str(self.name())
+    }
+}
+
+impl Error for CollectFault {}
 
 impl From<AllocError> for CollectorFault {
     ghost use Rattle.std.specs.Prelude.{◌≡◌};

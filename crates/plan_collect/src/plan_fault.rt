@@ -3,11 +3,11 @@
 use crate::collector::{CollectFault, CollectorFault};
 use plan_mailbox::NotSettled;
 use plan_next::NoMemory;
-use thiserror::Error;
+use std::error::Error;
+use std::fmt::{self, Display, Formatter};
 
 /// Why a plan can't be made.
-#[derive(Clone, Copy, Debug, PartialEq, Eq, Error)]
-#[error("{}", self.name())]
+#[derive(Clone, Copy, Debug, PartialEq, Eq)]
 pub enum PlanFault {
     /// An allocation failed.
     NoMemory,
@@ -40,6 +40,19 @@ impl PlanFault {
         }
     }
 }
+
+impl Display for PlanFault {
+    ghost use Rattle.std.specs.Prelude.{Some};
+    ghost use Rattle.plan_collect.specs.Causes.{plan_cause};
+
+    ghost output = { λ fault. Some (plan_cause fault) };
+
+    fn fmt<W: fmt::Write>(&self, f: &mut Formatter<W>) -> fmt::Result {
+        f.write_str(self.name())
+    }
+}
+
+impl Error for PlanFault {}
 
 impl From<NoMemory> for PlanFault {
     ghost use Rattle.std.specs.Prelude.{◌≡◌};

@@ -123,16 +123,6 @@ fn a_collector_of_one_job(rt: HostRuntime) -> Result<(), Fail> {
 }
 
 #[test]
-fn no_room_for_a_piece(rt: HostRuntime) -> Result<(), Fail> {
-    let mut small = two_minutes(rt.alloc(), 1)?;
-    let too_many = Err(CollectFault::TooMany);
-    assert_part(&rt, &mut small, 0, EVERY, 0, 120, too_many)?;
-    assert_part(&rt, &mut small, 0, EVERY, 0, 60, Ok(()))?;
-    assert_missing(&rt, small);
-    Ok(())
-}
-
-#[test]
 fn a_last_note_or_a_piece_is_missing(rt: HostRuntime) -> Result<(), Fail> {
     let mut no_last = two_minutes(rt.alloc(), 2)?;
     assert_part(&rt, &mut no_last, 0, EVERY, 0, 120, Ok(()))?;
@@ -141,58 +131,6 @@ fn a_last_note_or_a_piece_is_missing(rt: HostRuntime) -> Result<(), Fail> {
     assert_answer(&rt, &mut no_piece, 0, Note::Last, Ok(()));
     assert_missing(&rt, no_piece);
     Ok(())
-}
-
-// Returns a collector of two planners, with a job that starts every minute and one that starts every other minute.
-fn two_jobs(alloc: Global) -> Result<Collector, Fail> {
-    Ok(collector(alloc, "* * * * * x\n*/2 * * * * y\n", 180, 2, 10)??)
-}
-
-// Returns a message by its sign: a digit is the piece of that planner, and the letters `a` and `b` are the last
-// messages of planners 0 and 1.
-fn note_of(alloc: Global, sign: u8) -> Result<(usize, Note), Fail> {
-    Ok(match sign {
-        b'0' => (0, part(alloc, 0, EVERY, 0, 180)?),
-        b'1' => (1, part(alloc, 1, OTHER, 0, 180)?),
-        b'a' => (0, Note::Last),
-        _ => (1, Note::Last),
-    })
-}
-
-// Returns the agenda of both planners if their messages arrive in this order.
-fn arrived(alloc: Global, order: &[u8]) -> Result<Agenda, Fail> {
-    let mut collector = two_jobs(alloc)?;
-    for sign in order {
-        let (planner, note) = note_of(alloc, *sign)?;
-        collector.accept(planner, note)?;
-    }
-    Ok(collector.finish()?)
-}
-
-fn assert_arrived(rt: &(impl Abort + AllocGlobal), order: &[u8]) -> Result<(), Fail> {
-    let agenda = arrived(rt.alloc(), order)?;
-    assert_entry(rt, &agenda, 0, Some((0, 0)));
-    assert_entry(rt, &agenda, 1, Some((0, 1)));
-    assert_entry(rt, &agenda, 2, Some((60, 0)));
-    assert_entry(rt, &agenda, 3, Some((120, 0)));
-    assert_entry(rt, &agenda, 4, Some((120, 1)));
-    assert_entry(rt, &agenda, 5, None);
-    assert!(rt; agenda.since() == 0 && agenda.upto() == 180);
-    Ok(())
-}
-
-#[test]
-fn two_planners_in_any_order(rt: HostRuntime) -> Result<(), Fail> {
-    assert_arrived(&rt, b"1b0a")?;
-    assert_arrived(&rt, b"0a1b")?;
-    assert_arrived(&rt, b"01ab")
-}
-
-#[test]
-fn a_job_of_another_planner(rt: HostRuntime) -> Result<(), Fail> {
-    let mut collector = two_jobs(rt.alloc())?;
-    let stranger = Err(CollectFault::Stranger);
-    assert_part(&rt, &mut collector, 1, OTHER, 0, 180, stranger)
 }
 
 #[test]

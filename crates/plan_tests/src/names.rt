@@ -1,7 +1,6 @@
-//! Tests of the names that errors show. Where a function `name` gives the names, contracts state them, so that one
-//! error shows that it is called.
+//! Tests of the names that errors show, where no contract states them.
 
-use plan_collect::{CollectFault, CollectorFault, PlanFault, SpanFault};
+use plan_collect::SpanFault;
 use plan_grammar::{RuleCause, RuleFault};
 use plan_mailbox::NewFault;
 use plan_next::NoMemory;
@@ -37,7 +36,15 @@ fn names_of_the_faults_of_jobs(rt: HostRuntime) -> Result<(), Fail> {
 }
 
 #[test]
+fn names_of_the_faults_of_pieces_and_mailboxes(rt: HostRuntime) -> Result<(), Fail> {
+    assert_name(&rt, &NoMemory, "NoMemory")?;
+    assert_name(&rt, &NewFault::NoMemory, "NoMemory")?;
+    assert_name(&rt, &NewFault::BadSize, "BadSize")
+}
+
+#[test]
 fn faults_of_rules_and_lines_show_their_names(rt: HostRuntime) -> Result<(), Fail> {
+    assert_name(&rt, &SpanFault::OutOfYears, "OutOfYears")?;
     assert_name(&rt, &SetFault::Backwards, "Backwards")?;
     assert_name(&rt, &MomentFault::NoSuchDate, "NoSuchDate")?;
     let cause = RuleCause::Values(SetFault::OutOfRange);
@@ -46,16 +53,4 @@ fn faults_of_rules_and_lines_show_their_names(rt: HostRuntime) -> Result<(), Fai
     assert_name(&rt, &fault, "OutOfRange")?;
     let cause = LineCause::Rule(fault);
     assert_name(&rt, &LineFault { line: 3, cause }, "OutOfRange")
-}
-
-#[test]
-fn faults_of_plans_show_their_names(rt: HostRuntime) -> Result<(), Fail> {
-    assert_name(&rt, &NoMemory, "NoMemory")?;
-    assert_name(&rt, &SpanFault::OutOfYears, "OutOfYears")?;
-    assert_name(&rt, &NewFault::NoMemory, "NoMemory")?;
-    assert_name(&rt, &NewFault::BadSize, "BadSize")?;
-    assert_name(&rt, &CollectorFault::BadLimit, "BadLimit")?;
-    let too_many = CollectFault::TooMany;
-    assert_name(&rt, &too_many, "TooMany")?;
-    assert_name(&rt, &PlanFault::Collect(too_many), "TooMany")
 }

@@ -4,11 +4,11 @@ ghost use Rattle.std.specs.Prelude.{◌≡◌};
 ghost use Rattle.plan_zones.specs.declared.zone_fault.ZoneFault.TheVariants.{NoMemory};
 
 use std::alloc::{AllocError, AllocFailed};
-use thiserror::Error;
+use std::error::Error;
+use std::fmt::{self, Display, Formatter};
 
 /// Why a zone can't be used.
-#[derive(Clone, Copy, Debug, PartialEq, Eq, Error)]
-#[error("{}", self.name())]
+#[derive(Clone, Copy, Debug, PartialEq, Eq)]
 pub enum ZoneFault {
     /// An allocation failed.
     NoMemory,
@@ -38,6 +38,19 @@ impl ZoneFault {
         }
     }
 }
+
+impl Display for ZoneFault {
+    ghost use Rattle.std.specs.Prelude.{Some};
+    ghost use Rattle.plan_zones.specs.Zones.{zone_fault_name};
+
+    ghost output = { λ fault. Some (zone_fault_name fault) };
+
+    fn fmt<W: fmt::Write>(&self, f: &mut Formatter<W>) -> fmt::Result {
+        f.write_str(self.name())
+    }
+}
+
+impl Error for ZoneFault {}
 
 impl From<AllocError> for ZoneFault {
     ghost from_gives = { λ _ fault. fault ≡ NoMemory };

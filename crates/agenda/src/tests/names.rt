@@ -1,11 +1,10 @@
-//! The names that errors print.
+//! The names that errors print, where no contract states them.
 use agenda_faults::RunFault;
 use agenda_script::{ScriptCause, ScriptFault};
 use agenda_sources::SourceFault;
 use plan_collect::{CollectFault, PlanFault};
 use plan_rules::{LineCause, LineFault, RuleCause, RuleFault, Text};
 use plan_streams::WriteFault;
-use plan_zones::ZoneFault;
 use std::fmt::Display;
 use std::process::Abort;
 use std::test::Fail;
@@ -63,26 +62,5 @@ fn names_of_faults_of_sources(rt: HostRuntime) -> Result<(), Fail> {
     prints(&rt, &fault, "NoTimerSection")?;
     let name = Text::new(String::from_str(rt.alloc(), "a:1")?);
     prints(&rt, &SourceFault::SameName(name), "SameName")?;
-    prints(&rt, &SourceFault::Full, "Full")?;
-    prints(&rt, &ZoneFault::BadZone, "BadZone")
-}
-
-// Asserts that a cause prints its name, and that the error of a script with this cause does.
-fn prints_script(
-    rt: &(impl Abort + AllocGlobal),
-    cause: ScriptCause,
-    name: &str,
-) -> Result<(), Fail> {
-    prints(rt, &cause, name)?;
-    prints(rt, &ScriptFault { line: 1, cause }, name)
-}
-
-#[test]
-fn names_of_faults_of_scripts(rt: HostRuntime) -> Result<(), Fail> {
-    prints_script(&rt, ScriptCause::NoMemory, "NoMemory")?;
-    prints_script(&rt, ScriptCause::NotUtf8, "NotUtf8")?;
-    prints_script(&rt, ScriptCause::TooLarge, "TooLarge")?;
-    prints_script(&rt, ScriptCause::BadLine, "BadLine")?;
-    prints_script(&rt, ScriptCause::BadSize, "BadSize")?;
-    prints_script(&rt, ScriptCause::TooManySteps, "TooManySteps")
+    prints(&rt, &SourceFault::Full, "Full")
 }
