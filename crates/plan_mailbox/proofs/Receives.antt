@@ -1,14 +1,18 @@
--- The receiving ends, when one of them changes: for `take_among` and for `accounts` and `settled` of `Inlet::settle`.
+-- The receiving ends, when one of them changes: for `take_among`, and for `settle` and `try_take` of `Inlet`.
 -- `receiving` maps functions over the ends. So a write to one end is a write to each of these lists, or to none if the
 -- function gives the same as before (`map_set_same`). `receiving-take` and the two others do so for all four lists.
-use Rattle.std.proofs.Common.{◌≡◌, ℕ, ◌<◌, ◌≤◌, List, [], ◌∷◌, ◌++◌, length, get_or, set, drop, map, true, false, sym, ap, ◌∙◌}
-use Rattle.std.proofs.lemmas.List.{map-set, length-map, get_or-set_same}
+use Rattle.std.proofs.Common.{◌≡◌, ℕ, ◌+◌, ◌%◌, ◌<◌, ◌≤◌, List, [], ◌∷◌, ◌++◌, length, get_or, set, drop, map, true, false, inl, inr, subst, sym, ap, ◌∙◌, arith}
+use Rattle.std.proofs.lemmas.List.{map-set, length-map, get_or_past, get_or-set_same}
+use Rattle.std.proofs.lemmas.Bool.{cases_lt}
 use Rattle.std.proofs.Math.Seq.{drop-append_seam}
 use mathlib.Core.List.{IsPrefix}
-use Rattle.rtrb.specs.Ring.{received, known_items}
+use Rattle.rtrb.specs.Ring.{IsPair, received, known_items}
+use Rattle.rtrb.specs.declared.producer.Producer.{Producer}
+use Rattle.rtrb.specs.declared.consumer.Consumer.{Consumer}
+use Rattle.std.specs.declared.alloc.Global.{Global}
 use Rattle.plan_mailbox.specs.declared.ring_end.RingEnd.{RingEnd}
 use Rattle.plan_mailbox.specs.History as history
-use Rattle.plan_mailbox.specs.Ends.{consumer_ring, receiving, after_settle, taken_at, known_at, is_settled_at, IsTakeAmong}
+use Rattle.plan_mailbox.specs.Ends.{Ring, producer_ring, consumer_ring, receiving, after_settle, taken_at, known_at, is_settled_at, IsTake, IsTakeAmong, NothingKnown, ReceivingEnd}
 use Rattle.plan_mailbox.proofs.Places.{map_read, map_set_same}
 
 -- a list is a prefix of the list that starts with it
@@ -95,3 +99,73 @@ module _ {M : Type 0} (turn : ℕ) (ends : List (RingEnd M)) (s : ℕ) (now was 
       all_known = λ set. known-was ∙ all_known (sym settled-was ∙ set) ∙ ap (λ rest. m ∷ rest) (sym known-now);
       passed = passed;
     }
+
+-- a sending end and a receiving end of one ring
+pub IsPair-from : {M P : Type 0} (p : Producer M Global P) (c : Consumer M Global P) → producer_ring p ≡ consumer_ring c → IsPair p c
+IsPair-from p c e =
+    (ap (λ (r : Ring). r.0) (sym e), ap (λ (r : Ring). r.1) (sym e), ap (λ (r : Ring). r.2) (sym e), ap (λ (r : Ring). r.3) (sym e))
+
+-- ends that are seen alike, with any turn, and how many there are
+pub receiving-turn :
+    {M : Type 0} (turn : ℕ) (now was : List (RingEnd M)) → receiving 0 now ≡ receiving 0 was → receiving turn now ≡ receiving turn was
+receiving-turn {M} turn now was = ap (λ (b : ReceivingEnd M). record b { turn = turn })
+
+pub length-same : {M : Type 0} (now was : List (RingEnd M)) → receiving 0 now ≡ receiving 0 was → length now ≡ length was
+length-same {M} now was same = sym (length-map now (λ e. consumer_ring e.consumer)) ∙ ap (λ (b : ReceivingEnd M). length b.rings) same
+    ∙ length-map was (λ e. consumer_ring e.consumer)
+
+-- A take checks the senders from the turn on, and then those before the turn: for `Inlet::try_take`.
+module _ {M : Type 0} (turn senders : ℕ) (before : List (RingEnd M)) (many : senders ≡ length before) where
+  -- a message was found from the turn on
+  pub IsTake-first :
+      (after : List (RingEnd M)) (s : ℕ) (m : M) → IsTakeAmong turn senders (receiving 0 before) s m (receiving 0 after)
+      → IsTake (receiving turn before) s m (receiving ((s + 1) % senders) after)
+  IsTake-first after s m took = record {
+    known_sender = rw (length-map, ← many) took.known_sender.1;
+    taken = rw (length-map, ← many) (ap (λ (b : ReceivingEnd M). record b { turn = (s + 1) % senders }) took.taken);
+    oldest = took.oldest;
+    all_known = took.all_known;
+    passed = λ k order.
+        elim order [
+          | inl later ↦ took.passed k later.0 later.1
+          | inr wrapped ↦ absurd (omega (arith, wrapped.0, took.known_sender.0))
+        ];
+  }
+
+  -- none was found from the turn on
+  module _ (between : List (RingEnd M)) (same : receiving 0 between ≡ receiving 0 before)
+      (none : (k : ℕ) → turn ≤ k → k < senders → known_at (receiving 0 before) k ≡ []) where
+    none_from : (k : ℕ) → turn ≤ k → known_at (receiving 0 before) k ≡ []
+    none_from k high = elim (cases_lt k senders) [
+      | inl low ↦ none k high low
+      | inr past ↦ get_or_past (receiving 0 before).known k [] (rw (length-map, ← many) past)
+    ]
+
+    -- a message was found before the turn
+    pub IsTake-second :
+        (after : List (RingEnd M)) (s : ℕ) (m : M) → turn ≤ senders → IsTakeAmong 0 turn (receiving 0 between) s m (receiving 0 after)
+        → IsTake (receiving turn before) s m (receiving ((s + 1) % senders) after)
+    IsTake-second after s m few found =
+        let took = subst (λ b. IsTakeAmong 0 turn b s m (receiving 0 after)) same found in
+        record {
+          known_sender = rw (length-map, ← many) (omega (arith, took.known_sender.1));
+          taken = rw (length-map, ← many) (ap (λ (b : ReceivingEnd M). record b { turn = (s + 1) % senders }) took.taken);
+          oldest = took.oldest;
+          all_known = took.all_known;
+          passed = λ k order.
+              elim order [
+                | inl later ↦ absurd (omega (arith, later.0, later.1, took.known_sender.1))
+                | inr wrapped ↦ elim wrapped.1 [
+                  | inl high ↦ none_from k high
+                  | inr low ↦ took.passed k (omega arith) low
+                ]
+              ];
+        }
+
+    -- none was found
+    pub NothingKnown-both :
+        ((k : ℕ) → 0 ≤ k → k < turn → known_at (receiving 0 between) k ≡ []) → NothingKnown (receiving turn before)
+    NothingKnown-both first s = elim (cases_lt s turn) [
+      | inl low ↦ ap (λ b. known_at b s) (sym same) ∙ first s (omega arith) low
+      | inr high ↦ none_from s high
+    ]

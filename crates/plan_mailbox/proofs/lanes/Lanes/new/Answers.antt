@@ -3,6 +3,12 @@ use Rattle.plan_mailbox.proofs.Places.{map_replicate}
 use Rattle.plan_mailbox.proofs.Calls.{IsNew-at}
 use Rattle.plan_mailbox.proofs.lanes.Lanes.new.Goals as goal
 
+pub returns-then-not-contains-clause-made : goal.returns-then-not-contains-clause-made
+returns-then-not-contains-clause-made g c = tt
+
+pub returns-then-not-contains-clause-is_new : goal.returns-then-not-contains-clause-is_new
+returns-then-not-contains-clause-is_new g c = tt
+
 pub returns-clause-made : goal.returns-clause-made
 returns-clause-made g c =
     let lanes = c.in_ok-new_lanes.field-0 in

@@ -1,12 +1,13 @@
 -- For the loop of `Rings::split` and its `outlets`, `room` and `inlet`. Each iteration appends the two ends of one lane.
 -- At the end all lanes were yielded. A new mailbox has sent nothing, so by its type no lane was used, and the ends of
 -- unused lanes are new ones by RingsApart.antt.
-use Rattle.std.proofs.Common.{◌≡◌, ◌+◌, ◌++◌, [], ◌∷◌, All, List, length, map, rules, sym, ap, ◌∙◌, append_assoc, zero-add, arith}
+use Rattle.std.proofs.Common.{◌≡◌, ◌+◌, ◌++◌, [], ◌∷◌, All, length, map, rules, sym, ap, ◌∙◌, append_assoc, zero-add, arith}
 use Rattle.std.specs.List.{enumerate_from}
 use Rattle.std.specs.Vec.Iter.{into_iter_items}
-use Rattle.std.proofs.lemmas.List.{append-nil, length-append, map-append, nil_from_length}
+use Rattle.std.proofs.lemmas.List.{length-append, map-append}
 use Rattle.rtrb.specs.Ring.{known_free, sent}
 use Rattle.plan_mailbox.specs.Ends.{free_of, outlet_of, producer_ring, receiving}
+use Rattle.plan_mailbox.proofs.Places.{all_yielded}
 use Rattle.plan_mailbox.proofs.RingsApart.{IsUnused, end_from, free_in, outlet_from, enumerate_from-push, free-apart, inlet-apart, outlets-apart}
 use Rattle.plan_mailbox.proofs.rings.Lanes+M+RingLane+M.split.Goals as goal
 
@@ -39,10 +40,6 @@ loop-lane-preserved g c =
         map-append,
       );
     }
-
--- every lane was split
-all_yielded : {A : Type 0} (yielded left all : List A) → yielded ++ left ≡ all → length left ≡ 0 → yielded ≡ all
-all_yielded yielded left all e none = sym (append-nil yielded) ∙ ap (λ rest. yielded ++ rest) (sym (nil_from_length left none)) ∙ e
 
 pub returns-clause-outlets : goal.returns-clause-outlets
 returns-clause-outlets g c =
