@@ -2,11 +2,11 @@
 
 use plan_sets::SetFault;
 use std::alloc::{AllocError, AllocFailed};
-use thiserror::Error;
+use std::error::Error;
+use std::fmt::{self, Display, Formatter};
 
 /// What is wrong with a part of a rule's text.
-#[derive(Clone, Copy, Debug, PartialEq, Eq, Error)]
-#[error("{}", self.name())]
+#[derive(Clone, Copy, Debug, PartialEq, Eq)]
 pub enum RuleCause {
     /// An allocation failed; its part is 0.
     NoMemory,
@@ -52,15 +52,40 @@ impl RuleCause {
     }
 }
 
+impl Display for RuleCause {
+    ghost use Rattle.std.specs.Prelude.{Some};
+    ghost use Rattle.plan_grammar.specs.Causes.{rule_cause};
+
+    ghost output = { λ fault. Some (rule_cause fault) };
+
+    fn fmt<W: fmt::Write>(&self, f: &mut Formatter<W>) -> fmt::Result {
+        f.write_str(self.name())
+    }
+}
+
+impl Error for RuleCause {}
+
 /// The first error in a rule's text.
-#[derive(Clone, Copy, Debug, PartialEq, Eq, Error)]
-#[error("{cause}")]
+#[derive(Clone, Copy, Debug, PartialEq, Eq)]
 pub struct RuleFault {
     /// The part of the text, from 1, or 0 for the whole text.
     pub part: u8,
     /// What is wrong with the part.
     pub cause: RuleCause,
 }
+
+impl Display for RuleFault {
+    ghost use Rattle.std.specs.Prelude.{Some};
+    ghost use Rattle.plan_grammar.specs.Causes.{rule_cause};
+
+    ghost output = { λ fault. Some (rule_cause fault.cause) };
+
+    fn fmt<W: fmt::Write>(&self, f: &mut Formatter<W>) -> fmt::Result {
+        f.write_str(self.cause.name())
+    }
+}
+
+impl Error for RuleFault {}
 
 impl From<AllocError> for RuleFault {
     ghost use Rattle.std.specs.Prelude.{◌≡◌};

@@ -3,12 +3,12 @@
 ghost use Rattle.std.specs.Prelude.{◌≡◌, ◌<◌, ◌≤◌, ◌↔◌, IfOk};
 
 use plan_sets::END_SECOND;
+use std::error::Error;
+use std::fmt::{self, Display, Formatter};
 use std::marker::Model;
-use thiserror::Error;
 
 /// Why two timestamps make no span: the first that applies.
-#[derive(Clone, Copy, Debug, PartialEq, Eq, Error)]
-#[error("{}", self.name())]
+#[derive(Clone, Copy, Debug, PartialEq, Eq)]
 pub enum SpanFault {
     /// The span ends before it starts.
     Backwards,
@@ -30,6 +30,19 @@ impl SpanFault {
         }
     }
 }
+
+impl Display for SpanFault {
+    ghost use Rattle.std.specs.Prelude.{Some};
+    ghost use Rattle.plan_next.specs.Span.{span_cause};
+
+    ghost output = { λ fault. Some (span_cause fault) };
+
+    fn fmt<W: fmt::Write>(&self, f: &mut Formatter<W>) -> fmt::Result {
+        f.write_str(self.name())
+    }
+}
+
+impl Error for SpanFault {}
 
 /// The seconds from one timestamp to another, which is excluded. Both are in seconds since
 /// 1970-01-01T00:00:00Z, and at most `END_SECOND`.

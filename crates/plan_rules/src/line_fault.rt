@@ -2,11 +2,11 @@
 
 use plan_grammar::{RuleCause, RuleFault};
 use std::alloc::{AllocError, AllocFailed};
-use thiserror::Error;
+use std::error::Error;
+use std::fmt::{self, Display, Formatter};
 
 /// What is wrong with a line, or with the whole text. Errors of the whole text have line 0.
-#[derive(Clone, Copy, Debug, PartialEq, Eq, Error)]
-#[error("{}", self.name())]
+#[derive(Clone, Copy, Debug, PartialEq, Eq)]
 pub enum LineCause {
     /// An allocation failed. The line is 0.
     NoMemory,
@@ -31,14 +31,26 @@ pub enum LineCause {
 }
 
 /// The first error of a text of lines.
-#[derive(Clone, Copy, Debug, PartialEq, Eq, Error)]
-#[error("{cause}")]
+#[derive(Clone, Copy, Debug, PartialEq, Eq)]
 pub struct LineFault {
     /// The number of the line, from 1; 0 for the whole text.
     pub line: u32,
     /// What is wrong with this line.
     pub cause: LineCause,
 }
+
+impl Display for LineFault {
+    ghost use Rattle.std.specs.Prelude.{Some};
+    ghost use Rattle.plan_rules.specs.Causes.{line_cause};
+
+    ghost output = { λ fault. Some (line_cause fault.cause) };
+
+    fn fmt<W: fmt::Write>(&self, f: &mut Formatter<W>) -> fmt::Result {
+        f.write_str(self.cause.name())
+    }
+}
+
+impl Error for LineFault {}
 
 impl LineCause {
     ghost use Rattle.std.specs.Prelude.{◌≡◌};
@@ -76,6 +88,19 @@ impl LineCause {
         }
     }
 }
+
+impl Display for LineCause {
+    ghost use Rattle.std.specs.Prelude.{Some};
+    ghost use Rattle.plan_rules.specs.Causes.{line_cause};
+
+    ghost output = { λ fault. Some (line_cause fault) };
+
+    fn fmt<W: fmt::Write>(&self, f: &mut Formatter<W>) -> fmt::Result {
+        f.write_str(self.name())
+    }
+}
+
+impl Error for LineCause {}
 
 impl From<AllocError> for LineCause {
     ghost use Rattle.std.specs.Prelude.{◌≡◌};

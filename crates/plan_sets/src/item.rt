@@ -6,7 +6,8 @@ ghost use Rattle.plan_sets.specs.Values.{has_value};
 ghost use Rattle.plan_sets.specs.Items.{belongs, is_step, item_fault, is_within, set_reading};
 
 use crate::value_set::ValueSet;
-use thiserror::Error;
+use std::error::Error;
+use std::fmt::{self, Display, Formatter};
 
 /// One element of a field, with its numbers.
 #[derive(Clone, Copy, Debug, PartialEq, Eq)]
@@ -20,8 +21,7 @@ pub enum Item {
 }
 
 /// Why a list of items gives no set.
-#[derive(Clone, Copy, Debug, PartialEq, Eq, Error)]
-#[error("{}", self.name())]
+#[derive(Clone, Copy, Debug, PartialEq, Eq)]
 pub enum SetFault {
     /// The list is empty.
     NoItem,
@@ -49,6 +49,19 @@ impl SetFault {
         }
     }
 }
+
+impl Display for SetFault {
+    ghost use Rattle.std.specs.Prelude.{Some};
+    ghost use Rattle.plan_sets.specs.Causes.{set_cause};
+
+    ghost output = { λ fault. Some (set_cause fault) };
+
+    fn fmt<W: fmt::Write>(&self, f: &mut Formatter<W>) -> fmt::Result {
+        f.write_str(self.name())
+    }
+}
+
+impl Error for SetFault {}
 
 impl Item {
     // Returns what is wrong with the item in a field whose values are from `lo` to `hi`.

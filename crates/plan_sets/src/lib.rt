@@ -1,6 +1,6 @@
 //! Sets of values, dates and times, and timestamps: the building blocks of the rules of cron and of systemd timers.
 //!
-//! The crate uses no other crate of the project, only the kit's `jiff` and `jiff_core`, for dates, and `thiserror`.
+//! The crate uses no other crate of the project, only the kit's `jiff` and `jiff_core`, for dates.
 //! None of its functions allocates memory. Open `value_set` first, then `civil`. `item` makes sets from the elements
 //! of a field, and `moment` reads and writes timestamps.
 #![tactic(auto)]

@@ -4,11 +4,11 @@ ghost use Rattle.plan_sets.specs.Limits.{end_second};
 ghost use Rattle.plan_sets.specs.Moment.{moment_text_of, written_second, two_digits, written_fields, HasFault, IsInCalendar, Says, Written};
 
 use crate::civil::{END_SECOND, fields_of, second_from_epoch};
-use thiserror::Error;
+use std::error::Error;
+use std::fmt::{self, Display, Formatter};
 
 /// What is wrong with the text of a timestamp: the first of these that applies.
-#[derive(Clone, Copy, Debug, PartialEq, Eq, Error)]
-#[error("{}", self.name())]
+#[derive(Clone, Copy, Debug, PartialEq, Eq)]
 pub enum MomentFault {
     /// The text does not have the form `YYYY-MM-DDTHH:MM:SSZ`, which is 20 bytes with decimal digits.
     BadForm,
@@ -33,6 +33,19 @@ impl MomentFault {
         }
     }
 }
+
+impl Display for MomentFault {
+    ghost use Rattle.std.specs.Prelude.{Some};
+    ghost use Rattle.plan_sets.specs.Causes.{moment_cause};
+
+    ghost output = { λ fault. Some (moment_cause fault) };
+
+    fn fmt<W: fmt::Write>(&self, f: &mut Formatter<W>) -> fmt::Result {
+        f.write_str(self.name())
+    }
+}
+
+impl Error for MomentFault {}
 
 /// The numbers in a text with the form of a timestamp.
 #[derive(Clone, Copy)]
