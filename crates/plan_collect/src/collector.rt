@@ -401,9 +401,7 @@ fn append(entries: &mut Vec<Start>, job: u32, starts: &[u64]) -> Result<(), Allo
 {
     entries.reserve(starts.len())?;
     for start in starts {
-        let Ok(()) = entries.push(Start::new(*start, job)) else {
-            unreachable!()
-        };
+        entries.push_reserved(Start::new(*start, job));
     }
     Ok(())
 }

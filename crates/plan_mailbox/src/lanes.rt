@@ -1,7 +1,7 @@
 //! The mailbox whose code `Core` and `Rings` share: a lane for each sender.
 
 ghost use Rattle.std.specs.Prelude.{◌≡◌, ◌<◌, ◌≤◌, All, length, vec_len, false};
-ghost use Rattle.plan_mailbox.specs.Mailbox.{most_room, most_senders};
+ghost use Rattle.plan_mailbox.specs.Mailbox.{is_size, most_room, most_senders};
 
 use crate::faults::NewFault;
 use crate::lane::Lane;
@@ -35,7 +35,7 @@ pub struct Lanes<M, L: Lane<M>> {
 
 impl<M: Drop, L: Lane<M>> Lanes<M, L> {
     ghost use Rattle.std.specs.Prelude.{◌≡◌, ◌↔◌, IfOk, IsErrOf, false};
-    ghost use Rattle.plan_mailbox.specs.Mailbox.{IsNew, is_size, new_mailbox};
+    ghost use Rattle.plan_mailbox.specs.Mailbox.{IsNew, new_mailbox};
     ghost use Rattle.plan_mailbox.specs.Lanes.{mailbox_of};
 
     /// Makes an empty mailbox of 1 to 8 senders, each with a capacity of 1 to 1,024 messages. No other call
@@ -49,7 +49,7 @@ impl<M: Drop, L: Lane<M>> Lanes<M, L> {
         ensures is_new { IfOk result (λ made. IsNew (mailbox_of made)) }
         ensures bad_size { IsErrOf result NewFault.BadSize ↔ (is_size senders room ≡ false) }
     {
-        if !(1..=MOST_SENDERS).contains(&senders) || !(1..=MOST_ROOM).contains(&room) {
+        if !is_size(senders, room) {
             return Err(NewFault::BadSize);
         }
         Ok(Lanes {
@@ -139,4 +139,11 @@ impl<M: Drop, L: Lane<M>> Post<M> for Lanes<M, L> {
     fn room(&self) -> usize {
         self.room
     }
+}
+
+// Returns whether a mailbox may have this many senders, each with this capacity.
+fn is_size(senders: usize, room: usize) -> bool
+    ensures { result ≡ is_size senders room }
+{
+    (1..=MOST_SENDERS).contains(&senders) && (1..=MOST_ROOM).contains(&room)
 }

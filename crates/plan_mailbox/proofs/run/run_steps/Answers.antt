@@ -73,7 +73,8 @@ returns-clause-unchanged g c = tt
 pub returns-clause-as_many : goal.returns-clause-as_many
 returns-clause-as_many g c =
     let none_left = sym c.loop-step.step-iterator.rest.ok.0 ∙ c.in-None.ensures.steps.0 in
-    c.loop-step.replies.ok.0 ∙ (IsRun-all _ _ _ _ c.args.steps.items _ _ c.loop-step.invariant.run c.loop-step.invariant.steps none_left).as_many
+    c.loop-step.replies.ok.0
+    ∙ (IsRun-all _ _ _ _ c.args.steps.items _ _ c.loop-step.invariant.run c.loop-step.invariant.steps none_left).as_many
     ∙ sym c.args.steps.ok.0
 
 pub returns-clause-in_turn : goal.returns-clause-in_turn

@@ -20,7 +20,8 @@ settle-requires g c =
     let within : c.args.sender < length inlet.ends.items = simp length-map at (slice_get_within _ c.args.sender _ c.requires) in
     let was = c.index_mut.result.now in
     IsPair-from c.into_producer.result was.consumer
-    (c.into_producer.ensures.ring ∙ sym (get_or_from_slice_get (inlet_of inlet).rings c.args.sender _ (consumer_ring was.consumer) c.requires)
+    (c.into_producer.ensures.ring
+    ∙ sym (get_or_from_slice_get (inlet_of inlet).rings c.args.sender _ (consumer_ring was.consumer) c.requires)
     ∙ map_read (λ (e : RingEnd g.row.M.Denot). consumer_ring e.consumer) inlet.ends.items c.args.sender was (consumer_ring was.consumer)
     within c.index_mut.ensures.value)
 

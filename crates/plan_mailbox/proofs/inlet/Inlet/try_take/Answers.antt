@@ -42,11 +42,23 @@ returns-in_err-sender-clause-nothing_known g c =
     (NothingKnown-both inlet.turn c.len-senders.result inlet.ends.items (c.len-senders.ensures ∙ inlet.ends.ok.0)
     c.take_among.new.ends.items c.in_default.ensures.none c.in_default.ensures.nothing_known c.in_err-sender.ensures.nothing_known)
 
+pub returns-in-Some-clause-unchanged : goal.returns-in-Some-clause-unchanged
+returns-in-Some-clause-unchanged g c = tt
+
+pub returns-in-Some-clause-nothing_known : goal.returns-in-Some-clause-nothing_known
+returns-in-Some-clause-nothing_known g c = tt
+
 pub returns-in-Some-clause-took : goal.returns-in-Some-clause-took
 returns-in-Some-clause-took g c =
     let inlet = c.args.self.now in
     IsTake-first inlet.turn c.len-senders.result inlet.ends.items (c.len-senders.ensures ∙ inlet.ends.ok.0) c.take_among.new.ends.items
     c.in-Some.sender c.in-Some.message c.in-Some.ensures.some
+
+pub returns-clause-unchanged : goal.returns-clause-unchanged
+returns-clause-unchanged g c = tt
+
+pub returns-clause-nothing_known : goal.returns-clause-nothing_known
+returns-clause-nothing_known g c = tt
 
 pub returns-clause-took : goal.returns-clause-took
 returns-clause-took g c =
