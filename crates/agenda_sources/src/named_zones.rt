@@ -1,7 +1,7 @@
 //! The names of the time zones that calendar events end with (systemd.time(7)).
 
-ghost use Rattle.std.specs.Prelude.{◌≡◌, IfOk, OnOk};
-ghost use Rattle.plan_rules.specs.Names.{with_names};
+ghost use Rattle.std.specs.Prelude.{◌≡◌, [], IfOk, OnOk, option_map};
+ghost use Rattle.plan_rules.specs.Names.{with_found, with_names};
 ghost use Rattle.agenda_sources.specs.ZoneNames.{asked_zones, source_zones, zone_names};
 
 use crate::asked::Asked;
@@ -48,13 +48,19 @@ fn add_source_zones(alloc: Global, names: &mut Names, source: &Source) -> Result
 pub fn asked_zones(alloc: Global, asked: &Asked) -> Result<Names, AllocError>
     ensures { IfOk result (λ names. names ≡ asked_zones asked.now) }
 {
+    match asked {
+        Asked::Cron(_) => Ok(Names::new(alloc)),
+        Asked::Event(text) => names_with(alloc, zone_name(alloc, text.as_str())?),
+    }
+}
+
+// Returns a name as a list, if there is one.
+fn names_with(alloc: Global, name: Option<&str>) -> Result<Names, AllocError>
+    ensures { IfOk result (λ names. names ≡ with_found [] (option_map (λ name. name.now) name.entry)) }
+{
     let mut names = Names::new(alloc);
-    let Asked::Event(text) = asked else {
-        return Ok(names);
-    };
-    let Some(name) = zone_name(alloc, text.as_str())? else {
-        return Ok(names);
-    };
-    names.add(alloc, name)?;
+    if let Some(name) = name {
+        names.add(alloc, name)?;
+    }
     Ok(names)
 }

@@ -7,10 +7,10 @@ ghost use Rattle.plan_rules.specs.Crontab.{line_reading};
 ghost use Rattle.plan_rules.specs.FileText.{text_reading};
 ghost use Rattle.plan_check.specs.Crontabs.{after_crontab, after_entry, after_line, after_lines, crontab_findings, entry_findings, line_findings, lines_findings};
 
-use crate::finding::{Finding, Warning, What};
+use crate::finding::Finding;
 use crate::known::Known;
-use crate::report::{add_if, add_name_fault, refuse};
-use crate::warnings::{add_warnings, is_zone_setting};
+use crate::report::{add_name_fault, refuse};
+use crate::warnings::{add_setting_warning, add_warnings};
 use plan_rules::lines::lines;
 use plan_rules::{Entry, Job, Kind, LineFault, crontab_entry, text_of};
 use std::alloc::{AllocError, Global};
@@ -74,11 +74,7 @@ fn add_line(
 {
     match crontab_entry(alloc, label, kind, number, line)? {
         Some(entry) => add_entry(alloc, known, found, entry),
-        None => {
-            let is_warned = known.clock().is_some() && is_zone_setting(line);
-            let zone = What::Warned(Warning::ZoneSetting);
-            add_if(found, is_warned, number, zone)
-        }
+        None => add_setting_warning(found, known.clock(), number, line),
     }
 }
 

@@ -129,10 +129,10 @@ impl Known {
     fn push(&mut self, job: Job) -> Result<(), AllocError>
         ensures { OnOk result (self.new ≡ record self.old { jobs = self.old.jobs ++ job ∷ [] }) }
     {
-        match self.jobs.add(job) {
-            Ok(_) => Ok(()),
-            Err(_) => Err(AllocError),
+        if self.jobs.add(job).is_err() {
+            return Err(AllocError);
         }
+        Ok(())
     }
 
     // Appends the name of a timer that makes no job.

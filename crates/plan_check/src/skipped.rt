@@ -1,8 +1,9 @@
 //! Starts of an event that systemd 252 may pass over (docs/DIFFERENCES.md, calendar events).
 
-ghost use Rattle.std.specs.Prelude.{◌≡◌, ◌<◌, ◌-◌, ◌%◌, ◌&&◌, ◌==◌, nat_le, IfOk};
+ghost use Rattle.std.specs.Prelude.{◌≡◌, ◌<◌, ◌-◌, ◌%◌, ◌&&◌, ◌||◌, ◌==◌, nat_le, IfOk};
 ghost use Rattle.std.specs.List.{list_any, range_with_len};
 ghost use Rattle.plan_sets.specs.Items.{belongs};
+ghost use Rattle.plan_sets.specs.Limits.{first_year, last_year};
 ghost use Rattle.plan_grammar.specs.EventItems.{item_lists};
 ghost use Rattle.plan_check.specs.Skipped.{days_follow, days_pass_over, event_passes_over, has_neighbours, has_open_step, has_successor, is_passed_over, is_reached, least_value, may_skip_starts, passes_over, weekdays_follow};
 
@@ -36,11 +37,29 @@ fn event_passes_over(event: &Calendar, items: &EventItems) -> bool
         && has_neighbours(&event.minutes, 0, 59)
         || passes_over(&event.minutes, items.minutes.as_slice(), 0, 59)
             && has_neighbours(&event.hours, 0, 23)
-        || passes_over(&event.hours, items.hours.as_slice(), 0, 23)
-            && days_follow(event.day_count, &event.days)
-            && weekdays_follow(&event.weekdays)
-        || days_pass_over(event.day_count, &event.days, items.days.as_slice())
-            && has_neighbours(&event.months, 1, 12)
+        || hours_pass_over(event, items)
+        || date_passes_over(event, items)
+}
+
+// Returns whether the hours have values that are passed over where the day goes on by one.
+fn hours_pass_over(event: &Calendar, items: &EventItems) -> bool
+    ensures { result ≡ (passes_over event.now.hours (item_lists items.now).hours 0 23
+        && (days_follow event.now.day_count event.now.days && weekdays_follow event.now.weekdays)) }
+{
+    passes_over(&event.hours, items.hours.as_slice(), 0, 23)
+        && days_follow(event.day_count, &event.days)
+        && weekdays_follow(&event.weekdays)
+}
+
+// Returns whether the days or the months have values that are passed over where the month or the year goes on by one.
+fn date_passes_over(event: &Calendar, items: &EventItems) -> bool
+    ensures { result ≡ ((days_pass_over event.now.day_count event.now.days (item_lists items.now).days
+        && has_neighbours event.now.months 1 12)
+        || (passes_over event.now.months (item_lists items.now).months 1 12
+        && has_successor event.now.years first_year last_year)) }
+{
+    days_pass_over(event.day_count, &event.days, items.days.as_slice())
+        && has_neighbours(&event.months, 1, 12)
         || passes_over(&event.months, items.months.as_slice(), 1, 12)
             && has_successor(&event.years, FIRST_YEAR, LAST_YEAR)
 }

@@ -1,6 +1,6 @@
 //! The findings of the text of a timer file (systemd.timer(5)).
 
-ghost use Rattle.std.specs.Prelude.{◌≡◌, ◌++◌, ◌∷◌, ◌&&◌, [], if◌then◌else◌, false, IfOk, OnOk, Ok, map, option_map};
+ghost use Rattle.std.specs.Prelude.{◌≡◌, ◌++◌, ◌∷◌, ◌&&◌, [], if◌then◌else◌, false, IfOk, OnOk, Ok, map, not, option_map};
 ghost use Rattle.std.specs.List.{cons_option};
 ghost use Rattle.std.specs.Result.{result_ok};
 ghost use Rattle.plan_match.specs.Zone.{rule_in};
@@ -8,9 +8,12 @@ ghost use Rattle.plan_match.specs.declared.rule.Rule.TheVariants as rule;
 ghost use Rattle.plan_rules.specs.Timer.{effects_from, first_unit, has_timer, is_timer_name, settings_from, timer_job, timer_setting};
 ghost use Rattle.plan_rules.specs.TimerDelays.{default_delays, delays_with, last_span, random_key};
 ghost use Rattle.plan_rules.specs.TimerEntries.{held_after, line_in, line_shown, no_lines, shown_line, state_after, timer_lines};
+ghost use Rattle.plan_rules.specs.declared.line_fault.LineCause.TheVariants as cause;
+ghost use Rattle.plan_check.specs.declared.finding.What.TheVariants as what;
+ghost use Rattle.plan_check.specs.Finding.{found_if};
 ghost use Rattle.plan_check.specs.Known.{after_job, after_other};
 ghost use Rattle.plan_check.specs.Settings.{is_monotonic, standing_after};
-ghost use Rattle.plan_check.specs.Timers.{after_timer, event_warnings, events_with, line_findings, lines_findings, read_findings, right_events, setting_findings, step_findings, timer_findings, timer_warnings, unit_of, unit_with};
+ghost use Rattle.plan_check.specs.Timers.{after_timer, event_warnings, events_with, job_findings, line_findings, lines_findings, read_findings, right_events, setting_findings, step_findings, timer_findings, timer_warnings, unit_of, unit_with};
 ghost use Rattle.plan_check.specs.Warnings.{never_starts};
 
 use crate::draft::Draft;
@@ -69,14 +72,35 @@ fn add_lines(
 {
     let mut later = Vec::new(alloc);
     let (reader, standing, draft) = read_lines(alloc, &mut later, known.clock(), lines, zones)?;
-    let has_section = reader.has_section();
-    let missing = What::Refused(LineCause::NoTimerSection);
-    add_if(found, !has_section, 0, missing)?;
-    add_name_fault(known, found, 0, name)?;
-    add_timer_warnings(found, known.clock(), &reader, standing, lines)?;
-    found.append(&mut later)?;
+    add_all_findings(known, found, &mut later, name, &reader, standing, lines)?;
     let delay = standing.delays.seconds();
-    add_timer_job(alloc, known, name, has_section, draft, delay)
+    add_timer_job(alloc, known, name, reader.has_section(), draft, delay)
+}
+
+// Adds the findings of the whole file, by what its lines say, and then those of its lines.
+fn add_all_findings(
+    known: &Known,
+    found: &mut Vec<Finding>,
+    later: &mut Vec<Finding>,
+    name: &str,
+    reader: &TimerReader<'_>,
+    standing: Standing,
+    lines: &[WholeLine],
+) -> Result<(), AllocError>
+    requires section { reader.now.found ≡ has_timer (map shown_line lines.now) }
+    requires held { reader.now.count.held ≡ held_after (map shown_line lines.now) }
+    requires monotonic { standing.monotonic ≡ is_monotonic (settings_from false (map shown_line lines.now)) }
+    requires delay { standing.delays.random ≡ last_span random_key 0 (settings_from false (map shown_line lines.now)) }
+    ensures { OnOk result (found.new.items ≡ found.old.items
+        ++ (found_if (not (has_timer (map shown_line lines.now))) 0 (what.Refused cause.NoTimerSection)
+        ++ (job_findings known.now name.now ++ (timer_warnings known.now.clock (map shown_line lines.now) ++ later.old.items)))) }
+{
+    let missing = What::Refused(LineCause::NoTimerSection);
+    add_if(found, !reader.has_section(), 0, missing)?;
+    add_name_fault(known, found, 0, name)?;
+    add_timer_warnings(found, known.clock(), reader, standing, lines)?;
+    found.append(later)?;
+    Ok(())
 }
 
 // Adds the job of a timer, whose delay is in seconds, unless the whole timer is rejected.

@@ -1,9 +1,12 @@
 //! The warnings on the lines of crontabs, and on events that never start.
 
-ghost use Rattle.std.specs.Prelude.{◌≡◌, ◌++◌, ◌<◌, IfOk, OnOk, length};
+ghost use Rattle.std.specs.Prelude.{◌≡◌, ◌++◌, ◌<◌, ◌&&◌, IfOk, OnOk, is_some, length};
 ghost use Rattle.std.specs.List.{list_any};
 ghost use Rattle.std.specs.Str.{bytes_eq};
 ghost use Rattle.plan_match.specs.Zone.{rule_in};
+ghost use Rattle.plan_check.specs.declared.finding.Warning.TheVariants as warning;
+ghost use Rattle.plan_check.specs.declared.finding.What.TheVariants as what;
+ghost use Rattle.plan_check.specs.Finding.{found_if};
 ghost use Rattle.plan_check.specs.Warnings.{command_warnings, ends_with_return, has_bare_percent, is_bare_percent, is_either_day, is_reboot, is_zone_setting, job_warnings, never_starts, rule_warnings, warnings_by, zone_names};
 
 use crate::finding::{Finding, Warning, What};
@@ -122,8 +125,22 @@ fn ends_with_return(command: &[u8]) -> bool
     command.ends_with(b"\r")
 }
 
+// Adds the warning on a line that is a setting or makes no job, if there is a clock.
+pub(crate) fn add_setting_warning(
+    found: &mut Vec<Finding>,
+    clock: &Option<Clock>,
+    line: u32,
+    text: &str,
+) -> Result<(), AllocError>
+    ensures { OnOk result (found.new.items ≡ found.old.items
+        ++ found_if (is_some clock.now && is_zone_setting text.now) line (what.Warned warning.ZoneSetting)) }
+{
+    let zone = What::Warned(Warning::ZoneSetting);
+    add_if(found, clock.is_some() && is_zone_setting(text), line, zone)
+}
+
 // Returns whether a line sets the zone of a crontab.
-pub(crate) fn is_zone_setting(line: &str) -> bool
+fn is_zone_setting(line: &str) -> bool
     ensures { result ≡ is_zone_setting line.now }
 {
     match line.split_once('=') {

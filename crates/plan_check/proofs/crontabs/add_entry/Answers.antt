@@ -27,3 +27,6 @@ returns-in_ok-add_warnings-in-Ok-clause-found c =
 
 pub returns-in_ok-add_warnings-in-Ok-clause-known : goal.returns-in_ok-add_warnings-in-Ok-clause-known
 returns-in_ok-add_warnings-in-Ok-clause-known c = rw c.in-Ok.is c.add.ensures
+
+pub returns-in-Err-clause-found : goal.returns-in-Err-clause-found
+returns-in-Err-clause-found c = rw c.in-Err.is c.refuse.ensures

@@ -1,0 +1,6 @@
+-- Without a clock there are no warnings.
+use Rattle.std.proofs.Common.{append-nil, sym}
+use Rattle.plan_check.proofs.warnings.add_warnings.Goals as goal
+
+pub returns-in-None : goal.returns-in-None
+returns-in-None c = rw c.in-None.is (sym (append-nil c.args.found.now.items))
