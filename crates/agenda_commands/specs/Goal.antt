@@ -1,5 +1,8 @@
 -- The answer of jobs by its goal: its text and its errors. All of it is our choice (agenda).
-use Rattle.std.specs.Prelude.{◌≡◌, ⊤, ℕ, List, length, Result, Ok}
+use Rattle.std.specs.Prelude.{◌≡◌, ⊤, ℕ, Bool, List, length, Option, Result, Ok, Err}
+use Rattle.std.specs.Io.KnownBytes.{Appends, Keeps}
+use Rattle.std.specs.Result.{IsErrAnd}
+use Rattle.plan_streams.specs.Stream.{BreaksOff}
 use Rattle.plan_texts.specs.Steps.{◌>>=◌}
 use Rattle.plan_collect.specs.Agenda.{IsOfJobs}
 use Rattle.plan_rules.specs.Job.{JobParts}
@@ -8,7 +11,7 @@ use Rattle.plan_write.specs.Texts.{text_by_ends}
 use Rattle.plan_write.specs.Upcoming.{upcoming_text}
 use Rattle.plan_write.specs.declared.Format.{Format}
 use Rattle.agenda_faults.specs.declared.faults.RunFault.{RunFault}
-use Rattle.agenda_faults.specs.declared.faults.RunFault.TheVariants.{NoMemory}
+use Rattle.agenda_faults.specs.declared.faults.RunFault.TheVariants.{Device, NoMemory}
 use Rattle.agenda_commands.specs.declared.goal.Goal.{Goal}
 use Rattle.agenda_commands.specs.declared.goal.Goal.TheVariants as goal
 use Rattle.agenda_commands.specs.declared.goal.Planning.{Planning}
@@ -58,3 +61,14 @@ text_of format (made.Quiet agenda jobs least) = quiet_text format least agenda j
 abbrev pub CanBeWritten : Made → Type 0
 CanBeWritten (made.Plan agenda ends delays) = IsOfJobs (length ends) agenda.entries
 CanBeWritten other = ⊤
+
+-- a text was written, unless the stream failed
+abbrev pub WritesText : {A : Type 0} → Bool → List ℕ → Result A RunFault → (old new : Option (List ℕ)) → Type 0
+WritesText takes_all text (Ok done) old new = Appends old new text
+WritesText takes_all text (Err (Device stream)) old new = BreaksOff takes_all old new text
+WritesText takes_all text (Err fault) old new = ⊥
+
+-- the text of a result was written, or its error was passed on and nothing was written
+abbrev pub WritesMade : {A : Type 0} → Bool → Format → Result Made RunFault → Result A RunFault → (old new : Option (List ℕ)) → Type 0
+WritesMade takes_all format (Ok made) result old new = WritesText takes_all (text_of format made) result old new
+WritesMade takes_all format (Err fault) result old new = IsErrAnd result (λ found. found ≡ fault) × Keeps old new

@@ -3,7 +3,7 @@
 ghost use Rattle.std.specs.Prelude.{◌≡◌, ◌≤◌, Err, IfErr, IfOk, IsTrue, OnOk};
 ghost use Rattle.plan_rules.specs.Delays.{counted};
 ghost use Rattle.agenda_commands.specs.Command.{IsFaultOf, IsTextOf};
-ghost use Rattle.agenda_commands.specs.Goal.{CanBeWritten, IsFaultOfGoal, IsTextOfGoal, checked_goal, text_of, wide_output};
+ghost use Rattle.agenda_commands.specs.Goal.{CanBeWritten, IsFaultOfGoal, IsTextOfGoal, WritesMade, checked_goal, text_of, wide_output};
 ghost use Rattle.agenda_commands.specs.Plan.{checked_sizes, planned_output, text_of_jobs};
 ghost use Rattle.agenda_commands.specs.Quiet.{valid_least};
 ghost use Rattle.agenda_commands.specs.Upcoming.{IsTextOfNexts};
@@ -56,7 +56,7 @@ pub enum Goal {
 
 // The result, which has a text.
 #[derive(Drop)]
-enum Made {
+pub(crate) enum Made {
     // An agenda, with the ends of its lines, and whether its lines have the latest starts.
     Plan(Agenda, LineEnds, bool),
     // The next starts of jobs, with the ends of their lines, and whether the lines have the latest starts.
@@ -131,7 +131,7 @@ fn make<R: Threads + Wait + Sync>(
 }
 
 // Makes the agenda of jobs.
-fn make_plan<R: Threads + Wait + Sync>(
+pub(crate) fn make_plan<R: Threads + Wait + Sync>(
     rt: &R,
     alloc: Global,
     jobs: Jobs,
@@ -165,7 +165,7 @@ fn make_plan_of<R: Threads + Wait + Sync>(
 }
 
 // Makes the next starts of jobs.
-fn make_upcoming(
+pub(crate) fn make_upcoming(
     alloc: Global,
     jobs: Jobs,
     after: u64,
@@ -182,7 +182,7 @@ fn make_upcoming(
 }
 
 // Makes the agenda of jobs that is searched for gaps.
-fn make_quiet<R: Threads + Wait + Sync>(
+pub(crate) fn make_quiet<R: Threads + Wait + Sync>(
     rt: &R,
     alloc: Global,
     jobs: Jobs,
@@ -204,18 +204,30 @@ fn make_quiet<R: Threads + Wait + Sync>(
     Ok(Made::Quiet(agenda, jobs, least))
 }
 
-impl PreparedAnswer {
-    /// Writes the text of the answer.
-    ///
-    /// # Errors
-    ///
-    /// `Device` or `Closed` if the stream fails. Then only the first bytes of the text were written.
-    pub fn write<S: Stream>(&self, out: &mut S) -> Result<(), WriteFault>
-        ensures text { Puts S.takes_all result (S.holds out.old) (S.holds out.new) self.now }
+// Writes what was made of jobs, or passes its error on.
+pub(crate) fn write_made<S: Stream>(
+    made: Result<Made, RunFault>,
+    format: &Format,
+    out: &mut S,
+) -> Result<(), RunFault>
+    requires { IfOk made CanBeWritten }
+    ensures output { WritesMade S.takes_all format.now made result (S.holds out.old) (S.holds out.new) }
+    ensures flushed { OnOk result (IsTrue (S.is_flushed out.new)) }
+{
+    match made {
+        Ok(made) => Ok(made.write(format, out)?),
+        Err(fault) => Err(fault),
+    }
+}
+
+impl Made {
+    // Writes the text of the result.
+    fn write<S: Stream>(&self, format: &Format, out: &mut S) -> Result<(), WriteFault>
+        requires { CanBeWritten self.now }
+        ensures text { Puts S.takes_all result (S.holds out.old) (S.holds out.new) (text_of format.now self.now) }
         ensures flushed { OnOk result (IsTrue (S.is_flushed out.new)) }
     {
-        let format = &self.format;
-        match &self.made {
+        match self {
             Made::Plan(agenda, ends, delays) => write_agenda(agenda, ends, format, *delays, out),
             Made::Upcoming(upcoming, ends, delays) => {
                 write_upcoming(upcoming, ends, format, *delays, out)
@@ -227,8 +239,22 @@ impl PreparedAnswer {
     }
 }
 
+impl PreparedAnswer {
+    /// Writes the text of the answer.
+    ///
+    /// # Errors
+    ///
+    /// `Device` or `Closed` if the stream fails. Then only the first bytes of the text were written.
+    pub fn write<S: Stream>(&self, out: &mut S) -> Result<(), WriteFault>
+        ensures text { Puts S.takes_all result (S.holds out.old) (S.holds out.new) self.now }
+        ensures flushed { OnOk result (IsTrue (S.is_flushed out.new)) }
+    {
+        self.made.write(&self.format, out)
+    }
+}
+
 // Returns the jobs that are planned: without their delays, unless these count.
-pub(crate) fn counted(jobs: Jobs, delays: bool) -> Jobs
+fn counted(jobs: Jobs, delays: bool) -> Jobs
     ensures { result ≡ counted delays jobs }
 {
     if delays { jobs } else { jobs.without_delays() }

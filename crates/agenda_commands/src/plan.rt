@@ -4,16 +4,14 @@ ghost use Rattle.std.specs.Prelude.{◌≡◌, [], Err, IfErr, IfSome, IsTrue, O
 ghost use Rattle.agenda_sources.specs.AtOnce.{fault_at_once};
 ghost use Rattle.agenda_faults.specs.Faults.{fault_of_sources};
 ghost use Rattle.agenda_commands.specs.Command.{Outputs};
-ghost use Rattle.agenda_commands.specs.Plan.{checked_sizes, plan_output, text_of_jobs};
+ghost use Rattle.agenda_commands.specs.Plan.{checked_sizes, plan_output};
 
-use crate::agenda_of::make_agenda;
-use crate::goal::{Planning, counted};
+use crate::goal::{Planning, make_plan, write_made};
 use crate::input::Input;
 use agenda_faults::RunFault;
 use agenda_sources::jobs_of_sources;
-use plan_rules::Jobs;
 use plan_streams::Stream;
-use plan_write::{Format, LineEnds, write_agenda};
+use plan_write::Format;
 use std::alloc::Global;
 use std::sync::Wait;
 use std::thread::Threads;
@@ -49,25 +47,6 @@ pub fn run_plan<R: Threads + Wait + Sync, S: Stream>(
     ensures no_source { input.now.sources ≡ [] → IfErr (checked_sizes planning.now) (λ fault. result ≡ Err fault) }
 {
     let jobs = jobs_of_sources(alloc, &input.sources, &input.zones)?;
-    let jobs = counted(jobs, planning.delays);
-    write_plan(rt, alloc, &jobs, planning, format, out)
-}
-
-// Writes the agenda of these jobs.
-fn write_plan<R: Threads + Wait + Sync, S: Stream>(
-    rt: &R,
-    alloc: Global,
-    jobs: &Jobs,
-    planning: &Planning,
-    format: &Format,
-    out: &mut S,
-) -> Result<(), RunFault>
-    ensures output { Outputs S.takes_all (text_of_jobs format.now jobs.now planning.now) result (S.holds out.old) (S.holds out.new) }
-    ensures at_once { IfErr (checked_sizes planning.now) (λ fault. result ≡ Err fault) }
-    ensures flushed { OnOk result (IsTrue (S.is_flushed out.new)) }
-{
-    let agenda = make_agenda(rt, alloc, jobs, planning)?;
-    let ends = LineEnds::new(alloc, jobs, format.json)?;
-    write_agenda(&agenda, &ends, format, planning.delays, out)?;
-    Ok(())
+    let made = make_plan(rt, alloc, jobs, planning, format);
+    write_made(made, format, out)
 }

@@ -5,16 +5,14 @@ ghost use Rattle.agenda_sources.specs.AtOnce.{fault_at_once};
 ghost use Rattle.agenda_faults.specs.Faults.{fault_of_sources};
 ghost use Rattle.agenda_commands.specs.Command.{Outputs};
 ghost use Rattle.agenda_commands.specs.Plan.{checked_sizes};
-ghost use Rattle.agenda_commands.specs.Quiet.{gaps_of_jobs, quiet_output, valid_least};
+ghost use Rattle.agenda_commands.specs.Quiet.{quiet_output, valid_least};
 
-use crate::agenda_of::make_agenda;
-use crate::goal::{Planning, counted};
+use crate::goal::{Planning, make_quiet, write_made};
 use crate::input::Input;
 use agenda_faults::RunFault;
 use agenda_sources::jobs_of_sources;
-use plan_rules::Jobs;
 use plan_streams::Stream;
-use plan_write::{Format, write_quiet};
+use plan_write::Format;
 use std::alloc::Global;
 use std::sync::Wait;
 use std::thread::Threads;
@@ -49,25 +47,6 @@ pub fn run_quiet<R: Threads + Wait + Sync, S: Stream>(
         return Err(RunFault::BadLeast);
     }
     let jobs = jobs_of_sources(alloc, &input.sources, &input.zones)?;
-    let jobs = counted(jobs, planning.delays);
-    write_gaps(rt, alloc, &jobs, planning, least, format, out)
-}
-
-// Writes the gaps of the plan of these jobs.
-fn write_gaps<R: Threads + Wait + Sync, S: Stream>(
-    rt: &R,
-    alloc: Global,
-    jobs: &Jobs,
-    planning: &Planning,
-    least: u32,
-    format: &Format,
-    out: &mut S,
-) -> Result<(), RunFault>
-    ensures output { Outputs S.takes_all (gaps_of_jobs format.now jobs.now planning.now least) result (S.holds out.old) (S.holds out.new) }
-    ensures at_once { IfErr (checked_sizes planning.now) (λ fault. result ≡ Err fault) }
-    ensures flushed { OnOk result (IsTrue (S.is_flushed out.new)) }
-{
-    let agenda = make_agenda(rt, alloc, jobs, planning)?;
-    write_quiet(&agenda, jobs, u64::from(least), format, out)?;
-    Ok(())
+    let made = make_quiet(rt, alloc, jobs, planning, least, format);
+    write_made(made, format, out)
 }

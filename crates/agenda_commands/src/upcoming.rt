@@ -6,11 +6,12 @@ ghost use Rattle.agenda_faults.specs.Faults.{fault_of_sources};
 ghost use Rattle.agenda_commands.specs.Command.{Fails, Writes};
 ghost use Rattle.agenda_commands.specs.Upcoming.{IsTextOfUpcoming, RefusesUpcoming};
 
+use crate::goal::{make_upcoming, write_made};
 use crate::input::Input;
 use agenda_faults::RunFault;
 use agenda_sources::jobs_of_sources;
 use plan_streams::Stream;
-use plan_write::{Format, LineEnds, Upcoming, write_upcoming};
+use plan_write::Format;
 use std::alloc::Global;
 
 /// Writes when each job of the sources starts next, later than `after`: one line for each job, sorted by time
@@ -41,8 +42,6 @@ pub fn run_upcoming<S: Stream>(
     ensures at_once { IfSome (fault_at_once input.now.sources) (λ fault. result ≡ Err (fault_of_sources fault)) }
 {
     let jobs = jobs_of_sources(alloc, &input.sources, &input.zones)?;
-    let upcoming = Upcoming::new(alloc, &jobs, after)?;
-    let ends = LineEnds::new(alloc, &jobs, format.json)?;
-    write_upcoming(&upcoming, &ends, format, delays, out)?;
-    Ok(())
+    let made = make_upcoming(alloc, jobs, after, delays, format);
+    write_made(made, format, out)
 }

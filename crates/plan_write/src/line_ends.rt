@@ -1,6 +1,7 @@
 //! The ends of the lines of jobs, made once for each job.
 
 ghost use Rattle.std.specs.Prelude.{◌≡◌, [], ◌++◌, IfOk, IsOk, OnOk, map, option_copied, slice_get};
+ghost use Rattle.plan_write.specs.Json.{json_string};
 ghost use Rattle.plan_write.specs.Texts.{end_in, end_members, end_text, line_end, user_member};
 
 use crate::json_strings::push_string;
@@ -131,13 +132,18 @@ fn members_of(alloc: Global, job: &Job) -> Result<Vec<u8>, AllocError>
     ensures { IfOk result (λ text. text.items ≡ end_members job.now) }
 {
     let mut text = Vec::new(alloc);
-    text.extend_from_slice(b",\"job\":")?;
-    push_string(&mut text, job.name())?;
-    push_user(&mut text, job)?;
-    text.extend_from_slice(b",\"run\":")?;
-    push_string(&mut text, job.command())?;
-    text.extend_from_slice(b"}\n")?;
+    push_members(&mut text, job)?;
     Ok(text)
+}
+
+// Appends the end of the objects of a job to a text.
+fn push_members(text: &mut Vec<u8>, job: &Job) -> Result<(), AllocError>
+    ensures { OnOk result (text.new.items ≡ text.old.items ++ end_members job.now) }
+{
+    push_member(text, b",\"job\":", job.name())?;
+    push_user(text, job)?;
+    push_member(text, b",\"run\":", job.command())?;
+    text.extend_from_slice(b"}\n")
 }
 
 // Appends the member of a job's user, if it has one.
@@ -146,9 +152,14 @@ fn push_user(text: &mut Vec<u8>, job: &Job) -> Result<(), AllocError>
 {
     match job.user() {
         None => Ok(()),
-        Some(user) => {
-            text.extend_from_slice(b",\"user\":")?;
-            push_string(text, user)
-        }
+        Some(user) => push_member(text, b",\"user\":", user),
     }
+}
+
+// Appends what opens a member, and its string.
+fn push_member(text: &mut Vec<u8>, opening: &[u8], string: &str) -> Result<(), AllocError>
+    ensures { OnOk result (text.new.items ≡ text.old.items ++ (opening.now ++ json_string string.now)) }
+{
+    text.extend_from_slice(opening)?;
+    push_string(text, string)
 }
