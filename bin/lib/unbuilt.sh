@@ -8,7 +8,7 @@ help_source=$top/rows/words.sh
 
 # Prints the names of the commands, one per line.
 command_names() {
-  sed -n 's/.* subcommand(alloc, "\([a-z]*\)",.*/\1/p' "$command_source"
+  sed -n 's/.* new_subcommand(alloc, "\([a-z]*\)",.*/\1/p' "$command_source"
 }
 
 # Prints the help of the command $1, or that of the program for `agenda`, and ends the script.

@@ -6,6 +6,10 @@ use Rattle.clap.specs.declared.builder.action.ArgAction.TheVariants.{Append, Set
 use Rattle.clap.specs.declared.builder.value_parser.ValueParser.TheVariants as parser
 use Rattle.agenda_sources.specs.declared.SourceKind.{SourceKind}
 use Rattle.agenda_sources.specs.declared.SourceKind.TheVariants.{Crontab, System, CronD, Spool, Timer}
+use Rattle.agenda_words.specs.declared.command.CommandOption.{CommandOption}
+use Rattle.agenda_words.specs.declared.command.CommandOption.TheVariants.{Flag, Text, Moment, Number, Tuning}
+use Rattle.agenda_words.specs.declared.command.Subcommand.{Subcommand}
+use Rattle.agenda_words.specs.declared.command.Subcommand.TheVariants as each
 use Rattle.agenda_sources.specs.Kind.{kinds, option_of}
 
 -- an argument `VALUE`, which is optional (agenda)
@@ -34,6 +38,14 @@ number_option name default = record (option_named name) {
   parser = Some (parser.Signed (pos 0) (pos 4294967295));
   defaults = default ∷ [];
 }
+
+-- the rule of an option that a subcommand lists (agenda)
+abbrev pub rule_for : CommandOption → Rule
+rule_for (Flag name help) = flag_option name.now
+rule_for (Text name value help) = option_named name.now
+rule_for (Moment name help) = moment_option name.now
+rule_for (Number name default help) = number_option name.now default.now
+rule_for (Tuning name default help) = number_option name.now default.now
 
 -- the required argument `FILE` (agenda)
 abbrev pub file_argument : Rule
@@ -136,3 +148,23 @@ unfoldable pub agenda : App
 agenda =
     with_subcommand (with_subcommand (with_subcommand (with_subcommand (with_subcommand (with_subcommand (with_subcommand
     agenda_alone next.top) plan.top) upcoming.top) quiet.top) check.top) steps.top) explain.top
+
+-- the subcommands, in the order in which help lists them (agenda)
+abbrev pub subcommands : List Subcommand
+subcommands =
+    each.Next ∷ each.Plan ∷ each.Upcoming ∷ each.Quiet ∷ each.Check ∷ each.Steps ∷ each.Explain ∷ []
+
+-- the command line of a subcommand (agenda)
+abbrev pub app_for : Subcommand → App
+app_for each.Next = next
+app_for each.Plan = plan
+app_for each.Upcoming = upcoming
+app_for each.Quiet = quiet
+app_for each.Check = check
+app_for each.Steps = steps
+app_for each.Explain = explain
+
+-- a command with these subcommands added, one after the other (agenda)
+abbrev pub with_subcommands : App → List Subcommand → App
+with_subcommands app [] = app
+with_subcommands app (subcommand ∷ rest) = with_subcommands (with_subcommand app (app_for subcommand).top) rest

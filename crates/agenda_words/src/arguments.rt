@@ -1,9 +1,9 @@
 //! Reads the arguments of the command line.
-ghost use Rattle.std.specs.Prelude.{◌≡◌, IfOk, map, string_bytes};
-ghost use Rattle.clap.specs.Words.{found_of, kind_of, rows_of, subcommand_rows_of};
+ghost use Rattle.std.specs.Prelude.{◌≡◌, IfOk, codes, map, string_bytes};
+ghost use Rattle.clap.specs.Words.{first_of, found_of, kind_of, rows_of, subcommand_rows_of};
 ghost use Rattle.agenda_words.specs.Arguments.{Gives, IsAnswerTo, asked_by, asked_by_check, asked_by_explain, asked_by_next};
 ghost use Rattle.agenda_words.specs.Arguments.{asked_by_plan, asked_by_quiet, asked_by_steps, asked_by_subcommand};
-ghost use Rattle.agenda_words.specs.Arguments.{asked_by_upcoming, format_in, jobs_in, plan_in, sizes_in, zones_in};
+ghost use Rattle.agenda_words.specs.Arguments.{asked_by_upcoming, format_in, jobs_in, one_rule, plan_in, sizes_in, zones_in};
 
 use crate::ask::{
     Ask, FormatRequest, JobsRequest, NextRequest, PlanRequest, UsageFault, ZonesRequest,
@@ -72,15 +72,9 @@ fn asked_by_next(alloc: Global, given: &ArgMatches<'_>) -> Result<Ask, UsageFaul
     ensures { Gives result (asked_by_next (rows_of (found_of given.now))) }
 {
     let after = text_of(alloc, given, "after")?;
-    let zones = zones_of(alloc, given)?;
     let count = number_argument(alloc, given, "count")?;
-    let cron = text_if_given(alloc, given, "cron")?;
-    let calendar = text_if_given(alloc, given, "calendar")?;
-    let rule = match (cron, calendar) {
-        (Some(cron), None) => Asked::Cron(cron),
-        (None, Some(calendar)) => Asked::Event(calendar),
-        _ => return Err(UsageFault::Usage(text(alloc, ONE_RULE)?)),
-    };
+    let rule = rule_of(alloc, given)?;
+    let zones = zones_of(alloc, given)?;
     let format = format_of(given);
     Ok(Ask::Next(NextRequest {
         after,
@@ -89,6 +83,20 @@ fn asked_by_next(alloc: Global, given: &ArgMatches<'_>) -> Result<Ask, UsageFaul
         rule,
         format,
     }))
+}
+
+// Returns the rule of `next`.
+fn rule_of(alloc: Global, given: &ArgMatches<'_>) -> Result<Asked, UsageFault>
+    ensures { Gives result (one_rule (first_of (codes "cron") (rows_of (found_of given.now)))
+        (first_of (codes "calendar") (rows_of (found_of given.now)))) }
+{
+    let cron = text_if_given(alloc, given, "cron")?;
+    let calendar = text_if_given(alloc, given, "calendar")?;
+    match (cron, calendar) {
+        (Some(cron), None) => Ok(Asked::Cron(cron)),
+        (None, Some(calendar)) => Ok(Asked::Event(calendar)),
+        _ => Err(UsageFault::Usage(text(alloc, ONE_RULE)?)),
+    }
 }
 
 fn asked_by_plan(alloc: Global, given: &ArgMatches<'_>) -> Result<Ask, UsageFault>

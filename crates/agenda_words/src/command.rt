@@ -1,11 +1,11 @@
 //! Describes the command line to `clap`.
-ghost use Rattle.std.specs.Prelude.{◌≡◌, [], ◌∷◌, IfOk, false};
+ghost use Rattle.std.specs.Prelude.{◌≡◌, [], ◌∷◌, IfOk, false, map};
 ghost use Rattle.clap.specs.Words.{app_of, items_of, new_app, rule_of, with_rule, with_subcommand};
 ghost use Rattle.clap.specs.declared.builder.command.Command.TheViews.{out-Command};
-ghost use Rattle.agenda_words.specs.Command.{agenda, agenda_alone, argument_named, check, code_argument, explain, file_argument, flag_option};
-ghost use Rattle.agenda_words.specs.Command.{moment_option, next, number_option, option_named, plan, quiet, source_rule, steps};
-ghost use Rattle.agenda_words.specs.Command.{upcoming, with_alias, with_format, with_jobs, with_sizes, with_sources, with_span};
-ghost use Rattle.agenda_words.specs.Command.{with_zones};
+ghost use Rattle.agenda_words.specs.Command.{agenda, agenda_alone, app_for, argument_named, check, code_argument, explain, file_argument};
+ghost use Rattle.agenda_words.specs.Command.{flag_option, moment_option, next, number_option, option_named, plan, quiet, rule_for};
+ghost use Rattle.agenda_words.specs.Command.{source_rule, steps, subcommands, upcoming, with_alias, with_each, with_jobs};
+ghost use Rattle.agenda_words.specs.Command.{with_sources, with_span};
 
 mod help;
 
@@ -16,6 +16,103 @@ use std::alloc::{AllocError, Global};
 // The version of the program, which is written only here, and the prover's version.
 const VERSION: &str = "0.1.0\nproved with rattle-kit-13f logic dac8208d650f15bf";
 
+// An option of a subcommand. Its first text is its name, and its last one its help. A table of options takes
+// no memory, so there is nothing to free if an allocation fails.
+#[derive(Clone, Copy)]
+enum CommandOption<'a> {
+    // An option without a value.
+    Flag(&'a str, &'a str),
+    // An option with a value, which is optional. The second text stands for the value in help.
+    Text(&'a str, &'a str, &'a str),
+    // An option for a timestamp, which is required.
+    Moment(&'a str, &'a str),
+    // An option for a whole number of 32 bits. The second text is its default.
+    Number(&'a str, &'a str, &'a str),
+    // The same, in help's section for tuning.
+    Tuning(&'a str, &'a str, &'a str),
+}
+
+// The start of what `next` and `upcoming` list.
+const AFTER: CommandOption<'static> = CommandOption::Moment("after", help::AFTER);
+
+// The options for time zones.
+const ZONE: CommandOption<'static> = CommandOption::Text("zone", "ZONE", help::ZONE);
+
+const EVENT_ZONES: CommandOption<'static> = CommandOption::Flag("event-zones", help::EVENT_ZONES);
+
+// The flags for the form of the output.
+const JSON: CommandOption<'static> = CommandOption::Flag("json", help::JSON);
+
+const LOCAL: CommandOption<'static> = CommandOption::Flag("local", help::LOCAL);
+
+// The sizes of a plan, beside its limit.
+const PLANNERS: CommandOption<'static> = CommandOption::Tuning("planners", "2", help::PLANNERS);
+
+const ROOM: CommandOption<'static> = CommandOption::Tuning("room", "16", help::ROOM);
+
+impl<'a> CommandOption<'a> {
+    // Returns the option in clap's terms.
+    fn to_clap(self, alloc: Global) -> Arg<'a>
+        ensures rule { rule_of result ≡ rule_for self.entry }
+        ensures local { result.global ≡ false }
+    {
+        match self {
+            CommandOption::Flag(name, help) => flag_option(alloc, name, help),
+            CommandOption::Text(name, value, help) => text_option(alloc, name, value, help),
+            CommandOption::Moment(name, help) => moment_option(alloc, name, help),
+            CommandOption::Number(name, default, help) => number_option(alloc, name, default, help),
+            CommandOption::Tuning(name, default, help) => {
+                number_option(alloc, name, default, help).help_heading(help::TUNING)
+            }
+        }
+    }
+}
+
+// A subcommand.
+#[derive(Clone, Copy)]
+enum Subcommand {
+    Next,
+    Plan,
+    Upcoming,
+    Quiet,
+    Check,
+    Steps,
+    Explain,
+}
+
+impl Subcommand {
+    // Returns all subcommands, in the order in which help lists them.
+    fn all() -> [Subcommand; 7]
+        ensures { result ≡ subcommands }
+    {
+        [
+            Subcommand::Next,
+            Subcommand::Plan,
+            Subcommand::Upcoming,
+            Subcommand::Quiet,
+            Subcommand::Check,
+            Subcommand::Steps,
+            Subcommand::Explain,
+        ]
+    }
+
+    // Returns the command line of the subcommand.
+    fn command<'a>(self, alloc: Global) -> Result<Command<'a>, AllocError>
+        ensures app { IfOk result (λ command. app_of command ≡ app_for self) }
+        ensures local { IfOk result (λ command. (out-Command command).has_globals ≡ false) }
+    {
+        match self {
+            Subcommand::Next => next_command(alloc),
+            Subcommand::Plan => plan_command(alloc),
+            Subcommand::Upcoming => upcoming_command(alloc),
+            Subcommand::Quiet => quiet_command(alloc),
+            Subcommand::Check => check_command(alloc),
+            Subcommand::Steps => steps_command(alloc),
+            Subcommand::Explain => explain_command(alloc),
+        }
+    }
+}
+
 /// Returns the command line of the program.
 ///
 /// # Errors
@@ -25,14 +122,10 @@ const VERSION: &str = "0.1.0\nproved with rattle-kit-13f logic dac8208d650f15bf"
 pub(crate) fn agenda_command<'a>(alloc: Global) -> Result<Command<'a>, AllocError>
     ensures { IfOk result (λ command. app_of command ≡ agenda) }
 {
-    let command = agenda_alone(alloc)?;
-    let command = with_command(command, next_command(alloc)?)?;
-    let command = with_command(command, plan_command(alloc)?)?;
-    let command = with_command(command, upcoming_command(alloc)?)?;
-    let command = with_command(command, quiet_command(alloc)?)?;
-    let command = with_command(command, check_command(alloc)?)?;
-    let command = with_command(command, steps_command(alloc)?)?;
-    let command = with_command(command, explain_command(alloc)?)?;
+    let mut command = agenda_alone(alloc)?;
+    for subcommand in Subcommand::all() {
+        command = with_subcommand(alloc, command, subcommand)?;
+    }
     Ok(command)
 }
 
@@ -40,46 +133,54 @@ pub(crate) fn agenda_command<'a>(alloc: Global) -> Result<Command<'a>, AllocErro
 fn agenda_alone<'a>(alloc: Global) -> Result<Command<'a>, AllocError>
     ensures { IfOk result (λ command. app_of command ≡ agenda_alone) }
 {
-    let command = Command::new(alloc, "agenda")
-        .bin_name("agenda")?
+    Command::new(alloc, "agenda")
         .version(VERSION)
         .about(help::AGENDA)
         .after_help(help::AFTER_AGENDA)
         .subcommand_required(true)
-        .disable_help_subcommand(true);
-    Ok(command)
+        .disable_help_subcommand(true)
+        .bin_name("agenda")
 }
 
-#[tactic(auto, unfolding(crate::specs::Command::next))]
+#[tactic(auto, unfolding(crate::specs::Command::next, crate::specs::Command::with_zones, crate::specs::Command::with_format))]
 fn next_command<'a>(alloc: Global) -> Result<Command<'a>, AllocError>
     ensures app { IfOk result (λ command. app_of command ≡ next) }
     ensures local { IfOk result (λ command. (out-Command command).has_globals ≡ false) }
 {
-    let command = subcommand(alloc, "next", help::NEXT, help::AFTER_NEXT).override_usage(
-        help::NEXT_USAGE,
-    );
-    let command = with_argument(command, moment_option(alloc, "after", help::AFTER))?;
-    let command = with_zones(alloc, command)?;
-    let command = with_argument(command, number_option(alloc, "count", "1", help::COUNT))?;
-    let command = with_argument(command, text_option(alloc, "cron", "TEXT", help::CRON))?;
-    let command = with_argument(
-        command,
-        text_option(alloc, "calendar", "TEXT", help::CALENDAR),
-    )?;
-    let command = with_format(alloc, command)?;
-    Ok(command)
+    let command = new_subcommand(alloc, "next", help::NEXT, help::AFTER_NEXT);
+    with_arguments(
+        alloc,
+        command.override_usage(help::NEXT_USAGE),
+        &[
+            AFTER,
+            ZONE,
+            EVENT_ZONES,
+            CommandOption::Number("count", "1", help::COUNT),
+            CommandOption::Text("cron", "TEXT", help::CRON),
+            CommandOption::Text("calendar", "TEXT", help::CALENDAR),
+            JSON,
+            LOCAL,
+        ],
+    )
 }
 
-#[tactic(auto, unfolding(crate::specs::Command::plan))]
+#[tactic(auto, unfolding(crate::specs::Command::plan, crate::specs::Command::with_sizes))]
 fn plan_command<'a>(alloc: Global) -> Result<Command<'a>, AllocError>
     ensures app { IfOk result (λ command. app_of command ≡ plan) }
     ensures local { IfOk result (λ command. (out-Command command).has_globals ≡ false) }
 {
-    let command = subcommand(alloc, "plan", help::PLAN, help::AFTER_PLAN);
+    let command = new_subcommand(alloc, "plan", help::PLAN, help::AFTER_PLAN);
     let command = with_span(alloc, command)?;
     let command = with_jobs(alloc, command, help::DELAYS)?;
-    let command = with_sizes(alloc, command, "10000")?;
-    Ok(command)
+    with_arguments(
+        alloc,
+        command,
+        &[
+            PLANNERS,
+            ROOM,
+            CommandOption::Number("limit", "10000", help::LIMIT),
+        ],
+    )
 }
 
 #[tactic(auto, unfolding(crate::specs::Command::upcoming))]
@@ -87,35 +188,39 @@ fn upcoming_command<'a>(alloc: Global) -> Result<Command<'a>, AllocError>
     ensures app { IfOk result (λ command. app_of command ≡ upcoming) }
     ensures local { IfOk result (λ command. (out-Command command).has_globals ≡ false) }
 {
-    let command = subcommand(alloc, "upcoming", help::UPCOMING, help::AFTER_UPCOMING);
-    let command = with_argument(command, moment_option(alloc, "after", help::AFTER))?;
-    let command = with_jobs(alloc, command, help::DELAYS)?;
-    Ok(command)
+    let command = new_subcommand(alloc, "upcoming", help::UPCOMING, help::AFTER_UPCOMING);
+    let command = with_arguments(alloc, command, &[AFTER])?;
+    with_jobs(alloc, command, help::DELAYS)
 }
 
-#[tactic(auto, unfolding(crate::specs::Command::quiet))]
+#[tactic(auto, unfolding(crate::specs::Command::quiet, crate::specs::Command::with_sizes))]
 fn quiet_command<'a>(alloc: Global) -> Result<Command<'a>, AllocError>
     ensures app { IfOk result (λ command. app_of command ≡ quiet) }
     ensures local { IfOk result (λ command. (out-Command command).has_globals ≡ false) }
 {
-    let command = subcommand(alloc, "quiet", help::QUIET, help::AFTER_QUIET);
+    let command = new_subcommand(alloc, "quiet", help::QUIET, help::AFTER_QUIET);
     let command = with_span(alloc, command)?;
     let command = with_jobs(alloc, command, help::QUIET_DELAYS)?;
-    let command = with_argument(command, number_option(alloc, "least", "1800", help::LEAST))?;
-    let command = with_sizes(alloc, command, "1000000")?;
-    Ok(command)
+    with_arguments(
+        alloc,
+        command,
+        &[
+            CommandOption::Number("least", "1800", help::LEAST),
+            PLANNERS,
+            ROOM,
+            CommandOption::Number("limit", "1000000", help::LIMIT),
+        ],
+    )
 }
 
-#[tactic(auto, unfolding(crate::specs::Command::check))]
+#[tactic(auto, unfolding(crate::specs::Command::check, crate::specs::Command::with_zones))]
 fn check_command<'a>(alloc: Global) -> Result<Command<'a>, AllocError>
     ensures app { IfOk result (λ command. app_of command ≡ check) }
     ensures local { IfOk result (λ command. (out-Command command).has_globals ≡ false) }
 {
-    let command = subcommand(alloc, "check", help::CHECK, help::AFTER_CHECK);
-    let command = with_zones(alloc, command)?;
-    let command = with_flag(alloc, command, "json", help::JSON)?;
-    let command = with_sources(alloc, command)?;
-    Ok(command)
+    let command = new_subcommand(alloc, "check", help::CHECK, help::AFTER_CHECK);
+    let command = with_arguments(alloc, command, &[ZONE, EVENT_ZONES, JSON])?;
+    with_sources(alloc, command)
 }
 
 #[tactic(auto, unfolding(crate::specs::Command::steps))]
@@ -123,9 +228,8 @@ fn steps_command<'a>(alloc: Global) -> Result<Command<'a>, AllocError>
     ensures app { IfOk result (λ command. app_of command ≡ steps) }
     ensures local { IfOk result (λ command. (out-Command command).has_globals ≡ false) }
 {
-    let command = subcommand(alloc, "steps", help::STEPS, help::AFTER_STEPS);
-    let command = with_argument(command, file_argument(alloc))?;
-    Ok(command)
+    let command = new_subcommand(alloc, "steps", help::STEPS, help::AFTER_STEPS);
+    with_argument(command, file_argument(alloc))
 }
 
 #[tactic(auto, unfolding(crate::specs::Command::explain))]
@@ -133,13 +237,17 @@ fn explain_command<'a>(alloc: Global) -> Result<Command<'a>, AllocError>
     ensures app { IfOk result (λ command. app_of command ≡ explain) }
     ensures local { IfOk result (λ command. (out-Command command).has_globals ≡ false) }
 {
-    let command = subcommand(alloc, "explain", help::EXPLAIN, help::AFTER_EXPLAIN);
-    let command = with_argument(command, code_argument(alloc))?;
-    Ok(command)
+    let command = new_subcommand(alloc, "explain", help::EXPLAIN, help::AFTER_EXPLAIN);
+    with_argument(command, code_argument(alloc))
 }
 
 // Returns a subcommand without arguments, with the first and the last text of its help.
-fn subcommand<'a>(alloc: Global, name: &'a str, about: &'a str, after_help: &'a str) -> Command<'a>
+fn new_subcommand<'a>(
+    alloc: Global,
+    name: &'a str,
+    about: &'a str,
+    after_help: &'a str,
+) -> Command<'a>
     ensures app { app_of result ≡ new_app name.entry.now }
     ensures local { (out-Command result).has_globals ≡ false }
 {
@@ -149,15 +257,18 @@ fn subcommand<'a>(alloc: Global, name: &'a str, about: &'a str, after_help: &'a 
 }
 
 // Adds a subcommand to the command.
-fn with_command<'a>(command: Command<'a>, below: Command<'a>) -> Result<Command<'a>, AllocError>
-    requires local { (out-Command below).has_globals ≡ false }
-    ensures { IfOk result (λ new. app_of new ≡ with_subcommand (app_of command.entry) (app_of below.entry).top) }
+fn with_subcommand<'a>(
+    alloc: Global,
+    command: Command<'a>,
+    subcommand: Subcommand,
+) -> Result<Command<'a>, AllocError>
+    ensures { IfOk result (λ new. app_of new ≡ with_subcommand (app_of command.entry) (app_for subcommand).top) }
 {
-    command.subcommand(below)
+    command.subcommand(subcommand.command(alloc)?)
 }
 
 // Adds what `plan`, `upcoming` and `quiet` have in common. What the help of `--delays` says depends on the command.
-#[tactic(auto, unfolding(crate::specs::Command::with_jobs))]
+#[tactic(auto, unfolding(crate::specs::Command::with_jobs, crate::specs::Command::with_zones, crate::specs::Command::with_format))]
 fn with_jobs<'a>(
     alloc: Global,
     command: Command<'a>,
@@ -167,36 +278,19 @@ fn with_jobs<'a>(
     ensures app { IfOk result (λ new. app_of new ≡ with_jobs (app_of command.entry)) }
     ensures local { IfOk result (λ new. (out-Command new).has_globals ≡ false) }
 {
-    let command = with_zones(alloc, command)?;
-    let command = with_flag(alloc, command, "keep-going", help::KEEP_GOING)?;
-    let command = with_flag(alloc, command, "delays", delays)?;
-    let command = with_format(alloc, command)?;
-    let command = with_sources(alloc, command)?;
-    Ok(command)
-}
-
-// Adds the options for time zones.
-#[tactic(auto, unfolding(crate::specs::Command::with_zones))]
-fn with_zones<'a>(alloc: Global, command: Command<'a>) -> Result<Command<'a>, AllocError>
-    requires local { (out-Command command).has_globals ≡ false }
-    ensures app { IfOk result (λ new. app_of new ≡ with_zones (app_of command.entry)) }
-    ensures local { IfOk result (λ new. (out-Command new).has_globals ≡ false) }
-{
-    let command = with_argument(command, text_option(alloc, "zone", "ZONE", help::ZONE))?;
-    let command = with_flag(alloc, command, "event-zones", help::EVENT_ZONES)?;
-    Ok(command)
-}
-
-// Adds the flags for the form of the output.
-#[tactic(auto, unfolding(crate::specs::Command::with_format))]
-fn with_format<'a>(alloc: Global, command: Command<'a>) -> Result<Command<'a>, AllocError>
-    requires local { (out-Command command).has_globals ≡ false }
-    ensures app { IfOk result (λ new. app_of new ≡ with_format (app_of command.entry)) }
-    ensures local { IfOk result (λ new. (out-Command new).has_globals ≡ false) }
-{
-    let command = with_flag(alloc, command, "json", help::JSON)?;
-    let command = with_flag(alloc, command, "local", help::LOCAL)?;
-    Ok(command)
+    let command = with_arguments(
+        alloc,
+        command,
+        &[
+            ZONE,
+            EVENT_ZONES,
+            CommandOption::Flag("keep-going", help::KEEP_GOING),
+            CommandOption::Flag("delays", delays),
+            JSON,
+            LOCAL,
+        ],
+    )?;
+    with_sources(alloc, command)
 }
 
 // Adds the span of a plan.
@@ -206,10 +300,13 @@ fn with_span<'a>(alloc: Global, command: Command<'a>) -> Result<Command<'a>, All
     ensures app { IfOk result (λ new. app_of new ≡ with_span (app_of command.entry)) }
     ensures local { IfOk result (λ new. (out-Command new).has_globals ≡ false) }
 {
-    let command = with_argument(command, moment_option(alloc, "since", help::SINCE))?;
+    let command = with_arguments(
+        alloc,
+        command,
+        &[CommandOption::Moment("since", help::SINCE)],
+    )?;
     let upto = with_alias(moment_option(alloc, "upto", help::UPTO), "until")?;
-    let command = with_argument(command, upto)?;
-    Ok(command)
+    with_argument(command, upto)
 }
 
 // Adds the options and arguments that name the sources of jobs.
@@ -226,37 +323,21 @@ fn with_sources<'a>(alloc: Global, command: Command<'a>) -> Result<Command<'a>, 
     Ok(command)
 }
 
-// Adds the sizes of a plan. `limit` is the default of the option `--limit`.
-#[tactic(auto, unfolding(crate::specs::Command::with_sizes))]
-fn with_sizes<'a>(
+// Adds options to the command, in order.
+fn with_arguments<'a>(
     alloc: Global,
     command: Command<'a>,
-    limit: &'a str,
+    arguments: &[CommandOption<'a>],
 ) -> Result<Command<'a>, AllocError>
     requires local { (out-Command command).has_globals ≡ false }
-    ensures app { IfOk result (λ new. app_of new ≡ with_sizes (app_of command.entry) limit.entry.now) }
+    ensures app { IfOk result (λ new. app_of new ≡ with_each (app_of command.entry) (map rule_for arguments.entry.now)) }
     ensures local { IfOk result (λ new. (out-Command new).has_globals ≡ false) }
 {
-    let planners = number_option(alloc, "planners", "2", help::PLANNERS);
-    let command = with_argument(command, planners.help_heading(help::TUNING))?;
-    let room = number_option(alloc, "room", "16", help::ROOM);
-    let command = with_argument(command, room.help_heading(help::TUNING))?;
-    let command = with_argument(command, number_option(alloc, "limit", limit, help::LIMIT))?;
+    let mut command = command;
+    for argument in arguments {
+        command = with_argument(command, argument.to_clap(alloc))?;
+    }
     Ok(command)
-}
-
-// Adds the option `--name`, which has no value.
-fn with_flag<'a>(
-    alloc: Global,
-    command: Command<'a>,
-    name: &'a str,
-    help: &'a str,
-) -> Result<Command<'a>, AllocError>
-    requires local { (out-Command command).has_globals ≡ false }
-    ensures app { IfOk result (λ new. app_of new ≡ with_rule (app_of command.entry) (flag_option name.entry.now)) }
-    ensures local { IfOk result (λ new. (out-Command new).has_globals ≡ false) }
-{
-    with_argument(command, flag_option(alloc, name, help))
 }
 
 // Adds an argument to the command. It isn't global: subcommands don't have it.

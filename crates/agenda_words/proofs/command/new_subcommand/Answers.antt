@@ -1,7 +1,7 @@
 -- The texts of the help change neither the arguments nor whether they are global.
 use Rattle.std.proofs.Common.{◌≡◌, ◌∙◌, ap}
 use Rattle.clap.specs.Simple.{app_of_fields}
-use Rattle.agenda_words.proofs.command.subcommand.Goals as goal
+use Rattle.agenda_words.proofs.command.new_subcommand.Goals as goal
 
 pub returns-clause-app : goal.returns-clause-app
 returns-clause-app c = ap app_of_fields c.after_help.ensures ∙ (ap app_of_fields c.about.ensures ∙ c.new.ensures.app)
