@@ -1,5 +1,5 @@
 -- Zones that are found one after another: for the loop of `find_zones`, which has looked for those with the first names.
-use Rattle.std.proofs.Common.{◌≡◌, ℕ, ◌+◌, ◌<◌, Bool, true, false, List, [], ◌∷◌, ◌++◌, length, take, drop, get_or, suc, Option, None, Some, Ok, Err, ap, refl, sym, subst, ◌∙◌, drop-cons}
+use Rattle.std.proofs.Common.{◌≡◌, ℕ, ◌+◌, ◌<◌, Bool, true, false, List, [], ◌∷◌, ◌++◌, length, take, drop, get_or, suc, Option, None, Some, Result, Ok, Err, ap, refl, sym, subst, ◌∙◌, drop-cons}
 use Rattle.std.proofs.lemmas.List.{take_more, take-append-drop}
 use Rattle.std.specs.List.{cons_option}
 use Rattle.plan_clock.specs.declared.row.Change.{Change}
@@ -7,8 +7,11 @@ use Rattle.plan_rules.specs.declared.NamedZone.{NamedZone}
 use Rattle.agenda_faults.specs.declared.faults.Failure.{Failure}
 use Rattle.agenda_faults.specs.declared.faults.Failure.TheVariants.{Run}
 use Rattle.agenda_faults.specs.declared.faults.RunFault.TheVariants as run
-use Rattle.agenda_answers.specs.EventZones.{found_by, found_zone, found_zones}
+use Rattle.agenda_sources.specs.declared.TimeZones.{TimeZones}
+use Rattle.agenda_words.specs.declared.ZonesRequest.{ZonesRequest}
+use Rattle.agenda_answers.specs.EventZones.{found_by, found_zone, found_zones, time_zones, zones_by}
 use Rattle.agenda_answers.specs.Files.{Held}
+use Rattle.agenda_answers.specs.Opened.{event_files, files_of_names}
 use Rattle.agenda_answers.specs.Steps.{stops, goes}
 
 -- no zone yet
@@ -73,3 +76,31 @@ found_fail_at held given clock names zones i failure are within is =
     ap (λ l. take i names ++ l) (sym (drop-cons names i [] within)) ∙ take-append-drop i names in
     subst (λ ns. found_zones held given clock ns (Err failure)) cut
     (found_fail held given clock (take i names) zones (get_or names i []) (drop (suc i) names) failure are is)
+
+-- ---- the zones of a request
+
+-- events may name none
+pub no_names :
+    (held : Held) (request : ZonesRequest) (clock : List Change) (names : List (List ℕ)) → request.event_zones ≡ false →
+    time_zones held request clock names (Ok (record { clock = clock; named = None }))
+no_names held request clock names is = goes None (rw is refl) refl
+
+-- an allocation for their names failed
+pub no_memory_for_names :
+    (held : Held) (request : ZonesRequest) (clock : List Change) (names : List (List ℕ)) →
+    time_zones held request clock names (Err (Run run.NoMemory))
+no_memory_for_names held request clock names = stops (Run run.NoMemory) refl refl
+
+-- events may name these
+pub zones_if :
+    (held : Held) (request : ZonesRequest) (clock : List Change) (names : List (List ℕ)) (end : Result TimeZones Failure) →
+    request.event_zones ≡ true → zones_by held request.zone clock (Some names) end → time_zones held request clock names end
+zones_if held request clock names end is by = goes (Some names) (rw is refl) by
+
+pub files_none : (request : ZonesRequest) (names : List (List ℕ)) → request.event_zones ≡ false → event_files request names ≡ []
+files_none request names is = rw is refl
+
+pub files_if :
+    (request : ZonesRequest) (names : List (List ℕ)) → request.event_zones ≡ true →
+    event_files request names ≡ files_of_names request.zone names
+files_if request names is = rw is refl

@@ -1,6 +1,7 @@
 pub mod EventZonesLemmas
 pub mod FailureLemmas
 pub mod FileLemmas
+pub mod GoalLemmas
 pub mod KeepingLaws
 pub mod KeepingLemmas
 pub mod OpenedLemmas

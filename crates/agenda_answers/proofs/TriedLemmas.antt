@@ -1,5 +1,5 @@
 -- Sources that are tried one after another: for the loop of `try_sources`, which has tried those with the first paths.
-use Rattle.std.proofs.Common.{◌≡◌, ℕ, ◌+◌, ◌<◌, List, [], ◌∷◌, ◌++◌, length, take, drop, get_or, suc, Option, None, Some, Ok, Err, ap, refl, sym, subst, ◌∙◌, drop-cons}
+use Rattle.std.proofs.Common.{◌≡◌, ℕ, ◌+◌, ◌<◌, List, [], ◌∷◌, ◌++◌, length, take, drop, get_or, suc, Option, None, Some, OnOk, Result, Ok, Err, ap, refl, sym, subst, ◌∙◌, drop-cons}
 use Rattle.std.proofs.lemmas.List.{take_more, take-append-drop}
 use Rattle.agenda_sources.specs.declared.Source.{Source}
 use Rattle.agenda_sources.specs.declared.SourcePath.{SourcePath}
@@ -76,3 +76,11 @@ tries_fail_at held paths tried i d failure are within is =
     ap (λ l. take i paths ++ l) (sym (drop-cons paths i d within)) ∙ take-append-drop i paths in
     subst (λ ps. tries_of held ps (Err failure)) cut
     (tries_fail held (take i paths) tried (get_or paths i d) (drop (suc i) paths) failure are is)
+
+-- one path was tried, unless an allocation failed
+pub tried_next :
+    {A : Type 0} (held : Held) (given path : SourcePath) (source : Option Source) (old new : Tried) (added : Result A Failure) →
+    tried_of held given (Ok source) → path ≡ given → OnOk added (new ≡ with_last old path source) →
+    OnOk added ((one : Option Source) × tried_of held given (Ok one) × (new ≡ with_last old given one))
+tried_next held given path source old new (Ok done) is copy last = (source, is, last ∙ ap (λ p. with_last old p source) copy)
+tried_next held given path source old new (Err failure) is copy last = tt

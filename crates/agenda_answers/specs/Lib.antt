@@ -2,6 +2,7 @@ pub mod Answer
 pub mod EventZones
 pub mod Files
 pub mod Formats
+pub mod Goals
 pub mod Keeping
 pub mod Opened
 pub mod Program

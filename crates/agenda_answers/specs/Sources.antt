@@ -69,3 +69,12 @@ tries_of held (given ∷ paths) = do
 abbrev pub with_last : Tried → SourcePath → Option Source → Tried
 with_last tried given (Some source) = record tried { sources = tried.sources ++ source ∷ []; paths = tried.paths ++ given ∷ [] }
 with_last tried given None = record tried { unread = tried.unread ++ given ∷ [] }
+
+-- what the jobs of the sources that can be read are made from: the zone is read first, then the sources, and then the zones that their
+-- events end with
+abbrev pub tried_input : Held → ZonesRequest → List SourcePath → Step (Tried × TimeZones)
+tried_input held request paths = do
+  clock ← clock_of held request.zone
+  tried ← tries_of held paths
+  zones ← time_zones held request clock (zone_names tried.sources)
+  gives (tried, zones)

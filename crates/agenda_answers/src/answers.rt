@@ -1,9 +1,9 @@
 //! Does what the arguments request, over any files and streams.
 
-ghost use Rattle.std.specs.Prelude.{◌≡◌, ◌≢◌, IsOk, IsTrue, OnOk, map, string_bytes, true};
+ghost use Rattle.std.specs.Prelude.{◌≡◌, ◌≢◌, IsOk, IsTrue, Ok, OnOk, map, string_bytes, true};
 ghost use Rattle.agenda_answers.specs.Answer.{Ends, Leaves, SaysNotUtf8};
-ghost use Rattle.agenda_answers.specs.Answer.{ask_ends, check_ends, explain_ends, moment_of, next_ends, plan_ends, planning_of, quiet_ends};
-ghost use Rattle.agenda_answers.specs.Answer.{sources_in, span_of, status_on, steps_ends, upcoming_ends, usage_ends};
+ghost use Rattle.agenda_answers.specs.Answer.{check_ends, explain_ends, moment_of, next_ends, planning_of, span_of, status_on, steps_ends, usage_ends};
+ghost use Rattle.agenda_answers.specs.Goals.{AnswersGoal, goal_ends, goal_prints, status_after};
 ghost use Rattle.agenda_answers.specs.Program.{Answers, AnswersArguments, AnswersAsk};
 ghost use Rattle.agenda_answers.specs.Keeping.{plan_goal, quiet_goal, upcoming_goal};
 ghost use Rattle.agenda_faults.specs.declared.faults.Failure.TheVariants.{After};
@@ -15,8 +15,8 @@ use crate::sources::{read_input, read_rule_zones};
 use crate::status::{DONE, REFUSED};
 use agenda_codes::Code;
 use agenda_commands::{
-    Goal, Planning, Verdict, run_check, run_explain, run_next, run_plan, run_quiet, run_script,
-    run_upcoming,
+    Goal, Input, Planning, Verdict, run_check, run_explain, run_next, run_plan, run_quiet,
+    run_script, run_upcoming,
 };
 use agenda_faults::{Failure, RunFault, fault_line};
 use agenda_sources::{SourcePath, SourcePaths};
@@ -27,6 +27,7 @@ use plan_collect::Span;
 use plan_rules::Text;
 use plan_sets::read_moment;
 use plan_streams::Stream;
+use plan_write::Format;
 use std::alloc::Global;
 use std::io::ErrorKind;
 use std::sync::Wait;
@@ -96,23 +97,57 @@ fn answer_ask<R: Threads + Wait + Sync, F: Files, O: Stream, E: Stream>(
     ensures err_flushed { E.takes_all ≡ true → IsTrue (E.is_flushed err.old) → IsTrue (E.is_flushed err.new) }
 {
     match ask {
-        Ask::Plan(request) if request.jobs.keep_going => {
+        Ask::Next(request) => end(next(alloc, request, files, out), &[], err),
+        Ask::Plan(request) => {
             let goal = plan_goal(request);
-            keep_going(rt, alloc, goal, &request.jobs, files, out, err)
+            answer_goal(rt, alloc, goal, &request.jobs, files, out, err)
         }
-        Ask::Upcoming { after, jobs } if jobs.keep_going => {
+        Ask::Upcoming { after, jobs } => {
             let goal = upcoming_goal(after, jobs);
-            keep_going(rt, alloc, goal, jobs, files, out, err)
+            answer_goal(rt, alloc, goal, jobs, files, out, err)
         }
-        Ask::Quiet { plan, least } if plan.jobs.keep_going => {
+        Ask::Quiet { plan, least } => {
             let goal = quiet_goal(plan, *least);
-            keep_going(rt, alloc, goal, &plan.jobs, files, out, err)
+            answer_goal(rt, alloc, goal, &plan.jobs, files, out, err)
         }
-        _ => {
-            let done = carry_out(rt, alloc, ask, files, out);
-            end(done, sources_in(ask), err)
+        Ask::Check {
+            zones,
+            sources,
+            json,
+        } => {
+            let done = check(alloc, zones, sources, *json, files, out);
+            end(done, sources.as_slice(), err)
         }
+        Ask::Steps { file } => end(steps(alloc, file, files, out), &[], err),
+        Ask::Explain(code) => end(explain(*code, out), &[], err),
     }
+}
+
+// Answers a request with this goal, unless its timestamps are rejected: it keeps going, or stops at the first error.
+fn answer_goal<R: Threads + Wait + Sync, F: Files, O: Stream, E: Stream>(
+    rt: &R,
+    alloc: Global,
+    goal: Result<Goal, Failure>,
+    jobs: &JobsRequest,
+    files: &mut F,
+    out: &mut O,
+    err: &mut E,
+) -> u8
+    ensures answers { AnswersGoal (F.held files.old) goal jobs.now result
+        (record { takes_all = O.takes_all; old = O.holds out.old; new = O.holds out.new })
+        (record { takes_all = E.takes_all; old = E.holds err.old; new = E.holds err.new }) }
+    ensures out_flushed { result ≡ 0 → IsTrue (O.is_flushed out.new) }
+    ensures err_flushed { E.takes_all ≡ true → IsTrue (E.is_flushed err.old) → IsTrue (E.is_flushed err.new) }
+{
+    let goal = match goal {
+        Ok(goal) => goal,
+        Err(failure) => return end(Err(failure), jobs.sources.as_slice(), err),
+    };
+    if jobs.keep_going {
+        return keep_going(rt, alloc, &goal, jobs, files, out, err);
+    }
+    let done = carry_out(rt, alloc, &goal, jobs, files, out);
+    end(done, jobs.sources.as_slice(), err)
 }
 
 // Returns what `plan` makes of jobs.
@@ -185,42 +220,53 @@ pub(crate) fn end<S: Stream>(done: Result<u8, Failure>, sources: &[SourcePath], 
     }
 }
 
-// Returns the paths of the sources that a request names.
-fn sources_in(ask: &Ask) -> &[SourcePath]
-    ensures { result.now ≡ sources_in ask.now }
-{
-    match ask {
-        Ask::Plan(request) => request.jobs.sources.as_slice(),
-        Ask::Upcoming { jobs, .. } => jobs.sources.as_slice(),
-        Ask::Quiet { plan, .. } => plan.jobs.sources.as_slice(),
-        Ask::Check { sources, .. } => sources.as_slice(),
-        _ => &[],
-    }
-}
-
-// Does what is requested. Returns the exit status, unless that fails.
+// Does what is requested of jobs. Returns the exit status, or the first error.
 fn carry_out<R: Threads + Wait + Sync, F: Files, S: Stream>(
     rt: &R,
     alloc: Global,
-    ask: &Ask,
+    goal: &Goal,
+    jobs: &JobsRequest,
     files: &mut F,
     out: &mut S,
 ) -> Result<u8, Failure>
-    ensures ends { Leaves S.takes_all (ask_ends (F.held files.old) ask.now) result (S.holds out.old) (S.holds out.new) }
+    ensures ends { Leaves S.takes_all (goal_ends (F.held files.old) (Ok goal.now) jobs.now) result (S.holds out.old) (S.holds out.new) }
     ensures flushed { OnOk result (IsTrue (S.is_flushed out.new)) }
 {
-    match ask {
-        Ask::Next(request) => next(alloc, request, files, out),
-        Ask::Plan(request) => plan(rt, alloc, request, files, out),
-        Ask::Upcoming { after, jobs } => upcoming(alloc, after, jobs, files, out),
-        Ask::Quiet { plan, least } => quiet(rt, alloc, plan, *least, files, out),
-        Ask::Check {
-            zones,
-            sources,
-            json,
-        } => check(alloc, zones, sources, *json, files, out),
-        Ask::Steps { file } => steps(alloc, file, files, out),
-        Ask::Explain(code) => explain(*code, out),
+    let input = read_input(alloc, files, &jobs.zones, &jobs.sources)?;
+    let format = make_format(alloc, jobs.format, &jobs.zones.zone, &input.zones.clock)?;
+    status_after(run_goal(rt, alloc, &input, goal, &format, out))
+}
+
+// Runs the command with this goal.
+fn run_goal<R: Threads + Wait + Sync, S: Stream>(
+    rt: &R,
+    alloc: Global,
+    input: &Input,
+    goal: &Goal,
+    format: &Format,
+    out: &mut S,
+) -> Result<(), RunFault>
+    ensures ends { Leaves S.takes_all (goal_prints goal.now input.now format.now) (status_after result) (S.holds out.old) (S.holds out.new) }
+    ensures flushed { OnOk result (IsTrue (S.is_flushed out.new)) }
+{
+    match goal {
+        Goal::Plan(planning) => run_plan(rt, alloc, input, planning, format, out),
+        Goal::Upcoming { after, delays } => {
+            run_upcoming(alloc, input, *after, *delays, format, out)
+        }
+        Goal::Quiet { planning, least } => {
+            run_quiet(rt, alloc, input, planning, *least, format, out)
+        }
+    }
+}
+
+// Returns the exit status after a command that prints a text, or its failure.
+fn status_after(run: Result<(), RunFault>) -> Result<u8, Failure>
+    ensures { result ≡ status_after run }
+{
+    match run {
+        Ok(()) => Ok(DONE),
+        Err(fault) => Err(Failure::Run(fault)),
     }
 }
 
@@ -253,73 +299,7 @@ fn next<F: Files, S: Stream>(
     let zones = read_rule_zones(alloc, files, &request.zones, &request.rule)?;
     let format = make_format(alloc, request.format, &request.zones.zone, &zones.clock)?;
     let count = u64::from(request.count);
-    run_next(alloc, &request.rule, &zones, moment, count, &format, out)?;
-    Ok(DONE)
-}
-
-// Runs the command `plan`.
-fn plan<R: Threads + Wait + Sync, F: Files, S: Stream>(
-    rt: &R,
-    alloc: Global,
-    request: &PlanRequest,
-    files: &mut F,
-    out: &mut S,
-) -> Result<u8, Failure>
-    ensures ends { Leaves S.takes_all (plan_ends (F.held files.old) request.now) result (S.holds out.old) (S.holds out.new) }
-    ensures flushed { OnOk result (IsTrue (S.is_flushed out.new)) }
-{
-    let span = span_between(&request.since, &request.upto)?;
-    let jobs = &request.jobs;
-    let input = read_input(alloc, files, &jobs.zones, &jobs.sources)?;
-    let format = make_format(alloc, jobs.format, &jobs.zones.zone, &input.zones.clock)?;
-    run_plan(rt, alloc, &input, &planning_of(request, span), &format, out)?;
-    Ok(DONE)
-}
-
-// Runs the command `upcoming`.
-fn upcoming<F: Files, S: Stream>(
-    alloc: Global,
-    after: &Text,
-    jobs: &JobsRequest,
-    files: &mut F,
-    out: &mut S,
-) -> Result<u8, Failure>
-    ensures ends { Leaves S.takes_all (upcoming_ends (F.held files.old) after.now jobs.now) result (S.holds out.old) (S.holds out.new) }
-    ensures flushed { OnOk result (IsTrue (S.is_flushed out.new)) }
-{
-    let moment = moment_after(after)?;
-    let input = read_input(alloc, files, &jobs.zones, &jobs.sources)?;
-    let format = make_format(alloc, jobs.format, &jobs.zones.zone, &input.zones.clock)?;
-    run_upcoming(alloc, &input, moment, jobs.delays, &format, out)?;
-    Ok(DONE)
-}
-
-// Runs the command `quiet`.
-fn quiet<R: Threads + Wait + Sync, F: Files, S: Stream>(
-    rt: &R,
-    alloc: Global,
-    request: &PlanRequest,
-    least: u32,
-    files: &mut F,
-    out: &mut S,
-) -> Result<u8, Failure>
-    ensures ends { Leaves S.takes_all (quiet_ends (F.held files.old) request.now least) result (S.holds out.old) (S.holds out.new) }
-    ensures flushed { OnOk result (IsTrue (S.is_flushed out.new)) }
-{
-    let span = span_between(&request.since, &request.upto)?;
-    let jobs = &request.jobs;
-    let input = read_input(alloc, files, &jobs.zones, &jobs.sources)?;
-    let format = make_format(alloc, jobs.format, &jobs.zones.zone, &input.zones.clock)?;
-    run_quiet(
-        rt,
-        alloc,
-        &input,
-        &planning_of(request, span),
-        least,
-        &format,
-        out,
-    )?;
-    Ok(DONE)
+    status_after(run_next(alloc, &request.rule, &zones, moment, count, &format, out))
 }
 
 // Runs the command `check`.
@@ -360,8 +340,7 @@ fn steps<F: Files, S: Stream>(
     ensures flushed { OnOk result (IsTrue (S.is_flushed out.new)) }
 {
     let script = read_path(alloc, files, file.as_str())?;
-    run_script(alloc, script.as_slice(), out)?;
-    Ok(DONE)
+    status_after(run_script(alloc, script.as_slice(), out))
 }
 
 // Runs the command `explain`.
@@ -369,8 +348,7 @@ fn explain<S: Stream>(code: Option<Code>, out: &mut S) -> Result<u8, Failure>
     ensures ends { Leaves S.takes_all (explain_ends code) result (S.holds out.old) (S.holds out.new) }
     ensures flushed { OnOk result (IsTrue (S.is_flushed out.new)) }
 {
-    run_explain(code, out)?;
-    Ok(DONE)
+    status_after(run_explain(code, out))
 }
 
 // Reads the timestamp after which starts are requested.

@@ -1,16 +1,16 @@
 //! Reads the time zones that calendar events end with.
 
-ghost use Rattle.std.specs.Prelude.{◌≡◌, ◌<◌, [], IfErr, IfOk, OnOk, get_or, length, ◌++◌};
+ghost use Rattle.std.specs.Prelude.{◌≡◌, ◌<◌, [], None, Some, IfErr, IfOk, OnOk, get_or, length, ◌++◌};
 ghost use Rattle.std.specs.List.{cons_option};
-ghost use Rattle.agenda_answers.specs.EventZones.{found_zone, is_given, looked_up, names_if, zones_by, zones_found};
-ghost use Rattle.agenda_answers.specs.Opened.{OpensFirst, files_by, files_of_names, files_unless, followed_by, zone_files};
+ghost use Rattle.agenda_answers.specs.EventZones.{found_zone, is_given, looked_up, time_zones, zones_by, zones_found};
+ghost use Rattle.agenda_answers.specs.Opened.{OpensFirst, event_files, files_of_names, files_unless, followed_by, zone_files};
 ghost use Rattle.agenda_faults.specs.declared.faults.Failure.TheVariants.{Run};
 ghost use Rattle.agenda_faults.specs.declared.faults.RunFault.TheVariants.{NoMemory};
 ghost use Rattle.agenda_sources.specs.ZoneNames.{asked_zones, zone_names};
 ghost use Rattle.plan_zones.specs.ZoneTexts.{source_of};
 
 use crate::files::Files;
-use crate::zone::clock_of_text;
+use crate::zone::{clock_of_text, named_zone};
 use agenda_faults::{Failure, RunFault};
 use agenda_sources::{Asked, Sources, TimeZones, asked_zones, zone_names};
 use agenda_words::ZonesRequest;
@@ -19,67 +19,77 @@ use plan_rules::{EventZones, NamedZone, Names, Text};
 use plan_zones::zone_path;
 use std::alloc::{AllocError, Global};
 
-/// Returns the names of the time zones that the events of sources end with, if these zones are to be read.
-///
-/// # Errors
-///
-/// `AllocError` if an allocation failed.
-pub(crate) fn names_of_sources(
-    alloc: Global,
-    request: &ZonesRequest,
-    sources: &Sources,
-) -> Result<Option<Names>, AllocError>
-    ensures { IfOk result (λ names. names ≡ names_if request.now.event_zones (zone_names sources.now)) }
-{
-    if !request.event_zones {
-        return Ok(None);
-    }
-    Ok(Some(zone_names(alloc, sources)?))
-}
-
-/// Returns the name of the time zone that a rule ends with, as a list, if this zone is to be read.
-///
-/// # Errors
-///
-/// `AllocError` if an allocation failed.
-pub(crate) fn names_of_rule(
-    alloc: Global,
-    request: &ZonesRequest,
-    rule: &Asked,
-) -> Result<Option<Names>, AllocError>
-    ensures { IfOk result (λ names. names ≡ names_if request.now.event_zones (asked_zones rule.now)) }
-{
-    if !request.event_zones {
-        return Ok(None);
-    }
-    Ok(Some(asked_zones(alloc, rule)?))
-}
-
-/// Reads the zones with these names, if there are names, each once. The zone of the rules, `given`, is not read again:
-/// its clock is given too. A zone that can't be read is left out, and so is a file that isn't a zone's.
+/// Returns the time zones of rules whose clock is given. If that is requested, reads the zones that the events of these
+/// sources end with, each once.
 ///
 /// # Errors
 ///
 /// `Run(NoMemory)` if an allocation failed.
-#[tactic(auto, using(crate::proofs::OpenedLemmas::none_more))]
-pub(crate) fn read_zones<F: Files>(
+pub(crate) fn zones_of_sources<F: Files>(
+    alloc: Global,
+    files: &mut F,
+    request: &ZonesRequest,
+    clock: Clock,
+    sources: &Sources,
+) -> Result<TimeZones, Failure>
+    ensures read { time_zones (F.held files.old) request.now clock (zone_names sources.now) result }
+    ensures opens { OnOk result (F.opened files.new ≡ followed_by (F.opened files.old) (event_files request.now (zone_names sources.now))) }
+    ensures first { OpensFirst (event_files request.now (zone_names sources.now)) (F.opened files.old) (F.opened files.new) }
+{
+    if request.event_zones {
+        let names = zone_names(alloc, sources)?;
+        return read_zones(alloc, files, &request.zone, clock, &names);
+    }
+    Ok(in_utc(clock))
+}
+
+/// Does the same for a rule that is given by itself, and may end with a zone.
+///
+/// # Errors
+///
+/// `Run(NoMemory)` if an allocation failed.
+pub(crate) fn zones_of_rule<F: Files>(
+    alloc: Global,
+    files: &mut F,
+    request: &ZonesRequest,
+    clock: Clock,
+    rule: &Asked,
+) -> Result<TimeZones, Failure>
+    ensures read { time_zones (F.held files.old) request.now clock (asked_zones rule.now) result }
+    ensures opens { OnOk result (F.opened files.new ≡ followed_by (F.opened files.old) (event_files request.now (asked_zones rule.now))) }
+    ensures first { OpensFirst (event_files request.now (asked_zones rule.now)) (F.opened files.old) (F.opened files.new) }
+{
+    if request.event_zones {
+        let names = asked_zones(alloc, rule)?;
+        return read_zones(alloc, files, &request.zone, clock, &names);
+    }
+    Ok(in_utc(clock))
+}
+
+// Returns the time zones of rules with this clock whose events may only name UTC.
+fn in_utc(clock: Clock) -> TimeZones
+    ensures { result ≡ record { clock = clock; named = None } }
+{
+    TimeZones {
+        clock,
+        named: EventZones::utc_alone(),
+    }
+}
+
+// Reads the zones with these names, each once. The zone of the rules, `given`, is not read again: its clock is given
+// too. A zone that can't be read is left out, and so is a file that isn't a zone's.
+fn read_zones<F: Files>(
     alloc: Global,
     files: &mut F,
     given: &Option<Text>,
     clock: Clock,
-    names: Option<Names>,
+    names: &Names,
 ) -> Result<TimeZones, Failure>
-    ensures read { zones_by (F.held files.old) given.now clock names result }
-    ensures opens { OnOk result (F.opened files.new ≡ followed_by (F.opened files.old) (files_by given.now names)) }
-    ensures first { OpensFirst (files_by given.now names) (F.opened files.old) (F.opened files.new) }
+    ensures read { zones_by (F.held files.old) given.now clock (Some names.now) result }
+    ensures opens { OnOk result (F.opened files.new ≡ followed_by (F.opened files.old) (files_of_names given.now names.now)) }
+    ensures first { OpensFirst (files_of_names given.now names.now) (F.opened files.old) (F.opened files.new) }
 {
-    let Some(names) = names else {
-        return Ok(TimeZones {
-            clock,
-            named: EventZones::utc_alone(),
-        });
-    };
-    let named = find_zones(alloc, files, given, &clock, &names)?;
+    let named = find_zones(alloc, files, given, &clock, names)?;
     Ok(TimeZones { clock, named })
 }
 
@@ -156,10 +166,7 @@ fn find_zone<F: Files>(
     if !is_given(alloc, given, name)? {
         return look_up(alloc, files, name);
     }
-    Ok(Some(NamedZone {
-        name: Text::new(String::from_str(alloc, name)?),
-        clock: clock.try_clone()?,
-    }))
+    Ok(Some(named_zone(alloc, name, clock)?))
 }
 
 // Returns whether the zone of the rules is given by this name, or by the path of the name's file.
@@ -183,9 +190,11 @@ fn look_up<F: Files>(alloc: Global, files: &mut F, name: &str) -> Result<Option<
     ensures opens { OnOk result (F.opened files.new ≡ followed_by (F.opened files.old) (zone_files (source_of name.now))) }
     ensures first { OpensFirst (zone_files (source_of name.now)) (F.opened files.old) (F.opened files.new) }
 {
-    let kept = Text::new(String::from_str(alloc, name)?);
     match clock_of_text(alloc, files, name) {
-        Ok(clock) => Ok(Some(NamedZone { name: kept, clock })),
+        Ok(clock) => {
+            let name = Text::new(String::from_str(alloc, name)?);
+            Ok(Some(NamedZone { name, clock }))
+        }
         Err(Failure::Run(RunFault::NoMemory)) => Err(Failure::Run(RunFault::NoMemory)),
         Err(_) => Ok(None),
     }

@@ -3,6 +3,7 @@
 ghost use Rattle.std.specs.Prelude.{◌≡◌, IfOk};
 ghost use Rattle.agenda_answers.specs.Formats.{format_made, zone_of};
 
+use crate::zone::named_zone;
 use agenda_faults::Failure;
 use agenda_words::FormatRequest;
 use plan_clock::Clock;
@@ -32,7 +33,7 @@ pub(crate) fn make_format(
             local: None,
         });
     }
-    let zone = named_zone(alloc, given, clock)?;
+    let zone = given_zone(alloc, given, clock)?;
     Ok(Format {
         json: request.json,
         local: Some(zone),
@@ -40,15 +41,12 @@ pub(crate) fn make_format(
 }
 
 // Returns the given zone, with its text as its name, or UTC if none is given.
-fn named_zone(alloc: Global, given: &Option<Text>, clock: &Clock) -> Result<NamedZone, AllocError>
+fn given_zone(alloc: Global, given: &Option<Text>, clock: &Clock) -> Result<NamedZone, AllocError>
     ensures { IfOk result (λ zone. zone ≡ zone_of given.now clock.now) }
 {
     let name = match given {
         Some(text) => text.as_str(),
         None => UTC,
     };
-    Ok(NamedZone {
-        name: Text::new(String::from_str(alloc, name)?),
-        clock: clock.try_clone()?,
-    })
+    named_zone(alloc, name, clock)
 }

@@ -3,22 +3,24 @@
 //! The answer is made before a byte is written, so if an allocation fails, only its line is written. Then the lines of
 //! what is skipped go to standard error, and after them the answer to standard output.
 
-ghost use Rattle.std.specs.Prelude.{◌≡◌, [], ◌∷◌, ℕ, IfErr, IfOk, List, OnOk, IsTrue, true};
+ghost use Rattle.std.specs.Prelude.{◌≡◌, [], ◌∷◌, ℕ, IfErr, IfOk, List, Ok, OnOk, Option, IsTrue, true};
 ghost use Rattle.agenda_answers.specs.Answer.{HoldsAfter};
 ghost use Rattle.agenda_answers.specs.Files.{Held};
-ghost use Rattle.agenda_answers.specs.Keeping.{AnswersKept, Reports, answer_of, kept_of, plan_goal, printed, quiet_goal, skipped_status, upcoming_goal};
+ghost use Rattle.agenda_answers.specs.Formats.{format_of};
+ghost use Rattle.agenda_answers.specs.Keeping.{AnswersKept, Reports, answer_of, kept_by, plan_goal, printed, quiet_goal, skipped_status, upcoming_goal};
 ghost use Rattle.agenda_answers.specs.Opened.{OpensFirst, followed_by, input_files, source_files};
 ghost use Rattle.agenda_answers.specs.Program.{ChangesNothing};
-ghost use Rattle.agenda_answers.specs.Sources.{tried_of, tries_of, with_last};
+ghost use Rattle.agenda_answers.specs.Sources.{tried_input, tried_of, tries_of, with_last};
 ghost use Rattle.agenda_faults.specs.declared.faults.Failure.TheVariants.{Run};
 ghost use Rattle.agenda_faults.specs.declared.faults.RunFault.TheVariants.{NoMemory};
+ghost use Rattle.agenda_sources.specs.Findings.{kept_jobs, sources_errors};
 ghost use Rattle.agenda_sources.specs.declared.Source.{Source};
 ghost use Rattle.agenda_words.specs.declared.Ask.TheVariants.{Plan, Quiet, Upcoming};
 ghost use Rattle.agenda_words.specs.declared.JobsRequest.{JobsRequest};
 ghost use Rattle.agenda_words.specs.declared.PlanRequest.{PlanRequest};
 
 use crate::answers::end;
-use crate::event_zones::{names_of_sources, read_zones};
+use crate::event_zones::zones_of_sources;
 use crate::files::Files;
 use crate::formats::make_format;
 use crate::sources::read_source;
@@ -28,9 +30,10 @@ use agenda_commands::{Goal, PreparedAnswer, prepare_answer};
 use agenda_faults::{Failure, RunFault};
 use agenda_findings::write_skipped;
 use agenda_sources::{
-    Found, Source, SourcePath, SourcePaths, Sources, kept_of_sources, without_errors_all_is_kept,
+    Found, Source, SourcePath, SourcePaths, Sources, TimeZones, kept_of_sources,
+    without_errors_all_is_kept,
 };
-use agenda_words::JobsRequest;
+use agenda_words::{JobsRequest, ZonesRequest};
 use plan_rules::{Jobs, Text};
 use plan_streams::Stream;
 use plan_write::Format;
@@ -78,13 +81,13 @@ impl Model for Outcome {
 pub(crate) fn keep_going<R: Threads + Wait + Sync, F: Files, O: Stream, E: Stream>(
     rt: &R,
     alloc: Global,
-    goal: Result<Goal, Failure>,
+    goal: &Goal,
     jobs: &JobsRequest,
     files: &mut F,
     out: &mut O,
     err: &mut E,
 ) -> u8
-    ensures answers { AnswersKept (F.held files.old) goal jobs.now result
+    ensures answers { AnswersKept (F.held files.old) (Ok goal.now) jobs.now result
         (record { takes_all = O.takes_all; old = O.holds out.old; new = O.holds out.new })
         (record { takes_all = E.takes_all; old = E.holds err.old; new = E.holds err.new }) }
     ensures out_flushed { result ≡ 0 → IsTrue (O.is_flushed out.new) }
@@ -100,27 +103,57 @@ pub(crate) fn keep_going<R: Threads + Wait + Sync, F: Files, O: Stream, E: Strea
 fn make_outcome<R: Threads + Wait + Sync, F: Files>(
     rt: &R,
     alloc: Global,
-    goal: Result<Goal, Failure>,
+    goal: &Goal,
     jobs: &JobsRequest,
     files: &mut F,
 ) -> Result<Outcome, Failure>
-    ensures read { kept_of (F.held files.old) goal jobs.now result }
+    ensures read { kept_by (F.held files.old) goal.now jobs.now result }
     ensures first { (sources : List Source) × OpensFirst (input_files jobs.now.zones jobs.now.sources sources) (F.opened files.old) (F.opened files.new) }
 {
-    let goal = goal?;
-    let clock = read_clock(alloc, files, &jobs.zones.zone)?;
-    let tried = try_sources(alloc, files, jobs.sources.as_slice())?;
-    let names = names_of_sources(alloc, &jobs.zones, &tried.sources)?;
-    let zones = read_zones(alloc, files, &jobs.zones.zone, clock, names)?;
-    let kept = kept_of_sources(alloc, &tried.sources, &zones)?;
-    let format = make_format(alloc, jobs.format, &jobs.zones.zone, &zones.clock)?;
-    let answer = answer_jobs(rt, alloc, kept.jobs, &goal, format)?;
+    let (tried, zones) = try_input(alloc, files, &jobs.zones, &jobs.sources)?;
+    let (errors, answer) = answer_kept(rt, alloc, goal, jobs, &tried.sources, &zones)?;
     Ok(Outcome {
         unread: tried.unread,
         paths: tried.paths,
-        errors: kept.errors,
+        errors,
         answer,
     })
+}
+
+// Reads the clock of the zone, then the sources that can be read, and the zones of their events.
+fn try_input<F: Files>(
+    alloc: Global,
+    files: &mut F,
+    request: &ZonesRequest,
+    paths: &SourcePaths,
+) -> Result<(Tried, TimeZones), Failure>
+    ensures read { tried_input (F.held files.old) request.now paths.now result }
+    ensures first { (sources : List Source) × OpensFirst (input_files request.now paths.now sources) (F.opened files.old) (F.opened files.new) }
+{
+    let clock = read_clock(alloc, files, &request.zone)?;
+    let tried = try_sources(alloc, files, paths.as_slice())?;
+    let zones = zones_of_sources(alloc, files, request, clock, &tried.sources)?;
+    Ok((tried, zones))
+}
+
+// Returns the errors of sources, and the answer of the jobs that are left.
+fn answer_kept<R: Threads + Wait + Sync>(
+    rt: &R,
+    alloc: Global,
+    goal: &Goal,
+    jobs: &JobsRequest,
+    sources: &Sources,
+    zones: &TimeZones,
+) -> Result<(Vec<Found>, Result<PreparedAnswer, RunFault>), Failure>
+    ensures errors { IfOk result (λ made. made.0.items ≡ sources_errors zones.now sources.now) }
+    ensures answer { IfOk result (λ made. answer_of (format_of jobs.now.format jobs.now.zones.zone zones.now.clock) goal.now
+        (kept_jobs zones.now sources.now) (Ok made.1)) }
+    ensures memory { IfErr result (λ failure. failure ≡ Run NoMemory) }
+{
+    let kept = kept_of_sources(alloc, sources, zones)?;
+    let format = make_format(alloc, jobs.format, &jobs.zones.zone, &zones.clock)?;
+    let answer = answer_jobs(rt, alloc, kept.jobs, goal, format)?;
+    Ok((kept.errors, answer))
 }
 
 // Makes the answer of jobs, or its error. Running out of memory is a failure.
@@ -155,15 +188,35 @@ fn try_sources<F: Files>(
     let mut paths = SourcePaths::new(alloc);
     let mut unread = SourcePaths::new(alloc);
     for path in given {
-        let copy = copy_of(alloc, path)?;
-        let source = try_source(alloc, files, path)?;
-        add_tried(&mut sources, &mut paths, &mut unread, copy, source)?;
+        try_next(alloc, files, path, &mut sources, &mut paths, &mut unread)?;
     }
     Ok(Tried {
         sources: Sources::new(sources),
         paths,
         unread,
     })
+}
+
+// Reads a source, and adds it with its path, or adds its path to those of unreadable files.
+fn try_next<F: Files>(
+    alloc: Global,
+    files: &mut F,
+    given: &SourcePath,
+    sources: &mut Vec<Source>,
+    paths: &mut SourcePaths,
+    unread: &mut SourcePaths,
+) -> Result<(), Failure>
+    ensures tried { OnOk result ((source : Option Source) × tried_of (F.held files.old) given.now (Ok source)
+        × (record { sources = sources.new.items; paths = paths.new; unread = unread.new }
+        ≡ with_last (record { sources = sources.old.items; paths = paths.old; unread = unread.old }) given.now source)) }
+    ensures memory { IfErr result (λ failure. failure ≡ Run NoMemory) }
+    ensures same { F.held files.new ≡ F.held files.old }
+    ensures opens { OnOk result (F.opened files.new ≡ followed_by (F.opened files.old) (given.now.path ∷ [])) }
+    ensures first { OpensFirst (given.now.path ∷ []) (F.opened files.old) (F.opened files.new) }
+{
+    let source = try_source(alloc, files, given)?;
+    let path = copy_of(alloc, given)?;
+    add_tried(sources, paths, unread, path, source)
 }
 
 // Adds a source with its path, or a path among those of unreadable files if there is no source.

@@ -8,7 +8,7 @@ ghost use Rattle.agenda_faults.specs.declared.faults.RunFault.TheVariants.{NoMem
 ghost use Rattle.agenda_sources.specs.ZoneNames.{asked_zones};
 ghost use Rattle.agenda_sources.specs.declared.Source.{Source};
 
-use crate::event_zones::{names_of_rule, names_of_sources, read_zones};
+use crate::event_zones::{zones_of_rule, zones_of_sources};
 use crate::files::{Files, read_path};
 use crate::zone::read_clock;
 use agenda_commands::Input;
@@ -37,8 +37,7 @@ pub(crate) fn read_input<F: Files>(
 {
     let clock = read_clock(alloc, files, &request.zone)?;
     let sources = read_sources(alloc, files, paths.as_slice())?;
-    let names = names_of_sources(alloc, request, &sources)?;
-    let zones = read_zones(alloc, files, &request.zone, clock, names)?;
+    let zones = zones_of_sources(alloc, files, request, clock, &sources)?;
     Ok(Input { zones, sources })
 }
 
@@ -60,8 +59,7 @@ pub(crate) fn read_rule_zones<F: Files>(
         (F.opened files.old) (F.opened files.new) }
 {
     let clock = read_clock(alloc, files, &request.zone)?;
-    let names = names_of_rule(alloc, request, rule)?;
-    read_zones(alloc, files, &request.zone, clock, names)
+    zones_of_rule(alloc, files, request, clock, rule)
 }
 
 // Reads the sources with these paths, in order, each path once.

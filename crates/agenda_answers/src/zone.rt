@@ -1,6 +1,6 @@
 //! Reads the clock of the time zone of the rules.
 
-ghost use Rattle.std.specs.Prelude.{◌≡◌, ◌≢◌, [], ◌∷◌, Err};
+ghost use Rattle.std.specs.Prelude.{◌≡◌, ◌≢◌, [], ◌∷◌, Err, IfOk};
 ghost use Rattle.agenda_answers.specs.Opened.{OpensFirst, clock_files, followed_by, zone_files};
 ghost use Rattle.agenda_answers.specs.Zone.{clock_from, clock_of, clock_of_bytes, clock_of_file};
 ghost use Rattle.agenda_faults.specs.declared.faults.Failure.TheVariants.{File, Run, Zone};
@@ -11,9 +11,9 @@ ghost use Rattle.plan_zones.specs.ZoneTexts.{source_of, zone_path};
 use crate::files::{Files, read_file, read_path};
 use agenda_faults::Failure;
 use plan_clock::Clock;
-use plan_rules::Text;
+use plan_rules::{NamedZone, Text};
 use plan_zones::{ZoneFault, ZoneSource, read_zone, zone_path, zone_source};
-use std::alloc::Global;
+use std::alloc::{AllocError, Global};
 
 /// Reads the clock of the zone that a text gives. Without a text it is the clock of UTC, and no file is read.
 ///
@@ -88,4 +88,18 @@ fn clock_of_bytes(alloc: Global, bytes: &[u8]) -> Result<Clock, Failure>
         Ok(clock) => Ok(clock),
         Err(fault) => Err(Failure::from(fault)),
     }
+}
+
+/// Returns the zone with this name and this clock.
+///
+/// # Errors
+///
+/// `AllocError` if an allocation failed.
+pub(crate) fn named_zone(alloc: Global, name: &str, clock: &Clock) -> Result<NamedZone, AllocError>
+    ensures { IfOk result (λ zone. zone ≡ record { name = name.now; clock = clock.now }) }
+{
+    Ok(NamedZone {
+        name: Text::new(String::from_str(alloc, name)?),
+        clock: clock.try_clone()?,
+    })
 }

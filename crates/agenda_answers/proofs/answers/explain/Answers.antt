@@ -1,8 +1,8 @@
-use Rattle.agenda_answers.proofs.StepLemmas.{printed, stopped}
+use Rattle.agenda_answers.proofs.GoalLemmas.{flushed_after, ran}
 use Rattle.agenda_answers.proofs.answers.explain.Goals as goal
 
-pub returns-in_err-run_explain-clause-ends : goal.returns-in_err-run_explain-clause-ends
-returns-in_err-run_explain-clause-ends g c = stopped _ _ _ _ _ _ _ _ c.in_err-run_explain.ensures.output c.from_residual.ensures.1
-
 pub returns-clause-ends : goal.returns-clause-ends
-returns-clause-ends g c = printed _ _ _ _ _ _ c.in_ok-run_explain.ensures.output
+returns-clause-ends g c = rw c.status_after.ensures (ran _ _ _ _ _ c.run_explain.ensures.output)
+
+pub returns-clause-flushed : goal.returns-clause-flushed
+returns-clause-flushed g c = rw c.status_after.ensures (flushed_after _ c.run_explain.result c.run_explain.ensures.flushed)

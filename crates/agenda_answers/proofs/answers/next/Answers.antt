@@ -1,6 +1,6 @@
-use Rattle.std.proofs.Common.{refl}
 use Rattle.agenda_commands.specs.Next.{valid_count}
-use Rattle.agenda_answers.proofs.StepLemmas.{failed_first, printed, same_error, stopped_if, went_on}
+use Rattle.agenda_answers.proofs.GoalLemmas.{flushed_after, ran_if}
+use Rattle.agenda_answers.proofs.StepLemmas.{failed_first, went_on}
 use Rattle.agenda_answers.proofs.answers.next.Goals as goal
 
 pub returns-in_err-moment-clause-ends : goal.returns-in_err-moment-clause-ends
@@ -15,15 +15,11 @@ returns-in_err-format-clause-ends g c =
     went_on _ c.in_ok-moment.ensures (went_on _ c.in_ok-zones.ensures.read
     (failed_first _ _ _ c.in_err-format.ensures c.from_residual-in_err-format.ensures.1))
 
-pub returns-in_err-run_next-clause-ends : goal.returns-in_err-run_next-clause-ends
-returns-in_err-run_next-clause-ends g c =
-    went_on _ c.in_ok-moment.ensures (went_on _ c.in_ok-zones.ensures.read (went_on _ c.in_ok-format.ensures
-    (stopped_if (valid_count c.args.request.now.count) _ _ _ _ _ _ (rw c.from-count.ensures at c.in_err-run_next.ensures.output)
-    (rw c.from-count.ensures at (same_error (valid_count c.from-count.result) c.in_err-run_next.field-0.0 _ refl
-    c.in_err-run_next.ensures.bad_count))
-    c.from_residual-in_err-run_next.ensures.1)))
-
 pub returns-clause-ends : goal.returns-clause-ends
 returns-clause-ends g c =
-    went_on _ c.in_ok-moment.ensures (went_on _ c.in_ok-zones.ensures.read (went_on _ c.in_ok-format.ensures
-    (printed _ _ _ _ _ _ (rw c.from-count.ensures at c.in_ok-run_next.ensures.output))))
+    rw c.status_after.ensures (went_on _ c.in_ok-moment.ensures (went_on _ c.in_ok-zones.ensures.read (went_on _ c.in_ok-format.ensures
+    (ran_if (valid_count c.args.request.now.count) _ _ _ _ _ (rw c.from-count.ensures at c.run_next.ensures.output)
+    (rw c.from-count.ensures at c.run_next.ensures.bad_count)))))
+
+pub returns-clause-flushed : goal.returns-clause-flushed
+returns-clause-flushed g c = rw c.status_after.ensures (flushed_after _ c.run_next.result c.run_next.ensures.flushed)

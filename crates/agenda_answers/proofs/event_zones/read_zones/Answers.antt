@@ -4,7 +4,7 @@ use Rattle.agenda_answers.proofs.StepLemmas.{failed}
 use Rattle.agenda_answers.proofs.event_zones.read_zones.Goals as goal
 
 pub returns-in_err-named-clause-read : goal.returns-in_err-named-clause-read
-returns-in_err-named-clause-read g c = rw c.in-Some.is (failed _ _ c.in_err-named.ensures.read c.from_residual.ensures.1)
+returns-in_err-named-clause-read g c = failed _ _ c.in_err-named.ensures.read c.from_residual.ensures.1
 
 pub returns-clause-read : goal.returns-clause-read
-returns-clause-read g c = rw c.in-Some.is (goes _ c.in_ok-named.ensures.read refl)
+returns-clause-read g c = goes _ c.in_ok-named.ensures.read refl

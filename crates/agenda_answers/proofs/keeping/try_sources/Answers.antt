@@ -5,7 +5,7 @@ use Rattle.agenda_faults.specs.declared.faults.RunFault.TheVariants as run
 use Rattle.agenda_answers.specs.declared.keeping.Tried.{Tried}
 use Rattle.agenda_answers.specs.Opened.{source_files}
 use Rattle.agenda_answers.specs.Sources.{tried_of, tries_of, with_last}
-use Rattle.agenda_answers.proofs.OpenedLemmas.{none_more, opened_at, opened_so_far, opened_up_to, sources_join}
+use Rattle.agenda_answers.proofs.OpenedLemmas.{none_more, opened_at, opened_up_to, sources_join}
 use Rattle.agenda_answers.proofs.StepLemmas.{passed_on}
 use Rattle.agenda_answers.proofs.TriedLemmas.{tries_fail_at, tries_none, tries_up_to}
 use Rattle.agenda_answers.proofs.keeping.try_sources.Goals as goal
@@ -18,43 +18,19 @@ loop-path-init g c =
       opened = none_more (g.F.Files.opened c.args.files.now);
     }
 
-pub returns-in_err-copy-clause-read : goal.returns-in_err-copy-clause-read
-returns-in_err-copy-clause-read g c =
+pub returns-in_err-try_next-clause-read : goal.returns-in_err-try_next-clause-read
+returns-in_err-try_next-clause-read g c =
     let held = g.F.Files.held c.args.files.now in
     let within : c.loop-path.path-index < length c.args.given.now = omega arith in
-    passed_on (tries_of held c.args.given.now) _ (Run run.NoMemory) (tries_fail_at held c.args.given.now _ c.loop-path.path-index
-    c.path-item.result (Run run.NoMemory) c.loop-path.invariant.so_far within refl) c.from_residual.ensures.1
-
-pub returns-in_err-source-clause-read : goal.returns-in_err-source-clause-read
-returns-in_err-source-clause-read g c =
-    let held = g.F.Files.held c.args.files.now in
-    let within : c.loop-path.path-index < length c.args.given.now = omega arith in
-    passed_on (tries_of held c.args.given.now) _ _ (tries_fail_at held c.args.given.now _ c.loop-path.path-index
-    c.path-item.result _ c.loop-path.invariant.so_far within c.in_err-source.ensures.read) c.from_residual-in_err-source.ensures.1
-
-pub returns-in_err-add_tried-clause-read : goal.returns-in_err-add_tried-clause-read
-returns-in_err-add_tried-clause-read g c =
-    let held = g.F.Files.held c.args.files.now in
-    let within : c.loop-path.path-index < length c.args.given.now = omega arith in
-    passed_on (tries_of held c.args.given.now) _ _ (rw c.in_err-add_tried.ensures.memory
+    passed_on (tries_of held c.args.given.now) _ _ (rw c.in_err-try_next.ensures.memory
     (tries_fail_at held c.args.given.now _ c.loop-path.path-index c.path-item.result (Run run.NoMemory)
-    c.loop-path.invariant.so_far within refl)) c.from_residual-in_err-add_tried.ensures.1
+    c.loop-path.invariant.so_far within refl)) c.from_residual.ensures.1
 
-pub returns-in_err-copy-clause-first : goal.returns-in_err-copy-clause-first
-returns-in_err-copy-clause-first g c =
-    opened_so_far source_files sources_join c.args.given.now c.loop-path.path-index _ _ c.loop-path.invariant.opened
-
-pub returns-in_err-source-clause-first : goal.returns-in_err-source-clause-first
-returns-in_err-source-clause-first g c =
+pub returns-in_err-try_next-clause-first : goal.returns-in_err-try_next-clause-first
+returns-in_err-try_next-clause-first g c =
     let within : c.loop-path.path-index < length c.args.given.now = omega arith in
     opened_at source_files sources_join c.args.given.now c.loop-path.path-index c.path-item.result _ _ _ within
-    c.loop-path.invariant.opened (rw c.path-item.is at c.in_err-source.ensures.first)
-
-pub returns-in_err-add_tried-clause-first : goal.returns-in_err-add_tried-clause-first
-returns-in_err-add_tried-clause-first g c =
-    let within : c.loop-path.path-index < length c.args.given.now = omega arith in
-    opened_at source_files sources_join c.args.given.now c.loop-path.path-index c.path-item.result _ _ _ within
-    c.loop-path.invariant.opened (rw c.path-item.is at c.in_ok-source.ensures.first)
+    c.loop-path.invariant.opened (rw c.path-item.is at c.in_err-try_next.ensures.first)
 
 pub loop-path-preserved : goal.loop-path-preserved
 loop-path-preserved g c =
@@ -62,14 +38,14 @@ loop-path-preserved g c =
     let given = c.args.given.now in
     let within : c.loop-path.path-index < length given = omega arith in
     let old : Tried = record { sources = c.loop-path.sources.items; paths = c.loop-path.paths; unread = c.loop-path.unread } in
-    let added = c.in_ok-add_tried.ensures.added
-    ∙ ap (λ p. with_last old p c.in_ok-source.source) (c.in_ok-copy.ensures ∙ c.path-item.is) in
+    let (source, read, added) = c.in_ok-try_next.ensures.tried in
     record {
-      so_far = subst (λ t. tries_of held (take (c.loop-path.path-index + 1) given) (Ok t)) (sym added)
-          (tries_up_to held given old c.loop-path.path-index c.path-item.result c.in_ok-source.source c.loop-path.invariant.so_far within
-          (subst (λ p. tried_of held p (Ok c.in_ok-source.source)) c.path-item.is
-          (subst (λ h. tried_of h c.path-item.result (Ok c.in_ok-source.source)) c.loop-path.invariant.same c.in_ok-source.ensures.read)));
-      same = c.in_ok-source.ensures.same ∙ c.loop-path.invariant.same;
+      so_far = subst (λ t. tries_of held (take (c.loop-path.path-index + 1) given) (Ok t))
+          (sym (added ∙ ap (λ p. with_last old p source) c.path-item.is))
+          (tries_up_to held given old c.loop-path.path-index c.path-item.result source c.loop-path.invariant.so_far within
+          (subst (λ p. tried_of held p (Ok source)) c.path-item.is
+          (subst (λ h. tried_of h c.path-item.result (Ok source)) c.loop-path.invariant.same read)));
+      same = c.in_ok-try_next.ensures.same ∙ c.loop-path.invariant.same;
       opened = opened_up_to source_files sources_join given c.loop-path.path-index c.path-item.result _ _ _ within
-          c.loop-path.invariant.opened (rw c.path-item.is at c.in_ok-source.ensures.opens);
+          c.loop-path.invariant.opened (rw c.path-item.is at c.in_ok-try_next.ensures.opens);
     }

@@ -1,9 +1,7 @@
 -- Reading the zone and the sources doesn't change what is known of the files. The files of each step are opened after those of the
 -- steps before it.
 use Rattle.std.proofs.Common.{[], refl}
-use Rattle.agenda_faults.specs.declared.faults.Failure.TheVariants.{Run}
-use Rattle.agenda_faults.specs.declared.faults.RunFault.TheVariants as run
-use Rattle.agenda_answers.specs.Steps.{goes, stops}
+use Rattle.agenda_answers.specs.Steps.{goes}
 use Rattle.agenda_answers.proofs.OpenedLemmas.{after_others, all_opened, before_others, then_all}
 use Rattle.agenda_answers.proofs.StepLemmas.{failed}
 use Rattle.agenda_answers.proofs.sources.read_input.Goals as goal
@@ -17,26 +15,18 @@ returns-in_err-sources-clause-read g c =
     (failed _ _ (rw (c.in_ok-clock.ensures.same, c.as_slice.ensures) at c.in_err-sources.ensures.read)
     c.from_residual-in_err-sources.ensures.1)
 
-pub returns-in_err-names-clause-read : goal.returns-in_err-names-clause-read
-returns-in_err-names-clause-read g c =
-    goes _ c.in_ok-clock.ensures.read
-    (goes _ (rw (c.in_ok-clock.ensures.same, c.as_slice.ensures) at c.in_ok-sources.ensures.read)
-    (failed _ (Run run.NoMemory) (stops (Run run.NoMemory) refl refl) c.from_residual-in_err-names.ensures.1))
-
 pub returns-in_err-zones-clause-read : goal.returns-in_err-zones-clause-read
 returns-in_err-zones-clause-read g c =
     goes _ c.in_ok-clock.ensures.read
     (goes _ (rw (c.in_ok-clock.ensures.same, c.as_slice.ensures) at c.in_ok-sources.ensures.read)
-    (failed _ _ (goes _ c.in_ok-names.ensures
-    (rw (c.in_ok-sources.ensures.same, c.in_ok-clock.ensures.same) at c.in_err-zones.ensures.read))
+    (failed _ _ (rw (c.in_ok-sources.ensures.same, c.in_ok-clock.ensures.same) at c.in_err-zones.ensures.read)
     c.from_residual-in_err-zones.ensures.1))
 
 pub returns-clause-read : goal.returns-clause-read
 returns-clause-read g c =
     goes _ c.in_ok-clock.ensures.read
     (goes _ (rw (c.in_ok-clock.ensures.same, c.as_slice.ensures) at c.in_ok-sources.ensures.read)
-    (goes _ (goes _ c.in_ok-names.ensures
-    (rw (c.in_ok-sources.ensures.same, c.in_ok-clock.ensures.same) at c.in_ok-zones.ensures.read)) refl))
+    (goes _ (rw (c.in_ok-sources.ensures.same, c.in_ok-clock.ensures.same) at c.in_ok-zones.ensures.read) refl))
 
 pub returns-in_err-clock-clause-first : goal.returns-in_err-clock-clause-first
 returns-in_err-clock-clause-first g c = ([], before_others _ _ _ _ c.in_err-clock.ensures.first)
@@ -48,26 +38,17 @@ returns-in_err-sources-clause-first g c = (
       (before_others _ _ _ _ (rw c.as_slice.ensures at c.in_err-sources.ensures.first)),
 )
 
-pub returns-in_err-names-clause-first : goal.returns-in_err-names-clause-first
-returns-in_err-names-clause-first g c = (
-  [],
-  after_others _ _ _ _ _ (c.in_ok-clock.ensures.opens (λ is. cc))
-      (before_others _ _ _ _ (rw c.as_slice.ensures at c.in_ok-sources.ensures.first)),
-)
-
 pub returns-in_err-zones-clause-first : goal.returns-in_err-zones-clause-first
 returns-in_err-zones-clause-first g c = (
   c.in_ok-sources.sources,
   after_others _ _ _ _ _ (c.in_ok-clock.ensures.opens (λ is. cc))
-      (after_others _ _ _ _ _ (rw c.as_slice.ensures at c.in_ok-sources.ensures.opens)
-      (rw c.in_ok-names.ensures at c.in_err-zones.ensures.first)),
+      (after_others _ _ _ _ _ (rw c.as_slice.ensures at c.in_ok-sources.ensures.opens) c.in_err-zones.ensures.first),
 )
 
 pub returns-clause-opens : goal.returns-clause-opens
 returns-clause-opens g c =
     then_all _ _ _ _ _ (c.in_ok-clock.ensures.opens (λ is. cc))
-    (then_all _ _ _ _ _ (rw c.as_slice.ensures at c.in_ok-sources.ensures.opens)
-    (rw c.in_ok-names.ensures at c.in_ok-zones.ensures.opens))
+    (then_all _ _ _ _ _ (rw c.as_slice.ensures at c.in_ok-sources.ensures.opens) c.in_ok-zones.ensures.opens)
 
 pub returns-clause-first : goal.returns-clause-first
 returns-clause-first g c = (c.in_ok-sources.sources, all_opened _ _ _ (returns-clause-opens g c))

@@ -1,0 +1,53 @@
+-- Reading the zone and the sources doesn't change what is known of the files. The files of each step are opened after those of the
+-- steps before it.
+use Rattle.std.proofs.Common.{[], refl}
+use Rattle.agenda_answers.specs.Steps.{goes}
+use Rattle.agenda_answers.proofs.OpenedLemmas.{after_others, before_others}
+use Rattle.agenda_answers.proofs.StepLemmas.{failed}
+use Rattle.agenda_answers.proofs.keeping.try_input.Goals as goal
+
+pub returns-in_err-clock-clause-read : goal.returns-in_err-clock-clause-read
+returns-in_err-clock-clause-read g c = failed _ _ c.in_err-clock.ensures.read c.from_residual.ensures.1
+
+pub returns-in_err-tried-clause-read : goal.returns-in_err-tried-clause-read
+returns-in_err-tried-clause-read g c =
+    goes _ c.in_ok-clock.ensures.read
+    (failed _ _ (rw (c.in_ok-clock.ensures.same, c.as_slice.ensures) at c.in_err-tried.ensures.read)
+    c.from_residual-in_err-tried.ensures.1)
+
+pub returns-in_err-zones-clause-read : goal.returns-in_err-zones-clause-read
+returns-in_err-zones-clause-read g c =
+    goes _ c.in_ok-clock.ensures.read
+    (goes _ (rw (c.in_ok-clock.ensures.same, c.as_slice.ensures) at c.in_ok-tried.ensures.read)
+    (failed _ _ (rw (c.in_ok-tried.ensures.same, c.in_ok-clock.ensures.same) at c.in_err-zones.ensures.read)
+    c.from_residual-in_err-zones.ensures.1))
+
+pub returns-clause-read : goal.returns-clause-read
+returns-clause-read g c =
+    goes _ c.in_ok-clock.ensures.read
+    (goes _ (rw (c.in_ok-clock.ensures.same, c.as_slice.ensures) at c.in_ok-tried.ensures.read)
+    (goes _ (rw (c.in_ok-tried.ensures.same, c.in_ok-clock.ensures.same) at c.in_ok-zones.ensures.read) refl))
+
+pub returns-in_err-clock-clause-first : goal.returns-in_err-clock-clause-first
+returns-in_err-clock-clause-first g c = ([], before_others _ _ _ _ c.in_err-clock.ensures.first)
+
+pub returns-in_err-tried-clause-first : goal.returns-in_err-tried-clause-first
+returns-in_err-tried-clause-first g c = (
+  [],
+  after_others _ _ _ _ _ (c.in_ok-clock.ensures.opens (λ is. cc))
+      (before_others _ _ _ _ (rw c.as_slice.ensures at c.in_err-tried.ensures.first)),
+)
+
+pub returns-in_err-zones-clause-first : goal.returns-in_err-zones-clause-first
+returns-in_err-zones-clause-first g c = (
+  c.in_ok-tried.tried.sources,
+  after_others _ _ _ _ _ (c.in_ok-clock.ensures.opens (λ is. cc))
+      (after_others _ _ _ _ _ (rw c.as_slice.ensures at c.in_ok-tried.ensures.opens) c.in_err-zones.ensures.first),
+)
+
+pub returns-clause-first : goal.returns-clause-first
+returns-clause-first g c = (
+  c.in_ok-tried.tried.sources,
+  after_others _ _ _ _ _ (c.in_ok-clock.ensures.opens (λ is. cc))
+      (after_others _ _ _ _ _ (rw c.as_slice.ensures at c.in_ok-tried.ensures.opens) c.in_ok-zones.ensures.first),
+)
