@@ -5,10 +5,8 @@
 //! has almost no other code that the gate has to prove again for them.
 
 mod answers;
-mod arguments;
-mod commands;
-mod fault_lines;
 mod files;
 mod names;
+mod rows;
 mod streams;
 mod writers;

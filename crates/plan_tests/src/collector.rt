@@ -1,4 +1,5 @@
-//! Tests of `Collector`: which messages it accepts, and the agenda that it makes of them.
+//! Tests of `Collector`: which messages it accepts, and the agenda that it makes of them. Other modules use its
+//! jobs and pieces.
 
 use plan_collect::*;
 use plan_next::next_piece;
@@ -8,132 +9,90 @@ use std::process::Abort;
 use std::sync::Arc;
 use std::test::Fail;
 
-// Returns the jobs of a user's crontab.
-pub fn user_jobs(alloc: Global, text: &str) -> Result<Jobs, Fail> {
+/// Returns the jobs of a user's crontab.
+pub fn user_jobs(alloc: Global, text: &str) -> Option<Jobs> {
     let mut jobs = Jobs::new(alloc);
-    for job in crontab(alloc, "cron", text.as_bytes(), Kind::User)? {
-        jobs.add(job)?;
+    for job in crontab(alloc, "cron", text.as_bytes(), Kind::User).ok()? {
+        jobs.add(job).ok()?;
     }
-    Ok(jobs)
+    Some(jobs)
 }
 
-// A crontab of one job that starts each minute.
+/// A crontab of one job that starts each minute.
 pub const EVERY_MINUTE: &str = "* * * * * x";
 
-// Checks that the agenda has this entry at this place, or none.
-pub fn assert_entry(rt: &impl Abort, agenda: &Agenda, place: usize, entry: Option<(u64, u32)>) {
-    assert!(rt; agenda.entry(place) == entry);
-}
+/// The rule of that job.
+pub const EVERY: &str = "* * * * *";
 
-// The rules that start every minute, and every other minute.
-const EVERY: &str = "* * * * *";
-
+// Another rule.
 const OTHER: &str = "*/2 * * * *";
 
-// Returns the span between two seconds.
-pub fn span(since: u64, upto: u64) -> Result<Span, SpanFault> {
-    Span::new(since, upto)
+/// Returns a message with a piece of a job, made by a cron rule between two seconds.
+pub fn part(alloc: Global, job: u32, rule: &str, since: u64, upto: u64) -> Option<Note> {
+    let span = Span::new(since, upto).ok()?;
+    let rule = Arc::new(alloc, cron_rule(alloc, rule).ok()?).ok()?;
+    let piece = next_piece(alloc, &rule, span.since(), span.upto(), PIECE_STARTS).ok()?;
+    Some(Note::Part(job, piece))
 }
 
-// Returns a message with a piece of a job, made by a cron rule between two seconds.
-fn part(alloc: Global, job: u32, rule: &str, since: u64, upto: u64) -> Result<Note, Fail> {
-    let rule = Arc::new(alloc, cron_rule(alloc, rule)?)?;
-    let span = span(since, upto)?;
-    let piece = next_piece(alloc, &rule, span.since(), span.upto(), PIECE_STARTS)?;
-    Ok(Note::Part(job, piece))
-}
+// A message: the piece of this job, by this rule and between these seconds, or the last message.
+type Message = Option<(u32, &'static str, u64, u64)>;
 
-// Returns a collector of a crontab's jobs from second 0 up to a second.
-fn collector(
-    alloc: Global,
-    crontab: &str,
-    upto: u64,
-    planners: usize,
-    limit: u64,
-) -> Result<Result<Collector, CollectorFault>, Fail> {
-    let jobs = user_jobs(alloc, crontab)?;
-    Ok(Collector::new(alloc, &jobs, span(0, upto)?, planners, limit))
-}
+// The only piece of a job that starts each minute, over two minutes.
+const WHOLE: Message = Some((0, EVERY, 0, 120));
 
-// Returns a collector of one job that starts each minute, over two minutes.
-fn two_minutes(alloc: Global, limit: u64) -> Result<Collector, Fail> {
-    Ok(collector(alloc, EVERY_MINUTE, 120, 1, limit)??)
-}
-
-// Checks what the collector answers to this message of a planner.
-fn assert_answer(
-    rt: &impl Abort,
-    collector: &mut Collector,
-    planner: usize,
-    note: Note,
-    wanted: Result<(), CollectFault>,
-) {
-    assert!(rt; collector.accept(planner, note) == wanted);
-}
-
-// Checks what the collector answers to a piece of the first planner: of this job, by this rule and between
-// these seconds.
-fn assert_part(
+// Gives the messages of planners to a new collector of one job that starts each minute, over two minutes and with
+// a limit of two starts. Checks what it answers to each of them.
+fn collector_after(
     rt: &(impl Abort + AllocGlobal),
-    collector: &mut Collector,
-    job: u32,
-    rule: &str,
-    since: u64,
-    upto: u64,
-    wanted: Result<(), CollectFault>,
-) -> Result<(), Fail> {
-    let note = part(rt.alloc(), job, rule, since, upto)?;
-    assert_answer(rt, collector, 0, note, wanted);
-    Ok(())
-}
-
-// Checks that the collector misses a last message or a piece.
-fn assert_missing(rt: &impl Abort, collector: Collector) {
-    assert!(rt; collector.finish().err() == Some(CollectFault::Missing));
+    messages: &[(usize, Message, Result<(), CollectFault>)],
+) -> Result<Collector, Fail> {
+    let alloc = rt.alloc();
+    let jobs = user_jobs(alloc, EVERY_MINUTE).expect(rt, "jobs");
+    let mut collector = Collector::new(alloc, &jobs, Span::new(0, 120)?, 1, 2)?;
+    for (planner, message, wanted) in messages {
+        let note = match *message {
+            Some((job, rule, since, upto)) => part(alloc, job, rule, since, upto).expect(
+                rt, "a piece",
+            ),
+            None => Note::Last,
+        };
+        assert!(rt; collector.accept(*planner, note) == *wanted);
+    }
+    Ok(collector)
 }
 
 #[test]
-fn strangers_and_gaps(rt: HostRuntime) -> Result<(), Fail> {
-    let mut collector = two_minutes(rt.alloc(), 2)?;
+fn messages_that_a_collector_accepts(rt: HostRuntime) -> Result<(), Fail> {
     let (stranger, gap) = (Err(CollectFault::Stranger), Err(CollectFault::Gap));
-    // No such planner, no such job, another rule, a piece that starts late, and one that ends late.
-    assert_answer(&rt, &mut collector, 1, Note::Last, stranger);
-    assert_part(&rt, &mut collector, 1, EVERY, 0, 120, stranger)?;
-    assert_part(&rt, &mut collector, 0, OTHER, 0, 120, stranger)?;
-    assert_part(&rt, &mut collector, 0, EVERY, 60, 120, gap)?;
-    assert_part(&rt, &mut collector, 0, EVERY, 0, 180, gap)
-}
-
-#[test]
-fn a_collector_of_one_job(rt: HostRuntime) -> Result<(), Fail> {
-    let mut collector = two_minutes(rt.alloc(), 2)?;
-    let (gap, after_last) = (Err(CollectFault::Gap), Err(CollectFault::AfterLast));
-    assert_part(&rt, &mut collector, 0, EVERY, 0, 120, Ok(()))?;
-    // The same piece again.
-    assert_part(&rt, &mut collector, 0, EVERY, 0, 120, gap)?;
-    assert_answer(&rt, &mut collector, 0, Note::Last, Ok(()));
-    assert_answer(&rt, &mut collector, 0, Note::Last, after_last);
-    assert_part(&rt, &mut collector, 0, EVERY, 60, 120, after_last)?;
-    let agenda = collector.finish()?;
+    let after_last = Err(CollectFault::AfterLast);
+    let messages = [
+        // No such planner, no such job, another rule, a piece that starts late, and one that ends late.
+        (1, None, stranger),
+        (0, Some((1, EVERY, 0, 120)), stranger),
+        (0, Some((0, OTHER, 0, 120)), stranger),
+        (0, Some((0, EVERY, 60, 120)), gap),
+        (0, Some((0, EVERY, 0, 180)), gap),
+        // The same piece again.
+        (0, WHOLE, Ok(())),
+        (0, WHOLE, gap),
+        (0, None, Ok(())),
+        (0, None, after_last),
+        (0, Some((0, EVERY, 60, 120)), after_last),
+    ];
+    let agenda = collector_after(&rt, &messages)?.finish()?;
     assert!(rt; agenda.since() == 0 && agenda.upto() == 120);
-    assert_entry(&rt, &agenda, 0, Some((0, 0)));
-    assert_entry(&rt, &agenda, 1, Some((60, 0)));
-    assert_entry(&rt, &agenda, 2, None);
+    assert!(rt; agenda.entry(0) == Some((0, 0)));
+    assert!(rt; agenda.entry(1) == Some((60, 0)));
+    assert!(rt; agenda.entry(2).is_none());
     Ok(())
 }
 
 #[test]
 fn a_last_note_or_a_piece_is_missing(rt: HostRuntime) -> Result<(), Fail> {
-    let mut no_last = two_minutes(rt.alloc(), 2)?;
-    assert_part(&rt, &mut no_last, 0, EVERY, 0, 120, Ok(()))?;
-    assert_missing(&rt, no_last);
-    let mut no_piece = two_minutes(rt.alloc(), 2)?;
-    assert_answer(&rt, &mut no_piece, 0, Note::Last, Ok(()));
-    assert_missing(&rt, no_piece);
+    for message in [WHOLE, None] {
+        let collector = collector_after(&rt, &[(0, message, Ok(()))])?;
+        assert!(rt; collector.finish().err() == Some(CollectFault::Missing));
+    }
     Ok(())
-}
-
-#[test]
-fn the_law_of_delays_can_be_cited() {
-    without_delays_windows_are_the_agenda();
 }

@@ -1,50 +1,33 @@
-//! Tests of `Locked`, a mailbox behind a lock, also with threads that send and take at the same time.
+//! Tests of `Locked`, a mailbox behind a lock, with threads that send and take at the same time.
 
-use crate::mailboxes::assert_reply;
+use crate::ends::count_in;
 use plan_mailbox::{Locked, Reply};
 use std::process::Abort;
 use std::sync::Wait;
 use std::test::Fail;
 use std::thread;
 
-#[test]
-fn calls_of_senders_that_are_not_there(rt: HostRuntime) -> Result<(), Fail> {
-    let locked = Locked::new(rt.alloc(), 1, 2)?;
-    assert_reply(&rt, locked.close(&rt, 0), Reply::Shut);
-    assert_reply(&rt, locked.close(&rt, 0), Reply::AlreadyShut);
-    assert_reply(&rt, locked.close(&rt, 1), Reply::Unknown);
-    assert_reply(&rt, locked.send(&rt, 1, 'c'), Reply::NoSender('c'));
-    Ok(())
-}
-
-// Returns the first message of a sender. Each sender has a thousand numbers.
-fn first_of(sender: usize) -> usize {
-    sender.saturating_mul(1_000)
-}
-
 /// Sends the thousand numbers of a sender, and closes it.
 fn send_thousand<R: Wait + Abort>(rt: &R, locked: &Locked<usize>, sender: usize) {
-    for message in 0..1_000 {
-        let message = first_of(sender).saturating_add(message);
-        assert_reply(rt, locked.send(rt, sender, message), Reply::Sent);
+    let first = sender.saturating_mul(1_000);
+    for number in 0..1_000 {
+        let reply = locked.send(rt, sender, first.saturating_add(number));
+        assert!(rt; reply == Reply::Sent);
     }
-    assert_reply(rt, locked.close(rt, sender), Reply::Shut);
+    assert!(rt; locked.close(rt, sender) == Reply::Shut);
 }
 
 /// Takes all numbers of three senders until no more will come, and checks that those of each sender are in order.
 fn take_thousands<R: Wait + Abort>(rt: &R, locked: &Locked<usize>) {
-    let mut next = [first_of(0), first_of(1), first_of(2)];
+    let mut next = [0, 1_000, 2_000];
     for _ in 0..3_000 {
-        let reply = locked.take(rt);
-        let Reply::Took(sender, message) = reply else {
-            panic!(rt; "no message: {reply:?}");
-        };
-        assert!(rt; sender < 3);
-        assert_eq!(rt; message, next[sender], "of sender {sender}");
-        next[sender] = message.saturating_add(1);
+        match locked.take(rt) {
+            Reply::Took(sender, message) => count_in(rt, &mut next, sender, message),
+            _ => panic!(rt; "no message"),
+        }
     }
-    assert_eq!(rt; next, [first_of(1), first_of(2), first_of(3)]);
-    assert_reply(rt, locked.take(rt), Reply::Ended);
+    assert!(rt; next == [1_000, 2_000, 3_000]);
+    assert!(rt; locked.take(rt) == Reply::Ended);
 }
 
 #[test]

@@ -1,13 +1,15 @@
 //! Tests of calls that request no memory. Each test first makes a request of a certain size, the mark:
 //! bin/refuse-memory makes it fail, and all requests after it.
 
-ghost use Rattle.std.specs.Prelude.{◌≡◌, [], IfOk, Some, slice_get};
-ghost use Rattle.plan_mailbox.specs.Ends.{inlet_of, outlet_of};
+ghost use Rattle.std.specs.Prelude.{length};
+ghost use Rattle.plan_collect.specs.Agenda.{IsOfJobs};
 
+use crate::collector::user_jobs;
+use crate::ends::ends_of_one;
 use agenda_faults::{Failure, RunFault, fault_line};
-use plan_collect::Span;
-use plan_mailbox::{Core, Inlet, Outlet, Post, Reply, Rings};
-use plan_rules::{EventZones, Jobs, Kind, crontab, timer};
+use plan_collect::{Agenda, Span};
+use plan_mailbox::{Core, Post, Reply, Rings, Step};
+use plan_rules::{EventZones, Jobs, timer};
 use plan_serial::plan_serial;
 use plan_write::{Format, LineEnds, write_agenda};
 use std::alloc::Global;
@@ -32,15 +34,24 @@ fn assert_ended(rt: &(impl Abort + AllocGlobal), ended: bool) {
 // Checks the replies of a mailbox of two senders with a capacity of one message.
 fn assert_replies<P: Post<char>>(rt: &impl Abort, post: &mut P) {
     assert!(rt; post.is_new() && post.senders() == 2 && post.room() == 1);
-    assert!(rt; post.send(0, 'a') == Reply::Sent);
-    assert!(rt; post.send(0, 'b') == Reply::Full('b'));
-    assert!(rt; post.send(2, 'c') == Reply::NoSender('c'));
-    assert!(rt; post.close(0) == Reply::Shut);
-    assert!(rt; post.send(0, 'd') == Reply::Closed('d'));
-    assert!(rt; post.take() == Reply::Took(0, 'a'));
-    assert!(rt; post.take() == Reply::Nothing);
-    assert!(rt; post.close(1) == Reply::Shut);
-    assert!(rt; post.take() == Reply::Ended);
+    for (step, wanted) in [
+        (Step::Send(0, 'a'), Reply::Sent),
+        (Step::Send(0, 'b'), Reply::Full('b')),
+        (Step::Send(2, 'c'), Reply::NoSender('c')),
+        (Step::Close(0), Reply::Shut),
+        (Step::Send(0, 'd'), Reply::Closed('d')),
+        (Step::Take, Reply::Took(0, 'a')),
+        (Step::Take, Reply::Nothing),
+        (Step::Close(1), Reply::Shut),
+        (Step::Take, Reply::Ended),
+    ] {
+        let reply = match step {
+            Step::Send(sender, message) => post.send(sender, message),
+            Step::Take => post.take(),
+            Step::Close(sender) => post.close(sender),
+        };
+        assert!(rt; reply == wanted);
+    }
 }
 
 #[test]
@@ -54,25 +65,9 @@ fn mailboxes_reply(rt: HostRuntime) -> Result<(), Fail> {
     Ok(())
 }
 
-// Returns the outlet and the inlet of a ring with a capacity of two messages.
-fn ends_of_one(alloc: Global) -> Result<(Outlet<char>, Inlet<char>), Fail>
-    ensures { IfOk result (λ ends. ((outlet_of ends.0).sender ≡ 0)
-        × (slice_get (inlet_of ends.1).rings 0 ≡ Some (outlet_of ends.0).ring)
-        × ((outlet_of ends.0).sent ≡ [])) }
-{
-    let rings = Rings::new(alloc, 1, 2)?;
-    let Ok((mut outlets, inlet)) = rings.split(alloc) else {
-        return Err(Fail::from("the rings came back"));
-    };
-    let Some(outlet) = outlets.pop() else {
-        return Err(Fail::from("no outlet"));
-    };
-    Ok((outlet, inlet))
-}
-
 #[test]
 fn ends_send_and_settle(rt: HostRuntime) -> Result<(), Fail> {
-    let (mut outlet, mut inlet) = ends_of_one(rt.alloc())?;
+    let (mut outlet, mut inlet) = ends_of_one(rt.alloc(), 2)?;
     let ended = ends(rt.alloc());
     assert!(rt; outlet.sender() == 0 && inlet.try_take().is_none());
     assert!(rt; outlet.try_send('a') == Ok(()) && outlet.try_send('b') == Ok(()));
@@ -86,17 +81,17 @@ fn ends_send_and_settle(rt: HostRuntime) -> Result<(), Fail> {
     Ok(())
 }
 
-// A writer with a capacity of 128 bytes, enough for a header and a line.
+// A writer with a capacity of 256 bytes, enough for a header and two lines.
 #[derive(Drop)]
 struct Lines {
-    bytes: [u8; 128],
+    bytes: [u8; 256],
     len: usize,
 }
 
 impl Write for Lines {
     fn write(&mut self, bytes: &[u8]) -> io::Result<usize> {
-        let len = self.len.min(128);
-        let count = bytes.len().min(128 - len);
+        let len = self.len.min(256);
+        let count = bytes.len().min(256 - len);
         self.bytes[len..len + count].copy_from_slice(&bytes[..count]);
         self.len = len + count;
         Ok(count)
@@ -110,16 +105,8 @@ impl Write for Lines {
 // Returns a writer that has no bytes.
 fn no_lines() -> Lines {
     Lines {
-        bytes: [0; 128],
+        bytes: [0; 256],
         len: 0,
-    }
-}
-
-// Returns the format of text in UTC.
-fn utc_text() -> Format {
-    Format {
-        json: false,
-        local: None,
     }
 }
 
@@ -128,72 +115,62 @@ fn assert_lines(rt: &impl Abort, lines: &Lines, text: &str) {
     assert!(rt; lines.bytes.get(..lines.len) == Some(text.as_bytes()));
 }
 
+// Checks that an agenda is written as this text.
+fn assert_written(
+    rt: &impl Abort,
+    agenda: &Agenda,
+    line_ends: &LineEnds,
+    json: bool,
+    delays: bool,
+    text: &str,
+)
+    requires { IsOfJobs (length line_ends.now) agenda.now.entries }
+{
+    let mut out = no_lines();
+    let format = Format { json, local: None };
+    assert!(rt; write_agenda(agenda, line_ends, &format, delays, &mut out).is_ok());
+    assert_lines(rt, &out, text);
+}
+
+// Returns the job of a crontab, with a quote in its command, and a timer. Both start each day.
+fn daily_jobs(alloc: Global) -> Option<Jobs> {
+    let zones = EventZones::utc_alone();
+    let daily = timer(alloc, "b.timer", b"[Timer]\nOnCalendar=daily\n", &zones).ok()?;
+    let mut jobs = user_jobs(alloc, "@daily \"\n")?;
+    jobs.add(daily).ok()?;
+    Some(jobs)
+}
+
+// A timer may start up to a minute late if it has no other accuracy. In JSON a quote in a command has an escape.
 #[test]
 fn an_agenda_is_written(rt: HostRuntime) -> Result<(), Fail> {
-    let mut jobs = Jobs::new(rt.alloc());
-    for job in crontab(rt.alloc(), "cron", b"@daily b\n", Kind::User)? {
-        jobs.add(job)?;
-    }
+    let jobs = daily_jobs(rt.alloc()).expect(&rt, "jobs");
     let agenda = plan_serial(rt.alloc(), &jobs, Span::new(0, 86_400)?, 10)?;
     let line_ends = LineEnds::new(rt.alloc(), &jobs, false)?;
-    let (mut out, mut err) = (no_lines(), no_lines());
+    let json_ends = LineEnds::new(rt.alloc(), &jobs, true)?;
     let ended = ends(rt.alloc());
-    let span = Span::new(5, 86_400).expect(&rt, "a span");
-    assert!(rt; span.since() == 5 && span.upto() == 86_400);
-    assert!(rt; agenda.since() == 0 && agenda.upto() == 86_400);
-    assert!(rt; agenda.len() == 1 && agenda.entry(0) == Some((0, 0)) && agenda.entry(1).is_none());
-    assert!(rt; write_agenda(&agenda, &line_ends, &utc_text(), false, &mut out).is_ok());
-    let text = "agenda 2\t1970-01-01T00:00:00Z\t1970-01-02T00:00:00Z\t1\n\
-        1970-01-01T00:00:00Z\tcron:1\tb\n";
-    assert_lines(&rt, &out, text);
+    assert!(rt; agenda.since() == 0 && agenda.upto() == 86_400 && agenda.len() == 2);
+    assert!(rt; agenda.entry(1) == Some((0, 1)) && agenda.entry(2).is_none());
+    let text = "agenda 2\t1970-01-01T00:00:00Z\t1970-01-02T00:00:00Z\t2\n\
+        1970-01-01T00:00:00Z\tcron:1\t\"\n\
+        1970-01-01T00:00:00Z\tb.timer\tb.service\n";
+    assert_written(&rt, &agenda, &line_ends, false, false, text);
+    let delayed = "agenda 3\t1970-01-01T00:00:00Z\t1970-01-02T00:00:00Z\t2\n\
+        1970-01-01T00:00:00Z\t1970-01-01T00:00:00Z\tcron:1\t\"\n\
+        1970-01-01T00:00:00Z\t1970-01-01T00:01:00Z\tb.timer\tb.service\n";
+    assert_written(&rt, &agenda, &line_ends, false, true, delayed);
+    let json = "{\"start\":\"1970-01-01T00:00:00Z\",\"job\":\"cron:1\",\"run\":\"\\\"\"}\n\
+        {\"start\":\"1970-01-01T00:00:00Z\",\"job\":\"b.timer\",\"run\":\"b.service\"}\n";
+    assert_written(&rt, &agenda, &json_ends, true, false, json);
+    assert_ended(&rt, ended);
+    Ok(())
+}
+
+#[test]
+fn an_error_line_is_written(rt: HostRuntime) {
+    let mut err = no_lines();
+    let ended = ends(rt.alloc());
     assert!(rt; fault_line(&Failure::Run(RunFault::NoMemory), &[], &mut err) == 3);
     assert_lines(&rt, &err, "agenda: NoMemory\n");
     assert_ended(&rt, ended);
-    Ok(())
-}
-
-// A quote in a command has an escape.
-#[test]
-fn an_agenda_is_written_in_json(rt: HostRuntime) -> Result<(), Fail> {
-    let mut jobs = Jobs::new(rt.alloc());
-    for job in crontab(rt.alloc(), "cron", b"@daily \"\n", Kind::User)? {
-        jobs.add(job)?;
-    }
-    let agenda = plan_serial(rt.alloc(), &jobs, Span::new(0, 86_400)?, 10)?;
-    let line_ends = LineEnds::new(rt.alloc(), &jobs, true)?;
-    let format = Format {
-        json: true,
-        local: None,
-    };
-    let mut out = no_lines();
-    let ended = ends(rt.alloc());
-    assert!(rt; write_agenda(&agenda, &line_ends, &format, false, &mut out).is_ok());
-    let text = "{\"start\":\"1970-01-01T00:00:00Z\",\"job\":\"cron:1\",\"run\":\"\\\"\"}\n";
-    assert_lines(&rt, &out, text);
-    assert_ended(&rt, ended);
-    Ok(())
-}
-
-// A timer may start up to a minute late if it has no other accuracy.
-#[test]
-fn a_delayed_agenda_is_written(rt: HostRuntime) -> Result<(), Fail> {
-    let mut jobs = Jobs::new(rt.alloc());
-    let zones = EventZones::utc_alone();
-    let daily = timer(
-        rt.alloc(),
-        "b.timer",
-        b"[Timer]\nOnCalendar=daily\n",
-        &zones,
-    )?;
-    jobs.add(daily)?;
-    let agenda = plan_serial(rt.alloc(), &jobs, Span::new(0, 86_400)?, 10)?;
-    let line_ends = LineEnds::new(rt.alloc(), &jobs, false)?;
-    let mut out = no_lines();
-    let ended = ends(rt.alloc());
-    assert!(rt; write_agenda(&agenda, &line_ends, &utc_text(), true, &mut out).is_ok());
-    let text = "agenda 3\t1970-01-01T00:00:00Z\t1970-01-02T00:00:00Z\t1\n\
-        1970-01-01T00:00:00Z\t1970-01-01T00:01:00Z\tb.timer\tb.service\n";
-    assert_lines(&rt, &out, text);
-    assert_ended(&rt, ended);
-    Ok(())
 }

@@ -2,12 +2,11 @@
 use agenda_answers::{Files, read_front};
 use std::alloc::Global;
 use std::io::{self, ErrorKind, Read};
-use std::process::Abort;
 use std::test::Fail;
 
 /// A file that gives some bytes per call, and then ends or fails.
 #[derive(Drop)]
-pub struct LimitedFile<'a> {
+struct LimitedFile<'a> {
     /// What it gives.
     bytes: &'a [u8],
     /// How many bytes it gives per call.
@@ -31,19 +30,19 @@ impl Read for LimitedFile<'_> {
 /// Files by their paths.
 #[derive(Drop)]
 pub struct FewFiles<'a> {
-    /// Their paths, and what each file gives.
-    pub files: &'a [(&'a str, &'a [u8])],
+    /// Their paths, and what each file gives: a text like `FILES`.
+    files: &'a str,
     /// How many bytes they give per call.
-    pub at_a_call: usize,
+    at_a_call: usize,
     /// Whether they fail instead of ending.
-    pub fails: bool,
+    fails: bool,
     /// How often a file was opened.
     pub opened: usize,
 }
 
 impl<'a> FewFiles<'a> {
     /// Returns files that give `at_a_call` bytes per call, and then end or fail.
-    pub fn new(files: &'a [(&'a str, &'a [u8])], at_a_call: usize, fails: bool) -> FewFiles<'a> {
+    pub fn new(files: &'a str, at_a_call: usize, fails: bool) -> FewFiles<'a> {
         FewFiles {
             files,
             at_a_call,
@@ -65,10 +64,11 @@ impl Files for FewFiles<'_> {
 
     fn front(&mut self, alloc: Global, path: &str, most: u64) -> io::Result<Vec<u8>> {
         self.opened = self.opened.saturating_add(1);
-        for (name, bytes) in self.files {
-            if *name == path {
+        for file in self.files.split("%\n") {
+            let (name, text) = file.split_once('\n').unwrap_or((file, ""));
+            if name == path {
                 let file = LimitedFile {
-                    bytes,
+                    bytes: text.as_bytes(),
                     at_a_call: self.at_a_call,
                     fails: self.fails,
                 };
@@ -102,56 +102,4 @@ fn bytes_that_contracts_know(rt: HostRuntime) -> Result<(), Fail> {
     let bytes = KnownFiles(b"take\n").front(rt.alloc(), "any", 9)?;
     assert_eq!(rt; bytes.as_slice(), b"take\n".as_slice());
     Ok(())
-}
-
-// Reads the file `path`, where there is only a file `a` with these bytes.
-fn read_of(
-    alloc: Global,
-    bytes: &[u8],
-    at_a_call: usize,
-    fails: bool,
-    path: &str,
-) -> io::Result<Vec<u8>> {
-    let held = [("a", bytes)];
-    FewFiles::new(&held, at_a_call, fails).front(alloc, path, 1_048_577)
-}
-
-#[test]
-fn a_file_that_gives_a_byte_at_a_time(rt: HostRuntime) -> Result<(), Fail> {
-    let bytes = read_of(rt.alloc(), b"* * * * * x\n", 1, false, "a")?;
-    assert_eq!(rt; bytes.as_slice(), b"* * * * * x\n".as_slice());
-    Ok(())
-}
-
-#[test]
-fn a_file_that_fails_after_some_bytes(rt: HostRuntime) {
-    for len in 0..12 {
-        let read = read_of(rt.alloc(), &b"* * * * * x\n"[..len], 4_096, true, "a");
-        assert!(rt; read.is_err(), "{len}");
-    }
-    assert!(rt; read_of(rt.alloc(), b"", 4_096, false, "b").is_err());
-}
-
-// Asserts that `len` bytes are read from a file of `count` newlines.
-fn reads(
-    rt: &(impl Abort + AllocGlobal),
-    count: usize,
-    at_a_call: usize,
-    fails: bool,
-    len: usize,
-) -> Result<(), Fail> {
-    let held = vec![in rt.alloc(); b'\n'; count]?;
-    let read = read_of(rt.alloc(), held.as_slice(), at_a_call, fails, "a")?;
-    assert_eq!(rt; read.len(), len);
-    Ok(())
-}
-
-// After the first three files' bytes comes an error, which is never reached.
-#[test]
-fn no_more_than_one_byte_past_the_limit_is_read(rt: HostRuntime) -> Result<(), Fail> {
-    reads(&rt, 1_048_577, 4_096, true, 1_048_577)?;
-    reads(&rt, 1_048_577, 1_048_576, true, 1_048_577)?;
-    reads(&rt, 1_048_577, 7, true, 1_048_577)?;
-    reads(&rt, 1_048_576, 4_096, false, 1_048_576)?;
-    reads(&rt, 1_048_580, 4_096, false, 1_048_577)
 }

@@ -2,18 +2,21 @@
 use agenda_faults::RunFault;
 use agenda_script::{ScriptCause, ScriptFault};
 use agenda_sources::SourceFault;
+use agenda_words::UsageFault;
 use plan_collect::{CollectFault, PlanFault};
 use plan_rules::{LineCause, LineFault, RuleCause, RuleFault, Text};
 use plan_streams::WriteFault;
+use std::alloc::{AllocError, Global};
 use std::fmt::Display;
-use std::process::Abort;
 use std::test::Fail;
 
-// Asserts that an error prints this name.
-fn prints(rt: &(impl Abort + AllocGlobal), fault: &impl Display, name: &str) -> Result<(), Fail> {
-    let text = format!(in rt.alloc(); "{fault}")?;
-    assert!(rt; text.as_str() == name, "{name}");
-    Ok(())
+// Returns what these errors print, each in a line.
+fn lines(alloc: Global, faults: &[impl Display]) -> Result<String, AllocError> {
+    let mut lines = String::new(alloc);
+    for fault in faults {
+        writeln!(lines, "{fault}")?;
+    }
+    Ok(lines)
 }
 
 // Returns the error of a line.
@@ -24,43 +27,53 @@ fn bad(line: u32, cause: LineCause) -> LineFault {
 #[test]
 fn names_of_faults_of_commands(rt: HostRuntime) -> Result<(), Fail> {
     let (part, line) = (2, 2);
-    let rule = RuleFault {
-        part,
-        cause: RuleCause::WrongParts,
-    };
-    let script = ScriptFault {
-        line,
-        cause: ScriptCause::BadLine,
-    };
-    prints(&rt, &RunFault::NoMemory, "NoMemory")?;
-    prints(&rt, &RunFault::BadCount, "BadCount")?;
-    prints(&rt, &RunFault::BadLeast, "BadLeast")?;
-    prints(&rt, &RunFault::Rule(rule), "WrongParts")?;
-    prints(&rt, &RunFault::Script(script), "BadLine")?;
-    let fault = RunFault::InSource(0, bad(1, LineCause::NoCommand));
-    prints(&rt, &fault, "NoCommand")?;
-    let fault = RunFault::InSource(7, bad(0, LineCause::BadTabName));
-    prints(&rt, &fault, "BadTabName")?;
-    let name = Text::new(String::from_str(rt.alloc(), "a:1")?);
-    prints(&rt, &RunFault::SameName(name), "SameName")?;
-    prints(&rt, &RunFault::Full, "Full")?;
-    let missing = PlanFault::Collect(CollectFault::Missing);
-    prints(&rt, &RunFault::Plan(missing), "Missing")?;
-    prints(&rt, &RunFault::Plan(PlanFault::BadSize), "BadSize")?;
-    prints(&rt, &RunFault::Device(WriteFault::Device), "Device")?;
-    prints(&rt, &RunFault::Device(WriteFault::Closed), "Closed")?;
-    prints(&rt, &WriteFault::Device, "Device")?;
-    prints(&rt, &WriteFault::Closed, "Closed")
+    let names =
+        "NoMemory\nBadCount\nBadLeast\nWrongParts\nBadLine\nNoCommand\nBadTabName\nSameName\nFull\n\
+        Missing\nBadSize\nDevice\nClosed\n";
+    let faults = [
+        RunFault::NoMemory,
+        RunFault::BadCount,
+        RunFault::BadLeast,
+        RunFault::Rule(RuleFault {
+            part,
+            cause: RuleCause::WrongParts,
+        }),
+        RunFault::Script(ScriptFault {
+            line,
+            cause: ScriptCause::BadLine,
+        }),
+        RunFault::InSource(0, bad(1, LineCause::NoCommand)),
+        RunFault::InSource(7, bad(0, LineCause::BadTabName)),
+        RunFault::SameName(Text::new(String::new(rt.alloc()))),
+        RunFault::Full,
+        RunFault::Plan(PlanFault::Collect(CollectFault::Missing)),
+        RunFault::Plan(PlanFault::BadSize),
+        RunFault::Device(WriteFault::Device),
+        RunFault::Device(WriteFault::Closed),
+    ];
+    assert_eq!(&rt; lines(rt.alloc(), &faults)?.as_str(), names);
+    Ok(())
 }
 
 #[test]
-fn names_of_faults_of_sources(rt: HostRuntime) -> Result<(), Fail> {
-    prints(&rt, &SourceFault::NoMemory, "NoMemory")?;
-    let fault = SourceFault::InSource(0, bad(1, LineCause::BadSetting));
-    prints(&rt, &fault, "BadSetting")?;
-    let fault = SourceFault::InSource(1, bad(0, LineCause::NoTimerSection));
-    prints(&rt, &fault, "NoTimerSection")?;
-    let name = Text::new(String::from_str(rt.alloc(), "a:1")?);
-    prints(&rt, &SourceFault::SameName(name), "SameName")?;
-    prints(&rt, &SourceFault::Full, "Full")
+fn names_of_faults_of_sources_and_arguments(rt: HostRuntime) -> Result<(), Fail> {
+    let faults = [
+        SourceFault::NoMemory,
+        SourceFault::InSource(0, bad(1, LineCause::BadSetting)),
+        SourceFault::InSource(1, bad(0, LineCause::NoTimerSection)),
+        SourceFault::SameName(Text::new(String::new(rt.alloc()))),
+        SourceFault::Full,
+    ];
+    let names = "NoMemory\nBadSetting\nNoTimerSection\nSameName\nFull\n";
+    assert_eq!(&rt; lines(rt.alloc(), &faults)?.as_str(), names);
+    let faults = [
+        UsageFault::NoMemory,
+        UsageFault::Usage(Text::new(String::new(rt.alloc()))),
+        UsageFault::Help(Text::new(String::new(rt.alloc()))),
+    ];
+    assert_eq!(&rt;
+        lines(rt.alloc(), &faults)?.as_str(),
+        "NoMemory\nUsage\nHelp\n"
+    );
+    Ok(())
 }

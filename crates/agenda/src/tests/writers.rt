@@ -1,167 +1,88 @@
-//! Writers that accept a limited number of bytes, or of writes.
-use std::io::{self, Write};
-use std::process::Abort;
+//! Writers that accept a limited number of calls.
+use std::io::{self, ErrorKind, Write};
 
-/// A writer that accepts a number of bytes, some of them per call, and then fails.
+/// A writer that accepts a number of calls, which are writes and flushes, and then fails.
 #[derive(Drop)]
 pub struct Limited {
-    /// What was written, in the first `len` bytes.
-    pub taken: [u8; 512],
+    // The first bytes that were written.
+    kept: [u8; 512],
     /// How many bytes were written.
     pub len: usize,
-    /// How many bytes are accepted in total.
-    pub room: usize,
-    /// How many bytes are accepted per call.
-    pub at_a_call: usize,
-    /// How it fails after `room` bytes.
-    pub end: End,
-    /// Whether the flush fails.
-    pub flush_fails: bool,
-    /// The number of writes.
+    /// How many calls are accepted.
+    accepted: usize,
+    /// How many bytes are accepted per write.
+    at_a_call: usize,
+    /// The error after the accepted calls. Without one, a write takes no bytes then.
+    end: Option<ErrorKind>,
+    /// The number of calls.
     pub calls: usize,
     /// The number of flushes.
     pub flushes: usize,
 }
 
-/// How a writer fails.
-#[derive(Clone, Copy, Debug, PartialEq, Eq)]
-pub enum End {
-    Error,
-    BrokenPipe,
-    Interrupted,
-    TakesNothing,
-}
-
-// Returns the error of a writer that fails in this way, unless it takes nothing.
-fn fail(end: End) -> io::Result<()> {
-    match end {
-        End::Error => Err(io::Error::from(io::ErrorKind::Other)),
-        End::BrokenPipe => Err(io::Error::from(io::ErrorKind::BrokenPipe)),
-        End::Interrupted => Err(io::Error::from(io::ErrorKind::Interrupted)),
-        End::TakesNothing => Ok(()),
-    }
-}
-
 impl Limited {
-    /// Returns a writer that accepts `room` bytes, at most `at_a_call` per call.
-    pub fn new(room: usize, at_a_call: usize, end: End) -> Limited {
+    /// Returns a writer that accepts this many calls, and at most `at_a_call` bytes per write.
+    pub fn new(accepted: usize, at_a_call: usize, end: Option<ErrorKind>) -> Limited {
         Limited {
-            taken: [0; 512],
+            kept: [0; 512],
             len: 0,
-            room,
+            accepted,
             at_a_call,
             end,
-            flush_fails: false,
             calls: 0,
             flushes: 0,
         }
     }
 
-    /// Returns a writer that accepts every text of these tests.
+    /// Returns a writer that accepts every text whole.
     pub fn ample() -> Limited {
-        Limited::new(512, 512, End::Error)
+        Limited::new(usize::MAX, usize::MAX, None)
     }
 
-    /// Returns the bytes that were written.
-    pub fn bytes(&self) -> &[u8] {
-        let len = self.len.min(512);
-        &self.taken[..len]
+    /// Returns whether exactly this text was written, of at most 512 bytes.
+    pub fn has(&self, text: &str) -> bool {
+        self.kept.get(..self.len) == Some(text.as_bytes())
+    }
+
+    /// Returns whether exactly these two texts were written, one after the other.
+    pub fn has_both(&self, first: &str, second: &str) -> bool {
+        match self.kept.get(..self.len) {
+            Some(kept) => kept.strip_prefix(first.as_bytes()) == Some(second.as_bytes()),
+            None => false,
+        }
+    }
+
+    /// Returns whether the first `len` bytes of a text were written, and no more.
+    pub fn has_front(&self, text: &str, len: usize) -> bool {
+        self.len == len && self.kept.get(..len) == text.as_bytes().get(..len)
     }
 }
 
 impl Write for Limited {
     fn write(&mut self, bytes: &[u8]) -> io::Result<usize> {
         self.calls = self.calls.saturating_add(1);
-        let left = self.room.saturating_sub(self.len);
-        let count = bytes.len().min(self.at_a_call).min(left);
-        if count == 0 {
-            fail(self.end)?;
+        if self.calls > self.accepted {
+            return match self.end {
+                Some(kind) => Err(io::Error::from(kind)),
+                None => Ok(0),
+            };
         }
+        let count = bytes.len().min(self.at_a_call);
         for byte in &bytes[..count] {
             if self.len < 512 {
-                self.taken[self.len] = *byte;
-                self.len += 1;
+                self.kept[self.len] = *byte;
             }
+            self.len = self.len.saturating_add(1);
         }
         Ok(count)
     }
 
     fn flush(&mut self) -> io::Result<()> {
-        self.flushes = self.flushes.saturating_add(1);
-        match self.end {
-            _ if !self.flush_fails => Ok(()),
-            End::BrokenPipe => Err(io::Error::from(io::ErrorKind::BrokenPipe)),
-            _ => Err(io::Error::from(io::ErrorKind::Other)),
-        }
-    }
-}
-
-/// A writer that accepts a number of writes, each of them whole, and then fails.
-#[derive(Drop)]
-pub struct Pieces {
-    /// How many writes are accepted.
-    pub accepted: usize,
-    /// How it fails after them.
-    pub end: End,
-    /// Whether the flush fails.
-    pub flush_fails: bool,
-    /// How many bytes were written.
-    pub len: usize,
-    /// The number of writes.
-    pub calls: usize,
-    /// The number of flushes.
-    pub flushes: usize,
-    /// The number of writes and flushes after a write that failed, or after a flush.
-    pub late: usize,
-}
-
-impl Pieces {
-    /// Returns a writer that accepts `accepted` writes.
-    pub fn new(accepted: usize, end: End) -> Pieces {
-        Pieces {
-            accepted,
-            end,
-            flush_fails: false,
-            len: 0,
-            calls: 0,
-            flushes: 0,
-            late: 0,
-        }
-    }
-
-    // Counts a write or a flush that should not come any more.
-    fn count_late(&mut self) {
-        if self.flushes > 0 || self.calls > self.accepted {
-            self.late = self.late.saturating_add(1);
-        }
-    }
-}
-
-impl Write for Pieces {
-    fn write(&mut self, bytes: &[u8]) -> io::Result<usize> {
-        self.count_late();
         self.calls = self.calls.saturating_add(1);
-        if self.calls > self.accepted {
-            fail(self.end)?;
-            return Ok(0);
-        }
-        self.len = self.len.saturating_add(bytes.len());
-        Ok(bytes.len())
-    }
-
-    fn flush(&mut self) -> io::Result<()> {
-        self.count_late();
         self.flushes = self.flushes.saturating_add(1);
-        if self.flush_fails {
-            fail(self.end)?;
+        if self.calls > self.accepted {
+            return Err(io::Error::from(self.end.unwrap_or(ErrorKind::Other)));
         }
         Ok(())
     }
-}
-
-/// Asserts that a writer accepted the first bytes of a text, up to its capacity.
-pub fn took(rt: &impl Abort, out: &Limited, text: &str) {
-    let bytes = text.as_bytes();
-    let first = bytes.get(..bytes.len().min(out.room));
-    assert!(rt; first == Some(out.bytes()), "{text}");
 }

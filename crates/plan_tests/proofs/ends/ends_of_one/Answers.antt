@@ -9,7 +9,7 @@ use Rattle.plan_mailbox.specs.declared.outlet.Outlet.{Outlet}
 use Rattle.plan_mailbox.specs.Ends.{Ring, new_outlets, outlet_of}
 use Rattle.plan_mailbox.specs.Mailbox.{senders_of}
 use Rattle.plan_mailbox.specs.Splits.{rings_of}
-use Rattle.plan_tests.proofs.without.ends_of_one.Goals as goal
+use Rattle.plan_tests.proofs.ends.ends_of_one.Goals as goal
 
 -- a list of one, from its end
 one_left : {A : Type 0} (all middle : List A) (a : A) → length all ≡ 1 → all ≡ middle ++ a ∷ [] → all ≡ a ∷ []
@@ -34,7 +34,7 @@ one_new a (r ∷ rest) e = (
 )
 
 pub returns : goal.returns
-returns c =
+returns g c =
     let all = one_left _ _ _ (omega (arith, c.in-Ok.ensures.as_many, ap senders_of c.in_ok-rings.ensures.made, c.in-Ok.outlets.ok))
     c.in-Some.ensures.items in
     let one = one_new c.in-Some.outlet (rings_of c.in_ok-rings.rings) (sym (ap (map outlet_of) all) ∙ c.in-Ok.ensures.outlets) in
