@@ -2,7 +2,7 @@
 # Proves and builds a program of the project.
 #
 # rattle, the compiler of the kit, builds each crate with the libraries of the crates below it. Several crates
-# are built in parallel, and the two with the heaviest chains of crates above them on several processors. The library
+# are built in parallel, and the one with the heaviest chain of crates above it on several processors. The library
 # of a crate is kept next to the program, under a name with a checksum of everything that it was made from. So an
 # interrupted build continues where it stopped, and a build after an edit makes only what the edit concerns.
 #
@@ -165,12 +165,12 @@ build_crate() {
 }
 
 # Starts to build crate $1, as a process group. Crates that are being built and have a heavier chain above
-# them have a higher priority. The two with the heaviest chains get all processors. The others fill what they
-# leave idle, each on one processor: on several, a crate takes a quarter more of their time.
+# them have a higher priority. The crate with the heaviest chain gets all processors. The others fill what it
+# leaves idle, each on one processor: on several, a crate takes a quarter more of their time.
 start_crate() {
   local before jobs=1
   before=$(count_before "$1")
-  [ "$before" -gt 1 ] || jobs=$(nproc)
+  [ "$before" != 0 ] || jobs=$(nproc)
   state[$1]=at_work
   set -m
   build_crate "$1" >"$work/$1.log" 2>&1 </dev/null 9>&- &
