@@ -1,7 +1,7 @@
 -- If its times or its zone are rejected, a request that keeps going ends as one that doesn't.
 use Rattle.std.proofs.Common.{◌≡◌, ◌≢◌, ℕ, Bool, true, false, List, [], ◌∷◌, Option, None, Some, Result, Ok, Err, refl, ap, sym, subst, ◌∙◌}
 use Rattle.plan_clock.specs.declared.row.Change.{Change}
-use Rattle.agenda_sources.specs.declared.SourcePath.{SourcePath}
+use Rattle.agenda_kinds.specs.declared.SourcePath.{SourcePath}
 use Rattle.agenda_sources.specs.ZoneNames.{zone_names}
 use Rattle.agenda_words.specs.declared.ZonesRequest.{ZonesRequest}
 use Rattle.agenda_words.specs.declared.JobsRequest.{JobsRequest}

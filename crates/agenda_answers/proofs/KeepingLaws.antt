@@ -8,7 +8,7 @@ use Rattle.plan_rules.specs.Job.{JobParts}
 use Rattle.agenda_findings.specs.Skipped.{skipped_text}
 use Rattle.plan_write.specs.declared.Format.{Format}
 use Rattle.agenda_sources.specs.declared.Source.{Source}
-use Rattle.agenda_sources.specs.declared.SourcePath.{SourcePath}
+use Rattle.agenda_kinds.specs.declared.SourcePath.{SourcePath}
 use Rattle.agenda_sources.specs.declared.TimeZones.{TimeZones}
 use Rattle.agenda_sources.specs.Findings.{kept_jobs, sources_errors}
 use Rattle.agenda_sources.specs.Sources.{jobs_reading}

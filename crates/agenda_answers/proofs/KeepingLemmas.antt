@@ -3,7 +3,7 @@ use Rattle.std.proofs.Common.{◌≡◌, ◌≢◌, ◌⊎◌, inl, inr, ℕ, Bo
 use Rattle.std.proofs.KnownBytes.{Keeps-refl}
 use Rattle.plan_streams.specs.Stream.{Puts}
 use Rattle.plan_streams.specs.declared.WriteFault.{WriteFault}
-use Rattle.agenda_sources.specs.declared.SourcePath.{SourcePath}
+use Rattle.agenda_kinds.specs.declared.SourcePath.{SourcePath}
 use Rattle.agenda_sources.specs.declared.TimeZones.{TimeZones}
 use Rattle.agenda_sources.specs.Findings.{kept_jobs, sources_errors}
 use Rattle.agenda_words.specs.declared.JobsRequest.{JobsRequest}

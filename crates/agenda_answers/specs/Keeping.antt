@@ -10,7 +10,7 @@ use Rattle.agenda_faults.specs.declared.faults.Failure.{Failure}
 use Rattle.agenda_faults.specs.declared.faults.Failure.TheVariants.{After, Run}
 use Rattle.agenda_faults.specs.Faults.{failed_status, refused_status}
 use Rattle.agenda_sources.specs.declared.Found.{Found}
-use Rattle.agenda_sources.specs.declared.SourcePath.{SourcePath}
+use Rattle.agenda_kinds.specs.declared.SourcePath.{SourcePath}
 use Rattle.agenda_sources.specs.Findings.{kept_jobs, sources_errors}
 use Rattle.agenda_sources.specs.ZoneNames.{zone_names}
 use Rattle.plan_rules.specs.Job.{JobParts}

@@ -19,7 +19,7 @@ use agenda_commands::{
     run_script, run_upcoming,
 };
 use agenda_faults::{Failure, RunFault, fault_line};
-use agenda_sources::{SourcePath, SourcePaths};
+use agenda_kinds::{SourcePath, SourcePaths};
 use agenda_words::{
     Ask, JobsRequest, NextRequest, PlanRequest, UsageFault, ZonesRequest, read_words,
 };

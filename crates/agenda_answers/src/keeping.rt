@@ -29,9 +29,9 @@ use crate::zone::read_clock;
 use agenda_commands::{Goal, PreparedAnswer, prepare_answer};
 use agenda_faults::{Failure, RunFault};
 use agenda_findings::write_skipped;
+use agenda_kinds::{SourcePath, SourcePaths};
 use agenda_sources::{
-    Found, Source, SourcePath, SourcePaths, Sources, TimeZones, kept_of_sources,
-    without_errors_all_is_kept,
+    Found, Source, Sources, TimeZones, kept_of_sources, without_errors_all_is_kept,
 };
 use agenda_words::{JobsRequest, ZonesRequest};
 use plan_rules::{Jobs, Text};

@@ -10,7 +10,8 @@ ghost use Rattle.agenda_commands.specs.Check.{check_output, sources_verdict, ver
 use crate::input::Input;
 use agenda_faults::RunFault;
 use agenda_findings::write_findings;
-use agenda_sources::{Found, SourcePath, findings_of_sources};
+use agenda_kinds::SourcePath;
+use agenda_sources::{Found, findings_of_sources};
 use plan_check::What;
 use plan_streams::Stream;
 use std::alloc::Global;

@@ -5,9 +5,9 @@ use Rattle.plan_check.specs.Quotes.{QuotedFinding}
 use Rattle.plan_check.specs.declared.Finding.{Finding}
 use Rattle.plan_check.specs.declared.Form.{Form}
 use Rattle.plan_check.specs.declared.What.{What}
-use Rattle.agenda_sources.specs.Kind.{form_of}
+use Rattle.agenda_sources.specs.Forms.{form_of}
 use Rattle.agenda_sources.specs.declared.Found.{Found}
-use Rattle.agenda_sources.specs.declared.SourcePath.{SourcePath}
+use Rattle.agenda_kinds.specs.declared.SourcePath.{SourcePath}
 use Rattle.plan_write.specs.Json.{json_string}
 use Rattle.agenda_findings.specs.Messages.{code_of, message, severity}
 

@@ -6,7 +6,8 @@ ghost use Rattle.plan_streams.specs.Writer.{Takes};
 ghost use Rattle.agenda_findings.specs.Findings.{after_message, before_message, check_text, finding_in, finding_line, finding_object, found_line, line_mark, line_value, members_before, what_members};
 
 use crate::messages::{code_of, put_message, severity};
-use agenda_sources::{Found, SourcePath};
+use agenda_kinds::SourcePath;
+use agenda_sources::{Found, form_of};
 use itoa::Buffer as Digits;
 use plan_check::{Finding, Form, Quoted, What};
 use plan_streams::{Stream, TextWriter, WriteFault};
@@ -64,7 +65,7 @@ fn put_found<S: Stream>(
     if let Some(source) = paths.get(one.place) {
         put_finding(
             source.path.as_str(),
-            source.kind.form(),
+            form_of(source.kind),
             &one.quoted,
             json,
             lines,

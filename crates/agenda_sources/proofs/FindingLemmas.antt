@@ -27,7 +27,7 @@ use Rattle.agenda_sources.specs.declared.sources.Source.{Source}
 use Rattle.agenda_sources.specs.declared.time_zones.TimeZones.{TimeZones}
 use Rattle.agenda_sources.specs.Faults.{SourceReading, in_source}
 use Rattle.agenda_sources.specs.Findings.{after_sources, found_at, found_from, is_all_clean, kept_jobs, quoted_findings, source_file, sources_errors, sources_findings}
-use Rattle.agenda_sources.specs.Kind.{form_of}
+use Rattle.agenda_sources.specs.Forms.{form_of}
 use Rattle.agenda_sources.specs.Sources.{jobs_reading, sources_from, sources_reading, with_jobs, with_source, zoned}
 
 -- ---- sources as files

@@ -19,7 +19,7 @@ use Rattle.agenda_sources.specs.declared.fault.SourceFault.TheVariants.{NoMemory
 use Rattle.agenda_sources.specs.declared.sources.Source.{Source}
 use Rattle.agenda_sources.specs.Faults.{SourceReading, fault_at, fault_by_cause, in_source, IsOwnFault}
 use Rattle.plan_check.specs.Form.{form_reading}
-use Rattle.agenda_sources.specs.Kind.{form_of}
+use Rattle.agenda_sources.specs.Forms.{form_of}
 use Rattle.agenda_sources.specs.Sources.{sources_from, sources_reading, with_job, with_jobs, with_source}
 
 by_cause : (c : LineCause) (fault : SourceFault) → (c ≢ cause.NoMemory → IsOwnFault fault) → IsOwnFault (fault_by_cause c fault)

@@ -6,7 +6,7 @@ use Rattle.agenda_sources.specs.declared.sources.Source.{Source}
 use Rattle.agenda_sources.specs.declared.fault.SourceFault.{SourceFault}
 use Rattle.agenda_sources.specs.Faults.{fault_at}
 use Rattle.plan_check.specs.Form.{cause_at_once}
-use Rattle.agenda_sources.specs.Kind.{form_of}
+use Rattle.agenda_sources.specs.Forms.{form_of}
 
 -- the error of the source at a place, if it has one that is found at once
 abbrev pub source_at_once : ℕ → Source → Option SourceFault

@@ -9,7 +9,7 @@ use Rattle.plan_check.specs.Quotes.{QuotedFinding, with_quote}
 use Rattle.agenda_sources.specs.declared.findings.Found.{Found}
 use Rattle.agenda_sources.specs.declared.sources.Source.{Source}
 use Rattle.agenda_sources.specs.declared.time_zones.TimeZones.{TimeZones}
-use Rattle.agenda_sources.specs.Kind.{form_of}
+use Rattle.agenda_sources.specs.Forms.{form_of}
 use Rattle.agenda_sources.specs.Sources.{zoned}
 
 -- a source as a file

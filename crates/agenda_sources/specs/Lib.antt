@@ -1,7 +1,7 @@
 pub mod AtOnce
 pub mod Faults
 pub mod Findings
-pub mod Kind
+pub mod Forms
 pub mod Name
 pub mod Sources
 pub mod ZoneNames

@@ -12,7 +12,7 @@ use Rattle.agenda_sources.specs.declared.sources.Source.{Source}
 use Rattle.agenda_sources.specs.declared.fault.SourceFault.TheVariants.{SameName, Full}
 use Rattle.agenda_sources.specs.Faults.{SourceReading, in_source}
 use Rattle.plan_check.specs.Form.{form_reading}
-use Rattle.agenda_sources.specs.Kind.{form_of}
+use Rattle.agenda_sources.specs.Forms.{form_of}
 
 -- ---- appending jobs
 

@@ -6,10 +6,10 @@ use Rattle.plan_rules.specs.Names.{with_found, with_names}
 use Rattle.plan_rules.specs.TimerZones.{timer_zones}
 use Rattle.plan_check.specs.declared.form.Form.{Form}
 use Rattle.plan_check.specs.declared.form.Form.TheVariants.{Crontab, Named, Timer}
-use Rattle.agenda_sources.specs.declared.asked.Asked.{Asked}
-use Rattle.agenda_sources.specs.declared.asked.Asked.TheVariants as asked
+use Rattle.agenda_kinds.specs.declared.asked.Asked.{Asked}
+use Rattle.agenda_kinds.specs.declared.asked.Asked.TheVariants as asked
 use Rattle.agenda_sources.specs.declared.sources.Source.{Source}
-use Rattle.agenda_sources.specs.Kind.{form_of}
+use Rattle.agenda_sources.specs.Forms.{form_of}
 
 -- the names of the zones of a file's events, in order; crontabs have no events
 abbrev pub form_zones : Form → (bytes : List ℕ) → List (List ℕ)

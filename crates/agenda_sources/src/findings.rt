@@ -8,6 +8,7 @@ ghost use Rattle.agenda_sources.specs.declared.time_zones.TimeZones.{TimeZones};
 ghost use Rattle.agenda_sources.specs.Findings.{after_sources, found_at, found_from, is_all_clean, kept_jobs, quoted_findings, source_file, sources_errors, sources_findings};
 ghost use Rattle.agenda_sources.specs.Sources.{jobs_reading, sources_reading};
 
+use crate::forms::form_of;
 use crate::reading::in_zone;
 use crate::sources::{Source, Sources};
 use crate::time_zones::TimeZones;
@@ -129,7 +130,7 @@ fn add_source(
         ++ map (found_at place) (quoted_findings zones.now known.old (source_file source.now))) }
     ensures known { OnOk result (known.new ≡ after_file zones.now known.old (source_file source.now)) }
 {
-    let form = source.kind.form();
+    let form = form_of(source.kind);
     let (name, bytes) = (source.name.as_str(), source.bytes.as_slice());
     let more = form.findings(alloc, known, name, bytes, zones)?;
     if more.is_empty() {

@@ -4,8 +4,9 @@ ghost use Rattle.std.specs.Prelude.{◌≡◌, [], IfOk, OnOk, option_map};
 ghost use Rattle.plan_rules.specs.Names.{with_found, with_names};
 ghost use Rattle.agenda_sources.specs.ZoneNames.{asked_zones, source_zones, zone_names};
 
-use crate::asked::Asked;
+use crate::forms::form_of;
 use crate::sources::{Source, Sources};
+use agenda_kinds::Asked;
 use plan_check::Form;
 use plan_rules::{Names, add_timer_zones, zone_name};
 use std::alloc::{AllocError, Global};
@@ -33,7 +34,7 @@ pub fn zone_names(alloc: Global, sources: &Sources) -> Result<Names, AllocError>
 fn add_source_zones(alloc: Global, names: &mut Names, source: &Source) -> Result<(), AllocError>
     ensures { OnOk result (names.new ≡ with_names names.old (source_zones source.now)) }
 {
-    match source.kind.form() {
+    match form_of(source.kind) {
         Form::Timer => add_timer_zones(alloc, names, source.bytes.as_slice()),
         Form::Crontab(_) | Form::Named(_) => Ok(()),
     }

@@ -8,6 +8,7 @@ ghost use Rattle.agenda_sources.specs.Faults.{IsOwnFault};
 ghost use Rattle.agenda_sources.specs.Sources.{jobs_reading, with_job, with_jobs, with_source, sources_reading, zoned};
 
 use crate::fault::SourceFault;
+use crate::forms::form_of;
 use crate::sources::{Source, Sources};
 use crate::time_zones::TimeZones;
 use plan_clock::Clock;
@@ -89,7 +90,7 @@ fn add_source(
     ensures few { length jobs.new ≤ most_jobs }
     ensures at_once { IfSome (source_at_once place source.now) (λ fault. result ≡ Err fault) }
 {
-    let form = source.kind.form();
+    let form = form_of(source.kind);
     let (name, bytes) = (source.name.as_str(), source.bytes.as_slice());
     match form.read(alloc, name, bytes, zones) {
         Ok(more) => add_all(jobs, more),

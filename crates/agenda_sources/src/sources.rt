@@ -3,7 +3,7 @@
 ghost use Rattle.std.specs.Prelude.{◌≡◌};
 
 use crate::bytes::Bytes;
-use crate::kind::SourceKind;
+use agenda_kinds::SourceKind;
 use plan_texts::Text;
 use std::marker::Model;
 

@@ -9,7 +9,7 @@ ghost use Rattle.agenda_words.specs.Command.{with_sources, with_span};
 
 mod help;
 
-use agenda_sources::SourceKind;
+use agenda_kinds::SourceKind;
 use clap::{Arg, ArgAction, Command, value_parser};
 use std::alloc::{AllocError, Global};
 

@@ -2,11 +2,11 @@
 ghost use Rattle.std.specs.Prelude.{◌≡◌, ◌++◌, ◌∷◌, [], IfOk, OnOk, map, unwrap_or};
 ghost use Rattle.std.specs.List.{flat_map};
 ghost use Rattle.clap.specs.Words.{all_of, first_of, found_of, rows_of};
-ghost use Rattle.agenda_sources.specs.Kind.{option_of};
+ghost use Rattle.agenda_kinds.specs.Kind.{option_of};
 ghost use Rattle.agenda_words.specs.Arguments.{all_given, path_of, paths_in, sources_in};
 
 use crate::values::text;
-use agenda_sources::{SourceKind, SourcePath, SourcePaths};
+use agenda_kinds::{SourceKind, SourcePath, SourcePaths};
 use clap::ArgMatches;
 use std::alloc::{AllocError, Global};
 

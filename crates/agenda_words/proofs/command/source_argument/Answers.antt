@@ -3,7 +3,7 @@ use Rattle.std.proofs.Common.{◌≡◌, ◌∙◌, ap, sym, Some, false}
 use Rattle.clap.specs.Words.{Rule, rule_of}
 use Rattle.clap.specs.declared.builder.action.ArgAction.TheVariants.{Append}
 use Rattle.clap.specs.declared.builder.arg.Arg.{Arg}
-use Rattle.agenda_sources.specs.declared.SourceKind.{SourceKind}
+use Rattle.agenda_kinds.specs.declared.SourceKind.{SourceKind}
 use Rattle.agenda_words.specs.Command.{source_rule}
 use Rattle.agenda_words.proofs.command.source_argument.Goals as goal
 

@@ -2,8 +2,8 @@
 use Rattle.std.proofs.Common.{◌≡◌, ◌<◌, ◌+◌, ◌∷◌, ◌∙◌, ℕ, List, ap, drop, map, refl, slice_index_or}
 use Rattle.std.proofs.lemmas.List.{drop_more}
 use Rattle.clap.specs.Words.{App, Rule, app_of, rule_of, with_rule}
-use Rattle.agenda_sources.specs.Kind.{kinds}
-use Rattle.agenda_sources.specs.declared.SourceKind.{SourceKind}
+use Rattle.agenda_kinds.specs.Kind.{kinds}
+use Rattle.agenda_kinds.specs.declared.SourceKind.{SourceKind}
 use Rattle.agenda_words.specs.Command.{source_rule, with_each}
 use Rattle.agenda_words.proofs.command.with_sources.Goals as goal
 

@@ -1,7 +1,7 @@
 use Rattle.std.proofs.Common.{◌≡◌, false, drop, map}
 use Rattle.clap.specs.Words.{app_of}
 use Rattle.clap.specs.declared.builder.command.Command.TheViews.{out-Command}
-use Rattle.agenda_sources.specs.Kind.{kinds}
+use Rattle.agenda_kinds.specs.Kind.{kinds}
 use Rattle.agenda_words.specs.Command.{source_rule, with_each, with_sources}
 use Rattle.agenda_words.proofs.command.with_sources.Given as goal
 

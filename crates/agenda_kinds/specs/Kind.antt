@@ -1,12 +1,8 @@
--- The kinds of sources: one table with the option, the label and the form of each kind, in the order in
--- which a plan reads them (agenda).
+-- The kinds of sources: one table with the option and the label of each kind, in the order in which a plan
+-- reads them (agenda).
 use Rattle.std.specs.Prelude.{ℕ, Bool, List, [], ◌∷◌, codes, Option, None, Some, is_none}
-use Rattle.plan_rules.specs.declared.crontabs.Kind.TheVariants as whose
-use Rattle.plan_rules.specs.declared.named_crontabs.CrontabDirectory.TheVariants as directory
-use Rattle.plan_check.specs.declared.form.Form.{Form}
-use Rattle.plan_check.specs.declared.form.Form.TheVariants as form
-use Rattle.agenda_sources.specs.declared.kind.SourceKind.{SourceKind}
-use Rattle.agenda_sources.specs.declared.kind.SourceKind.TheVariants.{Crontab, System, CronD, Spool, Timer}
+use Rattle.agenda_kinds.specs.declared.kind.SourceKind.{SourceKind}
+use Rattle.agenda_kinds.specs.declared.kind.SourceKind.TheVariants.{Crontab, System, CronD, Spool, Timer}
 
 -- ---- which kinds there are
 
@@ -36,13 +32,3 @@ label_of Timer = None
 -- whether a plan may have more than one source of this kind
 abbrev pub is_many : SourceKind → Bool
 is_many kind = is_none (label_of kind)
-
--- ---- what their sources mean
-
--- the form of the sources of a kind
-abbrev pub form_of : SourceKind → Form
-form_of Crontab = form.Crontab whose.User
-form_of System = form.Crontab whose.System
-form_of CronD = form.Named directory.CronD
-form_of Spool = form.Named directory.Spool
-form_of Timer = form.Timer

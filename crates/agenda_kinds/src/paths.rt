@@ -24,7 +24,7 @@ pub struct SourcePaths {
 
 impl Model for SourcePaths {
     ghost use Rattle.std.specs.Prelude.{List};
-    ghost use Rattle.agenda_sources.specs.declared.paths.SourcePath.{SourcePath};
+    ghost use Rattle.agenda_kinds.specs.declared.paths.SourcePath.{SourcePath};
 
     ghost Value = { List SourcePath };
 

@@ -1,10 +1,7 @@
-//! The kinds of sources: one table with the option, the label and the form of each kind.
+//! The kinds of sources: one table with the option and the label of each kind.
 
 ghost use Rattle.std.specs.Prelude.{◌≡◌, option_map};
-ghost use Rattle.agenda_sources.specs.Kind.{form_of, is_many, kinds, label_of, option_of};
-
-use plan_check::Form;
-use plan_rules::{CrontabDirectory, Kind};
+ghost use Rattle.agenda_kinds.specs.Kind.{is_many, kinds, label_of, option_of};
 
 /// A kind of source. A plan reads its sources in the order of their kinds.
 #[derive(Clone, Copy, Debug, PartialEq, Eq)]
@@ -66,18 +63,5 @@ impl SourceKind {
         ensures { result ≡ is_many self }
     {
         self.label().is_none()
-    }
-
-    /// Returns the form of the sources of this kind.
-    pub fn form(self) -> Form
-        ensures { result ≡ form_of self }
-    {
-        match self {
-            SourceKind::Crontab => Form::Crontab(Kind::User),
-            SourceKind::System => Form::Crontab(Kind::System),
-            SourceKind::CronD => Form::Named(CrontabDirectory::CronD),
-            SourceKind::Spool => Form::Named(CrontabDirectory::Spool),
-            SourceKind::Timer => Form::Timer,
-        }
     }
 }
