@@ -1,6 +1,7 @@
 //! Reads the arguments of the command line.
-ghost use Rattle.std.specs.Prelude.{◌≡◌, IfOk, codes, map, string_bytes};
+ghost use Rattle.std.specs.Prelude.{◌≡◌, Err, IfOk, Some, codes, map, string_bytes};
 ghost use Rattle.clap.specs.Words.{first_of, found_of, kind_of, rows_of, subcommand_rows_of};
+ghost use Rattle.agenda_words.specs.Arguments.Refusal.{is_usage};
 ghost use Rattle.agenda_words.specs.Arguments.{Gives, IsAnswerTo, asked_by, asked_by_check, asked_by_explain, asked_by_next};
 ghost use Rattle.agenda_words.specs.Arguments.{asked_by_plan, asked_by_quiet, asked_by_steps, asked_by_subcommand};
 ghost use Rattle.agenda_words.specs.Arguments.{asked_by_upcoming, format_in, jobs_in, one_rule, plan_in, sizes_in, zones_in};
@@ -11,7 +12,7 @@ use crate::ask::{
 use crate::codes::code_of;
 use crate::command::agenda_command;
 use crate::paths::sources_of;
-use crate::values::{is_given, number_argument, text, text_if_given, text_of};
+use crate::values::{is_given, number_argument, text, text_if_given, text_of, value_of};
 use agenda_kinds::Asked;
 use clap::ArgMatches;
 use clap::error::ErrorKind;
@@ -44,28 +45,33 @@ pub fn read_words(alloc: Global, words: &[String]) -> Result<Ask, UsageFault>
 fn asked_by_subcommand(alloc: Global, matches: &ArgMatches<'_>) -> Result<Ask, UsageFault>
     ensures { Gives result (asked_by_subcommand (subcommand_rows_of matches.now)) }
 {
-    if let Some(given) = matches.subcommand_matches("next") {
-        return asked_by_next(alloc, given);
+    match matches.subcommand() {
+        Some((name, given)) => asked_by_name(alloc, name, given),
+        None => no_subcommand(alloc),
     }
-    if let Some(given) = matches.subcommand_matches("plan") {
-        return asked_by_plan(alloc, given);
+}
+
+// Returns what the subcommand with this name requests.
+fn asked_by_name(alloc: Global, name: &str, given: &ArgMatches<'_>) -> Result<Ask, UsageFault>
+    ensures { Gives result (asked_by_subcommand (Some (name.now, rows_of (found_of given.now)))) }
+{
+    match name {
+        "next" => asked_by_next(alloc, given),
+        "plan" => asked_by_plan(alloc, given),
+        "upcoming" => asked_by_upcoming(alloc, given),
+        "quiet" => asked_by_quiet(alloc, given),
+        "check" => asked_by_check(alloc, given),
+        "steps" => asked_by_steps(alloc, given),
+        "explain" => asked_by_explain(alloc, given),
+        _ => no_subcommand(alloc),
     }
-    if let Some(given) = matches.subcommand_matches("upcoming") {
-        return asked_by_upcoming(alloc, given);
-    }
-    if let Some(given) = matches.subcommand_matches("quiet") {
-        return asked_by_quiet(alloc, given);
-    }
-    if let Some(given) = matches.subcommand_matches("check") {
-        return asked_by_check(alloc, given);
-    }
-    if let Some(given) = matches.subcommand_matches("steps") {
-        return asked_by_steps(alloc, given);
-    }
-    match matches.subcommand_matches("explain") {
-        Some(given) => asked_by_explain(alloc, given),
-        None => Err(UsageFault::Usage(text(alloc, NO_SUBCOMMAND)?)),
-    }
+}
+
+// Returns the error for arguments without a subcommand.
+fn no_subcommand(alloc: Global) -> Result<Ask, UsageFault>
+    ensures { Gives result (Err is_usage) }
+{
+    Err(UsageFault::Usage(text(alloc, NO_SUBCOMMAND)?))
 }
 
 fn asked_by_next(alloc: Global, given: &ArgMatches<'_>) -> Result<Ask, UsageFault>
@@ -90,11 +96,9 @@ fn rule_of(alloc: Global, given: &ArgMatches<'_>) -> Result<Asked, UsageFault>
     ensures { Gives result (one_rule (first_of (codes "cron") (rows_of (found_of given.now)))
         (first_of (codes "calendar") (rows_of (found_of given.now)))) }
 {
-    let cron = text_if_given(alloc, given, "cron")?;
-    let calendar = text_if_given(alloc, given, "calendar")?;
-    match (cron, calendar) {
-        (Some(cron), None) => Ok(Asked::Cron(cron)),
-        (None, Some(calendar)) => Ok(Asked::Event(calendar)),
+    match (value_of(given, "cron"), value_of(given, "calendar")) {
+        (Some(cron), None) => Ok(Asked::Cron(text(alloc, cron)?)),
+        (None, Some(calendar)) => Ok(Asked::Event(text(alloc, calendar)?)),
         _ => Err(UsageFault::Usage(text(alloc, ONE_RULE)?)),
     }
 }

@@ -30,11 +30,8 @@ fn unknown_code(alloc: Global, name: &str) -> Result<Text, AllocError>
     ensures { IfOk result (λ text. text ≡ unknown_code name.now) }
 {
     let codes = Code::all().join(alloc, ", ")?;
-    let mut text = String::new(alloc);
-    text.push_str("error: invalid value '")?;
-    text.push_str(name)?;
-    text.push_str("' for '[CODE]'\n\n  tip: the codes are ")?;
-    text.push_str(codes.as_str())?;
-    text.push_str("\n\nFor more information, try '--help'.\n")?;
+    let text = format!(in alloc;
+        "error: invalid value '{name}' for '[CODE]'\n\n  tip: the codes are {codes}\n\nFor more information, try '--help'.\n"
+    )?;
     Ok(Text::new(text))
 }

@@ -1,5 +1,5 @@
 //! The values of a subcommand's options and arguments.
-ghost use Rattle.std.specs.Prelude.{◌≡◌, IfOk};
+ghost use Rattle.std.specs.Prelude.{◌≡◌, IfOk, option_map};
 ghost use Rattle.clap.specs.Words.{first_of, found_of, one_of, rows_of};
 ghost use Rattle.agenda_words.specs.Arguments.{Gives, is_given, number_in, wanted};
 
@@ -8,7 +8,14 @@ use clap::ArgMatches;
 use plan_texts::Text;
 use std::alloc::{AllocError, Global};
 
-/// Returns the value of an option, if it is given.
+/// Returns the value of an option, if it is given, as `clap` lends it.
+pub(crate) fn value_of<'a>(given: &ArgMatches<'a>, option: &str) -> Option<&'a str>
+    ensures { option_map (λ value. value.now) result ≡ first_of option.now (rows_of (found_of given.now)) }
+{
+    given.get_str(option)
+}
+
+/// Returns a copy of the value of an option, if it is given.
 ///
 /// # Errors
 ///
@@ -20,7 +27,7 @@ pub(crate) fn text_if_given(
 ) -> Result<Option<Text>, AllocError>
     ensures { IfOk result (λ value. first_of option.now (rows_of (found_of given.now)) ≡ value) }
 {
-    match given.get_str(option) {
+    match value_of(given, option) {
         Some(value) => Ok(Some(text(alloc, value)?)),
         None => Ok(None),
     }
@@ -38,7 +45,7 @@ pub(crate) fn text_of(
 ) -> Result<Text, UsageFault>
     ensures { Gives result (wanted (first_of option.now (rows_of (found_of given.now)))) }
 {
-    match given.get_str(option) {
+    match value_of(given, option) {
         Some(value) => Ok(text(alloc, value)?),
         None => Err(UsageFault::Usage(missing(alloc, option)?)),
     }
@@ -66,7 +73,7 @@ pub(crate) fn number_argument(
 pub(crate) fn is_given(given: &ArgMatches<'_>, option: &str) -> bool
     ensures { result ≡ is_given option.now (rows_of (found_of given.now)) }
 {
-    match given.get_str(option) {
+    match value_of(given, option) {
         Some(value) => value == "true",
         None => false,
     }
@@ -75,9 +82,9 @@ pub(crate) fn is_given(given: &ArgMatches<'_>, option: &str) -> bool
 // Returns the text of usage for a missing value. No arguments lead here: `clap` rejects a missing value
 // itself, or uses the default.
 fn missing(alloc: Global, option: &str) -> Result<Text, AllocError> {
-    let mut text = String::from_str(alloc, "error: the option '--")?;
-    text.push_str(option)?;
-    text.push_str("' is missing\n\nFor more information, try '--help'.\n")?;
+    let text = format!(in alloc;
+        "error: the option '--{option}' is missing\n\nFor more information, try '--help'.\n"
+    )?;
     Ok(Text::new(text))
 }
 
