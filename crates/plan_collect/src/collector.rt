@@ -205,7 +205,7 @@ impl Collector {
         if planners < 1 || planners > MOST_PLANNERS {
             return Err(CollectorFault::BadSize);
         }
-        if limit < 1 || limit > MOST_ENTRIES {
+        if !is_limit(limit) {
             return Err(CollectorFault::BadLimit);
         }
         let timings = timings_in(alloc, jobs)?;
@@ -389,6 +389,13 @@ impl Collector {
     {
         self.ended.iter().all(|ended| *ended)
     }
+}
+
+// Returns whether an agenda may have this limit.
+fn is_limit(limit: u64) -> bool
+    ensures { result ≡ is_limit limit }
+{
+    (1..=MOST_ENTRIES).contains(&limit)
 }
 
 // Appends an entry for each start of a job. Memory is allocated first; if that fails, nothing is appended.

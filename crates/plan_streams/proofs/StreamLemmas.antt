@@ -1,9 +1,9 @@
 -- A text that a writer takes in parts: for the loop of `write_bytes`. `IsPartWritten` says how many bytes the writer
 -- took. What was written and what remains are cut at that place, which each write moves on by the bytes that it took.
 -- From `prefix_after` on, for a `TextWriter`: what it took is what was written and then what waits.
-use Rattle.std.proofs.Common.{◌≡◌, ℕ, ◌+◌, ◌-◌, ◌≤◌, List, [], ◌++◌, length, take, drop, Option, Result, Ok, Err, Bool, ap, sym, subst, ◌∙◌, arith, append_assoc, append-nil, take_all, length-append, length-drop}
+use Rattle.std.proofs.Common.{◌≡◌, ℕ, ◌+◌, ◌-◌, ◌≤◌, refl, List, [], ◌++◌, length, take, drop, Option, Result, Ok, Err, Bool, ap, sym, subst, ◌∙◌, arith, append_assoc, append-nil, take_all, length-append, length-drop}
 use Rattle.std.proofs.Math.Seq.{take-add, take-append-add}
-use Rattle.std.proofs.lemmas.List.{drop-drop}
+use Rattle.std.proofs.lemmas.List.{drop-drop, take-append-le}
 use Rattle.std.proofs.KnownBytes.{Appends-trans}
 use Rattle.std.specs.Io.KnownBytes.{Appends}
 use Rattle.plan_streams.specs.Stream.{AppendsPrefix, AppendsAllBut, Puts, PutsAllBut}
@@ -75,4 +75,47 @@ takes_both holds takes_all a b c first second both one more is = (
   more.0 ∙ one.0,
   λ start before taken. subst (HasTaken holds takes_all start c)
       (append_assoc before first second ∙ ap (λ text. before ++ text) is) (more.1 start (before ++ first) (one.1 start before taken)),
+)
+
+-- ---- what a writer takes
+
+-- if more waits, the whole text is longer by it
+waits_more :
+    {E : Type 0} (takes_all : Bool) (state : Result (Unit {0}) E) (old new : Option (List ℕ)) (before waiting text : List ℕ) →
+    PutsAllBut takes_all state old new before waiting → PutsAllBut takes_all state old new (before ++ text) (waiting ++ text)
+waits_more takes_all (Ok done) old new before waiting text so_far = record {
+  front = so_far.front;
+  all = ap (λ xs. xs ++ text) so_far.all ∙ append_assoc so_far.front waiting text;
+  written = so_far.written;
+}
+waits_more takes_all (Err e) old new before waiting text (fails, (k, few, part)) =
+    (fails, (k, omega (arith, length-append before text), subst (Appends old new) (sym (take-append-le k before text few)) part))
+
+-- a writer that changes nothing has taken the empty text
+pub takes_none : {S : Type 0} (holds : S → Option (List ℕ)) (takes_all : Bool) (old : TextWriter S) → Takes holds takes_all old old []
+takes_none holds takes_all old =
+    (refl, λ start before taken. subst (HasTaken holds takes_all start old) (sym (append-nil before)) taken)
+
+-- a writer takes a text that waits after the others
+pub takes_waiting :
+    {S : Type 0} (holds : S → Option (List ℕ)) (takes_all : Bool) (old : TextWriter S) (waiting text : List ℕ) →
+    waiting ≡ old.waiting ++ text → Takes holds takes_all old (record old { waiting = waiting }) text
+takes_waiting holds takes_all old waiting text is = (
+  refl,
+  λ start before taken. subst (PutsAllBut takes_all old.state start (holds old.out.now) (before ++ text)) (sym is)
+      (waits_more takes_all old.state start (holds old.out.now) before old.waiting text taken),
+)
+
+-- a writer takes a text that is written at once, if nothing waits
+pub takes_written :
+    {S : Type 0} (holds : S → Option (List ℕ)) (takes_all : Bool) (old new : TextWriter S) (text : List ℕ) →
+    new.out.ghost_name ≡ old.out.ghost_name → old.waiting ≡ [] → new.waiting ≡ [] →
+    ((start : Option (List ℕ)) → (whole : List ℕ) → PutsAllBut takes_all old.state start (holds old.out.now) whole text
+    → PutsAllBut takes_all new.state start (holds new.out.now) whole []) →
+    Takes holds takes_all old new text
+takes_written holds takes_all old new text same none left put = (
+  same,
+  λ start before taken. subst (PutsAllBut takes_all new.state start (holds new.out.now) (before ++ text)) (sym left)
+      (put start (before ++ text) (waits_more takes_all old.state start (holds old.out.now) before [] text
+      (subst (PutsAllBut takes_all old.state start (holds old.out.now) before) none taken))),
 )

@@ -1,17 +1,19 @@
 -- Whole lines: where a text may be cut before its trailing blanks, and how lines are merged one by one.
 -- For `trimmed`, and for the loop of `joined`. Its invariant adds the lines from a place on (`rest_from`) to the lines
 -- so far. The reversed text gives the blanks at the end. One more line is a case split on whether it is a comment.
-use Rattle.std.proofs.Common.{◌≡◌, ℕ, ◌+◌, ◌-◌, ◌<◌, ◌≤◌, Bool, true, not, cond, List, ◌∷◌, length, drop, get_or, filter, map, reverse, ap, sym, ◌∙◌, arith, inl, inr}
+use Rattle.std.proofs.Common.{◌≡◌, ℕ, ◌+◌, ◌-◌, ◌<◌, ◌≤◌, Bool, true, false, not, cond, List, [], ◌∷◌, ◌++◌, length, take, drop, get_or, filter, map, reverse, Option, Some, None, unwrap_or, string_bytes, refl, ap, sym, ◌∙◌, append_assoc, arith, inl, inr}
 use Rattle.std.proofs.lemmas.Bool.Decides.{nat_tests}
 use Rattle.std.proofs.lemmas.Bool.{cases_lt}
-use Rattle.std.proofs.lemmas.List.{drop_more, drop-map, get_or-reverse}
+use Rattle.std.proofs.lemmas.List.{drop_more, drop-map, get_or-reverse, map-append}
 use Rattle.std.proofs.lemmas.List.Sums.{prefix_len_passes, suffix_len-le-length}
+use Rattle.std.proofs.lemmas.Option.{same_Some, none-some}
 use Rattle.std.proofs.lemmas.Str.{IsCharBoundary-end, IsCharBoundary-before_ascii}
 use Rattle.std.specs.List.{suffix_len, enumerate_from}
 use Rattle.std.specs.Str.{IsUtf8, IsCharBoundary}
 use Rattle.plan_texts.specs.Text.{is_blank}
-use Rattle.plan_texts.specs.WholeLines.{line_text, is_comment, with_line, joined}
-use Rattle.plan_texts.specs.Joining.{with_raw_line}
+use Rattle.plan_texts.specs.WholeLines.{line_text, is_comment, is_joined, with_space, in_front, with_line, joined, whole_text}
+use Rattle.plan_texts.specs.Joining.{resumed, with_raw_line}
+use Rattle.plan_texts.specs.declared.whole_lines.WholeLine.{WholeLine}
 use Rattle.plan_texts.proofs.LinesLemmas.{blank_ascii}
 
 -- the first of the elements at the end that pass the test
@@ -62,3 +64,77 @@ rest_more v lines place d inside =
     ap (λ left. joined (filter (λ l. not (is_comment l.1)) (enumerate_from (place + 1) (map line_text left)))) split
     ∙ comment_or_line (is_comment (line_text line)) (place + 1, line_text line)
     (filter (λ l. not (is_comment l.1)) (enumerate_from (place + 1 + 1) (map line_text (drop (place + 1) (map v lines)))))
+
+-- ---- the state while lines are merged
+
+-- a comment changes nothing
+pub raw_comment :
+    (number : ℕ) (line text : List ℕ) (rest : List (ℕ × List ℕ)) → text ≡ line_text line → is_comment text ≡ true →
+    rest ≡ with_raw_line number line rest
+raw_comment number line text rest is comment = rw (sym is, comment) refl
+
+-- any other line is put in front of those that follow
+pub raw_line :
+    (number : ℕ) (line text : List ℕ) (rest : List (ℕ × List ℕ)) → text ≡ line_text line → is_comment text ≡ false →
+    with_line (number, text) rest ≡ with_raw_line number line rest
+raw_line number line text rest is comment = rw (sym is, comment) refl
+
+-- one more whole line
+pub one_more_whole :
+    (whole : List WholeLine) (line : WholeLine) (rest : List (ℕ × List ℕ)) →
+    map whole_text (whole ++ line ∷ []) ++ rest ≡ map whole_text whole ++ (whole_text line ∷ rest)
+one_more_whole whole line rest =
+    ap (λ front. front ++ rest) (map-append whole_text whole (line ∷ []))
+    ∙ append_assoc (map whole_text whole) (whole_text line ∷ []) rest
+
+front_is : (b : Bool) (text front : List ℕ) → Some front ≡ cond b (Some text) None → (b ≡ true) × (front ≡ text)
+front_is true text front is = (refl, same_Some _ _ is)
+front_is false text front is = absurd (none-some _ (sym is))
+
+none_is : (b : Bool) (text : List ℕ) → None ≡ cond b (Some text) None → b ≡ false
+none_is true text is = absurd (none-some _ is)
+none_is false text is = refl
+
+-- the line that is to be continued, or else a new one without a text, with a text behind it
+held_more :
+    (held : Option WholeLine) (new : WholeLine) (text : List ℕ) (rest : List (ℕ × List ℕ)) → string_bytes new.text ≡ [] →
+    in_front (unwrap_or held new).number (string_bytes (unwrap_or held new).text ++ text) rest
+    ≡ resumed held (in_front new.number text rest)
+held_more None new text rest empty = ap (λ front. in_front new.number (front ++ text) rest) empty
+held_more (Some line) new text [] empty = refl
+held_more (Some line) new text (next ∷ more) empty =
+    ap (λ whole. (line.number, whole) ∷ more) (append_assoc (string_bytes line.text) text next.1)
+
+held_last :
+    (held : Option WholeLine) (new : WholeLine) (text : List ℕ) (rest : List (ℕ × List ℕ)) → string_bytes new.text ≡ [] →
+    ((unwrap_or held new).number, string_bytes (unwrap_or held new).text ++ text) ∷ rest ≡ resumed held ((new.number, text) ∷ rest)
+held_last None new text rest empty = ap (λ front. (new.number, front ++ text) ∷ rest) empty
+held_last (Some line) new text rest empty = refl
+
+-- a text that is continued goes behind that line
+pub continued :
+    (held : Option WholeLine) (new whole : WholeLine) (text front bytes : List ℕ) (rest : List (ℕ × List ℕ)) →
+    string_bytes new.text ≡ [] → whole ≡ unwrap_or held new →
+    Some front ≡ cond (is_joined text) (Some (take (length text - 1) text)) None →
+    bytes ≡ (string_bytes whole.text ++ front) ++ 32 ∷ [] →
+    in_front whole.number bytes rest ≡ resumed held (with_line (new.number, text) rest)
+continued held new whole text front bytes rest empty is cut all =
+    let found = front_is _ _ _ cut in
+    ap (λ bytes. in_front whole.number bytes rest)
+    (all ∙ append_assoc (string_bytes whole.text) front (32 ∷ []) ∙ ap (λ f. string_bytes whole.text ++ (f ++ 32 ∷ [])) found.1)
+    ∙ ap (λ w. in_front w.number (string_bytes w.text ++ with_space text) rest) is
+    ∙ held_more held new (with_space text) rest empty
+    ∙ ap (λ b. resumed held (cond b (in_front new.number (with_space text) rest) ((new.number, text) ∷ rest))) (sym found.0)
+
+-- any other text ends it
+pub ended :
+    (held : Option WholeLine) (new whole : WholeLine) (text bytes : List ℕ) (rest : List (ℕ × List ℕ)) →
+    string_bytes new.text ≡ [] → whole ≡ unwrap_or held new →
+    None ≡ cond (is_joined text) (Some (take (length text - 1) text)) None →
+    bytes ≡ string_bytes whole.text ++ text →
+    (whole.number, bytes) ∷ rest ≡ resumed held (with_line (new.number, text) rest)
+ended held new whole text bytes rest empty is cut all =
+    ap (λ bytes. (whole.number, bytes) ∷ rest) all
+    ∙ ap (λ w. (w.number, string_bytes w.text ++ text) ∷ rest) is
+    ∙ held_last held new text rest empty
+    ∙ ap (λ b. resumed held (cond b (in_front new.number (with_space text) rest) ((new.number, text) ∷ rest))) (sym (none_is _ _ cut))

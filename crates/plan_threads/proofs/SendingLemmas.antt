@@ -4,7 +4,7 @@
 -- by a job.
 use Rattle.std.proofs.Common.{◌≡◌, ℕ, ◌+◌, ◌%◌, ◌<◌, ◌≤◌, ◌⊎◌, true, false, nat_lt, List, [], ◌∷◌, ◌++◌, length, map, drop, get_or, Some, inl, inr, refl, ap, sym, ◌∙◌, arith, append_assoc, append-nil, subst}
 use Rattle.std.specs.Prelude.{slice_get, option_map, Result, Ok, Err, OnErr, IsErrAnd}
-use Rattle.std.proofs.lemmas.Bool.{cases_lt, lt-ltb, le-ltb}
+use Rattle.std.proofs.lemmas.Bool.{cases_lt, cond-false, lt-ltb, le-ltb}
 use Rattle.std.proofs.lemmas.List.{drop_all, drop_more}
 use Rattle.std.proofs.lemmas.Option.{get_or_from_slice_get, slice_get-map, slice_get_within}
 use Rattle.plan_match.specs.declared.rule.Rule.{Rule}
@@ -183,6 +183,11 @@ notes_end task planner job all =
 -- what was to be sent is what was sent and what remains from a job on
 abbrev pub IsSentUpTo : TaskParts → (planner : ℕ) → (sent : List Note) → (count job : ℕ) → Type 0
 IsSentUpTo task planner sent count job = all_notes task planner ≡ sent ++ cut_rest task.limit count (notes_from task planner job)
+
+-- at the start nothing was sent
+pub upto_none : (task : TaskParts) (planner : ℕ) (sent : List Note) → sent ≡ [] → IsSentUpTo task planner sent 0 0
+upto_none task planner sent fresh =
+    sym (ap (λ xs. xs ++ cut_rest task.limit 0 (notes_from task planner 0)) fresh ∙ cond-false _ _ _ (le-ltb task.limit 0 (omega arith)))
 
 pub upto_other :
     (task : TaskParts) (planner : ℕ) (sent : List Note) (count job : ℕ) → IsSentUpTo task planner sent count job →

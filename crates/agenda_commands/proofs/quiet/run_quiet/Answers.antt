@@ -1,3 +1,4 @@
+use Rattle.std.proofs.Common.{refl}
 use Rattle.agenda_commands.specs.Goal.{wide_output}
 use Rattle.agenda_commands.specs.Plan.{checked_sizes}
 use Rattle.agenda_commands.proofs.WrittenLemmas.{at_once, no_fault_of_wide, outputs}
@@ -17,3 +18,6 @@ returns-clause-no_source g c wide none =
     at_once (checked_sizes c.args.planning.now) g.S.Stream.takes_all c.args.format.now c.make_quiet-made.result c.write_made.result
     (g.S.Stream.holds c.args.out.now) (g.S.Stream.holds c.write_made.new.out)
     c.write_made.ensures.output (c.make_quiet-made.ensures.at_once wide)
+
+pub returns-then-least-eq0-clause-bad_least : goal.returns-then-least-eq0-clause-bad_least
+returns-then-least-eq0-clause-bad_least g c = rw c.if-least-eq0.true refl

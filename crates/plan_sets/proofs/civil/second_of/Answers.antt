@@ -1,7 +1,9 @@
 -- A date and time in the supported years has the number of a second before the end.
--- Answers the clauses `range`, `number` and `fields` of `second_of`, and that its cast loses nothing. The number is from 0 up to
--- the end, so the cast keeps it. By `Shows-civil_fields` its civil fields are the given ones.
-use Rattle.std.proofs.Common.{◌∙◌, ◌<ℤ◌, ◌≤ℤ◌, arith, of_z, pos, refl, to_z, unsigned_abs, w64}
+-- Answers the clauses of `second_of`, and that its cast loses nothing. The number is from 0 up to the end, so the cast keeps it.
+-- By `Shows-civil_fields` its civil fields are the given ones.
+use Rattle.std.proofs.Common.{◌∙◌, ◌<ℤ◌, ◌≤ℤ◌, arith, ap, of_z, pos, refl, sym, to_z, unsigned_abs, w64}
+use Rattle.std.specs.Option.{is_some}
+use Rattle.std.proofs.lemmas.Bool.{false≢true}
 use Rattle.jiff_core.proofs.SignedLemmas.{signed_arith}
 use Rattle.plan_sets.specs.Limits.{end_second}
 use Rattle.plan_sets.specs.Civil.{IsDateTime}
@@ -43,3 +45,12 @@ pub returns-clause-fields : goal.returns-clause-fields
 returns-clause-fields c =
     let k = cast c in
     Shows-civil_fields _ _ _ _ _ _ _ k.fits (exists c) (k.same ∙ c.in_ok-number.ensures.number)
+
+pub returns-clause-some : goal.returns-clause-some
+returns-clause-some c = (λ _. ((omega arith, omega arith), exists c), λ _. refl)
+
+pub returns-in_err-number-clause-some : goal.returns-in_err-number-clause-some
+returns-in_err-number-clause-some c = (
+  λ some. absurd (false≢true (sym (ap is_some c.from_residual.ensures) ∙ some)),
+  λ given. absurd (false≢true (c.in_err-number.ensures.some.1 given.1)),
+)

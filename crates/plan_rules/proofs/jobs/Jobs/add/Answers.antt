@@ -1,11 +1,30 @@
 -- For `added` of `Jobs::add`, and for the type's invariant after it. No job has the name, so by the invariant it is no key of the
 -- map, and the map puts the new entry last (`insert_entry-job`). The key is the job's name, and the map has one more entry.
-use Rattle.std.proofs.Common.{◌≡◌, ◌+◌, [], ◌∷◌, ◌++◌, length, false, is_some, string_bytes, subst, ap, sym, ◌∙◌, arith, length-append}
+-- Before that, where a job has the name (`taken`).
+use Rattle.std.proofs.Common.{◌≡◌, ◌+◌, [], ◌∷◌, ◌++◌, length, true, false, is_some, string_bytes, subst, refl, ap, sym, ◌∙◌, true≢false, arith, length-append}
 use Rattle.std.proofs.lemmas.List.{map-append, length-map}
 use Rattle.std.specs.Map.{values_of}
 use Rattle.plan_rules.specs.Jobs.{number_of}
 use Rattle.plan_rules.proofs.JobsLemmas.{KeysAreNames, insert_entry-job, KeysAreNames-push}
 use Rattle.plan_rules.proofs.jobs.Jobs.add.Goals as goal
+use Rattle.plan_rules.proofs.jobs.Jobs.add.Goals.{Then-is_some}
+
+taken : (c : Then-is_some) → is_some (number_of c.args.job.name c.args.self.now) ≡ true
+taken c =
+    ap (λ name. is_some (number_of name c.args.self.now)) (sym c.name.ensures) ∙ ap is_some (sym c.number_of.ensures)
+    ∙ sym c.is_some.ensures ∙ c.if-is_some.true
+
+pub returns-then-is_some-clause-same_name : goal.returns-then-is_some-clause-same_name
+returns-then-is_some-clause-same_name c =
+    let named = taken (goal.at.returns-then-is_some-clause-same_name c).Then-is_some in (λ is. named, λ has. refl)
+
+pub returns-then-is_some-clause-full : goal.returns-then-is_some-clause-full
+returns-then-is_some-clause-full c =
+    let named = taken (goal.at.returns-then-is_some-clause-full c).Then-is_some in
+    (λ is. absurd cc, λ none. absurd (true≢false (sym named ∙ none.0)))
+
+pub returns-then-is_some-clause-handed_back : goal.returns-then-is_some-clause-handed_back
+returns-then-is_some-clause-handed_back c = refl
 
 pub invariant_of-self : goal.invariant_of-self
 invariant_of-self c =

@@ -8,11 +8,13 @@ use Rattle.plan_sets.proofs.moment.Fields.read.Goals as goal
 
 pub returns-clause-some : goal.returns-clause-some
 returns-clause-some c =
+    let text = c.args.text.now in
     let century = AreDigits-two_digits _ _ _ c.in_ok-number.ensures.value in
     let year = AreDigits-two_digits _ _ _ c.in_ok-number-2.ensures.value in
-    let month = AreDigits-two_digits _ _ _ c.in_ok-number-3.ensures.value in
-    let day = AreDigits-two_digits _ _ _ c.in_ok-number-4.ensures.value in
-    let text = c.args.text.now in
+    let month : AreDigits (get_or text 5 0) (get_or text 6 0) c.in_ok-number-3.field-0 =
+    AreDigits-two_digits _ _ _ c.in_ok-number-3.ensures.value in
+    let day : AreDigits (get_or text 8 0) (get_or text 9 0) c.in_ok-number-4.field-0 =
+    AreDigits-two_digits _ _ _ c.in_ok-number-4.ensures.value in
     let long : length text ≡ 20 = omega arith in
     let time = between 10 (length text) text in
     let hour : AreDigits (get_or time 1 0) (get_or time 2 0) c.in_ok-number-5.field-0 =

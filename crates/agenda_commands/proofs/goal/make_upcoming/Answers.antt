@@ -1,0 +1,8 @@
+use Rattle.std.proofs.Common.{ap}
+use Rattle.plan_write.specs.Upcoming.{upcoming_text}
+use Rattle.agenda_commands.proofs.goal.make_upcoming.Goals as goal
+
+pub returns-clause-text : goal.returns-clause-text
+returns-clause-text c =
+    let nexts = c.in_ok-upcoming.upcoming in
+    (nexts, c.in_ok-upcoming.ensures.nexts, ap (upcoming_text c.args.format.now c.args.delays nexts) c.in_ok-ends.ensures.ends)
