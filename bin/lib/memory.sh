@@ -10,3 +10,12 @@ free_memory() {
   fi
   echo "$free"
 }
+
+# Lets `rt ci` give each processor one check at a time, if there are 4 GB for each. Without that number, rt uses
+# estimates of memory, which are so high here that processors stay idle, and the largest crates come last.
+use_all_processors() {
+  if [ -z "${RT_JOBS:-}" ] && [ "$(free_memory)" -ge $((4000000 * $(nproc))) ]; then
+    RT_JOBS=$(nproc)
+    export RT_JOBS
+  fi
+}
