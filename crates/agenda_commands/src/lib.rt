@@ -4,9 +4,10 @@
 //! starts next, `quiet` the gaps without a start, `check` all errors of sources, `steps`, whose module is
 //! `script`, the replies to a script, and `explain` what a code of an error or a warning means.
 //!
-//! The crate uses plan_threads, agenda_sources, agenda_script and agenda_codes, which do the work, and agenda_faults
-//! for the errors. There is a module for each command. Read `plan` first. The module `goal` prepares an answer before
-//! a byte of it is written, and `agenda_of` makes the agenda of jobs.
+//! The crate uses agenda_sources, plan_threads and agenda_script, which do the work, plan_write, agenda_findings and
+//! agenda_codes, which write the texts, and agenda_faults for the errors. There is a module for each command. Read
+//! `plan` first. The module `goal` prepares an answer before a byte of it is written, and `agenda_of` makes the
+//! agenda of jobs. `input` is what jobs are made from, and `laws` says that each error has a code.
 #![tactic(auto)]
 
 mod agenda_of;

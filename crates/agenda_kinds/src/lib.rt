@@ -1,7 +1,8 @@
 //! What a command is asked about: the kinds of sources and their paths, or a rule by itself.
 //!
-//! Read `kind` first, the table of the kinds of sources. agenda_words makes these values from arguments, and
-//! agenda_sources reads what they name.
+//! The crate uses plan_texts, for the texts that it keeps. agenda_words makes these values from arguments,
+//! agenda_answers reads the files that they name, and agenda_sources makes jobs of them. Read `kind` first, the
+//! table of the kinds of sources.
 #![tactic(auto)]
 
 mod asked;

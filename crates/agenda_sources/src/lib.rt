@@ -3,8 +3,8 @@
 //! A source is a user's crontab, the system's crontab, a crontab with a name (of a package or a user), or a
 //! timer file. plan_rules reads each of them, and plan_check finds their errors.
 //!
-//! Read `sources` first, then `reading` and `findings`. The kinds of sources are in agenda_kinds, and `forms` has their forms. `time_zones` are those
-//! of the rules, and `named_zones` finds which zones the sources need.
+//! Read `sources` first, then `reading` and `findings`. The kinds of sources are in agenda_kinds, and `forms` has
+//! their forms. `time_zones` are those of the rules, and `named_zones` finds which zones the sources need.
 #![tactic(auto)]
 
 mod bytes;

@@ -4,7 +4,8 @@
 //! (systemd.timer(5), systemd.syntax(7)). Each takes its text from `file_text` and makes a `job` of each rule. `jobs`
 //! is the list of all jobs, by their names. An `entry` is what one line says by itself. `timer_events` reads the
 //! lines of a timer one after the other, and `crontabs` those of a crontab, so that a caller can report all errors
-//! of a file. `timer_delays` finds how late a timer may start. `timer_zones` finds the `names` of the time zones that the events of a timer end with.
+//! of a file. `timer_lines` says what each line of a timer does. `timer_delays` finds how late a timer may start.
+//! `timer_zones` finds the `names` of the time zones that the events of a timer end with.
 //!
 //! The crate also re-exports names of three crates below it: plan_texts, plan_match and plan_grammar.
 #![tactic(auto)]

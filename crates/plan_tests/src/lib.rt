@@ -1,7 +1,7 @@
-//! Tests of what the crates from plan_sets to plan_write offer and no command of the program shows.
+//! Tests of what the crates from plan_sets to plan_threads offer and no command of the program shows.
 //!
 //! They are about the names of errors, names of timers, collectors, mailboxes, the ends of their rings, a
-//! mailbox behind a lock, and plans. They have a crate of their own, since the gate proves a crate again if it
+//! mailbox behind a lock, planners, and plans. They have a crate of their own, since the gate proves a crate again if it
 //! has tests. What the program shows is tested by the rows in rows/. What writers get of a plan is tested in
 //! the program's crate.
 //!

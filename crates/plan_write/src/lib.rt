@@ -1,12 +1,11 @@
 //! The texts of the answers: of agendas, their gaps, the next starts of jobs and of one rule, and the replies of a
-//! mailbox. Those of findings are in agenda_findings.
+//! mailbox. Those of findings are in agenda_findings, and those of codes in agenda_codes.
 //!
 //! Most of them are text or JSON, and show times in UTC or by the clock of a zone: see `formats`. Agendas and next
 //! starts can show the latest starts too, for jobs that have delays.
 //!
 //! The agendas come from plan_collect and the jobs from plan_rules. Each text goes to a stream by a `TextWriter` of
-//! plan_streams. Read `formats` first, then `agenda`. Each other module has the
-//! text that it is named after.
+//! plan_streams. Read `formats` first, then `agenda`. Each other module has the text that it is named after.
 #![tactic(auto)]
 
 mod agenda;
