@@ -1,6 +1,6 @@
 //! Names, each once.
 
-ghost use Rattle.std.specs.Prelude.{◌≡◌, ◌↔◌, [], IsTrue, OnErr, OnOk, length, slice_get};
+ghost use Rattle.std.specs.Prelude.{◌≡◌, [], OnErr, OnOk, length, slice_get};
 ghost use Rattle.std.specs.List.{list_any};
 ghost use Rattle.std.specs.Option.{option_map};
 ghost use Rattle.std.specs.Str.{bytes_eq};
@@ -39,13 +39,6 @@ impl Names {
         ensures { result ≡ length self.now }
     {
         self.kept.len()
-    }
-
-    /// Returns whether there are no names.
-    pub fn is_empty(&self) -> bool
-        ensures { IsTrue result ↔ (self.now ≡ []) }
-    {
-        self.kept.is_empty()
     }
 
     /// Returns the name at a place, from 0.
