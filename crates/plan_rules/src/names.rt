@@ -1,6 +1,6 @@
 //! Names, each once.
 
-ghost use Rattle.std.specs.Prelude.{◌≡◌, [], OnErr, OnOk, length, slice_get};
+ghost use Rattle.std.specs.Prelude.{◌≡◌, [], OnErr, OnOk, length, slice_get, take};
 ghost use Rattle.std.specs.List.{list_any};
 ghost use Rattle.std.specs.Option.{option_map};
 ghost use Rattle.std.specs.Str.{bytes_eq};
@@ -71,5 +71,12 @@ impl Names {
         let name = String::from_str(alloc, name)?;
         self.kept.insert(name)?;
         Ok(())
+    }
+
+    // Keeps the first names, as many as given, and removes the others.
+    pub(crate) fn truncate(&mut self, len: usize)
+        ensures { self.new ≡ take len self.old }
+    {
+        self.kept.truncate(len);
     }
 }
