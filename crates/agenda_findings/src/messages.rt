@@ -422,7 +422,7 @@ fn problem_text<'a>(cause: RuleCause, wrong: &'a str) -> &'a str
         RuleCause::BadNumber => "not a number of one to four digits",
         RuleCause::BadName => "unknown name",
         RuleCause::Fraction => "fractions are not supported",
-        RuleCause::Zone => "only UTC is supported",
+        RuleCause::Zone => "only UTC is supported without --event-zones",
         RuleCause::UnknownZone => "unknown",
         _ => wrong,
     }
