@@ -490,13 +490,13 @@ fn put_escaped<S: Stream>(text: &[u8], json: bool, lines: &mut TextWriter<'_, S>
     ensures { Takes S.holds S.takes_all lines.old lines.new (text_in json (flat_map escaped text.now)) }
 {
     for byte in text {
-        put_byte(*byte, json, lines);
+        put_escaped_byte(*byte, json, lines);
     }
 }
 
 // Puts a byte of a text in quotes.
 #[tactic(auto, using(crate::proofs::TextLemmas::text_in_both))]
-fn put_byte<S: Stream>(byte: u8, json: bool, lines: &mut TextWriter<'_, S>)
+fn put_escaped_byte<S: Stream>(byte: u8, json: bool, lines: &mut TextWriter<'_, S>)
     ensures { Takes S.holds S.takes_all lines.old lines.new (text_in json (escaped byte)) }
 {
     if byte == b'\\' {
