@@ -293,14 +293,14 @@ END
 # The messages about zones that aren't in the database. The zone comes before the other parts, and up to 64 bytes are quoted.
 event_zones_messages <<END
 12:00||
-12:00 Mars|error: time zone in '12:00 Mars': only UTC is supported [Zone]|error: time zone in '12:00 Mars': unknown [Zone]
-24:00  Nowhere/City|error: time zone in '24:00  Nowhere/City': only UTC is supported [Zone]|error: time zone in '24:00  Nowhere/City': unknown [Zone]
-Mon Tue|error: time zone in 'Mon Tue': only UTC is supported [Zone]|error: time zone in 'Mon Tue': unknown [Zone]
-12:00 Europe//Oslo|error: time zone in '12:00 Europe//Oslo': only UTC is supported [Zone]|error: time zone in '12:00 Europe//Oslo': unknown [Zone]
-12:00 \\\\\nU\x01|error: time zone in '12:00  U\x01': only UTC is supported [Zone]|error: time zone in '12:00  U\x01': unknown [Zone]
-12:00 a\x5cb|error: time zone in '12:00 a\\\\b': only UTC is supported [Zone]|error: time zone in '12:00 a\\\\b': unknown [Zone]
-Mon  $(event_zones_repeat 59 x)|error: time zone in 'Mon  $(event_zones_repeat 59 x)': only UTC is supported [Zone]|error: time zone in 'Mon  $(event_zones_repeat 59 x)': unknown [Zone]
-Mon  $(event_zones_repeat 60 x)|error: time zone in 'Mon  $(event_zones_repeat 59 x)'...: only UTC is supported [Zone]|error: time zone in 'Mon  $(event_zones_repeat 59 x)'...: unknown [Zone]
+12:00 Mars|error: time zone in '12:00 Mars': only UTC is supported without --event-zones [Zone]|error: time zone in '12:00 Mars': unknown [Zone]
+24:00  Nowhere/City|error: time zone in '24:00  Nowhere/City': only UTC is supported without --event-zones [Zone]|error: time zone in '24:00  Nowhere/City': unknown [Zone]
+Mon Tue|error: time zone in 'Mon Tue': only UTC is supported without --event-zones [Zone]|error: time zone in 'Mon Tue': unknown [Zone]
+12:00 Europe//Oslo|error: time zone in '12:00 Europe//Oslo': only UTC is supported without --event-zones [Zone]|error: time zone in '12:00 Europe//Oslo': unknown [Zone]
+12:00 \\\\\nU\x01|error: time zone in '12:00  U\x01': only UTC is supported without --event-zones [Zone]|error: time zone in '12:00  U\x01': unknown [Zone]
+12:00 a\x5cb|error: time zone in '12:00 a\\\\b': only UTC is supported without --event-zones [Zone]|error: time zone in '12:00 a\\\\b': unknown [Zone]
+Mon  $(event_zones_repeat 59 x)|error: time zone in 'Mon  $(event_zones_repeat 59 x)': only UTC is supported without --event-zones [Zone]|error: time zone in 'Mon  $(event_zones_repeat 59 x)': unknown [Zone]
+Mon  $(event_zones_repeat 60 x)|error: time zone in 'Mon  $(event_zones_repeat 59 x)'...: only UTC is supported without --event-zones [Zone]|error: time zone in 'Mon  $(event_zones_repeat 59 x)'...: unknown [Zone]
 %H:00 Mars|error: specifiers in '%H:00 Mars' are not expanded [Specifier]|error: specifiers in '%H:00 Mars' are not expanded [Specifier]
 24:00 UTC|error: hour in '24:00 UTC': out of range 0-23 [OutOfRange]|error: hour in '24:00 UTC': out of range 0-23 [OutOfRange]
 Europe/Oslo|error: weekday in 'Europe/Oslo': unknown name [BadName]|error: weekday in 'Europe/Oslo': unknown name [BadName]
@@ -496,10 +496,10 @@ END
 2024-01-15T17:00:00Z|some.timer|some.service
 END
   event_zones_both 1 plan "${event_zones_day[@]}" --keep-going mixed.timer berlin.timer <<'END'
-! mixed.timer:2: error: time zone in '02:00 Asia/Tokyo': only UTC is supported [Zone]
-! mixed.timer:5: error: time zone in '05:00 America/New_York': only UTC is supported [Zone]
-! mixed.timer:7: error: time zone in '04:00 Asia/Tokyo': only UTC is supported [Zone]
-! berlin.timer:2: error: time zone in '10:00 Europe/Berlin': only UTC is supported [Zone]
+! mixed.timer:2: error: time zone in '02:00 Asia/Tokyo': only UTC is supported without --event-zones [Zone]
+! mixed.timer:5: error: time zone in '05:00 America/New_York': only UTC is supported without --event-zones [Zone]
+! mixed.timer:7: error: time zone in '04:00 Asia/Tokyo': only UTC is supported without --event-zones [Zone]
+! berlin.timer:2: error: time zone in '10:00 Europe/Berlin': only UTC is supported without --event-zones [Zone]
 2024-01-15T03:00:00Z|mixed.timer|mixed.service
 2024-01-15T04:00:00Z|mixed.timer|mixed.service
 2024-01-15T07:00:00Z|mixed.timer|mixed.service
@@ -533,14 +533,14 @@ END
 event_zones_of_findings() {
   local zone
   event_zones_messages <<'END'
-daily Europe/Oslo|error: time zone in 'daily Europe/Oslo': only UTC is supported [Zone]|
-12:00 europe/oslo|error: time zone in '12:00 europe/oslo': only UTC is supported [Zone]|error: time zone in '12:00 europe/oslo': unknown [Zone]
-24:00 Europe/Oslo|error: time zone in '24:00 Europe/Oslo': only UTC is supported [Zone]|error: hour in '24:00 Europe/Oslo': out of range 0-23 [OutOfRange]
-Foo 12:00 Europe/Oslo|error: time zone in 'Foo 12:00 Europe/Oslo': only UTC is supported [Zone]|error: weekday in 'Foo 12:00 Europe/Oslo': unknown name [BadName]
-*:0/25 Europe/Oslo|error: time zone in '*:0/25 Europe/Oslo': only UTC is supported [Zone]|warning: systemd 252 may pass over starts of '*:0/25 Europe/Oslo': give the step an end [SkippedStarts]
-2011-12-30 12:00 Pacific/Apia|error: time zone in '2011-12-30 12:00 Pacific/Apia': only UTC is supported [Zone]|warning: never starts [NeverStarts]
-12:00 \\\nEurope/Oslo\r|error: time zone in '12:00  Europe/Oslo': only UTC is supported [Zone]|
-12:00 Europe/Oslo\r\r|error: time zone in '12:00 Europe/Oslo\x0d': only UTC is supported [Zone]|error: time zone in '12:00 Europe/Oslo\x0d': unknown [Zone]
+daily Europe/Oslo|error: time zone in 'daily Europe/Oslo': only UTC is supported without --event-zones [Zone]|
+12:00 europe/oslo|error: time zone in '12:00 europe/oslo': only UTC is supported without --event-zones [Zone]|error: time zone in '12:00 europe/oslo': unknown [Zone]
+24:00 Europe/Oslo|error: time zone in '24:00 Europe/Oslo': only UTC is supported without --event-zones [Zone]|error: hour in '24:00 Europe/Oslo': out of range 0-23 [OutOfRange]
+Foo 12:00 Europe/Oslo|error: time zone in 'Foo 12:00 Europe/Oslo': only UTC is supported without --event-zones [Zone]|error: weekday in 'Foo 12:00 Europe/Oslo': unknown name [BadName]
+*:0/25 Europe/Oslo|error: time zone in '*:0/25 Europe/Oslo': only UTC is supported without --event-zones [Zone]|warning: systemd 252 may pass over starts of '*:0/25 Europe/Oslo': give the step an end [SkippedStarts]
+2011-12-30 12:00 Pacific/Apia|error: time zone in '2011-12-30 12:00 Pacific/Apia': only UTC is supported without --event-zones [Zone]|warning: never starts [NeverStarts]
+12:00 \\\nEurope/Oslo\r|error: time zone in '12:00  Europe/Oslo': only UTC is supported without --event-zones [Zone]|
+12:00 Europe/Oslo\r\r|error: time zone in '12:00 Europe/Oslo\x0d': only UTC is supported without --event-zones [Zone]|error: time zone in '12:00 Europe/Oslo\x0d': unknown [Zone]
 END
 
   # events that never start in their own zone, and neighbours that do

@@ -300,7 +300,7 @@ a.timer|[Timer]\nOnCalendar=25:00\nOnCalendar=daily\n|a.timer a.service|:2: erro
 a.timer|[Timer]\nOnCalendar=*-*-5..3\nOnCalendar=daily\n|a.timer a.service|:2: error: day in '*-*-5..3': range runs backwards [Backwards]
 a.timer|[Timer]\nOnCalendar=*:0/0\nOnCalendar=daily\n|a.timer a.service|:2: error: minute in '*:0/0': step of zero [ZeroStep]
 a.timer|[Timer]\nOnCalendar=12:00:00.5\nOnCalendar=daily\n|a.timer a.service|:2: error: second in '12:00:00.5': fractions are not supported [Fraction]
-a.timer|[Timer]\nOnCalendar=12:00 Mars\nOnCalendar=daily\n|a.timer a.service|:2: error: time zone in '12:00 Mars': only UTC is supported [Zone]
+a.timer|[Timer]\nOnCalendar=12:00 Mars\nOnCalendar=daily\n|a.timer a.service|:2: error: time zone in '12:00 Mars': only UTC is supported without --event-zones [Zone]
 ROWS
 
 # A timer without a valid event has a job that never starts. An empty value removes the events before it, and their

@@ -180,8 +180,8 @@ fortnightly|error: 'fortnightly' is not a calendar event [UnknownWord]
 Mo|error: 'Mo' is not a calendar event [UnknownWord]
 %i|error: specifiers in '%i' are not expanded [Specifier]
 Mon *-*-* %H:00|error: specifiers in 'Mon *-*-* %H:00' are not expanded [Specifier]
-daily Europe/Oslo|error: time zone in 'daily Europe/Oslo': only UTC is supported [Zone]
-12:00 CET|error: time zone in '12:00 CET': only UTC is supported [Zone]
+daily Europe/Oslo|error: time zone in 'daily Europe/Oslo': only UTC is supported without --event-zones [Zone]
+12:00 CET|error: time zone in '12:00 CET': only UTC is supported without --event-zones [Zone]
 Mon,,Tue 12:00|error: weekday in 'Mon,,Tue 12:00': empty value, or a step after * [WrongParts]
 Mon.. 12:00|error: weekday in 'Mon.. 12:00': empty value, or a step after * [WrongParts]
 Foo 12:00|error: weekday in 'Foo 12:00': unknown name [BadName]
@@ -236,9 +236,9 @@ Mon 1969-13-32 24:60:60|error: year in 'Mon 1969-13-32 24:60:60': out of range 1
 2024-1-1 24:60:60|error: hour in '2024-1-1 24:60:60': out of range 0-23 [OutOfRange]
 0:60:60 UTC|error: minute in '0:60:60 UTC': out of range 0-59 [OutOfRange]
 0:0:60 utc|error: second in '0:0:60 utc': out of range 0-59 [OutOfRange]
-24:00 CET|error: time zone in '24:00 CET': only UTC is supported [Zone]
+24:00 CET|error: time zone in '24:00 CET': only UTC is supported without --event-zones [Zone]
 24:00 % CET|error: specifiers in '24:00 % CET' are not expanded [Specifier]
-12 Mon|error: time zone in '12 Mon': only UTC is supported [Zone]
+12 Mon|error: time zone in '12 Mon': only UTC is supported without --event-zones [Zone]
 12 UTC|error: '12 UTC' is not a calendar event [WrongParts]
 ROWS
 
@@ -296,7 +296,7 @@ Mon\t \t\\\n\t25:00|error: hour in 'Mon\x09 \x09 25:00': out of range 0-23 [OutO
 täglich 12:00|error: weekday in 'täglich 12:00': unknown name [BadName]
 %\x5c\x1b|error: specifiers in '%\\\x1b' are not expanded [Specifier]
 12:00 \x5cUTC|error: '12:00 \\UTC' is not a calendar event [WrongParts]
-12:00 U\x01|error: time zone in '12:00 U\x01': only UTC is supported [Zone]
+12:00 U\x01|error: time zone in '12:00 U\x01': only UTC is supported without --event-zones [Zone]
 ROWS
 
 # Up to 64 bytes are quoted. Of a longer text, the characters that fit into 64 bytes are quoted, and three dots
@@ -338,8 +338,8 @@ messages_of_events <<ROWS
 $(messages_repeat 30 0,)24:0|error: hour in '$(messages_repeat 30 0,)24:0': out of range 0-23 [OutOfRange]
 $(messages_repeat 30 0,)24:00|error: hour in '$(messages_repeat 30 0,)24:0'...: out of range 0-23 [OutOfRange]
 $(messages_repeat 30 0,)24:0:0|error: hour in '$(messages_repeat 30 0,)24:0'...: out of range 0-23 [OutOfRange]
-Mon  $(messages_repeat 59 x)|error: time zone in 'Mon  $(messages_repeat 59 x)': only UTC is supported [Zone]
-Mon  $(messages_repeat 60 x)|error: time zone in 'Mon  $(messages_repeat 59 x)'...: only UTC is supported [Zone]
+Mon  $(messages_repeat 59 x)|error: time zone in 'Mon  $(messages_repeat 59 x)': only UTC is supported without --event-zones [Zone]
+Mon  $(messages_repeat 60 x)|error: time zone in 'Mon  $(messages_repeat 59 x)'...: only UTC is supported without --event-zones [Zone]
 $(messages_repeat 64 x)|error: '$(messages_repeat 64 x)' is not a calendar event [UnknownWord]
 $(messages_repeat 65 x)|error: '$(messages_repeat 64 x)'... is not a calendar event [UnknownWord]
 $(messages_repeat 64 1)|error: '$(messages_repeat 64 1)' is not a calendar event [WrongParts]

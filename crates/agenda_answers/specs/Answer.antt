@@ -21,7 +21,8 @@ use Rattle.agenda_kinds.specs.declared.SourcePath.{SourcePath}
 use Rattle.plan_collect.specs.Span.{Bounds}
 use Rattle.plan_collect.specs.declared.SpanFault.TheVariants.{Backwards}
 use Rattle.agenda_faults.specs.FaultLines.{fault_text}
-use Rattle.agenda_faults.specs.Faults.{refused_status, status_of}
+use Rattle.agenda_faults.specs.Faults.{status_of}
+use Rattle.agenda_faults.specs.Status.{done_status, refused_status}
 use Rattle.agenda_answers.specs.Files.{Held, whole_of}
 use Rattle.agenda_answers.specs.Formats.{format_made}
 use Rattle.agenda_answers.specs.Sources.{input_of, rule_zones}
@@ -83,9 +84,9 @@ prints status IsText IsRefused (Err other) = ⊥
 abbrev pub outputs : (status : ℕ) → Result (List ℕ) RunFault → Step Printed
 outputs status output = prints status (IsTextOf output) (IsFaultOf output)
 
--- the same for a command that checks a number before it requests memory, with status 0
+-- the same for a command that checks a number before it requests memory, with the status of success
 abbrev pub outputs_if : (number : Result ℕ RunFault) → Result (List ℕ) RunFault → Step Printed
-outputs_if number output = prints 0 (IsTextOf output) (λ fault. IsFaultOf output fault × IfErr number (λ found. fault ≡ found))
+outputs_if number output = prints done_status (IsTextOf output) (λ fault. IsFaultOf output fault × IfErr number (λ found. fault ≡ found))
 
 -- `next`: the timestamp is read first, then the zones, then the count and the rule
 abbrev pub next_ends : Held → NextRequest → Step Printed
@@ -103,7 +104,7 @@ planning_of request span = record { span = span; sizes = request.sizes; delays =
 abbrev pub plan_after : PlanRequest → Bounds → Input → Step Printed
 plan_after request span input = do
   format ← format_made request.jobs.format request.jobs.zones.zone input.zones.clock
-  outputs 0 (plan_output input.zones input.sources (planning_of request span) format)
+  outputs done_status (plan_output input.zones input.sources (planning_of request span) format)
 
 -- `plan`: the span is read first, then the zone, then the files, and then the plan is made
 abbrev pub plan_ends : Held → PlanRequest → Step Printed
@@ -116,7 +117,7 @@ plan_ends held request = do
 abbrev pub upcoming_after : JobsRequest → (moment : ℕ) → Input → Step Printed
 upcoming_after jobs moment input = do
   format ← format_made jobs.format jobs.zones.zone input.zones.clock
-  prints 0 (IsTextOfUpcoming input.zones input.sources moment jobs.delays format) (RefusesUpcoming input.zones input.sources)
+  prints done_status (IsTextOfUpcoming input.zones input.sources moment jobs.delays format) (RefusesUpcoming input.zones input.sources)
 
 -- `upcoming`: the timestamp is read first, then the zone, then the files, and then their texts
 abbrev pub upcoming_ends : Held → List ℕ → JobsRequest → Step Printed
@@ -140,7 +141,7 @@ quiet_ends held request least = do
 
 -- the exit status of `check`
 abbrev pub status_on : Verdict → ℕ
-status_on Clean = 0
+status_on Clean = done_status
 status_on Refused = refused_status
 
 -- `check`: the zone is read first, then the files and the zones of events; after that only an allocation can fail
@@ -153,11 +154,11 @@ check_ends held zones paths json = do
 abbrev pub steps_ends : Held → List ℕ → Step Printed
 steps_ends held file = do
   script ← whole_of (held file) (File file)
-  prints 0 (IsTextOfRun script) (RefusesRun script)
+  prints done_status (IsTextOfRun script) (RefusesRun script)
 
 -- `explain`: no file is read
 abbrev pub explain_ends : Option Code → Step Printed
-explain_ends code = outputs 0 (explain_output code)
+explain_ends code = outputs done_status (explain_output code)
 
 -- ---- the answer
 
@@ -173,7 +174,7 @@ ask_ends held (Explain code) = explain_ends code
 
 -- arguments that request no command: help is printed, and invalid arguments are a failure by themselves
 abbrev pub usage_ends : UsageFault → Step Printed
-usage_ends (usage.Help help) = gives (record { text = help; status = 0 })
+usage_ends (usage.Help help) = gives (record { text = help; status = done_status })
 usage_ends (usage.Usage text) = fails (Usage text)
 usage_ends usage.NoMemory = fails (Run run.NoMemory)
 

@@ -6,6 +6,7 @@ use Rattle.agenda_words.specs.declared.JobsRequest.{JobsRequest}
 use Rattle.agenda_faults.specs.declared.faults.RunFault.{RunFault}
 use Rattle.agenda_faults.specs.declared.faults.Failure.{Failure}
 use Rattle.agenda_faults.specs.declared.faults.Failure.TheVariants.{Run}
+use Rattle.agenda_faults.specs.Status.{done_status}
 use Rattle.agenda_commands.specs.declared.Goal.{Goal}
 use Rattle.agenda_commands.specs.declared.Goal.TheVariants.{Plan, Quiet, Upcoming}
 use Rattle.agenda_commands.specs.declared.Input.{Input}
@@ -22,14 +23,14 @@ use Rattle.agenda_answers.specs.Steps.{Step, fails, ◌>>=◌}
 
 -- the exit status after a command that prints a text, or its failure
 abbrev pub status_after : {A : Type 0} → Result A RunFault → Result ℕ Failure
-status_after (Ok done) = Ok 0
+status_after (Ok done) = Ok done_status
 status_after (Err fault) = Err (Run fault)
 
 -- what the command with a goal prints, in a format, once the zone and the files were read
 abbrev pub goal_prints : Goal → Input → Format → Step Printed
-goal_prints (Plan planning) input format = outputs 0 (plan_output input.zones input.sources planning format)
+goal_prints (Plan planning) input format = outputs done_status (plan_output input.zones input.sources planning format)
 goal_prints (Upcoming after delays) input format =
-    prints 0 (IsTextOfUpcoming input.zones input.sources after delays format) (RefusesUpcoming input.zones input.sources)
+    prints done_status (IsTextOfUpcoming input.zones input.sources after delays format) (RefusesUpcoming input.zones input.sources)
 goal_prints (Quiet planning least) input format =
     outputs_if (valid_least least) (quiet_output input.zones input.sources planning least format)
 

@@ -8,7 +8,7 @@ use Rattle.agenda_faults.specs.declared.faults.RunFault.{RunFault}
 use Rattle.agenda_faults.specs.declared.faults.RunFault.TheVariants.{NoMemory}
 use Rattle.agenda_faults.specs.declared.faults.Failure.{Failure}
 use Rattle.agenda_faults.specs.declared.faults.Failure.TheVariants.{After, Run}
-use Rattle.agenda_faults.specs.Faults.{failed_status, refused_status}
+use Rattle.agenda_faults.specs.Status.{done_status, failed_status, refused_status}
 use Rattle.agenda_sources.specs.declared.Found.{Found}
 use Rattle.agenda_kinds.specs.declared.SourcePath.{SourcePath}
 use Rattle.agenda_sources.specs.Findings.{kept_jobs, sources_errors}
@@ -95,7 +95,7 @@ lines_of_skipped kept = skipped_text kept.unread kept.paths kept.errors
 
 -- the exit status of an answer: whether a file can't be read, and whether there is an error
 abbrev pub skipped_status : (unread : List SourcePath) → (errors : List Found) → ℕ
-skipped_status [] [] = 0
+skipped_status [] [] = done_status
 skipped_status [] (error ∷ more) = refused_status
 skipped_status (path ∷ more) errors = failed_status
 

@@ -12,12 +12,12 @@ use crate::files::{Files, read_path};
 use crate::formats::make_format;
 use crate::keeping::keep_going;
 use crate::sources::{read_input, read_rule_zones};
-use crate::status::{DONE, REFUSED};
 use agenda_codes::Code;
 use agenda_commands::{
     Goal, Input, Planning, Verdict, run_check, run_explain, run_next, run_plan, run_quiet,
     run_script, run_upcoming,
 };
+use agenda_faults::status::{DONE, REFUSED};
 use agenda_faults::{Failure, RunFault, fault_line};
 use agenda_kinds::{SourcePath, SourcePaths};
 use agenda_words::{

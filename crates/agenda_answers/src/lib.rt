@@ -10,7 +10,6 @@ mod files;
 mod formats;
 mod keeping;
 mod sources;
-mod status;
 mod zone;
 
 pub use answers::{answer, answer_arguments, unread_arguments};

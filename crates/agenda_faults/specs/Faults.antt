@@ -1,4 +1,4 @@
--- The errors of a command, and the exit statuses.
+-- The errors of a command, and the exit status of each.
 use Rattle.std.specs.Prelude.{ℕ}
 use Rattle.plan_rules.specs.declared.RuleCause.{RuleCause}
 use Rattle.plan_rules.specs.declared.RuleFault.{RuleFault}
@@ -20,6 +20,7 @@ use Rattle.plan_zones.specs.declared.zone_fault.ZoneFault.TheVariants as zone
 use Rattle.agenda_script.specs.declared.fault.ScriptCause.{ScriptCause}
 use Rattle.agenda_script.specs.declared.fault.ScriptCause.TheVariants as script
 use Rattle.agenda_script.specs.declared.fault.ScriptFault.{ScriptFault}
+use Rattle.agenda_faults.specs.Status.{failed_status, refused_status, usage_status}
 
 -- the error of a rule, by its cause
 abbrev pub fault_by_cause : RuleCause → RuleFault → RunFault
@@ -55,18 +56,6 @@ fault_of_plan fault = Plan fault
 abbrev pub failure_of_zone : ZoneFault → Failure
 failure_of_zone zone.NoMemory = Run NoMemory
 failure_of_zone fault = Zone fault
-
--- input, a size, a count or a limit is rejected (agenda)
-abbrev pub refused_status : ℕ
-refused_status = 1
-
--- the arguments are invalid (agenda)
-abbrev pub usage_status : ℕ
-usage_status = 2
-
--- an allocation, a device or a file failed, or it isn't known what a planner sent (agenda)
-abbrev pub failed_status : ℕ
-failed_status = 3
 
 -- the status for a rule: NoMemory counts as a failed allocation (agenda)
 abbrev pub rule_status : RuleCause → ℕ

@@ -3,6 +3,7 @@
 ghost use Rattle.std.specs.Prelude.{◌≡◌};
 ghost use Rattle.agenda_faults.specs.Faults.{line_status, plan_status, rule_status, script_status, zone_status};
 
+use crate::status::{FAILED, REFUSED, USAGE};
 use agenda_script::{ScriptCause, ScriptFault};
 use agenda_sources::SourceFault;
 use plan_collect::{CollectFault, PlanFault, SpanFault};
@@ -212,15 +213,6 @@ impl From<ZoneFault> for Failure {
         }
     }
 }
-
-// The status if input, a size, a count or a limit is rejected.
-const REFUSED: u8 = 1;
-
-// The status if the arguments are invalid.
-const USAGE: u8 = 2;
-
-// The status if an allocation, a device or a file failed, or if the planners' accounts don't agree.
-const FAILED: u8 = 3;
 
 impl Failure {
     ghost use Rattle.agenda_faults.specs.Faults.{status_of};

@@ -1,11 +1,12 @@
 //! What the program says when it fails: the error, its line on standard error, and the exit status.
 //!
-//! The errors are those of the crates below, and plan_streams writes the line. Read `faults` first, then
-//! `fault_lines`.
+//! The errors are those of the crates below, and plan_streams writes the line. Read `status` and `faults`
+//! first, then `fault_lines`.
 #![tactic(auto)]
 
 mod fault_lines;
 mod faults;
+pub mod status;
 
 pub use fault_lines::fault_line;
 pub use faults::{Failure, RunFault};

@@ -89,7 +89,7 @@ problem_text (rule.Values set.ZeroStep) wrong = codes "step of zero"
 problem_text rule.BadNumber wrong = codes "not a number of one to four digits"
 problem_text rule.BadName wrong = codes "unknown name"
 problem_text rule.Fraction wrong = codes "fractions are not supported"
-problem_text rule.Zone wrong = codes "only UTC is supported"
+problem_text rule.Zone wrong = codes "only UTC is supported without --event-zones"
 problem_text rule.UnknownZone wrong = codes "unknown"
 problem_text other wrong = wrong
 

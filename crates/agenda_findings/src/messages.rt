@@ -422,7 +422,7 @@ fn problem_text<'a>(cause: RuleCause, wrong: &'a str) -> &'a str
         RuleCause::BadNumber => "not a number of one to four digits",
         RuleCause::BadName => "unknown name",
         RuleCause::Fraction => "fractions are not supported",
-        RuleCause::Zone => "only UTC is supported",
+        RuleCause::Zone => "only UTC is supported without --event-zones",
         RuleCause::UnknownZone => "unknown",
         _ => wrong,
     }
@@ -490,13 +490,13 @@ fn put_escaped<S: Stream>(text: &[u8], json: bool, lines: &mut TextWriter<'_, S>
     ensures { Takes S.holds S.takes_all lines.old lines.new (text_in json (flat_map escaped text.now)) }
 {
     for byte in text {
-        put_byte(*byte, json, lines);
+        put_escaped_byte(*byte, json, lines);
     }
 }
 
 // Puts a byte of a text in quotes.
 #[tactic(auto, using(crate::proofs::TextLemmas::text_in_both))]
-fn put_byte<S: Stream>(byte: u8, json: bool, lines: &mut TextWriter<'_, S>)
+fn put_escaped_byte<S: Stream>(byte: u8, json: bool, lines: &mut TextWriter<'_, S>)
     ensures { Takes S.holds S.takes_all lines.old lines.new (text_in json (escaped byte)) }
 {
     if byte == b'\\' {

@@ -1,6 +1,6 @@
 //! The names of the time zones that calendar events end with (systemd.time(7)).
 
-ghost use Rattle.std.specs.Prelude.{◌≡◌, [], IfOk, OnOk, option_map};
+ghost use Rattle.std.specs.Prelude.{◌≡◌, [], IfOk, OnErr, OnOk, option_map};
 ghost use Rattle.plan_rules.specs.Names.{with_found, with_names};
 ghost use Rattle.agenda_sources.specs.ZoneNames.{asked_zones, source_zones, zone_names};
 
@@ -30,9 +30,10 @@ pub fn zone_names(alloc: Global, sources: &Sources) -> Result<Names, AllocError>
     Ok(names)
 }
 
-// Adds the names of the zones of a source's events.
+// Adds the names of the zones of a source's events. If an allocation fails, the names are unchanged.
 fn add_source_zones(alloc: Global, names: &mut Names, source: &Source) -> Result<(), AllocError>
-    ensures { OnOk result (names.new ≡ with_names names.old (source_zones source.now)) }
+    ensures added { OnOk result (names.new ≡ with_names names.old (source_zones source.now)) }
+    ensures unchanged { OnErr result (names.new ≡ names.old) }
 {
     match form_of(source.kind) {
         Form::Timer => add_timer_zones(alloc, names, source.bytes.as_slice()),

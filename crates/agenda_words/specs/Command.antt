@@ -1,16 +1,16 @@
 -- The command line of the program, as it is described to clap.
-use Rattle.std.specs.Prelude.{ℕ, true, pos, List, [], ◌∷◌, ◌++◌, map, Some, codes}
+use Rattle.std.specs.Prelude.{ℕ, Bool, false, true, pos, List, [], ◌∷◌, ◌++◌, map, Some, codes}
 use Rattle.clap.specs.Words.{App, Rule, new_app, new_rule, with_rule, with_subcommand}
 use Rattle.clap.specs.Simple.{on_top}
 use Rattle.clap.specs.declared.builder.action.ArgAction.TheVariants.{Append, SetTrue}
 use Rattle.clap.specs.declared.builder.value_parser.ValueParser.TheVariants as parser
 use Rattle.agenda_kinds.specs.declared.SourceKind.{SourceKind}
-use Rattle.agenda_kinds.specs.declared.SourceKind.TheVariants.{Crontab, System, CronD, Spool, Timer}
+use Rattle.agenda_kinds.specs.declared.SourceKind.TheVariants.{Timer}
 use Rattle.agenda_words.specs.declared.command.CommandOption.{CommandOption}
 use Rattle.agenda_words.specs.declared.command.CommandOption.TheVariants.{Flag, Text, Moment, Number, Tuning}
 use Rattle.agenda_words.specs.declared.command.Subcommand.{Subcommand}
 use Rattle.agenda_words.specs.declared.command.Subcommand.TheVariants as each
-use Rattle.agenda_kinds.specs.Kind.{kinds, option_of}
+use Rattle.agenda_kinds.specs.Kind.{is_many, kinds, option_of}
 
 -- an argument `VALUE`, which is optional (agenda)
 abbrev pub argument_named : List ℕ → Rule
@@ -55,14 +55,20 @@ file_argument = record (argument_named (codes "file")) { required = true }
 abbrev pub code_argument : Rule
 code_argument = argument_named (codes "code")
 
+-- an argument that may be given any number of times, if `many` (agenda)
+abbrev pub with_count : (many : Bool) → Rule → Rule
+with_count false rule = rule
+with_count true rule = record rule { action = Some Append }
+
+-- what gives the path of a source of a kind: the argument `TIMER`, or an option (agenda)
+abbrev pub path_rule : SourceKind → Rule
+path_rule Timer = argument_named (option_of Timer)
+path_rule kind = option_named (option_of kind)
+
 -- what names sources of a kind: `--crontab F`, `--system-crontab F`, and, any number of times, `--cron-d F`,
 -- `--spool F` and `TIMER` (agenda)
 abbrev pub source_rule : SourceKind → Rule
-source_rule Crontab = option_named (option_of Crontab)
-source_rule System = option_named (option_of System)
-source_rule CronD = record (option_named (option_of CronD)) { action = Some Append }
-source_rule Spool = record (option_named (option_of Spool)) { action = Some Append }
-source_rule Timer = record (argument_named (option_of Timer)) { action = Some Append }
+source_rule kind = with_count (is_many kind) (path_rule kind)
 
 -- a command with these arguments added, one after the other (agenda)
 abbrev pub with_each : App → List Rule → App

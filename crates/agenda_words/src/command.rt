@@ -3,7 +3,7 @@ ghost use Rattle.std.specs.Prelude.{◌≡◌, [], ◌∷◌, IfOk, false, map};
 ghost use Rattle.clap.specs.Words.{app_of, items_of, new_app, rule_of, with_rule, with_subcommand};
 ghost use Rattle.clap.specs.declared.builder.command.Command.TheViews.{out-Command};
 ghost use Rattle.agenda_words.specs.Command.{agenda, agenda_alone, app_for, argument_named, check, code_argument, explain, file_argument};
-ghost use Rattle.agenda_words.specs.Command.{flag_option, moment_option, next, number_option, option_named, plan, quiet, rule_for};
+ghost use Rattle.agenda_words.specs.Command.{flag_option, moment_option, next, number_option, option_named, path_rule, plan, quiet, rule_for};
 ghost use Rattle.agenda_words.specs.Command.{source_rule, steps, subcommands, upcoming, with_alias, with_each, with_jobs};
 ghost use Rattle.agenda_words.specs.Command.{with_sources, with_span};
 
@@ -372,18 +372,35 @@ fn source_argument<'a>(alloc: Global, kind: SourceKind) -> Arg<'a>
     ensures rule { rule_of result ≡ source_rule kind }
     ensures local { result.global ≡ false }
 {
+    let path = path_argument(alloc, kind);
+    if kind.is_many() {
+        path.action(ArgAction::Append)
+    } else {
+        path
+    }
+}
+
+// Returns the argument `TIMER`, or the option for the path of a source of another kind.
+fn path_argument<'a>(alloc: Global, kind: SourceKind) -> Arg<'a>
+    ensures rule { rule_of result ≡ path_rule kind }
+    ensures local { result.global ≡ false }
+{
+    let name = kind.option();
+    let help = source_help(kind);
     match kind {
-        SourceKind::Crontab => text_option(alloc, "crontab", "F", help::CRONTAB),
-        SourceKind::System => { text_option(alloc, "system-crontab", "F", help::SYSTEM_CRONTAB) },
-        SourceKind::CronD => {
-            text_option(alloc, "cron-d", "F", help::CRON_D).action(ArgAction::Append)
-        }
-        SourceKind::Spool => {
-            text_option(alloc, "spool", "F", help::SPOOL).action(ArgAction::Append)
-        }
-        SourceKind::Timer => {
-            argument(alloc, "timer", "TIMER", help::TIMER).action(ArgAction::Append)
-        }
+        SourceKind::Timer => argument(alloc, name, "TIMER", help),
+        _ => text_option(alloc, name, "F", help),
+    }
+}
+
+// Returns the help for sources of a kind.
+fn source_help(kind: SourceKind) -> &'static str {
+    match kind {
+        SourceKind::Crontab => help::CRONTAB,
+        SourceKind::System => help::SYSTEM_CRONTAB,
+        SourceKind::CronD => help::CRON_D,
+        SourceKind::Spool => help::SPOOL,
+        SourceKind::Timer => help::TIMER,
     }
 }
 

@@ -1,7 +1,7 @@
 //! The arguments of the command line: what they request, or the text of help or of a usage error.
 //!
-//! The crate uses the kit's `clap`, plan_texts for the texts that it keeps, agenda_sources for the table of
-//! the kinds of sources, and agenda_codes for the codes that can be explained. Read `words` first, then
+//! The crate uses the kit's `clap`, plan_texts for the texts that it keeps, agenda_kinds for the table of the
+//! kinds of sources, and agenda_codes for the codes that can be explained. Read `arguments` first, then
 //! `command`, which describes the command line to clap, with the texts in its `help`.
 #![tactic(auto)]
 

@@ -1,6 +1,6 @@
 //! Names, each once.
 
-ghost use Rattle.std.specs.Prelude.{◌≡◌, ◌↔◌, [], IsTrue, OnErr, OnOk, length, slice_get};
+ghost use Rattle.std.specs.Prelude.{◌≡◌, [], OnErr, OnOk, length, slice_get, take};
 ghost use Rattle.std.specs.List.{list_any};
 ghost use Rattle.std.specs.Option.{option_map};
 ghost use Rattle.std.specs.Str.{bytes_eq};
@@ -41,13 +41,6 @@ impl Names {
         self.kept.len()
     }
 
-    /// Returns whether there are no names.
-    pub fn is_empty(&self) -> bool
-        ensures { IsTrue result ↔ (self.now ≡ []) }
-    {
-        self.kept.is_empty()
-    }
-
     /// Returns the name at a place, from 0.
     pub fn get(&self, place: usize) -> Option<&str>
         ensures { option_map (λ name. name.now) result ≡ slice_get self.now place }
@@ -78,5 +71,12 @@ impl Names {
         let name = String::from_str(alloc, name)?;
         self.kept.insert(name)?;
         Ok(())
+    }
+
+    // Keeps the first names, as many as given, and removes the others.
+    pub(crate) fn truncate(&mut self, len: usize)
+        ensures { self.new ≡ take len self.old }
+    {
+        self.kept.truncate(len);
     }
 }

@@ -1,6 +1,6 @@
 //! The time zones that the events of timer files end with (systemd.time(7)).
 
-ghost use Rattle.std.specs.Prelude.{◌≡◌, ℕ, IsTrue, List, OnOk, Some, false, map};
+ghost use Rattle.std.specs.Prelude.{◌≡◌, ℕ, IsTrue, List, OnErr, OnOk, Some, false, length, map, take};
 ghost use Rattle.plan_grammar.specs.declared.NamedZone.{NamedZone};
 ghost use Rattle.plan_rules.specs.Names.{with_found, with_names};
 ghost use Rattle.plan_rules.specs.Timer.{timer_reading};
@@ -22,15 +22,21 @@ use std::alloc::{AllocError, Global};
 ///
 /// # Errors
 ///
-/// `AllocError` if an allocation fails. The contract doesn't say which names are there then.
+/// `AllocError` if an allocation fails. The names are unchanged then.
 pub fn add_timer_zones(alloc: Global, names: &mut Names, bytes: &[u8]) -> Result<(), AllocError>
-    ensures { OnOk result (names.new ≡ with_names names.old (timer_zones bytes.now)) }
+    ensures added { OnOk result (names.new ≡ with_names names.old (timer_zones bytes.now)) }
+    ensures unchanged { OnErr result (names.new ≡ names.old) }
 {
     let Ok(text) = text_of(bytes) else {
         return Ok(());
     };
     let lines = whole_lines(alloc, text)?;
-    add_lines_zones(alloc, names, lines.as_slice())
+    let present = names.len();
+    if let Err(error) = add_lines_zones(alloc, names, lines.as_slice()) {
+        names.truncate(present);
+        return Err(error);
+    }
+    Ok(())
 }
 
 /// States the law of zones: which zones events may name makes no difference to a timer, but for the zones whose names
@@ -44,9 +50,10 @@ pub fn only_named_zones_matter()
         → timer_reading (Some zones) name bytes ≡ timer_reading (Some others) name bytes }
 {}
 
-// Adds the names of the zones that the events of whole lines end with.
+// Adds the names of the zones that the events of whole lines end with. If an allocation fails, some may be added.
 fn add_lines_zones(alloc: Global, names: &mut Names, lines: &[WholeLine]) -> Result<(), AllocError>
-    ensures { OnOk result (names.new ≡ with_names names.old (zones_from false (map shown_line lines.now))) }
+    ensures added { OnOk result (names.new ≡ with_names names.old (zones_from false (map shown_line lines.now))) }
+    ensures kept { take (length names.old) names.new ≡ names.old }
 {
     let mut sections = Sections::new();
     for line in lines {
@@ -62,7 +69,8 @@ fn add_effect_zone(
     names: &mut Names,
     effect: LineEffect<'_>,
 ) -> Result<(), AllocError>
-    ensures { OnOk result (names.new ≡ with_found names.old (effect_zone (effect_shown effect.entry))) }
+    ensures added { OnOk result (names.new ≡ with_found names.old (effect_zone (effect_shown effect.entry))) }
+    ensures unchanged { OnErr result (names.new ≡ names.old) }
 {
     let LineEffect::Event(text) = effect else {
         return Ok(());

@@ -88,8 +88,8 @@ After:
 pub(crate) const SKIPPED_STARTS: &str = "\
 A step of the event has no end, and systemd 252 may skip starts because of it.
 systemd carries such a step past the limit of its component into the next larger
-one, and then skips the values before the carried one. For example, it never
-starts '*:0/25' at the full hour. Give the step an end.
+one, and then skips the values before the carried one. For example, '*:0/25'
+starts at 01:00, at 02:00 and so on, but never at 00:00. Give the step an end.
 
 Before:
     OnCalendar=*:0/25

@@ -17,7 +17,7 @@ loop-byte-preserved g c =
     let text = c.args.text.now in
     let i = c.loop-byte.byte-index in
     let byte = get_or text i 0 in
-    subst (λ text. Takes g.S.Stream.holds g.S.Stream.takes_all c.args.lines.now c.put_byte.new.lines (text_in c.args.json text))
+    subst (λ text. Takes g.S.Stream.holds g.S.Stream.takes_all c.args.lines.now c.put_escaped_byte.new.lines (text_in c.args.json text))
     (texts_more escaped text i byte 0 c.loop-byte-test.true refl)
-    (takes_texts g.S.Stream.holds g.S.Stream.takes_all c.args.json c.args.lines.now c.loop-byte.lines c.put_byte.new.lines
-    (flat_map escaped (take i text)) (escaped byte) c.loop-byte.invariant c.put_byte.ensures)
+    (takes_texts g.S.Stream.holds g.S.Stream.takes_all c.args.json c.args.lines.now c.loop-byte.lines c.put_escaped_byte.new.lines
+    (flat_map escaped (take i text)) (escaped byte) c.loop-byte.invariant c.put_escaped_byte.ensures)

@@ -5,8 +5,8 @@ use Rattle.plan_rules.specs.TimerSteps.{effect_shown}
 use Rattle.plan_rules.specs.TimerZones.{effect_zone}
 use Rattle.plan_rules.proofs.timer_zones.add_effect_zone.Goals as goal
 
-pub returns-in-Some : goal.returns-in-Some
-returns-in-Some c =
+pub returns-in-Some-clause-added : goal.returns-in-Some-clause-added
+returns-in-Some-clause-added c =
     let found : Some c.in-Some.name.now ≡ effect_zone (effect_shown c.args.effect) =
     ap (option_map (λ name. name.now)) (sym c.in-Some.is) ∙ c.in_ok-name.ensures
     ∙ ap (λ effect. effect_zone (effect_shown effect)) (sym c.in-Event.is) in

@@ -5,7 +5,7 @@ use Rattle.plan_streams.specs.Writer.{Takes}
 use Rattle.plan_write.specs.Json.{text_in}
 use Rattle.agenda_findings.specs.Messages.{escaped}
 use Rattle.agenda_findings.proofs.TextLemmas.{takes_texts}
-use Rattle.agenda_findings.proofs.messages.put_byte.Goals as goal
+use Rattle.agenda_findings.proofs.messages.put_escaped_byte.Goals as goal
 
 pub returns-then-byte-eq92 : goal.returns-then-byte-eq92
 returns-then-byte-eq92 g c = rw c.if-byte-eq92.true c.put_text.ensures

@@ -1,0 +1,18 @@
+-- The exit statuses of the program (agenda).
+use Rattle.std.specs.Prelude.{ℕ}
+
+-- the command was done, or help is printed (agenda)
+abbrev pub done_status : ℕ
+done_status = 0
+
+-- input, a size, a count or a limit is rejected, or an error in a file is reported (agenda)
+abbrev pub refused_status : ℕ
+refused_status = 1
+
+-- the arguments are invalid (agenda)
+abbrev pub usage_status : ℕ
+usage_status = 2
+
+-- an allocation, a device or a file failed, or it isn't known what a planner sent (agenda)
+abbrev pub failed_status : ℕ
+failed_status = 3
