@@ -632,7 +632,7 @@ Usage: bin/install [--remove] [PREFIX]
 
 Installs agenda and agenda-machine below PREFIX, with their manual pages, completions, documents and examples. PREFIX is
 /usr/local by default. If DESTDIR is set, it is put before each path. AGENDA_PROGRAM names the program. Without it, the
-program is the one of bin/agenda, which builds it if needed.
+program is the one that bin/build proves and builds.
 
 --remove removes the files. It also removes PREFIX/share/agenda, PREFIX/share/doc/agenda and the directories below them,
 if they are empty then. All other directories stay.
@@ -758,7 +758,7 @@ package_usage() {
 Usage: bin/package [DIR]
 
 Writes agenda_VERSION_ARCH.deb and agenda-VERSION-linux-MACHINE.tar.gz to the directory DIR, by default to out/ of the
-project. AGENDA_PROGRAM names the program. Without it, the program is the one of bin/agenda, which builds it if needed.
+project. AGENDA_PROGRAM names the program. Without it, the program is the one that bin/build proves and builds.
 
 All files get the time SOURCE_DATE_EPOCH, or else the time of the commit. If dpkg-deb is missing, only the archive is
 written.

@@ -6,7 +6,7 @@
 # of a crate is kept next to the program, under a name with a checksum of everything that it was made from. So an
 # interrupted build continues where it stopped, and a build after an edit makes only what the edit concerns.
 #
-# bin/agenda and bin/bench source this file, after bin/lib/project.sh and bin/lib/memory.sh. The sources are
+# bin/build and bin/bench source this file, after bin/lib/project.sh and bin/lib/memory.sh. The sources are
 # copied to the directory $work, which has the libraries too.
 
 # For each crate: all crates that it names; those of them that are the project's; the checksum of everything
@@ -16,22 +16,6 @@
 declare -A named=() below=() sum=() bytes=() above=() state=() child=()
 names=()
 libraries=${program%/*}/libraries
-
-# Prints a line for crate $1 and for each crate below it: its name and the names that it depends on, after the
-# lines of those.
-crate_lines() {
-  awk -v wanted="$1" '
-    { sub(/#.*/, "") }
-    at = index($0, ":") { split(substr($0, 1, at - 1), head, " "); named[head[1]] = substr($0, at + 1) }
-    function visit(name, count, deps, i) {
-      if (name in seen) return
-      seen[name] = 1
-      count = split(named[name], deps, " ")
-      for (i = 1; i <= count; i++) if (deps[i] in named) visit(deps[i])
-      print name " " named[name]
-    }
-    END { visit(wanted) }' "$top/crates.txt"
-}
 
 # Copies what crate $1 is made from, and finds its size.
 copy_sources() {

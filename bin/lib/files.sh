@@ -5,7 +5,7 @@
 installed_pages="DIFFERENCES.md FORMATS.md"
 
 # Sets `program` to the program that is installed, with all symlinks resolved. AGENDA_PROGRAM names it. Without that variable it is the one
-# of bin/agenda, which builds it if needed.
+# that bin/build proves and builds.
 find_program() {
   local given=${AGENDA_PROGRAM:-$program}
   [ -n "${AGENDA_PROGRAM:-}" ] || build_program || stop "the program isn't built"

@@ -1,6 +1,6 @@
 # shellcheck shell=bash
-# The project's directory, its program, and a temporary directory, for the scripts of bin/ and .ci/run. They
-# source this file.
+# The project's directory, its program, its crates, and a temporary directory, for the scripts of bin/ and
+# .ci/run. They source this file.
 
 top=$(cd "${BASH_SOURCE[0]%/*}/../.." && pwd) || exit 3
 # shellcheck disable=SC2034
@@ -23,10 +23,25 @@ is_current() {
     -type f \( -name '*.rt' -o -name '*.antt' -o -name crates.txt \) -newer "$1" -print -quit)" ]
 }
 
-# Lets bin/agenda prove and build the program if it is missing or older than its sources.
+# Proves and builds the program if it is missing or older than its sources.
 build_program() {
-  # a command that reads no file; help and the version would build nothing
-  "$top/bin/agenda" explain >/dev/null
+  "$top/bin/build" >/dev/null
+}
+
+# Prints a line for crate $1 and for each crate below it: its name and the names that it depends on, after the
+# lines of those.
+crate_lines() {
+  awk -v wanted="$1" '
+    { sub(/#.*/, "") }
+    at = index($0, ":") { split(substr($0, 1, at - 1), head, " "); named[head[1]] = substr($0, at + 1) }
+    function visit(name, count, deps, i) {
+      if (name in seen) return
+      seen[name] = 1
+      count = split(named[name], deps, " ")
+      for (i = 1; i <= count; i++) if (deps[i] in named) visit(deps[i])
+      print name " " named[name]
+    }
+    END { visit(wanted) }' "$top/crates.txt"
 }
 
 # Makes the temporary directory $work, which is removed when the script ends.

@@ -1,6 +1,6 @@
 # shellcheck shell=bash disable=SC2154
 # Answers for the program `agenda` without building it, from its sources: help, the version, and arguments that
-# name no command. bin/agenda sources this file, after bin/lib/project.sh.
+# name no command. bin/agenda sources this file, after bin/lib/project.sh and bin/lib/preview.sh.
 
 # The command line of the program, and the help texts that the rows compare with those of the program.
 command_source=$top/crates/agenda_words/src/command.rt
@@ -28,7 +28,7 @@ say_version() {
   version=$(sed -n 's/^const VERSION: &str = "\([^"\\]*\).*/\1/p' "$command_source")
   [ -n "$version" ] || return
   printf 'agenda %s\n' "$version" 2>/dev/null || refuse_device
-  say_unbuilt
+  if [ -x "$preview" ]; then say_preview; else say_unbuilt; fi
   exit 0
 }
 
@@ -39,13 +39,20 @@ refuse_device() {
 }
 
 say_unbuilt() {
-  echo "agenda: the program isn't built yet, or is older than its sources; the first command proves and builds it" >&2
+  echo "agenda: not built, or older than its sources; the first command builds a preview, which takes about a minute" >&2
 }
 
 # Reports the usage error $1 as the program does, and ends the script.
 refuse_words() {
   printf "error: %s\n\nUsage: agenda <COMMAND>\n\nFor more information, try '--help'.\n" "$1" >&2
   exit 2
+}
+
+# Ends the script with the version, if the arguments $@ request it. A preview would say that it is proved.
+answer_version() {
+  case ${1-} in
+    -V* | --version) say_version ;;
+  esac
 }
 
 # Ends the script with an answer to the arguments $@, if that needs no program.
@@ -59,9 +66,9 @@ answer_unbuilt() {
     esac
     return
   fi
+  answer_version "$@"
   case ${1-} in
     -h* | --help) say_help agenda ;;
-    -V* | --version) say_version ;;
     -?*) [ "$1" = -- ] || refuse_words "unexpected argument '$1' found" ;;
     *)
       [ $# = 0 ] || refuse_words "unrecognized subcommand '$1'"

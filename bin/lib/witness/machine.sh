@@ -50,8 +50,8 @@ compare_machine() {
     return
   fi
   enable_timers
-  mkdir "$work/machine.bin"
-  cp -R -- "$top/bin/agenda-machine" "$top/bin/lib" "$work/machine.bin/"
+  mkdir -p "$work/machine.bin/lib"
+  cp -- "$top/bin/agenda-machine" "$work/machine.bin/" && cp -R -- "$top/bin/lib/machine" "$work/machine.bin/lib/"
   ln -s "$program" "$work/machine.bin/agenda"
   "$work/machine.bin/agenda-machine" --root "$machine" --all sources >"$work/all" 2>"$work/all.left" </dev/null
   "$work/machine.bin/agenda-machine" --root "$machine" sources >"$work/wished" 2>"$work/wished.left" </dev/null
