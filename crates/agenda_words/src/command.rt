@@ -385,8 +385,8 @@ fn path_argument<'a>(alloc: Global, kind: SourceKind) -> Arg<'a>
     ensures rule { rule_of result ≡ path_rule kind }
     ensures local { result.global ≡ false }
 {
-    let name = kind.option();
-    let help = source_help(kind);
+    let name: &'a str = kind.option();
+    let help: &'a str = source_help(kind);
     match kind {
         SourceKind::Timer => argument(alloc, name, "TIMER", help),
         _ => text_option(alloc, name, "F", help),
