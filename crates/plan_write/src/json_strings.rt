@@ -1,6 +1,6 @@
 //! Strings in JSON (RFC 8259, section 7).
 
-ghost use Rattle.std.specs.Prelude.{◌≡◌, ◌<◌, ◌++◌, true, OnOk};
+ghost use Rattle.std.specs.Prelude.{◌≡◌, ◌<◌, ◌++◌, OnOk};
 ghost use Rattle.std.specs.Char.{digit_char};
 ghost use Rattle.std.specs.List.{list_any};
 ghost use Rattle.plan_streams.specs.Writer.{Takes};
@@ -10,9 +10,11 @@ ghost use Rattle.plan_write.specs.Json.{StringsReadBack, is_escaped, json_byte, 
 use plan_streams::{Stream, TextWriter};
 use std::alloc::AllocError;
 
-/// A byte of a string with its escape.
+/// How a byte is written in a string.
 #[derive(Clone, Copy)]
 enum Escape {
+    /// The byte itself.
+    Plain([u8; 1]),
     /// A backslash and a letter.
     Short([u8; 2]),
     /// The number of a character, in four hexadecimal digits.
@@ -20,10 +22,9 @@ enum Escape {
 }
 
 impl Escape {
-    // Returns the escape of a byte that has one.
+    // Returns how a byte is written.
     #[tactic(auto, unfolding(crate::specs::Json::json_byte))]
     fn of_byte(byte: u8) -> Escape
-        requires { is_escaped byte ≡ true }
         ensures { escape_bytes result ≡ json_byte byte }
     {
         match byte {
@@ -33,10 +34,11 @@ impl Escape {
             10 => Escape::Short([b'\\', b'n']),
             12 => Escape::Short([b'\\', b'f']),
             13 => Escape::Short([b'\\', b'r']),
-            _ => {
+            0..=31 | 127 => {
                 let [tens, ones] = [hex_digit(byte / 16), hex_digit(byte % 16)];
                 Escape::Unicode([b'\\', b'u', b'0', b'0', tens, ones])
             }
+            _ => Escape::Plain([byte]),
         }
     }
 
@@ -45,6 +47,7 @@ impl Escape {
         ensures { result.now ≡ escape_bytes self.now }
     {
         match self {
+            Escape::Plain(bytes) => bytes,
             Escape::Short(bytes) => bytes,
             Escape::Unicode(bytes) => bytes,
         }
@@ -113,19 +116,7 @@ fn put_each_byte<S: Stream>(text: &[u8], lines: &mut TextWriter<'_, S>)
     ensures { Takes S.holds S.takes_all lines.old lines.new (json_bytes text.now) }
 {
     for byte in text {
-        put_byte(*byte, lines);
-    }
-}
-
-// Puts a byte of a string.
-#[inline(always)]
-fn put_byte<S: Stream>(byte: u8, lines: &mut TextWriter<'_, S>)
-    ensures { Takes S.holds S.takes_all lines.old lines.new (json_byte byte) }
-{
-    if is_escaped(byte) {
-        lines.put(Escape::of_byte(byte).as_bytes());
-    } else {
-        lines.put_both(&[byte], b"");
+        lines.put(Escape::of_byte(*byte).as_bytes());
     }
 }
 
@@ -148,21 +139,9 @@ fn push_bytes(text: &mut Vec<u8>, string: &[u8]) -> Result<(), AllocError>
     ensures { OnOk result (text.new.items ≡ text.old.items ++ json_bytes string.now) }
 {
     for byte in string {
-        push_byte(text, *byte)?;
+        text.extend_from_slice(Escape::of_byte(*byte).as_bytes())?;
     }
     Ok(())
-}
-
-// Appends a byte of a string to a text.
-fn push_byte(text: &mut Vec<u8>, byte: u8) -> Result<(), AllocError>
-    ensures { OnOk result (text.new.items ≡ text.old.items ++ json_byte byte) }
-{
-    if is_escaped(byte) {
-        text.extend_from_slice(Escape::of_byte(byte).as_bytes())
-    } else {
-        text.push(byte)?;
-        Ok(())
-    }
 }
 
 /// States the law of strings: each is read back as the text that it was made of, from left to right, as RFC 8259
