@@ -1,14 +1,13 @@
 //! The text of a time by the clock of a zone, such as `2024-03-31T03:00:00+02:00`.
 
-ghost use Rattle.std.specs.Prelude.{◌≡◌, ◌<◌, ◌≤◌, ◌++◌, true, false, IfNone, IfSome};
+ghost use Rattle.std.specs.Prelude.{◌≡◌, ◌≤◌, ◌++◌, true, false, IfNone, IfSome};
 ghost use Rattle.plan_clock.specs.Rows.{is_bounded, is_near, natural, shown};
 ghost use Rattle.plan_sets.specs.Limits.{end_second};
-ghost use Rattle.plan_sets.specs.Moment.{two_digits};
 ghost use Rattle.plan_streams.specs.Writer.{Takes};
 ghost use Rattle.plan_write.specs.LocalTimes.{date_time, is_in_years, local_text, offset_text};
 ghost use Rattle.plan_write.specs.Stamp.{bytes_of};
 
-use crate::stamp::Stamp;
+use crate::stamp::{Stamp, digits};
 use plan_clock::{Clock, Row};
 use plan_sets::END_SECOND;
 use plan_streams::{Stream, TextWriter};
@@ -32,7 +31,7 @@ impl Suffix {
         ensures { bytes_of result ≡ offset_text offset }
     {
         let sign = if offset < 0 { b'-' } else { b'+' };
-        let distance = offset.unsigned_abs();
+        let distance = u64::from(offset.unsigned_abs());
         let [h1, h2] = digits(distance / 3_600);
         let [m1, m2] = digits(distance / 60 % 60);
         let [s1, s2] = digits(distance % 60);
@@ -53,14 +52,6 @@ impl Suffix {
             Suffix::Seconds(bytes) => bytes,
         }
     }
-}
-
-// Returns the two decimal digits of a number below 100.
-fn digits(number: u32) -> [u8; 2]
-    requires { number < 100 }
-    ensures { result ≡ two_digits number }
-{
-    [b'0' + (number / 10) as u8, b'0' + (number % 10) as u8]
 }
 
 /// The text of a time by the clock of a zone. Contracts see this value as the text.

@@ -131,8 +131,8 @@ fn place_in(start: u64, length: u64, second: u64) -> Option<u64>
     Some(second - start)
 }
 
-// Returns the two decimal digits of a number below 100.
-fn digits(number: u64) -> [u8; 2]
+/// Returns the two decimal digits of a number below 100.
+pub(crate) fn digits(number: u64) -> [u8; 2]
     requires { number < 100 }
     ensures { result ≡ two_digits number }
 {
