@@ -1,17 +1,15 @@
 //! The text of an agenda: its header, and a line for each entry.
 
-ghost use Rattle.std.specs.Prelude.{◌≡◌, ◌≤◌, IsTrue, OnOk, Some, false, length, slice_get};
+ghost use Rattle.std.specs.Prelude.{◌≡◌, ◌≤◌, IsTrue, OnOk, Some, length, slice_get};
 ghost use Rattle.plan_collect.specs.Agenda.{IsOfJobs};
 ghost use Rattle.plan_streams.specs.Stream.{Puts};
 ghost use Rattle.plan_write.specs.Formats.{utc_text};
 ghost use Rattle.plan_write.specs.Texts.{header_in, header_of, line_of, lines_of, span_columns, text_by_ends, version, zone_mark};
 ghost use Rattle.plan_streams.specs.Writer.{Takes};
 
-use crate::delayed::put_delayed_lines;
 use crate::formats::Format;
-use crate::job_lines::{JobStamps, put_line_at};
+use crate::job_lines::{JobStamps, put_line_at, put_utc_line};
 use crate::line_ends::LineEnds;
-use crate::stamp::Stamp;
 use crate::time_fields::{Stamps, put_column};
 use itoa::Buffer as Digits;
 use plan_collect::{Agenda, Start};
@@ -110,7 +108,7 @@ fn put_zone<S: Stream>(local: &Option<NamedZone>, lines: &mut TextWriter<'_, S>)
     }
 }
 
-// Puts the lines of entries. Text in UTC has functions of its own, which are faster.
+// Puts the lines of entries.
 fn put_lines<S: Stream>(
     agenda: &Agenda,
     ends: &LineEnds,
@@ -121,78 +119,35 @@ fn put_lines<S: Stream>(
     requires { IsOfJobs (length ends.now) agenda.now.entries }
     ensures { Takes S.holds S.takes_all lines.old lines.new (lines_of format.now delays agenda.now.entries ends.now) }
 {
-    if !format.is_utc_text() {
-        put_lines_in(agenda, ends, format, delays, lines);
-    } else if delays {
-        put_delayed_lines(agenda, ends, lines);
-    } else {
-        put_plain_lines(agenda, ends, lines);
-    }
-}
-
-// Puts the lines of entries in any format.
-fn put_lines_in<S: Stream>(
-    agenda: &Agenda,
-    ends: &LineEnds,
-    format: &Format,
-    delays: bool,
-    lines: &mut TextWriter<'_, S>,
-)
-    requires { IsOfJobs (length ends.now) agenda.now.entries }
-    ensures { Takes S.holds S.takes_all lines.old lines.new (lines_of format.now delays agenda.now.entries ends.now) }
-{
+    let in_utc = format.is_utc_text();
     let mut stamps = JobStamps::new();
     let entries = agenda.entries();
     for entry in entries {
-        put_entry(*entry, ends, format, delays, &mut stamps, lines);
+        put_entry(*entry, ends, format, in_utc, delays, &mut stamps, lines);
     }
 }
 
-// Puts the line of an entry in any format.
+// Puts the line of an entry. Whether that is text in UTC is found once for all entries.
 #[inline(always)]
 fn put_entry<S: Stream>(
     entry: Start,
     ends: &LineEnds,
     format: &Format,
+    in_utc: bool,
     delays: bool,
     stamps: &mut JobStamps,
     lines: &mut TextWriter<'_, S>,
 )
-    requires { entry.0 ≤ END_SECOND }
+    requires years { entry.0 ≤ END_SECOND }
+    requires utc { IsTrue in_utc → format.now ≡ utc_text }
     ensures { Takes S.holds S.takes_all lines.old lines.new (line_of format.now delays (Some entry.0) (slice_get ends.now entry.1)) }
 {
     let Some(end) = ends.get(entry.job() as usize) else {
         return;
     };
-    put_line_at(entry.second(), end, format, delays, stamps, lines);
-}
-
-// Puts the lines of entries in text, in UTC and without latest starts.
-fn put_plain_lines<S: Stream>(agenda: &Agenda, ends: &LineEnds, lines: &mut TextWriter<'_, S>)
-    requires { IsOfJobs (length ends.now) agenda.now.entries }
-    ensures { Takes S.holds S.takes_all lines.old lines.new (lines_of utc_text false agenda.now.entries ends.now) }
-{
-    let mut stamp = Stamp::new(0);
-    let entries = agenda.entries();
-    for entry in entries {
-        put_plain_line(*entry, ends, &mut stamp, lines);
+    if in_utc {
+        put_utc_line(entry.second(), end, delays, stamps, lines);
+    } else {
+        put_line_at(entry.second(), end, format, delays, stamps, lines);
     }
-}
-
-// Puts the line of an entry in text, in UTC and without its latest start.
-#[inline(always)]
-fn put_plain_line<S: Stream>(
-    entry: Start,
-    ends: &LineEnds,
-    stamp: &mut Stamp,
-    lines: &mut TextWriter<'_, S>,
-)
-    requires { entry.0 ≤ END_SECOND }
-    ensures { Takes S.holds S.takes_all lines.old lines.new (line_of utc_text false (Some entry.0) (slice_get ends.now entry.1)) }
-{
-    let Some(end) = ends.get(entry.job() as usize) else {
-        return;
-    };
-    stamp.show(entry.second());
-    lines.put_both(stamp.text(), end.text());
 }

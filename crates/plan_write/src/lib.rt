@@ -9,7 +9,6 @@
 #![tactic(auto)]
 
 mod agenda;
-mod delayed;
 mod formats;
 mod job_lines;
 mod json_strings;

@@ -84,15 +84,6 @@ impl Stamp {
         }
     }
 
-    /// Returns the second.
-    #[inline(always)]
-    pub(crate) fn second(&self) -> u64
-        ensures value { result ≡ self.now }
-        ensures years { self.now ≤ end_second }
-    {
-        self.second
-    }
-
     /// Returns the text of the time.
     #[inline(always)]
     pub(crate) fn moment(&self) -> &[u8]

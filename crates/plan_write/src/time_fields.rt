@@ -77,7 +77,7 @@ impl TimeField {
 /// The texts of the last time of a field: many lines of an answer show the same time, or one of the same day.
 #[derive(Drop)]
 pub(crate) struct Stamps {
-    utc: Stamp,
+    pub(crate) utc: Stamp,
     local: LocalStamp,
 }
 

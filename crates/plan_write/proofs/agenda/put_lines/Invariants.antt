@@ -1,7 +1,7 @@
 use Rattle.std.proofs.Common.{take}
 use Rattle.plan_streams.specs.Writer.{Takes}
 use Rattle.plan_write.specs.Texts.{lines_of}
-use Rattle.plan_write.proofs.agenda.put_lines_in.Given as goal
+use Rattle.plan_write.proofs.agenda.put_lines.Given as goal
 
 -- the writer took the lines of all entries so far
 abbrev pub invariant-loop-entry : goal.invariant-loop-entry
