@@ -1,6 +1,8 @@
 -- What a writer takes in a loop that puts a text for each element of a list.
-use Rattle.std.proofs.Common.{◌≡◌, ℕ, zero, suc, ◌+◌, ◌<◌, ◌≤◌, Bool, List, [], ◌∷◌, ◌++◌, length, take, get_or, Option, ap, sym, subst, refl, ◌∙◌, take_all, append-nil, arith}
+use Rattle.std.proofs.Common.{◌≡◌, ℕ, ◌+◌, ◌<◌, Bool, List, [], ◌∷◌, ◌++◌, length, take, get_or, Option, Some, ap, sym, subst, refl, ◌∙◌, append-nil}
 use Rattle.std.specs.List.{flat_map}
+use Rattle.std.specs.Prelude.{slice_get}
+use Rattle.std.proofs.lemmas.Bool.{lt-ltb}
 use Rattle.std.proofs.lemmas.List.{take_more}
 use Rattle.std.proofs.lemmas.Grind.{flat_map-append}
 use Rattle.plan_sets.specs.Limits.{end_second}
@@ -8,6 +10,9 @@ use Rattle.plan_collect.specs.Agenda.{IsInYears}
 use Rattle.plan_streams.proofs.StreamLemmas.{takes_both}
 use Rattle.plan_streams.specs.Writer.{HasTaken, Takes}
 use Rattle.plan_streams.specs.declared.writer.TextWriter.{TextWriter}
+use Rattle.plan_write.specs.Texts.{EndParts, line_of, lines_of}
+use Rattle.plan_write.specs.Upcoming.{upcoming_text}
+use Rattle.plan_write.specs.declared.formats.Format.{Format}
 use Rattle.plan_write.proofs.QuietLemmas.{first_in_years}
 
 -- the texts of the elements so far, and then that of the next one
@@ -31,13 +36,6 @@ pub takes_more :
 takes_more holds takes_all a b c f xs i x lt is so_far next =
     takes_both holds takes_all a b c (flat_map f (take i xs)) (f x) (flat_map f (take (i + 1) xs)) so_far next (texts_more f xs i x x lt is)
 
--- after the loop the texts of all elements were taken
-pub takes_whole :
-    {S X : Type 0} (holds : S → Option (List ℕ)) (takes_all : Bool) (a b : TextWriter S) (f : X → List ℕ) (xs ys : List X) (i : ℕ) →
-    length xs ≤ i → xs ≡ ys → Takes holds takes_all a b (flat_map f (take i xs)) → Takes holds takes_all a b (flat_map f ys)
-takes_whole holds takes_all a b f xs ys i all same taken =
-    subst (λ zs. Takes holds takes_all a b (flat_map f zs)) (take_all i xs all ∙ same) taken
-
 -- three texts that a writer took one after the other are one text
 pub takes_three :
     {S : Type 0} (holds : S → Option (List ℕ)) (takes_all : Bool) (a b c d : TextWriter S) (first second third whole : List ℕ) →
@@ -47,14 +45,12 @@ takes_three holds takes_all a b c d first second third whole one two three is =
     takes_both holds takes_all a b d first (second ++ third) whole one
     (takes_both holds takes_all b c d second third (second ++ third) two three refl) is
 
-years_at :
-    (entries : List (ℕ × ℕ)) (i : ℕ) (d : ℕ × ℕ) → i < length entries → IsInYears entries → (get_or entries i d).0 < end_second
-years_at [] i d lt years = absurd (omega arith)
-years_at (entry ∷ entries) zero d lt years = (first_in_years entry entries years).0
-years_at (entry ∷ entries) (suc i) d lt years = years_at entries i d (omega arith) (first_in_years entry entries years).1
-
--- each entry is in the planner's years
-pub in_years :
-    (entries : List (ℕ × ℕ)) (i : ℕ) (entry : ℕ × ℕ) → i < length entries → entry ≡ get_or entries i entry → IsInYears entries →
-    entry.0 ≤ end_second
-in_years entries i entry lt is years = omega (arith, ap (λ (e : ℕ × ℕ). e.0) is, years_at entries i entry lt years)
+-- the lines of an agenda are those of next starts, since all of them are in the planner's years
+pub lines_in_years :
+    (format : Format) (delays : Bool) (entries : List (ℕ × ℕ)) (ends : List EndParts) → IsInYears entries →
+    upcoming_text format delays entries ends ≡ lines_of format delays entries ends
+lines_in_years format delays [] ends years = refl
+lines_in_years format delays (entry ∷ entries) ends years =
+    let (first, later) = first_in_years entry entries years in
+    rw (lt-ltb entry.0 end_second first)
+    (ap (λ text. line_of format delays (Some entry.0) (slice_get ends entry.1) ++ text) (lines_in_years format delays entries ends later))

@@ -1,20 +1,18 @@
 //! The text of an agenda: its header, and a line for each entry.
 
-ghost use Rattle.std.specs.Prelude.{◌≡◌, ◌≤◌, IsTrue, OnOk, Some, length, slice_get};
+ghost use Rattle.std.specs.Prelude.{◌≡◌, IsTrue, OnOk, length};
 ghost use Rattle.plan_collect.specs.Agenda.{IsOfJobs};
 ghost use Rattle.plan_streams.specs.Stream.{Puts};
-ghost use Rattle.plan_write.specs.Formats.{utc_text};
-ghost use Rattle.plan_write.specs.Texts.{header_in, header_of, line_of, lines_of, span_columns, text_by_ends, version, zone_mark};
+ghost use Rattle.plan_write.specs.Texts.{header_in, header_of, lines_of, span_columns, text_by_ends, version, zone_mark};
 ghost use Rattle.plan_streams.specs.Writer.{Takes};
 
 use crate::formats::Format;
-use crate::job_lines::{JobStamps, put_line_at, put_utc_line};
+use crate::job_lines::put_lines;
 use crate::line_ends::LineEnds;
 use crate::time_fields::{Stamps, put_column};
 use itoa::Buffer as Digits;
-use plan_collect::{Agenda, Start};
+use plan_collect::Agenda;
 use plan_rules::NamedZone;
-use plan_sets::END_SECOND;
 use plan_streams::{Stream, TextWriter, WriteFault};
 
 /// Writes the text of an agenda, with the ends of the lines of its jobs, which are of the same format.
@@ -48,7 +46,7 @@ pub fn write_agenda<S: Stream>(
 {
     let mut lines = TextWriter::new(out);
     put_header(agenda, format, delays, &mut lines);
-    put_lines(agenda, ends, format, delays, &mut lines);
+    put_entries(agenda, ends, format, delays, &mut lines);
     lines.finish()
 }
 
@@ -109,45 +107,14 @@ fn put_zone<S: Stream>(local: &Option<NamedZone>, lines: &mut TextWriter<'_, S>)
 }
 
 // Puts the lines of entries.
-fn put_lines<S: Stream>(
+fn put_entries<S: Stream>(
     agenda: &Agenda,
     ends: &LineEnds,
     format: &Format,
     delays: bool,
     lines: &mut TextWriter<'_, S>,
 )
-    requires { IsOfJobs (length ends.now) agenda.now.entries }
     ensures { Takes S.holds S.takes_all lines.old lines.new (lines_of format.now delays agenda.now.entries ends.now) }
 {
-    let in_utc = format.is_utc_text();
-    let mut stamps = JobStamps::new();
-    let entries = agenda.entries();
-    for entry in entries {
-        put_entry(*entry, ends, format, in_utc, delays, &mut stamps, lines);
-    }
-}
-
-// Puts the line of an entry. Whether that is text in UTC is found once for all entries.
-#[inline(always)]
-fn put_entry<S: Stream>(
-    entry: Start,
-    ends: &LineEnds,
-    format: &Format,
-    in_utc: bool,
-    delays: bool,
-    stamps: &mut JobStamps,
-    lines: &mut TextWriter<'_, S>,
-)
-    requires years { entry.0 ≤ END_SECOND }
-    requires utc { IsTrue in_utc → format.now ≡ utc_text }
-    ensures { Takes S.holds S.takes_all lines.old lines.new (line_of format.now delays (Some entry.0) (slice_get ends.now entry.1)) }
-{
-    let Some(end) = ends.get(entry.job() as usize) else {
-        return;
-    };
-    if in_utc {
-        put_utc_line(entry.second(), end, delays, stamps, lines);
-    } else {
-        put_line_at(entry.second(), end, format, delays, stamps, lines);
-    }
+    put_lines(agenda.entries(), ends, format, delays, lines);
 }

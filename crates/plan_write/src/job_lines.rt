@@ -1,30 +1,33 @@
 //! The lines of jobs, each with the time of a start: for agendas and for next starts.
 
-ghost use Rattle.std.specs.Prelude.{◌≡◌, ◌≤◌, ◌++◌, None, Some};
+ghost use Rattle.std.specs.Prelude.{◌≡◌, ◌≤◌, ◌++◌, IsTrue, None, Some, slice_get};
 ghost use Rattle.plan_sets.specs.Limits.{end_second};
 ghost use Rattle.plan_collect.specs.Windows.{latest_start};
 ghost use Rattle.plan_streams.specs.Writer.{Takes};
 ghost use Rattle.plan_write.specs.Formats.{utc_text};
 ghost use Rattle.plan_write.specs.Stamp.{stamp_text};
-ghost use Rattle.plan_write.specs.Texts.{job_line};
+ghost use Rattle.plan_write.specs.Texts.{job_line, line_of};
+ghost use Rattle.plan_write.specs.Upcoming.{start_or_none, upcoming_text};
 
 use crate::formats::Format;
 use crate::latest::latest_start;
-use crate::line_ends::LineEnd;
+use crate::line_ends::{LineEnd, LineEnds};
 use crate::stamp::Stamp;
 use crate::time_fields::{Stamps, TimeField, put_field, put_no_field};
+use plan_collect::Start;
+use plan_sets::END_SECOND;
 use plan_streams::{Stream, TextWriter};
 
-/// The texts of the last two times of a line.
+// The texts of the last two times of a line.
 #[derive(Drop)]
-pub(crate) struct JobStamps {
+struct JobStamps {
     start: Stamps,
     latest: Stamps,
 }
 
 impl JobStamps {
-    /// Returns the texts of any times.
-    pub(crate) fn new() -> JobStamps {
+    // Returns the texts of any times.
+    fn new() -> JobStamps {
         JobStamps {
             start: Stamps::new(),
             latest: Stamps::new(),
@@ -32,9 +35,68 @@ impl JobStamps {
     }
 }
 
-/// Puts the line of a job that starts at a second.
+/// Puts a line for each start, by the ends of the lines of the jobs.
+pub(crate) fn put_lines<S: Stream>(
+    starts: &[Start],
+    ends: &LineEnds,
+    format: &Format,
+    delays: bool,
+    lines: &mut TextWriter<'_, S>,
+)
+    ensures { Takes S.holds S.takes_all lines.old lines.new (upcoming_text format.now delays starts.now ends.now) }
+{
+    let in_utc = format.is_utc_text();
+    let mut stamps = JobStamps::new();
+    for start in starts {
+        put_line_of(*start, ends, format, in_utc, delays, &mut stamps, lines);
+    }
+}
+
+// Puts the line of a start. Whether that is text in UTC is found once for all lines.
 #[inline(always)]
-pub(crate) fn put_line_at<S: Stream>(
+fn put_line_of<S: Stream>(
+    start: Start,
+    ends: &LineEnds,
+    format: &Format,
+    in_utc: bool,
+    delays: bool,
+    stamps: &mut JobStamps,
+    lines: &mut TextWriter<'_, S>,
+)
+    requires { IsTrue in_utc → format.now ≡ utc_text }
+    ensures { Takes S.holds S.takes_all lines.old lines.new (line_of format.now delays (start_or_none start.0) (slice_get ends.now start.1)) }
+{
+    if let Some(end) = ends.get(start.job() as usize) {
+        put_line(start.second(), end, format, in_utc, delays, stamps, lines);
+    }
+}
+
+// Puts the line of a job that starts at a second, which is `END_SECOND` or later if it has no further start.
+#[inline(always)]
+fn put_line<S: Stream>(
+    second: u64,
+    end: &LineEnd,
+    format: &Format,
+    in_utc: bool,
+    delays: bool,
+    stamps: &mut JobStamps,
+    lines: &mut TextWriter<'_, S>,
+)
+    requires { IsTrue in_utc → format.now ≡ utc_text }
+    ensures { Takes S.holds S.takes_all lines.old lines.new (job_line format.now delays (start_or_none second) end.now) }
+{
+    if second >= END_SECOND {
+        put_line_without_start(end, format, delays, lines);
+    } else if in_utc {
+        put_utc_line(second, end, delays, stamps, lines);
+    } else {
+        put_line_at(second, end, format, delays, stamps, lines);
+    }
+}
+
+// Puts the line of a job that starts at a second.
+#[inline(always)]
+fn put_line_at<S: Stream>(
     second: u64,
     end: &LineEnd,
     format: &Format,
@@ -62,10 +124,10 @@ pub(crate) fn put_line_at<S: Stream>(
     );
 }
 
-/// Puts the line of a job that starts at a second, in text and in UTC: the same as `put_line_at` does, but in two
-/// thirds of its instructions.
+// Puts the line of a job that starts at a second, in text and in UTC: the same as `put_line_at` does, but in two
+// thirds of its instructions.
 #[inline(always)]
-pub(crate) fn put_utc_line<S: Stream>(
+fn put_utc_line<S: Stream>(
     second: u64,
     end: &LineEnd,
     delays: bool,
@@ -106,8 +168,8 @@ fn put_times<S: Stream>(
     }
 }
 
-/// Puts the line of a job that has no further start.
-pub(crate) fn put_line_without_start<S: Stream>(
+// Puts the line of a job that has no further start.
+fn put_line_without_start<S: Stream>(
     end: &LineEnd,
     format: &Format,
     delays: bool,
