@@ -1,5 +1,5 @@
 -- What a writer takes in a loop that puts a text for each element of a list.
-use Rattle.std.proofs.Common.{◌≡◌, ℕ, ◌+◌, ◌<◌, Bool, List, [], ◌∷◌, ◌++◌, length, take, get_or, Option, Some, ap, sym, subst, refl, ◌∙◌, append-nil}
+use Rattle.std.proofs.Common.{◌≡◌, ℕ, ◌+◌, ◌<◌, ◌≤◌, Bool, List, [], ◌∷◌, ◌++◌, length, take, get_or, Option, Some, ap, sym, subst, refl, ◌∙◌, take_all, append-nil}
 use Rattle.std.specs.List.{flat_map}
 use Rattle.std.specs.Prelude.{slice_get}
 use Rattle.std.proofs.lemmas.Bool.{lt-ltb}
@@ -35,6 +35,13 @@ pub takes_more :
     Takes holds takes_all a c (flat_map f (take (i + 1) xs))
 takes_more holds takes_all a b c f xs i x lt is so_far next =
     takes_both holds takes_all a b c (flat_map f (take i xs)) (f x) (flat_map f (take (i + 1) xs)) so_far next (texts_more f xs i x x lt is)
+
+-- after the loop the texts of all elements were taken
+pub takes_whole :
+    {S X : Type 0} (holds : S → Option (List ℕ)) (takes_all : Bool) (a b : TextWriter S) (f : X → List ℕ) (xs ys : List X) (i : ℕ) →
+    length xs ≤ i → xs ≡ ys → Takes holds takes_all a b (flat_map f (take i xs)) → Takes holds takes_all a b (flat_map f ys)
+takes_whole holds takes_all a b f xs ys i all same taken =
+    subst (λ zs. Takes holds takes_all a b (flat_map f zs)) (take_all i xs all ∙ same) taken
 
 -- three texts that a writer took one after the other are one text
 pub takes_three :

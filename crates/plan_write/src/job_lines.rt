@@ -13,27 +13,10 @@ use crate::formats::Format;
 use crate::latest::latest_start;
 use crate::line_ends::{LineEnd, LineEnds};
 use crate::stamp::Stamp;
-use crate::time_fields::{Stamps, TimeField, put_field, put_no_field};
+use crate::time_fields::{LineStamps, TimeField, put_field, put_no_field};
 use plan_collect::Start;
 use plan_sets::END_SECOND;
 use plan_streams::{Stream, TextWriter};
-
-// The texts of the last two times of a line.
-#[derive(Drop)]
-struct JobStamps {
-    start: Stamps,
-    latest: Stamps,
-}
-
-impl JobStamps {
-    // Returns the texts of any times.
-    fn new() -> JobStamps {
-        JobStamps {
-            start: Stamps::new(),
-            latest: Stamps::new(),
-        }
-    }
-}
 
 /// Puts a line for each start, by the ends of the lines of the jobs.
 pub(crate) fn put_lines<S: Stream>(
@@ -46,7 +29,7 @@ pub(crate) fn put_lines<S: Stream>(
     ensures { Takes S.holds S.takes_all lines.old lines.new (upcoming_text format.now delays starts.now ends.now) }
 {
     let in_utc = format.is_utc_text();
-    let mut stamps = JobStamps::new();
+    let mut stamps = LineStamps::new();
     for start in starts {
         put_line_of(*start, ends, format, in_utc, delays, &mut stamps, lines);
     }
@@ -60,7 +43,7 @@ fn put_line_of<S: Stream>(
     format: &Format,
     in_utc: bool,
     delays: bool,
-    stamps: &mut JobStamps,
+    stamps: &mut LineStamps,
     lines: &mut TextWriter<'_, S>,
 )
     requires { IsTrue in_utc → format.now ≡ utc_text }
@@ -79,7 +62,7 @@ fn put_line<S: Stream>(
     format: &Format,
     in_utc: bool,
     delays: bool,
-    stamps: &mut JobStamps,
+    stamps: &mut LineStamps,
     lines: &mut TextWriter<'_, S>,
 )
     requires { IsTrue in_utc → format.now ≡ utc_text }
@@ -101,7 +84,7 @@ fn put_line_at<S: Stream>(
     end: &LineEnd,
     format: &Format,
     delays: bool,
-    stamps: &mut JobStamps,
+    stamps: &mut LineStamps,
     lines: &mut TextWriter<'_, S>,
 )
     requires { second ≤ end_second }
@@ -109,17 +92,17 @@ fn put_line_at<S: Stream>(
 {
     let start = TimeField::Start;
     if !delays {
-        put_field(format, start, second, end.text(), &mut stamps.start, lines);
+        put_field(format, start, second, end.text(), &mut stamps.first, lines);
         return;
     }
-    put_field(format, start, second, b"", &mut stamps.start, lines);
+    put_field(format, start, second, b"", &mut stamps.first, lines);
     let latest = latest_start(end.delay(), second);
     put_field(
         format,
         TimeField::Latest,
         latest,
         end.text(),
-        &mut stamps.latest,
+        &mut stamps.last,
         lines,
     );
 }
@@ -131,13 +114,13 @@ fn put_utc_line<S: Stream>(
     second: u64,
     end: &LineEnd,
     delays: bool,
-    stamps: &mut JobStamps,
+    stamps: &mut LineStamps,
     lines: &mut TextWriter<'_, S>,
 )
     requires { second ≤ end_second }
     ensures { Takes S.holds S.takes_all lines.old lines.new (job_line utc_text delays (Some second) end.now) }
 {
-    let (start, latest) = (&mut stamps.start.utc, &mut stamps.latest.utc);
+    let (start, latest) = (&mut stamps.first.utc, &mut stamps.last.utc);
     start.show(second);
     if delays {
         put_times(second, end.delay(), start, latest, lines);

@@ -9,7 +9,7 @@ ghost use Rattle.plan_streams.specs.Writer.{Takes};
 
 use crate::formats::Format;
 use crate::latest::latest_start;
-use crate::time_fields::{Stamps, TimeField, put_field};
+use crate::time_fields::{LineStamps, TimeField, put_field};
 use itoa::Buffer as Digits;
 use plan_collect::{Agenda, Start};
 use plan_rules::Jobs;
@@ -39,7 +39,7 @@ pub fn write_quiet<S: Stream>(
     ensures flushed { OnOk result (IsTrue (S.is_flushed out.new)) }
 {
     let mut lines = TextWriter::new(out);
-    let mut stamps = GapStamps::new();
+    let mut stamps = LineStamps::new();
     let mut reach = agenda.since();
     let upto = agenda.upto();
     let entries = agenda.entries();
@@ -70,23 +70,6 @@ fn latest_start_of(entry: Start, jobs: &Jobs) -> u64
     }
 }
 
-// The texts of the two times of a gap.
-#[derive(Drop)]
-struct GapStamps {
-    from: Stamps,
-    until: Stamps,
-}
-
-impl GapStamps {
-    // Returns the texts of any times.
-    fn new() -> GapStamps {
-        GapStamps {
-            from: Stamps::new(),
-            until: Stamps::new(),
-        }
-    }
-}
-
 // Puts the line of the gap between two times, if it is a gap and long enough.
 #[inline(always)]
 fn put_gap<S: Stream>(
@@ -94,7 +77,7 @@ fn put_gap<S: Stream>(
     to: u64,
     least: u64,
     format: &Format,
-    stamps: &mut GapStamps,
+    stamps: &mut LineStamps,
     lines: &mut TextWriter<'_, S>,
 )
     requires from { from ≤ end_second }
@@ -114,7 +97,7 @@ fn put_gap_line<S: Stream>(
     from: u64,
     to: u64,
     format: &Format,
-    stamps: &mut GapStamps,
+    stamps: &mut LineStamps,
     lines: &mut TextWriter<'_, S>,
 )
     requires from { from ≤ end_second }
@@ -122,8 +105,8 @@ fn put_gap_line<S: Stream>(
     ensures { Takes S.holds S.takes_all lines.old lines.new (gap_line format.now (from, to)) }
 {
     let (start, end) = (TimeField::From, TimeField::Until);
-    put_field(format, start, from, b"", &mut stamps.from, lines);
-    put_field(format, end, to, b"", &mut stamps.until, lines);
+    put_field(format, start, from, b"", &mut stamps.first, lines);
+    put_field(format, end, to, b"", &mut stamps.last, lines);
     put_seconds(to.saturating_sub(from), format.json, lines);
 }
 

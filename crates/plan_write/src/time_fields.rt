@@ -91,6 +91,23 @@ impl Stamps {
     }
 }
 
+/// The texts of the last times of the two fields of a line.
+#[derive(Drop)]
+pub(crate) struct LineStamps {
+    pub(crate) first: Stamps,
+    pub(crate) last: Stamps,
+}
+
+impl LineStamps {
+    /// Returns the texts of any times.
+    pub(crate) fn new() -> LineStamps {
+        LineStamps {
+            first: Stamps::new(),
+            last: Stamps::new(),
+        }
+    }
+}
+
 /// Puts a time, and then what follows it in the line.
 #[inline(always)]
 pub(crate) fn put_field<S: Stream>(
