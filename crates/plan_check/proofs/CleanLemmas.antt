@@ -1,10 +1,9 @@
 -- Files have no finding but warnings exactly if jobs can be made of them: for `clean_where_jobs_are`.
 -- `Agrees` says so of one file, or of its lines, with the names that follow; the rest is induction over the lists.
-use Rattle.std.proofs.Common.{◌≡◌, ℕ, ◌+◌, Bool, true, false, not, ◌&&◌, ◌==◌, nat_lt, cond, List, [], ◌∷◌, ◌++◌, length, map, Option, Some, None, is_none, is_some, option_map, IfSome, Ok, Err, true≢false, refl, ap, sym, ◌∙◌, subst, arith}
+use Rattle.std.proofs.Common.{◌≡◌, ℕ, ◌+◌, Bool, true, false, not, ◌&&◌, ◌==◌, nat_lt, cond, List, [], ◌∷◌, ◌++◌, length, Option, Some, None, is_none, is_some, option_map, IfSome, Ok, Err, refl, ap, sym, ◌∙◌, subst, arith}
 use Rattle.std.proofs.lemmas.Bool.Decides.{nat_tests}
 use Rattle.std.proofs.lemmas.List.Folds.{list_all-append}
 use Rattle.std.specs.List.{cons_option, enumerate_from, filter_map}
-use Rattle.std.specs.Result.{result_ok}
 use Rattle.plan_texts.specs.Lines.{lines}
 use Rattle.plan_clock.specs.declared.row.Change.{Change}
 use Rattle.plan_match.specs.Zone.{rule_in}
@@ -14,22 +13,20 @@ use Rattle.plan_grammar.specs.EventZones.{Zones}
 use Rattle.plan_rules.specs.declared.crontabs.Kind.{Kind}
 use Rattle.plan_rules.specs.declared.entry.Entry.{Entry}
 use Rattle.plan_rules.specs.declared.line_fault.LineCause.{LineCause}
-use Rattle.plan_rules.specs.declared.line_fault.LineCause.TheVariants.{BadTabName, BadTimerName, NoTimerSection, TooManyLines}
+use Rattle.plan_rules.specs.declared.line_fault.LineCause.TheVariants.{BadTabName, BadTimerName, NoTimerSection}
 use Rattle.plan_rules.specs.declared.line_fault.LineFault.{LineFault}
 use Rattle.plan_texts.specs.Steps.{◌>>=◌}
-use Rattle.plan_texts.specs.WholeLines.{whole_lines, trimmed}
 use Rattle.plan_rules.specs.Crontab.{crontab_reading, entries_of_lines, line_entry, line_reading}
 use Rattle.plan_rules.specs.Entries.{entry_on, refusals, refusal_on, given, unless_refused, meant_by}
 use Rattle.plan_rules.specs.FileText.{text_reading}
 use Rattle.plan_rules.specs.Job.{JobParts}
 use Rattle.plan_rules.specs.Jobs.{number_of}
-use Rattle.plan_rules.specs.Limits.{most_events, most_jobs}
-use Rattle.plan_grammar.specs.Event.{event_reading}
-use Rattle.plan_rules.specs.LineFaults.{LineReading, TextReading, fault_on_line, in_line, on_line}
+use Rattle.plan_rules.specs.Limits.{most_jobs}
+use Rattle.plan_rules.specs.LineFaults.{LineReading, TextReading, fault_on_line, on_line}
 use Rattle.plan_rules.specs.NamedCrontabs.{is_crontab_name, kind_in}
-use Rattle.plan_rules.specs.Timer.{Effect, Reset, Event, Starts, Nothing, effects_from, first_unit, has_timer, is_timer_name, job_with, settings_from, timer_job, timer_reading, timer_setting}
+use Rattle.plan_rules.specs.Timer.{effects_from, has_timer, is_timer_name, job_with, settings_from, timer_job, timer_setting}
 use Rattle.plan_rules.specs.TimerDelays.{Setting, delay_of}
-use Rattle.plan_rules.specs.TimerEntries.{EventCount, LineStep, Idle, Empties, Has, Names, TimerState, count_after, entries_from, entry_of, event_line, events_after, held_after, line_by, line_in, lines_by_entries, no_events, no_lines, state_after, timer_by_entries, timer_lines}
+use Rattle.plan_rules.specs.TimerEntries.{Draft, LineStep, Idle, Empties, Has, Names, TimerState, entries_from, entry_of, held_after, line_in, lines_draft, no_events, no_lines, state_after, timer_lines, timer_of_lines}
 use Rattle.plan_check.specs.declared.finding.Finding.{Finding}
 use Rattle.plan_check.specs.declared.finding.Warning.{Warning}
 use Rattle.plan_check.specs.declared.finding.Warning.TheVariants.{NeverStarts, EitherDay, NoEvents, Percent, CarriageReturn, ZoneSetting, SkippedStarts, UnknownKey, BadDelay, Monotonic, Delayed}
@@ -45,8 +42,7 @@ use Rattle.plan_check.specs.Warnings.{command_warnings, ends_with_return, has_ba
 use Rattle.plan_check.specs.Settings.{is_bad_delay, is_delayed, is_monotonic, is_unknown_key, value_of}
 use Rattle.plan_check.specs.Skipped.{may_skip_starts}
 use Rattle.plan_check.specs.Timers as timers
-use Rattle.plan_check.specs.Timers.{after_timer, event_warnings, events_with, right_events, right_job, setting_findings, step_findings, timer_warnings}
-use Rattle.plan_check.proofs.FirstLemmas.{CrontabLaw}
+use Rattle.plan_check.specs.Timers.{after_timer, event_warnings, setting_findings, step_findings, timer_warnings}
 
 -- what is known as long as nothing is rejected
 abbrev known_by : Option (List Change) → List JobParts → KnownJobs
@@ -170,24 +166,13 @@ lines_agree clock added label kind (line ∷ more) =
     (λ known. lines_findings known label kind more) (λ known. after_lines known label kind more)
     (λ next. lines_agree clock next label kind more)
 
-text_agrees :
+crontab_agrees :
     (clock : Option (List Change)) (added : List JobParts) (label : List ℕ) (kind : Kind) (text : TextReading (List ℕ)) →
-    Agrees clock (jobs_by added ((text >>= λ t. Ok (entries_of_lines label kind (lines t))) >>= λ entries. meant_by entries))
+    Agrees clock (jobs_by added (text >>= λ t. meant_by (entries_of_lines label kind (lines t))))
     (crontab_findings (known_by clock added) label kind text) (after_crontab (known_by clock added) label kind text)
 unfolding entries_of_lines
-text_agrees clock added label kind (Ok text) = lines_agree clock added label kind (enumerate_from 0 (lines text))
-text_agrees clock added label kind (Err fault) = refl
-
-crontab_agrees :
-    (clock : Option (List Change)) → CrontabLaw → (added : List JobParts) (label : List ℕ) (kind : Kind) (bytes : List ℕ) →
-    Agrees clock (jobs_by added (crontab_reading label kind bytes))
-    (crontab_findings (known_by clock added) label kind (text_reading bytes))
-    (after_crontab (known_by clock added) label kind (text_reading bytes))
-crontab_agrees clock law added label kind bytes =
-    let text = text_reading bytes in
-    let P : TextReading (List JobParts) → Type 0 = λ reading. Agrees clock (jobs_by added reading)
-    (crontab_findings (known_by clock added) label kind text) (after_crontab (known_by clock added) label kind text) in
-    subst P (sym (law label kind bytes)) (text_agrees clock added label kind text)
+crontab_agrees clock added label kind (Ok text) = lines_agree clock added label kind (enumerate_from 0 (lines text))
+crontab_agrees clock added label kind (Err fault) = refl
 
 -- what is wrong with a name
 abbrev unless : Bool → LineCause → Option LineCause
@@ -270,56 +255,6 @@ timer_lines_clean clock state (line ∷ more) =
     step_clean clock line.0 (timer_setting state.inside line.1) (line_in state line) (timers.lines_findings clock next more)
     (entries_from next.zones next.count (effects_from next.inside more)) (timer_lines_clean clock next more)
 
--- ---- the events that are right
-
--- the same list by what the lines do
-abbrev right_by : Zones → EventCount → List Calendar → List (ℕ × Effect) → List Calendar
-right_by zones count held [] = held
-right_by zones count held ((number, effect) ∷ more) =
-    right_by zones (count_after count effect) (events_with held (line_by zones number count effect)) more
-
-right_by_effects :
-    (state : TimerState) (held : List Calendar) (lines : List (ℕ × List ℕ)) →
-    right_events state held lines ≡ right_by state.zones state.count held (effects_from state.inside lines)
-right_by_effects state held [] = refl
-right_by_effects state held (line ∷ more) = right_by_effects (state_after state line.1) (events_with held (line_in state line)) more
-
--- the list has this many events, and no further event was rejected
-abbrev held_so_far : ℕ → EventCount
-held_so_far n = record { held = n; told = false }
-
--- an event, whether the list is full or not
-event_right :
-    (zones : Zones) (room : Bool) (number n : ℕ) (held : List Calendar) (r : LineReading Calendar) (more : List (ℕ × Effect)) →
-    ((next : List Calendar) → is_none_of (refusals (entries_from zones (held_so_far (n + 1)) more)) ≡ true →
-    right_by zones (held_so_far (n + 1)) next more ≡ events_after zones next more) →
-    is_none_of (refusals (cons_option (entry_of (event_line number (cond room (Some r) (Some (Err TooManyLines)))))
-    (entries_from zones (cond room (held_so_far (n + 1)) (record { held = n; told = true })) more))) ≡ true →
-    right_by zones (cond room (held_so_far (n + 1)) (record { held = n; told = true }))
-    (events_with held (event_line number (cond room (Some r) (Some (Err TooManyLines))))) more
-    ≡ events_after zones (held ++ cons_option (result_ok r) []) more
-event_right zones true number n held (Ok event) more later none = later (held ++ event ∷ []) none
-event_right zones true number n held (Err cause) more later none = absurd (true≢false (sym none))
-event_right zones false number n held r more later none = absurd (true≢false (sym none))
-
--- if no event is rejected, all are right
-all_right :
-    (zones : Zones) (n : ℕ) (held : List Calendar) (effects : List (ℕ × Effect)) →
-    is_none_of (refusals (entries_from zones (held_so_far n) effects)) ≡ true →
-    right_by zones (held_so_far n) held effects ≡ events_after zones held effects
-all_right zones n held [] none = refl
-all_right zones n held ((number, Reset) ∷ more) none = all_right zones 0 [] more none
-all_right zones n held ((number, Event text) ∷ more) none =
-    event_right zones (nat_lt n most_events) number n held (in_line (event_reading zones text)) more
-    (λ next later. all_right zones (n + 1) next more later) none
-all_right zones n held ((number, Starts unit) ∷ more) none = all_right zones n held more none
-all_right zones n held ((number, Nothing) ∷ more) none = all_right zones n held more none
-
-right_of_lines :
-    (zones : Zones) (lines : List (ℕ × List ℕ)) → is_none_of (refusals (entries_from zones no_events (effects_from false lines))) ≡ true →
-    right_events (no_lines zones) [] lines ≡ events_after zones [] (effects_from false lines)
-right_of_lines zones lines none = right_by_effects (no_lines zones) [] lines ∙ all_right zones 0 [] (effects_from false lines) none
-
 -- ---- the whole timer
 
 pub whole_clean : (clock : Option (List Change)) (lines : List (ℕ × List ℕ)) → is_clean (timer_warnings clock lines) ≡ true
@@ -354,47 +289,40 @@ timer_wrong true true b found faulty = refl
 timer_wrong true false true found faulty = faulty
 timer_wrong true false false found faulty = refl
 
--- a timer whose name is good, with the job that is kept: that of all events, if none is rejected
+-- a timer whose name is good
 timer_agrees :
-    (clock : Option (List Change)) (faults : List LineFault) (good has : Bool) (added : List JobParts) (name : List ℕ)
-    (unit : Option (List ℕ)) (events : List Calendar) (delay : ℕ) (kept : JobParts) (found : List Finding) →
-    (n : ℕ) → n ≡ length added → good ≡ true → (is_none_of faults ≡ true → kept ≡ timer_job name unit events delay) →
-    is_clean found ≡ is_none_of faults →
-    Agrees clock (jobs_by added ((unless_refused faults events >>= λ held. job_with has name unit held delay) >>= λ job. Ok (job ∷ [])))
+    (clock : Option (List Change)) (faults : List LineFault) (good has : Bool) (added : List JobParts) (name : List ℕ) (draft : Draft)
+    (delay : ℕ) (found : List Finding) (n : ℕ) → n ≡ length added → good ≡ true → is_clean found ≡ is_none_of faults →
+    Agrees clock
+    (jobs_by added ((unless_refused faults draft >>= λ all. job_with has name all.unit all.events delay) >>= λ job. Ok (job ∷ [])))
     (found_if (not has) 0 (Refused NoTimerSection)
     ++ (named_findings 0 (is_some (number_of name added)) (nat_lt n most_jobs) ++ found))
-    (cond (good && has) (named_after clock (is_some (number_of kept.name added)) (nat_lt n most_jobs) added kept)
+    (cond (good && has)
+    (named_after clock (is_some (number_of name added)) (nat_lt n most_jobs) added (timer_job name draft.unit draft.events delay))
     (after_other (known_by clock added) name))
-timer_agrees clock [] good true added name unit events delay kept found n few is right clean =
-    let job = timer_job name unit events delay in
-    let P : Bool → JobParts → Type 0 = λ good kept. Agrees clock (jobs_by added (Ok (job ∷ [])))
+timer_agrees clock [] good true added name draft delay found n few is clean =
+    let job = timer_job name draft.unit draft.events delay in
+    let P : Bool → Type 0 = λ good. Agrees clock (jobs_by added (Ok (job ∷ [])))
     (named_findings 0 (is_some (number_of name added)) (nat_lt (length added) most_jobs) ++ found)
-    (cond (good && true) (named_after clock (is_some (number_of kept.name added)) (nat_lt (length added) most_jobs) added kept)
+    (cond (good && true) (named_after clock (is_some (number_of name added)) (nat_lt (length added) most_jobs) added job)
     (after_other (known_by clock added) name)) in
-    rw few (subst (λ good. P good kept) (sym is) (subst (P true) (sym (right refl))
-    (timer_right clock (is_some (number_of name added)) (nat_lt (length added) most_jobs) added job found clean)))
-timer_agrees clock [] good false added name unit events delay kept found n few is right clean = refl
-timer_agrees clock (fault ∷ more) good has added name unit events delay kept found n few is right clean =
+    rw few (subst P (sym is)
+    (timer_right clock (is_some (number_of name added)) (nat_lt (length added) most_jobs) added job found clean))
+timer_agrees clock [] good false added name draft delay found n few is clean = refl
+timer_agrees clock (fault ∷ more) good has added name draft delay found n few is clean =
     timer_wrong has (is_some (number_of name added)) (nat_lt n most_jobs) found clean
 
 timer_text_agrees :
-    (zones : Zones) (clock : Option (List Change)) (added : List JobParts) (name : List ℕ) (text : TextReading (List ℕ))
-    (f : List ℕ → List (ℕ × List ℕ)) → is_timer_name name ≡ true →
-    Agrees clock (jobs_by added (alone (text >>= λ t. lines_by_entries zones name (f t))))
-    (timers.timer_findings zones (known_by clock added) name (text >>= λ t. Ok (f t)))
-    (after_timer zones (known_by clock added) name (text >>= λ t. Ok (f t)))
-timer_text_agrees zones clock added name (Err fault) f good = refl
-timer_text_agrees zones clock added name (Ok text) f good =
-    let lines = f text in
-    let effects = effects_from false lines in
+    (zones : Zones) (clock : Option (List Change)) (added : List JobParts) (name : List ℕ) (lines : TextReading (List (ℕ × List ℕ))) →
+    is_timer_name name ≡ true →
+    Agrees clock (jobs_by added (alone (lines >>= λ ls. timer_of_lines zones name ls)))
+    (timers.timer_findings zones (known_by clock added) name lines) (after_timer zones (known_by clock added) name lines)
+timer_text_agrees zones clock added name (Err fault) good = refl
+timer_text_agrees zones clock added name (Ok lines) good =
     let found = timers.lines_findings clock (no_lines zones) lines in
-    timer_agrees clock (refusals (entries_from zones no_events effects)) (is_timer_name name) (has_timer lines) added name
-    (first_unit effects)
-    (events_after zones [] effects) (delay_of (settings_from false lines))
-    (right_job zones name lines) (timer_warnings clock lines ++ found) (0 + length added) (omega arith) good
-    (λ none. ap (λ (held : List Calendar). timer_job name (first_unit effects) held (delay_of (settings_from false lines)))
-    (right_of_lines zones lines none))
-    (timer_warnings_clean clock lines found ∙ timer_lines_clean clock (no_lines zones) lines)
+    timer_agrees clock (refusals (entries_from zones no_events (effects_from false lines))) (is_timer_name name) (has_timer lines) added
+    name (lines_draft zones lines) (delay_of (settings_from false lines)) (timer_warnings clock lines ++ found) (0 + length added)
+    (omega arith) good (timer_warnings_clean clock lines found ∙ timer_lines_clean clock (no_lines zones) lines)
 
 alone_named :
     (good : Bool) (reading : TextReading JobParts) (fault : LineFault) →
@@ -403,30 +331,25 @@ alone_named good reading fault = grind (arith, nat_tests)
 
 -- ---- files
 
--- the law of a timer's entries, as plan_rules offers it
-abbrev pub TimerLaw : Type 0
-TimerLaw = (zones : Zones) → (name bytes : List ℕ) → timer_reading zones name bytes ≡ timer_by_entries zones name bytes
-
 form_agrees :
-    (zones : Zones) (clock : Option (List Change)) → CrontabLaw → TimerLaw → (added : List JobParts) (form : Form) (name bytes : List ℕ) →
+    (zones : Zones) (clock : Option (List Change)) (added : List JobParts) (form : Form) (name bytes : List ℕ) →
     Agrees clock (jobs_by added (form_reading zones form name bytes)) (file_findings zones (known_by clock added) (file_of form name bytes))
     (after_file zones (known_by clock added) (file_of form name bytes))
-form_agrees zones clock crontab timer added (Crontab kind) name bytes = crontab_agrees clock crontab added (label_of kind) kind bytes
-form_agrees zones clock crontab timer added (Named directory) name bytes =
+form_agrees zones clock added (Crontab kind) name bytes = crontab_agrees clock added (label_of kind) kind (text_reading bytes)
+form_agrees zones clock added (Named directory) name bytes =
     let text = text_reading bytes in
     named_agrees clock (is_crontab_name directory name) BadTabName added (crontab_reading name (kind_in directory) bytes)
     (λ known. crontab_findings known name (kind_in directory) text) (λ known. after_crontab known name (kind_in directory) text)
-    (λ good. crontab_agrees clock crontab added name (kind_in directory) bytes)
-form_agrees zones clock crontab timer added Timer name bytes =
+    (λ good. crontab_agrees clock added name (kind_in directory) text)
+form_agrees zones clock added Timer name bytes =
     let found = file_findings zones (known_by clock added) (file_of Timer name bytes) in
     let after = after_file zones (known_by clock added) (file_of Timer name bytes) in
-    let lines : List ℕ → List (ℕ × List ℕ) = λ t. map (λ line. (line.0, trimmed line.1)) (whole_lines t) in
-    let reading : TextReading JobParts = text_reading bytes >>= λ t. lines_by_entries zones name (lines t) in
+    let reading : TextReading JobParts = timer_lines bytes >>= λ ls. timer_of_lines zones name ls in
     let P : TextReading (List JobParts) → Type 0 = λ reading. Agrees clock (jobs_by added reading) found after in
-    subst P (sym (ap alone (timer zones name bytes) ∙ alone_named (is_timer_name name) reading (fault_on_line 0 BadTimerName)))
+    subst P (sym (alone_named (is_timer_name name) reading (fault_on_line 0 BadTimerName)))
     (named_agrees clock (is_timer_name name) BadTimerName added (alone reading)
     (λ known. timers.timer_findings zones known name (timer_lines bytes)) (λ known. after_timer zones known name (timer_lines bytes))
-    (timer_text_agrees zones clock added name (text_reading bytes) lines))
+    (timer_text_agrees zones clock added name (timer_lines bytes)))
 
 files_after :
     (zones : Zones) (clock : Option (List Change)) (next : Option (List JobParts)) (found : List Finding) (after : KnownJobs)
@@ -443,18 +366,18 @@ files_after zones clock (Some next) found after more agrees later =
     ∙ later next
 
 files_agree :
-    (zones : Zones) (clock : Option (List Change)) → CrontabLaw → TimerLaw → (added : List JobParts) (files : List File) →
+    (zones : Zones) (clock : Option (List Change)) (added : List JobParts) (files : List File) →
     is_clean (files_findings zones (known_by clock added) files) ≡ is_some (files_jobs zones added files)
-files_agree zones clock crontab timer added [] = refl
-files_agree zones clock crontab timer added (file ∷ more) =
+files_agree zones clock added [] = refl
+files_agree zones clock added (file ∷ more) =
     files_after zones clock (jobs_by added (form_reading zones file.form file.name file.bytes))
     (file_findings zones (known_by clock added) file)
     (after_file zones (known_by clock added) file) more
-    (form_agrees zones clock crontab timer added file.form file.name file.bytes) (λ next. files_agree zones clock crontab timer next more)
+    (form_agrees zones clock added file.form file.name file.bytes) (λ next. files_agree zones clock next more)
 
-pub clean_law : (zones : Zones) (clock : Option (List Change)) → CrontabLaw → TimerLaw → (files : List File) →
+pub clean_law : (zones : Zones) (clock : Option (List Change)) (files : List File) →
     is_clean (files_findings zones (no_jobs clock) files) ≡ is_some (files_jobs zones [] files)
-clean_law zones clock crontab timer files = files_agree zones clock crontab timer [] files
+clean_law zones clock files = files_agree zones clock [] files
 
 -- the jobs that are kept
 kept_after :
@@ -469,15 +392,15 @@ kept_after zones clock (Some next) found after more agrees later =
     (sym agrees.1) (later next)
 
 files_kept :
-    (zones : Zones) (clock : Option (List Change)) → CrontabLaw → TimerLaw → (added : List JobParts) (files : List File) →
+    (zones : Zones) (clock : Option (List Change)) (added : List JobParts) (files : List File) →
     IfSome (files_jobs zones added files) (λ jobs. (after_files zones (known_by clock added) files).jobs ≡ jobs)
-files_kept zones clock crontab timer added [] = refl
-files_kept zones clock crontab timer added (file ∷ more) =
+files_kept zones clock added [] = refl
+files_kept zones clock added (file ∷ more) =
     kept_after zones clock (jobs_by added (form_reading zones file.form file.name file.bytes))
     (file_findings zones (known_by clock added) file)
     (after_file zones (known_by clock added) file) more
-    (form_agrees zones clock crontab timer added file.form file.name file.bytes) (λ next. files_kept zones clock crontab timer next more)
+    (form_agrees zones clock added file.form file.name file.bytes) (λ next. files_kept zones clock next more)
 
-pub kept_law : (zones : Zones) (clock : Option (List Change)) → CrontabLaw → TimerLaw → (files : List File) →
+pub kept_law : (zones : Zones) (clock : Option (List Change)) (files : List File) →
     IfSome (files_jobs zones [] files) (λ jobs. (after_files zones (no_jobs clock) files).jobs ≡ jobs)
-kept_law zones clock crontab timer files = files_kept zones clock crontab timer [] files
+kept_law zones clock files = files_kept zones clock [] files

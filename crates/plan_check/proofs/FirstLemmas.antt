@@ -1,7 +1,7 @@
 -- The first error among the findings of a crontab: for the clause `first` of `findings`.
 -- The errors among the findings of lines are those of their entries (`faults_of_lines`), the first of which
 -- decides.
-use Rattle.std.proofs.Common.{◌≡◌, ℕ, ◌+◌, Bool, true, false, not, ◌&&◌, cond, List, [], ◌∷◌, ◌++◌, Option, Some, None, option_map, is_some, Ok, Err, refl, ap, sym, ◌∙◌, arith}
+use Rattle.std.proofs.Common.{◌≡◌, ℕ, ◌+◌, Bool, true, false, not, ◌&&◌, cond, List, [], ◌∷◌, ◌++◌, Option, Some, None, option_map, is_some, Ok, Err, refl, ap, ◌∙◌, arith}
 use Rattle.std.proofs.lemmas.Bool.Decides.{nat_tests}
 use Rattle.std.proofs.lemmas.List.Elements.{filter_map-append}
 use Rattle.std.specs.List.{filter_map, cons_option, enumerate_from}
@@ -16,7 +16,7 @@ use Rattle.plan_rules.specs.declared.line_fault.LineCause.TheVariants.{BadTabNam
 use Rattle.plan_rules.specs.declared.line_fault.LineFault.{LineFault}
 use Rattle.plan_texts.specs.Lines.{is_too_large, lines}
 use Rattle.plan_texts.specs.Steps.{◌>>=◌}
-use Rattle.plan_rules.specs.Crontab.{crontab_by_entries, crontab_reading, entries_of_lines, line_entry, line_reading}
+use Rattle.plan_rules.specs.Crontab.{crontab_reading, entries_of_lines, line_entry, line_reading}
 use Rattle.plan_rules.specs.Entries.{entry_on, refusals, given, unless_refused, meant_by}
 use Rattle.plan_rules.specs.FileText.{text_reading}
 use Rattle.plan_rules.specs.Job.{JobParts}
@@ -107,19 +107,14 @@ faults_of_text known label kind texts = faults_of_lines known label kind (enumer
 
 -- ---- a file
 
--- the law of entries, as plan_rules offers it
-abbrev pub CrontabLaw : Type 0
-CrontabLaw = (label : List ℕ) (kind : Kind) (bytes : List ℕ) → crontab_reading label kind bytes ≡ crontab_by_entries label kind bytes
-
 first_refused : {A : Type 0} (faults : List LineFault) (x : A) → first_of faults ≡ result_err (unless_refused faults x)
 first_refused faults x = grind (arith, nat_tests)
 
 of_bytes :
     (large utf8 : Bool) (bytes : List ℕ) (known : KnownJobs) (label : List ℕ) (kind : Kind) →
     first_fault (crontab_findings known label kind (on_line 0 (cond large (Err TooLarge) (cond utf8 (Ok bytes) (Err NotUtf8)))))
-    ≡ result_err ((on_line 0 (cond large (Err TooLarge) (cond utf8 (Ok bytes) (Err NotUtf8)))
-    >>= λ text. Ok (entries_of_lines label kind (lines text)))
-    >>= λ entries. meant_by entries)
+    ≡ result_err (on_line 0 (cond large (Err TooLarge) (cond utf8 (Ok bytes) (Err NotUtf8)))
+    >>= λ text. meant_by (entries_of_lines label kind (lines text)))
 of_bytes true utf8 bytes known label kind = refl
 of_bytes false true bytes known label kind =
     let entries = entries_of_lines label kind (lines bytes) in
@@ -127,10 +122,9 @@ of_bytes false true bytes known label kind =
 of_bytes false false bytes known label kind = refl
 
 of_crontab :
-    CrontabLaw → (known : KnownJobs) (label : List ℕ) (kind : Kind) (bytes : List ℕ) →
+    (known : KnownJobs) (label : List ℕ) (kind : Kind) (bytes : List ℕ) →
     first_fault (crontab_findings known label kind (text_reading bytes)) ≡ result_err (crontab_reading label kind bytes)
-of_crontab law known label kind bytes =
-    of_bytes (is_too_large bytes) (is_utf8 bytes) bytes known label kind ∙ ap result_err (sym (law label kind bytes))
+of_crontab known label kind bytes = of_bytes (is_too_large bytes) (is_utf8 bytes) bytes known label kind
 
 -- a bad name is the first error
 of_named :
@@ -141,9 +135,9 @@ of_named true found reading is = is
 of_named false found reading is = refl
 
 pub first_of_file :
-    (zones : Zones) → CrontabLaw → (known : KnownJobs) (form : Form) (name bytes : List ℕ) →
+    (zones : Zones) (known : KnownJobs) (form : Form) (name bytes : List ℕ) →
     HasFirst form (file_findings zones known (file_of form name bytes)) (form_reading zones form name bytes)
-first_of_file zones law known (Crontab kind) name bytes = of_crontab law (in_file known (Crontab kind) name) (label_of kind) kind bytes
-first_of_file zones law known (Named directory) name bytes =
-    of_named (is_crontab_name directory name) _ _ (of_crontab law (in_file known (Named directory) name) name (kind_in directory) bytes)
-first_of_file zones law known Timer name bytes = tt
+first_of_file zones known (Crontab kind) name bytes = of_crontab (in_file known (Crontab kind) name) (label_of kind) kind bytes
+first_of_file zones known (Named directory) name bytes =
+    of_named (is_crontab_name directory name) _ _ (of_crontab (in_file known (Named directory) name) name (kind_in directory) bytes)
+first_of_file zones known Timer name bytes = tt

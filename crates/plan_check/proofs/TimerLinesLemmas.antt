@@ -1,21 +1,17 @@
 -- The lines of a timer file, one after the other: for the loop of `read_lines`. What was found so far, with what the remaining
 -- lines add to it, is what is found in all lines.
-use Rattle.std.proofs.Common.{◌≡◌, ℕ, Bool, true, false, not, ◌&&◌, ◌||◌, List, [], ◌∷◌, ◌++◌, Option, Some, None, refl, ap, sym, ◌∙◌}
+use Rattle.std.proofs.Common.{◌≡◌, ℕ, Bool, true, false, not, ◌&&◌, ◌||◌, List, [], ◌∷◌, ◌++◌, Option, Some, None, refl, sym, ◌∙◌}
 use Rattle.std.proofs.lemmas.List.{append_assoc}
 use Rattle.std.specs.List.{cons_option, list_any}
-use Rattle.std.specs.Option.{option_or}
 use Rattle.plan_clock.specs.declared.row.Change.{Change}
-use Rattle.plan_match.specs.declared.event.Calendar.{Calendar}
-use Rattle.plan_grammar.specs.EventZones.{Zones}
 use Rattle.plan_rules.specs.declared.timer_delays.TimerDelays.{TimerDelays}
-use Rattle.plan_rules.specs.LineFaults.{LineReading}
-use Rattle.plan_rules.specs.Timer.{Effect, Reset, Event, Starts, Nothing, effects_from, first_unit, settings_from, timer_setting}
+use Rattle.plan_rules.specs.Timer.{settings_from, timer_setting}
 use Rattle.plan_rules.specs.TimerDelays.{Setting, delays_after, delays_with}
-use Rattle.plan_rules.specs.TimerEntries.{EventCount, TimerState, effect_in, event_by, event_line, line_by, line_in, state_after}
+use Rattle.plan_rules.specs.TimerEntries.{TimerState, state_after}
 use Rattle.plan_rules.proofs.TimerLemmas.{delays_front}
 use Rattle.plan_check.specs.declared.finding.Finding.{Finding}
 use Rattle.plan_check.specs.Settings.{stands, stands_after}
-use Rattle.plan_check.specs.Timers.{events_with, line_findings, lines_findings, right_events, unit_with}
+use Rattle.plan_check.specs.Timers.{line_findings, lines_findings}
 
 -- what is found after one more line
 pub lines_step :
@@ -88,46 +84,3 @@ delays_step before next state after line more whole is after_is so_far =
     (λ i. delays_with (is i) (settings_from (after_is i).inside more))
     ∙ sym (delays_front before (timer_setting state.inside line.1) (settings_from (state_after state line.1).inside more))
     ∙ so_far
-
--- ---- the job
-
-unit_of_event :
-    (number : ℕ) (read : Option (LineReading Calendar)) → unit_with None (event_line number read) ≡ None
-unit_of_event number None = refl
-unit_of_event number (Some read) = refl
-
--- the first unit that is named, by the one that was named before a line
-pub unit_front :
-    (zones : Zones) (unit : Option (List ℕ)) (number : ℕ) (count : EventCount) (effect : Effect) (more : List (ℕ × Effect)) →
-    option_or (unit_with unit (line_by zones number count effect)) (first_unit more) ≡ option_or unit (first_unit ((number, effect) ∷ more))
-unit_front zones (Some first) number count effect more = refl
-unit_front zones None number count Reset more = refl
-unit_front zones None number count (Event text) more =
-    ap (λ (unit : Option (List ℕ)). option_or unit (first_unit more)) (unit_of_event number (event_by zones count text))
-unit_front zones None number count (Starts unit) more = refl
-unit_front zones None number count Nothing more = refl
-
--- the unit after one more line
-pub unit_step :
-    (before next : Option (List ℕ)) (state after : TimerState) (line : ℕ × List ℕ) (more : List (ℕ × List ℕ))
-    (whole : Option (List ℕ)) →
-    next ≡ unit_with before (line_in state line) → after ≡ state_after state line.1 →
-    option_or before (first_unit (effects_from state.inside (line ∷ more))) ≡ whole →
-    option_or next (first_unit (effects_from after.inside more)) ≡ whole
-unit_step before next state after line more whole is after_is so_far =
-    (λ i. option_or (is i) (first_unit (effects_from (after_is i).inside more)))
-    ∙ unit_front state.zones before line.0 state.count (effect_in state line.1) (effects_from (state_after state line.1).inside more)
-    ∙ so_far
-
--- the unit after the last line
-pub unit_last : (unit : Option (List ℕ)) → option_or unit None ≡ unit
-unit_last (Some first) = refl
-unit_last None = refl
-
--- the events after one more line
-pub events_step :
-    (before next : List Calendar) (state after : TimerState) (line : ℕ × List ℕ) (more : List (ℕ × List ℕ)) (whole : List Calendar) →
-    next ≡ events_with before (line_in state line) → after ≡ state_after state line.1 →
-    right_events state before (line ∷ more) ≡ whole → right_events after next more ≡ whole
-events_step before next state after line more whole is after_is so_far =
-    (λ i. right_events (after_is i) (is i) more) ∙ so_far

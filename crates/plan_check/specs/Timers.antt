@@ -1,7 +1,6 @@
 -- The findings of a timer file (systemd.timer(5)). Which findings there are, and their order, is our choice (agenda).
-use Rattle.std.specs.Prelude.{ℕ, false, not, ◌&&◌, ◌==◌, if◌then◌else◌, List, [], ◌∷◌, ◌++◌, Option, Some, None, option_map, is_some, string_bytes, Ok, Err}
+use Rattle.std.specs.Prelude.{ℕ, false, not, ◌&&◌, ◌==◌, if◌then◌else◌, List, [], ◌∷◌, ◌++◌, Option, Some, None, option_map, is_some, Ok, Err}
 use Rattle.std.specs.List.{cons_option}
-use Rattle.std.specs.Result.{result_ok}
 use Rattle.plan_clock.specs.declared.row.Change.{Change}
 use Rattle.plan_match.specs.Zone.{rule_in}
 use Rattle.plan_match.specs.declared.event.Calendar.{Calendar}
@@ -10,10 +9,9 @@ use Rattle.plan_grammar.specs.EventZones.{Zones}
 use Rattle.plan_rules.specs.declared.line_fault.LineCause.TheVariants.{NoTimerSection}
 use Rattle.plan_rules.specs.Job.{JobParts}
 use Rattle.plan_rules.specs.LineFaults.{LineReading, TextReading}
-use Rattle.plan_rules.specs.Timer.{effects_from, first_unit, has_timer, is_timer_name, settings_from, timer_job, timer_setting}
+use Rattle.plan_rules.specs.Timer.{has_timer, is_timer_name, settings_from, timer_job, timer_setting}
 use Rattle.plan_rules.specs.TimerDelays.{Setting, delay_of}
-use Rattle.plan_rules.specs.TimerEntries.{LineStep, Idle, Empties, Has, Names, TimerState, held_after, line_in, no_lines, state_after}
-use Rattle.plan_check.specs.declared.draft.Draft.{Draft}
+use Rattle.plan_rules.specs.TimerEntries.{LineStep, Idle, Empties, Has, Names, TimerState, held_after, line_in, lines_draft, no_lines, state_after}
 use Rattle.plan_check.specs.declared.finding.Finding.{Finding}
 use Rattle.plan_check.specs.declared.finding.Warning.TheVariants.{NeverStarts, NoEvents, SkippedStarts, UnknownKey, BadDelay, Monotonic, Delayed}
 use Rattle.plan_check.specs.declared.finding.What.TheVariants.{Refused, Warned}
@@ -88,35 +86,10 @@ timer_findings zones known name (Err fault) = refused_at fault.line fault.cause 
 
 -- ---- the job that is kept
 
--- the events in the list after a line: an event that is rejected is left out, and so is one that would be the 65th
-abbrev pub events_with : List Calendar → LineStep → List Calendar
-events_with held (Has entry) = held ++ cons_option (result_ok entry.read) []
-events_with held Empties = []
-events_with held Idle = held
-events_with held (Names unit) = held
-
--- the events in the list after lines, from a state and the events that the list already has
-abbrev pub right_events : TimerState → List Calendar → List (ℕ × List ℕ) → List Calendar
-right_events state held [] = held
-right_events state held (line ∷ more) = right_events (state_after state line.1) (events_with held (line_in state line)) more
-
--- the unit that is named after a line: the first one counts
-abbrev pub unit_with : Option (List ℕ) → LineStep → Option (List ℕ)
-unit_with (Some first) step = Some first
-unit_with None (Names unit) = Some unit
-unit_with None Idle = None
-unit_with None Empties = None
-unit_with None (Has entry) = None
-
--- the unit that the lines so far name
-abbrev pub unit_of : Draft → Option (List ℕ)
-unit_of draft = option_map (λ unit. string_bytes unit) draft.unit
-
 -- the job of a timer with the events that are right, whatever else is rejected
 abbrev pub right_job : Zones → List ℕ → List (ℕ × List ℕ) → JobParts
 right_job zones name lines =
-    timer_job name (first_unit (effects_from false lines)) (right_events (no_lines zones) [] lines)
-    (delay_of (settings_from false lines))
+    timer_job name (lines_draft zones lines).unit (lines_draft zones lines).events (delay_of (settings_from false lines))
 
 -- what is known after a timer: its job is kept if nothing of the whole file is rejected
 abbrev pub after_timer : Zones → KnownJobs → List ℕ → TextReading (List (ℕ × List ℕ)) → KnownJobs

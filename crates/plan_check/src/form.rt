@@ -12,8 +12,8 @@ use crate::known::Known;
 use crate::report::refuse;
 use crate::timers::add_timer;
 use plan_rules::{
-    CrontabDirectory, EventZones, Job, Kind, LineCause, LineFault, crontab, crontab_is_its_entries,
-    is_crontab_name, is_timer_name, kind_in, named_crontab, timer,
+    CrontabDirectory, EventZones, Job, Kind, LineCause, LineFault, crontab, is_crontab_name,
+    is_timer_name, kind_in, named_crontab, timer,
 };
 use std::alloc::{AllocError, Global};
 
@@ -105,7 +105,6 @@ impl Form {
         // The first error among the findings of a crontab is the one that `read` returns.
         ensures first { IfOk result (λ found. HasFirst self found.items (form_reading zones.now self name.now bytes.now)) }
     {
-        crontab_is_its_entries();
         let mut found = Vec::new(alloc);
         self.add_name(known, &mut found, name)?;
         self.add_text(alloc, known, &mut found, name, bytes, zones)?;

@@ -7,8 +7,6 @@ ghost use Rattle.plan_check.specs.Finding.{errors_of, is_clean};
 ghost use Rattle.plan_check.specs.Known.{KnownJobs, no_jobs, without_warnings};
 ghost use Rattle.plan_check.specs.Files.{File, after_file, after_files, file_findings, files_findings, files_jobs};
 
-use plan_rules::{crontab_is_its_entries, timer_is_its_entries};
-
 /// States the law of findings: files in order have no finding but warnings exactly if jobs can be made of all of
 /// them. That means that each file is read without an error, no two jobs have the same name, and there are at
 /// most 1,000 jobs.
@@ -20,10 +18,7 @@ pub fn clean_where_jobs_are()
     // Then these are the jobs that are kept.
     ensures kept { (zones : Zones) (clock : Option (List Change)) (files : List File)
         → IfSome (files_jobs zones [] files) (λ jobs. (after_files zones (no_jobs clock) files).jobs ≡ jobs) }
-{
-    crontab_is_its_entries();
-    timer_is_its_entries();
-}
+{}
 
 /// States the law of errors: without a clock, the findings of a file are the errors among those with one, and the same
 /// jobs are kept.

@@ -1,22 +1,19 @@
 //! The findings of the text of a timer file (systemd.timer(5)).
 
 ghost use Rattle.std.specs.Prelude.{◌≡◌, ◌++◌, ◌∷◌, ◌&&◌, [], if◌then◌else◌, false, IfOk, OnOk, Ok, map, not, option_map};
-ghost use Rattle.std.specs.List.{cons_option};
-ghost use Rattle.std.specs.Result.{result_ok};
 ghost use Rattle.plan_match.specs.Zone.{rule_in};
 ghost use Rattle.plan_match.specs.declared.rule.Rule.TheVariants as rule;
-ghost use Rattle.plan_rules.specs.Timer.{effects_from, first_unit, has_timer, is_timer_name, settings_from, timer_job, timer_setting};
+ghost use Rattle.plan_rules.specs.Timer.{has_timer, is_timer_name, settings_from, timer_job, timer_setting};
 ghost use Rattle.plan_rules.specs.TimerDelays.{default_delays, delays_with, last_span, random_key};
-ghost use Rattle.plan_rules.specs.TimerEntries.{held_after, line_in, line_shown, no_lines, shown_line, state_after, timer_lines};
+ghost use Rattle.plan_rules.specs.TimerEntries.{draft_after, draft_of, held_after, line_in, line_shown, lines_draft, no_lines, shown_line, state_after, timer_lines};
 ghost use Rattle.plan_rules.specs.declared.line_fault.LineCause.TheVariants as cause;
 ghost use Rattle.plan_check.specs.declared.finding.What.TheVariants as what;
 ghost use Rattle.plan_check.specs.Finding.{found_if};
 ghost use Rattle.plan_check.specs.Known.{after_job, after_other};
 ghost use Rattle.plan_check.specs.Settings.{is_monotonic, standing_after};
-ghost use Rattle.plan_check.specs.Timers.{after_timer, event_warnings, events_with, job_findings, line_findings, lines_findings, read_findings, right_events, setting_findings, step_findings, timer_findings, timer_warnings, unit_of, unit_with};
+ghost use Rattle.plan_check.specs.Timers.{after_timer, event_warnings, job_findings, line_findings, lines_findings, read_findings, setting_findings, step_findings, timer_findings, timer_warnings};
 ghost use Rattle.plan_check.specs.Warnings.{never_starts};
 
-use crate::draft::Draft;
 use crate::finding::{Finding, Warning, What};
 use crate::known::Known;
 use crate::report::{add_if, add_name_fault, refuse};
@@ -25,7 +22,7 @@ use crate::skipped::may_skip_starts;
 use plan_clock::Clock;
 use plan_next::next_from;
 use plan_rules::{
-    Calendar, Entry, EventZones, Events, LineCause, LineFault, Rule, TimerLine, TimerReader,
+    Calendar, EventZones, Events, LineCause, LineFault, Rule, TimerDraft, TimerLine, TimerReader,
     is_timer_name, text_of, timer_job,
 };
 use plan_texts::whole_lines::{WholeLine, whole_lines};
@@ -109,11 +106,11 @@ fn add_timer_job(
     known: &mut Known,
     name: &str,
     has_section: bool,
-    draft: Draft,
+    draft: TimerDraft,
     delay: u64,
 ) -> Result<(), AllocError>
     ensures { OnOk result (known.new ≡ (if is_timer_name name.now && has_section
-        then after_job known.old (timer_job name.now (unit_of draft) draft.events delay) else after_other known.old name.now)) }
+        then after_job known.old (timer_job name.now (draft_of draft).unit draft.events delay) else after_other known.old name.now)) }
 {
     if is_timer_name(name.as_bytes()) && has_section {
         let job = timer_job(alloc, name, draft.unit, draft.events, delay)?;
@@ -155,18 +152,17 @@ fn read_lines<'z>(
     clock: &Option<Clock>,
     lines: &[WholeLine],
     zones: &'z EventZones,
-) -> Result<(TimerReader<'z>, Standing, Draft), AllocError>
+) -> Result<(TimerReader<'z>, Standing, TimerDraft), AllocError>
     ensures section { IfOk result (λ read. read.0.found ≡ has_timer (map shown_line lines.now)) }
     ensures held { IfOk result (λ read. read.0.count.held ≡ held_after (map shown_line lines.now)) }
     ensures monotonic { IfOk result (λ read. read.1.monotonic ≡ is_monotonic (settings_from false (map shown_line lines.now))) }
     ensures delays { IfOk result (λ read. read.1.delays ≡ delays_with default_delays (settings_from false (map shown_line lines.now))) }
-    ensures unit { IfOk result (λ read. unit_of read.2 ≡ first_unit (effects_from false (map shown_line lines.now))) }
-    ensures events { IfOk result (λ read. read.2.events ≡ right_events (no_lines zones.now) [] (map shown_line lines.now)) }
+    ensures draft { IfOk result (λ read. draft_of read.2 ≡ lines_draft zones.now (map shown_line lines.now)) }
     ensures found { OnOk result (found.new.items ≡ found.old.items ++ lines_findings clock.now (no_lines zones.now) (map shown_line lines.now)) }
 {
     let mut reader = TimerReader::new(zones);
     let mut standing = Standing::new();
-    let mut draft = Draft::new(alloc);
+    let mut draft = TimerDraft::new(alloc);
     for line in lines {
         standing = standing.after(reader.setting(line));
         add_line(alloc, &mut reader, &mut draft, found, clock, line)?;
@@ -178,15 +174,14 @@ fn read_lines<'z>(
 fn add_line(
     alloc: Global,
     reader: &mut TimerReader<'_>,
-    draft: &mut Draft,
+    draft: &mut TimerDraft,
     found: &mut Vec<Finding>,
     clock: &Option<Clock>,
     line: &WholeLine,
 ) -> Result<(), AllocError>
     ensures found { OnOk result (found.new.items ≡ found.old.items ++ line_findings clock.now reader.old (shown_line line.now)) }
     ensures reader { OnOk result (reader.new ≡ state_after reader.old (shown_line line.now).1) }
-    ensures unit { OnOk result (unit_of draft.new ≡ unit_with (unit_of draft.old) (line_in reader.old (shown_line line.now))) }
-    ensures events { OnOk result (draft.new.events ≡ events_with draft.old.events (line_in reader.old (shown_line line.now))) }
+    ensures draft { OnOk result (draft_of draft.new ≡ draft_after (draft_of draft.old) (line_in reader.old (shown_line line.now))) }
 {
     let setting = reader.setting(line);
     let step = reader.read(alloc, line)?;
@@ -194,11 +189,11 @@ fn add_line(
     add_setting(found, clock, line.number, setting)
 }
 
-// Adds the findings of what a line does, with its setting: those of its event, if there is one. Adds to the job what
-// the line says of it.
+// Adds the findings of what a line does, with its setting: those of its event, if there is one. Adds to the draft of the
+// job what the line says of it.
 fn add_step(
     alloc: Global,
-    draft: &mut Draft,
+    draft: &mut TimerDraft,
     found: &mut Vec<Finding>,
     clock: &Option<Clock>,
     setting: Option<(&str, &str)>,
@@ -206,20 +201,19 @@ fn add_step(
 ) -> Result<(), AllocError>
     ensures found { OnOk result (found.new.items ≡ found.old.items ++ step_findings clock.now
         (option_map (λ setting. (setting.0.now, setting.1.now)) setting.entry) (line_shown step.entry)) }
-    ensures unit { OnOk result (unit_of draft.new ≡ unit_with (unit_of draft.old) (line_shown step.entry)) }
-    ensures events { OnOk result (draft.new.events ≡ events_with draft.old.events (line_shown step.entry)) }
+    ensures draft { OnOk result (draft_of draft.new ≡ draft_after (draft_of draft.old) (line_shown step.entry)) }
 {
-    match step {
-        TimerLine::Event(Entry { line, read }) => {
-            add_event(alloc, draft, found, clock, line, value_of(setting), read)
-        }
-        TimerLine::Empties => {
-            draft.empty();
-            Ok(())
-        }
-        TimerLine::Starts(unit) => draft.name_unit(alloc, unit),
-        TimerLine::Nothing => Ok(()),
+    if let TimerLine::Event(entry) = &step {
+        add_event(
+            alloc,
+            found,
+            clock,
+            entry.line,
+            value_of(setting),
+            &entry.read,
+        )?;
     }
+    draft.add(alloc, step)
 }
 
 // Adds the warnings on a line's setting, if there is a clock.
@@ -245,26 +239,20 @@ fn add_setting(
     }
 }
 
-// Adds the findings of an event with this text, and the event to the job, unless it is rejected.
+// Adds the findings of an event with this text.
 fn add_event(
     alloc: Global,
-    draft: &mut Draft,
     found: &mut Vec<Finding>,
     clock: &Option<Clock>,
     line: u32,
     text: &str,
-    read: Result<Calendar, LineCause>,
+    read: &Result<Calendar, LineCause>,
 ) -> Result<(), AllocError>
-    ensures found { OnOk result (found.new.items ≡ found.old.items ++ read_findings clock.now line text.now read) }
-    ensures unit { OnOk result (unit_of draft.new ≡ unit_of draft.old) }
-    ensures events { OnOk result (draft.new.events ≡ draft.old.events ++ cons_option (result_ok read) []) }
+    ensures { OnOk result (found.new.items ≡ found.old.items ++ read_findings clock.now line text.now read.now) }
 {
     match read {
-        Ok(event) => {
-            add_event_warnings(alloc, found, clock, line, text, &event)?;
-            draft.push(event)
-        }
-        Err(cause) => refuse(found, line, cause),
+        Ok(event) => add_event_warnings(alloc, found, clock, line, text, event),
+        Err(cause) => refuse(found, line, *cause),
     }
 }
 

@@ -20,7 +20,8 @@ use Rattle.plan_texts.specs.Lines.{lines}
 use Rattle.plan_rules.specs.LineFaults.{TextReading, in_line, on_line}
 use Rattle.plan_rules.specs.Job.{JobParts}
 use Rattle.plan_texts.specs.WholeLines.{whole_lines}
-use Rattle.plan_rules.specs.Timer.{is_timer_name, section_name, setting_of, key_of, timer_of_lines, timer_reading}
+use Rattle.plan_rules.specs.Timer.{is_timer_name, section_name, setting_of, key_of}
+use Rattle.plan_rules.specs.TimerEntries.{timer_of_lines, timer_reading}
 
 -- the whole lines of some files: comments inside merged lines, an even and an odd number of backslashes, a
 -- backslash before a blank, carriage returns, a line of blanks, and the end of the file

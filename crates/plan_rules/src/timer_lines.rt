@@ -3,8 +3,7 @@
 ghost use Rattle.std.specs.Prelude.{◌≡◌, false, Some};
 ghost use Rattle.std.specs.Option.{option_map};
 ghost use Rattle.plan_texts.specs.WholeLines.{trimmed};
-ghost use Rattle.plan_rules.specs.Timer.{effect_of, key_of, line_effect, section_name, setting_of, timer_setting};
-ghost use Rattle.plan_rules.specs.TimerSteps.{effect_shown, sections_after};
+ghost use Rattle.plan_rules.specs.Timer.{effect_of, effect_shown, key_of, line_effect, section_name, sections_after, setting_of, timer_setting};
 
 use plan_texts::whole_lines::trimmed;
 

@@ -1,15 +1,14 @@
 -- Line by line: what was found so far, with what the remaining lines add to it, is what is found in all lines.
 use Rattle.std.proofs.Common.{◌≡◌, ◌+◌, ◌++◌, ◌||◌, append-nil, drop, map, ap, sym, ◌∙◌}
 use Rattle.std.proofs.lemmas.List.{drop_all}
-use Rattle.std.specs.Option.{option_or}
-use Rattle.plan_rules.specs.Timer.{effects_from, first_unit, has_timer, settings_from, timer_setting}
+use Rattle.plan_rules.specs.Timer.{effects_from, has_timer, settings_from, timer_setting}
 use Rattle.plan_rules.specs.TimerDelays.{delays_with}
-use Rattle.plan_rules.specs.TimerEntries.{EventCount, TimerState, count_from, shown_line}
-use Rattle.plan_rules.proofs.TimerEntryLemmas.{lines_more, section_step, count_step}
+use Rattle.plan_rules.specs.TimerEntries.{EventCount, TimerState, count_from, draft_from, draft_of, shown_line, steps_from}
+use Rattle.plan_rules.proofs.TimerEntryLemmas.{count_step, draft_step, lines_more, section_step}
 use Rattle.plan_check.specs.declared.settings.Standing.{Standing}
 use Rattle.plan_check.specs.Settings.{is_reset, is_span, standing_after}
-use Rattle.plan_check.specs.Timers.{lines_findings, right_events, unit_of}
-use Rattle.plan_check.proofs.TimerLinesLemmas.{delays_step, events_step, lines_step, section_last, stands_last, stands_step, stands_with, unit_last, unit_step}
+use Rattle.plan_check.specs.Timers.{lines_findings}
+use Rattle.plan_check.proofs.TimerLinesLemmas.{delays_step, lines_step, section_last, stands_last, stands_step, stands_with}
 use Rattle.plan_check.proofs.timers.read_lines.Goals as goal
 
 pub loop-line-init : goal.loop-line-init
@@ -17,7 +16,6 @@ loop-line-init c =
     let all = map shown_line c.args.lines.now in
     let state = c.new-reader.ensures in
     let settings = ap (λ (s : TimerState). settings_from s.inside all) state in
-    let effects = ap (λ (s : TimerState). effects_from s.inside all) state in
     let stood = c.new-standing.ensures in
     record {
       found = ap (λ (s : TimerState). c.args.found.now.items ++ lines_findings c.args.clock.now s all) state;
@@ -25,8 +23,8 @@ loop-line-init c =
       count = ap (λ (s : TimerState). count_from s.count (effects_from s.inside all)) state;
       monotonic = λ i. stands_with is_span is_reset (stood i).monotonic (settings i);
       delays = λ i. delays_with (stood i).delays (settings i);
-      unit = λ i. option_or (c.new-draft.ensures.unit i) (first_unit (effects i));
-      events = λ i. right_events (state i) (c.new-draft.ensures.events i) all;
+      draft = λ i. draft_from (c.new-draft.ensures i)
+          (steps_from (state i).zones (state i).count (effects_from (state i).inside all));
     }
 
 pub loop-line-preserved : goal.loop-line-preserved
@@ -55,13 +53,10 @@ loop-line-preserved c =
       delays = delays_step stood.delays c.after-standing.result.delays old new line more _
           (ap (λ (s : Standing). s.delays) stands) c.in_ok-add_line.ensures.reader
           (ap (λ left. delays_with stood.delays (settings_from old.inside left)) next ∙ c.loop-line.invariant.delays);
-      unit = unit_step (unit_of c.loop-line.draft) (unit_of c.add_line.new.draft) old new line more _ c.in_ok-add_line.ensures.unit
-          c.in_ok-add_line.ensures.reader
-          (ap (λ left. option_or (unit_of c.loop-line.draft) (first_unit (effects_from old.inside left))) next
-          ∙ c.loop-line.invariant.unit);
-      events = events_step c.loop-line.draft.events c.add_line.new.draft.events old new line more _ c.in_ok-add_line.ensures.events
-          c.in_ok-add_line.ensures.reader
-          (ap (λ left. right_events old c.loop-line.draft.events left) next ∙ c.loop-line.invariant.events);
+      draft = draft_step (draft_of c.loop-line.draft) (draft_of c.add_line.new.draft) old new line more _
+          c.in_ok-add_line.ensures.draft c.in_ok-add_line.ensures.reader
+          (ap (λ left. draft_from (draft_of c.loop-line.draft) (steps_from old.zones old.count (effects_from old.inside left))) next
+          ∙ c.loop-line.invariant.draft);
     }
 
 pub returns-clause-section : goal.returns-clause-section
@@ -92,19 +87,12 @@ returns-clause-delays c =
     let none = ap (map shown_line) (drop_all c.loop-line.line-index c.args.lines.now c.loop-line-test.false) in
     ap (λ left. delays_with c.loop-line.standing.delays (settings_from now.inside left)) (sym none) ∙ c.loop-line.invariant.delays
 
-pub returns-clause-unit : goal.returns-clause-unit
-returns-clause-unit c =
+pub returns-clause-draft : goal.returns-clause-draft
+returns-clause-draft c =
     let now = c.loop-line.reader in
-    let unit = unit_of c.loop-line.draft in
     let none = ap (map shown_line) (drop_all c.loop-line.line-index c.args.lines.now c.loop-line-test.false) in
-    sym (unit_last unit)
-    ∙ ap (λ left. option_or unit (first_unit (effects_from now.inside left))) (sym none)
-    ∙ c.loop-line.invariant.unit
-
-pub returns-clause-events : goal.returns-clause-events
-returns-clause-events c =
-    let none = ap (map shown_line) (drop_all c.loop-line.line-index c.args.lines.now c.loop-line-test.false) in
-    ap (right_events c.loop-line.reader c.loop-line.draft.events) (sym none) ∙ c.loop-line.invariant.events
+    ap (λ left. draft_from (draft_of c.loop-line.draft) (steps_from now.zones now.count (effects_from now.inside left))) (sym none)
+    ∙ c.loop-line.invariant.draft
 
 pub returns-clause-found : goal.returns-clause-found
 returns-clause-found c =

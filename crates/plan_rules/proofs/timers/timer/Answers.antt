@@ -7,7 +7,8 @@ use Rattle.plan_texts.specs.Steps.{GivesUnless}
 use Rattle.plan_rules.specs.LineFaults.{want_of_memory, of_whole, IsOwnCause, TextReading}
 use Rattle.plan_rules.specs.Job.{JobParts}
 use Rattle.plan_texts.specs.WholeLines.{whole_lines, trimmed}
-use Rattle.plan_rules.specs.Timer.{is_timer_name, timer_of_lines}
+use Rattle.plan_rules.specs.Timer.{is_timer_name}
+use Rattle.plan_rules.specs.TimerEntries.{timer_of_lines}
 use Rattle.plan_rules.proofs.CrontabFaults.{IsOwnFault, own_cause, no_other, answered}
 use Rattle.plan_rules.proofs.FileFaults.{too_large, not_utf8}
 use Rattle.plan_rules.proofs.TimerFaults.{lines_fault, timer_of_text, trimmed_lines}

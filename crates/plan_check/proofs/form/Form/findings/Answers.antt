@@ -1,5 +1,4 @@
--- The findings are those of the definition. The first error of a crontab is the first of its entries, and so the
--- crontab's, by the law of entries.
+-- The findings are those of the definition. The first error of a crontab is the first of its entries.
 use Rattle.std.proofs.Common.{◌≡◌, ◌++◌, List, ap, subst, sym, ◌∙◌}
 use Rattle.plan_check.specs.declared.finding.Finding.{Finding}
 use Rattle.plan_check.specs.Files.{HasFirst, after_text, name_findings, text_findings}
@@ -26,4 +25,4 @@ returns-clause-first c =
     let bytes = c.args.bytes.now in
     let P : List Finding → Type 0 = λ found. HasFirst c.args.self found (form_reading c.args.zones.now c.args.self name bytes) in
     subst P (sym (returns-clause-found c))
-    (first_of_file c.args.zones.now c.crontab_is_its_entries.ensures c.args.known.now c.args.self name bytes)
+    (first_of_file c.args.zones.now c.args.known.now c.args.self name bytes)
