@@ -4,7 +4,7 @@
 use Rattle.std.proofs.Common.{◌≡◌, ◌≢◌, ℕ, ◌+◌, eqb, List, [], ◌∷◌, length, Option, None, Some, Result, Ok, Err, IfErr, refl, ap, sym, inl, inr, subst, arith}
 use Rattle.std.proofs.lemmas.Bool.Decides.{nat_tests}
 use Rattle.std.proofs.lemmas.Bool.{cases_eq}
-use Rattle.std.specs.List.{cons_option, enumerate_from, filter_map, list_any}
+use Rattle.std.specs.List.{cons_option, enumerate_from, filter_map, list_any, slice_get}
 use Rattle.plan_rules.specs.declared.crontabs.Kind.{Kind}
 use Rattle.plan_rules.specs.declared.crontabs.Kind.TheVariants.{User, System}
 use Rattle.plan_grammar.specs.declared.fault.RuleFault.{RuleFault}
@@ -18,6 +18,7 @@ use Rattle.plan_texts.specs.EachLaws.{err_steps, err_choice}
 use Rattle.plan_texts.specs.Steps.{GivesUnless}
 use Rattle.plan_grammar.specs.Readings.{Reading}
 use Rattle.plan_texts.specs.Lines.{after_blanks, cut_word}
+use Rattle.plan_rules.specs.Job.{JobParts}
 use Rattle.plan_rules.specs.LineFaults.{LineReading, TextReading, IsOwnCause, cause_by_cause, in_line, on_line, fault_on_line, want_of_memory}
 use Rattle.plan_grammar.specs.Cron.{rule_in_front}
 use Rattle.plan_rules.specs.Entries.{entry_on, given, meant_by, refusal_on, refusals, unless_refused}
@@ -71,17 +72,19 @@ job label kind number text =
     err_steps IsLineCause (in_line (rule_in_front text)) _ (rule_in (rule_in_front text))
     (λ front. err_steps IsLineCause (what_reading kind front.1) _ (what kind front.1) (λ c. tt))
 
-entry : (label : List ℕ) (kind : Kind) (number : ℕ) (text : List ℕ) → IfErr (entry_reading label kind number text) IsLineCause
-entry label kind number [] = tt
-entry label kind number (first ∷ rest) =
+entry :
+    (label : List ℕ) (kind : Kind) (number : ℕ) (text : List ℕ) (first : Option ℕ) →
+    IfErr (entry_reading label kind number text first) IsLineCause
+entry label kind number text None = tt
+entry label kind number text (Some first) =
     err_choice IsLineCause (eqb first 35) _ _ tt
     (err_choice IsLineCause (begins_setting first) _ _
-    (err_choice IsLineCause (list_any (λ b. eqb b 61) (first ∷ rest)) (Ok None) (Err BadSetting) tt tt)
-    (err_steps IsLineCause (job_reading label kind number (first ∷ rest)) _ (job label kind number (first ∷ rest)) (λ j. tt)))
+    (err_choice IsLineCause (list_any (λ b. eqb b 61) text) (Ok None) (Err BadSetting) tt tt)
+    (err_steps IsLineCause (job_reading label kind number text) _ (job label kind number text) (λ j. tt)))
 
 line : (label : List ℕ) (kind : Kind) (number : ℕ) (text : List ℕ) → IfErr (line_reading label kind number text) IsLineCause
 unfolding line_reading
-line label kind number text = entry label kind number (after_blanks text)
+line label kind number text = entry label kind number (after_blanks text) (slice_get (after_blanks text) 0)
 
 -- ---- the error of a text
 
@@ -115,10 +118,6 @@ lines label kind (text ∷ more) x =
     entry_first (text.0 + 1) (line_reading label kind (text.0 + 1) text.1) (filter_map (line_entry label kind) more) x
     (line label kind (text.0 + 1) text.1) (lines label kind more x)
 
-pub jobs : (label : List ℕ) (kind : Kind) (texts : List (List ℕ)) → IfErr (meant_by (entries_of_lines label kind texts)) IsOwnFault
-unfolding entries_of_lines
-jobs label kind texts = lines label kind (enumerate_from 0 texts) (given (filter_map (line_entry label kind) (enumerate_from 0 texts)))
-
 -- ---- so every error that a call returns
 
 unless_memory :
@@ -142,6 +141,15 @@ answered view (Err fault) reading gives own =
     at_fault : {C : Type 0} (r : TextReading C) → r ≡ Err fault → IfErr r IsOwnFault → IsOwnFault fault
     at_fault (Ok x) is own = absurd cc
     at_fault (Err e) is own = let same : e ≡ fault = cc in rw (sym same) own
+
+-- so of the lines of a crontab
+pub jobs :
+    {A : Type 0} (view : A → List JobParts) (answer : Result A LineFault) (label : List ℕ) (kind : Kind) (texts : List (List ℕ)) →
+    GivesUnless want_of_memory view answer (meant_by (entries_of_lines label kind texts)) → IfErr answer IsOwnFault
+unfolding entries_of_lines
+jobs view answer label kind texts gives =
+    let found = filter_map (line_entry label kind) (enumerate_from 0 texts) in
+    answered view answer (meant_by found) gives (lines label kind (enumerate_from 0 texts) (given found))
 
 -- an error of the whole text is none of these
 pub no_other :

@@ -1,13 +1,22 @@
--- A crontab that is read line by line: for the loop of `jobs_of_lines`. The jobs so far and the entries of the remaining lines
--- together mean what all lines mean (`rest_reading`).
-use Rattle.std.proofs.Common.{◌≡◌, ℕ, ◌+◌, ◌<◌, ◌≤◌, List, [], ◌∷◌, ◌++◌, length, drop, get_or, map, Option, Some, None, Ok, Err, refl, ap, sym, ◌∙◌, append-nil}
+-- The command of a job, for `command`, and a crontab that is read line by line, for the loop of `jobs_of_lines`: the jobs so far
+-- and the entries of the remaining lines together mean what all lines mean (`rest_reading`).
+use Rattle.std.proofs.Common.{◌≡◌, ℕ, ◌+◌, ◌<◌, ◌≤◌, ◌==◌, true, false, List, [], ◌∷◌, ◌++◌, length, drop, get_or, map, Option, Some, None, Ok, Err, refl, ap, sym, ◌∙◌, append-nil}
 use Rattle.std.proofs.lemmas.List.{append_assoc, drop_more, drop_all}
 use Rattle.std.specs.List.{cons_option, enumerate_from, filter_map}
 use Rattle.std.specs.Result.{result_ok}
 use Rattle.plan_texts.specs.Steps.{◌>>=◌}
 use Rattle.plan_rules.specs.declared.entry.Entry.{Entry}
+use Rattle.plan_rules.specs.declared.line_fault.LineCause.TheVariants.{NoCommand}
+use Rattle.plan_rules.specs.Crontab.{command_reading}
 use Rattle.plan_rules.specs.LineFaults.{LineReading, TextReading, on_line}
 use Rattle.plan_rules.specs.Entries.{given, refusal_on, refusals, unless_refused}
+
+-- a missing command, and another one
+pub no_command : (text : List ℕ) → (length text == 0) ≡ true → command_reading text ≡ Err NoCommand
+no_command text empty = rw empty refl
+
+pub a_command : (text : List ℕ) → (length text == 0) ≡ false → command_reading text ≡ Ok text
+a_command text some = rw some refl
 
 -- what entries mean after these values
 abbrev pub meant_after : {A : Type 0} → List A → List (Entry A) → TextReading (List A)

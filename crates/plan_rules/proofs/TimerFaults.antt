@@ -1,5 +1,5 @@
 -- Which errors a timer file has, and what is known of its name and its lines: for `timer` and `service_name`.
--- `lines_fault` follows the definition: after each step all errors are of a line.
+-- `own_lines` follows the definition: after each step all errors are of a line.
 use Rattle.std.proofs.Common.{◌≡◌, ℕ, ◌+◌, ◌-◌, ◌≤◌, Bool, true, false, cond, nat_lt, nat_le, nat_eq, List, [], ◌∷◌, length, drop, get_or, map, codes, Option, None, Some, Ok, Err, IfErr, string_bytes, refl, ap, sym, ◌∙◌, arith}
 use Rattle.std.proofs.lemmas.Bool.{and_parts, leb-true}
 use Rattle.std.proofs.lemmas.List.{get_or-drop}
@@ -14,7 +14,7 @@ use Rattle.plan_rules.specs.Limits.{most_events}
 use Rattle.plan_texts.specs.declared.whole_lines.WholeLine.{WholeLine}
 use Rattle.plan_grammar.specs.Event.{event_reading}
 use Rattle.plan_grammar.specs.EventZones.{Zones}
-use Rattle.plan_rules.specs.LineFaults.{LineReading, in_line}
+use Rattle.plan_rules.specs.LineFaults.{LineReading, TextReading, in_line, want_of_memory}
 use Rattle.plan_rules.specs.Entries.{refusals, unless_refused}
 use Rattle.plan_rules.specs.FileText.{text_reading}
 use Rattle.plan_rules.specs.Job.{JobParts}
@@ -23,7 +23,8 @@ use Rattle.plan_rules.specs.Timer.{Effect, Reset, Event, Starts, Nothing, is_tim
 use Rattle.plan_rules.specs.TimerDelays.{delay_of}
 use Rattle.plan_rules.specs.TimerEntries.{EventCount, after_event_text, count_after, entries_from, entry_of, event_line, lines_draft, no_events, timer_of_lines, timer_reading}
 use Rattle.plan_texts.specs.EachLaws.{err_steps}
-use Rattle.plan_rules.proofs.CrontabFaults.{IsLineCause, IsOwnFault, rule_in, on, refused_first}
+use Rattle.plan_texts.specs.Steps.{GivesUnless}
+use Rattle.plan_rules.proofs.CrontabFaults.{IsLineCause, IsOwnFault, answered, rule_in, on, refused_first}
 
 -- ---- the name
 
@@ -76,11 +77,14 @@ job_fault true name unit events delay = tt
 job_fault false name unit events delay = on {A = JobParts} 0 (Err NoTimerSection) tt
 
 -- every error of a timer's lines is of a line
-pub lines_fault : (zones : Zones) (name : List ℕ) (lines : List (ℕ × List ℕ)) → IfErr (timer_of_lines zones name lines) IsOwnFault
-lines_fault zones name lines =
-    err_steps IsOwnFault (unless_refused (refusals (entries_from zones no_events (effects_from false lines))) (lines_draft zones lines)) _
+pub own_lines :
+    (answer : TextReading JobParts) (zones : Zones) (name : List ℕ) (lines : List (ℕ × List ℕ)) →
+    GivesUnless want_of_memory (λ job. job) answer (timer_of_lines zones name lines) → IfErr answer IsOwnFault
+own_lines answer zones name lines gives =
+    answered (λ job. job) answer (timer_of_lines zones name lines) gives
+    (err_steps IsOwnFault (unless_refused (refusals (entries_from zones no_events (effects_from false lines))) (lines_draft zones lines)) _
     (entries_fault zones no_events (effects_from false lines) (lines_draft zones lines))
-    (λ draft. job_fault (has_timer lines) name draft.unit draft.events (delay_of (settings_from false lines)))
+    (λ draft. job_fault (has_timer lines) name draft.unit draft.events (delay_of (settings_from false lines))))
 
 -- ---- the bytes
 

@@ -1,8 +1,8 @@
 -- The meaning of a crontab (crontab(5)): the jobs of its lines, or its first error with its line.
-use Rattle.std.specs.Prelude.{ℕ, ◌+◌, Bool, ◌||◌, ◌==◌, if◌then◌else◌, List, [], ◌∷◌, ◌++◌, length, codes, Option, Some, None, Ok, Err}
+use Rattle.std.specs.Prelude.{ℕ, ◌+◌, Bool, ◌||◌, ◌==◌, if◌then◌else◌, List, ◌++◌, length, codes, Option, Some, None, Ok, Err}
 use Rattle.std.specs.Char.{is_ascii_alphabetic}
 use Rattle.std.specs.Fmt.{decimal}
-use Rattle.std.specs.List.{list_any, filter_map, enumerate_from}
+use Rattle.std.specs.List.{list_any, filter_map, enumerate_from, slice_get}
 use Rattle.std.specs.Str.{byte}
 use Rattle.plan_rules.specs.declared.crontabs.Kind.{Kind}
 use Rattle.plan_rules.specs.declared.crontabs.Kind.TheVariants.{User, System}
@@ -63,18 +63,18 @@ abbrev pub setting_reading : List ℕ → LineReading (Option JobParts)
 setting_reading text = if list_any (λ b. b == byte "=") text then Ok None else Err BadSetting
 
 -- a line without leading blanks: by its first character it is empty, a comment, a setting, or else a job (crontab(5))
-abbrev pub entry_reading : (label : List ℕ) → Kind → ℕ → List ℕ → LineReading (Option JobParts)
-entry_reading label kind number [] = Ok None
-entry_reading label kind number (first ∷ rest) =
+abbrev pub entry_reading : (label : List ℕ) → Kind → ℕ → List ℕ → (first : Option ℕ) → LineReading (Option JobParts)
+entry_reading label kind number text None = Ok None
+entry_reading label kind number text (Some first) =
     if first == byte "#" then Ok None
-    else (if begins_setting first then setting_reading (first ∷ rest)
+    else (if begins_setting first then setting_reading text
     else (do
-      job ← job_reading label kind number (first ∷ rest)
+      job ← job_reading label kind number text
       Ok (Some job)))
 
 -- a line; its leading blanks are ignored (crontab(5))
 unfoldable pub line_reading : (label : List ℕ) → Kind → ℕ → List ℕ → LineReading (Option JobParts)
-line_reading label kind number line = entry_reading label kind number (after_blanks line)
+line_reading label kind number line = entry_reading label kind number (after_blanks line) (slice_get (after_blanks line) 0)
 
 -- ---- a crontab
 

@@ -1,5 +1,5 @@
 -- What the lines of a timer file say (systemd.timer(5), systemd.syntax(7)), and what the job of the file is.
-use Rattle.std.specs.Prelude.{ℕ, ◌-◌, Bool, false, ◌&&◌, ◌||◌, ◌==◌, nat_le, nat_lt, nat_eq, if◌then◌else◌, List, [], ◌∷◌, ◌++◌, length, take, codes, Option, Some, None, is_none, Ok, Err, unwrap_or}
+use Rattle.std.specs.Prelude.{ℕ, ◌-◌, Bool, false, ◌&&◌, ◌||◌, ◌==◌, nat_le, nat_lt, nat_eq, if◌then◌else◌, List, [], ◌∷◌, ◌++◌, length, take, codes, Option, Some, None, Ok, Err, unwrap_or}
 use Rattle.std.specs.Char.{is_ascii_alphabetic, is_ascii_digit}
 use Rattle.std.specs.List.{cons_option, list_any, list_all, slice_index, slice_range, ends_with, position_or_len, before_first, after_first}
 use Rattle.std.specs.Option.{option_map_or}
@@ -7,8 +7,6 @@ use Rattle.std.specs.Str.{byte, bytes_eq}
 use Rattle.plan_match.specs.declared.event.Calendar.{Calendar}
 use Rattle.plan_rules.specs.declared.line_fault.LineCause.TheVariants.{NoTimerSection}
 use Rattle.plan_match.specs.declared.rule.Rule.TheVariants.{Events}
-use Rattle.plan_rules.specs.declared.timer_lines.Key.{Key}
-use Rattle.plan_rules.specs.declared.timer_lines.Key.TheVariants.{OnCalendar, Monotonic, UnitName, OtherKey}
 use Rattle.plan_rules.specs.declared.timer_lines.LineEffect.{LineEffect}
 use Rattle.plan_rules.specs.declared.timer_lines.LineEffect.TheVariants as does
 use Rattle.plan_rules.specs.declared.timer_lines.Sections.{Sections}
@@ -67,12 +65,11 @@ monotonic_keys =
     codes "OnActiveSec" ∷ codes "OnBootSec" ∷ codes "OnStartupSec" ∷ codes "OnUnitActiveSec"
     ∷ codes "OnUnitInactiveSec" ∷ []
 
--- the kind of a setting; keys are compared exactly (systemd.syntax(7))
-unfoldable pub key_of : List ℕ → Key
-key_of text =
-    if bytes_eq text (codes "OnCalendar") then OnCalendar
-    else (if list_any (bytes_eq text) monotonic_keys then Monotonic
-    else (if bytes_eq text (codes "Unit") then UnitName else OtherKey))
+-- a setting empties the list of the times at which the timer elapses: a time setting without a value (systemd.timer(5),
+-- `OnCalendar=`); keys are compared exactly (systemd.syntax(7))
+abbrev pub is_reset : Setting → Bool
+is_reset setting =
+    (bytes_eq setting.0 (codes "OnCalendar") || list_any (bytes_eq setting.0) monotonic_keys) && (length setting.1 == 0)
 
 -- what a line does: it empties the list of events, adds an event to it, names the unit that is started, or does nothing
 -- (systemd.timer(5))
@@ -89,13 +86,13 @@ effect_shown (does.Event text) = Event text.now
 effect_shown (does.Starts unit) = Starts unit.now
 effect_shown does.Nothing = Nothing
 
--- what a setting does: an empty value of a time setting empties the list (systemd.timer(5)); an empty unit and the times of
--- monotonic timers are ignored (agenda)
-abbrev pub effect_of : Key → List ℕ → Effect
-effect_of OnCalendar value = if length value == 0 then Reset else Event value
-effect_of Monotonic value = if length value == 0 then Reset else Nothing
-effect_of UnitName value = if length value == 0 then Nothing else Starts value
-effect_of OtherKey value = Nothing
+-- what a setting does; an empty unit and the times of monotonic timers are ignored (agenda)
+unfoldable pub effect_of : Setting → Effect
+effect_of setting =
+    if is_reset setting then Reset
+    else (if length setting.1 == 0 then Nothing
+    else (if bytes_eq setting.0 (codes "OnCalendar") then Event setting.1
+    else (if bytes_eq setting.0 (codes "Unit") then Starts setting.1 else Nothing)))
 
 -- ---- what the lines do
 
@@ -114,11 +111,17 @@ sections_after sections section = record {
 abbrev pub line_effect : Bool → Option (List ℕ) → Option (List ℕ × List ℕ) → Effect
 line_effect inside (Some section) setting = Nothing
 line_effect inside None None = Nothing
-line_effect inside None (Some setting) = if inside then effect_of (key_of (setting.0)) (setting.1) else Nothing
+line_effect inside None (Some setting) = if inside then effect_of setting else Nothing
+
+-- the setting of a line, by the section that it begins and by what it says; only those in a `[Timer]` section count
+-- (systemd.syntax(7))
+abbrev pub setting_in : (inside : Bool) → (section : Option (List ℕ)) → (setting : Option Setting) → Option Setting
+setting_in inside (Some section) setting = None
+setting_in inside None setting = if inside then setting else None
 
 -- the key and the value of a line in a `[Timer]` section; a line that begins a section has none (systemd.syntax(7))
 abbrev pub timer_setting : Bool → List ℕ → Option Setting
-timer_setting inside text = if inside && is_none (section_name text) then setting_of text else None
+timer_setting inside text = setting_in inside (section_name text) (setting_of text)
 
 -- the settings in the `[Timer]` sections of lines, in order; the first line is in such a section if `inside` (systemd.syntax(7))
 abbrev pub settings_from : (inside : Bool) → List (ℕ × List ℕ) → List Setting

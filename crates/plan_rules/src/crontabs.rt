@@ -121,10 +121,10 @@ fn job_of_line(
     ensures { GivesLine result (line_reading label.now kind number line.now) }
 {
     let line = after_blanks(line);
-    match line.as_bytes() {
-        [] | [b'#', ..] => Ok(None),
-        [first, ..] if begins_setting(*first) => setting(line),
-        _ => Ok(Some(job(alloc, label, kind, number, line)?)),
+    match line.as_bytes().first() {
+        None | Some(b'#') => Ok(None),
+        Some(first) if begins_setting(*first) => setting(line),
+        Some(_) => Ok(Some(job(alloc, label, kind, number, line)?)),
     }
 }
 
@@ -175,6 +175,7 @@ fn what(alloc: Global, kind: Kind, text: &str) -> Result<(Option<String>, String
 }
 
 // Returns the command: the text without leading blanks, to the end of the line.
+#[tactic(auto, using(crate::proofs::CrontabLemmas::no_command, crate::proofs::CrontabLemmas::a_command))]
 fn command(text: &str) -> Result<&str, LineCause>
     ensures { result_map_both (λ command. command.now) (λ cause. cause) result
         ≡ command_reading (after_blanks text.now) }

@@ -43,6 +43,6 @@ pub use plan_texts::{Text, cut, lines, number};
 pub use timer_delays::TimerDelays;
 pub use timer_draft::TimerDraft;
 pub use timer_events::{TimerLine, TimerReader};
-pub use timer_lines::setting_of;
+pub use timer_lines::{is_monotonic_key, is_reset, setting_of};
 pub use timer_zones::{add_timer_zones, only_named_zones_matter};
 pub use timers::{MOST_EVENTS, is_timer_name, timer, timer_job};

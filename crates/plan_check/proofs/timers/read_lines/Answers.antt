@@ -1,12 +1,12 @@
 -- Line by line: what was found so far, with what the remaining lines add to it, is what is found in all lines.
 use Rattle.std.proofs.Common.{◌≡◌, ◌+◌, ◌++◌, ◌||◌, append-nil, drop, map, ap, sym, ◌∙◌}
 use Rattle.std.proofs.lemmas.List.{drop_all}
-use Rattle.plan_rules.specs.Timer.{effects_from, has_timer, settings_from, timer_setting}
+use Rattle.plan_rules.specs.Timer.{effects_from, has_timer, is_reset, settings_from, timer_setting}
 use Rattle.plan_rules.specs.TimerDelays.{delays_with}
 use Rattle.plan_rules.specs.TimerEntries.{EventCount, TimerState, count_from, draft_from, draft_of, shown_line, steps_from}
 use Rattle.plan_rules.proofs.TimerEntryLemmas.{count_step, draft_step, lines_more, section_step}
 use Rattle.plan_check.specs.declared.settings.Standing.{Standing}
-use Rattle.plan_check.specs.Settings.{is_reset, is_span, standing_after}
+use Rattle.plan_check.specs.Settings.{is_span, standing_after}
 use Rattle.plan_check.specs.Timers.{lines_findings}
 use Rattle.plan_check.proofs.TimerLinesLemmas.{delays_step, lines_step, section_last, stands_last, stands_step, stands_with}
 use Rattle.plan_check.proofs.timers.read_lines.Goals as goal

@@ -1,8 +1,8 @@
 use Rattle.std.proofs.Common.{◌≡◌, false, ◌||◌, ◌++◌, map, drop}
-use Rattle.plan_rules.specs.Timer.{effects_from, has_timer, settings_from}
+use Rattle.plan_rules.specs.Timer.{effects_from, has_timer, is_reset, settings_from}
 use Rattle.plan_rules.specs.TimerDelays.{default_delays, delays_with}
 use Rattle.plan_rules.specs.TimerEntries.{count_from, draft_from, draft_of, lines_draft, no_events, no_lines, shown_line, steps_from}
-use Rattle.plan_check.specs.Settings.{is_monotonic, is_reset, is_span}
+use Rattle.plan_check.specs.Settings.{is_monotonic, is_span}
 use Rattle.plan_check.specs.Timers.{lines_findings}
 use Rattle.plan_check.proofs.TimerLinesLemmas.{stands_with}
 use Rattle.plan_check.proofs.timers.read_lines.Given as goal
