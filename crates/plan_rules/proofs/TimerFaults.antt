@@ -1,6 +1,6 @@
 -- Which errors a timer file has, and what is known of its name and its lines: for `timer` and `service_name`.
 -- `own_lines` follows the definition: after each step all errors are of a line.
-use Rattle.std.proofs.Common.{◌≡◌, ℕ, ◌+◌, ◌-◌, ◌≤◌, Bool, true, false, cond, nat_lt, nat_le, nat_eq, List, [], ◌∷◌, length, drop, get_or, map, codes, Option, None, Some, Ok, Err, IfErr, string_bytes, refl, ap, sym, ◌∙◌, arith}
+use Rattle.std.proofs.Common.{◌≡◌, ℕ, ◌+◌, ◌-◌, ◌≤◌, Bool, true, false, cond, nat_lt, nat_le, nat_eq, List, [], ◌∷◌, length, drop, get_or, map, codes, Option, Ok, Err, IfErr, string_bytes, refl, ap, sym, ◌∙◌, arith}
 use Rattle.std.proofs.lemmas.Bool.{and_parts, leb-true}
 use Rattle.std.proofs.lemmas.List.{get_or-drop}
 use Rattle.std.proofs.lemmas.Str.{IsCharBoundary-before_ascii}
@@ -15,13 +15,13 @@ use Rattle.plan_texts.specs.declared.whole_lines.WholeLine.{WholeLine}
 use Rattle.plan_grammar.specs.Event.{event_reading}
 use Rattle.plan_grammar.specs.EventZones.{Zones}
 use Rattle.plan_rules.specs.LineFaults.{LineReading, TextReading, in_line, want_of_memory}
-use Rattle.plan_rules.specs.Entries.{refusals, unless_refused}
+use Rattle.plan_rules.specs.Entries.{entry_at, refusals, unless_refused}
 use Rattle.plan_rules.specs.FileText.{text_reading}
 use Rattle.plan_rules.specs.Job.{JobParts}
 use Rattle.plan_texts.specs.WholeLines.{whole_lines, whole_text, trimmed}
 use Rattle.plan_rules.specs.Timer.{Effect, Reset, Event, Starts, Nothing, is_timer_name, effects_from, has_timer, job_with, settings_from}
 use Rattle.plan_rules.specs.TimerDelays.{delay_of}
-use Rattle.plan_rules.specs.TimerEntries.{EventCount, after_event_text, count_after, entries_from, entry_of, event_line, lines_draft, no_events, timer_of_lines, timer_reading}
+use Rattle.plan_rules.specs.TimerEntries.{EventCount, after_event_text, count_after, Has, Idle, entries_from, entry_of, lines_draft, no_events, timer_of_lines, timer_reading}
 use Rattle.plan_texts.specs.EachLaws.{err_steps}
 use Rattle.plan_texts.specs.Steps.{GivesUnless}
 use Rattle.plan_rules.proofs.CrontabFaults.{IsLineCause, IsOwnFault, answered, rule_in, on, refused_first}
@@ -52,8 +52,8 @@ boundary_of_name name is =
 event_fault :
     {A : Type 0} (room told : Bool) (number : ℕ) (read : LineReading Calendar) (more : List (Entry Calendar)) (x : A) →
     IfErr read IsLineCause → IfErr (unless_refused (refusals more) x) IsOwnFault →
-    IfErr (unless_refused (refusals
-    (cons_option (entry_of (event_line number (cond room (Some read) (cond told None (Some (Err TooManyLines)))))) more)) x) IsOwnFault
+    IfErr (unless_refused (refusals (cons_option (entry_of (cond room (Has (entry_at number read))
+    (cond told Idle (Has (entry_at number (Err TooManyLines)))))) more)) x) IsOwnFault
 event_fault true told number read more x own later = refused_first number read (refusals more) x own later
 event_fault false true number read more x own later = later
 event_fault false false number read more x own later = refused_first {A = Calendar} number (Err TooManyLines) (refusals more) x tt later

@@ -1,10 +1,14 @@
 -- A timer file that is read line by line: for the loop of `timer_of_lines`.
 -- The state and the remaining lines together mean what the whole file means (`rest_reading`): from one line to the next, and after
 -- the last.
-use Rattle.std.proofs.Common.{◌≡◌, ℕ, ◌+◌, ◌<◌, ◌≤◌, ◌||◌, false, List, ◌∷◌, length, drop, get_or, map, Option, Some, None, Ok, Err, unwrap_or, refl, ap, sym, ◌∙◌}
+use Rattle.std.proofs.Common.{◌≡◌, ℕ, ◌+◌, ◌<◌, ◌≤◌, ◌||◌, true, false, min, List, ◌∷◌, length, drop, get_or, map, Option, Some, None, Ok, Err, unwrap_or, refl, ap, sym, ◌∙◌, arith}
 use Rattle.std.proofs.Math.Bool.{or_assoc, or-false}
 use Rattle.std.proofs.lemmas.List.{drop_all}
+use Rattle.std.specs.Int.{div_ceil}
 use Rattle.std.specs.List.{cons_option, filter_map}
+use Rattle.std.specs.Str.{bytes_eq}
+use Rattle.plan_sets.specs.Limits.{end_second}
+use Rattle.plan_spans.specs.Spans.{time_span}
 use Rattle.plan_match.specs.declared.event.Calendar.{Calendar}
 use Rattle.plan_texts.specs.Steps.{◌>>=◌}
 use Rattle.plan_rules.specs.declared.entry.Entry.{Entry}
@@ -19,6 +23,17 @@ use Rattle.plan_rules.specs.TimerEntries.{Draft, LineStep, Idle, Empties, Has, N
 use Rattle.plan_rules.proofs.TimerEntryLemmas.{lines_more}
 
 -- ---- the delay
+
+-- a setting with the key
+pub span_given :
+    (key name value : List ℕ) (before : ℕ) → bytes_eq name key ≡ true →
+    span_after key before (Some (name, value)) ≡ unwrap_or (time_span value) before
+span_given key name value before same = rw same refl
+
+-- a sum that is cut at the greatest number is later than the end
+pub capped :
+    (sum : ℕ) → min (div_ceil (min sum 18_446_744_073_709_551_615) 1_000_000) end_second ≡ min (div_ceil sum 1_000_000) end_second
+capped sum = grind arith
 
 last_front :
     {A : Type 0} (before : A) (next : Option A) (more : List A) →

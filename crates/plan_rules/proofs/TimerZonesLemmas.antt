@@ -16,13 +16,13 @@ use Rattle.plan_grammar.specs.Readings.{Reading, refused}
 use Rattle.plan_texts.specs.Steps.{◌>>=◌}
 use Rattle.plan_texts.specs.Text.{words}
 use Rattle.plan_rules.specs.declared.line_fault.LineCause.TheVariants.{BadTimerName, TooManyLines}
-use Rattle.plan_rules.specs.Entries.{refusals, unless_refused}
+use Rattle.plan_rules.specs.Entries.{entry_at, refusals, unless_refused}
 use Rattle.plan_rules.specs.Job.{JobParts}
 use Rattle.plan_rules.specs.Limits.{most_events}
 use Rattle.plan_rules.specs.LineFaults.{TextReading, in_line, on_line}
 use Rattle.plan_rules.specs.Timer.{Effect, Reset, Event, Starts, Nothing, effects_from, has_timer, is_timer_name, job_with, settings_from}
 use Rattle.plan_rules.specs.TimerDelays.{delay_of}
-use Rattle.plan_rules.specs.TimerEntries.{EventCount, LineStep, Idle, Empties, Names, after_event_text, count_after, draft_from, entry_of, event_line, no_draft, no_events, steps_from, timer_lines, timer_of_lines, timer_reading}
+use Rattle.plan_rules.specs.TimerEntries.{EventCount, LineStep, Idle, Empties, Has, Names, after_event_text, count_after, draft_from, entry_of, no_draft, no_events, steps_from, timer_lines, timer_of_lines, timer_reading}
 use Rattle.plan_rules.specs.TimerZones.{HaveSameClocks, are_ascii, effect_zone, lines_zones, timer_zones}
 
 -- the clocks for a name are the same, if there is a name
@@ -102,8 +102,8 @@ same_steps :
 same_steps zones others count [] first second same = refl
 same_steps zones others count ((number, Event text) ∷ more) first second same =
     let both = first_same zones others (zone_name text) (filter_map (λ (effect : ℕ × Effect). effect_zone effect.1) more) same in
-    (λ i. event_line number (cond (nat_lt count.held most_events) (Some (in_line (same_event zones others text first second both.0 i)))
-    (cond count.told None (Some (Err TooManyLines)))) ∷ same_steps zones others (after_event_text count) more first second both.1 i)
+    (λ i. cond (nat_lt count.held most_events) (Has (entry_at number (in_line (same_event zones others text first second both.0 i))))
+    (cond count.told Idle (Has (entry_at number (Err TooManyLines)))) ∷ same_steps zones others (after_event_text count) more first second both.1 i)
 same_steps zones others count ((number, Reset) ∷ more) first second same =
     ap (λ steps. Empties ∷ steps) (same_steps zones others (count_after count Reset) more first second same)
 same_steps zones others count ((number, Starts unit) ∷ more) first second same =

@@ -33,13 +33,6 @@ pub record EventCount : Type 0 where
 abbrev pub no_events : EventCount
 no_events = record { held = 0; told = false }
 
--- the meaning of an event, which may name these zones; if the list already has 64, the event isn't read, and the first such event
--- of a file gets an error (agenda)
-abbrev pub event_by : Zones → EventCount → List ℕ → Option (LineReading Calendar)
-event_by zones count text =
-    if nat_lt count.held most_events then Some (in_line (event_reading zones text))
-    else (if count.told then None else Some (Err TooManyLines))
-
 -- the state after an event
 abbrev pub after_event_text : EventCount → EventCount
 after_event_text count =
@@ -53,15 +46,17 @@ pub data LineStep : Type 0 where
   Has : Entry Calendar → LineStep
   Names : (unit : List ℕ) → LineStep
 
--- what the line with this number does, if an event was read of it
-abbrev pub event_line : ℕ → Option (LineReading Calendar) → LineStep
-event_line number None = Idle
-event_line number (Some reading) = Has (entry_at number reading)
+-- what the line with this number does by an event, which may name these zones: if the list already has 64, the event isn't read,
+-- and the first such event of a file gets an error (agenda)
+abbrev pub event_by : Zones → ℕ → EventCount → List ℕ → LineStep
+event_by zones number count text =
+    if nat_lt count.held most_events then Has (entry_at number (in_line (event_reading zones text)))
+    else (if count.told then Idle else Has (entry_at number (Err TooManyLines)))
 
--- the same, by its effect
+-- what the line with this number does, by its effect
 abbrev pub line_by : Zones → ℕ → EventCount → Effect → LineStep
 line_by zones number count Reset = Empties
-line_by zones number count (Event text) = event_line number (event_by zones count text)
+line_by zones number count (Event text) = event_by zones number count text
 line_by zones number count (Starts unit) = Names unit
 line_by zones number count Nothing = Idle
 

@@ -1,6 +1,6 @@
 //! The lines of a timer file, read one after the other, each by itself (systemd.timer(5)).
 
-ghost use Rattle.std.specs.Prelude.{◌≡◌, IfOk, OnOk};
+ghost use Rattle.std.specs.Prelude.{◌≡◌, ◌+◌, ◌<◌, IfOk, OnOk};
 ghost use Rattle.plan_grammar.specs.Event.{event_reading};
 ghost use Rattle.plan_rules.specs.LineFaults.{in_line};
 ghost use Rattle.plan_rules.specs.TimerEntries.{line_shown, refusal_in};
@@ -70,8 +70,9 @@ impl<'z> Model for TimerReader<'z> {
 
 impl<'z> TimerReader<'z> {
     ghost use Rattle.std.specs.Option.{option_map};
+    ghost use Rattle.plan_rules.specs.Limits.{most_events};
     ghost use Rattle.plan_rules.specs.Timer.{timer_setting};
-    ghost use Rattle.plan_rules.specs.TimerEntries.{after_event_text, event_by, event_line, line_in, no_events, no_lines, shown_line, state_after};
+    ghost use Rattle.plan_rules.specs.TimerEntries.{after_event_text, event_by, line_in, no_events, no_lines, shown_line, state_after};
 
     /// Returns a reader that has read no line yet. Events may name these zones.
     pub fn new(zones: &'z EventZones) -> TimerReader<'z>
@@ -139,6 +140,14 @@ impl<'z> TimerReader<'z> {
         self.held = 0;
     }
 
+    // Counts an event of the list.
+    fn count(&mut self)
+        requires { self.old.count.held < most_events }
+        ensures { self.new ≡ record self.old { count = record self.old.count { held = self.old.count.held + 1 } } }
+    {
+        self.held += 1;
+    }
+
     // Reads an event, unless the list is full.
     fn read_event<'a>(
         &mut self,
@@ -146,12 +155,12 @@ impl<'z> TimerReader<'z> {
         number: u32,
         text: &str,
     ) -> Result<TimerLine<'a>, AllocError>
-        ensures line { IfOk result (λ read. line_shown read ≡ event_line number (event_by self.old.zones self.old.count text.now)) }
+        ensures line { IfOk result (λ read. line_shown read ≡ event_by self.old.zones number self.old.count text.now) }
         ensures after { OnOk result (self.new ≡ record self.old { count = after_event_text self.old.count }) }
     {
         if self.held < MOST_EVENTS {
             let read = event_in_line(alloc, text, self.zones)?;
-            self.held += 1;
+            self.count();
             return Ok(TimerLine::Event(Entry { line: number, read }));
         }
         if self.told {

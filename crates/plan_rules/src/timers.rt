@@ -79,10 +79,9 @@ pub fn timer(alloc: Global, name: &str, bytes: &[u8], zones: &EventZones) -> Res
 pub fn is_timer_name(name: &[u8]) -> bool
     ensures { result ≡ is_timer_name name.now }
 {
-    if name.len() < LEAST_NAME || name.len() > MOST_NAME {
-        return false;
-    }
-    name.ends_with(ENDING.as_bytes()) && are_name_bytes(name)
+    (LEAST_NAME..=MOST_NAME).contains(&name.len())
+        && name.ends_with(ENDING.as_bytes())
+        && are_name_bytes(name)
 }
 
 // Returns whether the name of a timer may have all these bytes.
