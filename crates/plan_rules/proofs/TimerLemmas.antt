@@ -1,7 +1,7 @@
 -- A timer file that is read line by line: for the loop of `timer_of_lines`.
 -- The state and the remaining lines together mean what the whole file means (`rest_reading`): from one line to the next, and after
 -- the last.
-use Rattle.std.proofs.Common.{◌≡◌, ℕ, ◌+◌, ◌<◌, ◌≤◌, ◌||◌, true, false, min, List, ◌∷◌, length, drop, get_or, map, Option, Some, None, Ok, Err, unwrap_or, refl, ap, sym, ◌∙◌, arith}
+use Rattle.std.proofs.Common.{◌≡◌, ℕ, ◌+◌, ◌<◌, ◌≤◌, ◌||◌, true, false, min, List, length, drop, get_or, map, Option, Some, None, Ok, Err, unwrap_or, refl, ap, sym, ◌∙◌, arith}
 use Rattle.std.proofs.Math.Bool.{or_assoc, or-false}
 use Rattle.std.proofs.lemmas.List.{drop_all}
 use Rattle.std.specs.Int.{div_ceil}
@@ -89,36 +89,28 @@ step_first Idle more draft next = refl
 step_first Empties more draft next = refl
 step_first (Names unit) more draft next = refl
 
--- one more line
-rest_line :
-    (name : List ℕ) (state : TimerState) (draft : Draft) (delays : TimerDelays) (line : ℕ × List ℕ) (more : List (ℕ × List ℕ)) →
-    rest_reading name state draft delays (line ∷ more)
-    ≡ unless_fault (refusal_in (line_in state line)) (rest_reading name (state_after state line.1)
-    (draft_after draft (line_in state line)) (delays_after delays (timer_setting state.inside line.1)) more)
-rest_line name state draft delays line more =
-    let after = state_after state line.1 in
-    let effects = effects_from after.inside more in
-    let setting = timer_setting state.inside line.1 in
-    (λ i. unless_refused (refusals (cons_option (entry_of (line_in state line)) (entries_from after.zones after.count effects)))
-    (draft_from (draft_after draft (line_in state line)) (steps_from after.zones after.count effects))
-    >>= λ all. job_with (sym (or_assoc state.found (inside_after false (section_name line.1)) (has_timer more)) i) name all.unit all.events
-    (delay_seconds (delays_front delays setting (settings_from after.inside more) i)))
-    ∙ step_first (line_in state line) (entries_from after.zones after.count effects) _ _
-
 -- the line at a position
 pub rest_reading-more :
     {A : Type 0} (v : A → ℕ × List ℕ) (name : List ℕ) (state : TimerState) (draft : Draft) (delays : TimerDelays) (lines : List A)
     (place : ℕ) (line : A) (refusal : Option LineFault) → place < length lines → line ≡ get_or lines place line →
     refusal ≡ refusal_in (line_in state (v line)) →
     rest_reading name state draft delays (map v (drop place lines))
-    ≡ unless_fault refusal (rest_reading name (state_after state (v line).1)
-    (draft_after draft (line_in state (v line))) (delays_after delays (timer_setting state.inside (v line).1))
-    (map v (drop (place + 1) lines)))
+    ≡ unless_fault refusal (rest_reading name (state_after state (v line).1) (draft_after draft (line_in state (v line)))
+    (delays_after delays (timer_setting state.inside (v line).1)) (map v (drop (place + 1) lines)))
 rest_reading-more v name state draft delays lines place line refusal inside is refused =
+    let text = (v line).1 in
+    let step = line_in state (v line) in
+    let after = state_after state text in
+    let more = map v (drop (place + 1) lines) in
+    let effects = effects_from after.inside more in
     ap (rest_reading name state draft delays) (lines_more v lines place line inside is)
-    ∙ rest_line name state draft delays (v line) (map v (drop (place + 1) lines))
-    ∙ ap (λ found. unless_fault found (rest_reading name (state_after state (v line).1) (draft_after draft (line_in state (v line)))
-    (delays_after delays (timer_setting state.inside (v line).1)) (map v (drop (place + 1) lines)))) (sym refused)
+    ∙ (λ i. unless_refused (refusals (cons_option (entry_of step) (entries_from after.zones after.count effects)))
+    (draft_from (draft_after draft step) (steps_from after.zones after.count effects))
+    >>= λ all. job_with (sym (or_assoc state.found (inside_after false (section_name text)) (has_timer more)) i) name all.unit all.events
+    (delay_seconds (delays_front delays (timer_setting state.inside text) (settings_from after.inside more) i)))
+    ∙ step_first step (entries_from after.zones after.count effects) _ _
+    ∙ ap (λ found. unless_fault found (rest_reading name after (draft_after draft step)
+    (delays_after delays (timer_setting state.inside text)) more)) (sym refused)
 
 -- after the last line
 pub rest_reading-end :

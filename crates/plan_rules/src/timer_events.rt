@@ -141,7 +141,7 @@ impl<'z> TimerReader<'z> {
     }
 
     // Counts an event of the list.
-    fn count(&mut self)
+    fn count_event(&mut self)
         requires { self.old.count.held < most_events }
         ensures { self.new ≡ record self.old { count = record self.old.count { held = self.old.count.held + 1 } } }
     {
@@ -160,7 +160,7 @@ impl<'z> TimerReader<'z> {
     {
         if self.held < MOST_EVENTS {
             let read = event_in_line(alloc, text, self.zones)?;
-            self.count();
+            self.count_event();
             return Ok(TimerLine::Event(Entry { line: number, read }));
         }
         if self.told {
