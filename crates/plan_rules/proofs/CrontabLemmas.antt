@@ -1,6 +1,6 @@
 -- The command of a job, for `command`, and a crontab that is read line by line, for the loop of `jobs_of_lines`: the jobs so far
 -- and the entries of the remaining lines together mean what all lines mean (`rest_reading`).
-use Rattle.std.proofs.Common.{◌≡◌, ℕ, ◌+◌, ◌<◌, ◌≤◌, ◌==◌, true, false, List, [], ◌∷◌, ◌++◌, length, drop, get_or, map, Option, Some, None, Ok, Err, refl, ap, sym, ◌∙◌, append-nil}
+use Rattle.std.proofs.Common.{◌≡◌, ℕ, ◌+◌, ◌<◌, ◌≤◌, ◌==◌, true, false, List, [], ◌∷◌, ◌++◌, length, drop, get_or, map, Option, Some, Ok, Err, refl, ap, sym, ◌∙◌, append-nil}
 use Rattle.std.proofs.lemmas.List.{append_assoc, drop_more, drop_all}
 use Rattle.std.specs.List.{cons_option, enumerate_from, filter_map}
 use Rattle.std.specs.Result.{result_ok}
@@ -32,15 +32,6 @@ first_entry :
     ≡ (on_line number read >>= λ job. meant_after (jobs ++ job ∷ []) more)
 first_entry number (Ok job) jobs more = ap (unless_refused (refusals more)) (sym (append_assoc jobs (job ∷ []) (given more)))
 first_entry number (Err cause) jobs more = refl
-
--- a line without an entry
-pub rest_none :
-    {A B : Type 0} (f : ℕ × List ℕ → Option (Entry B)) (v : A → List ℕ) (jobs : List B) (lines : List A) (place : ℕ) (d : A) →
-    place < length lines → f (place, v (get_or lines place d)) ≡ None →
-    rest_reading f v jobs lines place ≡ rest_reading f v jobs lines (place + 1)
-rest_none f v jobs lines place d inside is =
-    ap (λ left. meant_after jobs (filter_map f (enumerate_from place (map v left)))) (drop_more lines place d inside)
-    ∙ ap (λ entry. meant_after jobs (cons_option entry (filter_map f (enumerate_from (place + 1) (map v (drop (place + 1) lines)))))) is
 
 -- a line with an entry: it gives a job, or its error is that of the whole text
 pub rest_entry :

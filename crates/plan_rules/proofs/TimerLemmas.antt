@@ -1,9 +1,7 @@
 -- A timer file that is read line by line: for the loop of `timer_of_lines`.
--- The state and the remaining lines together mean what the whole file means (`rest_reading`): from one line to the next, and after
--- the last.
-use Rattle.std.proofs.Common.{◌≡◌, ℕ, ◌+◌, ◌<◌, ◌≤◌, ◌||◌, true, false, min, List, length, drop, get_or, map, Option, Some, None, Ok, Err, unwrap_or, refl, ap, sym, ◌∙◌, arith}
-use Rattle.std.proofs.Math.Bool.{or_assoc, or-false}
-use Rattle.std.proofs.lemmas.List.{drop_all}
+-- The state and the remaining lines together mean what the whole file means (`rest_reading`), from one line to the next.
+use Rattle.std.proofs.Common.{◌≡◌, ℕ, ◌+◌, ◌<◌, ◌||◌, true, false, min, List, length, drop, get_or, map, Option, Some, None, Ok, Err, unwrap_or, refl, ap, sym, ◌∙◌, arith}
+use Rattle.std.proofs.Math.Bool.{or_assoc}
 use Rattle.std.specs.Int.{div_ceil}
 use Rattle.std.specs.List.{cons_option, filter_map}
 use Rattle.std.specs.Str.{bytes_eq}
@@ -111,13 +109,3 @@ rest_reading-more v name state draft delays lines place line refusal inside is r
     ∙ step_first step (entries_from after.zones after.count effects) _ _
     ∙ ap (λ found. unless_fault found (rest_reading name after (draft_after draft step)
     (delays_after delays (timer_setting state.inside text)) more)) (sym refused)
-
--- after the last line
-pub rest_reading-end :
-    {A : Type 0} (v : A → ℕ × List ℕ) (name : List ℕ) (state : TimerState) (draft : Draft) (delays : TimerDelays) (lines : List A)
-    (place : ℕ) → length lines ≤ place →
-    rest_reading name state draft delays (map v (drop place lines))
-    ≡ job_with state.found name draft.unit draft.events (delay_seconds delays)
-rest_reading-end v name state draft delays lines place past =
-    ap (λ left. rest_reading name state draft delays (map v left)) (drop_all place lines past)
-    ∙ (λ i. job_with (or-false state.found i) name draft.unit draft.events (delay_seconds delays))
