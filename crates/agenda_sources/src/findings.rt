@@ -12,7 +12,7 @@ use crate::forms::form_of;
 use crate::reading::in_zone;
 use crate::sources::{Source, Sources};
 use crate::time_zones::TimeZones;
-use plan_check::{Known, Quoted, clean_where_jobs_are, errors_need_no_clock};
+use plan_check::{Known, Quoted, a_file_means_its_reading, errors_need_no_clock};
 use plan_clock::Clock;
 use plan_rules::{EventZones, Jobs};
 use std::alloc::{AllocError, Global};
@@ -52,7 +52,8 @@ pub fn findings_of_sources(
     // There is no error among the findings exactly if `jobs_of_sources` makes a list of jobs of the sources.
     ensures clean { IfOk result (λ found. is_all_clean found.items ≡ is_ok (sources_reading zones.now.named sources.now)) }
 {
-    clean_where_jobs_are();
+    a_file_means_its_reading();
+    errors_need_no_clock();
     let clock = zones.clock.try_clone()?;
     let (found, _) = read_sources(alloc, sources, Some(clock), &zones.named)?;
     Ok(found)
@@ -93,7 +94,7 @@ pub fn kept_of_sources(
 pub fn without_errors_all_is_kept()
     ensures { (zones : TimeZones) → (sources : List Source) → sources_errors zones sources ≡ [] → jobs_reading zones sources ≡ Ok (kept_jobs zones sources) }
 {
-    clean_where_jobs_are();
+    a_file_means_its_reading();
     errors_need_no_clock();
 }
 

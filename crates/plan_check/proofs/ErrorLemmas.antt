@@ -3,6 +3,7 @@
 use Rattle.std.proofs.Common.{◌≡◌, ℕ, ◌+◌, Bool, true, false, not, ◌&&◌, cond, List, [], ◌∷◌, ◌++◌, Option, Some, None, is_some, option_map, Ok, Err, refl, ap, sym, ◌∙◌, true≢false}
 use Rattle.std.proofs.lemmas.List.Elements.{filter-append}
 use Rattle.std.specs.List.{cons_option, enumerate_from}
+use Rattle.std.specs.Option.{option_or}
 use Rattle.plan_clock.specs.declared.row.Change.{Change}
 use Rattle.plan_match.specs.declared.event.Calendar.{Calendar}
 use Rattle.plan_grammar.specs.EventZones.{Zones}
@@ -72,23 +73,23 @@ error_of_name known line name = error_named known.makes_jobs (is_taken name know
 -- ---- what is known
 
 after_by :
-    (m a b : Bool) (known added told : KnownJobs) →
-    cond (not m) (without_warnings known) (cond a (without_warnings known) (cond b (without_warnings added) (without_warnings told)))
-    ≡ without_warnings (cond (not m) known (cond a known (cond b added told)))
-after_by false a b known added told = refl
-after_by true true b known added told = refl
-after_by true false true known added told = refl
-after_by true false false known added told = refl
+    (m a b : Bool) (known same added told : KnownJobs) →
+    cond (not m) (without_warnings known) (cond a (without_warnings same) (cond b (without_warnings added) (without_warnings told)))
+    ≡ without_warnings (cond (not m) known (cond a same (cond b added told)))
+after_by false a b known same added told = refl
+after_by true true b known same added told = refl
+after_by true false true known same added told = refl
+after_by true false false known same added told = refl
 
 job_without : (known : KnownJobs) (job : JobParts) → after_job (without_warnings known) job ≡ without_warnings (after_job known job)
 job_without known job =
     after_by known.makes_jobs (is_taken job.name known) (has_room known) known
-    (record known { jobs = known.jobs ++ job ∷ [] }) (record known { told = true })
+    (record known { taken = option_or known.taken (Some job.name) }) (record known { jobs = known.jobs ++ job ∷ [] }) (record known { told = true })
 
 other_without :
     (known : KnownJobs) (name : List ℕ) → after_other (without_warnings known) name ≡ without_warnings (after_other known name)
 other_without known name =
-    after_by known.makes_jobs (is_taken name known) (has_room known) known
+    after_by known.makes_jobs (is_taken name known) (has_room known) known known
     (record known { others = known.others ++ name ∷ [] }) (record known { told = true })
 
 -- ---- a crontab
@@ -113,7 +114,7 @@ line_errors known line text (Ok None) = setting_errors (is_some known.clock && i
 line_errors known line text (Ok (Some job)) = entry_errors known line job
 line_errors known line text (Err cause) = refl
 
-line_without :
+pub line_without :
     (known : KnownJobs) (read : LineReading (Option JobParts)) →
     after_line (without_warnings known) read ≡ without_warnings (after_line known read)
 line_without known (Ok None) = refl

@@ -1,7 +1,7 @@
-pub mod FirstLemmas
 pub mod CleanLemmas
 pub mod ErrorLemmas
 pub mod LinesLemmas
 pub mod TimerLinesLemmas
 pub mod QuoteLemmas
-pub mod FormLemmas
+pub mod RightEvents
+pub mod DecidingLemmas

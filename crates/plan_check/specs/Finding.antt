@@ -1,9 +1,7 @@
 -- Findings of lines and of whole files (agenda).
 use Rattle.std.specs.Prelude.{ℕ, Bool, true, false, not, List, [], ◌∷◌, codes, filter, Option, Some, None}
-use Rattle.std.specs.List.{filter_map, list_all}
+use Rattle.std.specs.List.{list_all}
 use Rattle.plan_rules.specs.declared.line_fault.LineCause.{LineCause}
-use Rattle.plan_rules.specs.declared.line_fault.LineFault.{LineFault}
-use Rattle.plan_rules.specs.LineFaults.{fault_on_line}
 use Rattle.plan_check.specs.declared.finding.Finding.{Finding}
 use Rattle.plan_check.specs.declared.finding.Warning.{Warning}
 use Rattle.plan_check.specs.declared.finding.Warning.TheVariants as warning
@@ -43,25 +41,10 @@ found_if false line what = []
 
 -- ---- errors
 
--- the error of a finding, if it rejects a line or a file
-abbrev pub fault_by : ℕ → What → Option LineFault
-fault_by line (Refused cause) = Some (fault_on_line line cause)
-fault_by line SameName = None
-fault_by line Full = None
-fault_by line (Warned warning) = None
-
--- the same for a finding with its line
-abbrev pub fault_of : Finding → Option LineFault
-fault_of finding = fault_by finding.line finding.what
-
 -- the first element of a list
 abbrev pub first_of : {A : Type 0} → List A → Option A
 first_of [] = None
 first_of (x ∷ xs) = Some x
-
--- the first error of a line or of a whole file among the findings
-abbrev pub first_fault : List Finding → Option LineFault
-first_fault found = first_of (filter_map fault_of found)
 
 -- whether a finding is a warning, so that nothing is rejected
 abbrev pub is_warning : What → Bool

@@ -1,6 +1,7 @@
 -- What is known from file to file: the jobs so far, in the order in which they are added (agenda).
 use Rattle.std.specs.Prelude.{ℕ, ◌+◌, Bool, false, true, not, ◌||◌, nat_lt, if◌then◌else◌, List, [], ◌∷◌, ◌++◌, length, Option, Some, None, is_some}
 use Rattle.std.specs.List.{list_any}
+use Rattle.std.specs.Option.{option_or}
 use Rattle.std.specs.Str.{bytes_eq}
 use Rattle.plan_clock.specs.declared.row.Change.{Change}
 use Rattle.plan_rules.specs.Job.{JobParts}
@@ -10,17 +11,19 @@ use Rattle.plan_check.specs.declared.finding.What.{What}
 use Rattle.plan_check.specs.declared.finding.What.TheVariants.{SameName, Full}
 
 -- the jobs that are kept, since nothing is wrong with them, the names of the timers that are rejected as a whole, whether Full
--- was reported, whether the file that is checked makes jobs, and the clock by which jobs start, if there are to be warnings
+-- was reported, the name of the first job that isn't added since its name is taken, whether the file that is checked makes jobs,
+-- and the clock by which jobs start, if there are to be warnings
 pub record KnownJobs : Type 0 where
   pub jobs : List JobParts
   pub others : List (List ℕ)
   pub told : Bool
+  pub taken : Option (List ℕ)
   pub makes_jobs : Bool
   pub clock : Option (List Change)
 
 -- what is known before the first file
 abbrev pub no_jobs : Option (List Change) → KnownJobs
-no_jobs clock = record { jobs = []; others = []; told = false; makes_jobs = true; clock = clock }
+no_jobs clock = record { jobs = []; others = []; told = false; taken = None; makes_jobs = true; clock = clock }
 
 -- the same for a file that makes jobs, or that makes none
 abbrev pub with_jobs : KnownJobs → (makes_jobs : Bool) → KnownJobs
@@ -47,19 +50,21 @@ name_fault known name =
     else (if has_room known then None
     else (if known.told then None else Some Full)))
 
--- what is known after a job of this name was checked, if this is known when it is added: it is added if nothing is wrong with
--- its name
-abbrev pub after_name : KnownJobs → List ℕ → (added : KnownJobs) → KnownJobs
-after_name known name added =
+-- what is known after a job of this name was checked, if this is known when its name is taken, and this when it is added: it is
+-- added if nothing is wrong with its name
+abbrev pub after_name : KnownJobs → List ℕ → (same added : KnownJobs) → KnownJobs
+after_name known name same added =
     if not known.makes_jobs then known
-    else (if is_taken name known then known
+    else (if is_taken name known then same
     else (if has_room known then added
     else record known { told = true }))
 
 -- what is known after a job
 abbrev pub after_job : KnownJobs → JobParts → KnownJobs
-after_job known job = after_name known job.name (record known { jobs = known.jobs ++ job ∷ [] })
+after_job known job =
+    after_name known job.name (record known { taken = option_or known.taken (Some job.name) })
+    (record known { jobs = known.jobs ++ job ∷ [] })
 
 -- what is known after a timer that is rejected as a whole: it makes no job, but no later job may have its name
 abbrev pub after_other : KnownJobs → List ℕ → KnownJobs
-after_other known name = after_name known name (record known { others = known.others ++ name ∷ [] })
+after_other known name = after_name known name known (record known { others = known.others ++ name ∷ [] })

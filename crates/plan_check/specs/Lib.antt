@@ -7,4 +7,5 @@ pub mod Settings
 pub mod Timers
 pub mod Form
 pub mod Files
+pub mod Deciding
 pub mod Quotes

@@ -1,19 +1,21 @@
 //! What is known from file to file: the jobs that are kept, and the names that no later job may have.
 
-ghost use Rattle.std.specs.Prelude.{◌≡◌, ◌++◌, ◌∷◌, [], OnOk, true, false};
+ghost use Rattle.std.specs.Prelude.{◌≡◌, ◌++◌, ◌∷◌, [], IfSome, IsOk, None, OnOk, Some, true, false, unwrap_or};
 ghost use Rattle.std.specs.List.{list_any};
+ghost use Rattle.std.specs.Option.{option_or};
 ghost use Rattle.std.specs.Str.{bytes_eq};
 ghost use Rattle.plan_check.specs.Known.{after_job, after_other, has_room, is_taken, name_fault, no_jobs, with_jobs};
 
 use crate::finding::What;
 use plan_clock::Clock;
-use plan_rules::{Job, Jobs, MOST_JOBS, Names};
+use plan_rules::{Job, Jobs, MOST_JOBS, Names, Text};
 use std::alloc::{AllocError, Global};
 use std::marker::Model;
 
 /// What is known from file to file: the jobs so far of which nothing was rejected, the names of the timers that were
-/// rejected as a whole, at most 1,000 together, whether `Full` was reported, whether the file that is checked makes
-/// jobs, and the clock of the zone in which the jobs start, if there are to be warnings.
+/// rejected as a whole, at most 1,000 together, whether `Full` was reported, the name of the first job that isn't added
+/// since its name is taken, whether the file that is checked makes jobs, and the clock of the zone in which the jobs
+/// start, if there are to be warnings.
 #[derive(Drop)]
 pub struct Known {
     jobs: Jobs,
@@ -21,6 +23,8 @@ pub struct Known {
     others: Names,
     // Whether `Full` was reported.
     is_told: bool,
+    // The name of the first job that isn't added since its name is taken.
+    taken: Option<Text>,
     // Whether the file makes jobs: not if its name is bad.
     makes_jobs: bool,
     // Without a clock there are no warnings.
@@ -40,6 +44,7 @@ impl Model for Known {
       jobs = known.jobs;
       others = known.others;
       told = known.is_told;
+      taken = known.taken;
       makes_jobs = known.makes_jobs;
       clock = known.clock;
     } };
@@ -55,6 +60,7 @@ impl Known {
             jobs: Jobs::new(alloc),
             others: Names::new(alloc),
             is_told: false,
+            taken: None,
             makes_jobs: true,
             clock,
         }
@@ -99,9 +105,15 @@ impl Known {
 
     // Adds a job, if the file makes jobs and nothing is wrong with the job's name.
     pub(crate) fn add(&mut self, job: Job) -> Result<(), AllocError>
-        ensures { OnOk result (self.new ≡ after_job self.old job) }
+        ensures added { OnOk result (self.new ≡ after_job self.old job) }
+        // If something is wrong with its name, that is known without any memory.
+        ensures at_once { IfSome (name_fault self.old job.name) (λ _. IsOk result) }
     {
-        if !self.makes_jobs || self.is_taken(job.name()) {
+        if !self.makes_jobs {
+            return Ok(());
+        }
+        if self.is_taken(job.name()) {
+            self.keep_name(job);
             return Ok(());
         }
         if self.has_room() {
@@ -123,6 +135,25 @@ impl Known {
         }
         self.is_told = true;
         Ok(())
+    }
+
+    // Keeps the name of a job that isn't added since its name is taken, if it is the first one.
+    fn keep_name(&mut self, job: Job)
+        ensures { self.new ≡ record self.old { taken = option_or self.old.taken (Some job.name) } }
+    {
+        if self.taken.is_none() {
+            self.taken = Some(job.into_name());
+        }
+    }
+
+    // Returns the name of the first job that isn't added since its name is taken, or an empty text.
+    pub(crate) fn take_name(&mut self, alloc: Global) -> Text
+        ensures { result ≡ unwrap_or self.old.taken [] }
+    {
+        match self.taken.take() {
+            Some(name) => name,
+            None => Text::new(String::new(alloc)),
+        }
     }
 
     // Appends a job. An error is that an allocation failed, since no job has its name and there is room.

@@ -23,10 +23,10 @@ returns-in_ok-add_warnings-in-Ok-clause-found c =
     c.in_ok-add_warnings-in-Ok.ensures
     ∙ ap (λ clock. c.add_name_fault.new.found.items ++ warnings_by clock line job) c.clock.ensures in
     rw c.in-Ok.is
-    (on_ok_weaker c.add.result (λ kept. second ∙ ap (λ found. found ++ warned) first ∙ append_assoc before named warned) c.add.ensures)
+    (on_ok_weaker c.add.result (λ kept. second ∙ ap (λ found. found ++ warned) first ∙ append_assoc before named warned) c.add.ensures.added)
 
 pub returns-in_ok-add_warnings-in-Ok-clause-known : goal.returns-in_ok-add_warnings-in-Ok-clause-known
-returns-in_ok-add_warnings-in-Ok-clause-known c = rw c.in-Ok.is c.add.ensures
+returns-in_ok-add_warnings-in-Ok-clause-known c = rw c.in-Ok.is c.add.ensures.added
 
 pub returns-in-Err-clause-found : goal.returns-in-Err-clause-found
 returns-in-Err-clause-found c = rw c.in-Err.is c.refuse.ensures
