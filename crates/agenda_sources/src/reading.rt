@@ -3,7 +3,7 @@
 ghost use Rattle.std.specs.Prelude.{◌≡◌, [], IfErr, IfOk, IfSome, Ok, Err};
 ghost use Rattle.plan_texts.specs.Steps.{GivesUnless};
 ghost use Rattle.plan_check.specs.Deciding.{strictly};
-ghost use Rattle.agenda_sources.specs.AtOnce.{fault_at_once};
+ghost use Rattle.agenda_sources.specs.AtOnce.{fault_at_once, source_at_once};
 ghost use Rattle.agenda_sources.specs.Faults.{IsOwnFault, in_source};
 ghost use Rattle.agenda_sources.specs.Findings.{source_file};
 ghost use Rattle.agenda_sources.specs.Sources.{jobs_reading, sources_reading, zoned};
@@ -91,7 +91,13 @@ fn add_jobs(
     ensures meaning { GivesUnless SourceFault.NoMemory (λ _. known.new) result
         (in_source place (strictly zones.now known.old (source_file source.now))) }
     ensures own_fault { IfErr result IsOwnFault }
+
+    // These errors are found before any memory is requested.
+    ensures at_once { IfSome (source_at_once place source.now) (λ fault. result ≡ Err fault) }
 {
+    if let Some(fault) = source_at_once(place, source) {
+        return Err(fault);
+    }
     let form = form_of(source.kind);
     let (name, bytes) = (source.name.as_str(), source.bytes.as_slice());
     let Ok(found) = form.findings(alloc, known, name, bytes, zones) else {
@@ -108,7 +114,15 @@ fn fault_at_once(sources: &Sources) -> Option<SourceFault>
     ensures fault { result ≡ fault_at_once sources.now }
     ensures own { IfSome result IsOwnFault }
 {
-    let first = sources.as_slice().first()?;
-    let cause = form_of(first.kind).cause_at_once(first.name.as_str(), first.bytes.as_slice())?;
-    Some(SourceFault::in_source(0, LineFault { line: 0, cause }))
+    source_at_once(0, sources.as_slice().first()?)
+}
+
+// Returns the error of the source at a place that is found before any memory is requested.
+fn source_at_once(place: usize, source: &Source) -> Option<SourceFault>
+    ensures fault { result ≡ source_at_once place source.now }
+    ensures own { IfSome result IsOwnFault }
+{
+    let form = form_of(source.kind);
+    let cause = form.cause_at_once(source.name.as_str(), source.bytes.as_slice())?;
+    Some(SourceFault::in_source(place, LineFault { line: 0, cause }))
 }
