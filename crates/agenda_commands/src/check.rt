@@ -65,9 +65,9 @@ fn verdict_on(found: &[Found]) -> Verdict
 
 // Returns whether all findings are warnings.
 fn are_warnings(found: &[Found]) -> bool
-    ensures { result ≡ list_all (λ one. is_warning one.quoted.finding.what) found.now }
+    ensures { result ≡ list_all (λ one. is_warning one.finding.what) found.now }
 {
-    found.iter().all(|one| is_warning(one.quoted.finding.what))
+    found.iter().all(|one| is_warning(one.finding.what))
 }
 
 // Returns whether a finding is a warning, which is no error.

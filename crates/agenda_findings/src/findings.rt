@@ -9,7 +9,7 @@ use crate::messages::{code_of, put_message, severity};
 use agenda_kinds::SourcePath;
 use agenda_sources::{Found, form_of};
 use itoa::Buffer as Digits;
-use plan_check::{Finding, Form, Quoted, What};
+use plan_check::{Finding, Form, What};
 use plan_streams::{Stream, TextWriter, WriteFault};
 use plan_write::put_string;
 
@@ -60,13 +60,13 @@ fn put_found<S: Stream>(
     json: bool,
     lines: &mut TextWriter<'_, S>,
 )
-    ensures { Takes S.holds S.takes_all lines.old lines.new (found_line json (slice_get paths.now one.now.place) one.now.quoted) }
+    ensures { Takes S.holds S.takes_all lines.old lines.new (found_line json (slice_get paths.now one.now.place) one.now.finding) }
 {
     if let Some(source) = paths.get(one.place) {
         put_finding(
             source.path.as_str(),
             form_of(source.kind),
-            &one.quoted,
+            &one.finding,
             json,
             lines,
         );
@@ -77,47 +77,51 @@ fn put_found<S: Stream>(
 fn put_finding<S: Stream>(
     path: &str,
     form: Form,
-    one: &Quoted,
+    finding: &Finding,
     json: bool,
     lines: &mut TextWriter<'_, S>,
 )
-    ensures { Takes S.holds S.takes_all lines.old lines.new (finding_in json path.now form one.now) }
+    ensures { Takes S.holds S.takes_all lines.old lines.new (finding_in json path.now form finding.now) }
 {
     if json {
-        put_finding_object(path, form, one, lines);
+        put_finding_object(path, form, finding, lines);
     } else {
-        put_finding_line(path, form, one, lines);
+        put_finding_line(path, form, finding, lines);
     }
 }
 
 // Puts the line of a finding in text.
-fn put_finding_line<S: Stream>(path: &str, form: Form, one: &Quoted, lines: &mut TextWriter<'_, S>)
-    ensures { Takes S.holds S.takes_all lines.old lines.new (finding_line path.now form one.now) }
+fn put_finding_line<S: Stream>(
+    path: &str,
+    form: Form,
+    finding: &Finding,
+    lines: &mut TextWriter<'_, S>,
+)
+    ensures { Takes S.holds S.takes_all lines.old lines.new (finding_line path.now form finding.now) }
 {
-    let what = one.finding.what;
-    put_before_message(path, one.finding, lines);
-    put_message(form, what, quote_of(one), false, lines);
-    put_after_message(what, lines);
+    put_before_message(path, finding, lines);
+    put_message(form, finding.what, quote_of(finding), false, lines);
+    put_after_message(finding.what, lines);
 }
 
 // Puts the object of a finding.
 fn put_finding_object<S: Stream>(
     path: &str,
     form: Form,
-    one: &Quoted,
+    finding: &Finding,
     lines: &mut TextWriter<'_, S>,
 )
-    ensures { Takes S.holds S.takes_all lines.old lines.new (finding_object path.now form one.now) }
+    ensures { Takes S.holds S.takes_all lines.old lines.new (finding_object path.now form finding.now) }
 {
-    put_members_before(path, one.finding, lines);
+    put_members_before(path, finding, lines);
     lines.put(b",\"text\":\"");
-    put_message(form, one.finding.what, quote_of(one), true, lines);
+    put_message(form, finding.what, quote_of(finding), true, lines);
     lines.put(b"\"}\n");
 }
 
 // Puts what comes before the message in an object.
-fn put_members_before<S: Stream>(path: &str, finding: Finding, lines: &mut TextWriter<'_, S>)
-    ensures { Takes S.holds S.takes_all lines.old lines.new (members_before path.now finding) }
+fn put_members_before<S: Stream>(path: &str, finding: &Finding, lines: &mut TextWriter<'_, S>)
+    ensures { Takes S.holds S.takes_all lines.old lines.new (members_before path.now finding.now) }
 {
     lines.put(b"{\"path\":");
     put_string(path, lines);
@@ -147,8 +151,8 @@ fn put_line_value<S: Stream>(line: u32, lines: &mut TextWriter<'_, S>)
 }
 
 // Puts what comes before a message.
-fn put_before_message<S: Stream>(path: &str, finding: Finding, lines: &mut TextWriter<'_, S>)
-    ensures { Takes S.holds S.takes_all lines.old lines.new (before_message path.now finding) }
+fn put_before_message<S: Stream>(path: &str, finding: &Finding, lines: &mut TextWriter<'_, S>)
+    ensures { Takes S.holds S.takes_all lines.old lines.new (before_message path.now finding.now) }
 {
     lines.put(path.as_bytes());
     put_line_mark(finding.line, lines);
@@ -174,10 +178,10 @@ fn put_line_mark<S: Stream>(line: u32, lines: &mut TextWriter<'_, S>)
 }
 
 // Returns the text that a message quotes, or nothing if it quotes none.
-fn quote_of(one: &Quoted) -> &str
-    ensures { result.now ≡ unwrap_or one.now.quote [] }
+fn quote_of(finding: &Finding) -> &str
+    ensures { result.now ≡ unwrap_or finding.now.quote [] }
 {
-    match &one.quote {
+    match &finding.quote {
         Some(quote) => quote.as_str(),
         None => "",
     }

@@ -21,12 +21,11 @@ use Rattle.plan_check.specs.Finding.{errors_of, is_clean, is_warning}
 use Rattle.plan_check.specs.Form.{form_reading}
 use Rattle.plan_clock.specs.declared.row.Change.{Change}
 use Rattle.plan_check.specs.Known.{KnownJobs, no_jobs, without_warnings}
-use Rattle.plan_check.specs.Quotes.{with_quote}
 use Rattle.agenda_sources.specs.declared.findings.Found.{Found}
 use Rattle.agenda_sources.specs.declared.sources.Source.{Source}
 use Rattle.agenda_sources.specs.declared.time_zones.TimeZones.{TimeZones}
 use Rattle.agenda_sources.specs.Faults.{SourceReading, in_source}
-use Rattle.agenda_sources.specs.Findings.{after_sources, found_at, found_from, is_all_clean, kept_jobs, quoted_findings, source_file, sources_errors, sources_findings}
+use Rattle.agenda_sources.specs.Findings.{after_sources, found_at, found_from, is_all_clean, kept_jobs, source_file, sources_errors, sources_findings}
 use Rattle.agenda_sources.specs.Forms.{form_of}
 use Rattle.agenda_sources.specs.Sources.{jobs_reading, sources_from, sources_reading, with_jobs, with_source, zoned}
 
@@ -35,23 +34,21 @@ use Rattle.agenda_sources.specs.Sources.{jobs_reading, sources_from, sources_rea
 abbrev files_of : List Source → List File
 files_of sources = map source_file sources
 
-findings_back :
-    (place : ℕ) (file : File) (found : List Finding) →
-    map (λ (one : Found). one.quoted.finding) (map (found_at place) (map (with_quote file) found)) ≡ found
-findings_back place file [] = refl
-findings_back place file (finding ∷ found) = ap (λ more. finding ∷ more) (findings_back place file found)
+findings_back : (place : ℕ) (found : List Finding) → map (λ (one : Found). one.finding) (map (found_at place) found) ≡ found
+findings_back place [] = refl
+findings_back place (finding ∷ found) = ap (λ more. finding ∷ more) (findings_back place found)
 
 -- the findings of sources are those of the files that they are
 found_files :
     (zones : Zones) (place : ℕ) (known : KnownJobs) (sources : List Source) →
-    map (λ (one : Found). one.quoted.finding) (found_from zones place known sources) ≡ files_findings zones known (files_of sources)
+    map (λ (one : Found). one.finding) (found_from zones place known sources) ≡ files_findings zones known (files_of sources)
 found_files zones place known [] = refl
 found_files zones place known (source ∷ more) =
     let file = source_file source in
     let after = after_file zones known file in
-    map-append (λ (one : Found). one.quoted.finding) (map (found_at place) (quoted_findings zones known file))
+    map-append (λ (one : Found). one.finding) (map (found_at place) (file_findings zones known file))
     (found_from zones (place + 1) after more)
-    ∙ (λ i. findings_back place file (file_findings zones known file) i ++ found_files zones (place + 1) after more i)
+    ∙ (λ i. findings_back place (file_findings zones known file) i ++ found_files zones (place + 1) after more i)
 
 -- ---- jobs that are appended
 
@@ -125,23 +122,21 @@ KnownLaw = (zones : Zones) (known : KnownJobs) (file : File) → after_file zone
     ≡ without_warnings (after_file zones known file)
 
 abbrev all_errors : List Found → List Found
-all_errors found = filter (λ one. not (is_warning one.quoted.finding.what)) found
+all_errors found = filter (λ one. not (is_warning one.finding.what)) found
 
 one_errors :
-    (is : Bool) (place : ℕ) (file : File) (finding : Finding) (errors : List Finding) (found : List Found) →
-    map (found_at place) (map (with_quote file) errors) ≡ found →
-    map (found_at place) (map (with_quote file) (cond is (finding ∷ errors) errors))
-    ≡ cond is (found_at place (with_quote file finding) ∷ found) found
-one_errors true place file finding errors found same = ap (λ more. found_at place (with_quote file finding) ∷ more) same
-one_errors false place file finding errors found same = same
+    (is : Bool) (place : ℕ) (finding : Finding) (errors : List Finding) (found : List Found) →
+    map (found_at place) errors ≡ found →
+    map (found_at place) (cond is (finding ∷ errors) errors) ≡ cond is (found_at place finding ∷ found) found
+one_errors true place finding errors found same = ap (λ more. found_at place finding ∷ more) same
+one_errors false place finding errors found same = same
 
-quoted_errors :
-    (place : ℕ) (file : File) (found : List Finding) →
-    map (found_at place) (map (with_quote file) (errors_of found)) ≡ all_errors (map (found_at place) (map (with_quote file) found))
-quoted_errors place file [] = refl
-quoted_errors place file (finding ∷ more) =
-    one_errors (not (is_warning finding.what)) place file finding (errors_of more)
-    (all_errors (map (found_at place) (map (with_quote file) more))) (quoted_errors place file more)
+found_errors :
+    (place : ℕ) (found : List Finding) → map (found_at place) (errors_of found) ≡ all_errors (map (found_at place) found)
+found_errors place [] = refl
+found_errors place (finding ∷ more) =
+    one_errors (not (is_warning finding.what)) place finding (errors_of more) (all_errors (map (found_at place) more))
+    (found_errors place more)
 
 pub errors_from :
     (zones : Zones) → ErrorLaw → KnownLaw → (place : ℕ) (known : KnownJobs) (sources : List Source) →
@@ -150,11 +145,11 @@ errors_from zones errors known_law place known [] = refl
 errors_from zones errors known_law place known (source ∷ more) =
     let file = source_file source in
     let after = after_file zones known file in
-    (λ i. map (found_at place) (map (with_quote file) (errors zones known file i))
+    (λ i. map (found_at place) (errors zones known file i)
     ++ found_from zones (place + 1) (known_law zones known file i) more)
-    ∙ (λ i. quoted_errors place file (file_findings zones known file) i ++ errors_from zones errors known_law (place + 1) after more i)
-    ∙ sym (filter-append (λ (one : Found). not (is_warning one.quoted.finding.what))
-    (map (found_at place) (quoted_findings zones known file))
+    ∙ (λ i. found_errors place (file_findings zones known file) i ++ errors_from zones errors known_law (place + 1) after more i)
+    ∙ sym (filter-append (λ (one : Found). not (is_warning one.finding.what))
+    (map (found_at place) (file_findings zones known file))
     (found_from zones (place + 1) after more))
 
 pub known_from :

@@ -6,13 +6,13 @@ use Rattle.std.proofs.lemmas.List.{drop_more}
 use Rattle.plan_texts.specs.Steps.{◌>>=◌}
 use Rattle.plan_grammar.specs.EventZones.{Zones}
 use Rattle.plan_rules.specs.Job.{JobParts}
-use Rattle.plan_check.specs.Files.{after_file}
+use Rattle.plan_check.specs.Files.{after_file, file_findings}
 use Rattle.plan_check.specs.Known.{KnownJobs}
 use Rattle.agenda_sources.specs.declared.fault.SourceFault.{SourceFault}
 use Rattle.agenda_sources.specs.declared.findings.Found.{Found}
 use Rattle.agenda_sources.specs.declared.sources.Source.{Source}
 use Rattle.agenda_sources.specs.Faults.{SourceReading}
-use Rattle.agenda_sources.specs.Findings.{after_sources, found_at, found_from, quoted_findings, source_file}
+use Rattle.agenda_sources.specs.Findings.{after_sources, found_at, found_from, source_file}
 use Rattle.agenda_sources.specs.Sources.{sources_from, with_source}
 
 -- the reading of the rest, from a source on
@@ -61,12 +61,12 @@ pub found_on :
     (zones : Zones) (sources : List Source) (index : ℕ) (source : Source) (known next : KnownJobs) (before after whole : List Found) →
     index < length sources → source ≡ get_or sources index source →
     before ++ found_from zones index known (drop index sources) ≡ whole →
-    after ≡ before ++ map (found_at index) (quoted_findings zones known (source_file source)) →
+    after ≡ before ++ map (found_at index) (file_findings zones known (source_file source)) →
     next ≡ after_file zones known (source_file source) →
     after ++ found_from zones (index + 1) next (drop (index + 1) sources) ≡ whole
 found_on zones sources index source known next before after whole within is so_far added kept =
     let more = drop (index + 1) sources in
-    let here = map (found_at index) (quoted_findings zones known (source_file source)) in
+    let here = map (found_at index) (file_findings zones known (source_file source)) in
     (λ i. added i ++ found_from zones (index + 1) (kept i) more)
     ∙ append_assoc before here (found_from zones (index + 1) (after_file zones known (source_file source)) more)
     ∙ sym (ap (λ left. before ++ found_from zones index known left) (sources_left sources index source within is))

@@ -40,9 +40,9 @@ use Rattle.plan_check.specs.Crontabs.{after_crontab, after_line, after_lines, cr
 use Rattle.plan_check.specs.Finding.{is_clean, is_warning, finding_at, found_if, refused_at}
 use Rattle.plan_check.specs.Files.{File, after_files, file_findings, file_of, after_file, files_findings, files_jobs, jobs_by, jobs_with, jobs_then}
 use Rattle.plan_check.specs.Form.{alone, form_reading, label_of}
-use Rattle.plan_check.specs.Known.{KnownJobs, after_other, no_jobs, with_jobs}
+use Rattle.plan_check.specs.Known.{KnownJobs, after_other, name_quote, no_jobs, with_jobs}
 use Rattle.plan_check.specs.Warnings.{command_warnings, ends_with_return, has_bare_percent, is_either_day, is_reboot, is_zone_setting, never_starts, rule_warnings, warnings_by}
-use Rattle.plan_check.specs.Settings.{is_bad_delay, is_delayed, is_monotonic, is_unknown_key, value_of}
+use Rattle.plan_check.specs.Settings.{is_bad_delay, is_delayed, is_monotonic, is_unknown_key, last_delay, value_of}
 use Rattle.plan_check.specs.Skipped.{may_skip_starts}
 use Rattle.plan_check.specs.Timers as timers
 use Rattle.plan_check.specs.Timers.{after_timer, event_warnings, events_with, right_events, right_job, setting_findings, step_findings, timer_warnings}
@@ -63,20 +63,21 @@ clean_append : (xs ys : List Finding) → is_clean (xs ++ ys) ≡ (is_clean xs &
 clean_append xs ys = list_all-append (λ finding. is_warning finding.what) xs ys
 
 warned_clean : (is_so : Bool) (line : ℕ) (warning : Warning) (more : List Finding) → is_clean
-    (found_if is_so line (Warned warning) ++ more) ≡ is_clean more
+    (found_if is_so line (Warned warning) None ++ more) ≡ is_clean more
 warned_clean is_so line warning more = grind (arith, nat_tests)
 
 two_clean :
-    (p q : Bool) (line : ℕ) (first second : Warning) → is_clean (found_if p line (Warned first) ++ found_if q line (Warned second)) ≡ true
-two_clean p q line first second = grind (arith, nat_tests)
+    (p q : Bool) (line : ℕ) (first second : Warning) (a b : Option (List ℕ)) →
+    is_clean (found_if p line (Warned first) a ++ found_if q line (Warned second) b) ≡ true
+two_clean p q line first second a b = grind (arith, nat_tests)
 
 pub warnings_clean : (clock : Option (List Change)) (line : ℕ) (job : JobParts) → is_clean (warnings_by clock line job) ≡ true
 warnings_clean None line job = refl
 warnings_clean (Some clock) line job =
     clean_append (rule_warnings clock line job.rule) (command_warnings line job.command)
     ∙ (λ i. two_clean (not (is_reboot job.rule) && never_starts (rule_in clock job.rule)) (is_either_day job.rule) line NeverStarts
-    EitherDay i
-    && two_clean (has_bare_percent job.command) (ends_with_return job.command) line Percent CarriageReturn i)
+    EitherDay None None i
+    && two_clean (has_bare_percent job.command) (ends_with_return job.command) line Percent CarriageReturn None None i)
 
 notes_clean : (clock : Option (List Change)) (line : ℕ) (job : JobParts) (more : List Finding) →
     is_clean (warnings_by clock line job ++ more) ≡ is_clean more
@@ -93,9 +94,9 @@ agrees_by clock (Some next) found same after is h = (is ∙ h.0, h.1)
 -- ---- one job
 
 -- the finding about a job's name, by whether the name is already used and whether there are fewer than 1,000 jobs
-abbrev named_findings : ℕ → (a b : Bool) → List Finding
-named_findings line a b =
-    cons_option (option_map (λ what. finding_at line what) (cond a (Some SameName) (cond b None (cond false None (Some Full))))) []
+abbrev named_findings : ℕ → (name : List ℕ) → (a b : Bool) → List Finding
+named_findings line name a b =
+    cons_option (option_map (λ what. finding_at line what (name_quote name what)) (cond a (Some SameName) (cond b None (cond false None (Some Full))))) []
 
 abbrev named_after : Option (List Change) → (a b : Bool) → List JobParts → JobParts → KnownJobs
 named_after clock a b added job =
@@ -108,7 +109,7 @@ job_right :
     (G : KnownJobs → KnownJobs) →
     ((next : List JobParts) → Agrees clock (jobs_with next jobs) (F (known_by clock next)) (G (known_by clock next))) →
     Agrees clock (cond a None (cond b (jobs_with (added ++ job ∷ []) jobs) None))
-    ((named_findings line a b ++ warnings_by clock line job) ++ F (named_after clock a b added job)) (G (named_after clock a b
+    ((named_findings line job.name a b ++ warnings_by clock line job) ++ F (named_after clock a b added job)) (G (named_after clock a b
     added job))
 job_right clock true b added line job jobs F G later = refl
 job_right clock false true added line job jobs F G later =
@@ -121,7 +122,7 @@ job_right clock false false added line job jobs F G later = refl
 job_before_fault :
     (clock : Option (List Change)) (a b : Bool) (added : List JobParts) (line : ℕ) (job : JobParts) (F : KnownJobs → List Finding) →
     ((next : List JobParts) → is_clean (F (known_by clock next)) ≡ false) →
-    is_clean ((named_findings line a b ++ warnings_by clock line job) ++ F (named_after clock a b added job)) ≡ false
+    is_clean ((named_findings line job.name a b ++ warnings_by clock line job) ++ F (named_after clock a b added job)) ≡ false
 job_before_fault clock true b added line job F later = refl
 job_before_fault clock false true added line job F later =
     notes_clean clock line job (F (known_by clock (added ++ job ∷ []))) ∙ later (added ++ job ∷ [])
@@ -134,7 +135,7 @@ job_agrees :
     ((next : List JobParts) → Agrees clock (jobs_by next (unless_refused faults jobs)) (F (known_by clock next)) (G (known_by clock
     next))) →
     Agrees clock (jobs_by added (unless_refused faults (job ∷ jobs)))
-    ((named_findings line (is_some (number_of job.name added)) (nat_lt n most_jobs) ++ warnings_by clock line job)
+    ((named_findings line job.name (is_some (number_of job.name added)) (nat_lt n most_jobs) ++ warnings_by clock line job)
     ++ F (named_after clock (is_some (number_of job.name added)) (nat_lt n most_jobs) added job))
     (G (named_after clock (is_some (number_of job.name added)) (nat_lt n most_jobs) added job))
 job_agrees clock [] added n line job jobs F G few later =
@@ -153,7 +154,7 @@ line_agrees :
     (G (after_line (known_by clock added) read))
 line_agrees clock added number text (Ok None) more F G later =
     agrees_by clock (jobs_by added (meant_by more))
-    (found_if (is_some clock && is_zone_setting text) number (Warned ZoneSetting) ++ F (known_by clock added))
+    (found_if (is_some clock && is_zone_setting text) number (Warned ZoneSetting) None ++ F (known_by clock added))
     (F (known_by clock added)) (G (known_by clock added))
     (warned_clean (is_some clock && is_zone_setting text) number ZoneSetting (F (known_by clock added))) (later added)
 line_agrees clock added number text (Ok (Some job)) more F G later =
@@ -210,7 +211,7 @@ abbrev is_none_of : List LineFault → Bool
 is_none_of [] = true
 is_none_of (fault ∷ more) = false
 
-one_clean : (is_so : Bool) (line : ℕ) (warning : Warning) → is_clean (found_if is_so line (Warned warning)) ≡ true
+one_clean : (is_so : Bool) (line : ℕ) (warning : Warning) → is_clean (found_if is_so line (Warned warning) None) ≡ true
 one_clean true line warning = refl
 one_clean false line warning = refl
 
@@ -219,6 +220,7 @@ pub setting_clean :
 setting_clean clock line None = refl
 setting_clean clock line (Some setting) =
     two_clean (is_some clock && is_unknown_key setting.0) (is_some clock && is_bad_delay setting) line UnknownKey BadDelay
+    (Some setting.0) (Some setting.1)
 
 pub event_warnings_clean :
     (clock : Option (List Change)) (line : ℕ) (text : List ℕ) (event : Calendar) →
@@ -226,6 +228,7 @@ pub event_warnings_clean :
 event_warnings_clean None line text event = refl
 event_warnings_clean (Some clock) line text event =
     two_clean (never_starts (rule_in clock (Events (event ∷ [])))) (may_skip_starts text event) line NeverStarts SkippedStarts
+    None (Some text)
 
 -- warnings before what else is found
 parts_clean :
@@ -325,12 +328,13 @@ right_of_lines zones lines none = right_by_effects (no_lines zones) [] lines ∙
 pub whole_clean : (clock : Option (List Change)) (lines : List (ℕ × List ℕ)) → is_clean (timer_warnings clock lines) ≡ true
 whole_clean None lines = refl
 whole_clean (Some clock) lines =
-    let empty = found_if (has_timer lines && (held_after lines == 0)) 0 (Warned NoEvents) in
-    let later = found_if (is_monotonic (settings_from false lines)) 0 (Warned Monotonic)
-    ++ found_if (is_delayed (settings_from false lines)) 0 (Warned Delayed) in
+    let empty = found_if (has_timer lines && (held_after lines == 0)) 0 (Warned NoEvents) None in
+    let later = found_if (is_monotonic (settings_from false lines)) 0 (Warned Monotonic) None
+    ++ found_if (is_delayed (settings_from false lines)) 0 (Warned Delayed) (Some (last_delay (settings_from false lines))) in
     clean_append empty later
     ∙ (λ i. one_clean (has_timer lines && (held_after lines == 0)) 0 NoEvents i
-    && two_clean (is_monotonic (settings_from false lines)) (is_delayed (settings_from false lines)) 0 Monotonic Delayed i)
+    && two_clean (is_monotonic (settings_from false lines)) (is_delayed (settings_from false lines)) 0 Monotonic Delayed None
+    (Some (last_delay (settings_from false lines))) i)
 
 timer_warnings_clean :
     (clock : Option (List Change)) (lines : List (ℕ × List ℕ)) (found : List Finding) →
@@ -339,20 +343,20 @@ timer_warnings_clean clock lines found =
     clean_append (timer_warnings clock lines) found ∙ ap (λ (b : Bool). b && is_clean found) (whole_clean clock lines)
 
 timer_right :
-    (clock : Option (List Change)) (a b : Bool) (added : List JobParts) (job : JobParts) (found : List Finding) → is_clean found ≡ true →
+    (clock : Option (List Change)) (name : List ℕ) (a b : Bool) (added : List JobParts) (job : JobParts) (found : List Finding) → is_clean found ≡ true →
     Agrees clock (cond a None (cond b (Some (added ++ job ∷ [])) None))
-    (named_findings 0 a b ++ found) (named_after clock a b added job)
-timer_right clock true b added job found clean = refl
-timer_right clock false true added job found clean = (clean, refl)
-timer_right clock false false added job found clean = refl
+    (named_findings 0 name a b ++ found) (named_after clock a b added job)
+timer_right clock name true b added job found clean = refl
+timer_right clock name false true added job found clean = (clean, refl)
+timer_right clock name false false added job found clean = refl
 
 timer_wrong :
-    (has a b : Bool) (found : List Finding) → is_clean found ≡ false →
-    is_clean (found_if (not has) 0 (Refused NoTimerSection) ++ (named_findings 0 a b ++ found)) ≡ false
-timer_wrong false a b found faulty = refl
-timer_wrong true true b found faulty = refl
-timer_wrong true false true found faulty = faulty
-timer_wrong true false false found faulty = refl
+    (name : List ℕ) (has a b : Bool) (found : List Finding) → is_clean found ≡ false →
+    is_clean (found_if (not has) 0 (Refused NoTimerSection) None ++ (named_findings 0 name a b ++ found)) ≡ false
+timer_wrong name false a b found faulty = refl
+timer_wrong name true true b found faulty = refl
+timer_wrong name true false true found faulty = faulty
+timer_wrong name true false false found faulty = refl
 
 -- a timer whose name is good, with the job that is kept: that of all events, if none is rejected
 timer_agrees :
@@ -361,21 +365,21 @@ timer_agrees :
     (n : ℕ) → n ≡ length added → good ≡ true → (is_none_of faults ≡ true → kept ≡ timer_job name unit events delay) →
     is_clean found ≡ is_none_of faults →
     Agrees clock (jobs_by added ((unless_refused faults events >>= λ held. job_with has name unit held delay) >>= λ job. Ok (job ∷ [])))
-    (found_if (not has) 0 (Refused NoTimerSection)
-    ++ (named_findings 0 (is_some (number_of name added)) (nat_lt n most_jobs) ++ found))
+    (found_if (not has) 0 (Refused NoTimerSection) None
+    ++ (named_findings 0 name (is_some (number_of name added)) (nat_lt n most_jobs) ++ found))
     (cond (good && has) (named_after clock (is_some (number_of kept.name added)) (nat_lt n most_jobs) added kept)
     (after_other (known_by clock added) name))
 timer_agrees clock [] good true added name unit events delay kept found n few is right clean =
     let job = timer_job name unit events delay in
     let P : Bool → JobParts → Type 0 = λ good kept. Agrees clock (jobs_by added (Ok (job ∷ [])))
-    (named_findings 0 (is_some (number_of name added)) (nat_lt (length added) most_jobs) ++ found)
+    (named_findings 0 name (is_some (number_of name added)) (nat_lt (length added) most_jobs) ++ found)
     (cond (good && true) (named_after clock (is_some (number_of kept.name added)) (nat_lt (length added) most_jobs) added kept)
     (after_other (known_by clock added) name)) in
     rw few (subst (λ good. P good kept) (sym is) (subst (P true) (sym (right refl))
-    (timer_right clock (is_some (number_of name added)) (nat_lt (length added) most_jobs) added job found clean)))
+    (timer_right clock name (is_some (number_of name added)) (nat_lt (length added) most_jobs) added job found clean)))
 timer_agrees clock [] good false added name unit events delay kept found n few is right clean = refl
 timer_agrees clock (fault ∷ more) good has added name unit events delay kept found n few is right clean =
-    timer_wrong has (is_some (number_of name added)) (nat_lt n most_jobs) found clean
+    timer_wrong name has (is_some (number_of name added)) (nat_lt n most_jobs) found clean
 
 timer_text_agrees :
     (zones : Zones) (clock : Option (List Change)) (added : List JobParts) (name : List ℕ) (text : TextReading (List ℕ))

@@ -32,14 +32,14 @@ use Rattle.plan_check.specs.Crontabs.{after_line, crontab_findings, entry_findin
 use Rattle.plan_check.specs.Files.{HasFirst, file_findings, file_of, in_file}
 use Rattle.plan_check.specs.Finding.{fault_of, finding_at, first_of, first_fault, found_if, refused_at}
 use Rattle.plan_check.specs.Form.{form_reading, label_of}
-use Rattle.plan_check.specs.Known.{KnownJobs, has_room, is_taken, name_fault}
+use Rattle.plan_check.specs.Known.{KnownJobs, has_room, is_taken, job_findings, name_quote}
 use Rattle.plan_check.specs.Warnings.{command_warnings, ends_with_return, has_bare_percent, is_either_day, is_reboot, is_zone_setting, job_warnings, never_starts, rule_warnings, warnings_by}
 
 -- ---- lines
 
 no_fault_noted :
     (p q : Bool) (line : ℕ) (first second : Warning) → filter_map fault_of
-    (found_if p line (Warned first) ++ found_if q line (Warned second)) ≡ []
+    (found_if p line (Warned first) None ++ found_if q line (Warned second) None) ≡ []
 no_fault_noted p q line first second = grind (arith, nat_tests)
 
 no_fault_in_warnings : (clock : List Change) (line : ℕ) (job : JobParts) → filter_map fault_of (job_warnings clock line job) ≡ []
@@ -53,28 +53,28 @@ no_fault_by : (clock : Option (List Change)) (line : ℕ) (job : JobParts) → f
 no_fault_by None line job = refl
 no_fault_by (Some clock) line job = no_fault_in_warnings clock line job
 
-no_fault_in_setting : (is_so : Bool) (line : ℕ) → filter_map fault_of (found_if is_so line (Warned ZoneSetting)) ≡ []
+no_fault_in_setting : (is_so : Bool) (line : ℕ) → filter_map fault_of (found_if is_so line (Warned ZoneSetting) None) ≡ []
 no_fault_in_setting true line = refl
 no_fault_in_setting false line = refl
 
 -- the same for the finding about a name
 no_fault_named :
-    (m a b c : Bool) (line : ℕ) →
-    filter_map fault_of (cons_option (option_map (λ what. finding_at line what)
+    (m a b c : Bool) (line : ℕ) (name : List ℕ) →
+    filter_map fault_of (cons_option (option_map (λ what. finding_at line what (name_quote name what))
     (cond (not m) None (cond a (Some SameName) (cond b None (cond c None (Some Full)))))) []) ≡ []
-no_fault_named m a b c line = grind (arith, nat_tests)
+no_fault_named m a b c line name = grind (arith, nat_tests)
 
 no_fault_of_job :
     (known : KnownJobs) (line : ℕ) (name : List ℕ) →
-    filter_map fault_of (cons_option (option_map (λ what. finding_at line what) (name_fault known name)) []) ≡ []
+    filter_map fault_of (job_findings known line name) ≡ []
 no_fault_of_job known line name =
-    no_fault_named known.makes_jobs (is_taken name known) (has_room known) known.told line
+    no_fault_named known.makes_jobs (is_taken name known) (has_room known) known.told line name
 
 faults_of_job :
-    (known : KnownJobs) (line : ℕ) (job : JobParts) → filter_map fault_of (entry_findings known line (Ok job)) ≡ []
-faults_of_job known line job =
-    filter_map-append fault_of (cons_option (option_map (λ what. finding_at line what) (name_fault known job.name)) [])
-    (warnings_by known.clock line job)
+    (known : KnownJobs) (line : ℕ) (text : List ℕ) (job : JobParts) →
+    filter_map fault_of (entry_findings known line text (Ok job)) ≡ []
+faults_of_job known line text job =
+    filter_map-append fault_of (job_findings known line job.name) (warnings_by known.clock line job)
     ∙ (λ i. no_fault_of_job known line job.name i ++ no_fault_by known.clock line job i)
 
 -- the errors of a line with those of the lines after it
@@ -84,9 +84,9 @@ faults_then :
     filter_map fault_of (line_findings known line text read ++ found) ≡ refusals (cons_option (entry_on line read) more)
 faults_then known line text (Ok None) found more later =
     let is_so = is_some known.clock && is_zone_setting text in
-    filter_map-append fault_of (found_if is_so line (Warned ZoneSetting)) found ∙ (λ i. no_fault_in_setting is_so line i ++ later i)
+    filter_map-append fault_of (found_if is_so line (Warned ZoneSetting) None) found ∙ (λ i. no_fault_in_setting is_so line i ++ later i)
 faults_then known line text (Ok (Some job)) found more later =
-    filter_map-append fault_of (entry_findings known line (Ok job)) found ∙ (λ i. faults_of_job known line job i ++ later i)
+    filter_map-append fault_of (entry_findings known line text (Ok job)) found ∙ (λ i. faults_of_job known line text job i ++ later i)
 faults_then known line text (Err cause) found more later = ap (λ faults. fault_on_line line cause ∷ faults) later
 
 pub faults_of_lines :

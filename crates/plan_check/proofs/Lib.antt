@@ -3,5 +3,4 @@ pub mod CleanLemmas
 pub mod ErrorLemmas
 pub mod LinesLemmas
 pub mod TimerLinesLemmas
-pub mod QuoteLemmas
 pub mod FormLemmas

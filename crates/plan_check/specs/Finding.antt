@@ -28,18 +28,18 @@ warning_name warning.Delayed = codes "Delayed"
 
 -- ---- one finding
 
--- a finding of the line with a number, from 1, or of the whole file, which is 0
-abbrev pub finding_at : ℕ → What → Finding
-finding_at line what = record { line = line; what = what }
+-- a finding of the line with a number, from 1, or of the whole file, which is 0, with the text that its message quotes, if any
+abbrev pub finding_at : ℕ → What → (quote : Option (List ℕ)) → Finding
+finding_at line what quote = record { line = line; what = what; quote = quote }
 
--- a line is rejected
+-- an error of a whole file quotes nothing
 abbrev pub refused_at : ℕ → LineCause → Finding
-refused_at line cause = finding_at line (Refused cause)
+refused_at line cause = finding_at line (Refused cause) None
 
 -- a finding, if this is true
-abbrev pub found_if : Bool → ℕ → What → List Finding
-found_if true line what = finding_at line what ∷ []
-found_if false line what = []
+abbrev pub found_if : Bool → ℕ → What → (quote : Option (List ℕ)) → List Finding
+found_if true line what quote = finding_at line what quote ∷ []
+found_if false line what quote = []
 
 -- ---- errors
 

@@ -7,4 +7,3 @@ pub mod Settings
 pub mod Timers
 pub mod Form
 pub mod Files
-pub mod Quotes

@@ -14,11 +14,6 @@ abbrev pub value_of : Option Setting → List ℕ
 value_of None = []
 value_of (Some setting) = setting.1
 
--- the key of a setting, or nothing
-abbrev pub key_of : Option Setting → List ℕ
-key_of None = []
-key_of (Some setting) = setting.0
-
 -- the keys of the `[Timer]` section (systemd.timer(5), of systemd 252)
 abbrev pub timer_keys : List (List ℕ)
 timer_keys =

@@ -87,7 +87,7 @@ impl Form {
     /// A job is added unless another job has its name or there are 1,000 jobs. A timer's job is added only if no error
     /// is one of the whole file. Its rule is the list of the events that aren't rejected.
     ///
-    /// If `known` has no clock, there are no warnings.
+    /// If `known` has no clock, there are no warnings. `Finding` says which text each finding quotes.
     ///
     /// # Errors
     ///
@@ -125,7 +125,7 @@ impl Form {
         let cause = self.name_cause(name);
         known.begin_file(cause.is_none());
         match cause {
-            Some(cause) => refuse(found, 0, cause),
+            Some(cause) => refuse(found, 0, cause, None),
             None => Ok(()),
         }
     }

@@ -5,7 +5,7 @@ ghost use Rattle.std.specs.List.{list_any};
 ghost use Rattle.std.specs.Str.{bytes_eq};
 ghost use Rattle.plan_rules.specs.Timer.{monotonic_keys};
 ghost use Rattle.plan_rules.specs.TimerDelays.{default_delays};
-ghost use Rattle.plan_check.specs.Settings.{delay_after, is_bad_delay, is_delay, is_reset, is_span, is_unknown_key, key_of, standing_after, stands_after, value_of};
+ghost use Rattle.plan_check.specs.Settings.{delay_after, is_bad_delay, is_delay, is_reset, is_span, is_unknown_key, standing_after, stands_after, value_of};
 
 use plan_rules::TimerDelays;
 use plan_spans::time_span;
@@ -57,16 +57,6 @@ pub(crate) fn value_of<'a>(setting: Option<(&'a str, &'a str)>) -> &'a str
 {
     match setting {
         Some((_, value)) => value,
-        None => "",
-    }
-}
-
-// Returns the key of a setting, or an empty text.
-pub(crate) fn key_of<'a>(setting: Option<(&'a str, &'a str)>) -> &'a str
-    ensures { result.now ≡ key_of (option_map (λ setting. (setting.0.now, setting.1.now)) setting.entry) }
-{
-    match setting {
-        Some((key, _)) => key,
         None => "",
     }
 }

@@ -1,6 +1,6 @@
 //! The findings of the text of a timer file (systemd.timer(5)).
 
-ghost use Rattle.std.specs.Prelude.{◌≡◌, ◌++◌, ◌∷◌, ◌&&◌, [], if◌then◌else◌, false, IfOk, OnOk, Ok, map, not, option_map};
+ghost use Rattle.std.specs.Prelude.{◌≡◌, ◌++◌, ◌∷◌, ◌&&◌, [], if◌then◌else◌, false, IfOk, OnOk, Ok, map, option_map};
 ghost use Rattle.std.specs.List.{cons_option};
 ghost use Rattle.std.specs.Result.{result_ok};
 ghost use Rattle.plan_match.specs.Zone.{rule_in};
@@ -8,19 +8,16 @@ ghost use Rattle.plan_match.specs.declared.rule.Rule.TheVariants as rule;
 ghost use Rattle.plan_rules.specs.Timer.{effects_from, first_unit, has_timer, is_timer_name, settings_from, timer_job, timer_setting};
 ghost use Rattle.plan_rules.specs.TimerDelays.{default_delays, delays_with, last_span, random_key};
 ghost use Rattle.plan_rules.specs.TimerEntries.{held_after, line_in, line_shown, no_lines, shown_line, state_after, timer_lines};
-ghost use Rattle.plan_rules.specs.declared.line_fault.LineCause.TheVariants as cause;
-ghost use Rattle.plan_check.specs.declared.finding.What.TheVariants as what;
-ghost use Rattle.plan_check.specs.Finding.{found_if};
 ghost use Rattle.plan_check.specs.Known.{after_job, after_other};
-ghost use Rattle.plan_check.specs.Settings.{is_monotonic, standing_after};
-ghost use Rattle.plan_check.specs.Timers.{after_timer, event_warnings, events_with, job_findings, line_findings, lines_findings, read_findings, right_events, setting_findings, step_findings, timer_findings, timer_warnings, unit_of, unit_with};
+ghost use Rattle.plan_check.specs.Settings.{is_monotonic, last_delay};
+ghost use Rattle.plan_check.specs.Timers.{after_timer, event_quote, event_warnings, events_with, line_findings, lines_findings, read_findings, right_events, setting_findings, step_findings, timer_findings, timer_warnings, unit_of, unit_with};
 ghost use Rattle.plan_check.specs.Warnings.{never_starts};
 
 use crate::draft::Draft;
 use crate::finding::{Finding, Warning, What};
 use crate::known::Known;
-use crate::report::{add_if, add_name_fault, refuse};
-use crate::settings::{Standing, is_bad_delay, is_unknown_key, value_of};
+use crate::report::{add_if, add_name_fault, add_quoting_if, kept, refuse};
+use crate::settings::{Standing, delay_after, is_bad_delay, is_unknown_key, value_of};
 use crate::skipped::may_skip_starts;
 use plan_clock::Clock;
 use plan_next::next_from;
@@ -28,6 +25,7 @@ use plan_rules::{
     Calendar, Entry, EventZones, Events, LineCause, LineFault, Rule, TimerLine, TimerReader,
     is_timer_name, text_of, timer_job,
 };
+use plan_texts::Text;
 use plan_texts::whole_lines::{WholeLine, whole_lines};
 use std::alloc::{AllocError, Global};
 
@@ -50,8 +48,8 @@ pub(crate) fn add_timer(
             add_lines(alloc, known, found, name, lines.as_slice(), zones)
         }
         Err(LineFault { line, cause }) => {
-            refuse(found, line, cause)?;
-            add_name_fault(known, found, 0, name)?;
+            refuse(found, line, cause, None)?;
+            add_name_fault(alloc, known, found, 0, name)?;
             known.add_other(alloc, name)
         }
     }
@@ -71,36 +69,20 @@ fn add_lines(
     ensures known { OnOk result (known.new ≡ after_timer zones.now known.old name.now (Ok (map shown_line lines.now))) }
 {
     let mut later = Vec::new(alloc);
-    let (reader, standing, draft) = read_lines(alloc, &mut later, known.clock(), lines, zones)?;
-    add_all_findings(known, found, &mut later, name, &reader, standing, lines)?;
-    let delay = standing.delays.seconds();
-    add_timer_job(alloc, known, name, reader.has_section(), draft, delay)
-}
-
-// Adds the findings of the whole file, by what its lines say, and then those of its lines.
-fn add_all_findings(
-    known: &Known,
-    found: &mut Vec<Finding>,
-    later: &mut Vec<Finding>,
-    name: &str,
-    reader: &TimerReader<'_>,
-    standing: Standing,
-    lines: &[WholeLine],
-) -> Result<(), AllocError>
-    requires section { reader.now.found ≡ has_timer (map shown_line lines.now) }
-    requires held { reader.now.count.held ≡ held_after (map shown_line lines.now) }
-    requires monotonic { standing.monotonic ≡ is_monotonic (settings_from false (map shown_line lines.now)) }
-    requires delay { standing.delays.random ≡ last_span random_key 0 (settings_from false (map shown_line lines.now)) }
-    ensures { OnOk result (found.new.items ≡ found.old.items
-        ++ (found_if (not (has_timer (map shown_line lines.now))) 0 (what.Refused cause.NoTimerSection)
-        ++ (job_findings known.now name.now ++ (timer_warnings known.now.clock (map shown_line lines.now) ++ later.old.items)))) }
-{
+    let (reader, standing, delay, draft) = read_lines(
+        alloc,
+        &mut later,
+        known.clock(),
+        lines,
+        zones,
+    )?;
     let missing = What::Refused(LineCause::NoTimerSection);
     add_if(found, !reader.has_section(), 0, missing)?;
-    add_name_fault(known, found, 0, name)?;
-    add_timer_warnings(found, known.clock(), reader, standing, lines)?;
-    found.append(later)?;
-    Ok(())
+    add_name_fault(alloc, known, found, 0, name)?;
+    add_timer_warnings(alloc, found, known.clock(), &reader, standing, delay, lines)?;
+    found.append(&mut later)?;
+    let delay = standing.delays.seconds();
+    add_timer_job(alloc, known, name, reader.has_section(), draft, delay)
 }
 
 // Adds the job of a timer, whose delay is in seconds, unless the whole timer is rejected.
@@ -122,18 +104,21 @@ fn add_timer_job(
     known.add_other(alloc, name)
 }
 
-// Adds the warnings on the whole file, if there is a clock.
+// Adds the warnings on the whole file with these lines, if there is a clock. The random delay is given as it was written.
 fn add_timer_warnings(
+    alloc: Global,
     found: &mut Vec<Finding>,
     clock: &Option<Clock>,
     reader: &TimerReader<'_>,
     standing: Standing,
+    delay: &str,
     lines: &[WholeLine],
 ) -> Result<(), AllocError>
     requires section { reader.now.found ≡ has_timer (map shown_line lines.now) }
     requires held { reader.now.count.held ≡ held_after (map shown_line lines.now) }
     requires monotonic { standing.monotonic ≡ is_monotonic (settings_from false (map shown_line lines.now)) }
-    requires delay { standing.delays.random ≡ last_span random_key 0 (settings_from false (map shown_line lines.now)) }
+    requires random { standing.delays.random ≡ last_span random_key 0 (settings_from false (map shown_line lines.now)) }
+    requires delay { delay.now ≡ last_delay (settings_from false (map shown_line lines.now)) }
     ensures { OnOk result (found.new.items ≡ found.old.items ++ timer_warnings clock.now (map shown_line lines.now)) }
 {
     if clock.is_none() {
@@ -144,34 +129,38 @@ fn add_timer_warnings(
     let monotonic = What::Warned(Warning::Monotonic);
     add_if(found, standing.monotonic, 0, monotonic)?;
     let delayed = What::Warned(Warning::Delayed);
-    add_if(found, standing.delays.random > 0, 0, delayed)
+    add_quoting_if(alloc, found, standing.delays.random > 0, 0, delayed, delay)
 }
 
-// Adds the findings of lines, in order. Returns the reader after the last line, what stands then, and what the lines
-// say of the job.
-fn read_lines<'z>(
+// Adds the findings of lines, in order. Returns the reader after the last line, what stands then, the random delay as
+// it was written, and what the lines say of the job.
+fn read_lines<'z, 'l>(
     alloc: Global,
     found: &mut Vec<Finding>,
     clock: &Option<Clock>,
-    lines: &[WholeLine],
+    lines: &'l [WholeLine],
     zones: &'z EventZones,
-) -> Result<(TimerReader<'z>, Standing, Draft), AllocError>
+) -> Result<(TimerReader<'z>, Standing, &'l str, Draft), AllocError>
     ensures section { IfOk result (λ read. read.0.found ≡ has_timer (map shown_line lines.now)) }
     ensures held { IfOk result (λ read. read.0.count.held ≡ held_after (map shown_line lines.now)) }
     ensures monotonic { IfOk result (λ read. read.1.monotonic ≡ is_monotonic (settings_from false (map shown_line lines.now))) }
     ensures delays { IfOk result (λ read. read.1.delays ≡ delays_with default_delays (settings_from false (map shown_line lines.now))) }
-    ensures unit { IfOk result (λ read. unit_of read.2 ≡ first_unit (effects_from false (map shown_line lines.now))) }
-    ensures events { IfOk result (λ read. read.2.events ≡ right_events (no_lines zones.now) [] (map shown_line lines.now)) }
+    ensures delay { IfOk result (λ read. read.2.now ≡ last_delay (settings_from false (map shown_line lines.now))) }
+    ensures unit { IfOk result (λ read. unit_of read.3 ≡ first_unit (effects_from false (map shown_line lines.now))) }
+    ensures events { IfOk result (λ read. read.3.events ≡ right_events (no_lines zones.now) [] (map shown_line lines.now)) }
     ensures found { OnOk result (found.new.items ≡ found.old.items ++ lines_findings clock.now (no_lines zones.now) (map shown_line lines.now)) }
 {
     let mut reader = TimerReader::new(zones);
     let mut standing = Standing::new();
+    let mut delay = "";
     let mut draft = Draft::new(alloc);
     for line in lines {
-        standing = standing.after(reader.setting(line));
+        let setting = reader.setting(line);
+        standing = standing.after(setting);
+        delay = delay_after(delay, setting);
         add_line(alloc, &mut reader, &mut draft, found, clock, line)?;
     }
-    Ok((reader, standing, draft))
+    Ok((reader, standing, delay, draft))
 }
 
 // Adds the findings of a line, and what it says of the job.
@@ -191,7 +180,7 @@ fn add_line(
     let setting = reader.setting(line);
     let step = reader.read(alloc, line)?;
     add_step(alloc, draft, found, clock, setting, step)?;
-    add_setting(found, clock, line.number, setting)
+    add_setting(alloc, found, clock, line.number, setting)
 }
 
 // Adds the findings of what a line does, with its setting: those of its event, if there is one. Adds to the job what
@@ -224,6 +213,7 @@ fn add_step(
 
 // Adds the warnings on a line's setting, if there is a clock.
 fn add_setting(
+    alloc: Global,
     found: &mut Vec<Finding>,
     clock: &Option<Clock>,
     line: u32,
@@ -236,10 +226,10 @@ fn add_setting(
         Some((key, value)) => {
             let is_unknown = clock.is_some() && is_unknown_key(key);
             let unknown = What::Warned(Warning::UnknownKey);
-            add_if(found, is_unknown, line, unknown)?;
+            add_quoting_if(alloc, found, is_unknown, line, unknown, key)?;
             let is_bad = clock.is_some() && is_bad_delay(key, value);
             let bad = What::Warned(Warning::BadDelay);
-            add_if(found, is_bad, line, bad)
+            add_quoting_if(alloc, found, is_bad, line, bad, value)
         }
         None => Ok(()),
     }
@@ -264,7 +254,20 @@ fn add_event(
             add_event_warnings(alloc, found, clock, line, text, &event)?;
             draft.push(event)
         }
-        Err(cause) => refuse(found, line, cause),
+        Err(cause) => {
+            let quote = event_quote(alloc, text, cause)?;
+            refuse(found, line, cause, quote)
+        }
+    }
+}
+
+// Returns the text that an error of an event with this text quotes.
+fn event_quote(alloc: Global, text: &str, cause: LineCause) -> Result<Option<Text>, AllocError>
+    ensures { IfOk result (λ quote. quote ≡ event_quote text.now cause) }
+{
+    match cause {
+        LineCause::Rule(_) => Ok(Some(kept(alloc, text)?)),
+        _ => Ok(None),
     }
 }
 
@@ -287,7 +290,7 @@ fn add_event_warnings(
     let never = What::Warned(Warning::NeverStarts);
     add_if(found, never_starts, line, never)?;
     let skipped = What::Warned(Warning::SkippedStarts);
-    add_if(found, may_skip, line, skipped)
+    add_quoting_if(alloc, found, may_skip, line, skipped, text)
 }
 
 // Returns whether a job with only this event never starts from 1970 to 2999, by the clock of a zone.

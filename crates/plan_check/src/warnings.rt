@@ -1,6 +1,6 @@
 //! The warnings on the lines of crontabs, and on events that never start.
 
-ghost use Rattle.std.specs.Prelude.{◌≡◌, ◌++◌, ◌<◌, ◌&&◌, IfOk, OnOk, is_some, length};
+ghost use Rattle.std.specs.Prelude.{◌≡◌, ◌++◌, ◌<◌, ◌&&◌, IfOk, None, OnOk, is_some, length};
 ghost use Rattle.std.specs.List.{list_any};
 ghost use Rattle.std.specs.Str.{bytes_eq};
 ghost use Rattle.plan_match.specs.Zone.{rule_in};
@@ -133,7 +133,7 @@ pub(crate) fn add_setting_warning(
     text: &str,
 ) -> Result<(), AllocError>
     ensures { OnOk result (found.new.items ≡ found.old.items
-        ++ found_if (is_some clock.now && is_zone_setting text.now) line (what.Warned warning.ZoneSetting)) }
+        ++ found_if (is_some clock.now && is_zone_setting text.now) line (what.Warned warning.ZoneSetting) None) }
 {
     let zone = What::Warned(Warning::ZoneSetting);
     add_if(found, clock.is_some() && is_zone_setting(text), line, zone)

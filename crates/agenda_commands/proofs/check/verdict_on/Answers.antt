@@ -10,13 +10,13 @@ use Rattle.agenda_commands.proofs.check.verdict_on.Goals as goal
 pub returns-then-are_warnings : goal.returns-then-are_warnings
 returns-then-are_warnings c =
     let all : is_all_clean c.args.found.now ≡ true =
-    list_all-map (λ (finding : Finding). is_warning finding.what) (λ (one : Found). one.quoted.finding) c.args.found.now
+    list_all-map (λ (finding : Finding). is_warning finding.what) (λ (one : Found). one.finding) c.args.found.now
     ∙ sym c.are_warnings.ensures ∙ c.if-are_warnings.true in
     ap verdict_of (sym all)
 
 pub returns-else-are_warnings : goal.returns-else-are_warnings
 returns-else-are_warnings c =
     let some : is_all_clean c.args.found.now ≡ false =
-    list_all-map (λ (finding : Finding). is_warning finding.what) (λ (one : Found). one.quoted.finding) c.args.found.now
+    list_all-map (λ (finding : Finding). is_warning finding.what) (λ (one : Found). one.finding) c.args.found.now
     ∙ sym c.are_warnings.ensures ∙ c.if-are_warnings.false in
     ap verdict_of (sym some)

@@ -1,8 +1,8 @@
 use denote.Shadow.{shadow}
 use denote.Text.{Utf8}
 use Rattle.std.proofs.Common.{◌≡◌}
-use Rattle.plan_check.specs.Quotes.{after_words}
-use Rattle.plan_check.proofs.quotes.word_at.Given as goal
+use Rattle.plan_check.specs.Crontabs.{after_words}
+use Rattle.plan_check.proofs.crontabs.word_at.Given as goal
 
 -- as many words are cut off as there were turns, and the rest is text
 abbrev pub invariant-loop : goal.invariant-loop
