@@ -8,10 +8,11 @@ mod answers;
 mod event_zones;
 mod files;
 mod formats;
-mod keeping;
+mod jobs;
+mod requests;
 mod sources;
 mod zone;
 
 pub use answers::{answer, answer_arguments, unread_arguments};
 pub use files::{Files, read_front};
-pub use keeping::keeping_going_changes_nothing;
+pub use jobs::keeping_going_changes_nothing;

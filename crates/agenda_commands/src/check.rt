@@ -7,11 +7,10 @@ ghost use Rattle.agenda_sources.specs.Findings.{is_all_clean, sources_findings};
 ghost use Rattle.agenda_commands.specs.Command.{Outputs};
 ghost use Rattle.agenda_commands.specs.Check.{check_output, sources_verdict, verdict_of};
 
-use crate::input::Input;
 use agenda_faults::RunFault;
 use agenda_findings::write_findings;
 use agenda_kinds::SourcePath;
-use agenda_sources::{Found, findings_of_sources};
+use agenda_sources::{Found, Sources, TimeZones, findings_of_sources};
 use plan_check::What;
 use plan_streams::Stream;
 use std::alloc::Global;
@@ -39,15 +38,16 @@ pub enum Verdict {
 pub fn run_check<S: Stream>(
     alloc: Global,
     paths: &[SourcePath],
-    input: &Input,
+    sources: &Sources,
+    zones: &TimeZones,
     json: bool,
     out: &mut S,
 ) -> Result<Verdict, RunFault>
-    ensures verdict { IfOk result (λ verdict. verdict ≡ sources_verdict input.now.zones input.now.sources) }
-    ensures output { Outputs S.takes_all (check_output input.now.zones paths.now input.now.sources json) result (S.holds out.old) (S.holds out.new) }
+    ensures verdict { IfOk result (λ verdict. verdict ≡ sources_verdict zones.now sources.now) }
+    ensures output { Outputs S.takes_all (check_output zones.now paths.now sources.now json) result (S.holds out.old) (S.holds out.new) }
     ensures flushed { OnOk result (IsTrue (S.is_flushed out.new)) }
 {
-    let found = findings_of_sources(alloc, &input.sources, &input.zones)?;
+    let found = findings_of_sources(alloc, sources, zones)?;
     write_findings(paths, found.as_slice(), json, out)?;
     Ok(verdict_on(found.as_slice()))
 }
