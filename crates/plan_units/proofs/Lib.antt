@@ -1,0 +1,5 @@
+pub mod NameLemmas
+pub mod ReachLemmas
+pub mod SpecifierLemmas
+pub mod TextLemmas
+pub mod UnitLemmas
