@@ -1,3 +1,4 @@
+pub mod DropInLemmas
 pub mod NameLemmas
 pub mod ReachLemmas
 pub mod SpecifierLemmas

@@ -6,5 +6,6 @@ pub mod Unit
 pub mod Entries
 pub mod Specifiers
 pub mod Settings
+pub mod DropIns
 pub mod Wants
 pub mod Reach

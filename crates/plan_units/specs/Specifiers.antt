@@ -38,16 +38,12 @@ replaced put true [] = byte "%" ∷ []
 replaced put true (b ∷ more) = put b ++ replaced put false more
 replaced put false (b ∷ more) = if b == byte "%" then replaced put true more else b ∷ replaced put false more
 
--- a text without its last byte
-abbrev pub without_last : List ℕ → List ℕ
-without_last text = take (length text - 1) text
-
 -- specifiers are replaced for an instance only (agenda)
 abbrev pub expanded_by : List ℕ → Option (List ℕ × List ℕ × List ℕ) → List ℕ → List ℕ
 expanded_by name None text = text
 expanded_by name (Some parts) text =
     if length parts.1 == 0 then text else
-    replaced (λ letter. written (specifier name (without_last parts.0) parts.1 letter) letter) false text
+    replaced (λ letter. written (specifier name parts.0 parts.1 letter) letter) false text
 
 abbrev pub expanded : List ℕ → List ℕ → List ℕ
 expanded name text = expanded_by name (parts_of name) text

@@ -3,6 +3,7 @@
 //! Read `paths` first, then `file` and `unit`, which say what a name means, then `wants` and `reach`.
 #![tactic(auto)]
 
+mod drop_in_files;
 mod file;
 mod mask;
 mod merging;
@@ -14,6 +15,7 @@ mod specifiers;
 mod unit;
 mod wants;
 
+pub use drop_in_files::drop_ins;
 pub use file::{UnitFile, file_of_unit};
 pub use mask::is_mask;
 pub use merging::{Entry, entries_among};

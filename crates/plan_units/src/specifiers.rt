@@ -3,7 +3,7 @@
 ghost use Rattle.std.specs.Prelude.{◌≡◌, ◌==◌, false, IfOk, not};
 ghost use Rattle.std.specs.List.{suffix_len};
 ghost use Rattle.std.specs.Str.{byte};
-ghost use Rattle.plan_units.specs.Specifiers.{expanded, last_part, replaced, slashed, specifier, without_last, written};
+ghost use Rattle.plan_units.specs.Specifiers.{expanded, last_part, replaced, slashed, specifier, written};
 
 use crate::names::{parts_of, type_start};
 use std::alloc::{AllocError, Global};
@@ -12,21 +12,19 @@ use std::alloc::{AllocError, Global};
 pub(crate) fn expanded(alloc: Global, name: &str, text: &[u8]) -> Result<Vec<u8>, AllocError>
     ensures { IfOk result (λ read. read.items ≡ expanded name.now text.now) }
 {
-    let Some((front, instance, _)) = parts_of(name) else {
+    let Some((prefix, instance, _)) = parts_of(name) else {
         return Vec::from_slice(alloc, text);
     };
     if instance.is_empty() {
         return Vec::from_slice(alloc, text);
     }
-    let prefix = without_last(front.as_bytes());
-    replaced(alloc, name.as_bytes(), prefix, instance.as_bytes(), text)
-}
-
-// Returns a text without its last byte.
-fn without_last(text: &[u8]) -> &[u8]
-    ensures { result.now ≡ without_last text.now }
-{
-    &text[..text.len().saturating_sub(1)]
+    replaced(
+        alloc,
+        name.as_bytes(),
+        prefix.as_bytes(),
+        instance.as_bytes(),
+        text,
+    )
 }
 
 // Returns a text with its specifiers replaced, for a name with its prefix and its instance.

@@ -2,16 +2,17 @@
 
 ghost use Rattle.std.specs.Prelude.{◌≡◌, ◌++◌, true, IfOk, IfNone, IfSome, OnOk, if◌then◌else◌, ◌∷◌, []};
 ghost use Rattle.plan_units.specs.Reach.{AreReached, AreTooMany};
-ghost use Rattle.plan_units.specs.Wants.{counted_names, is_counted, linked_names, wants_of, with_template};
+ghost use Rattle.plan_units.specs.Wants.{counted_names, is_counted, linked_names, set_by_unit, set_in, wants_of, with_template};
 ghost use Rattle.plan_units.specs.UnitNames.{template_of};
 
+use crate::drop_in_files::drop_ins;
 use crate::mask::is_mask;
 use crate::merging::{Entry, entries_among, places_of};
 use crate::names::template_of;
 use crate::paths::UnitDir;
 use crate::reach::{Wants, reached};
 use crate::settings::set_names;
-use crate::unit::unit_of;
+use crate::unit::{Unit, unit_of};
 use plan_tree::{Name, Node, Tree};
 use std::alloc::{AllocError, Global};
 
@@ -56,7 +57,7 @@ pub fn reached_units<T: Tree>(
 }
 
 /// Returns the names that a name wants: the unit that it is, the units that are linked in the directories of the name, and
-/// those that the file of its unit names. A name without a unit wants none, and a masked unit neither.
+/// those that the files of its unit name. A name without a unit wants none, and a masked unit neither.
 ///
 /// # Errors
 ///
@@ -79,11 +80,47 @@ pub fn wanted_names<T: Tree>(
     }
     let mut wanted = linked_names(alloc, tree, dirs, name, ".wants")?;
     let mut required = linked_names(alloc, tree, dirs, name, ".requires")?;
-    let mut set = set_names(alloc, tree, unit.name.as_str(), unit.file.real.as_str())?;
+    let mut set = set_by_unit(alloc, tree, dirs, &unit)?;
     names.push(unit.name)?;
     names.append(&mut wanted)?;
     names.append(&mut required)?;
     names.append(&mut set)?;
+    Ok(names)
+}
+
+// Returns the names that a unit's file and its drop-ins write.
+fn set_by_unit<T: Tree>(
+    alloc: Global,
+    tree: &T,
+    dirs: &[UnitDir],
+    unit: &Unit,
+) -> Result<Vec<Name>, AllocError>
+    ensures { T.is_known ≡ true → IfOk result (λ names.
+        names.items ≡ set_by_unit (T.held tree.now) dirs.now unit.now) }
+{
+    let name = unit.name.as_str();
+    let mut names = set_names(alloc, tree, name, unit.file.real.as_str())?;
+    let found = drop_ins(alloc, tree, dirs, name)?;
+    let mut more = set_in(alloc, tree, name, found.as_slice())?;
+    names.append(&mut more)?;
+    Ok(names)
+}
+
+// Returns the names that some files of a unit write.
+fn set_in<T: Tree>(
+    alloc: Global,
+    tree: &T,
+    unit: &str,
+    files: &[Entry],
+) -> Result<Vec<Name>, AllocError>
+    ensures { T.is_known ≡ true → IfOk result (λ names.
+        names.items ≡ set_in (T.held tree.now) unit.now files.now) }
+{
+    let mut names = Vec::new(alloc);
+    for file in files {
+        let mut more = set_names(alloc, tree, unit, file.path.as_str())?;
+        names.append(&mut more)?;
+    }
     Ok(names)
 }
 

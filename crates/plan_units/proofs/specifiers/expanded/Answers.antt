@@ -1,7 +1,7 @@
 -- The text of an instance has its specifiers replaced.
 use Rattle.std.proofs.Common.{◌≡◌, ap, sym, ◌∙◌}
 use Rattle.std.proofs.lemmas.Result.{IfOk-weaker}
-use Rattle.plan_units.specs.Specifiers.{expanded, without_last}
+use Rattle.plan_units.specs.Specifiers.{expanded}
 use Rattle.plan_units.proofs.SpecifierLemmas.{expanded_instance, filled}
 use Rattle.plan_units.proofs.specifiers.expanded.Goals as goal
 
@@ -9,11 +9,11 @@ pub returns : goal.returns
 returns c =
     let name = c.args.name.now in
     let text = c.args.text.now in
-    let front = c.in-Some.front.now in
+    let prefix = c.in-Some.prefix.now in
     let instance = c.in-Some.instance.now in
-    let prefix = c.without_last-prefix.ensures ∙ ap without_last c.as_bytes.ensures.value in
-    let whole = ap (λ n. filled n c.without_last-prefix.result.now c.as_bytes-3.result.now text) c.as_bytes-2.ensures.value
-    ∙ ap (λ p. filled name p c.as_bytes-3.result.now text) prefix ∙ ap (λ i. filled name (without_last front) i text) c.as_bytes-3.ensures.value
-    ∙ expanded_instance name front instance c.in-Some.field-0-2.now text c.in-Some.ensures (sym c.is_empty.ensures ∙ c.if-is_empty.false) in
-    IfOk-weaker c.replaced.result (λ read. read.items ≡ filled c.as_bytes-2.result.now c.without_last-prefix.result.now c.as_bytes-3.result.now text)
+    let whole = ap (λ n. filled n c.as_bytes-2.result.now c.as_bytes-3.result.now text) c.as_bytes.ensures.value
+    ∙ ap (λ p. filled name p c.as_bytes-3.result.now text) c.as_bytes-2.ensures.value
+    ∙ ap (λ i. filled name prefix i text) c.as_bytes-3.ensures.value
+    ∙ expanded_instance name prefix instance c.in-Some.field-0-2.now text c.in-Some.ensures (sym c.is_empty.ensures ∙ c.if-is_empty.false) in
+    IfOk-weaker c.replaced.result (λ read. read.items ≡ filled c.as_bytes.result.now c.as_bytes-2.result.now c.as_bytes-3.result.now text)
     (λ read. read.items ≡ expanded name text) (λ read is. is ∙ whole) c.replaced.ensures
