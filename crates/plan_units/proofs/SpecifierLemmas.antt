@@ -1,5 +1,5 @@
 -- The text of an instance has its specifiers replaced.
-use Rattle.std.proofs.Common.{◌≡◌, ◌==◌, ℕ, Bool, false, cond, List, length, Option, Some, ap, sym, ◌∙◌}
+use Rattle.std.proofs.Common.{◌≡◌, ◌==◌, ℕ, false, cond, List, length, Some, ap, sym, ◌∙◌}
 use Rattle.plan_units.specs.Specifiers.{expanded, expanded_by, replaced, specifier, written}
 use Rattle.plan_units.specs.UnitNames.{parts_of}
 

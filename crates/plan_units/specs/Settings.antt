@@ -1,6 +1,6 @@
 -- The units that the text of a unit's file wants (systemd.unit(5), [Unit] section options; systemd.syntax(7)).
-use Rattle.std.specs.Prelude.{ℕ, ◌-◌, Bool, true, false, not, ◌&&◌, ◌||◌, ◌==◌, nat_lt, if◌then◌else◌, List, [], ◌∷◌, ◌++◌, length, filter, map, slice_index, slice_range, Option, None, Some, codes}
-use Rattle.std.specs.List.{after_first, before_first, list_any, position_or_len}
+use Rattle.std.specs.Prelude.{ℕ, ◌-◌, Bool, false, ◌&&◌, ◌||◌, ◌==◌, nat_lt, if◌then◌else◌, List, [], ◌∷◌, ◌++◌, length, slice_index, slice_range, Option, None, Some, codes}
+use Rattle.std.specs.List.{after_first, before_first, position_or_len}
 use Rattle.std.specs.Str.{byte, bytes_eq, is_utf8}
 use Rattle.plan_texts.specs.Lines.{is_too_large}
 use Rattle.plan_texts.specs.Text.{begins_with, words}
