@@ -7,7 +7,8 @@ use Rattle.plan_units.specs.DropIns.{cuts_below}
 abbrev pub cut_at_place : List ℕ → ℕ → List (List ℕ)
 cut_at_place text place = cond (nat_lt 0 place && (slice_index text place == 45)) (take (place + 1) text ∷ []) []
 
-pub cuts_next : (text : List ℕ) (place : ℕ) → place ≢ 0 → cuts_below text place ≡ cut_at_place text (place - 1) ++ cuts_below text (place - 1)
+pub cuts_next :
+    (text : List ℕ) (place : ℕ) → place ≢ 0 → cuts_below text place ≡ cut_at_place text (place - 1) ++ cuts_below text (place - 1)
 unfolding cuts_below
 cuts_next text zero some = absurd (some refl)
 cuts_next text (suc n) some =
@@ -16,8 +17,9 @@ cuts_next text (suc n) some =
 
 -- the text is cut at the next place
 pub cut_taken :
-    (text : List ℕ) (place : ℕ) (front whole : List (List ℕ)) (cut : List ℕ) → place ≢ 0 → 0 < place - 1 → slice_index text (place - 1) ≡ 45 →
-    cut ≡ slice_range text 0 (place - 1 + 1) → front ++ cuts_below text place ≡ whole → (front ++ cut ∷ []) ++ cuts_below text (place - 1) ≡ whole
+    (text : List ℕ) (place : ℕ) (front whole : List (List ℕ)) (cut : List ℕ) → place ≢ 0 → 0 < place - 1 →
+    slice_index text (place - 1) ≡ 45 → cut ≡ slice_range text 0 (place - 1 + 1) → front ++ cuts_below text place ≡ whole →
+    (front ++ cut ∷ []) ++ cuts_below text (place - 1) ≡ whole
 cut_taken text place front whole cut some inside dash is left =
     let here : (nat_lt 0 (place - 1) && (slice_index text (place - 1) == 45)) ≡ true = grind (arith, nat_tests) in
     let size : place - 1 + 1 - 0 ≡ place - 1 + 1 = omega arith in

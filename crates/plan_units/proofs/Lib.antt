@@ -3,4 +3,5 @@ pub mod NameLemmas
 pub mod ReachLemmas
 pub mod SpecifierLemmas
 pub mod TextLemmas
+pub mod TimerLemmas
 pub mod UnitLemmas

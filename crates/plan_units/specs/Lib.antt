@@ -9,3 +9,4 @@ pub mod Settings
 pub mod DropIns
 pub mod Wants
 pub mod Reach
+pub mod Timers

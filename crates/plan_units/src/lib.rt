@@ -12,6 +12,7 @@ mod paths;
 mod reach;
 mod settings;
 mod specifiers;
+mod timers;
 mod unit;
 mod wants;
 
@@ -21,5 +22,6 @@ pub use mask::is_mask;
 pub use merging::{Entry, entries_among};
 pub use paths::{UnitDir, search_path};
 pub use reach::{Wants, reached};
+pub use timers::boot_timers;
 pub use unit::{Unit, unit_of};
 pub use wants::{TreeUnits, reached_units, wanted_names};

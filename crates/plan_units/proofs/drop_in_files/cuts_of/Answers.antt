@@ -17,7 +17,8 @@ range-requires-clause-end_boundary c =
 pub loop-place-preserved-then-as_bytes-place-eq45 : goal.loop-place-preserved-then-as_bytes-place-eq45
 loop-place-preserved-then-as_bytes-place-eq45 c =
     let now : Bor (List ℕ) → List ℕ = λ cut. cut.now in
-    let dash : slice_index_or c.args.text.now (c.loop-place.place - 1) 0 ≡ 45 = rw c.as_bytes.ensures.value at c.if-as_bytes-place-eq45.true in
+    let dash : slice_index_or c.args.text.now (c.loop-place.place - 1) 0 ≡ 45 =
+    rw c.as_bytes.ensures.value at c.if-as_bytes-place-eq45.true in
     let some : c.loop-place.place ≢ 0 = omega (arith, c.loop-place-test.true) in
     record {
       inside = omega (arith, c.loop-place.invariant.inside);

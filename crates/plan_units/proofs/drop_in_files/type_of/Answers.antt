@@ -4,4 +4,5 @@ use Rattle.plan_units.proofs.drop_in_files.type_of.Goals as goal
 
 pub range_from-requires : goal.range_from-requires
 range_from-requires c = λ some.
-    rw (c.saturating_sub.ensures, c.type_len.ensures, c.as_bytes.ensures.value) (boundary_after_last 46 c.args.name.now (lit< tt) c.utf8.name)
+    rw (c.saturating_sub.ensures, c.type_len.ensures, c.as_bytes.ensures.value)
+    (boundary_after_last 46 c.args.name.now (lit< tt) c.utf8.name)

@@ -31,7 +31,9 @@ returns-in_ok-other-in-Some-alias g t c = λ known.
     let name = c.args.name in
     let found = sym c.in-Some.is ∙ c.in_ok-file.ensures known ∙ ap (file_of_unit node dirs) c.as_str.ensures in
     let other = c.in_ok-other-in-Some-alias.ensures
-    ∙ ap (λ n. named_for n c.as_str-in-Some-alias-2.result.now) c.as_str-in-Some-alias.ensures ∙ ap (named_for name) c.as_str-in-Some-alias-2.ensures in
-    let whole = ap (unit_within node dirs (names - 1)) other ∙ within_alias node dirs names name _ c.in-Some.file c.if-names-eq0.false found c.in-Some-alias.is in
+    ∙ ap (λ n. named_for n c.as_str-in-Some-alias-2.result.now) c.as_str-in-Some-alias.ensures
+    ∙ ap (named_for name) c.as_str-in-Some-alias-2.ensures in
+    let whole = ap (unit_within node dirs (names - 1)) other
+    ∙ within_alias node dirs names name _ c.in-Some.file c.if-names-eq0.false found c.in-Some-alias.is in
     IfOk-weaker c.unit_within.result (λ unit. unit ≡ unit_within node dirs (names - 1) c.in_ok-other-in-Some-alias.other)
     (λ unit. unit ≡ unit_within node dirs names name) (λ unit this. this ∙ whole) (c.unit_within.ensures known)
