@@ -8,7 +8,7 @@ use Rattle.agenda_faults.specs.declared.faults.Failure.{Failure}
 use Rattle.agenda_faults.specs.declared.faults.Failure.TheVariants.{Run}
 use Rattle.agenda_faults.specs.declared.faults.RunFault.TheVariants as run
 use Rattle.agenda_sources.specs.declared.TimeZones.{TimeZones}
-use Rattle.agenda_words.specs.declared.ZonesRequest.{ZonesRequest}
+use Rattle.agenda_arguments.specs.declared.ZonesRequest.{ZonesRequest}
 use Rattle.agenda_answers.specs.EventZones.{found_by, found_zone, found_zones, time_zones, zones_by}
 use Rattle.agenda_answers.specs.Files.{Held}
 use Rattle.agenda_answers.specs.Opened.{event_files, files_of_names}

@@ -1,11 +1,8 @@
 pub mod EventZonesLemmas
-pub mod FailureLemmas
 pub mod FileLemmas
-pub mod GoalLemmas
 pub mod KeepingLaws
-pub mod KeepingLemmas
 pub mod OpenedLemmas
+pub mod OutcomeLemmas
 pub mod ScriptLemmas
-pub mod SourcesLemmas
 pub mod StepLemmas
 pub mod TriedLemmas

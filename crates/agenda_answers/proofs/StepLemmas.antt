@@ -1,13 +1,13 @@
 -- Steps one after another, and what they leave on a stream: for the functions that pass on the failures of others by `?`.
-use Rattle.std.proofs.Common.{◌≡◌, ℕ, Bool, List, Option, Result, Ok, Err, IfErr, refl, subst, sym}
+use Rattle.std.proofs.Common.{◌≡◌, ℕ, Bool, List, Option, Result, Ok, Err, IfErr, OnOk, refl, subst, sym}
 use Rattle.std.specs.Result.{IsErrAnd}
 use Rattle.std.proofs.KnownBytes.{Keeps-refl}
-use Rattle.agenda_commands.specs.Command.{Fails, IsFaultOf, IsTextOf, Writes}
+use Rattle.agenda_commands.specs.Command.{Fails, IsFaultOf, IsTextOf, Outputs, Writes}
 use Rattle.agenda_faults.specs.declared.faults.Failure.{Failure}
 use Rattle.agenda_faults.specs.declared.faults.Failure.TheVariants.{Run}
 use Rattle.agenda_faults.specs.declared.faults.RunFault.{RunFault}
 use Rattle.agenda_faults.specs.declared.faults.RunFault.TheVariants as run
-use Rattle.agenda_answers.specs.Answer.{Leaves, Printed, outputs_if, prints}
+use Rattle.agenda_answers.specs.Answer.{Leaves, Printed, outputs, outputs_if, prints, status_after}
 use Rattle.agenda_answers.specs.Steps.{Step, ◌>>=◌, stops, goes}
 
 -- a failure was passed on
@@ -55,21 +55,41 @@ stopped P R takes_all status (Err found) (run.Device stream) old new (text, is, 
 stopped P R takes_all status (Err found) other old new fails passed =
     record { end = Err (Run other); ends = fails.0; puts = (passed, fails.1) }
 
--- the same of a command that checks a number first
-pub stopped_if :
-    (number : Result ℕ RunFault) (output : Result (List ℕ) RunFault) (takes_all : Bool) (result : Result ℕ Failure) (fault : RunFault)
-    (old new : Option (List ℕ)) → Fails takes_all (IsTextOf output) (IsFaultOf output) fault old new →
-    IfErr number (λ found. fault ≡ found) → IsErrAnd result (λ found. found ≡ Run fault) →
-    Leaves takes_all (outputs_if number output) result old new
-stopped_if number output takes_all (Ok done) fault old new fails first passed = absurd passed
-stopped_if number output takes_all (Err found) (run.Device stream) old new (text, is, off) first passed =
-    record { end = Ok (record { text = text; status = 0 }); ends = (is, refl); puts = (stream, passed, off) }
-stopped_if number output takes_all (Err found) other old new fails first passed =
-    record { end = Err (Run other); ends = (fails.0, first); puts = (passed, fails.1) }
+-- a command ended, whose failure is passed on
+pub ran_by :
+    {A : Type 0} (P : List ℕ → Type 0) (R : RunFault → Type 0) (takes_all : Bool) (run : Result A RunFault) (old new : Option (List ℕ)) →
+    OnOk run (Writes P old new) → IfErr run (λ fault. Fails takes_all P R fault old new) →
+    Leaves takes_all (prints 0 P R) (status_after run) old new
+ran_by P R takes_all (Ok done) old new wrote failed = printed P R takes_all 0 old new wrote
+ran_by P R takes_all (Err fault) old new wrote failed = stopped P R takes_all 0 _ fault old new failed refl
+
+-- the same by the output of the command
+pub ran :
+    {A : Type 0} (output : Result (List ℕ) RunFault) (takes_all : Bool) (run : Result A RunFault) (old new : Option (List ℕ)) →
+    Outputs takes_all output run old new → Leaves takes_all (outputs 0 output) (status_after run) old new
+ran output takes_all (Ok done) old new wrote = printed (IsTextOf output) (IsFaultOf output) takes_all 0 old new wrote
+ran output takes_all (Err fault) old new failed =
+    stopped (IsTextOf output) (IsFaultOf output) takes_all 0 _ fault old new failed refl
 
 -- an error in a number is that of a command which checks the number first
-pub same_error :
+same_error :
     {A : Type 0} (number : Result ℕ RunFault) (fault : RunFault) (done : Result A RunFault) → done ≡ Err fault →
     IfErr number (λ found. done ≡ Err found) → IfErr number (λ found. fault ≡ found)
 same_error (Ok n) fault done is same = tt
 same_error (Err found) fault done is same = cc
+
+-- the same of a command that checks a number first
+pub ran_if :
+    {A : Type 0} (number : Result ℕ RunFault) (output : Result (List ℕ) RunFault) (takes_all : Bool) (run : Result A RunFault)
+    (old new : Option (List ℕ)) → Outputs takes_all output run old new → IfErr number (λ found. run ≡ Err found) →
+    Leaves takes_all (outputs_if number output) (status_after run) old new
+ran_if number output takes_all (Ok done) old new wrote bad = printed (IsTextOf output) _ takes_all 0 old new wrote
+ran_if number output takes_all (Err (run.Device stream)) old new (text, is, off) bad =
+    record { end = Ok (record { text = text; status = 0 }); ends = (is, refl); puts = (stream, refl, off) }
+ran_if number output takes_all (Err other) old new failed bad =
+    record { end = Err (Run other); ends = (failed.0, same_error number other _ refl bad); puts = (refl, failed.1) }
+
+-- what holds after success holds after the status
+pub flushed_after : {A : Type 0} (P : Type 0) (run : Result A RunFault) → OnOk run P → OnOk (status_after run) P
+flushed_after P (Ok done) is = is
+flushed_after P (Err fault) is = tt

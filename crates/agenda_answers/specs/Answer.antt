@@ -1,44 +1,30 @@
--- What the program answers to a request: its exit status, and what both streams hold after it. All of it is our choice (agenda).
-use Rattle.std.specs.Prelude.{◌≡◌, ⊤, ℕ, ◌<◌, ◌≤◌, Bool, List, [], codes, Option, Result, Ok, Err, IfErr}
+-- What commands print, and what both streams hold after them. All of it is our choice (agenda).
+use Rattle.std.specs.Prelude.{◌≡◌, ⊤, ℕ, Bool, false, List, codes, Option, Result, Ok, Err, IfErr}
 use Rattle.std.specs.Io.KnownBytes.{Appends, Keeps}
-use Rattle.plan_sets.specs.Limits.{end_second}
-use Rattle.plan_sets.specs.Moment.{HasFault, moment_text_of}
-use Rattle.plan_sets.specs.declared.MomentFault.{MomentFault}
 use Rattle.agenda_codes.specs.declared.Code.{Code}
-use Rattle.agenda_words.specs.declared.Ask.{Ask}
-use Rattle.agenda_words.specs.declared.Ask.TheVariants.{Next, Plan, Upcoming, Quiet, Check, Steps, Explain}
-use Rattle.agenda_words.specs.declared.JobsRequest.{JobsRequest}
-use Rattle.agenda_words.specs.declared.NextRequest.{NextRequest}
-use Rattle.agenda_words.specs.declared.PlanRequest.{PlanRequest}
-use Rattle.agenda_words.specs.declared.ZonesRequest.{ZonesRequest}
-use Rattle.agenda_words.specs.declared.UsageFault.{UsageFault}
-use Rattle.agenda_words.specs.declared.UsageFault.TheVariants as usage
+use Rattle.agenda_arguments.specs.declared.ZonesRequest.{ZonesRequest}
+use Rattle.agenda_arguments.specs.declared.UsageFault.{UsageFault}
+use Rattle.agenda_arguments.specs.declared.UsageFault.TheVariants as usage
 use Rattle.agenda_faults.specs.declared.faults.RunFault.{RunFault}
 use Rattle.agenda_faults.specs.declared.faults.RunFault.TheVariants as run
 use Rattle.agenda_faults.specs.declared.faults.Failure.{Failure}
-use Rattle.agenda_faults.specs.declared.faults.Failure.TheVariants.{Usage, After, Since, Upto, Span, Run, File}
+use Rattle.agenda_faults.specs.declared.faults.Failure.TheVariants.{Usage, Run, File}
 use Rattle.agenda_kinds.specs.declared.SourcePath.{SourcePath}
-use Rattle.plan_collect.specs.Span.{Bounds}
-use Rattle.plan_collect.specs.declared.SpanFault.TheVariants.{Backwards}
 use Rattle.agenda_faults.specs.FaultLines.{fault_text}
 use Rattle.agenda_faults.specs.Faults.{status_of}
 use Rattle.agenda_faults.specs.Status.{done_status, refused_status}
+use Rattle.agenda_answers.specs.declared.requests.StartsRequest.{StartsRequest}
 use Rattle.agenda_answers.specs.Files.{Held, whole_of}
 use Rattle.agenda_answers.specs.Formats.{format_made}
 use Rattle.agenda_answers.specs.Sources.{input_of, rule_zones}
 use Rattle.agenda_answers.specs.Steps.{Step, fails, gives, ◌>>=◌}
-use Rattle.agenda_commands.specs.declared.Input.{Input}
-use Rattle.agenda_commands.specs.declared.Planning.{Planning}
-use Rattle.agenda_commands.specs.declared.Verdict.{Verdict}
-use Rattle.agenda_commands.specs.declared.Verdict.TheVariants.{Clean, Refused}
-use Rattle.agenda_commands.specs.Check.{check_output, sources_verdict}
+use Rattle.agenda_commands.specs.declared.Checked.{Checked}
+use Rattle.agenda_commands.specs.declared.Checked.TheVariants.{WithoutErrors, WithErrors}
+use Rattle.agenda_commands.specs.Check.{check_output, sources_checked}
 use Rattle.agenda_commands.specs.Command.{IsFaultOf, IsTextOf}
 use Rattle.agenda_commands.specs.Explain.{explain_output}
 use Rattle.agenda_commands.specs.Next.{next_output, valid_count}
-use Rattle.agenda_commands.specs.Plan.{plan_output}
-use Rattle.agenda_commands.specs.Quiet.{quiet_output, valid_least}
 use Rattle.agenda_commands.specs.Script.{IsTextOfRun, RefusesRun}
-use Rattle.agenda_commands.specs.Upcoming.{IsTextOfUpcoming, RefusesUpcoming}
 use Rattle.plan_streams.specs.Stream.{BreaksOff, PutsOrBreaksOff}
 use Rattle.plan_streams.specs.declared.WriteFault.{WriteFault}
 
@@ -47,25 +33,6 @@ abbrev pub SaysNotUtf8 : UsageFault → Type 0
 SaysNotUtf8 usage.NoMemory = ⊤
 SaysNotUtf8 (usage.Usage text) = text ≡ codes "a word of the command line is not UTF-8\n"
 SaysNotUtf8 (usage.Help text) = ⊥
-
--- ---- times
-
--- the timestamp of an option, with the failure if the text isn't one
-abbrev pub moment_of : (MomentFault → Failure) → List ℕ → Step ℕ
-moment_of of_option text (Ok moment) = (moment ≤ end_second) × (text ≡ moment_text_of moment)
-moment_of of_option text (Err failure) = (fault : MomentFault) × (failure ≡ of_option fault) × HasFault text fault
-
--- two timestamps bound a span unless the second is earlier
-abbrev pub bounded : (since upto : ℕ) → Step Bounds
-bounded since upto (Ok span) = span ≡ record { since = since; upto = upto }
-bounded since upto (Err failure) = (failure ≡ Span Backwards) × (upto < since)
-
--- the span of a plan: the first timestamp is read first, then the second, then their order is checked
-abbrev pub span_of : (since upto : List ℕ) → Step Bounds
-span_of since upto = do
-  begin ← moment_of Since since
-  end ← moment_of Upto upto
-  bounded begin end
 
 -- ---- commands
 
@@ -88,67 +55,28 @@ outputs status output = prints status (IsTextOf output) (IsFaultOf output)
 abbrev pub outputs_if : (number : Result ℕ RunFault) → Result (List ℕ) RunFault → Step Printed
 outputs_if number output = prints done_status (IsTextOf output) (λ fault. IsFaultOf output fault × IfErr number (λ found. fault ≡ found))
 
--- `next`: the timestamp is read first, then the zones, then the count and the rule
-abbrev pub next_ends : Held → NextRequest → Step Printed
+-- the exit status after a command that prints a text, or its failure
+abbrev pub status_after : {A : Type 0} → Result A RunFault → Result ℕ Failure
+status_after (Ok done) = Ok done_status
+status_after (Err fault) = Err (Run fault)
+
+-- `next`: the zones are read first, then the count and the rule
+abbrev pub next_ends : Held → StartsRequest → Step Printed
 next_ends held request = do
-  moment ← moment_of After request.after
   zones ← rule_zones held request.zones request.rule
   format ← format_made request.format request.zones.zone zones.clock
-  outputs_if (valid_count request.count) (next_output zones request.rule moment request.count format)
-
--- how the jobs of a request are planned over a span
-abbrev pub planning_of : PlanRequest → Bounds → Planning
-planning_of request span = record { span = span; sizes = request.sizes; delays = request.jobs.delays }
-
--- the plan over a span, after the zone and the files were read
-abbrev pub plan_after : PlanRequest → Bounds → Input → Step Printed
-plan_after request span input = do
-  format ← format_made request.jobs.format request.jobs.zones.zone input.zones.clock
-  outputs done_status (plan_output input.zones input.sources (planning_of request span) format)
-
--- `plan`: the span is read first, then the zone, then the files, and then the plan is made
-abbrev pub plan_ends : Held → PlanRequest → Step Printed
-plan_ends held request = do
-  span ← span_of request.since request.upto
-  input ← input_of held request.jobs.zones request.jobs.sources
-  plan_after request span input
-
--- the next starts after a second, after the zone and the files were read
-abbrev pub upcoming_after : JobsRequest → (moment : ℕ) → Input → Step Printed
-upcoming_after jobs moment input = do
-  format ← format_made jobs.format jobs.zones.zone input.zones.clock
-  prints done_status (IsTextOfUpcoming input.zones input.sources moment jobs.delays format) (RefusesUpcoming input.zones input.sources)
-
--- `upcoming`: the timestamp is read first, then the zone, then the files, and then their texts
-abbrev pub upcoming_ends : Held → List ℕ → JobsRequest → Step Printed
-upcoming_ends held after jobs = do
-  moment ← moment_of After after
-  input ← input_of held jobs.zones jobs.sources
-  upcoming_after jobs moment input
-
--- the gaps of a plan over a span, after the zone and the files were read
-abbrev pub quiet_after : PlanRequest → (least : ℕ) → Bounds → Input → Step Printed
-quiet_after request least span input = do
-  format ← format_made request.jobs.format request.jobs.zones.zone input.zones.clock
-  outputs_if (valid_least least) (quiet_output input.zones input.sources (planning_of request span) least format)
-
--- `quiet`: in the same order as `plan`
-abbrev pub quiet_ends : Held → PlanRequest → (least : ℕ) → Step Printed
-quiet_ends held request least = do
-  span ← span_of request.since request.upto
-  input ← input_of held request.jobs.zones request.jobs.sources
-  quiet_after request least span input
+  outputs_if (valid_count request.count) (next_output zones request.rule request.after request.count format)
 
 -- the exit status of `check`
-abbrev pub status_on : Verdict → ℕ
-status_on Clean = done_status
-status_on Refused = refused_status
+abbrev pub status_on : Checked → ℕ
+status_on WithoutErrors = done_status
+status_on WithErrors = refused_status
 
 -- `check`: the zone is read first, then the files and the zones of events; after that only an allocation can fail
 abbrev pub check_ends : Held → ZonesRequest → List SourcePath → (json : Bool) → Step Printed
 check_ends held zones paths json = do
-  input ← input_of held zones paths
-  outputs (status_on (sources_verdict input.zones input.sources)) (check_output input.zones paths input.sources json)
+  input ← input_of false held zones paths
+  outputs (status_on (sources_checked input.1 input.0.sources)) (check_output input.1 paths input.0.sources json)
 
 -- `steps`: the file is read first, then the script in it is run
 abbrev pub steps_ends : Held → List ℕ → Step Printed
@@ -161,16 +89,6 @@ abbrev pub explain_ends : Option Code → Step Printed
 explain_ends code = outputs done_status (explain_output code)
 
 -- ---- the answer
-
--- a request
-abbrev pub ask_ends : Held → Ask → Step Printed
-ask_ends held (Next request) = next_ends held request
-ask_ends held (Plan request) = plan_ends held request
-ask_ends held (Upcoming after jobs) = upcoming_ends held after jobs
-ask_ends held (Quiet request least) = quiet_ends held request least
-ask_ends held (Check zones sources json) = check_ends held zones sources json
-ask_ends held (Steps file) = steps_ends held file
-ask_ends held (Explain code) = explain_ends code
 
 -- arguments that request no command: help is printed, and invalid arguments are a failure by themselves
 abbrev pub usage_ends : UsageFault → Step Printed
@@ -204,11 +122,3 @@ abbrev pub Ends : List SourcePath → Result ℕ Failure → (status : ℕ) → 
 Ends sources (Ok status) found err = (found ≡ status) × Keeps err.old err.new
 Ends sources (Err failure) found err =
     (found ≡ status_of failure) × PutsOrBreaksOff err.takes_all err.old err.new (fault_text sources failure)
-
--- the paths of the sources that a request names
-abbrev pub sources_in : Ask → List SourcePath
-sources_in (Plan request) = request.jobs.sources
-sources_in (Upcoming _ jobs) = jobs.sources
-sources_in (Quiet request _) = request.jobs.sources
-sources_in (Check _ sources _) = sources
-sources_in other = []

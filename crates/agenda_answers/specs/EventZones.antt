@@ -6,7 +6,7 @@ use Rattle.plan_clock.specs.declared.row.Change.{Change}
 use Rattle.plan_zones.specs.ZoneTexts.{source_of, zone_path}
 use Rattle.plan_rules.specs.declared.NamedZone.{NamedZone}
 use Rattle.plan_rules.specs.EventZones.{Zones}
-use Rattle.agenda_words.specs.declared.ZonesRequest.{ZonesRequest}
+use Rattle.agenda_arguments.specs.declared.ZonesRequest.{ZonesRequest}
 use Rattle.agenda_faults.specs.declared.faults.RunFault.TheVariants as run
 use Rattle.agenda_faults.specs.declared.faults.Failure.{Failure}
 use Rattle.agenda_faults.specs.declared.faults.Failure.TheVariants.{Run}

@@ -3,7 +3,7 @@ use Rattle.std.specs.Prelude.{◌≡◌, Bool, true, false, ℕ, List, codes, Op
 use Rattle.plan_clock.specs.declared.row.Change.{Change}
 use Rattle.plan_rules.specs.declared.NamedZone.{NamedZone}
 use Rattle.plan_write.specs.declared.Format.{Format}
-use Rattle.agenda_words.specs.declared.FormatRequest.{FormatRequest}
+use Rattle.agenda_arguments.specs.declared.FormatRequest.{FormatRequest}
 use Rattle.agenda_faults.specs.declared.faults.Failure.TheVariants.{Run}
 use Rattle.agenda_faults.specs.declared.faults.RunFault.TheVariants.{NoMemory}
 use Rattle.agenda_answers.specs.Steps.{Step}

@@ -2,10 +2,10 @@ pub mod Answer
 pub mod EventZones
 pub mod Files
 pub mod Formats
-pub mod Goals
-pub mod Keeping
 pub mod Opened
+pub mod Outcome
 pub mod Program
+pub mod Requests
 pub mod Sources
 pub mod Steps
 pub mod Zone

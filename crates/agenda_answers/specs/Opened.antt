@@ -10,7 +10,7 @@ use Rattle.agenda_faults.specs.declared.faults.Failure.TheVariants.{Run}
 use Rattle.agenda_kinds.specs.declared.SourcePath.{SourcePath}
 use Rattle.agenda_sources.specs.declared.Source.{Source}
 use Rattle.agenda_sources.specs.ZoneNames.{zone_names}
-use Rattle.agenda_words.specs.declared.ZonesRequest.{ZonesRequest}
+use Rattle.agenda_arguments.specs.declared.ZonesRequest.{ZonesRequest}
 use Rattle.agenda_answers.specs.EventZones.{is_given, names_if}
 
 -- what is known of a list, after these elements were added at its end

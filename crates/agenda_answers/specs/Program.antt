@@ -1,47 +1,48 @@
 -- What the program answers to its arguments. All of it is our choice (agenda).
-use Rattle.std.specs.Prelude.{◌≡◌, ◌≢◌, ℕ, Bool, true, false, List, [], Result, Ok, Err}
-use Rattle.agenda_words.specs.declared.Ask.{Ask}
-use Rattle.agenda_words.specs.declared.Ask.TheVariants.{Plan, Upcoming, Quiet}
-use Rattle.agenda_words.specs.declared.JobsRequest.{JobsRequest}
-use Rattle.agenda_words.specs.declared.UsageFault.{UsageFault}
-use Rattle.agenda_words.specs.Arguments.{Gives, asked_by}
+use Rattle.std.specs.Prelude.{◌≡◌, ◌≢◌, ℕ, true, List, [], Result, Ok, Err}
+use Rattle.agenda_arguments.specs.declared.Ask.{Ask}
+use Rattle.agenda_arguments.specs.declared.JobsRequest.{JobsRequest}
+use Rattle.agenda_arguments.specs.declared.UsageFault.{UsageFault}
+use Rattle.agenda_arguments.specs.Arguments.{Gives, asked_by}
 use Rattle.agenda_faults.specs.declared.faults.Failure.{Failure}
 use Rattle.agenda_faults.specs.declared.faults.Failure.TheVariants.{Run}
 use Rattle.agenda_faults.specs.declared.faults.RunFault.TheVariants.{NoMemory}
+use Rattle.agenda_kinds.specs.declared.SourcePath.{SourcePath}
 use Rattle.agenda_commands.specs.declared.Goal.{Goal}
-use Rattle.agenda_answers.specs.Answer.{Ends, Leaves, Stream, ask_ends, sources_in, usage_ends}
+use Rattle.agenda_answers.specs.declared.requests.Request.{Request}
+use Rattle.agenda_answers.specs.declared.requests.Request.TheVariants.{Starts, Jobs, Check, Steps, Explain}
+use Rattle.agenda_answers.specs.Answer.{Ends, Leaves, Printed, Stream, check_ends, explain_ends, next_ends, steps_ends, usage_ends}
 use Rattle.agenda_answers.specs.Files.{Held}
-use Rattle.agenda_answers.specs.Keeping.{AnswersKept, Outcome, ReportsOrFails, kept_of, plan_goal, quiet_goal, upcoming_goal}
-use Rattle.agenda_answers.specs.Steps.{Step}
+use Rattle.agenda_answers.specs.Outcome.{AnswersJobs, Outcome, ReportsOrFails, outcome_by}
+use Rattle.agenda_answers.specs.Requests.{request_of, stopping_jobs}
+use Rattle.agenda_answers.specs.Steps.{Step, fails}
 
 -- an answer: its exit status, and both streams
 abbrev pub Answering : Type 1
 Answering = ℕ → (out err : Stream) → Type 0
 
--- a request stops at the first error: this is what it leaves on standard output, and how it ends
-abbrev pub StopsAtFirst : Held → Ask → Answering
-StopsAtFirst held ask status out err =
-    (done : Result ℕ Failure) × Leaves out.takes_all (ask_ends held ask) done out.old out.new × Ends (sources_in ask) done status err
+-- what a command leaves on standard output, and how it ends. These are the paths of the sources that are requested
+abbrev pub AnswersBy : Step Printed → List SourcePath → Answering
+AnswersBy step sources status out err =
+    (done : Result ℕ Failure) × Leaves out.takes_all step done out.old out.new × Ends sources done status err
 
--- a request with one of these goals keeps going
-abbrev pub AnswersGoals : Held → Step Goal → JobsRequest → Answering
-AnswersGoals held goals jobs status out err =
-    (goal : Result Goal Failure) × goals goal × AnswersKept held goal jobs status out err
+-- the answer to a request
+abbrev pub AnswersRequest : Held → Request → Answering
+AnswersRequest held (Starts starts) = AnswersBy (next_ends held starts) []
+AnswersRequest held (Jobs goal jobs) = AnswersJobs held goal jobs
+AnswersRequest held (Check zones sources json) = AnswersBy (check_ends held zones sources json) sources
+AnswersRequest held (Steps file) = AnswersBy (steps_ends held file) []
+AnswersRequest held (Explain code) = AnswersBy (explain_ends code) []
 
--- which of two answers is given
-abbrev pub AnswersIf : (keeps_going : Bool) → (kept other : Answering) → Answering
-AnswersIf true kept other = kept
-AnswersIf false kept other = other
+-- the same, unless the request is rejected
+abbrev pub AnswersOrFails : Held → Result Request Failure → Answering
+AnswersOrFails held (Ok request) = AnswersRequest held request
+AnswersOrFails held (Err failure) = AnswersBy (fails failure) []
 
--- the answer to a request: `plan`, `upcoming` and `quiet` may keep going
+-- the answer to what is asked: its timestamps are read first
 abbrev pub AnswersAsk : Held → Ask → Answering
-AnswersAsk held (Plan request) = AnswersIf request.jobs.keep_going
-    (AnswersGoals held (plan_goal request) request.jobs) (StopsAtFirst held (Plan request))
-AnswersAsk held (Upcoming after jobs) = AnswersIf jobs.keep_going
-    (AnswersGoals held (upcoming_goal after jobs) jobs) (StopsAtFirst held (Upcoming after jobs))
-AnswersAsk held (Quiet request least) = AnswersIf request.jobs.keep_going
-    (AnswersGoals held (quiet_goal request least) request.jobs) (StopsAtFirst held (Quiet request least))
-AnswersAsk held other = StopsAtFirst held other
+AnswersAsk held ask status out err =
+    (request : Result Request Failure) × request_of ask request × AnswersOrFails held request status out err
 
 -- ---- the law of keeping going
 
@@ -51,18 +52,17 @@ SkipsNothing (Ok kept) = (kept.unread ≡ []) × (kept.errors ≡ [])
 SkipsNothing (Err failure) = failure ≢ Run NoMemory
 
 -- if nothing is skipped, a request that keeps going is answered as it may be without that
-abbrev pub ChangesNothing : Held → (goals : Step Goal) → JobsRequest → Ask → Type 0
-ChangesNothing held goals jobs ask =
-    (goal : Result Goal Failure) → goals goal → (end : Result Outcome Failure) → kept_of held goal jobs end → SkipsNothing end →
-    (status : ℕ) → (out err : Stream) → ReportsOrFails jobs.sources end status out err → StopsAtFirst held ask status out err
+abbrev pub ChangesNothing : Held → Goal → JobsRequest → Type 0
+ChangesNothing held goal jobs =
+    (end : Result Outcome Failure) → outcome_by true held goal jobs end → SkipsNothing end → (status : ℕ) → (out err : Stream) →
+    ReportsOrFails jobs.sources end status out err → AnswersJobs held goal (stopping_jobs jobs) status out err
 
 -- ---- the whole program
 
 -- the program's answer: to a request, or to arguments that request no command
 abbrev pub Answers : Held → Result Ask UsageFault → Answering
-Answers held (Ok ask) status out err = AnswersAsk held ask status out err
-Answers held (Err fault) status out err =
-    (done : Result ℕ Failure) × Leaves out.takes_all (usage_ends fault) done out.old out.new × Ends [] done status err
+Answers held (Ok ask) = AnswersAsk held ask
+Answers held (Err fault) = AnswersBy (usage_ends fault) []
 
 -- the same, by the arguments of the command line
 abbrev pub AnswersArguments : Held → List (List ℕ) → Answering

@@ -1,16 +1,15 @@
 -- The sources of a plan, by the given paths. All of it is our choice (agenda).
-use Rattle.std.specs.Prelude.{◌≡◌, Option, None, Some, List, [], ◌∷◌, ◌++◌, Ok, Err}
+use Rattle.std.specs.Prelude.{◌≡◌, Bool, true, false, Option, None, Some, List, [], ◌∷◌, ◌++◌, Ok, Err}
 use Rattle.agenda_kinds.specs.declared.Asked.{Asked}
 use Rattle.agenda_sources.specs.declared.Source.{Source}
 use Rattle.agenda_sources.specs.declared.TimeZones.{TimeZones}
 use Rattle.agenda_kinds.specs.declared.SourcePath.{SourcePath}
 use Rattle.agenda_sources.specs.Name.{file_name}
 use Rattle.agenda_sources.specs.ZoneNames.{asked_zones, zone_names}
-use Rattle.agenda_words.specs.declared.ZonesRequest.{ZonesRequest}
+use Rattle.agenda_arguments.specs.declared.ZonesRequest.{ZonesRequest}
 use Rattle.agenda_faults.specs.declared.faults.Failure.TheVariants.{File, Run}
 use Rattle.agenda_faults.specs.declared.faults.RunFault.TheVariants.{NoMemory}
-use Rattle.agenda_commands.specs.declared.Input.{Input}
-use Rattle.agenda_answers.specs.declared.keeping.Tried.{Tried}
+use Rattle.agenda_answers.specs.declared.sources.Tried.{Tried}
 use Rattle.agenda_answers.specs.EventZones.{time_zones}
 use Rattle.agenda_answers.specs.Files.{Held, IsUnsure, front_of}
 use Rattle.agenda_answers.specs.Steps.{Step, gives, ◌>>=◌}
@@ -22,35 +21,13 @@ source_of held given = do
   bytes ← front_of (held given.path) (File given.path)
   gives (record { kind = given.kind; name = file_name given.path; bytes = bytes })
 
--- the sources are read in the order of their paths
-unfoldable pub sources_of : Held → List SourcePath → Step (List Source)
-sources_of held [] = gives []
-sources_of held (given ∷ paths) = do
-  source ← source_of held given
-  sources ← sources_of held paths
-  gives (source ∷ sources)
-
--- what jobs are made from: the zone is read first, then the sources, and then the zones that their events end with
-abbrev pub input_of : Held → ZonesRequest → List SourcePath → Step Input
-input_of held request paths = do
-  clock ← clock_of held request.zone
-  sources ← sources_of held paths
-  zones ← time_zones held request clock (zone_names sources)
-  gives (record { zones = zones; sources = sources })
-
--- the time zones of a rule that is given by itself: the zone is read first, then that of the rule
-abbrev pub rule_zones : Held → ZonesRequest → Asked → Step TimeZones
-rule_zones held request rule = do
-  clock ← clock_of held request.zone
-  time_zones held request clock (asked_zones rule)
-
--- ---- sources that may be unreadable
-
--- a source is tried: there is none if its file may fail
-abbrev pub tried_of : Held → SourcePath → Step (Option Source)
-tried_of held given (Ok (Some source)) = source_of held given (Ok source)
-tried_of held given (Ok None) = IsUnsure (held given.path)
-tried_of held given (Err failure) = failure ≡ Run NoMemory
+-- a source is tried. If the request keeps going, there is none if its file may fail
+abbrev pub tried_of : (keeps_going : Bool) → Held → SourcePath → Step (Option Source)
+tried_of keeps_going held given (Ok (Some source)) = source_of held given (Ok source)
+tried_of true held given (Ok None) = IsUnsure (held given.path)
+tried_of true held given (Err failure) = failure ≡ Run NoMemory
+tried_of false held given (Ok None) = ⊥
+tried_of false held given (Err failure) = source_of held given (Err failure)
 
 -- the first path and its source, or the first unreadable path, before the others
 abbrev pub with_first : SourcePath → Option Source → Tried → Tried
@@ -58,11 +35,11 @@ with_first given (Some source) others = record others { sources = source ∷ oth
 with_first given None others = record others { unread = given ∷ others.unread }
 
 -- the sources are tried in the order of their paths
-unfoldable pub tries_of : Held → List SourcePath → Step Tried
-tries_of held [] = gives (record { sources = []; paths = []; unread = [] })
-tries_of held (given ∷ paths) = do
-  source ← tried_of held given
-  others ← tries_of held paths
+unfoldable pub tries_of : (keeps_going : Bool) → Held → List SourcePath → Step Tried
+tries_of keeps_going held [] = gives (record { sources = []; paths = []; unread = [] })
+tries_of keeps_going held (given ∷ paths) = do
+  source ← tried_of keeps_going held given
+  others ← tries_of keeps_going held paths
   gives (with_first given source others)
 
 -- the same for one more path at the end
@@ -70,11 +47,16 @@ abbrev pub with_last : Tried → SourcePath → Option Source → Tried
 with_last tried given (Some source) = record tried { sources = tried.sources ++ source ∷ []; paths = tried.paths ++ given ∷ [] }
 with_last tried given None = record tried { unread = tried.unread ++ given ∷ [] }
 
--- what the jobs of the sources that can be read are made from: the zone is read first, then the sources, and then the zones that their
--- events end with
-abbrev pub tried_input : Held → ZonesRequest → List SourcePath → Step (Tried × TimeZones)
-tried_input held request paths = do
+-- what jobs are made from: the zone is read first, then the sources, and then the zones that their events end with
+abbrev pub input_of : (keeps_going : Bool) → Held → ZonesRequest → List SourcePath → Step (Tried × TimeZones)
+input_of keeps_going held request paths = do
   clock ← clock_of held request.zone
-  tried ← tries_of held paths
+  tried ← tries_of keeps_going held paths
   zones ← time_zones held request clock (zone_names tried.sources)
   gives (tried, zones)
+
+-- the time zones of a rule that is given by itself: the zone is read first, then that of the rule
+abbrev pub rule_zones : Held → ZonesRequest → Asked → Step TimeZones
+rule_zones held request rule = do
+  clock ← clock_of held request.zone
+  time_zones held request clock (asked_zones rule)

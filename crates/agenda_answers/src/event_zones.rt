@@ -11,10 +11,10 @@ ghost use Rattle.plan_zones.specs.ZoneTexts.{source_of};
 
 use crate::files::Files;
 use crate::zone::{clock_of_text, named_zone};
+use agenda_arguments::ZonesRequest;
 use agenda_faults::{Failure, RunFault};
 use agenda_kinds::Asked;
 use agenda_sources::{Sources, TimeZones, asked_zones, zone_names};
-use agenda_words::ZonesRequest;
 use plan_clock::Clock;
 use plan_rules::{EventZones, NamedZone, Names, Text};
 use plan_zones::zone_path;

@@ -4,8 +4,8 @@ ghost use Rattle.std.specs.Prelude.{◌≡◌, IfOk};
 ghost use Rattle.agenda_answers.specs.Formats.{format_made, zone_of};
 
 use crate::zone::named_zone;
+use agenda_arguments::FormatRequest;
 use agenda_faults::Failure;
-use agenda_words::FormatRequest;
 use plan_clock::Clock;
 use plan_rules::{NamedZone, Text};
 use plan_write::Format;

@@ -1,6 +1,6 @@
 //! Does what the arguments of the command line request, over any files and streams.
 //!
-//! The crate uses agenda_words, which reads the arguments, and agenda_commands, which runs what they request.
+//! The crate uses agenda_arguments, which reads the arguments, and agenda_commands, which runs what they request.
 //! Read `answers` first, then `files`, which describes what the program requires of files.
 #![tactic(auto)]
 
@@ -8,10 +8,11 @@ mod answers;
 mod event_zones;
 mod files;
 mod formats;
-mod keeping;
+mod jobs;
+mod requests;
 mod sources;
 mod zone;
 
 pub use answers::{answer, answer_arguments, unread_arguments};
 pub use files::{Files, read_front};
-pub use keeping::keeping_going_changes_nothing;
+pub use jobs::keeping_going_changes_nothing;

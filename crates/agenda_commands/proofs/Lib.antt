@@ -1,2 +1,2 @@
 mod CodeLemmas
-mod WrittenLemmas
+mod PrepareLemmas

@@ -7,17 +7,17 @@ use Rattle.agenda_sources.specs.declared.Source.{Source}
 use Rattle.agenda_sources.specs.declared.TimeZones.{TimeZones}
 use Rattle.agenda_kinds.specs.declared.SourcePath.{SourcePath}
 use Rattle.agenda_faults.specs.declared.faults.RunFault.{RunFault}
-use Rattle.agenda_commands.specs.declared.check.Verdict.{Verdict}
-use Rattle.agenda_commands.specs.declared.check.Verdict.TheVariants as verdict
+use Rattle.agenda_commands.specs.declared.check.Checked.{Checked}
+use Rattle.agenda_commands.specs.declared.check.Checked.TheVariants as checked
 
--- the verdict of a check
-abbrev pub verdict_of : (is_clean : Bool) → Verdict
-verdict_of true = verdict.Clean
-verdict_of false = verdict.Refused
+-- what a check found, by whether all findings are warnings
+abbrev pub checked_of : (is_clean : Bool) → Checked
+checked_of true = checked.WithoutErrors
+checked_of false = checked.WithErrors
 
--- the verdict on sources: there is an error exactly if they make no list of jobs
-abbrev pub sources_verdict : TimeZones → List Source → Verdict
-sources_verdict zones sources = verdict_of (is_ok (sources_reading zones.named sources))
+-- what a check of sources found: there is an error exactly if they make no list of jobs
+abbrev pub sources_checked : TimeZones → List Source → Checked
+sources_checked zones sources = checked_of (is_ok (sources_reading zones.named sources))
 
 -- what `check` writes for sources: all findings
 abbrev pub check_output : TimeZones → List SourcePath → List Source → (json : Bool) → Result (List ℕ) RunFault

@@ -1,57 +1,98 @@
--- The answer of jobs by its goal: its text and its errors. All of it is our choice (agenda).
-use Rattle.std.specs.Prelude.{◌≡◌, ⊤, ℕ, Bool, List, length, Option, Result, Ok, Err}
-use Rattle.std.specs.Io.KnownBytes.{Appends, Keeps}
-use Rattle.std.specs.Result.{IsErrAnd}
-use Rattle.plan_streams.specs.Stream.{BreaksOff}
+-- What is made of jobs, by a goal: its text and its errors. All of it is our choice (agenda).
+use Rattle.std.specs.Prelude.{◌≡◌, ◌≢◌, ⊤, ℕ, ◌==◌, if◌then◌else◌, Bool, List, length, map, Result, Ok, Err}
 use Rattle.plan_texts.specs.Steps.{◌>>=◌}
-use Rattle.plan_collect.specs.Agenda.{IsOfJobs}
 use Rattle.plan_rules.specs.Job.{JobParts}
+use Rattle.plan_rules.specs.Delays.{counted}
+use Rattle.plan_collect.specs.Agenda.{IsOfJobs, Planned}
+use Rattle.plan_collect.specs.Planning.{plan_answer, valid_sizes}
+use Rattle.plan_collect.specs.Windows.{timings_of}
+use Rattle.plan_collect.specs.declared.sizes.Sizes.{Sizes}
 use Rattle.plan_write.specs.Quiet.{quiet_text}
-use Rattle.plan_write.specs.Texts.{text_by_ends}
-use Rattle.plan_write.specs.Upcoming.{upcoming_text}
+use Rattle.plan_write.specs.Texts.{agenda_text, line_end, text_by_ends}
+use Rattle.plan_write.specs.Upcoming.{AreUpcoming, upcoming_text}
 use Rattle.plan_write.specs.declared.Format.{Format}
 use Rattle.agenda_faults.specs.declared.faults.RunFault.{RunFault}
-use Rattle.agenda_faults.specs.declared.faults.RunFault.TheVariants.{Device, NoMemory}
+use Rattle.agenda_faults.specs.declared.faults.RunFault.TheVariants.{BadLeast, NoMemory}
+use Rattle.agenda_faults.specs.Faults.{fault_of_plan}
 use Rattle.agenda_commands.specs.declared.goal.Goal.{Goal}
 use Rattle.agenda_commands.specs.declared.goal.Goal.TheVariants as goal
 use Rattle.agenda_commands.specs.declared.goal.Planning.{Planning}
 use Rattle.agenda_commands.specs.declared.goal.Made.{Made}
 use Rattle.agenda_commands.specs.declared.goal.Made.TheVariants as made
-use Rattle.agenda_commands.specs.Command.{IsFaultOf, IsTextOf}
-use Rattle.agenda_commands.specs.Plan.{checked_sizes, planned_output}
-use Rattle.agenda_commands.specs.Quiet.{gaps_output, valid_least}
-use Rattle.agenda_commands.specs.Upcoming.{IsTextOfNexts}
+use Rattle.agenda_commands.specs.Command.{step}
 
--- the gaps of at least `least` seconds, if that is a length of a gap
-abbrev pub wide_output : Format → List JobParts → Planning → (least : ℕ) → Result (List ℕ) RunFault
-wide_output format jobs planning least = do
-  wide ← valid_least least
-  gaps_output format jobs planning wide
+-- ---- the numbers of a goal
 
--- a goal whose numbers are valid, or its first error, which is found before any memory is requested
-abbrev pub checked_goal : Goal → Result Goal RunFault
-checked_goal (goal.Plan planning) = do
+-- the sizes of a plan, if they are valid: its first error, which is found before any memory is requested
+abbrev pub checked_sizes : Planning → Result Sizes RunFault
+checked_sizes planning = step fault_of_plan (valid_sizes planning.sizes)
+
+-- the minimum length of a gap is at least 1 second
+abbrev pub valid_goal : Goal → Result (Unit {0}) RunFault
+valid_goal (goal.Quiet planning least) = if least == 0 then Err BadLeast else Ok tt
+valid_goal other = Ok tt
+
+-- the sizes of the goal's plan are valid
+abbrev pub sized_goal : Goal → Result Goal RunFault
+sized_goal (goal.Plan planning) = do
   sizes ← checked_sizes planning
   Ok (goal.Plan planning)
-checked_goal (goal.Upcoming after delays) = Ok (goal.Upcoming after delays)
-checked_goal (goal.Quiet planning least) = do
-  wide ← valid_least least
+sized_goal (goal.Upcoming after delays) = Ok (goal.Upcoming after delays)
+sized_goal (goal.Quiet planning least) = do
   sizes ← checked_sizes planning
-  Ok (goal.Quiet planning wide)
+  Ok (goal.Quiet planning least)
 
--- the text of the answer
-abbrev pub IsTextOfGoal : Format → List JobParts → Goal → List ℕ → Type 0
-IsTextOfGoal format jobs (goal.Plan planning) = IsTextOf (planned_output format jobs planning)
-IsTextOfGoal format jobs (goal.Upcoming after delays) = IsTextOfNexts format jobs after delays
-IsTextOfGoal format jobs (goal.Quiet planning least) = IsTextOf (wide_output format jobs planning least)
+-- all numbers of the goal are valid: the minimum length of a gap is checked first
+abbrev pub checked_goal : Goal → Result Goal RunFault
+checked_goal goal = do
+  valid ← valid_goal goal
+  sized_goal goal
 
--- why there is no such text, unless an allocation failed. The next starts of jobs have no other error
-abbrev pub IsFaultOfGoal : Format → List JobParts → Goal → RunFault → Type 0
-IsFaultOfGoal format jobs (goal.Plan planning) = IsFaultOf (planned_output format jobs planning)
-IsFaultOfGoal format jobs (goal.Upcoming after delays) = λ fault. fault ≡ NoMemory
-IsFaultOfGoal format jobs (goal.Quiet planning least) = IsFaultOf (wide_output format jobs planning least)
+-- ---- the answer
 
--- the text of a result, in its format
+-- the agenda of the jobs that are planned, or the first error of the plan
+abbrev pub agenda_of_jobs : List JobParts → Planning → Result Planned RunFault
+agenda_of_jobs jobs planning = step fault_of_plan (plan_answer (timings_of jobs) planning.span planning.sizes)
+
+-- what `plan` writes for the jobs that are planned: their agenda
+abbrev pub plan_output : Format → List JobParts → Planning → Result (List ℕ) RunFault
+plan_output format jobs planning = do
+  made ← agenda_of_jobs jobs planning
+  Ok (agenda_text format planning.delays made jobs)
+
+-- what `quiet` writes for the jobs that are planned: the gaps of their agenda that last at least `least` seconds
+abbrev pub quiet_output : Format → List JobParts → Planning → (least : ℕ) → Result (List ℕ) RunFault
+quiet_output format jobs planning least = do
+  made ← agenda_of_jobs jobs planning
+  Ok (quiet_text format least made jobs)
+
+-- what `upcoming` writes for jobs: when each of them starts next
+abbrev pub IsTextOfNexts : Format → List JobParts → (after : ℕ) → (delays : Bool) → List ℕ → Type 0
+IsTextOfNexts format jobs after delays text =
+    (nexts : List (ℕ × ℕ)) × AreUpcoming jobs after nexts × (text ≡ upcoming_text format delays nexts (map (line_end format.json) jobs))
+
+-- the answer for jobs, or the first error: that of the jobs, or else that of the goal. The next starts of jobs have none
+abbrev pub AnswersGoal : Format → Goal → Result (List JobParts) RunFault → Result (List ℕ) RunFault → Type 0
+AnswersGoal format goal (Err fault) answer = Err fault ≡ answer
+AnswersGoal format (goal.Plan planning) (Ok jobs) answer = plan_output format (counted planning.delays jobs) planning ≡ answer
+AnswersGoal format (goal.Upcoming after delays) (Ok jobs) (Ok text) = IsTextOfNexts format jobs after delays text
+AnswersGoal format (goal.Upcoming after delays) (Ok jobs) (Err fault) = ⊥
+AnswersGoal format (goal.Quiet planning least) (Ok jobs) answer = quiet_output format (counted planning.delays jobs) planning least ≡ answer
+
+-- the same once the minimum length of a gap was checked
+abbrev pub checked_jobs : Goal → Result (List JobParts) RunFault → Result (List JobParts) RunFault
+checked_jobs goal jobs = do
+  valid ← valid_goal goal
+  jobs
+
+-- what is made is an answer, unless an allocation failed
+abbrev pub Makes : {A : Type 0} → (Result (List ℕ) RunFault → Type 0) → (A → List ℕ) → Result A RunFault → Type 0
+Makes Answers view (Ok made) = Answers (Ok (view made))
+Makes Answers view (Err fault) = fault ≢ NoMemory → Answers (Err fault)
+
+-- ---- the result before it is written
+
+-- its text, in its format
 abbrev pub text_of : Format → Made → List ℕ
 text_of format (made.Plan agenda ends delays) = text_by_ends format delays agenda ends
 text_of format (made.Upcoming nexts ends delays) = upcoming_text format delays nexts ends
@@ -61,14 +102,3 @@ text_of format (made.Quiet agenda jobs least) = quiet_text format least agenda j
 abbrev pub CanBeWritten : Made → Type 0
 CanBeWritten (made.Plan agenda ends delays) = IsOfJobs (length ends) agenda.entries
 CanBeWritten other = ⊤
-
--- a text was written, unless the stream failed
-abbrev pub WritesText : {A : Type 0} → Bool → List ℕ → Result A RunFault → (old new : Option (List ℕ)) → Type 0
-WritesText takes_all text (Ok done) old new = Appends old new text
-WritesText takes_all text (Err (Device stream)) old new = BreaksOff takes_all old new text
-WritesText takes_all text (Err fault) old new = ⊥
-
--- the text of a result was written, or its error was passed on and nothing was written
-abbrev pub WritesMade : {A : Type 0} → Bool → Format → Result Made RunFault → Result A RunFault → (old new : Option (List ℕ)) → Type 0
-WritesMade takes_all format (Ok made) result old new = WritesText takes_all (text_of format made) result old new
-WritesMade takes_all format (Err fault) result old new = IsErrAnd result (λ found. found ≡ fault) × Keeps old new

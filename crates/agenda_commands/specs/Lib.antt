@@ -4,7 +4,5 @@ pub mod Command
 pub mod Explain
 pub mod Goal
 pub mod Next
-pub mod Plan
-pub mod Quiet
+pub mod Prepare
 pub mod Script
-pub mod Upcoming

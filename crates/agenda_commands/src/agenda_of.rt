@@ -4,7 +4,7 @@ ghost use Rattle.std.specs.Prelude.{◌≡◌, Err, IfErr, IfOk, length};
 ghost use Rattle.plan_collect.specs.Agenda.{IsOfJobs};
 ghost use Rattle.plan_texts.specs.Steps.{GivesUnless};
 ghost use Rattle.agenda_commands.specs.Command.{step};
-ghost use Rattle.agenda_commands.specs.Plan.{agenda_of_jobs, checked_sizes};
+ghost use Rattle.agenda_commands.specs.Goal.{agenda_of_jobs, checked_sizes};
 ghost use Rattle.agenda_faults.specs.Faults.{fault_of_plan};
 ghost use Rattle.agenda_faults.specs.declared.faults.RunFault.TheVariants.{NoMemory};
 

@@ -5,24 +5,23 @@ ghost use Rattle.std.specs.List.{list_all};
 ghost use Rattle.plan_check.specs.Finding.{is_warning};
 ghost use Rattle.agenda_sources.specs.Findings.{is_all_clean, sources_findings};
 ghost use Rattle.agenda_commands.specs.Command.{Outputs};
-ghost use Rattle.agenda_commands.specs.Check.{check_output, sources_verdict, verdict_of};
+ghost use Rattle.agenda_commands.specs.Check.{check_output, sources_checked, checked_of};
 
-use crate::input::Input;
 use agenda_faults::RunFault;
 use agenda_findings::write_findings;
 use agenda_kinds::SourcePath;
-use agenda_sources::{Found, findings_of_sources};
-use plan_check::What;
+use agenda_sources::{Found, Sources, TimeZones, findings_of_sources};
+use plan_check::FindingKind;
 use plan_streams::Stream;
 use std::alloc::Global;
 
-/// The verdict of a check.
+/// Whether a check found an error.
 #[derive(Clone, Copy, Debug, PartialEq, Eq)]
-pub enum Verdict {
+pub enum Checked {
     /// There is no error: the sources make a list of jobs.
-    Clean,
+    WithoutErrors,
     /// There is at least one error.
-    Refused,
+    WithErrors,
 }
 
 /// Writes all findings on the sources, one line for each, in the order of the sources. Returns whether there
@@ -39,40 +38,41 @@ pub enum Verdict {
 pub fn run_check<S: Stream>(
     alloc: Global,
     paths: &[SourcePath],
-    input: &Input,
+    sources: &Sources,
+    zones: &TimeZones,
     json: bool,
     out: &mut S,
-) -> Result<Verdict, RunFault>
-    ensures verdict { IfOk result (λ verdict. verdict ≡ sources_verdict input.now.zones input.now.sources) }
-    ensures output { Outputs S.takes_all (check_output input.now.zones paths.now input.now.sources json) result (S.holds out.old) (S.holds out.new) }
+) -> Result<Checked, RunFault>
+    ensures checked { IfOk result (λ checked. checked ≡ sources_checked zones.now sources.now) }
+    ensures output { Outputs S.takes_all (check_output zones.now paths.now sources.now json) result (S.holds out.old) (S.holds out.new) }
     ensures flushed { OnOk result (IsTrue (S.is_flushed out.new)) }
 {
-    let found = findings_of_sources(alloc, &input.sources, &input.zones)?;
+    let found = findings_of_sources(alloc, sources, zones)?;
     write_findings(paths, found.as_slice(), json, out)?;
-    Ok(verdict_on(found.as_slice()))
+    Ok(checked_on(found.as_slice()))
 }
 
-// Returns the verdict on these findings.
-fn verdict_on(found: &[Found]) -> Verdict
-    ensures { result ≡ verdict_of (is_all_clean found.now) }
+// Returns whether there is an error among findings.
+fn checked_on(found: &[Found]) -> Checked
+    ensures { result ≡ checked_of (is_all_clean found.now) }
 {
     if are_warnings(found) {
-        Verdict::Clean
+        Checked::WithoutErrors
     } else {
-        Verdict::Refused
+        Checked::WithErrors
     }
 }
 
 // Returns whether all findings are warnings.
 fn are_warnings(found: &[Found]) -> bool
-    ensures { result ≡ list_all (λ one. is_warning one.quoted.finding.what) found.now }
+    ensures { result ≡ list_all (λ one. is_warning one.finding.kind) found.now }
 {
-    found.iter().all(|one| is_warning(one.quoted.finding.what))
+    found.iter().all(|one| is_warning(one.finding.kind))
 }
 
 // Returns whether a finding is a warning, which is no error.
-fn is_warning(what: What) -> bool
-    ensures { result ≡ is_warning what }
+fn is_warning(kind: FindingKind) -> bool
+    ensures { result ≡ is_warning kind }
 {
-    matches!(what, What::Warned(_))
+    matches!(kind, FindingKind::Warned(_))
 }

@@ -1,34 +1,29 @@
-//! The commands: each of them writes its text to a stream.
+//! The commands: each of them makes a text, or writes it to a stream.
 //!
-//! `next` writes the next starts of a rule, `plan` the agenda of all sources, `upcoming` when each of their jobs
-//! starts next, `quiet` the gaps without a start, `check` all errors of sources, `steps`, whose module is
-//! `script`, the replies to a script, and `explain` what a code of an error or a warning means.
+//! `next` writes the next starts of a rule, `check` all errors of sources, `steps`, whose module is `script`, the
+//! replies to a script, and `explain` what a code of an error or a warning means. There is a module for each of them.
+//!
+//! `plan`, `upcoming` and `quiet` answer for the jobs of sources: with their agenda, with when each of them starts next,
+//! and with the gaps without a start. They are values of `Goal`. Read `prepare` first: it makes the answer before a byte
+//! of it is written. `goal` has what is made of jobs, and `agenda_of` makes their agenda.
 //!
 //! The crate uses agenda_sources, plan_threads and agenda_script, which do the work, plan_write, agenda_findings and
-//! agenda_codes, which write the texts, and agenda_faults for the errors. There is a module for each command. Read
-//! `plan` first. The module `goal` prepares an answer before a byte of it is written, and `agenda_of` makes the
-//! agenda of jobs. `input` is what jobs are made from, and `laws` says that each error has a code.
+//! agenda_codes, which write the texts, and agenda_faults for the errors. `laws` says that each error has a code.
 #![tactic(auto)]
 
 mod agenda_of;
 mod check;
 mod explain;
 mod goal;
-mod input;
 mod laws;
 mod next;
-mod plan;
-mod quiet;
+mod prepare;
 mod script;
-mod upcoming;
 
-pub use check::{Verdict, run_check};
+pub use check::{Checked, run_check};
 pub use explain::run_explain;
-pub use goal::{Goal, Planning, PreparedAnswer, prepare_answer};
-pub use input::Input;
+pub use goal::{Goal, Planning};
 pub use laws::codes_are_explained;
 pub use next::run_next;
-pub use plan::run_plan;
-pub use quiet::run_quiet;
+pub use prepare::{PreparedAnswer, kept_if, prepare_answer};
 pub use script::run_script;
-pub use upcoming::run_upcoming;

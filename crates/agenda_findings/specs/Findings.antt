@@ -1,10 +1,9 @@
 -- The text of findings in sources (agenda).
 use Rattle.std.specs.Prelude.{ℕ, Bool, true, false, ◌==◌, if◌then◌else◌, List, [], ◌++◌, codes, decimal, Option, Some, None, slice_get, unwrap_or}
 use Rattle.std.specs.List.{flat_map}
-use Rattle.plan_check.specs.Quotes.{QuotedFinding}
 use Rattle.plan_check.specs.declared.Finding.{Finding}
 use Rattle.plan_check.specs.declared.Form.{Form}
-use Rattle.plan_check.specs.declared.What.{What}
+use Rattle.plan_check.specs.declared.FindingKind.{FindingKind}
 use Rattle.agenda_sources.specs.Forms.{form_of}
 use Rattle.agenda_sources.specs.declared.Found.{Found}
 use Rattle.agenda_kinds.specs.declared.SourcePath.{SourcePath}
@@ -17,47 +16,48 @@ line_mark line = if line == 0 then [] else codes ":" ++ decimal line
 
 -- what comes before a message: the path, the line's number, and whether it is an error or a warning
 abbrev pub before_message : (path : List ℕ) → Finding → List ℕ
-before_message path finding = path ++ (line_mark finding.line ++ (codes ": " ++ (severity finding.what ++ codes ": ")))
+before_message path finding = path ++ (line_mark finding.line ++ (codes ": " ++ (severity finding.kind ++ codes ": ")))
 
 -- what comes after a message: the code in brackets
-abbrev pub after_message : What → List ℕ
-after_message what = codes " [" ++ (code_of what ++ codes "]\n")
+abbrev pub after_message : FindingKind → List ℕ
+after_message kind = codes " [" ++ (code_of kind ++ codes "]\n")
 
 -- the message of a finding
-abbrev pub message_of : Form → QuotedFinding → List ℕ
-message_of form one = message form one.finding.what (unwrap_or one.quote [])
+abbrev pub message_of : Form → Finding → List ℕ
+message_of form finding = message form finding.kind (unwrap_or finding.quote [])
 
 -- the line of a finding in a file of a form
-abbrev pub finding_line : (path : List ℕ) → Form → QuotedFinding → List ℕ
-finding_line path form one = before_message path one.finding ++ (message_of form one ++ after_message one.finding.what)
+abbrev pub finding_line : (path : List ℕ) → Form → Finding → List ℕ
+finding_line path form finding = before_message path finding ++ (message_of form finding ++ after_message finding.kind)
 
 -- the number of a line as a value; a finding about the whole file has none
 abbrev pub line_value : ℕ → List ℕ
 line_value line = if line == 0 then codes "null" else decimal line
 
 -- the members of whether a finding is an error or a warning, and of its code; no byte of these has an escape
-abbrev pub what_members : What → List ℕ
-what_members what = codes ",\"severity\":\"" ++ (severity what ++ (codes "\",\"code\":\"" ++ (code_of what ++ codes "\"")))
+abbrev pub kind_members : FindingKind → List ℕ
+kind_members kind = codes ",\"severity\":\"" ++ (severity kind ++ (codes "\",\"code\":\"" ++ (code_of kind ++ codes "\"")))
 
 -- what comes before a message in an object: the path, the line's number, whether it is an error or a warning, and the code
 abbrev pub members_before : (path : List ℕ) → Finding → List ℕ
 members_before path finding =
-    codes "{\"path\":" ++ (json_string path ++ (codes ",\"line\":" ++ (line_value finding.line ++ what_members finding.what)))
+    codes "{\"path\":" ++ (json_string path ++ (codes ",\"line\":" ++ (line_value finding.line ++ kind_members finding.kind)))
 
 -- the object of a finding in a file of a form
-abbrev pub finding_object : (path : List ℕ) → Form → QuotedFinding → List ℕ
-finding_object path form one = members_before path one.finding ++ (codes ",\"text\":" ++ (json_string (message_of form one) ++ codes "}\n"))
+abbrev pub finding_object : (path : List ℕ) → Form → Finding → List ℕ
+finding_object path form finding =
+    members_before path finding ++ (codes ",\"text\":" ++ (json_string (message_of form finding) ++ codes "}\n"))
 
 -- a finding in a file of a form
-abbrev pub finding_in : (json : Bool) → (path : List ℕ) → Form → QuotedFinding → List ℕ
-finding_in true path form one = finding_object path form one
-finding_in false path form one = finding_line path form one
+abbrev pub finding_in : (json : Bool) → (path : List ℕ) → Form → Finding → List ℕ
+finding_in true path form finding = finding_object path form finding
+finding_in false path form finding = finding_line path form finding
 
 -- the same, if the source exists
-abbrev pub found_line : (json : Bool) → Option SourcePath → QuotedFinding → List ℕ
-found_line json None one = []
-found_line json (Some source) one = finding_in json source.path (form_of source.kind) one
+abbrev pub found_line : (json : Bool) → Option SourcePath → Finding → List ℕ
+found_line json None finding = []
+found_line json (Some source) finding = finding_in json source.path (form_of source.kind) finding
 
 -- a line for each finding, in order, with the path of its source as it was given; places are counted from 0
 abbrev pub check_text : (json : Bool) → List SourcePath → List Found → List ℕ
-check_text json paths found = flat_map (λ one. found_line json (slice_get paths one.place) one.quoted) found
+check_text json paths found = flat_map (λ one. found_line json (slice_get paths one.place) one.finding) found

@@ -18,8 +18,8 @@ use Rattle.plan_check.specs.declared.Form.{Form}
 use Rattle.plan_check.specs.declared.Form.TheVariants as form
 use Rattle.plan_check.specs.declared.Warning.{Warning}
 use Rattle.plan_check.specs.declared.Warning.TheVariants as warning
-use Rattle.plan_check.specs.declared.What.{What}
-use Rattle.plan_check.specs.declared.What.TheVariants.{Refused, SameName, Full, Warned}
+use Rattle.plan_check.specs.declared.FindingKind.{FindingKind}
+use Rattle.plan_check.specs.declared.FindingKind.TheVariants.{Rejected, SameName, Full, Warned}
 
 -- ---- quoted text
 
@@ -232,20 +232,20 @@ abbrev pub full_message : List ℕ
 full_message = codes "more than 1000 jobs"
 
 -- a finding in a file of a form
-abbrev pub message : Form → What → (quote : List ℕ) → List ℕ
-message form (Refused cause) quote = line_message form cause quote
+abbrev pub message : Form → FindingKind → (quote : List ℕ) → List ℕ
+message form (Rejected cause) quote = line_message form cause quote
 message form SameName quote = same_name quote
 message form Full quote = full_message
 message form (Warned warning) quote = warning_message warning quote
 
 -- what was rejected is an error
-abbrev pub severity : What → List ℕ
+abbrev pub severity : FindingKind → List ℕ
 severity (Warned warning) = codes "warning"
 severity other = codes "error"
 
 -- the code of a finding: the name of its cause, as one-line errors show it
-abbrev pub code_of : What → List ℕ
-code_of (Refused cause) = line_cause cause
+abbrev pub code_of : FindingKind → List ℕ
+code_of (Rejected cause) = line_cause cause
 code_of SameName = codes "SameName"
 code_of Full = codes "Full"
 code_of (Warned warning) = warning_name warning

@@ -3,13 +3,13 @@
 ghost use Rattle.std.specs.Prelude.{◌≡◌, [], IsTrue, OnOk, slice_get, unwrap_or};
 ghost use Rattle.plan_streams.specs.Stream.{Puts};
 ghost use Rattle.plan_streams.specs.Writer.{Takes};
-ghost use Rattle.agenda_findings.specs.Findings.{after_message, before_message, check_text, finding_in, finding_line, finding_object, found_line, line_mark, line_value, members_before, what_members};
+ghost use Rattle.agenda_findings.specs.Findings.{after_message, before_message, check_text, finding_in, finding_line, finding_object, found_line, line_mark, line_value, members_before, kind_members};
 
 use crate::messages::{code_of, put_message, severity};
 use agenda_kinds::SourcePath;
 use agenda_sources::{Found, form_of};
 use itoa::Buffer as Digits;
-use plan_check::{Finding, Form, Quoted, What};
+use plan_check::{Finding, FindingKind, Form};
 use plan_streams::{Stream, TextWriter, WriteFault};
 use plan_write::put_string;
 
@@ -60,13 +60,13 @@ fn put_found<S: Stream>(
     json: bool,
     lines: &mut TextWriter<'_, S>,
 )
-    ensures { Takes S.holds S.takes_all lines.old lines.new (found_line json (slice_get paths.now one.now.place) one.now.quoted) }
+    ensures { Takes S.holds S.takes_all lines.old lines.new (found_line json (slice_get paths.now one.now.place) one.now.finding) }
 {
     if let Some(source) = paths.get(one.place) {
         put_finding(
             source.path.as_str(),
             form_of(source.kind),
-            &one.quoted,
+            &one.finding,
             json,
             lines,
         );
@@ -77,61 +77,65 @@ fn put_found<S: Stream>(
 fn put_finding<S: Stream>(
     path: &str,
     form: Form,
-    one: &Quoted,
+    finding: &Finding,
     json: bool,
     lines: &mut TextWriter<'_, S>,
 )
-    ensures { Takes S.holds S.takes_all lines.old lines.new (finding_in json path.now form one.now) }
+    ensures { Takes S.holds S.takes_all lines.old lines.new (finding_in json path.now form finding.now) }
 {
     if json {
-        put_finding_object(path, form, one, lines);
+        put_finding_object(path, form, finding, lines);
     } else {
-        put_finding_line(path, form, one, lines);
+        put_finding_line(path, form, finding, lines);
     }
 }
 
 // Puts the line of a finding in text.
-fn put_finding_line<S: Stream>(path: &str, form: Form, one: &Quoted, lines: &mut TextWriter<'_, S>)
-    ensures { Takes S.holds S.takes_all lines.old lines.new (finding_line path.now form one.now) }
+fn put_finding_line<S: Stream>(
+    path: &str,
+    form: Form,
+    finding: &Finding,
+    lines: &mut TextWriter<'_, S>,
+)
+    ensures { Takes S.holds S.takes_all lines.old lines.new (finding_line path.now form finding.now) }
 {
-    let what = one.finding.what;
-    put_before_message(path, one.finding, lines);
-    put_message(form, what, quote_of(one), false, lines);
-    put_after_message(what, lines);
+    put_before_message(path, finding, lines);
+    put_message(form, finding.kind, quote_of(finding), false, lines);
+    put_after_message(finding.kind, lines);
 }
 
 // Puts the object of a finding.
 fn put_finding_object<S: Stream>(
     path: &str,
     form: Form,
-    one: &Quoted,
+    finding: &Finding,
     lines: &mut TextWriter<'_, S>,
 )
-    ensures { Takes S.holds S.takes_all lines.old lines.new (finding_object path.now form one.now) }
+    ensures { Takes S.holds S.takes_all lines.old lines.new (finding_object path.now form finding.now) }
 {
-    put_members_before(path, one.finding, lines);
+    put_members_before(path, finding, lines);
     lines.put(b",\"text\":\"");
-    put_message(form, one.finding.what, quote_of(one), true, lines);
+    put_message(form, finding.kind, quote_of(finding), true, lines);
     lines.put(b"\"}\n");
 }
 
 // Puts what comes before the message in an object.
-fn put_members_before<S: Stream>(path: &str, finding: Finding, lines: &mut TextWriter<'_, S>)
-    ensures { Takes S.holds S.takes_all lines.old lines.new (members_before path.now finding) }
+fn put_members_before<S: Stream>(path: &str, finding: &Finding, lines: &mut TextWriter<'_, S>)
+    ensures { Takes S.holds S.takes_all lines.old lines.new (members_before path.now finding.now) }
 {
     lines.put(b"{\"path\":");
     put_string(path, lines);
     lines.put(b",\"line\":");
     put_line_value(finding.line, lines);
-    put_what_members(finding.what, lines);
+    put_kind_members(finding.kind, lines);
 }
 
 // Puts the members of whether a finding is an error or a warning, and of its code.
-fn put_what_members<S: Stream>(what: What, lines: &mut TextWriter<'_, S>)
-    ensures { Takes S.holds S.takes_all lines.old lines.new (what_members what) }
+fn put_kind_members<S: Stream>(kind: FindingKind, lines: &mut TextWriter<'_, S>)
+    ensures { Takes S.holds S.takes_all lines.old lines.new (kind_members kind) }
 {
-    lines.put_both(b",\"severity\":\"", severity(what).as_bytes());
-    lines.put_both(b"\",\"code\":\"", code_of(what).as_bytes());
+    lines.put_both(b",\"severity\":\"", severity(kind).as_bytes());
+    lines.put_both(b"\",\"code\":\"", code_of(kind).as_bytes());
     lines.put(b"\"");
 }
 
@@ -147,20 +151,20 @@ fn put_line_value<S: Stream>(line: u32, lines: &mut TextWriter<'_, S>)
 }
 
 // Puts what comes before a message.
-fn put_before_message<S: Stream>(path: &str, finding: Finding, lines: &mut TextWriter<'_, S>)
-    ensures { Takes S.holds S.takes_all lines.old lines.new (before_message path.now finding) }
+fn put_before_message<S: Stream>(path: &str, finding: &Finding, lines: &mut TextWriter<'_, S>)
+    ensures { Takes S.holds S.takes_all lines.old lines.new (before_message path.now finding.now) }
 {
     lines.put(path.as_bytes());
     put_line_mark(finding.line, lines);
-    lines.put_both(b": ", severity(finding.what).as_bytes());
+    lines.put_both(b": ", severity(finding.kind).as_bytes());
     lines.put(b": ");
 }
 
 // Puts what comes after a message: the code.
-fn put_after_message<S: Stream>(what: What, lines: &mut TextWriter<'_, S>)
-    ensures { Takes S.holds S.takes_all lines.old lines.new (after_message what) }
+fn put_after_message<S: Stream>(kind: FindingKind, lines: &mut TextWriter<'_, S>)
+    ensures { Takes S.holds S.takes_all lines.old lines.new (after_message kind) }
 {
-    lines.put_both(b" [", code_of(what).as_bytes());
+    lines.put_both(b" [", code_of(kind).as_bytes());
     lines.put(b"]\n");
 }
 
@@ -174,10 +178,10 @@ fn put_line_mark<S: Stream>(line: u32, lines: &mut TextWriter<'_, S>)
 }
 
 // Returns the text that a message quotes, or nothing if it quotes none.
-fn quote_of(one: &Quoted) -> &str
-    ensures { result.now ≡ unwrap_or one.now.quote [] }
+fn quote_of(finding: &Finding) -> &str
+    ensures { result.now ≡ unwrap_or finding.now.quote [] }
 {
-    match &one.quote {
+    match &finding.quote {
         Some(quote) => quote.as_str(),
         None => "",
     }

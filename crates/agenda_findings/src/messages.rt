@@ -6,7 +6,7 @@ ghost use Rattle.plan_streams.specs.Writer.{Takes};
 ghost use Rattle.plan_write.specs.Json.{text_in};
 ghost use Rattle.agenda_findings.specs.Messages.{around, bad_delay, code_of, cron_message, delayed, dots, escaped, event_message, expected_fields, field_message, field_name, field_values, full_message, message, missing_command, no_event, part_message, part_name, part_values, plain_message, plain_warning, problem, problem_after, problem_text, quoted, range_of, rule_message, same_name, severity, shown, skipped_starts, unknown_key, unknown_word, warning_message, whole_event, whole_rule, with_specifiers};
 
-use plan_check::{Form, Warning, What};
+use plan_check::{FindingKind, Form, Warning};
 use plan_grammar::{RuleCause, RuleFault};
 use plan_rules::{CrontabDirectory, Kind, LineCause};
 use plan_sets::SetFault;
@@ -17,43 +17,49 @@ use plan_write::{hex_digit, put_text};
 const MOST_SHOWN: usize = 64;
 
 // Returns whether a finding is an error or a warning.
-pub(crate) fn severity(what: What) -> &'static str
-    ensures { result.now ≡ severity what }
+pub(crate) fn severity(kind: FindingKind) -> &'static str
+    ensures { result.now ≡ severity kind }
 {
-    match what {
-        What::Warned(_) => "warning",
-        What::Refused(_) | What::SameName | What::Full => "error",
+    match kind {
+        FindingKind::Warned(_) => "warning",
+        FindingKind::Rejected(_) | FindingKind::SameName | FindingKind::Full => "error",
     }
 }
 
 // Returns the code of a finding: the name of its cause.
-pub(crate) fn code_of(what: What) -> &'static str
-    ensures { result.now ≡ code_of what }
+pub(crate) fn code_of(kind: FindingKind) -> &'static str
+    ensures { result.now ≡ code_of kind }
 {
-    match what {
-        What::Refused(cause) => cause.name(),
-        What::SameName => "SameName",
-        What::Full => "Full",
-        What::Warned(warning) => warning.name(),
+    match kind {
+        FindingKind::Rejected(cause) => cause.name(),
+        FindingKind::SameName => "SameName",
+        FindingKind::Full => "Full",
+        FindingKind::Warned(warning) => warning.name(),
     }
 }
 
 // Puts the message of a finding in a file of a form.
 pub(crate) fn put_message<S: Stream>(
     form: Form,
-    what: What,
+    kind: FindingKind,
     quote: &str,
     json: bool,
     lines: &mut TextWriter<'_, S>,
 )
-    ensures { Takes S.holds S.takes_all lines.old lines.new (text_in json (message form what quote.now)) }
+    ensures { Takes S.holds S.takes_all lines.old lines.new (text_in json (message form kind quote.now)) }
 {
-    match what {
-        What::Refused(LineCause::Rule(fault)) => put_rule_message(form, fault, quote, json, lines),
-        What::Refused(cause) => put_text(json, plain_message(form, cause).as_bytes(), lines),
-        What::SameName => put_same_name(quote, json, lines),
-        What::Full => put_text(json, full_message().as_bytes(), lines),
-        What::Warned(warning) => put_warning(warning, quote, json, lines),
+    match kind {
+        FindingKind::Rejected(LineCause::Rule(fault)) => put_rule_message(
+            form, fault, quote, json, lines,
+        ),
+        FindingKind::Rejected(cause) => put_text(
+            json,
+            plain_message(form, cause).as_bytes(),
+            lines,
+        ),
+        FindingKind::SameName => put_same_name(quote, json, lines),
+        FindingKind::Full => put_text(json, full_message().as_bytes(), lines),
+        FindingKind::Warned(warning) => put_warning(warning, quote, json, lines),
     }
 }
 

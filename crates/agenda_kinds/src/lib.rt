@@ -1,6 +1,6 @@
 //! What a command is asked about: the kinds of sources and their paths, or a rule by itself.
 //!
-//! The crate uses plan_texts, for the texts that it keeps. agenda_words makes these values from arguments,
+//! The crate uses plan_texts, for the texts that it keeps. agenda_arguments makes these values from arguments,
 //! agenda_answers reads the files that they name, and agenda_sources makes jobs of them. Read `kind` first, the
 //! table of the kinds of sources.
 #![tactic(auto)]

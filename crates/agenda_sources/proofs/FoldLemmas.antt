@@ -1,23 +1,32 @@
 -- Sources that are read one after another: for the loops of `jobs_of_sources`, and of the findings of all sources.
 -- The rest of the list starts with the next source (`sources_left`), so its jobs, its error or its findings are
 -- those of the definition there.
-use Rattle.std.proofs.Common.{◌≡◌, ℕ, ◌+◌, ◌<◌, List, ◌∷◌, ◌++◌, length, get_or, drop, map, Ok, Err, refl, ap, sym, append_assoc, ◌∙◌}
+use Rattle.std.proofs.Common.{◌≡◌, ℕ, ◌+◌, ◌<◌, List, [], ◌∷◌, ◌++◌, length, get_or, drop, map, Result, Ok, Err, refl, ap, sym, append_assoc, ◌∙◌}
 use Rattle.std.proofs.lemmas.List.{drop_more}
 use Rattle.plan_texts.specs.Steps.{◌>>=◌}
 use Rattle.plan_grammar.specs.EventZones.{Zones}
 use Rattle.plan_rules.specs.Job.{JobParts}
-use Rattle.plan_check.specs.Files.{after_file}
+use Rattle.plan_check.specs.declared.deciding.FileFault.{FileFault}
+use Rattle.plan_check.specs.Deciding.{known_jobs, known_with, strictly, with_reading}
+use Rattle.plan_check.specs.Files.{File, after_file, file_findings}
+use Rattle.plan_check.specs.Form.{form_reading}
 use Rattle.plan_check.specs.Known.{KnownJobs}
 use Rattle.agenda_sources.specs.declared.fault.SourceFault.{SourceFault}
 use Rattle.agenda_sources.specs.declared.findings.Found.{Found}
 use Rattle.agenda_sources.specs.declared.sources.Source.{Source}
-use Rattle.agenda_sources.specs.Faults.{SourceReading}
-use Rattle.agenda_sources.specs.Findings.{after_sources, found_at, found_from, quoted_findings, source_file}
-use Rattle.agenda_sources.specs.Sources.{sources_from, with_source}
+use Rattle.agenda_sources.specs.Faults.{SourceReading, in_source}
+use Rattle.agenda_sources.specs.Findings.{after_sources, found_at, found_from, source_file}
+use Rattle.agenda_sources.specs.Sources.{sources_from, sources_reading}
 
--- the reading of the rest, from a source on
-abbrev pub left : Zones → List Source → ℕ → List JobParts → SourceReading (List JobParts)
-left zones sources index jobs = sources_from zones index jobs (drop index sources)
+-- what is known after sources, or the error that decides in the first that has an error
+abbrev pub strictly_from : Zones → ℕ → KnownJobs → List Source → SourceReading KnownJobs
+strictly_from zones place known [] = Ok known
+strictly_from zones place known (source ∷ more) =
+    in_source place (strictly zones known (source_file source)) >>= λ next. strictly_from zones (place + 1) next more
+
+-- the rest, from a source on
+abbrev pub left : Zones → List Source → ℕ → KnownJobs → SourceReading KnownJobs
+left zones sources index known = strictly_from zones index known (drop index sources)
 
 -- the rest of the sources, from a source on
 sources_left :
@@ -27,32 +36,66 @@ sources_left sources index source within is =
     drop_more sources index source within ∙ ap (λ (s : Source). s ∷ drop (index + 1) sources) (sym is)
 
 next_source :
-    (zones : Zones) (sources : List Source) (index : ℕ) (source : Source) (jobs : List JobParts) → index < length sources →
+    (zones : Zones) (sources : List Source) (index : ℕ) (source : Source) (known : KnownJobs) → index < length sources →
     source ≡ get_or sources index source →
-    left zones sources index jobs
-    ≡ (with_source zones index jobs source >>= λ next. left zones sources (index + 1) next)
-next_source zones sources index source jobs within is =
+    left zones sources index known
+    ≡ (in_source index (strictly zones known (source_file source)) >>= λ next. left zones sources (index + 1) next)
+next_source zones sources index source known within is =
     rw (sources_left sources index source within is) refl
 
 -- the source was read
 pub read_on :
-    (zones : Zones) (sources : List Source) (index : ℕ) (source : Source) (jobs next : List JobParts)
-    (whole : SourceReading (List JobParts)) →
-    index < length sources → source ≡ get_or sources index source → left zones sources index jobs ≡ whole →
-    with_source zones index jobs source ≡ Ok next → left zones sources (index + 1) next ≡ whole
-read_on zones sources index source jobs next whole within is so_far read =
-    sym (ap (λ (r : SourceReading (List JobParts)). r >>= λ next. left zones sources (index + 1) next) read) ∙
-    sym (next_source zones sources index source jobs within is) ∙ so_far
+    (zones : Zones) (sources : List Source) (index : ℕ) (source : Source) (known next : KnownJobs) (whole : SourceReading KnownJobs) →
+    index < length sources → source ≡ get_or sources index source → left zones sources index known ≡ whole →
+    in_source index (strictly zones known (source_file source)) ≡ Ok next → left zones sources (index + 1) next ≡ whole
+read_on zones sources index source known next whole within is so_far read =
+    sym (ap (λ (r : SourceReading KnownJobs). r >>= λ next. left zones sources (index + 1) next) read) ∙
+    sym (next_source zones sources index source known within is) ∙ so_far
 
 -- the source has an error
 pub read_fault :
-    (zones : Zones) (sources : List Source) (index : ℕ) (source : Source) (jobs : List JobParts) (fault : SourceFault)
-    (whole : SourceReading (List JobParts)) →
-    index < length sources → source ≡ get_or sources index source → left zones sources index jobs ≡ whole →
-    with_source zones index jobs source ≡ Err fault → whole ≡ Err fault
-read_fault zones sources index source jobs fault whole within is so_far read =
-    sym so_far ∙ next_source zones sources index source jobs within is ∙
-    ap (λ (r : SourceReading (List JobParts)). r >>= λ next. left zones sources (index + 1) next) read
+    (zones : Zones) (sources : List Source) (index : ℕ) (source : Source) (known : KnownJobs) (fault : SourceFault)
+    (whole : SourceReading KnownJobs) →
+    index < length sources → source ≡ get_or sources index source → left zones sources index known ≡ whole →
+    in_source index (strictly zones known (source_file source)) ≡ Err fault → whole ≡ Err fault
+read_fault zones sources index source known fault whole within is so_far read =
+    sym so_far ∙ next_source zones sources index source known within is ∙
+    ap (λ (r : SourceReading KnownJobs). r >>= λ next. left zones sources (index + 1) next) read
+
+-- ---- the jobs of sources
+
+-- the law of plan_check
+abbrev pub FileLaw : Type 0
+FileLaw = (zones : Zones) (jobs : List JobParts) (file : File) →
+    strictly zones (known_jobs jobs) file ≡ known_with jobs (form_reading zones file.form file.name file.bytes)
+
+known_then :
+    (place : ℕ) (made : Result (List JobParts) FileFault) (known : KnownJobs → SourceReading KnownJobs)
+    (jobs : List JobParts → SourceReading (List JobParts)) →
+    ((next : List JobParts) → (known (known_jobs next) >>= λ last. Ok last.jobs) ≡ jobs next) →
+    ((in_source place (made >>= λ next. Ok (known_jobs next)) >>= known) >>= λ last. Ok last.jobs) ≡ (in_source place made >>= jobs)
+known_then place (Ok next) known jobs later = later next
+known_then place (Err fault) known jobs later = refl
+
+-- the jobs that are known after sources are those of the sources
+pub jobs_known :
+    FileLaw → (zones : Zones) (place : ℕ) (jobs : List JobParts) (sources : List Source) →
+    (strictly_from zones place (known_jobs jobs) sources >>= λ last. Ok last.jobs) ≡ sources_from zones place jobs sources
+jobs_known law zones place jobs [] = refl
+jobs_known law zones place jobs (source ∷ more) =
+    let file = source_file source in
+    ap (λ (r : Result KnownJobs FileFault).
+    (in_source place r >>= λ next. strictly_from zones (place + 1) next more) >>= λ last. Ok last.jobs) (law zones jobs file)
+    ∙ known_then place (with_reading jobs (form_reading zones file.form file.name file.bytes))
+    (λ next. strictly_from zones (place + 1) next more) (λ next. sources_from zones (place + 1) next more)
+    (λ next. jobs_known law zones (place + 1) next more)
+
+-- after the last source, and after one with an error
+pub all_read :
+    FileLaw → (zones : Zones) (sources : List Source) (read : SourceReading KnownJobs) →
+    strictly_from zones 0 (known_jobs []) sources ≡ read → sources_reading zones sources ≡ (read >>= λ last. Ok last.jobs)
+all_read law zones sources read is =
+    sym (jobs_known law zones 0 [] sources) ∙ ap (λ (r : SourceReading KnownJobs). r >>= λ last. Ok last.jobs) is
 
 -- ---- findings
 
@@ -61,12 +104,12 @@ pub found_on :
     (zones : Zones) (sources : List Source) (index : ℕ) (source : Source) (known next : KnownJobs) (before after whole : List Found) →
     index < length sources → source ≡ get_or sources index source →
     before ++ found_from zones index known (drop index sources) ≡ whole →
-    after ≡ before ++ map (found_at index) (quoted_findings zones known (source_file source)) →
+    after ≡ before ++ map (found_at index) (file_findings zones known (source_file source)) →
     next ≡ after_file zones known (source_file source) →
     after ++ found_from zones (index + 1) next (drop (index + 1) sources) ≡ whole
 found_on zones sources index source known next before after whole within is so_far added kept =
     let more = drop (index + 1) sources in
-    let here = map (found_at index) (quoted_findings zones known (source_file source)) in
+    let here = map (found_at index) (file_findings zones known (source_file source)) in
     (λ i. added i ++ found_from zones (index + 1) (kept i) more)
     ∙ append_assoc before here (found_from zones (index + 1) (after_file zones known (source_file source)) more)
     ∙ sym (ap (λ left. before ++ found_from zones index known left) (sources_left sources index source within is))

@@ -1,7 +1,5 @@
-mod AtOnceLemmas
 mod FoldLemmas
 mod SlashLemmas
-mod SourceFaults
 mod FindingLemmas
 mod ZoneNamesLemmas
 pub mod ZonedLemmas

@@ -2,10 +2,10 @@
 use Rattle.std.specs.Prelude.{ℕ, ◌+◌, Bool, not, List, [], ◌∷◌, ◌++◌, filter, map, Some}
 use Rattle.plan_grammar.specs.EventZones.{Zones}
 use Rattle.plan_rules.specs.Job.{JobParts}
+use Rattle.plan_check.specs.declared.finding.Finding.{Finding}
 use Rattle.plan_check.specs.Files.{File, after_file, file_findings, file_of}
 use Rattle.plan_check.specs.Finding.{is_clean, is_warning}
 use Rattle.plan_check.specs.Known.{KnownJobs, no_jobs}
-use Rattle.plan_check.specs.Quotes.{QuotedFinding, with_quote}
 use Rattle.agenda_sources.specs.declared.findings.Found.{Found}
 use Rattle.agenda_sources.specs.declared.sources.Source.{Source}
 use Rattle.agenda_sources.specs.declared.time_zones.TimeZones.{TimeZones}
@@ -16,19 +16,15 @@ use Rattle.agenda_sources.specs.Sources.{zoned}
 abbrev pub source_file : Source → File
 source_file source = file_of (form_of source.kind) source.name source.bytes
 
--- the findings of a file, whose events may name these zones, each with the text that its message quotes
-abbrev pub quoted_findings : Zones → KnownJobs → File → List QuotedFinding
-quoted_findings zones known file = map (with_quote file) (file_findings zones known file)
-
 -- a finding in the source at a place
-abbrev pub found_at : (place : ℕ) → QuotedFinding → Found
-found_at place quoted = record { place = place; quoted = quoted }
+abbrev pub found_at : (place : ℕ) → Finding → Found
+found_at place finding = record { place = place; finding = finding }
 
 -- the findings of sources in order. The first of them is at this place, after this is known
 abbrev pub found_from : Zones → (place : ℕ) → KnownJobs → List Source → List Found
 found_from zones place known [] = []
 found_from zones place known (source ∷ more) =
-    map (found_at place) (quoted_findings zones known (source_file source))
+    map (found_at place) (file_findings zones known (source_file source))
     ++ found_from zones (place + 1) (after_file zones known (source_file source)) more
 
 -- the findings of all sources, whose jobs start in these time zones
@@ -37,13 +33,13 @@ sources_findings zones sources = found_from zones.named 0 (no_jobs (Some zones.c
 
 -- whether no finding is an error
 abbrev pub is_all_clean : List Found → Bool
-is_all_clean found = is_clean (map (λ one. one.quoted.finding) found)
+is_all_clean found = is_clean (map (λ one. one.finding) found)
 
 -- ---- without what is rejected
 
 -- the errors of all sources
 abbrev pub sources_errors : TimeZones → List Source → List Found
-sources_errors zones sources = filter (λ one. not (is_warning one.quoted.finding.what)) (sources_findings zones sources)
+sources_errors zones sources = filter (λ one. not (is_warning one.finding.kind)) (sources_findings zones sources)
 
 -- what is known after sources
 abbrev pub after_sources : Zones → KnownJobs → List Source → KnownJobs

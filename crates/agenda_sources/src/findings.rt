@@ -1,18 +1,18 @@
 //! The findings of all sources, in the order of the sources, and the jobs that are left without what is rejected.
 
 ghost use Rattle.std.specs.Prelude.{◌≡◌, List, [], ◌++◌, IfOk, Ok, OnOk, is_ok, map};
-ghost use Rattle.plan_check.specs.Files.{after_file};
+ghost use Rattle.plan_check.specs.Files.{after_file, file_findings};
 ghost use Rattle.plan_check.specs.Known.{no_jobs};
 ghost use Rattle.agenda_sources.specs.declared.sources.Source.{Source};
 ghost use Rattle.agenda_sources.specs.declared.time_zones.TimeZones.{TimeZones};
-ghost use Rattle.agenda_sources.specs.Findings.{after_sources, found_at, found_from, is_all_clean, kept_jobs, quoted_findings, source_file, sources_errors, sources_findings};
+ghost use Rattle.agenda_sources.specs.Findings.{after_sources, found_at, found_from, is_all_clean, kept_jobs, source_file, sources_errors, sources_findings};
 ghost use Rattle.agenda_sources.specs.Sources.{jobs_reading, sources_reading};
 
 use crate::forms::form_of;
 use crate::reading::in_zone;
 use crate::sources::{Source, Sources};
 use crate::time_zones::TimeZones;
-use plan_check::{Known, Quoted, clean_where_jobs_are, errors_need_no_clock};
+use plan_check::{Finding, Known, a_file_means_its_reading, errors_need_no_clock};
 use plan_clock::Clock;
 use plan_rules::{EventZones, Jobs};
 use std::alloc::{AllocError, Global};
@@ -22,8 +22,8 @@ use std::alloc::{AllocError, Global};
 pub struct Found {
     /// The place of the source, from 0.
     pub place: usize,
-    /// The finding in that source, with the text that its message quotes.
-    pub quoted: Quoted,
+    /// The finding in that source.
+    pub finding: Finding,
 }
 
 /// What is left of sources if all that is rejected is left out.
@@ -37,8 +37,7 @@ pub struct Kept {
 
 /// Returns all findings of the sources, in the order of the sources, each with the text that its message quotes.
 ///
-/// The findings of a source are those of `findings` of plan_check's `Form`, and the texts those of `with_quotes`.
-/// Rules start in these time zones.
+/// The findings of a source are those of `findings` of plan_check's `Form`. Rules start in these time zones.
 ///
 /// # Errors
 ///
@@ -52,7 +51,8 @@ pub fn findings_of_sources(
     // There is no error among the findings exactly if `jobs_of_sources` makes a list of jobs of the sources.
     ensures clean { IfOk result (λ found. is_all_clean found.items ≡ is_ok (sources_reading zones.now.named sources.now)) }
 {
-    clean_where_jobs_are();
+    a_file_means_its_reading();
+    errors_need_no_clock();
     let clock = zones.clock.try_clone()?;
     let (found, _) = read_sources(alloc, sources, Some(clock), &zones.named)?;
     Ok(found)
@@ -93,7 +93,7 @@ pub fn kept_of_sources(
 pub fn without_errors_all_is_kept()
     ensures { (zones : TimeZones) → (sources : List Source) → sources_errors zones sources ≡ [] → jobs_reading zones sources ≡ Ok (kept_jobs zones sources) }
 {
-    clean_where_jobs_are();
+    a_file_means_its_reading();
     errors_need_no_clock();
 }
 
@@ -127,28 +127,21 @@ fn add_source(
     zones: &EventZones,
 ) -> Result<(), AllocError>
     ensures found { OnOk result (found.new.items ≡ found.old.items
-        ++ map (found_at place) (quoted_findings zones.now known.old (source_file source.now))) }
+        ++ map (found_at place) (file_findings zones.now known.old (source_file source.now))) }
     ensures known { OnOk result (known.new ≡ after_file zones.now known.old (source_file source.now)) }
 {
     let form = form_of(source.kind);
     let (name, bytes) = (source.name.as_str(), source.bytes.as_slice());
     let more = form.findings(alloc, known, name, bytes, zones)?;
-    if more.is_empty() {
-        return Ok(());
-    }
-    add_all(
-        found,
-        place,
-        form.with_quotes(alloc, name, bytes, more.as_slice())?,
-    )
+    add_all(found, place, more)
 }
 
 // Adds findings of the source at a place.
-fn add_all(found: &mut Vec<Found>, place: usize, more: Vec<Quoted>) -> Result<(), AllocError>
+fn add_all(found: &mut Vec<Found>, place: usize, more: Vec<Finding>) -> Result<(), AllocError>
     ensures { OnOk result (found.new.items ≡ found.old.items ++ map (found_at place) more.items) }
 {
-    for quoted in more {
-        found.push(Found { place, quoted })?;
+    for finding in more {
+        found.push(Found { place, finding })?;
     }
     Ok(())
 }

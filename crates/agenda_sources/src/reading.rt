@@ -1,18 +1,20 @@
 //! The jobs of all sources of a plan, read one source after another.
 
-ghost use Rattle.std.specs.Prelude.{◌≡◌, ◌≤◌, [], IfErr, IfOk, IfSome, Ok, Err, length};
+ghost use Rattle.std.specs.Prelude.{◌≡◌, [], IfErr, IfOk, IfSome, Ok, Err};
 ghost use Rattle.plan_texts.specs.Steps.{GivesUnless};
-ghost use Rattle.plan_rules.specs.Limits.{most_jobs};
+ghost use Rattle.plan_check.specs.Deciding.{strictly};
 ghost use Rattle.agenda_sources.specs.AtOnce.{fault_at_once, source_at_once};
-ghost use Rattle.agenda_sources.specs.Faults.{IsOwnFault};
-ghost use Rattle.agenda_sources.specs.Sources.{jobs_reading, with_job, with_jobs, with_source, sources_reading, zoned};
+ghost use Rattle.agenda_sources.specs.Faults.{IsOwnFault, in_source};
+ghost use Rattle.agenda_sources.specs.Findings.{source_file};
+ghost use Rattle.agenda_sources.specs.Sources.{jobs_reading, sources_reading, zoned};
 
 use crate::fault::SourceFault;
 use crate::forms::form_of;
 use crate::sources::{Source, Sources};
 use crate::time_zones::TimeZones;
+use plan_check::{Known, a_file_means_its_reading, deciding_fault};
 use plan_clock::Clock;
-use plan_rules::{AddFault, EventZones, Job, Jobs};
+use plan_rules::{EventZones, Jobs, LineFault};
 use std::alloc::{AllocError, Global};
 
 /// Returns the jobs of the sources, in the order of the sources: one for each command line of a crontab, and
@@ -24,7 +26,8 @@ use std::alloc::{AllocError, Global};
 ///
 /// The first error is returned:
 ///
-/// - `InSource`: a source is invalid. This is its first error, as `crontab`, `named_crontab` or `timer` finds it.
+/// - `InSource`: a source is invalid. This is its first error, as `crontab`, `named_crontab` or `timer` of plan_rules
+///   returns it.
 /// - `SameName`: two jobs have the same name.
 /// - `Full`: there are more than 1,000 jobs.
 /// - `NoMemory`: an allocation failed, also while a source was read. It never replaces an error of the first
@@ -41,6 +44,9 @@ pub fn jobs_of_sources(
     ensures at_once { IfSome (fault_at_once sources.now) (λ fault. result ≡ Err fault) }
     ensures no_source { sources.now ≡ [] → result ≡ Ok [] }
 {
+    if let Some(fault) = fault_at_once(sources) {
+        return Err(fault);
+    }
     let jobs = read_jobs(alloc, sources, &zones.named)?;
     match in_zone(alloc, jobs, &zones.clock) {
         Ok(jobs) => Ok(jobs),
@@ -63,67 +69,60 @@ pub(crate) fn in_zone(alloc: Global, jobs: Jobs, clock: &Clock) -> Result<Jobs, 
 fn read_jobs(alloc: Global, sources: &Sources, zones: &EventZones) -> Result<Jobs, SourceFault>
     ensures meaning { GivesUnless SourceFault.NoMemory (λ jobs. jobs) result (sources_reading zones.now sources.now) }
     ensures own_fault { IfErr result IsOwnFault }
-
-    // These errors are found before any memory is requested.
-    ensures at_once { IfSome (fault_at_once sources.now) (λ fault. result ≡ Err fault) }
     ensures no_source { sources.now ≡ [] → result ≡ Ok [] }
 {
-    let mut jobs = Jobs::new(alloc);
+    a_file_means_its_reading();
+    let mut known = Known::new(alloc, None);
     let sources = sources.as_slice();
     for (place, source) in sources.iter().enumerate() {
-        add_source(alloc, &mut jobs, place, source, zones)?;
+        add_jobs(alloc, &mut known, place, source, zones)?;
     }
-    Ok(jobs)
+    Ok(known.into_jobs())
 }
 
-// Adds the jobs of the source at a place.
-fn add_source(
+// Adds the jobs of the source at a place, or returns the error that decides in it.
+fn add_jobs(
     alloc: Global,
-    jobs: &mut Jobs,
+    known: &mut Known,
     place: usize,
     source: &Source,
     zones: &EventZones,
 ) -> Result<(), SourceFault>
-    requires { length jobs.old ≤ most_jobs }
-    ensures meaning { GivesUnless SourceFault.NoMemory (λ _. jobs.new) result
-        (with_source zones.now place jobs.old source.now) }
-    ensures few { length jobs.new ≤ most_jobs }
-    ensures at_once { IfSome (source_at_once place source.now) (λ fault. result ≡ Err fault) }
-{
-    let form = form_of(source.kind);
-    let (name, bytes) = (source.name.as_str(), source.bytes.as_slice());
-    match form.read(alloc, name, bytes, zones) {
-        Ok(more) => add_all(jobs, more),
-        Err(fault) => Err(SourceFault::in_source(place, fault)),
-    }
-}
-
-// Adds the jobs of a source, in order.
-fn add_all(jobs: &mut Jobs, more: Vec<Job>) -> Result<(), SourceFault>
-    requires { length jobs.old ≤ most_jobs }
-    ensures meaning { GivesUnless SourceFault.NoMemory (λ _. jobs.new) result
-        (with_jobs jobs.old more.items) }
-    ensures few { length jobs.new ≤ most_jobs }
-{
-    for job in more {
-        add_job(jobs, job)?;
-    }
-    Ok(())
-}
-
-// Adds one job of a source.
-fn add_job(jobs: &mut Jobs, job: Job) -> Result<(), SourceFault>
-    requires { length jobs.old ≤ most_jobs }
-    ensures meaning { GivesUnless SourceFault.NoMemory (λ _. jobs.new) result (with_job jobs.old job) }
-    ensures few { length jobs.new ≤ most_jobs }
+    ensures meaning { GivesUnless SourceFault.NoMemory (λ _. known.new) result
+        (in_source place (strictly zones.now known.old (source_file source.now))) }
+    ensures own_fault { IfErr result IsOwnFault }
 
     // These errors are found before any memory is requested.
-    ensures at_once { IfErr (with_job jobs.old job) (λ fault. result ≡ Err fault) }
+    ensures at_once { IfSome (source_at_once place source.now) (λ fault. result ≡ Err fault) }
 {
-    match jobs.add(job) {
-        Ok(_) => Ok(()),
-        Err(AddFault::NoMemory(_)) => Err(SourceFault::NoMemory),
-        Err(AddFault::SameName(job)) => Err(SourceFault::SameName(job.into_name())),
-        Err(AddFault::Full(_)) => Err(SourceFault::Full),
+    if let Some(fault) = source_at_once(place, source) {
+        return Err(fault);
     }
+    let form = form_of(source.kind);
+    let (name, bytes) = (source.name.as_str(), source.bytes.as_slice());
+    let Ok(found) = form.findings(alloc, known, name, bytes, zones) else {
+        return Err(SourceFault::NoMemory);
+    };
+    match deciding_fault(alloc, found) {
+        Some(fault) => Err(SourceFault::of_file(place, fault)),
+        None => Ok(()),
+    }
+}
+
+// Returns the error of the first source that is found before any memory is requested.
+fn fault_at_once(sources: &Sources) -> Option<SourceFault>
+    ensures fault { result ≡ fault_at_once sources.now }
+    ensures own { IfSome result IsOwnFault }
+{
+    source_at_once(0, sources.as_slice().first()?)
+}
+
+// Returns the error of the source at a place that is found before any memory is requested.
+fn source_at_once(place: usize, source: &Source) -> Option<SourceFault>
+    ensures fault { result ≡ source_at_once place source.now }
+    ensures own { IfSome result IsOwnFault }
+{
+    let form = form_of(source.kind);
+    let cause = form.cause_at_once(source.name.as_str(), source.bytes.as_slice())?;
+    Some(SourceFault::in_source(place, LineFault { line: 0, cause }))
 }

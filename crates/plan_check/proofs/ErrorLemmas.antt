@@ -20,24 +20,24 @@ use Rattle.plan_rules.specs.TimerDelays.{Setting}
 use Rattle.plan_rules.specs.TimerEntries.{LineStep, Idle, Empties, Has, Names, TimerState, line_in, no_lines, state_after, timer_lines}
 use Rattle.plan_check.specs.declared.finding.Finding.{Finding}
 use Rattle.plan_check.specs.declared.finding.Warning.TheVariants.{ZoneSetting}
-use Rattle.plan_check.specs.declared.finding.What.TheVariants.{Refused, SameName, Full, Warned}
+use Rattle.plan_check.specs.declared.finding.FindingKind.TheVariants.{Rejected, SameName, Full, Warned}
 use Rattle.plan_check.specs.declared.form.Form.{Form}
 use Rattle.plan_check.specs.declared.form.Form.TheVariants.{Crontab, Named, Timer}
 use Rattle.plan_check.specs.Crontabs.{after_crontab, after_line, after_lines, crontab_findings, entry_findings, line_findings, lines_findings}
 use Rattle.plan_check.specs.Files.{File, after_file, after_text, file_findings, in_file, name_findings, text_findings}
-use Rattle.plan_check.specs.Finding.{errors_of, finding_at, found_if, is_clean, is_warning, refused_at}
+use Rattle.plan_check.specs.Finding.{errors_of, finding_at, found_if, is_clean, is_warning, rejected_at}
 use Rattle.plan_check.specs.Form.{label_of, name_cause}
-use Rattle.plan_check.specs.Known.{KnownJobs, after_job, after_other, has_room, is_taken, name_fault, without_warnings}
+use Rattle.plan_check.specs.Known.{KnownJobs, after_job, after_other, has_room, is_taken, job_findings, name_quote, without_warnings}
 use Rattle.plan_check.specs.Settings.{value_of}
 use Rattle.plan_check.specs.Timers as timers
-use Rattle.plan_check.specs.Timers.{after_timer, event_warnings, job_findings, read_findings, right_job, setting_findings, step_findings, timer_findings, timer_warnings}
+use Rattle.plan_check.specs.Timers.{after_timer, event_warnings, read_findings, right_job, setting_findings, step_findings, timer_findings, timer_warnings}
 use Rattle.plan_check.specs.Warnings.{is_zone_setting, warnings_by}
 use Rattle.plan_check.proofs.CleanLemmas.{event_warnings_clean, setting_clean, warnings_clean, whole_clean}
 
 -- ---- findings
 
 errors_append : (xs ys : List Finding) → errors_of (xs ++ ys) ≡ errors_of xs ++ errors_of ys
-errors_append xs ys = filter-append (λ finding. not (is_warning finding.what)) xs ys
+errors_append xs ys = filter-append (λ finding. not (is_warning finding.kind)) xs ys
 
 -- if nothing is rejected, there is no error
 none_before :
@@ -49,25 +49,23 @@ none_before false finding more clean later = absurd (true≢false (sym clean))
 none_of_clean : (found : List Finding) → is_clean found ≡ true → errors_of found ≡ []
 none_of_clean [] clean = refl
 none_of_clean (finding ∷ more) clean =
-    none_before (is_warning finding.what) finding more clean (none_of_clean more)
+    none_before (is_warning finding.kind) finding more clean (none_of_clean more)
 
 -- what is wrong with a name is an error
 error_named :
-    (m a b c : Bool) (line : ℕ) →
-    let found = cons_option (option_map (λ what. finding_at line what)
+    (m a b c : Bool) (line : ℕ) (name : List ℕ) →
+    let found = cons_option (option_map (λ kind. finding_at line kind (name_quote name kind))
     (cond (not m) None (cond a (Some SameName) (cond b None (cond c None (Some Full)))))) [] in
     errors_of found ≡ found
-error_named false a b c line = refl
-error_named true true b c line = refl
-error_named true false true c line = refl
-error_named true false false true line = refl
-error_named true false false false line = refl
+error_named false a b c line name = refl
+error_named true true b c line name = refl
+error_named true false true c line name = refl
+error_named true false false true line name = refl
+error_named true false false false line name = refl
 
 error_of_name :
-    (known : KnownJobs) (line : ℕ) (name : List ℕ) →
-    errors_of (cons_option (option_map (λ what. finding_at line what) (name_fault known name)) [])
-    ≡ cons_option (option_map (λ what. finding_at line what) (name_fault known name)) []
-error_of_name known line name = error_named known.makes_jobs (is_taken name known) (has_room known) known.told line
+    (known : KnownJobs) (line : ℕ) (name : List ℕ) → errors_of (job_findings known line name) ≡ job_findings known line name
+error_of_name known line name = error_named known.makes_jobs (is_taken name known) (has_room known) known.told line name
 
 -- ---- what is known
 
@@ -94,15 +92,14 @@ other_without known name =
 -- ---- a crontab
 
 entry_errors :
-    (known : KnownJobs) (line : ℕ) (job : JobParts) →
-    entry_findings (without_warnings known) line (Ok job) ≡ errors_of (entry_findings known line (Ok job))
-entry_errors known line job =
-    let named = cons_option (option_map (λ what. finding_at line what) (name_fault known job.name)) [] in
-    sym (errors_append named (warnings_by known.clock line job)
+    (known : KnownJobs) (line : ℕ) (text : List ℕ) (job : JobParts) →
+    entry_findings (without_warnings known) line text (Ok job) ≡ errors_of (entry_findings known line text (Ok job))
+entry_errors known line text job =
+    sym (errors_append (job_findings known line job.name) (warnings_by known.clock line job)
     ∙ (λ i. error_of_name known line job.name i ++ none_of_clean (warnings_by known.clock line job)
     (warnings_clean known.clock line job) i))
 
-setting_errors : (is_so : Bool) (line : ℕ) → [] ≡ errors_of (found_if is_so line (Warned ZoneSetting))
+setting_errors : (is_so : Bool) (line : ℕ) → [] ≡ errors_of (found_if is_so line (Warned ZoneSetting) None)
 setting_errors true line = refl
 setting_errors false line = refl
 
@@ -110,10 +107,10 @@ line_errors :
     (known : KnownJobs) (line : ℕ) (text : List ℕ) (read : LineReading (Option JobParts)) →
     line_findings (without_warnings known) line text read ≡ errors_of (line_findings known line text read)
 line_errors known line text (Ok None) = setting_errors (is_some known.clock && is_zone_setting text) line
-line_errors known line text (Ok (Some job)) = entry_errors known line job
+line_errors known line text (Ok (Some job)) = entry_errors known line text job
 line_errors known line text (Err cause) = refl
 
-line_without :
+pub line_without :
     (known : KnownJobs) (read : LineReading (Option JobParts)) →
     after_line (without_warnings known) read ≡ without_warnings (after_line known read)
 line_without known (Ok None) = refl
@@ -194,17 +191,18 @@ timer_lines_errors clock state (line ∷ more) =
     (λ i. timer_line_errors clock state line i ++ timer_lines_errors clock next more i)
     ∙ sym (errors_append (timers.line_findings clock state line) (timers.lines_findings clock next more))
 
-missing_errors : (is_so : Bool) → found_if is_so 0 (Refused NoTimerSection) ≡ errors_of (found_if is_so 0 (Refused NoTimerSection))
+missing_errors :
+    (is_so : Bool) → found_if is_so 0 (Rejected NoTimerSection) None ≡ errors_of (found_if is_so 0 (Rejected NoTimerSection) None)
 missing_errors true = refl
 missing_errors false = refl
 
 timer_errors :
     (zones : Zones) (known : KnownJobs) (name : List ℕ) (text : TextReading (List (ℕ × List ℕ))) →
     timer_findings zones (without_warnings known) name text ≡ errors_of (timer_findings zones known name text)
-timer_errors zones known name (Err fault) = ap (λ found. refused_at fault.line fault.cause ∷ found) (sym (error_of_name known 0 name))
+timer_errors zones known name (Err fault) = ap (λ found. rejected_at fault.line fault.cause ∷ found) (sym (error_of_name known 0 name))
 timer_errors zones known name (Ok lines) =
-    let missing = found_if (not (has_timer lines)) 0 (Refused NoTimerSection) in
-    let named = job_findings known name in
+    let missing = found_if (not (has_timer lines)) 0 (Rejected NoTimerSection) None in
+    let named = job_findings known 0 name in
     let warned = timer_warnings known.clock lines in
     let later = timers.lines_findings known.clock (no_lines zones) lines in
     (λ i. missing_errors (not (has_timer lines)) i ++ (sym (error_of_name known 0 name) i
@@ -246,7 +244,7 @@ text_without zones known Timer name bytes = timer_without zones known name (time
 
 name_errors :
     (cause : Option LineCause) →
-    cons_option (option_map (refused_at 0) cause) [] ≡ errors_of (cons_option (option_map (refused_at 0) cause) [])
+    cons_option (option_map (rejected_at 0) cause) [] ≡ errors_of (cons_option (option_map (rejected_at 0) cause) [])
 name_errors None = refl
 name_errors (Some cause) = refl
 

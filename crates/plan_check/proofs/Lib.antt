@@ -1,7 +1,5 @@
-pub mod FirstLemmas
 pub mod CleanLemmas
 pub mod ErrorLemmas
 pub mod LinesLemmas
 pub mod TimerLinesLemmas
-pub mod QuoteLemmas
-pub mod FormLemmas
+pub mod DecidingLemmas

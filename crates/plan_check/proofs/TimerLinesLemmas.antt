@@ -1,33 +1,19 @@
--- The lines of a timer file, one after the other: for the loop of `read_lines`. What was found so far, with what the remaining
--- lines add to it, is what is found in all lines.
-use Rattle.std.proofs.Common.{◌≡◌, ℕ, Bool, true, false, not, ◌&&◌, ◌||◌, List, [], ◌∷◌, ◌++◌, Option, Some, None, refl, ap, sym, ◌∙◌}
-use Rattle.std.proofs.lemmas.List.{append_assoc}
+-- The lines of a timer file, one after the other: for the loop of `read_lines`. What is known before a line, with what the remaining
+-- lines add to it, is what all lines say (`one_more`, by a lemma `_front` for each part).
+use Rattle.std.proofs.Common.{◌≡◌, ℕ, Bool, true, false, not, ◌&&◌, ◌||◌, if◌then◌else◌, List, [], ◌∷◌, filter, map, Option, Some, None, refl, ap, sym, ◌∙◌}
 use Rattle.std.specs.List.{cons_option, list_any}
-use Rattle.std.specs.Option.{option_or}
-use Rattle.plan_clock.specs.declared.row.Change.{Change}
-use Rattle.plan_match.specs.declared.event.Calendar.{Calendar}
-use Rattle.plan_grammar.specs.EventZones.{Zones}
-use Rattle.plan_rules.specs.declared.timer_delays.TimerDelays.{TimerDelays}
-use Rattle.plan_rules.specs.LineFaults.{LineReading}
-use Rattle.plan_rules.specs.Timer.{Effect, Reset, Event, Starts, Nothing, effects_from, first_unit, settings_from, timer_setting}
-use Rattle.plan_rules.specs.TimerDelays.{Setting, delays_after, delays_with}
-use Rattle.plan_rules.specs.TimerEntries.{EventCount, TimerState, effect_in, event_by, event_line, line_by, line_in, state_after}
-use Rattle.plan_rules.proofs.TimerLemmas.{delays_front}
-use Rattle.plan_check.specs.declared.finding.Finding.{Finding}
-use Rattle.plan_check.specs.Settings.{stands, stands_after}
-use Rattle.plan_check.specs.Timers.{events_with, line_findings, lines_findings, right_events, unit_with}
+use Rattle.plan_rules.specs.TimerDelays.{Setting, last_or}
+use Rattle.plan_rules.specs.TimerEntries.{TimerState, state_after}
+use Rattle.plan_check.specs.Settings.{delay_after, is_delay, stands, stands_after}
 
--- what is found after one more line
-pub lines_step :
-    (clock : Option (List Change)) (found next : List Finding) (state after : TimerState) (line : ℕ × List ℕ) (more : List (ℕ × List ℕ))
-    (whole : List Finding) →
-    next ≡ found ++ line_findings clock state line → after ≡ state_after state line.1 →
-    found ++ lines_findings clock state (line ∷ more) ≡ whole →
-    next ++ lines_findings clock after more ≡ whole
-lines_step clock found next state after line more whole is after_is so_far =
-    (λ i. is i ++ lines_findings clock (after_is i) more)
-    ∙ append_assoc found (line_findings clock state line) (lines_findings clock (state_after state line.1) more)
-    ∙ so_far
+-- one more line: what the rest says from the state before it, it says from the state after it
+pub one_more :
+    {A B : Type 0} (rest : A → TimerState → List (ℕ × List ℕ) → B) {before next step : A} (old : TimerState) {new : TimerState}
+    (line : ℕ × List ℕ) (more : List (ℕ × List ℕ)) {left : List (ℕ × List ℕ)} {whole : B} →
+    line ∷ more ≡ left → next ≡ step → new ≡ state_after old line.1 →
+    rest before old (line ∷ more) ≡ rest step (state_after old line.1) more → rest before old left ≡ whole → rest next new more ≡ whole
+one_more rest {before = before} old line more is next_is new_is same so_far =
+    (λ i. rest (next_is i) (new_is i) more) ∙ sym same ∙ ap (rest before old) is ∙ so_far
 
 -- whether there is a section, after the last line
 pub section_last : (found : Bool) → (found || false) ≡ found
@@ -52,7 +38,7 @@ revoked false e true false M = refl
 revoked false e false true M = refl
 revoked false e false false M = refl
 
-stands_front :
+pub stands_front :
     (test revokes : Setting → Bool) (before : Bool) (setting : Option Setting) (more : List Setting) →
     stands_with test revokes before (cons_option setting more)
     ≡ stands_with test revokes (stands_after test revokes before setting) more
@@ -60,74 +46,24 @@ stands_front test revokes before None more = refl
 stands_front test revokes before (Some setting) more =
     revoked before (revokes setting) (test setting) (list_any revokes more) (stands test revokes more)
 
--- whether such a setting stands after one more line
-pub stands_step :
-    (test revokes : Setting → Bool) (before next : Bool) (state after : TimerState) (line : ℕ × List ℕ) (more : List (ℕ × List ℕ))
-    (whole : Bool) →
-    next ≡ stands_after test revokes before (timer_setting state.inside line.1) → after ≡ state_after state line.1 →
-    stands_with test revokes before (settings_from state.inside (line ∷ more)) ≡ whole →
-    stands_with test revokes next (settings_from after.inside more) ≡ whole
-stands_step test revokes before next state after line more whole is after_is so_far =
-    (λ i. stands_with test revokes (is i) (settings_from (after_is i).inside more))
-    ∙ sym (stands_front test revokes before (timer_setting state.inside line.1)
-    (settings_from (state_after state line.1).inside more))
-    ∙ so_far
-
 -- after the last line
 pub stands_last : (test revokes : Setting → Bool) (before : Bool) → stands_with test revokes before [] ≡ before
 stands_last test revokes true = refl
 stands_last test revokes false = refl
 
--- the time spans of the delay after one more line
-pub delays_step :
-    (before next : TimerDelays) (state after : TimerState) (line : ℕ × List ℕ) (more : List (ℕ × List ℕ)) (whole : TimerDelays) →
-    next ≡ delays_after before (timer_setting state.inside line.1) → after ≡ state_after state line.1 →
-    delays_with before (settings_from state.inside (line ∷ more)) ≡ whole →
-    delays_with next (settings_from after.inside more) ≡ whole
-delays_step before next state after line more whole is after_is so_far =
-    (λ i. delays_with (is i) (settings_from (after_is i).inside more))
-    ∙ sym (delays_front before (timer_setting state.inside line.1) (settings_from (state_after state line.1).inside more))
-    ∙ so_far
+-- the last value of the random delay in settings that is a time span, or the given one
+abbrev pub delay_with : List ℕ → List Setting → List ℕ
+delay_with before settings = last_or before (map (λ setting. setting.1) (filter is_delay settings))
 
--- ---- the job
+delay_if :
+    (is : Bool) (before : List ℕ) (setting : Setting) (more : List Setting) →
+    last_or before (map (λ s. s.1) (if is then setting ∷ filter is_delay more else filter is_delay more))
+    ≡ delay_with (if is then setting.1 else before) more
+delay_if true before setting more = refl
+delay_if false before setting more = refl
 
-unit_of_event :
-    (number : ℕ) (read : Option (LineReading Calendar)) → unit_with None (event_line number read) ≡ None
-unit_of_event number None = refl
-unit_of_event number (Some read) = refl
-
--- the first unit that is named, by the one that was named before a line
-pub unit_front :
-    (zones : Zones) (unit : Option (List ℕ)) (number : ℕ) (count : EventCount) (effect : Effect) (more : List (ℕ × Effect)) →
-    option_or (unit_with unit (line_by zones number count effect)) (first_unit more) ≡ option_or unit (first_unit ((number, effect) ∷ more))
-unit_front zones (Some first) number count effect more = refl
-unit_front zones None number count Reset more = refl
-unit_front zones None number count (Event text) more =
-    ap (λ (unit : Option (List ℕ)). option_or unit (first_unit more)) (unit_of_event number (event_by zones count text))
-unit_front zones None number count (Starts unit) more = refl
-unit_front zones None number count Nothing more = refl
-
--- the unit after one more line
-pub unit_step :
-    (before next : Option (List ℕ)) (state after : TimerState) (line : ℕ × List ℕ) (more : List (ℕ × List ℕ))
-    (whole : Option (List ℕ)) →
-    next ≡ unit_with before (line_in state line) → after ≡ state_after state line.1 →
-    option_or before (first_unit (effects_from state.inside (line ∷ more))) ≡ whole →
-    option_or next (first_unit (effects_from after.inside more)) ≡ whole
-unit_step before next state after line more whole is after_is so_far =
-    (λ i. option_or (is i) (first_unit (effects_from (after_is i).inside more)))
-    ∙ unit_front state.zones before line.0 state.count (effect_in state line.1) (effects_from (state_after state line.1).inside more)
-    ∙ so_far
-
--- the unit after the last line
-pub unit_last : (unit : Option (List ℕ)) → option_or unit None ≡ unit
-unit_last (Some first) = refl
-unit_last None = refl
-
--- the events after one more line
-pub events_step :
-    (before next : List Calendar) (state after : TimerState) (line : ℕ × List ℕ) (more : List (ℕ × List ℕ)) (whole : List Calendar) →
-    next ≡ events_with before (line_in state line) → after ≡ state_after state line.1 →
-    right_events state before (line ∷ more) ≡ whole → right_events after next more ≡ whole
-events_step before next state after line more whole is after_is so_far =
-    (λ i. right_events (after_is i) (is i) more) ∙ so_far
+pub delay_front :
+    (before : List ℕ) (setting : Option Setting) (more : List Setting) →
+    delay_with before (cons_option setting more) ≡ delay_with (delay_after before setting) more
+delay_front before None more = refl
+delay_front before (Some setting) more = delay_if (is_delay setting) before setting more

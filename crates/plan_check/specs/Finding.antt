@@ -1,14 +1,12 @@
 -- Findings of lines and of whole files (agenda).
 use Rattle.std.specs.Prelude.{ℕ, Bool, true, false, not, List, [], ◌∷◌, codes, filter, Option, Some, None}
-use Rattle.std.specs.List.{filter_map, list_all}
+use Rattle.std.specs.List.{list_all}
 use Rattle.plan_rules.specs.declared.line_fault.LineCause.{LineCause}
-use Rattle.plan_rules.specs.declared.line_fault.LineFault.{LineFault}
-use Rattle.plan_rules.specs.LineFaults.{fault_on_line}
 use Rattle.plan_check.specs.declared.finding.Finding.{Finding}
 use Rattle.plan_check.specs.declared.finding.Warning.{Warning}
 use Rattle.plan_check.specs.declared.finding.Warning.TheVariants as warning
-use Rattle.plan_check.specs.declared.finding.What.{What}
-use Rattle.plan_check.specs.declared.finding.What.TheVariants.{Refused, SameName, Full, Warned}
+use Rattle.plan_check.specs.declared.finding.FindingKind.{FindingKind}
+use Rattle.plan_check.specs.declared.finding.FindingKind.TheVariants.{Rejected, SameName, Full, Warned}
 
 -- ---- names
 
@@ -28,52 +26,37 @@ warning_name warning.Delayed = codes "Delayed"
 
 -- ---- one finding
 
--- a finding of the line with a number, from 1, or of the whole file, which is 0
-abbrev pub finding_at : ℕ → What → Finding
-finding_at line what = record { line = line; what = what }
+-- a finding of the line with a number, from 1, or of the whole file, which is 0, with the text that its message quotes, if any
+abbrev pub finding_at : ℕ → FindingKind → (quote : Option (List ℕ)) → Finding
+finding_at line kind quote = record { line = line; kind = kind; quote = quote }
 
--- a line is rejected
-abbrev pub refused_at : ℕ → LineCause → Finding
-refused_at line cause = finding_at line (Refused cause)
+-- an error of a whole file quotes nothing
+abbrev pub rejected_at : ℕ → LineCause → Finding
+rejected_at line cause = finding_at line (Rejected cause) None
 
 -- a finding, if this is true
-abbrev pub found_if : Bool → ℕ → What → List Finding
-found_if true line what = finding_at line what ∷ []
-found_if false line what = []
+abbrev pub found_if : Bool → ℕ → FindingKind → (quote : Option (List ℕ)) → List Finding
+found_if true line kind quote = finding_at line kind quote ∷ []
+found_if false line kind quote = []
 
 -- ---- errors
-
--- the error of a finding, if it rejects a line or a file
-abbrev pub fault_by : ℕ → What → Option LineFault
-fault_by line (Refused cause) = Some (fault_on_line line cause)
-fault_by line SameName = None
-fault_by line Full = None
-fault_by line (Warned warning) = None
-
--- the same for a finding with its line
-abbrev pub fault_of : Finding → Option LineFault
-fault_of finding = fault_by finding.line finding.what
 
 -- the first element of a list
 abbrev pub first_of : {A : Type 0} → List A → Option A
 first_of [] = None
 first_of (x ∷ xs) = Some x
 
--- the first error of a line or of a whole file among the findings
-abbrev pub first_fault : List Finding → Option LineFault
-first_fault found = first_of (filter_map fault_of found)
-
 -- whether a finding is a warning, so that nothing is rejected
-abbrev pub is_warning : What → Bool
-is_warning (Refused cause) = false
+abbrev pub is_warning : FindingKind → Bool
+is_warning (Rejected cause) = false
 is_warning SameName = false
 is_warning Full = false
 is_warning (Warned warning) = true
 
 -- whether nothing is rejected
 abbrev pub is_clean : List Finding → Bool
-is_clean found = list_all (λ finding. is_warning finding.what) found
+is_clean found = list_all (λ finding. is_warning finding.kind) found
 
 -- the errors among findings
 abbrev pub errors_of : List Finding → List Finding
-errors_of found = filter (λ finding. not (is_warning finding.what)) found
+errors_of found = filter (λ finding. not (is_warning finding.kind)) found

@@ -13,7 +13,8 @@ use Rattle.plan_rules.specs.Crontab.{crontab_reading}
 use Rattle.plan_rules.specs.Job.{JobParts}
 use Rattle.plan_rules.specs.LineFaults.{TextReading}
 use Rattle.plan_rules.specs.NamedCrontabs.{is_crontab_name, named_crontab_reading}
-use Rattle.plan_rules.specs.Timer.{is_timer_name, timer_reading}
+use Rattle.plan_rules.specs.Timer.{is_timer_name}
+use Rattle.plan_rules.specs.TimerEntries.{timer_reading}
 use Rattle.plan_check.specs.declared.form.Form.{Form}
 use Rattle.plan_check.specs.declared.form.Form.TheVariants.{Crontab, Named, Timer}
 

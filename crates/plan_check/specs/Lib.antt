@@ -7,4 +7,4 @@ pub mod Settings
 pub mod Timers
 pub mod Form
 pub mod Files
-pub mod Quotes
+pub mod Deciding

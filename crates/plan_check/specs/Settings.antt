@@ -3,7 +3,7 @@ use Rattle.std.specs.Prelude.{ℕ, Bool, false, not, ◌&&◌, ◌||◌, ◌==�
 use Rattle.std.specs.List.{list_any}
 use Rattle.std.specs.Str.{bytes_eq}
 use Rattle.plan_spans.specs.Spans.{time_span}
-use Rattle.plan_rules.specs.Timer.{monotonic_keys}
+use Rattle.plan_rules.specs.Timer.{is_reset, monotonic_keys}
 use Rattle.plan_rules.specs.TimerDelays.{Setting, accuracy_key, delays_after, last_or, last_span, random_key, span_of}
 use Rattle.plan_check.specs.declared.settings.Standing.{Standing}
 
@@ -13,11 +13,6 @@ use Rattle.plan_check.specs.declared.settings.Standing.{Standing}
 abbrev pub value_of : Option Setting → List ℕ
 value_of None = []
 value_of (Some setting) = setting.1
-
--- the key of a setting, or nothing
-abbrev pub key_of : Option Setting → List ℕ
-key_of None = []
-key_of (Some setting) = setting.0
 
 -- the keys of the `[Timer]` section (systemd.timer(5), of systemd 252)
 abbrev pub timer_keys : List (List ℕ)
@@ -33,11 +28,6 @@ is_unknown_key key = not (list_any (bytes_eq key) timer_keys)
 -- a setting of a monotonic timer, such as `OnBootSec=`, has a value (systemd.timer(5))
 abbrev pub is_span : Setting → Bool
 is_span setting = list_any (bytes_eq setting.0) monotonic_keys && not (length setting.1 == 0)
-
--- a setting empties the list of the times at which the timer elapses (systemd.timer(5), `OnCalendar=`)
-abbrev pub is_reset : Setting → Bool
-is_reset setting =
-    (bytes_eq setting.0 (codes "OnCalendar") || list_any (bytes_eq setting.0) monotonic_keys) && (length setting.1 == 0)
 
 -- a setting is that of the random delay, and its value is a time span (systemd.timer(5), `RandomizedDelaySec=`)
 abbrev pub is_delay : Setting → Bool

@@ -1,42 +1,46 @@
 -- The findings of a timer file (systemd.timer(5)). Which findings there are, and their order, is our choice (agenda).
-use Rattle.std.specs.Prelude.{ℕ, false, not, ◌&&◌, ◌==◌, if◌then◌else◌, List, [], ◌∷◌, ◌++◌, Option, Some, None, option_map, is_some, string_bytes, Ok, Err}
+use Rattle.std.specs.Prelude.{ℕ, false, not, ◌&&◌, ◌==◌, if◌then◌else◌, List, [], ◌∷◌, ◌++◌, Option, Some, None, option_map, is_some, Ok, Err}
 use Rattle.std.specs.List.{cons_option}
-use Rattle.std.specs.Result.{result_ok}
 use Rattle.plan_clock.specs.declared.row.Change.{Change}
 use Rattle.plan_match.specs.Zone.{rule_in}
 use Rattle.plan_match.specs.declared.event.Calendar.{Calendar}
 use Rattle.plan_match.specs.declared.rule.Rule.TheVariants.{Events}
 use Rattle.plan_grammar.specs.EventZones.{Zones}
-use Rattle.plan_rules.specs.declared.line_fault.LineCause.TheVariants.{NoTimerSection}
+use Rattle.plan_rules.specs.declared.line_fault.LineCause.{LineCause}
+use Rattle.plan_rules.specs.declared.line_fault.LineCause.TheVariants.{NoTimerSection, Rule}
 use Rattle.plan_rules.specs.Job.{JobParts}
 use Rattle.plan_rules.specs.LineFaults.{LineReading, TextReading}
-use Rattle.plan_rules.specs.Timer.{effects_from, first_unit, has_timer, is_timer_name, settings_from, timer_job, timer_setting}
+use Rattle.plan_rules.specs.Timer.{has_timer, is_timer_name, settings_from, timer_job, timer_setting}
 use Rattle.plan_rules.specs.TimerDelays.{Setting, delay_of}
-use Rattle.plan_rules.specs.TimerEntries.{LineStep, Idle, Empties, Has, Names, TimerState, held_after, line_in, no_lines, state_after}
-use Rattle.plan_check.specs.declared.draft.Draft.{Draft}
+use Rattle.plan_rules.specs.TimerEntries.{LineStep, Idle, Empties, Has, Names, TimerState, held_after, line_in, lines_draft, no_lines, state_after}
 use Rattle.plan_check.specs.declared.finding.Finding.{Finding}
 use Rattle.plan_check.specs.declared.finding.Warning.TheVariants.{NeverStarts, NoEvents, SkippedStarts, UnknownKey, BadDelay, Monotonic, Delayed}
-use Rattle.plan_check.specs.declared.finding.What.TheVariants.{Refused, Warned}
-use Rattle.plan_check.specs.Finding.{finding_at, found_if, refused_at}
-use Rattle.plan_check.specs.Known.{KnownJobs, after_job, after_other, name_fault}
-use Rattle.plan_check.specs.Settings.{is_bad_delay, is_delayed, is_monotonic, is_unknown_key, value_of}
+use Rattle.plan_check.specs.declared.finding.FindingKind.TheVariants.{Rejected, Warned}
+use Rattle.plan_check.specs.Finding.{finding_at, found_if, rejected_at}
+use Rattle.plan_check.specs.Known.{KnownJobs, after_job, after_other, job_findings}
+use Rattle.plan_check.specs.Settings.{is_bad_delay, is_delayed, is_monotonic, is_unknown_key, last_delay, value_of}
 use Rattle.plan_check.specs.Skipped.{may_skip_starts}
 use Rattle.plan_check.specs.Warnings.{never_starts}
 
 -- ---- one line
 
+-- an error of an event quotes the event; no other error of a line quotes a text (agenda)
+abbrev pub event_quote : (event : List ℕ) → LineCause → Option (List ℕ)
+event_quote event (Rule fault) = Some event
+event_quote event other = None
+
 -- the warnings on an event: a job with only this event never starts, by the clock of a zone, and systemd may pass over its
--- starts. Without a clock there are no warnings
+-- starts, which quotes the event. Without a clock there are no warnings
 abbrev pub event_warnings : Option (List Change) → ℕ → (text : List ℕ) → Calendar → List Finding
 event_warnings None line text event = []
 event_warnings (Some clock) line text event =
-    found_if (never_starts (rule_in clock (Events (event ∷ [])))) line (Warned NeverStarts)
-    ++ found_if (may_skip_starts text event) line (Warned SkippedStarts)
+    found_if (never_starts (rule_in clock (Events (event ∷ [])))) line (Warned NeverStarts) None
+    ++ found_if (may_skip_starts text event) line (Warned SkippedStarts) (Some text)
 
 -- the findings of an event: its error, or the warnings on it
 abbrev pub read_findings : Option (List Change) → ℕ → (text : List ℕ) → LineReading Calendar → List Finding
 read_findings clock line text (Ok event) = event_warnings clock line text event
-read_findings clock line text (Err cause) = refused_at line cause ∷ []
+read_findings clock line text (Err cause) = finding_at line (Rejected cause) (event_quote text cause) ∷ []
 
 -- the findings of what a line does, with its setting: those of its event
 abbrev pub step_findings : Option (List Change) → Option Setting → LineStep → List Finding
@@ -45,12 +49,12 @@ step_findings clock setting Idle = []
 step_findings clock setting Empties = []
 step_findings clock setting (Names unit) = []
 
--- the warnings on a line's setting, if there are to be warnings: on its key, and on its value
+-- the warnings on a line's setting, if there are to be warnings: on its key, and on its value. Each quotes what it is about
 abbrev pub setting_findings : Option (List Change) → ℕ → Option Setting → List Finding
 setting_findings clock line None = []
 setting_findings clock line (Some setting) =
-    found_if (is_some clock && is_unknown_key setting.0) line (Warned UnknownKey)
-    ++ found_if (is_some clock && is_bad_delay setting) line (Warned BadDelay)
+    found_if (is_some clock && is_unknown_key setting.0) line (Warned UnknownKey) (Some setting.0)
+    ++ found_if (is_some clock && is_bad_delay setting) line (Warned BadDelay) (Some setting.1)
 
 -- the findings of a line, in the state before it
 abbrev pub line_findings : Option (List Change) → TimerState → ℕ × List ℕ → List Finding
@@ -65,58 +69,29 @@ lines_findings clock state (line ∷ more) = line_findings clock state line ++ l
 
 -- ---- a timer file
 
--- what is wrong with the name of the timer's job. Each timer makes a job, whatever else is rejected, unless the file's
--- name is bad
-abbrev pub job_findings : KnownJobs → List ℕ → List Finding
-job_findings known name = cons_option (option_map (λ what. finding_at 0 what) (name_fault known name)) []
-
--- the warnings on the whole file, in this order. Without a clock there are none
+-- the warnings on the whole file, in this order; that it has a random delay quotes the delay. Without a clock there are none
 abbrev pub timer_warnings : Option (List Change) → List (ℕ × List ℕ) → List Finding
 timer_warnings None lines = []
 timer_warnings (Some clock) lines =
-    found_if (has_timer lines && (held_after lines == 0)) 0 (Warned NoEvents)
-    ++ (found_if (is_monotonic (settings_from false lines)) 0 (Warned Monotonic)
-    ++ found_if (is_delayed (settings_from false lines)) 0 (Warned Delayed))
+    found_if (has_timer lines && (held_after lines == 0)) 0 (Warned NoEvents) None
+    ++ (found_if (is_monotonic (settings_from false lines)) 0 (Warned Monotonic) None
+    ++ found_if (is_delayed (settings_from false lines)) 0 (Warned Delayed) (Some (last_delay (settings_from false lines))))
 
--- the findings of the whole lines of a text: first those of the whole file, then those of its lines. A text that is too large
--- or not UTF-8 has no lines, and no missing section is reported
+-- the findings of the whole lines of a text: first those of the whole file, then those of its lines. Each timer makes a job,
+-- whatever else is rejected, unless the file's name is bad. A text that is too large or not UTF-8 has no lines, and no missing
+-- section is reported
 abbrev pub timer_findings : Zones → KnownJobs → List ℕ → TextReading (List (ℕ × List ℕ)) → List Finding
 timer_findings zones known name (Ok lines) =
-    found_if (not (has_timer lines)) 0 (Refused NoTimerSection)
-    ++ (job_findings known name ++ (timer_warnings known.clock lines ++ lines_findings known.clock (no_lines zones) lines))
-timer_findings zones known name (Err fault) = refused_at fault.line fault.cause ∷ job_findings known name
+    found_if (not (has_timer lines)) 0 (Rejected NoTimerSection) None
+    ++ (job_findings known 0 name ++ (timer_warnings known.clock lines ++ lines_findings known.clock (no_lines zones) lines))
+timer_findings zones known name (Err fault) = rejected_at fault.line fault.cause ∷ job_findings known 0 name
 
 -- ---- the job that is kept
-
--- the events in the list after a line: an event that is rejected is left out, and so is one that would be the 65th
-abbrev pub events_with : List Calendar → LineStep → List Calendar
-events_with held (Has entry) = held ++ cons_option (result_ok entry.read) []
-events_with held Empties = []
-events_with held Idle = held
-events_with held (Names unit) = held
-
--- the events in the list after lines, from a state and the events that the list already has
-abbrev pub right_events : TimerState → List Calendar → List (ℕ × List ℕ) → List Calendar
-right_events state held [] = held
-right_events state held (line ∷ more) = right_events (state_after state line.1) (events_with held (line_in state line)) more
-
--- the unit that is named after a line: the first one counts
-abbrev pub unit_with : Option (List ℕ) → LineStep → Option (List ℕ)
-unit_with (Some first) step = Some first
-unit_with None (Names unit) = Some unit
-unit_with None Idle = None
-unit_with None Empties = None
-unit_with None (Has entry) = None
-
--- the unit that the lines so far name
-abbrev pub unit_of : Draft → Option (List ℕ)
-unit_of draft = option_map (λ unit. string_bytes unit) draft.unit
 
 -- the job of a timer with the events that are right, whatever else is rejected
 abbrev pub right_job : Zones → List ℕ → List (ℕ × List ℕ) → JobParts
 right_job zones name lines =
-    timer_job name (first_unit (effects_from false lines)) (right_events (no_lines zones) [] lines)
-    (delay_of (settings_from false lines))
+    timer_job name (lines_draft zones lines).unit (lines_draft zones lines).events (delay_of (settings_from false lines))
 
 -- what is known after a timer: its job is kept if nothing of the whole file is rejected
 abbrev pub after_timer : Zones → KnownJobs → List ℕ → TextReading (List (ℕ × List ℕ)) → KnownJobs

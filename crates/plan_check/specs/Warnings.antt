@@ -12,7 +12,7 @@ use Rattle.plan_rules.specs.Job.{JobParts}
 use Rattle.plan_texts.specs.WholeLines.{trimmed}
 use Rattle.plan_check.specs.declared.finding.Finding.{Finding}
 use Rattle.plan_check.specs.declared.finding.Warning.TheVariants.{NeverStarts, EitherDay, Percent, CarriageReturn}
-use Rattle.plan_check.specs.declared.finding.What.TheVariants.{Warned}
+use Rattle.plan_check.specs.declared.finding.FindingKind.TheVariants.{Warned}
 use Rattle.plan_check.specs.Finding.{found_if}
 
 -- a rule has no start from 1970 to 2999 (agenda)
@@ -34,8 +34,8 @@ is_either_day (Events events) = false
 -- the warnings on the rule of a line, in this order, by the clock of a zone (agenda)
 abbrev pub rule_warnings : List Change → ℕ → Rule → List Finding
 rule_warnings clock line rule =
-    found_if (not (is_reboot rule) && never_starts (rule_in clock rule)) line (Warned NeverStarts)
-    ++ found_if (is_either_day rule) line (Warned EitherDay)
+    found_if (not (is_reboot rule) && never_starts (rule_in clock rule)) line (Warned NeverStarts) None
+    ++ found_if (is_either_day rule) line (Warned EitherDay) None
 
 -- ---- what a line runs
 
@@ -55,7 +55,8 @@ ends_with_return command = ends_with nat_eq command (13 ∷ [])
 -- the warnings on the command of a line, in this order (agenda)
 abbrev pub command_warnings : ℕ → List ℕ → List Finding
 command_warnings line command =
-    found_if (has_bare_percent command) line (Warned Percent) ++ found_if (ends_with_return command) line (Warned CarriageReturn)
+    found_if (has_bare_percent command) line (Warned Percent) None
+    ++ found_if (ends_with_return command) line (Warned CarriageReturn) None
 
 -- the warnings on the job of a line, in this order (agenda)
 abbrev pub job_warnings : List Change → ℕ → JobParts → List Finding

@@ -1,18 +1,20 @@
 //! The findings of a crontab's text (crontab(5)).
 
-ghost use Rattle.std.specs.Prelude.{◌≡◌, ◌≤◌, ◌++◌, length, map, OnOk};
+ghost use Rattle.std.specs.Prelude.{◌≡◌, ◌≤◌, ◌++◌, IfOk, length, map, OnOk};
 ghost use Rattle.std.specs.List.{enumerate_from};
 ghost use Rattle.plan_texts.specs.Limits.{most_bytes};
 ghost use Rattle.plan_rules.specs.Crontab.{line_reading};
 ghost use Rattle.plan_rules.specs.FileText.{text_reading};
-ghost use Rattle.plan_check.specs.Crontabs.{after_crontab, after_entry, after_line, after_lines, crontab_findings, entry_findings, line_findings, lines_findings};
+ghost use Rattle.plan_check.specs.Crontabs.{after_crontab, after_entry, after_line, after_lines, after_word, crontab_findings, entry_findings, field_quote, first_word, line_findings, lines_findings, word_at};
 
 use crate::finding::Finding;
 use crate::known::Known;
-use crate::report::{add_name_fault, refuse};
+use crate::report::{add_name_fault, kept, reject};
 use crate::warnings::{add_setting_warning, add_warnings};
 use plan_rules::lines::lines;
-use plan_rules::{Entry, Job, Kind, LineFault, crontab_entry, text_of};
+use plan_rules::{Entry, Job, Kind, LineCause, LineFault, crontab_entry, text_of};
+use plan_texts::Text;
+use plan_texts::lines::cut_word;
 use std::alloc::{AllocError, Global};
 
 // Adds the findings of a crontab whose jobs have a label, and its jobs.
@@ -33,7 +35,7 @@ pub(crate) fn add_crontab(
             let lines = lines(alloc, text)?;
             add_lines(alloc, known, found, label, kind, lines.as_slice())
         }
-        Err(LineFault { line, cause }) => refuse(found, line, cause),
+        Err(LineFault { line, cause }) => reject(found, line, cause, None),
     }
 }
 
@@ -73,29 +75,74 @@ fn add_line(
     ensures known { OnOk result (known.new ≡ after_line known.old (line_reading label.now kind number line.now)) }
 {
     match crontab_entry(alloc, label, kind, number, line)? {
-        Some(entry) => add_entry(alloc, known, found, entry),
+        Some(entry) => add_entry(alloc, known, found, line, entry),
         None => add_setting_warning(found, known.clock(), number, line),
     }
 }
 
-// Adds the findings of a line that makes a job or is rejected, and the job.
+// Adds the findings of a line that makes a job or is rejected, and the job. The line has this text.
 fn add_entry(
     alloc: Global,
     known: &mut Known,
     found: &mut Vec<Finding>,
+    text: &str,
     entry: Entry<Job>,
 ) -> Result<(), AllocError>
     ensures found { OnOk result (found.new.items ≡ found.old.items
-        ++ entry_findings known.old entry.line entry.read) }
+        ++ entry_findings known.old entry.line text.now entry.read) }
     ensures known { OnOk result (known.new ≡ after_entry known.old entry.read) }
 {
     let Entry { line, read } = entry;
     match read {
         Ok(job) => {
-            add_name_fault(known, found, line, job.name())?;
+            add_name_fault(alloc, known, found, line, job.name())?;
             add_warnings(alloc, found, known.clock(), line, &job)?;
             known.add(job)
         }
-        Err(cause) => refuse(found, line, cause),
+        Err(cause) => {
+            let quote = field_quote(alloc, text, cause)?;
+            reject(found, line, cause, quote)
+        }
+    }
+}
+
+// Returns the text that an error of a line quotes.
+fn field_quote(alloc: Global, text: &str, cause: LineCause) -> Result<Option<Text>, AllocError>
+    ensures { IfOk result (λ quote. quote ≡ field_quote text.now cause) }
+{
+    match cause {
+        LineCause::Rule(fault) => Ok(Some(kept(alloc, word_at(text, fault.part))?)),
+        _ => Ok(None),
+    }
+}
+
+// Returns the word at a place of a text, from 1.
+fn word_at(text: &str, place: u8) -> &str
+    ensures { result.now ≡ word_at text.now place }
+{
+    let mut rest = text;
+    for _ in 0..place.saturating_sub(1) {
+        rest = after_word(rest);
+    }
+    first_word(rest)
+}
+
+// Returns what follows the first word of a text.
+fn after_word(text: &str) -> &str
+    ensures { result.now ≡ after_word text.now }
+{
+    match cut_word(text) {
+        Some((_, rest)) => rest,
+        None => "",
+    }
+}
+
+// Returns the first word of a text.
+fn first_word(text: &str) -> &str
+    ensures { result.now ≡ first_word text.now }
+{
+    match cut_word(text) {
+        Some((word, _)) => word,
+        None => "",
     }
 }

@@ -4,6 +4,7 @@ ghost use Rattle.std.specs.Prelude.{◌≡◌};
 ghost use Rattle.plan_check.specs.Finding.{warning_name};
 
 use plan_rules::LineCause;
+use plan_texts::Text;
 
 /// A warning: something valid that may not be what was meant.
 #[derive(Clone, Copy, Debug, PartialEq, Eq)]
@@ -34,9 +35,9 @@ pub enum Warning {
 
 /// The error or the warning of a finding.
 #[derive(Clone, Copy, Debug, PartialEq, Eq)]
-pub enum What {
+pub enum FindingKind {
     /// The line, or the whole file, is rejected. The cause is never `NoMemory`.
-    Refused(LineCause),
+    Rejected(LineCause),
     /// Another job has the job's name.
     SameName,
     /// There are 1,000 jobs already, so the job isn't added.
@@ -46,12 +47,20 @@ pub enum What {
 }
 
 /// A finding of a line, or of a whole file.
-#[derive(Clone, Copy, Debug, PartialEq, Eq)]
+///
+/// - An error of a crontab's rule quotes the field that it is about, or the first word if it is about no field.
+/// - An error of an event, and `SkippedStarts`, quote the value of `OnCalendar=`.
+/// - `SameName` quotes the name of the job, `UnknownKey` the key, `BadDelay` the value, and `Delayed` the last value of
+///   `RandomizedDelaySec=` that is a time span.
+/// - The other findings quote nothing.
+#[derive(Debug, Drop)]
 pub struct Finding {
     /// The line, from 1. The whole file is 0.
     pub line: u32,
     /// The error or the warning.
-    pub what: What,
+    pub kind: FindingKind,
+    /// The text that the message quotes. `None` if it quotes nothing.
+    pub quote: Option<Text>,
 }
 
 impl Warning {

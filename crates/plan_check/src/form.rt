@@ -1,19 +1,17 @@
 //! The form of a file: how its bytes are read, and which findings it has.
 
-ghost use Rattle.std.specs.Prelude.{◌≡◌, ◌++◌, Err, IfOk, IfSome, OnOk};
-ghost use Rattle.plan_texts.specs.Steps.{GivesUnless};
-ghost use Rattle.plan_rules.specs.LineFaults.{of_whole, want_of_memory};
-ghost use Rattle.plan_check.specs.Files.{HasFirst, after_file, after_text, file_findings, file_of, in_file, name_findings, text_findings};
-ghost use Rattle.plan_check.specs.Form.{cause_at_once, form_reading, label_of, name_cause};
+ghost use Rattle.std.specs.Prelude.{◌≡◌, ◌++◌, IfOk, OnOk};
+ghost use Rattle.plan_check.specs.Files.{after_file, after_text, file_findings, file_of, in_file, name_findings, text_findings};
+ghost use Rattle.plan_check.specs.Form.{bytes_cause, cause_at_once, label_of, name_cause};
 
 use crate::crontabs::add_crontab;
 use crate::finding::Finding;
 use crate::known::Known;
-use crate::report::refuse;
+use crate::report::reject;
 use crate::timers::add_timer;
 use plan_rules::{
-    CrontabDirectory, EventZones, Job, Kind, LineCause, LineFault, crontab, crontab_is_its_entries,
-    is_crontab_name, is_timer_name, kind_in, named_crontab, timer,
+    CrontabDirectory, EventZones, Kind, LineCause, LineFault, is_crontab_name, is_timer_name,
+    kind_in, text_of,
 };
 use std::alloc::{AllocError, Global};
 
@@ -29,32 +27,6 @@ pub enum Form {
 }
 
 impl Form {
-    /// Returns the jobs of a file of this form, as `crontab`, `named_crontab` or `timer` of plan_rules reads them. Calendar
-    /// events may name these zones.
-    ///
-    /// # Errors
-    ///
-    /// The errors of that function.
-    pub fn read(
-        self,
-        alloc: Global,
-        name: &str,
-        bytes: &[u8],
-        zones: &EventZones,
-    ) -> Result<Vec<Job>, LineFault>
-        ensures meaning { GivesUnless want_of_memory (λ jobs. jobs.items) result
-            (form_reading zones.now self name.now bytes.now) }
-        // These errors are found before any memory is requested.
-        ensures at_once { IfSome (cause_at_once self name.now bytes.now)
-            (λ cause. result ≡ Err (of_whole cause)) }
-    {
-        match self {
-            Form::Crontab(kind) => crontab(alloc, label_of(kind), bytes, kind),
-            Form::Named(directory) => named_crontab(alloc, name, bytes, directory),
-            Form::Timer => Ok(vec![in alloc; timer(alloc, name, bytes, zones)?]?),
-        }
-    }
-
     /// Returns all findings of a file of this form, in order. Adds the jobs of which nothing is rejected to `known`,
     /// which has the jobs before them. Calendar events may name these zones.
     ///
@@ -87,7 +59,7 @@ impl Form {
     /// A job is added unless another job has its name or there are 1,000 jobs. A timer's job is added only if no error
     /// is one of the whole file. Its rule is the list of the events that aren't rejected.
     ///
-    /// If `known` has no clock, there are no warnings.
+    /// If `known` has no clock, there are no warnings. `Finding` says which text each finding quotes.
     ///
     /// # Errors
     ///
@@ -102,10 +74,7 @@ impl Form {
     ) -> Result<Vec<Finding>, AllocError>
         ensures found { IfOk result (λ found. found.items ≡ file_findings zones.now known.old (file_of self name.now bytes.now)) }
         ensures known { OnOk result (known.new ≡ after_file zones.now known.old (file_of self name.now bytes.now)) }
-        // The first error among the findings of a crontab is the one that `read` returns.
-        ensures first { IfOk result (λ found. HasFirst self found.items (form_reading zones.now self name.now bytes.now)) }
     {
-        crontab_is_its_entries();
         let mut found = Vec::new(alloc);
         self.add_name(known, &mut found, name)?;
         self.add_text(alloc, known, &mut found, name, bytes, zones)?;
@@ -125,7 +94,7 @@ impl Form {
         let cause = self.name_cause(name);
         known.begin_file(cause.is_none());
         match cause {
-            Some(cause) => refuse(found, 0, cause),
+            Some(cause) => reject(found, 0, cause, None),
             None => Ok(()),
         }
     }
@@ -141,6 +110,14 @@ impl Form {
             Form::Timer if is_timer_name(name.as_bytes()) => None,
             Form::Timer => Some(LineCause::BadTimerName),
         }
+    }
+
+    /// Returns what is wrong with a file of this form before its lines are read: `BadTabName`, `BadTimerName`,
+    /// `TooLarge` or `NotUtf8`, the first of them. This requests no memory.
+    pub fn cause_at_once(self, name: &str, bytes: &[u8]) -> Option<LineCause>
+        ensures { result ≡ cause_at_once self name.now bytes.now }
+    {
+        self.name_cause(name).or(bytes_cause(bytes))
     }
 
     // Adds the findings of the text of a file of this form.
@@ -169,6 +146,16 @@ impl Form {
             ),
             Form::Timer => add_timer(alloc, known, found, name, bytes, zones),
         }
+    }
+}
+
+// Returns what is wrong with the bytes of a file.
+fn bytes_cause(bytes: &[u8]) -> Option<LineCause>
+    ensures { result ≡ bytes_cause bytes.now }
+{
+    match text_of(bytes) {
+        Ok(_) => None,
+        Err(LineFault { cause, .. }) => Some(cause),
     }
 }
 

@@ -1,11 +1,11 @@
 //! What is known from file to file: the jobs that are kept, and the names that no later job may have.
 
-ghost use Rattle.std.specs.Prelude.{◌≡◌, ◌++◌, ◌∷◌, [], OnOk, true, false};
+ghost use Rattle.std.specs.Prelude.{◌≡◌, ◌++◌, ◌∷◌, [], IfSome, IsOk, OnOk, true, false};
 ghost use Rattle.std.specs.List.{list_any};
 ghost use Rattle.std.specs.Str.{bytes_eq};
 ghost use Rattle.plan_check.specs.Known.{after_job, after_other, has_room, is_taken, name_fault, no_jobs, with_jobs};
 
-use crate::finding::What;
+use crate::finding::FindingKind;
 use plan_clock::Clock;
 use plan_rules::{Job, Jobs, MOST_JOBS, Names};
 use std::alloc::{AllocError, Global};
@@ -82,24 +82,26 @@ impl Known {
     }
 
     // Returns what is wrong with the name of a job, if the file makes jobs.
-    pub(crate) fn name_fault(&self, name: &str) -> Option<What>
+    pub(crate) fn name_fault(&self, name: &str) -> Option<FindingKind>
         ensures { result ≡ name_fault self.now name.now }
     {
         if !self.makes_jobs {
             return None;
         }
         if self.is_taken(name) {
-            return Some(What::SameName);
+            return Some(FindingKind::SameName);
         }
         if self.has_room() || self.is_told {
             return None;
         }
-        Some(What::Full)
+        Some(FindingKind::Full)
     }
 
     // Adds a job, if the file makes jobs and nothing is wrong with the job's name.
     pub(crate) fn add(&mut self, job: Job) -> Result<(), AllocError>
-        ensures { OnOk result (self.new ≡ after_job self.old job) }
+        ensures added { OnOk result (self.new ≡ after_job self.old job) }
+        // If something is wrong with its name, no memory is requested.
+        ensures at_once { IfSome (name_fault self.old job.name) (λ _. IsOk result) }
     {
         if !self.makes_jobs || self.is_taken(job.name()) {
             return Ok(());

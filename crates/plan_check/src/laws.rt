@@ -1,29 +1,24 @@
-//! The law that connects the findings of files with the jobs that files make.
+//! The laws that connect the findings of a file with the jobs that it makes, and with its errors.
 
-ghost use Rattle.std.specs.Prelude.{◌≡◌, List, [], IfSome, Option, is_some};
-ghost use Rattle.plan_clock.specs.declared.row.Change.{Change};
+ghost use Rattle.std.specs.Prelude.{◌≡◌, List};
 ghost use Rattle.plan_grammar.specs.EventZones.{Zones};
-ghost use Rattle.plan_check.specs.Finding.{errors_of, is_clean};
-ghost use Rattle.plan_check.specs.Known.{KnownJobs, no_jobs, without_warnings};
-ghost use Rattle.plan_check.specs.Files.{File, after_file, after_files, file_findings, files_findings, files_jobs};
+ghost use Rattle.plan_rules.specs.Job.{JobParts};
+ghost use Rattle.plan_check.specs.Deciding.{known_jobs, known_with, strictly};
+ghost use Rattle.plan_check.specs.Finding.{errors_of};
+ghost use Rattle.plan_check.specs.Form.{form_reading};
+ghost use Rattle.plan_check.specs.Known.{KnownJobs, without_warnings};
+ghost use Rattle.plan_check.specs.Files.{File, after_file, file_findings};
 
-use plan_rules::{crontab_is_its_entries, timer_is_its_entries};
-
-/// States the law of findings: files in order have no finding but warnings exactly if jobs can be made of all of
-/// them. That means that each file is read without an error, no two jobs have the same name, and there are at
-/// most 1,000 jobs.
+/// States the law of the error that decides: after files that made jobs, a file makes exactly the jobs that `crontab`,
+/// `named_crontab` or `timer` of plan_rules returns, added in order, and the error that decides among its findings is
+/// the error of that function; else `SameName` or `Full` of the first job that can't be added.
 ///
 /// The function does nothing: its contract is the law.
-pub fn clean_where_jobs_are()
-    ensures clean { (zones : Zones) (clock : Option (List Change)) (files : List File)
-        → is_clean (files_findings zones (no_jobs clock) files) ≡ is_some (files_jobs zones [] files) }
-    // Then these are the jobs that are kept.
-    ensures kept { (zones : Zones) (clock : Option (List Change)) (files : List File)
-        → IfSome (files_jobs zones [] files) (λ jobs. (after_files zones (no_jobs clock) files).jobs ≡ jobs) }
-{
-    crontab_is_its_entries();
-    timer_is_its_entries();
-}
+pub fn a_file_means_its_reading()
+    ensures { (zones : Zones) (jobs : List JobParts) (file : File)
+        → strictly zones (known_jobs jobs) file
+        ≡ known_with jobs (form_reading zones file.form file.name file.bytes) }
+{}
 
 /// States the law of errors: without a clock, the findings of a file are the errors among those with one, and the same
 /// jobs are kept.

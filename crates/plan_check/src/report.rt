@@ -1,55 +1,94 @@
 //! Functions that append a finding to those before it.
 
-ghost use Rattle.std.specs.Prelude.{◌≡◌, ◌++◌, ◌∷◌, [], OnOk, option_map};
-ghost use Rattle.std.specs.List.{cons_option};
-ghost use Rattle.plan_check.specs.Finding.{finding_at, found_if, refused_at};
-ghost use Rattle.plan_check.specs.Known.{name_fault};
+ghost use Rattle.std.specs.Prelude.{◌≡◌, ◌++◌, ◌∷◌, [], IfOk, None, OnOk, Some};
+ghost use Rattle.plan_check.specs.Finding.{finding_at, found_if};
+ghost use Rattle.plan_check.specs.Known.{job_findings, name_quote};
+ghost use Rattle.plan_check.specs.declared.finding.FindingKind.TheVariants as kind;
 
-use crate::finding::{Finding, What};
+use crate::finding::{Finding, FindingKind};
 use crate::known::Known;
 use plan_rules::LineCause;
-use std::alloc::AllocError;
+use plan_texts::Text;
+use std::alloc::{AllocError, Global};
 
-// Adds a finding of a line, or of the whole file, which is line 0, if `is_so`.
+// Adds a finding of a line, or of the whole file, which is line 0, if `is_so`. Its message quotes nothing.
 pub(crate) fn add_if(
     found: &mut Vec<Finding>,
     is_so: bool,
     line: u32,
-    what: What,
+    kind: FindingKind,
 ) -> Result<(), AllocError>
-    ensures { OnOk result (found.new.items ≡ found.old.items ++ found_if is_so line what) }
+    ensures { OnOk result (found.new.items ≡ found.old.items ++ found_if is_so line kind None) }
 {
     if is_so {
-        found.push(Finding { line, what })?;
+        let quote = None;
+        found.push(Finding { line, kind, quote })?;
+    }
+    Ok(())
+}
+
+// Adds a finding of a line, or of the whole file, which is line 0, whose message quotes a text, if `is_so`.
+pub(crate) fn add_quoting_if(
+    alloc: Global,
+    found: &mut Vec<Finding>,
+    is_so: bool,
+    line: u32,
+    kind: FindingKind,
+    quote: &str,
+) -> Result<(), AllocError>
+    ensures { OnOk result (found.new.items ≡ found.old.items ++ found_if is_so line kind (Some quote.now)) }
+{
+    if is_so {
+        let quote = Some(kept(alloc, quote)?);
+        found.push(Finding { line, kind, quote })?;
     }
     Ok(())
 }
 
 // Adds that a line is rejected, or the whole file, which is line 0.
-pub(crate) fn refuse(
+pub(crate) fn reject(
     found: &mut Vec<Finding>,
     line: u32,
     cause: LineCause,
+    quote: Option<Text>,
 ) -> Result<(), AllocError>
-    ensures { OnOk result (found.new.items ≡ found.old.items ++ refused_at line cause ∷ []) }
+    ensures { OnOk result (found.new.items ≡ found.old.items ++ finding_at line (kind.Rejected cause) quote ∷ []) }
 {
-    let what = What::Refused(cause);
-    found.push(Finding { line, what })?;
+    let kind = FindingKind::Rejected(cause);
+    found.push(Finding { line, kind, quote })?;
     Ok(())
 }
 
-// Adds what is wrong with the name of a job of a line, or of the whole file, which is line 0.
+// Adds what is wrong with the name of a job of a line, or of a timer, which is line 0.
 pub(crate) fn add_name_fault(
+    alloc: Global,
     known: &Known,
     found: &mut Vec<Finding>,
     line: u32,
     name: &str,
 ) -> Result<(), AllocError>
-    ensures { OnOk result (found.new.items ≡ found.old.items
-        ++ cons_option (option_map (λ what. finding_at line what) (name_fault known.now name.now)) []) }
+    ensures { OnOk result (found.new.items ≡ found.old.items ++ job_findings known.now line name.now) }
 {
-    if let Some(what) = known.name_fault(name) {
-        found.push(Finding { line, what })?;
+    if let Some(kind) = known.name_fault(name) {
+        let quote = name_quote(alloc, name, kind)?;
+        found.push(Finding { line, kind, quote })?;
     }
     Ok(())
+}
+
+// Returns the text that an error of a job's name quotes.
+fn name_quote(alloc: Global, name: &str, kind: FindingKind) -> Result<Option<Text>, AllocError>
+    ensures { IfOk result (λ quote. quote ≡ name_quote name.now kind) }
+{
+    match kind {
+        FindingKind::SameName => Ok(Some(kept(alloc, name)?)),
+        _ => Ok(None),
+    }
+}
+
+// Returns a text that keeps what is quoted.
+pub(crate) fn kept(alloc: Global, quote: &str) -> Result<Text, AllocError>
+    ensures { IfOk result (λ text. text ≡ quote.now) }
+{
+    Ok(Text::new(String::from_str(alloc, quote)?))
 }

@@ -1,13 +1,11 @@
 //! The settings in the `[Timer]` sections of a timer file, and what they say of the whole timer (systemd.timer(5)).
 
 ghost use Rattle.std.specs.Prelude.{◌≡◌, false, option_map};
-ghost use Rattle.std.specs.List.{list_any};
-ghost use Rattle.std.specs.Str.{bytes_eq};
-ghost use Rattle.plan_rules.specs.Timer.{monotonic_keys};
+ghost use Rattle.plan_rules.specs.Timer.{is_reset};
 ghost use Rattle.plan_rules.specs.TimerDelays.{default_delays};
-ghost use Rattle.plan_check.specs.Settings.{delay_after, is_bad_delay, is_delay, is_reset, is_span, is_unknown_key, key_of, standing_after, stands_after, value_of};
+ghost use Rattle.plan_check.specs.Settings.{delay_after, is_bad_delay, is_delay, is_span, is_unknown_key, standing_after, stands_after, value_of};
 
-use plan_rules::TimerDelays;
+use plan_rules::{TimerDelays, is_monotonic_key, is_reset};
 use plan_spans::time_span;
 
 // What the settings so far say of the whole timer.
@@ -61,16 +59,6 @@ pub(crate) fn value_of<'a>(setting: Option<(&'a str, &'a str)>) -> &'a str
     }
 }
 
-// Returns the key of a setting, or an empty text.
-pub(crate) fn key_of<'a>(setting: Option<(&'a str, &'a str)>) -> &'a str
-    ensures { result.now ≡ key_of (option_map (λ setting. (setting.0.now, setting.1.now)) setting.entry) }
-{
-    match setting {
-        Some((key, _)) => key,
-        None => "",
-    }
-}
-
 // Returns the last value of the random delay that is a time span after one more line, by the one before it.
 pub(crate) fn delay_after<'a>(before: &'a str, setting: Option<(&'a str, &'a str)>) -> &'a str
     ensures { result.now ≡ delay_after before.now (option_map (λ setting. (setting.0.now, setting.1.now)) setting.entry) }
@@ -101,28 +89,11 @@ pub(crate) fn is_unknown_key(key: &str) -> bool
         )
 }
 
-// Returns whether a key is that of a monotonic timer.
-fn is_monotonic_key(key: &str) -> bool
-    ensures { result ≡ list_any (bytes_eq key.now) monotonic_keys }
-{
-    matches!(
-        key,
-        "OnActiveSec" | "OnBootSec" | "OnStartupSec" | "OnUnitActiveSec" | "OnUnitInactiveSec"
-    )
-}
-
 // Returns whether a setting of a monotonic timer has a value.
 fn is_span(key: &str, value: &str) -> bool
     ensures { result ≡ is_span (key.now, value.now) }
 {
     is_monotonic_key(key) && !value.is_empty()
-}
-
-// Returns whether a setting empties the list of the times at which the timer elapses.
-fn is_reset(key: &str, value: &str) -> bool
-    ensures { result ≡ is_reset (key.now, value.now) }
-{
-    (key == "OnCalendar" || is_monotonic_key(key)) && value.is_empty()
 }
 
 // Returns whether a setting is that of the random delay, and its value is a time span.

@@ -1,15 +1,15 @@
 //! The warnings on the lines of crontabs, and on events that never start.
 
-ghost use Rattle.std.specs.Prelude.{◌≡◌, ◌++◌, ◌<◌, ◌&&◌, IfOk, OnOk, is_some, length};
+ghost use Rattle.std.specs.Prelude.{◌≡◌, ◌++◌, ◌<◌, ◌&&◌, IfOk, None, OnOk, is_some, length};
 ghost use Rattle.std.specs.List.{list_any};
 ghost use Rattle.std.specs.Str.{bytes_eq};
 ghost use Rattle.plan_match.specs.Zone.{rule_in};
 ghost use Rattle.plan_check.specs.declared.finding.Warning.TheVariants as warning;
-ghost use Rattle.plan_check.specs.declared.finding.What.TheVariants as what;
+ghost use Rattle.plan_check.specs.declared.finding.FindingKind.TheVariants as kind;
 ghost use Rattle.plan_check.specs.Finding.{found_if};
 ghost use Rattle.plan_check.specs.Warnings.{command_warnings, ends_with_return, has_bare_percent, is_bare_percent, is_either_day, is_reboot, is_zone_setting, job_warnings, never_starts, rule_warnings, warnings_by, zone_names};
 
-use crate::finding::{Finding, Warning, What};
+use crate::finding::{Finding, FindingKind, Warning};
 use crate::report::add_if;
 use plan_clock::Clock;
 use plan_next::next_from;
@@ -58,9 +58,9 @@ fn add_rule_warnings(
     ensures { OnOk result (found.new.items ≡ found.old.items ++ rule_warnings clock.now line rule.now) }
 {
     let never_starts = never_starts(alloc, clock, rule)?;
-    let never = What::Warned(Warning::NeverStarts);
+    let never = FindingKind::Warned(Warning::NeverStarts);
     add_if(found, !is_reboot(rule) && never_starts, line, never)?;
-    let either = What::Warned(Warning::EitherDay);
+    let either = FindingKind::Warned(Warning::EitherDay);
     add_if(found, is_either_day(rule), line, either)
 }
 
@@ -72,9 +72,9 @@ fn add_command_warnings(
 ) -> Result<(), AllocError>
     ensures { OnOk result (found.new.items ≡ found.old.items ++ command_warnings line command.now) }
 {
-    let percent = What::Warned(Warning::Percent);
+    let percent = FindingKind::Warned(Warning::Percent);
     add_if(found, has_bare_percent(command.as_bytes()), line, percent)?;
-    let ending = What::Warned(Warning::CarriageReturn);
+    let ending = FindingKind::Warned(Warning::CarriageReturn);
     add_if(found, ends_with_return(command.as_bytes()), line, ending)
 }
 
@@ -133,9 +133,9 @@ pub(crate) fn add_setting_warning(
     text: &str,
 ) -> Result<(), AllocError>
     ensures { OnOk result (found.new.items ≡ found.old.items
-        ++ found_if (is_some clock.now && is_zone_setting text.now) line (what.Warned warning.ZoneSetting)) }
+        ++ found_if (is_some clock.now && is_zone_setting text.now) line (kind.Warned warning.ZoneSetting) None) }
 {
-    let zone = What::Warned(Warning::ZoneSetting);
+    let zone = FindingKind::Warned(Warning::ZoneSetting);
     add_if(found, clock.is_some() && is_zone_setting(text), line, zone)
 }
 

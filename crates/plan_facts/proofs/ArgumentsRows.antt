@@ -6,18 +6,18 @@ use Rattle.std.specs.Str.{bytes_eq}
 use Rattle.clap.specs.Lexer.{long_of, short_of}
 use Rattle.clap.proofs.OnLiterals.{clap_on_literals}
 use Rattle.plan_collect.specs.declared.Sizes.{Sizes}
-use Rattle.agenda_words.specs.declared.ask.Ask.{Ask}
-use Rattle.agenda_words.specs.declared.ask.Ask.TheVariants.{Next, Plan, Upcoming, Quiet, Check, Steps}
-use Rattle.agenda_words.specs.declared.ask.FormatRequest.{FormatRequest}
-use Rattle.agenda_words.specs.declared.ask.JobsRequest.{JobsRequest}
-use Rattle.agenda_words.specs.declared.ask.PlanRequest.{PlanRequest}
-use Rattle.agenda_words.specs.declared.ask.ZonesRequest.{ZonesRequest}
+use Rattle.agenda_arguments.specs.declared.ask.Ask.{Ask}
+use Rattle.agenda_arguments.specs.declared.ask.Ask.TheVariants.{Next, Plan, Upcoming, Quiet, Check, Steps}
+use Rattle.agenda_arguments.specs.declared.ask.FormatRequest.{FormatRequest}
+use Rattle.agenda_arguments.specs.declared.ask.JobsRequest.{JobsRequest}
+use Rattle.agenda_arguments.specs.declared.ask.PlanRequest.{PlanRequest}
+use Rattle.agenda_arguments.specs.declared.ask.ZonesRequest.{ZonesRequest}
 use Rattle.agenda_kinds.specs.declared.Asked.{Asked}
 use Rattle.agenda_kinds.specs.declared.Asked.TheVariants.{Cron, Event}
 use Rattle.agenda_kinds.specs.declared.SourceKind.TheVariants.{Crontab, System, CronD, Spool, Timer}
 use Rattle.agenda_kinds.specs.declared.SourcePath.{SourcePath}
-use Rattle.agenda_words.specs.Arguments.{asked_by, is_usage, path_of, wants_help}
-use Rattle.agenda_words.proofs.OnLiterals.{agenda_on_literals}
+use Rattle.agenda_arguments.specs.Arguments.{asked_by, is_usage, path_of, wants_help}
+use Rattle.agenda_arguments.proofs.OnLiterals.{agenda_on_literals}
 
 abbrev moment : List ℕ
 moment = codes "2024-01-01T00:00:00Z"

@@ -18,7 +18,7 @@ use Rattle.plan_match.specs.Match.{rule_matches}
 use Rattle.plan_texts.specs.Lines.{lines, cut_word}
 use Rattle.plan_rules.specs.LineFaults.{TextReading}
 use Rattle.plan_rules.specs.Job.{JobParts}
-use Rattle.plan_rules.specs.Crontab.{what_reading, job_reading, line_reading, jobs_reading, crontab_reading}
+use Rattle.plan_rules.specs.Crontab.{what_reading, job_reading, line_reading, entries_of_lines, crontab_reading}
 use Rattle.plan_facts.specs.Rows.{at_minute}
 
 -- the error of a line
@@ -53,7 +53,7 @@ reboot_and_daily :
     parts_of (crontab_reading (codes "cron") User nightly) ≡
     (codes "cron:3", None, codes "a") ∷ (codes "cron:4", None, codes "b") ∷ []
 unfolding is_utf8 chars lib.Utf8.encode digits lines cut_word rule_in_front at_reading fields_in_front what_reading job_reading
-    line_reading jobs_reading cut_at decimal_number set_reading five_fields field_reading items_reading item_reading side_reading
+    line_reading entries_of_lines cut_at decimal_number set_reading five_fields field_reading items_reading item_reading side_reading
     value_reading step_reading
 reboot_and_daily = refl
 
@@ -65,7 +65,7 @@ run_parts :
     parts_of (crontab_reading (codes "system") System parts_hourly) ≡
     (codes "system:1", Some (codes "root"), codes "cd / && run-parts x") ∷ []
 unfolding is_utf8 chars lib.Utf8.encode digits lines cut_word rule_in_front fields_in_front what_reading job_reading line_reading
-    jobs_reading cut_at decimal_number set_reading five_fields field_reading items_reading item_reading side_reading value_reading
+    entries_of_lines cut_at decimal_number set_reading five_fields field_reading items_reading item_reading side_reading value_reading
     step_reading
 run_parts = refl
 
@@ -78,7 +78,7 @@ first_matches other times = []
 run_parts_hourly :
     first_matches (crontab_reading (codes "system") System parts_hourly) ((0, 17) ∷ (1, 17) ∷ (0, 0) ∷ []) ≡ true ∷ true ∷ false ∷ []
 unfolding is_utf8 chars lib.Utf8.encode digits lines cut_word rule_in_front fields_in_front what_reading job_reading line_reading
-    jobs_reading cut_at decimal_number set_reading five_fields field_reading items_reading item_reading side_reading value_reading
+    entries_of_lines cut_at decimal_number set_reading five_fields field_reading items_reading item_reading side_reading value_reading
     step_reading week_days_of at_minute
 run_parts_hourly = simp has_value-values_where
 
@@ -89,7 +89,7 @@ kept_as_written : map (λ text. parts_of (crontab_reading (codes "cron") User te
     ∷ ((codes "cron:2", None, codes "a\r") ∷ [])
     ∷ []
 unfolding is_utf8 chars lib.Utf8.encode digits lines cut_word rule_in_front at_reading fields_in_front what_reading job_reading
-    line_reading jobs_reading cut_at decimal_number set_reading five_fields field_reading items_reading item_reading side_reading
+    line_reading entries_of_lines cut_at decimal_number set_reading five_fields field_reading items_reading item_reading side_reading
     value_reading step_reading
 kept_as_written = refl
 
@@ -124,7 +124,7 @@ user_refusals : map (crontab_reading (codes "cron") User)
     ∷ on 0 NotUtf8
     ∷ []
 unfolding on part is_utf8 chars lib.Utf8.encode digits lines cut_word rule_in_front at_reading fields_in_front what_reading job_reading
-    line_reading jobs_reading cut_at decimal_number set_reading five_fields field_reading items_reading item_reading side_reading
+    line_reading entries_of_lines cut_at decimal_number set_reading five_fields field_reading items_reading item_reading side_reading
     value_reading step_reading
 user_refusals = refl
 
@@ -133,7 +133,7 @@ user_alone :
     map (crontab_reading (codes "system") System) (codes "* * * * * root" ∷ codes "@daily root \t" ∷ codes "@daily" ∷ []) ≡
     on 1 NoCommand ∷ on 1 NoCommand ∷ on 1 NoCommand ∷ []
 unfolding on is_utf8 chars lib.Utf8.encode digits lines cut_word rule_in_front at_reading fields_in_front what_reading job_reading
-    line_reading jobs_reading cut_at decimal_number set_reading five_fields field_reading items_reading item_reading side_reading
+    line_reading entries_of_lines cut_at decimal_number set_reading five_fields field_reading items_reading item_reading side_reading
     value_reading step_reading
 user_alone = refl
 

@@ -20,7 +20,8 @@ use Rattle.plan_texts.specs.Lines.{lines}
 use Rattle.plan_rules.specs.LineFaults.{TextReading, in_line, on_line}
 use Rattle.plan_rules.specs.Job.{JobParts}
 use Rattle.plan_texts.specs.WholeLines.{whole_lines}
-use Rattle.plan_rules.specs.Timer.{is_timer_name, section_name, setting_of, key_of, timer_of_lines, timer_reading}
+use Rattle.plan_rules.specs.Timer.{is_timer_name, section_name, setting_of, effect_of}
+use Rattle.plan_rules.specs.TimerEntries.{timer_of_lines, timer_reading}
 
 -- the whole lines of some files: comments inside merged lines, an even and an odd number of backslashes, a
 -- backslash before a blank, carriage returns, a line of blanks, and the end of the file
@@ -53,7 +54,7 @@ reset_empties :
     timer_reading None (codes "backup.timer")
     (codes "[Timer]\nOnCalendar=hourly\nOnCalendar=\nOnCalendar=daily\nOnCalendar=*-*-* 00:00:00\n") ≡
     job_of (codes "backup.timer") (codes "backup.service") (codes "daily" ∷ codes "*-*-* 00:00:00" ∷ [])
-unfolding is_utf8 chars lib.Utf8.encode lines whole_lines is_timer_name section_name setting_of key_of words cut_at decimal_number
+unfolding is_utf8 chars lib.Utf8.encode lines whole_lines is_timer_name section_name setting_of effect_of words cut_at decimal_number
     set_reading
     date_reading time_reading dated shape_reading component_number component_value component_side component_item component_items
     places_reading component_reading weekday_of weekday_reading weekday_item weekday_items weekdays_reading event_of spelled_out
@@ -64,7 +65,7 @@ reset_empties = refl
 comment_inside :
     timer_reading None (codes "n.timer") (codes "[Unit]\nDescription=x\n[Timer]\nOnCalendar=Mon \\\n# note\n  12:00\nUnit=y.service\n") ≡
     job_of (codes "n.timer") (codes "y.service") (codes "Mon 12:00" ∷ [])
-unfolding is_utf8 chars lib.Utf8.encode lines whole_lines is_timer_name section_name setting_of key_of words cut_at decimal_number
+unfolding is_utf8 chars lib.Utf8.encode lines whole_lines is_timer_name section_name setting_of effect_of words cut_at decimal_number
     set_reading
     date_reading time_reading dated shape_reading component_number component_value component_side component_item component_items
     places_reading component_reading weekday_of weekday_reading weekday_item weekday_items weekdays_reading event_of spelled_out
@@ -75,7 +76,7 @@ comment_inside = refl
 joined_at_the_end :
     timer_reading None (codes "t.timer") (codes "[Timer]\nOnCalendar=Mon \\")
     ≡ job_of (codes "t.timer") (codes "t.service") (codes "Mon" ∷ [])
-unfolding is_utf8 chars lib.Utf8.encode lines whole_lines is_timer_name section_name setting_of key_of words cut_at decimal_number
+unfolding is_utf8 chars lib.Utf8.encode lines whole_lines is_timer_name section_name setting_of effect_of words cut_at decimal_number
     set_reading
     date_reading time_reading dated shape_reading component_number component_value component_side component_item component_items
     places_reading component_reading weekday_of weekday_reading weekday_item weekday_items weekdays_reading event_of spelled_out
@@ -84,7 +85,7 @@ joined_at_the_end = refl
 
 -- only a `[Timer]` section
 no_events : timer_reading None (codes "x.timer") (codes "[Timer]") ≡ job_of (codes "x.timer") (codes "x.service") []
-unfolding is_utf8 chars lib.Utf8.encode lines whole_lines is_timer_name section_name setting_of key_of words cut_at decimal_number
+unfolding is_utf8 chars lib.Utf8.encode lines whole_lines is_timer_name section_name setting_of effect_of words cut_at decimal_number
     set_reading
     date_reading time_reading dated shape_reading component_number component_value component_side component_item component_items
     places_reading component_reading weekday_of weekday_reading weekday_item weekday_items weekdays_reading event_of spelled_out
@@ -94,7 +95,7 @@ no_events = refl
 -- a monotonic setting with an empty value empties the list too
 monotonic_reset :
     timer_reading None (codes "x.timer") (codes "[Timer]\nOnCalendar=daily\nOnBootSec=") ≡ job_of (codes "x.timer") (codes "x.service") []
-unfolding is_utf8 chars lib.Utf8.encode lines whole_lines is_timer_name section_name setting_of key_of words cut_at decimal_number
+unfolding is_utf8 chars lib.Utf8.encode lines whole_lines is_timer_name section_name setting_of effect_of words cut_at decimal_number
     set_reading
     date_reading time_reading dated shape_reading component_number component_value component_side component_item component_items
     places_reading component_reading weekday_of weekday_reading weekday_item weekday_items weekdays_reading event_of spelled_out
@@ -105,7 +106,7 @@ monotonic_reset = refl
 monotonic_value :
     timer_reading None (codes "x.timer") (codes "[Timer]\nOnCalendar=daily\nOnBootSec=5min") ≡
     job_of (codes "x.timer") (codes "x.service") (codes "daily" ∷ [])
-unfolding is_utf8 chars lib.Utf8.encode lines whole_lines is_timer_name section_name setting_of key_of words cut_at decimal_number
+unfolding is_utf8 chars lib.Utf8.encode lines whole_lines is_timer_name section_name setting_of effect_of words cut_at decimal_number
     set_reading
     date_reading time_reading dated shape_reading component_number component_value component_side component_item component_items
     places_reading component_reading weekday_of weekday_reading weekday_item weekday_items weekdays_reading event_of spelled_out
@@ -117,7 +118,7 @@ other_lines :
     timer_reading None (codes "x.timer")
     (codes "OnCalendar=weekly\n[Timer]\noncalendar=weekly\n OnCalendar = daily \n[Install]\nUnit=z\n[Timer]\nUnit=\nUnit=b\nUnit=c") ≡
     job_of (codes "x.timer") (codes "b") (codes "daily" ∷ [])
-unfolding is_utf8 chars lib.Utf8.encode lines whole_lines is_timer_name section_name setting_of key_of words cut_at decimal_number
+unfolding is_utf8 chars lib.Utf8.encode lines whole_lines is_timer_name section_name setting_of effect_of words cut_at decimal_number
     set_reading
     date_reading time_reading dated shape_reading component_number component_value component_side component_item component_items
     places_reading component_reading weekday_of weekday_reading weekday_item weekday_items weekdays_reading event_of spelled_out
@@ -142,7 +143,7 @@ delays : map (λ (text : List ℕ). delay_in (timer_reading None (codes "x.timer
     ∷ codes "RandomizedDelaySec=1h\n[Timer]\n[Install]\nRandomizedDelaySec=1h"
     ∷ [])
     ≡ 43_260 ∷ 1 ∷ 3_600 ∷ 3_601 ∷ 2 ∷ 3 ∷ 32_503_680_000 ∷ 60 ∷ []
-unfolding is_utf8 chars lib.Utf8.encode lines whole_lines is_timer_name section_name setting_of key_of time_span sum_of_pairs
+unfolding is_utf8 chars lib.Utf8.encode lines whole_lines is_timer_name section_name setting_of effect_of time_span sum_of_pairs
     pair_in_front number_in_front unit_in_front
 delays = refl
 
@@ -169,7 +170,7 @@ refusals : map (λ (file : List ℕ × List ℕ). timer_reading None file.0 file
     ∷ Err (record { line = 2; cause = Rule (record { part = 0; cause = UnknownWord }) })
     ∷ Err (record { line = 2; cause = Rule (record { part = 5; cause = Values OutOfRange }) })
     ∷ []
-unfolding is_utf8 chars lib.Utf8.encode lines whole_lines is_timer_name section_name setting_of key_of words cut_at decimal_number
+unfolding is_utf8 chars lib.Utf8.encode lines whole_lines is_timer_name section_name setting_of effect_of words cut_at decimal_number
     set_reading
     date_reading time_reading dated shape_reading component_number component_value component_side component_item component_items
     places_reading component_reading weekday_of weekday_reading weekday_item weekday_items weekdays_reading event_of spelled_out
@@ -190,7 +191,7 @@ sixty_four_times =
 too_many_events :
     timer_of_lines None (codes "x.timer") ((1, codes "[Timer]") ∷ enumerate_from 2 (sixty_four_times ++ daily ∷ [])) ≡
     Err (record { line = 66; cause = TooManyLines })
-unfolding is_utf8 chars lib.Utf8.encode lines whole_lines is_timer_name section_name setting_of key_of words cut_at decimal_number
+unfolding is_utf8 chars lib.Utf8.encode lines whole_lines is_timer_name section_name setting_of effect_of words cut_at decimal_number
     set_reading
     date_reading time_reading dated shape_reading component_number component_value component_side component_item component_items
     places_reading component_reading weekday_of weekday_reading weekday_item weekday_items weekdays_reading event_of spelled_out
@@ -219,7 +220,7 @@ either_event :
     map (λ (at : ℕ × ℕ × ℕ). starts_at (timer_reading None (codes "two.timer")
     (codes "[Timer]\nOnCalendar=Fri 12:00\nOnCalendar=*-*-3 06:00"))
     (at_hour at.0 at.1 at.2)) ((3, 2, 6) ∷ (5, 4, 12) ∷ (5, 4, 6) ∷ []) ≡ true ∷ true ∷ false ∷ []
-unfolding is_utf8 chars lib.Utf8.encode lines whole_lines is_timer_name section_name setting_of key_of words cut_at decimal_number
+unfolding is_utf8 chars lib.Utf8.encode lines whole_lines is_timer_name section_name setting_of effect_of words cut_at decimal_number
     set_reading
     date_reading time_reading dated shape_reading component_number component_value component_side component_item component_items
     places_reading component_reading weekday_of weekday_reading weekday_item weekday_items weekdays_reading event_of spelled_out

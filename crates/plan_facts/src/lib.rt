@@ -1,5 +1,5 @@
 //! Worked rows of the definitions of plan_sets, plan_spans, plan_clock, plan_match, plan_grammar, plan_rules,
-//! plan_next and agenda_words, proved by computing.
+//! plan_next and agenda_arguments, proved by computing.
 //!
 //! The rows are about known seconds and timestamps, cron rules, calendar events, crontabs, timer files, starts in
 //! a time zone, and what arguments request. Their values are from manual pages and calendars. No proof of a

@@ -1,25 +1,28 @@
 -- Which errors a crontab has: a failed allocation has line 0, and never is inside a rule's error.
--- For all clauses of `crontab`, and for some of `timer`. `line` and `jobs` follow the definition: each step, choice and element
+-- For all clauses of `crontab`, and for some of `timer`. `line` and `jobs` follow the definition: each step, choice and entry
 -- keeps this property of its errors. `answered` carries it over to an answer, which may be a failed allocation instead.
-use Rattle.std.proofs.Common.{◌≡◌, ◌≢◌, ℕ, ◌+◌, eqb, List, [], ◌∷◌, length, Option, None, Result, Ok, Err, IfErr, refl, ap, sym, inl, inr, subst, arith}
+use Rattle.std.proofs.Common.{◌≡◌, ◌≢◌, ℕ, ◌+◌, eqb, List, [], ◌∷◌, length, Option, None, Some, Result, Ok, Err, IfErr, refl, ap, sym, inl, inr, subst, arith}
 use Rattle.std.proofs.lemmas.Bool.Decides.{nat_tests}
 use Rattle.std.proofs.lemmas.Bool.{cases_eq}
-use Rattle.std.specs.List.{enumerate_from, list_any}
+use Rattle.std.specs.List.{cons_option, enumerate_from, filter_map, list_any, slice_get}
 use Rattle.plan_rules.specs.declared.crontabs.Kind.{Kind}
 use Rattle.plan_rules.specs.declared.crontabs.Kind.TheVariants.{User, System}
 use Rattle.plan_grammar.specs.declared.fault.RuleFault.{RuleFault}
 use Rattle.plan_grammar.specs.declared.fault.RuleCause.{RuleCause}
 use Rattle.plan_grammar.specs.declared.fault.RuleCause.TheVariants as cause
+use Rattle.plan_rules.specs.declared.entry.Entry.{Entry}
 use Rattle.plan_rules.specs.declared.line_fault.LineCause.{LineCause}
 use Rattle.plan_rules.specs.declared.line_fault.LineCause.TheVariants.{NoMemory, NotUtf8, TooLarge, Rule, BadSetting, BadTimerName, BadTabName}
 use Rattle.plan_rules.specs.declared.line_fault.LineFault.{LineFault}
-use Rattle.plan_texts.specs.EachLaws.{err_steps, err_each, err_choice}
-use Rattle.plan_texts.specs.Steps.{each, GivesUnless}
+use Rattle.plan_texts.specs.EachLaws.{err_steps, err_choice}
+use Rattle.plan_texts.specs.Steps.{GivesUnless}
 use Rattle.plan_grammar.specs.Readings.{Reading}
 use Rattle.plan_texts.specs.Lines.{after_blanks, cut_word}
+use Rattle.plan_rules.specs.Job.{JobParts}
 use Rattle.plan_rules.specs.LineFaults.{LineReading, TextReading, IsOwnCause, cause_by_cause, in_line, on_line, fault_on_line, want_of_memory}
 use Rattle.plan_grammar.specs.Cron.{rule_in_front}
-use Rattle.plan_rules.specs.Crontab.{command_reading, user_and_command, what_reading, job_reading, begins_setting, entry_reading, line_reading, numbered_reading, jobs_reading}
+use Rattle.plan_rules.specs.Entries.{entry_on, given, meant_by, fault_on, faults_of, unless_faulty}
+use Rattle.plan_rules.specs.Crontab.{command_reading, user_and_command, what_reading, job_reading, begins_setting, entry_reading, line_reading, line_entry, entries_of_lines}
 
 -- a cause that is found in the lines of a text
 abbrev pub IsLineCause : LineCause → Type 0
@@ -33,6 +36,10 @@ IsLineCause other = Unit {0}
 pub own_cause : (c : LineCause) → IsLineCause c → IsOwnCause c
 own_cause (Rule fault) own = own
 own_cause other own = tt
+
+pub no_name : (c : LineCause) → IsLineCause c → c ≢ BadTabName
+no_name BadTabName own = absurd own
+no_name c own = λ same. cc
 
 -- what is true of each error
 abbrev pub IsOwnFault : LineFault → Type 0
@@ -65,17 +72,19 @@ job label kind number text =
     err_steps IsLineCause (in_line (rule_in_front text)) _ (rule_in (rule_in_front text))
     (λ front. err_steps IsLineCause (what_reading kind front.1) _ (what kind front.1) (λ c. tt))
 
-entry : (label : List ℕ) (kind : Kind) (number : ℕ) (text : List ℕ) → IfErr (entry_reading label kind number text) IsLineCause
-entry label kind number [] = tt
-entry label kind number (first ∷ rest) =
+entry :
+    (label : List ℕ) (kind : Kind) (number : ℕ) (text : List ℕ) (first : Option ℕ) →
+    IfErr (entry_reading label kind number text first) IsLineCause
+entry label kind number text None = tt
+entry label kind number text (Some first) =
     err_choice IsLineCause (eqb first 35) _ _ tt
     (err_choice IsLineCause (begins_setting first) _ _
-    (err_choice IsLineCause (list_any (λ b. eqb b 61) (first ∷ rest)) (Ok None) (Err BadSetting) tt tt)
-    (err_steps IsLineCause (job_reading label kind number (first ∷ rest)) _ (job label kind number (first ∷ rest)) (λ j. tt)))
+    (err_choice IsLineCause (list_any (λ b. eqb b 61) text) (Ok None) (Err BadSetting) tt tt)
+    (err_steps IsLineCause (job_reading label kind number text) _ (job label kind number text) (λ j. tt)))
 
 line : (label : List ℕ) (kind : Kind) (number : ℕ) (text : List ℕ) → IfErr (line_reading label kind number text) IsLineCause
 unfolding line_reading
-line label kind number text = entry label kind number (after_blanks text)
+line label kind number text = entry label kind number (after_blanks text) (slice_get (after_blanks text) 0)
 
 -- ---- the error of a text
 
@@ -87,13 +96,27 @@ pub on : {A : Type 0} (number : ℕ) (r : LineReading A) → IfErr r IsLineCause
 on number (Ok x) own = tt
 on number (Err c) own = fault_of number c own
 
-pub jobs : (label : List ℕ) (kind : Kind) (texts : List (List ℕ)) → IfErr (jobs_reading label kind texts) IsOwnFault
-unfolding jobs_reading
-jobs label kind texts =
-    err_steps IsOwnFault (each (numbered_reading label kind) (enumerate_from 0 texts)) _
-    (err_each IsOwnFault (numbered_reading label kind) (λ text. on (text.0 + 1) (line_reading label kind (text.0 + 1) text.1)
-    (line label kind (text.0 + 1) text.1)) (enumerate_from 0 texts))
-    (λ found. tt)
+-- the first of these errors that there is
+pub refused_first :
+    {A B : Type 0} (number : ℕ) (read : LineReading A) (more : List LineFault) (x : B) → IfErr read IsLineCause →
+    IfErr (unless_faulty more x) IsOwnFault → IfErr (unless_faulty (cons_option (fault_on number read) more) x) IsOwnFault
+refused_first number (Ok y) more x own later = later
+refused_first number (Err c) more x own later = fault_of number c own
+
+entry_first :
+    {A B : Type 0} (number : ℕ) (read : LineReading (Option A)) (more : List (Entry A)) (x : B) → IfErr read IsLineCause →
+    IfErr (unless_faulty (faults_of more) x) IsOwnFault →
+    IfErr (unless_faulty (faults_of (cons_option (entry_on number read) more)) x) IsOwnFault
+entry_first number (Ok None) more x own later = later
+entry_first number (Ok (Some y)) more x own later = later
+entry_first number (Err c) more x own later = fault_of number c own
+
+lines : {B : Type 0} (label : List ℕ) (kind : Kind) (texts : List (ℕ × List ℕ)) (x : B) →
+    IfErr (unless_faulty (faults_of (filter_map (line_entry label kind) texts)) x) IsOwnFault
+lines label kind [] x = tt
+lines label kind (text ∷ more) x =
+    entry_first (text.0 + 1) (line_reading label kind (text.0 + 1) text.1) (filter_map (line_entry label kind) more) x
+    (line label kind (text.0 + 1) text.1) (lines label kind more x)
 
 -- ---- so every error that a call returns
 
@@ -118,6 +141,15 @@ answered view (Err fault) reading gives own =
     at_fault : {C : Type 0} (r : TextReading C) → r ≡ Err fault → IfErr r IsOwnFault → IsOwnFault fault
     at_fault (Ok x) is own = absurd cc
     at_fault (Err e) is own = let same : e ≡ fault = cc in rw (sym same) own
+
+-- so of the lines of a crontab
+pub jobs :
+    {A : Type 0} (view : A → List JobParts) (answer : Result A LineFault) (label : List ℕ) (kind : Kind) (texts : List (List ℕ)) →
+    GivesUnless want_of_memory view answer (meant_by (entries_of_lines label kind texts)) → IfErr answer IsOwnFault
+unfolding entries_of_lines
+jobs view answer label kind texts gives =
+    let found = filter_map (line_entry label kind) (enumerate_from 0 texts) in
+    answered view answer (meant_by found) gives (lines label kind (enumerate_from 0 texts) (given found))
 
 -- an error of the whole text is none of these
 pub no_other :

@@ -14,6 +14,9 @@ use Rattle.plan_rules.proofs.CrontabFaults.{IsOwnFault, no_other}
 
 -- ---- from the bytes to the text
 
+pub text_of_large : (bytes : List ℕ) → is_too_large bytes ≡ true → text_reading bytes ≡ Err (of_whole TooLarge)
+text_of_large bytes large = rw large refl
+
 pub text_of_utf8 : (bytes : List ℕ) → is_too_large bytes ≡ false → IsUtf8 bytes → text_reading bytes ≡ Ok bytes
 text_of_utf8 bytes small utf8 = rw (small, is_utf8-from_IsUtf8 bytes utf8) refl
 

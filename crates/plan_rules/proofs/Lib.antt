@@ -1,8 +1,6 @@
 pub mod CrontabLemmas
 pub mod CrontabFaults
 pub mod FileFaults
-pub mod NamedCrontabFaults
-pub mod EntryLemmas
 pub mod JobsLemmas
 pub mod TimerLemmas
 pub mod TimerFaults

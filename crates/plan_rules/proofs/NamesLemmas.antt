@@ -1,14 +1,12 @@
--- Names: the bytes of the keys of a set. For `contains` and `add` of `Names`, and for loops that add names.
+-- Names: the bytes of the keys of a set. For `contains` and `add` of `Names`.
 -- A search in a mapped list is a search by the mapped test (`list_any-map`), and a key with new bytes is appended.
-use Rattle.std.proofs.Common.{◌≡◌, ℕ, Bool, false, ◌||◌, if◌then◌else◌, List, [], ◌∷◌, ◌++◌, map, Option, None, Some, String, Global, string_bytes, refl, ap, sym, ◌∙◌}
+use Rattle.std.proofs.Common.{◌≡◌, ℕ, Bool, false, ◌||◌, if◌then◌else◌, List, [], ◌∷◌, ◌++◌, map, String, Global, string_bytes, refl, ap, sym, ◌∙◌}
 use Rattle.std.proofs.lemmas.List.{map-append}
-use Rattle.std.specs.List.{cons_option, list_any}
+use Rattle.std.specs.List.{list_any}
 use Rattle.std.specs.Str.{bytes_eq}
 use Rattle.std.specs.String.{string_eq}
 use Rattle.indexmap.specs.IndexSet.{insert_key}
-use Rattle.plan_rules.specs.Names.{with_found, with_name, with_names}
-use Rattle.plan_rules.specs.Timer.{inside_after, line_effect, section_name, setting_of}
-use Rattle.plan_rules.specs.TimerZones.{effect_zone, zones_from}
+use Rattle.plan_rules.specs.Names.{with_name}
 
 list_any-map : {A B : Type 0} (p : B → Bool) (f : A → B) (xs : List A) → list_any p (map f xs) ≡ list_any (λ x. p (f x)) xs
 list_any-map p f [] = refl
@@ -36,22 +34,3 @@ insert_key-name keys key name named absent =
 pub with_name-new :
     (names : List (List ℕ)) (name : List ℕ) → list_any (bytes_eq name) names ≡ false → with_name names name ≡ names ++ name ∷ []
 with_name-new names name absent = ap (λ (is : Bool). if is then names else names ++ name ∷ []) absent
-
--- one more name, if there is one, and then others
-with_names-found :
-    (names : List (List ℕ)) (found : Option (List ℕ)) (more : List (List ℕ)) →
-    with_names names (cons_option found more) ≡ with_names (with_found names found) more
-with_names-found names None more = refl
-with_names-found names (Some name) more = refl
-
--- the zones of one more line
-pub zones_step :
-    (names next : List (List ℕ)) (inside after : Bool) (line : ℕ × List ℕ) (more : List (ℕ × List ℕ)) (whole : List (List ℕ)) →
-    next ≡ with_found names (effect_zone (line_effect inside (section_name line.1) (setting_of line.1))) →
-    after ≡ inside_after inside (section_name line.1) → with_names names (zones_from inside (line ∷ more)) ≡ whole →
-    with_names next (zones_from after more) ≡ whole
-zones_step names next inside after line more whole is after_is so_far =
-    (λ i. with_names (is i) (zones_from (after_is i) more))
-    ∙ sym (with_names-found names (effect_zone (line_effect inside (section_name line.1) (setting_of line.1)))
-    (zones_from (inside_after inside (section_name line.1)) more))
-    ∙ so_far

@@ -1,84 +1,13 @@
--- The events of a timer file, read in order and each by itself: for loops that feed a `TimerReader`, and for the law of a
--- timer's entries.
--- While no event is rejected, the list has as many events as were counted (`events_by_entries`). So both reach 64 at the same event.
-use Rattle.std.proofs.Common.{◌≡◌, ℕ, ◌+◌, ◌<◌, Bool, true, false, ◌||◌, cond, nat_lt, List, [], ◌∷◌, ◌++◌, length, drop, get_or, map, Some, Ok, Err, refl, ap, sym, ◌∙◌, length-append}
+-- The lines of a timer file, read one after the other: for loops that feed a `TimerReader`.
+use Rattle.std.proofs.Common.{◌≡◌, ℕ, ◌+◌, ◌<◌, Bool, false, ◌||◌, List, ◌∷◌, length, drop, get_or, map, Ok, ap, sym, ◌∙◌}
 use Rattle.std.proofs.Math.Bool.{or_assoc}
 use Rattle.std.proofs.lemmas.List.{drop_more}
-use Rattle.std.specs.List.{cons_option}
-use Rattle.std.specs.Result.{result_ok}
-use Rattle.plan_match.specs.declared.event.Calendar.{Calendar}
-use Rattle.plan_rules.specs.declared.line_fault.LineCause.TheVariants.{BadTimerName, TooManyLines}
-use Rattle.plan_rules.specs.Limits.{most_events}
 use Rattle.plan_texts.specs.Steps.{◌>>=◌}
-use Rattle.plan_grammar.specs.Event.{event_reading}
-use Rattle.plan_grammar.specs.EventZones.{Zones}
-use Rattle.plan_rules.specs.LineFaults.{LineReading, TextReading, in_line, on_line}
-use Rattle.plan_rules.specs.Entries.{refusals, unless_refused}
-use Rattle.plan_rules.specs.FileText.{text_reading}
-use Rattle.plan_rules.specs.Job.{JobParts}
 use Rattle.plan_texts.specs.WholeLines.{whole_lines, trimmed}
-use Rattle.plan_rules.specs.Timer.{Effect, Reset, Event, Starts, Nothing, effects_from, events_from, first_unit, has_timer, inside_after, is_timer_name, job_with, section_name, settings_from, timer_of_lines, timer_reading}
-use Rattle.plan_rules.specs.TimerDelays.{delay_of}
-use Rattle.plan_rules.specs.TimerEntries.{EventCount, TimerState, count_from, entry_of, event_line, entries_from, events_after, lines_by_entries, state_after, timer_by_entries, timer_lines}
-
--- an event that is read, before those that follow
-event_read :
-    (zones : Zones) (number : ℕ) (held : List Calendar) (r : LineReading Calendar) (more : List (ℕ × Effect)) →
-    ((next : List Calendar) → length next ≡ length held + 1 → events_from zones next more
-    ≡ unless_refused (refusals (entries_from zones (record { held = length held + 1; told = false }) more))
-    (events_after zones next more)) →
-    (on_line number r >>= λ event. events_from zones (held ++ event ∷ []) more)
-    ≡ unless_refused
-    (refusals (cons_option (entry_of (event_line number (Some r)))
-    (entries_from zones (record { held = length held + 1; told = false }) more)))
-    (events_after zones (held ++ cons_option (result_ok r) []) more)
-event_read zones number held (Ok event) more later = later (held ++ event ∷ []) (length-append held (event ∷ []))
-event_read zones number held (Err cause) more later = refl
-
--- an event, whether the list is full or not
-event_held :
-    (zones : Zones) (room : Bool) (number : ℕ) (held : List Calendar) (r : LineReading Calendar) (more : List (ℕ × Effect)) →
-    ((next : List Calendar) → length next ≡ length held + 1 → events_from zones next more
-    ≡ unless_refused (refusals (entries_from zones (record { held = length held + 1; told = false }) more))
-    (events_after zones next more)) →
-    (on_line number (cond room r (Err TooManyLines)) >>= λ event. events_from zones (held ++ event ∷ []) more)
-    ≡ unless_refused (refusals (cons_option (entry_of (event_line number (cond room (Some r) (Some (Err TooManyLines)))))
-    (entries_from zones (cond room (record { held = length held + 1; told = false }) (record { held = length held; told = true })) more)))
-    (events_after zones (held ++ cons_option (result_ok r) []) more)
-event_held zones true number held r more later = event_read zones number held r more later
-event_held zones false number held r more later = refl
-
-pub events_by_entries :
-    (zones : Zones) (count : ℕ) (held : List Calendar) (effects : List (ℕ × Effect)) → length held ≡ count →
-    events_from zones held effects
-    ≡ unless_refused (refusals (entries_from zones (record { held = count; told = false }) effects)) (events_after zones held effects)
-events_by_entries zones count held [] same = refl
-events_by_entries zones count held ((number, Reset) ∷ more) same = events_by_entries zones 0 [] more refl
-events_by_entries zones count held ((number, Event text) ∷ more) same =
-    rw (← same) (event_held zones (nat_lt (length held) most_events) number held (in_line (event_reading zones text)) more
-    (λ next long. events_by_entries zones (length held + 1) next more long))
-events_by_entries zones count held ((number, Starts unit) ∷ more) same = events_by_entries zones count held more same
-events_by_entries zones count held ((number, Nothing) ∷ more) same = events_by_entries zones count held more same
-
-of_lines : (zones : Zones) (name : List ℕ) (lines : List (ℕ × List ℕ)) → timer_of_lines zones name lines ≡ lines_by_entries zones name lines
-of_lines zones name lines =
-    ap (λ (events : TextReading (List Calendar)). events
-    >>= λ held. job_with (has_timer lines) name (first_unit (effects_from false lines)) held (delay_of (settings_from false lines)))
-    (events_by_entries zones 0 [] (effects_from false lines) refl)
-
-of_text :
-    (zones : Zones) (name : List ℕ) (text : TextReading (List ℕ)) →
-    (text >>= λ t. timer_of_lines zones name (map (λ line. (line.0, trimmed line.1)) (whole_lines t)))
-    ≡ (text >>= λ t. lines_by_entries zones name (map (λ line. (line.0, trimmed line.1)) (whole_lines t)))
-of_text zones name (Ok text) = of_lines zones name (map (λ line. (line.0, trimmed line.1)) (whole_lines text))
-of_text zones name (Err fault) = refl
-
-pub timer_law : (zones : Zones) (name bytes : List ℕ) → timer_reading zones name bytes ≡ timer_by_entries zones name bytes
-timer_law zones name bytes =
-    ap (λ (read : TextReading JobParts). cond (is_timer_name name) read (on_line 0 (Err BadTimerName)))
-    (of_text zones name (text_reading bytes))
-
--- ---- the loop
+use Rattle.plan_rules.specs.LineFaults.{TextReading}
+use Rattle.plan_rules.specs.FileText.{text_reading}
+use Rattle.plan_rules.specs.Timer.{effects_from, has_timer, inside_after, section_name}
+use Rattle.plan_rules.specs.TimerEntries.{Draft, EventCount, TimerState, count_from, draft_after, draft_from, line_in, state_after, steps_from, timer_lines}
 
 -- the remaining lines begin with the next one
 pub lines_more :
@@ -103,6 +32,15 @@ pub count_step :
     count_from after.count (effects_from after.inside more) ≡ whole
 count_step state after line more whole after_is so_far =
     ap (λ (s : TimerState). count_from s.count (effects_from s.inside more)) after_is ∙ so_far
+
+-- what the lines say of the job
+pub draft_step :
+    (before next : Draft) (state after : TimerState) (line : ℕ × List ℕ) (more : List (ℕ × List ℕ)) (whole : Draft) →
+    next ≡ draft_after before (line_in state line) → after ≡ state_after state line.1 →
+    draft_from before (steps_from state.zones state.count (effects_from state.inside (line ∷ more))) ≡ whole →
+    draft_from next (steps_from after.zones after.count (effects_from after.inside more)) ≡ whole
+draft_step before next state after line more whole is after_is so_far =
+    (λ i. draft_from (is i) (steps_from (after_is i).zones (after_is i).count (effects_from (after_is i).inside more))) ∙ so_far
 
 -- the whole lines of a file, by its text
 pub lines_of_file :

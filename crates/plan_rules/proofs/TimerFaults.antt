@@ -1,26 +1,30 @@
 -- Which errors a timer file has, and what is known of its name and its lines: for `timer` and `service_name`.
--- `lines_fault` follows the definition: after each step all errors are of a line.
-use Rattle.std.proofs.Common.{◌≡◌, ℕ, ◌+◌, ◌-◌, ◌≤◌, Bool, true, false, nat_lt, nat_le, nat_eq, List, [], ◌∷◌, ◌++◌, length, drop, get_or, map, codes, Option, Ok, Err, IfErr, string_bytes, refl, ap, sym, ◌∙◌, arith}
+-- `own_lines` follows the definition: after each step all errors are of a line.
+use Rattle.std.proofs.Common.{◌≡◌, ℕ, ◌+◌, ◌-◌, ◌≤◌, Bool, true, false, cond, nat_lt, nat_le, nat_eq, List, [], ◌∷◌, length, drop, get_or, map, codes, Option, Ok, Err, IfErr, string_bytes, refl, ap, sym, ◌∙◌, arith}
 use Rattle.std.proofs.lemmas.Bool.{and_parts, leb-true}
 use Rattle.std.proofs.lemmas.List.{get_or-drop}
 use Rattle.std.proofs.lemmas.Str.{IsCharBoundary-before_ascii}
 use Rattle.std.specs.Cmp.Lexicographic.{bytes_decides}
-use Rattle.std.specs.List.{ends_with}
+use Rattle.std.specs.List.{cons_option, ends_with}
 use Rattle.std.specs.Str.{IsCharBoundary}
 use Rattle.plan_match.specs.declared.event.Calendar.{Calendar}
+use Rattle.plan_rules.specs.declared.entry.Entry.{Entry}
 use Rattle.plan_rules.specs.declared.line_fault.LineCause.TheVariants.{NoTimerSection, TooManyLines}
 use Rattle.plan_rules.specs.Limits.{most_events}
 use Rattle.plan_texts.specs.declared.whole_lines.WholeLine.{WholeLine}
 use Rattle.plan_grammar.specs.Event.{event_reading}
 use Rattle.plan_grammar.specs.EventZones.{Zones}
-use Rattle.plan_rules.specs.LineFaults.{in_line, on_line}
+use Rattle.plan_rules.specs.LineFaults.{LineReading, TextReading, in_line, want_of_memory}
+use Rattle.plan_rules.specs.Entries.{entry_at, faults_of, unless_faulty}
 use Rattle.plan_rules.specs.FileText.{text_reading}
 use Rattle.plan_rules.specs.Job.{JobParts}
 use Rattle.plan_texts.specs.WholeLines.{whole_lines, whole_text, trimmed}
-use Rattle.plan_rules.specs.Timer.{Effect, Reset, Event, Starts, Nothing, is_timer_name, effects_from, has_timer, added_event, events_from, first_unit, job_with, settings_from, timer_of_lines, timer_reading}
+use Rattle.plan_rules.specs.Timer.{Effect, Reset, Event, Starts, Nothing, is_timer_name, effects_from, has_timer, job_with, settings_from}
 use Rattle.plan_rules.specs.TimerDelays.{delay_of}
-use Rattle.plan_texts.specs.EachLaws.{err_steps, err_choice}
-use Rattle.plan_rules.proofs.CrontabFaults.{IsLineCause, IsOwnFault, rule_in, on}
+use Rattle.plan_rules.specs.TimerEntries.{EventCount, after_event_text, count_after, Has, Idle, entries_from, entry_of, lines_draft, no_events, timer_of_lines, timer_reading}
+use Rattle.plan_texts.specs.EachLaws.{err_steps}
+use Rattle.plan_texts.specs.Steps.{GivesUnless}
+use Rattle.plan_rules.proofs.CrontabFaults.{IsLineCause, IsOwnFault, answered, rule_in, on, refused_first}
 
 -- ---- the name
 
@@ -45,21 +49,26 @@ boundary_of_name name is =
 
 -- ---- the lines
 
-event_fault : (zones : Zones) (held : List Calendar) (text : List ℕ) → IfErr (added_event zones held text) IsLineCause
-event_fault zones held text =
-    err_choice IsLineCause (nat_lt (length held) most_events) (in_line (event_reading zones text)) (Err TooManyLines)
-    (rule_in (event_reading zones text)) tt
+event_fault :
+    {A : Type 0} (room told : Bool) (number : ℕ) (read : LineReading Calendar) (more : List (Entry Calendar)) (x : A) →
+    IfErr read IsLineCause → IfErr (unless_faulty (faults_of more) x) IsOwnFault →
+    IfErr (unless_faulty (faults_of (cons_option (entry_of (cond room (Has (entry_at number read))
+    (cond told Idle (Has (entry_at number (Err TooManyLines)))))) more)) x) IsOwnFault
+event_fault true told number read more x own later = refused_first number read (faults_of more) x own later
+event_fault false true number read more x own later = later
+event_fault false false number read more x own later = refused_first {A = Calendar} number (Err TooManyLines) (faults_of more) x tt later
 
-events_fault :
-    (zones : Zones) (held : List Calendar) (effects : List (ℕ × Effect)) → IfErr (events_from zones held effects) IsOwnFault
-events_fault zones held [] = tt
-events_fault zones held ((number, Reset) ∷ more) = events_fault zones [] more
-events_fault zones held ((number, Event text) ∷ more) =
-    err_steps IsOwnFault (on_line number (added_event zones held text)) _
-    (on number (added_event zones held text) (event_fault zones held text))
-    (λ event. events_fault zones (held ++ event ∷ []) more)
-events_fault zones held ((number, Starts unit) ∷ more) = events_fault zones held more
-events_fault zones held ((number, Nothing) ∷ more) = events_fault zones held more
+entries_fault :
+    {A : Type 0} (zones : Zones) (count : EventCount) (effects : List (ℕ × Effect)) (x : A) →
+    IfErr (unless_faulty (faults_of (entries_from zones count effects)) x) IsOwnFault
+entries_fault zones count [] x = tt
+entries_fault zones count ((number, Event text) ∷ more) x =
+    event_fault (nat_lt count.held most_events) count.told number (in_line (event_reading zones text))
+    (entries_from zones (after_event_text count) more) x (rule_in (event_reading zones text))
+    (entries_fault zones (after_event_text count) more x)
+entries_fault zones count ((number, Reset) ∷ more) x = entries_fault zones (count_after count Reset) more x
+entries_fault zones count ((number, Starts unit) ∷ more) x = entries_fault zones count more x
+entries_fault zones count ((number, Nothing) ∷ more) x = entries_fault zones count more x
 
 job_fault :
     (found : Bool) (name : List ℕ) (unit : Option (List ℕ)) (events : List Calendar) (delay : ℕ) →
@@ -68,10 +77,14 @@ job_fault true name unit events delay = tt
 job_fault false name unit events delay = on {A = JobParts} 0 (Err NoTimerSection) tt
 
 -- every error of a timer's lines is of a line
-pub lines_fault : (zones : Zones) (name : List ℕ) (lines : List (ℕ × List ℕ)) → IfErr (timer_of_lines zones name lines) IsOwnFault
-lines_fault zones name lines =
-    err_steps IsOwnFault (events_from zones [] (effects_from false lines)) _ (events_fault zones [] (effects_from false lines))
-    (λ events. job_fault (has_timer lines) name (first_unit (effects_from false lines)) events (delay_of (settings_from false lines)))
+pub own_lines :
+    (answer : TextReading JobParts) (zones : Zones) (name : List ℕ) (lines : List (ℕ × List ℕ)) →
+    GivesUnless want_of_memory (λ job. job) answer (timer_of_lines zones name lines) → IfErr answer IsOwnFault
+own_lines answer zones name lines gives =
+    answered (λ job. job) answer (timer_of_lines zones name lines) gives
+    (err_steps IsOwnFault (unless_faulty (faults_of (entries_from zones no_events (effects_from false lines))) (lines_draft zones lines)) _
+    (entries_fault zones no_events (effects_from false lines) (lines_draft zones lines))
+    (λ draft. job_fault (has_timer lines) name draft.unit draft.events (delay_of (settings_from false lines))))
 
 -- ---- the bytes
 

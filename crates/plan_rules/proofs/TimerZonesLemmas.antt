@@ -1,6 +1,6 @@
 -- Only the zones with the names of `timer_zones` matter: for the law `only_named_zones_matter`.
 -- An event looks for the clock of its own zone alone (`same_event`). The rest is induction over what the lines do.
-use Rattle.std.proofs.Common.{◌≡◌, ℕ, Bool, true, false, not, ◌||◌, if◌then◌else◌, cond, List, [], ◌∷◌, ◌++◌, length, nat_lt, find, map, ok_or, option_and_then, Option, Some, None, Ok, Err, true≢false, refl, ap, sym, ◌∙◌}
+use Rattle.std.proofs.Common.{◌≡◌, ℕ, Bool, true, false, not, ◌||◌, if◌then◌else◌, cond, List, [], ◌∷◌, nat_lt, find, ok_or, option_and_then, Option, Some, None, Ok, Err, true≢false, refl, ap, sym, ◌∙◌}
 use Rattle.std.proofs.lemmas.Bool.{and_parts}
 use Rattle.std.specs.Char.{is_ascii}
 use Rattle.std.specs.Cmp.Lexicographic.{bytes_decides}
@@ -8,7 +8,6 @@ use Rattle.std.specs.List.{cons_option, filter_map, list_all}
 use Rattle.std.specs.Option.{option_map}
 use Rattle.std.specs.Str.{bytes_eq}
 use Rattle.plan_clock.specs.declared.row.Change.{Change}
-use Rattle.plan_match.specs.declared.event.Calendar.{Calendar}
 use Rattle.plan_grammar.specs.declared.NamedZone.{NamedZone}
 use Rattle.plan_grammar.specs.declared.RuleCause.TheVariants.{Specifier, UnknownZone}
 use Rattle.plan_grammar.specs.Event.{cut_reading, event_reading, has_specifier, in_own_zone, words_reading, zone_cut, zone_name, zoneless}
@@ -16,14 +15,14 @@ use Rattle.plan_grammar.specs.EventZones.{clock_named, is_utc, name_in_database,
 use Rattle.plan_grammar.specs.Readings.{Reading, refused}
 use Rattle.plan_texts.specs.Steps.{◌>>=◌}
 use Rattle.plan_texts.specs.Text.{words}
-use Rattle.plan_texts.specs.WholeLines.{trimmed, whole_lines}
 use Rattle.plan_rules.specs.declared.line_fault.LineCause.TheVariants.{BadTimerName, TooManyLines}
-use Rattle.plan_rules.specs.FileText.{text_reading}
+use Rattle.plan_rules.specs.Entries.{entry_at, faults_of, unless_faulty}
 use Rattle.plan_rules.specs.Job.{JobParts}
 use Rattle.plan_rules.specs.Limits.{most_events}
 use Rattle.plan_rules.specs.LineFaults.{TextReading, in_line, on_line}
-use Rattle.plan_rules.specs.Timer.{Effect, Reset, Event, Starts, Nothing, effects_from, events_from, first_unit, has_timer, is_timer_name, job_with, settings_from, timer_of_lines, timer_reading}
+use Rattle.plan_rules.specs.Timer.{Effect, Reset, Event, Starts, Nothing, effects_from, has_timer, is_timer_name, job_with, settings_from}
 use Rattle.plan_rules.specs.TimerDelays.{delay_of}
+use Rattle.plan_rules.specs.TimerEntries.{EventCount, LineStep, Idle, Empties, Has, Names, after_event_text, count_after, draft_from, entry_of, no_draft, no_events, steps_from, timer_lines, timer_of_lines, timer_reading}
 use Rattle.plan_rules.specs.TimerZones.{HaveSameClocks, are_ascii, effect_zone, lines_zones, timer_zones}
 
 -- the clocks for a name are the same, if there is a name
@@ -96,34 +95,36 @@ same_event zones others text first second same =
 
 -- ---- the lines
 
-same_events :
-    (zones others : List NamedZone) (held : List Calendar) (effects : List (ℕ × Effect)) → are_ascii zones ≡ true →
+same_steps :
+    (zones others : List NamedZone) (count : EventCount) (effects : List (ℕ × Effect)) → are_ascii zones ≡ true →
     are_ascii others ≡ true → HaveSameClocks zones others (filter_map (λ effect. effect_zone effect.1) effects) →
-    events_from (Some zones) held effects ≡ events_from (Some others) held effects
-same_events zones others held [] first second same = refl
-same_events zones others held ((number, Reset) ∷ more) first second same = same_events zones others [] more first second same
-same_events zones others held ((number, Event text) ∷ more) first second same =
-    let left = filter_map (λ (effect : ℕ × Effect). effect_zone effect.1) more in
-    let both = first_same zones others (zone_name text) left same in
-    (λ i. on_line number (cond (nat_lt (length held) most_events) (in_line (same_event zones others text first second both.0 i))
-    (Err TooManyLines)) >>= λ event. same_events zones others (held ++ event ∷ []) more first second both.1 i)
-same_events zones others held ((number, Starts unit) ∷ more) first second same = same_events zones others held more first second same
-same_events zones others held ((number, Nothing) ∷ more) first second same = same_events zones others held more first second same
+    steps_from (Some zones) count effects ≡ steps_from (Some others) count effects
+same_steps zones others count [] first second same = refl
+same_steps zones others count ((number, Event text) ∷ more) first second same =
+    let both = first_same zones others (zone_name text) (filter_map (λ (effect : ℕ × Effect). effect_zone effect.1) more) same in
+    (λ i. cond (nat_lt count.held most_events) (Has (entry_at number (in_line (same_event zones others text first second both.0 i))))
+    (cond count.told Idle (Has (entry_at number (Err TooManyLines))))
+    ∷ same_steps zones others (after_event_text count) more first second both.1 i)
+same_steps zones others count ((number, Reset) ∷ more) first second same =
+    ap (λ steps. Empties ∷ steps) (same_steps zones others (count_after count Reset) more first second same)
+same_steps zones others count ((number, Starts unit) ∷ more) first second same =
+    ap (λ steps. Names unit ∷ steps) (same_steps zones others count more first second same)
+same_steps zones others count ((number, Nothing) ∷ more) first second same =
+    ap (λ steps. Idle ∷ steps) (same_steps zones others count more first second same)
 
-same_text :
-    (zones others : List NamedZone) (name : List ℕ) (text : TextReading (List ℕ)) (f : List ℕ → List (ℕ × List ℕ)) →
-    are_ascii zones ≡ true → are_ascii others ≡ true → HaveSameClocks zones others (lines_zones (text >>= λ t. Ok (f t))) →
-    (text >>= λ t. timer_of_lines (Some zones) name (f t)) ≡ (text >>= λ t. timer_of_lines (Some others) name (f t))
-same_text zones others name (Err fault) f first second same = refl
-same_text zones others name (Ok text) f first second same =
-    ap (λ (events : TextReading (List Calendar)). events
-    >>= λ held. job_with (has_timer (f text)) name (first_unit (effects_from false (f text))) held
-    (delay_of (settings_from false (f text))))
-    (same_events zones others [] (effects_from false (f text)) first second same)
+same_lines :
+    (zones others : List NamedZone) (name : List ℕ) (lines : TextReading (List (ℕ × List ℕ))) → are_ascii zones ≡ true →
+    are_ascii others ≡ true → HaveSameClocks zones others (lines_zones lines) →
+    (lines >>= λ ls. timer_of_lines (Some zones) name ls) ≡ (lines >>= λ ls. timer_of_lines (Some others) name ls)
+same_lines zones others name (Err fault) first second same = refl
+same_lines zones others name (Ok lines) first second same =
+    ap (λ (steps : List LineStep). unless_faulty (faults_of (filter_map entry_of steps)) (draft_from no_draft steps)
+    >>= λ draft. job_with (has_timer lines) name draft.unit draft.events (delay_of (settings_from false lines)))
+    (same_steps zones others no_events (effects_from false lines) first second same)
 
 pub zones_law :
     (zones others : List NamedZone) (name bytes : List ℕ) → are_ascii zones ≡ true → are_ascii others ≡ true →
     HaveSameClocks zones others (timer_zones bytes) → timer_reading (Some zones) name bytes ≡ timer_reading (Some others) name bytes
 zones_law zones others name bytes first second same =
     ap (λ (read : TextReading JobParts). cond (is_timer_name name) read (on_line 0 (Err BadTimerName)))
-    (same_text zones others name (text_reading bytes) (λ t. map (λ line. (line.0, trimmed line.1)) (whole_lines t)) first second same)
+    (same_lines zones others name (timer_lines bytes) first second same)

@@ -1,17 +1,17 @@
 -- The meaning of a crontab (crontab(5)): the jobs of its lines, or its first error with its line.
-use Rattle.std.specs.Prelude.{ℕ, ◌+◌, Bool, ◌||◌, ◌==◌, if◌then◌else◌, List, [], ◌∷◌, ◌++◌, length, codes, Option, Some, None, Ok, Err}
+use Rattle.std.specs.Prelude.{ℕ, ◌+◌, Bool, ◌||◌, ◌==◌, if◌then◌else◌, List, ◌++◌, length, codes, Option, Some, None, Ok, Err}
 use Rattle.std.specs.Char.{is_ascii_alphabetic}
 use Rattle.std.specs.Fmt.{decimal}
-use Rattle.std.specs.List.{list_any, filter_map, enumerate_from}
+use Rattle.std.specs.List.{list_any, filter_map, enumerate_from, slice_get}
 use Rattle.std.specs.Str.{byte}
 use Rattle.plan_rules.specs.declared.crontabs.Kind.{Kind}
 use Rattle.plan_rules.specs.declared.crontabs.Kind.TheVariants.{User, System}
 use Rattle.plan_rules.specs.declared.entry.Entry.{Entry}
 use Rattle.plan_rules.specs.declared.line_fault.LineCause.TheVariants.{BadSetting, NoCommand}
-use Rattle.plan_texts.specs.Steps.{◌>>=◌, each}
+use Rattle.plan_texts.specs.Steps.{◌>>=◌}
 use Rattle.plan_grammar.specs.Cron.{rule_in_front}
 use Rattle.plan_texts.specs.Lines.{lines, after_blanks, cut_word}
-use Rattle.plan_rules.specs.LineFaults.{LineReading, TextReading, in_line, on_line}
+use Rattle.plan_rules.specs.LineFaults.{LineReading, TextReading, in_line}
 use Rattle.plan_rules.specs.Entries.{entry_on, meant_by}
 use Rattle.plan_rules.specs.FileText.{text_reading}
 use Rattle.plan_rules.specs.Job.{JobParts}
@@ -63,38 +63,20 @@ abbrev pub setting_reading : List ℕ → LineReading (Option JobParts)
 setting_reading text = if list_any (λ b. b == byte "=") text then Ok None else Err BadSetting
 
 -- a line without leading blanks: by its first character it is empty, a comment, a setting, or else a job (crontab(5))
-abbrev pub entry_reading : (label : List ℕ) → Kind → ℕ → List ℕ → LineReading (Option JobParts)
-entry_reading label kind number [] = Ok None
-entry_reading label kind number (first ∷ rest) =
+abbrev pub entry_reading : (label : List ℕ) → Kind → ℕ → List ℕ → (first : Option ℕ) → LineReading (Option JobParts)
+entry_reading label kind number text None = Ok None
+entry_reading label kind number text (Some first) =
     if first == byte "#" then Ok None
-    else (if begins_setting first then setting_reading (first ∷ rest)
+    else (if begins_setting first then setting_reading text
     else (do
-      job ← job_reading label kind number (first ∷ rest)
+      job ← job_reading label kind number text
       Ok (Some job)))
 
 -- a line; its leading blanks are ignored (crontab(5))
 unfoldable pub line_reading : (label : List ℕ) → Kind → ℕ → List ℕ → LineReading (Option JobParts)
-line_reading label kind number line = entry_reading label kind number (after_blanks line)
+line_reading label kind number line = entry_reading label kind number (after_blanks line) (slice_get (after_blanks line) 0)
 
 -- ---- a crontab
-
--- the meaning of the line at a position, from 0; its number counts from 1 (agenda)
-abbrev pub numbered_reading : (label : List ℕ) → Kind → ℕ × List ℕ → TextReading (Option JobParts)
-numbered_reading label kind line = on_line (line.0 + 1) (line_reading label kind (line.0 + 1) (line.1))
-
--- the jobs of the lines in order, or the error of the first bad line (agenda)
-unfoldable pub jobs_reading : (label : List ℕ) → Kind → List (List ℕ) → TextReading (List JobParts)
-jobs_reading label kind lines = do
-  found ← each (numbered_reading label kind) (enumerate_from 0 lines)
-  Ok (filter_map (λ job. job) found)
-
--- the meaning of a crontab: its bytes are checked first, then its lines are read (agenda)
-abbrev pub crontab_reading : (label : List ℕ) → Kind → List ℕ → TextReading (List JobParts)
-crontab_reading label kind bytes = do
-  text ← text_reading bytes
-  jobs_reading label kind (lines text)
-
--- ---- the lines of a crontab, each by itself
 
 -- the entry of the line at a position, from 0, if it has one (agenda)
 abbrev pub line_entry : (label : List ℕ) → Kind → ℕ × List ℕ → Option (Entry JobParts)
@@ -104,14 +86,9 @@ line_entry label kind line = entry_on (line.0 + 1) (line_reading label kind (lin
 unfoldable pub entries_of_lines : (label : List ℕ) → Kind → List (List ℕ) → List (Entry JobParts)
 entries_of_lines label kind lines = filter_map (line_entry label kind) (enumerate_from 0 lines)
 
--- the entries of a crontab: its bytes are checked first (agenda)
-abbrev pub crontab_entries : (label : List ℕ) → Kind → List ℕ → TextReading (List (Entry JobParts))
-crontab_entries label kind bytes = do
+-- the meaning of a crontab: its bytes are checked first; then it is the jobs of its lines, or the error of the first rejected
+-- line (agenda)
+abbrev pub crontab_reading : (label : List ℕ) → Kind → List ℕ → TextReading (List JobParts)
+crontab_reading label kind bytes = do
   text ← text_reading bytes
-  Ok (entries_of_lines label kind (lines text))
-
--- the meaning of a crontab by its entries: their jobs, or the first error (agenda)
-abbrev pub crontab_by_entries : (label : List ℕ) → Kind → List ℕ → TextReading (List JobParts)
-crontab_by_entries label kind bytes = do
-  entries ← crontab_entries label kind bytes
-  meant_by entries
+  meant_by (entries_of_lines label kind (lines text))

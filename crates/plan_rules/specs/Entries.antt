@@ -20,13 +20,13 @@ entry_on number (Ok (Some x)) = Some (entry_at number (Ok x))
 entry_on number (Err cause) = Some (entry_at number (Err cause))
 
 -- the error of a line with this number, if it is rejected
-abbrev pub refusal_on : {A : Type 0} → ℕ → LineReading A → Option LineFault
-refusal_on number (Ok x) = None
-refusal_on number (Err cause) = Some (fault_on_line number cause)
+abbrev pub fault_on : {A : Type 0} → ℕ → LineReading A → Option LineFault
+fault_on number (Ok x) = None
+fault_on number (Err cause) = Some (fault_on_line number cause)
 
 -- the error of an entry, if its line is rejected
-abbrev pub refusal_of : {A : Type 0} → Entry A → Option LineFault
-refusal_of entry = refusal_on entry.line entry.read
+abbrev pub fault_of : {A : Type 0} → Entry A → Option LineFault
+fault_of entry = fault_on entry.line entry.read
 
 -- what an entry says, unless its line is rejected
 abbrev pub given_of : {A : Type 0} → Entry A → Option A
@@ -35,18 +35,18 @@ given_of entry = result_ok entry.read
 -- ---- all lines
 
 -- the errors of all rejected lines, in order
-abbrev pub refusals : {A : Type 0} → List (Entry A) → List LineFault
-refusals entries = filter_map refusal_of entries
+abbrev pub faults_of : {A : Type 0} → List (Entry A) → List LineFault
+faults_of entries = filter_map fault_of entries
 
 -- what the valid lines say, in order
 abbrev pub given : {A : Type 0} → List (Entry A) → List A
 given entries = filter_map given_of entries
 
 -- a text is rejected with the first error of its lines; without one it has this meaning
-abbrev pub unless_refused : {A : Type 0} → List LineFault → A → TextReading A
-unless_refused [] x = Ok x
-unless_refused (fault ∷ more) x = Err fault
+abbrev pub unless_faulty : {A : Type 0} → List LineFault → A → TextReading A
+unless_faulty [] x = Ok x
+unless_faulty (fault ∷ more) x = Err fault
 
 -- the meaning of a text by the entries of its lines
 abbrev pub meant_by : {A : Type 0} → List (Entry A) → TextReading (List A)
-meant_by entries = unless_refused (refusals entries) (given entries)
+meant_by entries = unless_faulty (faults_of entries) (given entries)

@@ -23,7 +23,6 @@ pub mod Zone
 pub mod TimerDelays
 pub mod Timer
 pub mod TimerEntries
-pub mod TimerSteps
 pub mod Names
 pub mod TimerZones
 pub mod Causes

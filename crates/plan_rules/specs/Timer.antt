@@ -1,24 +1,21 @@
--- The meaning of a timer file (systemd.timer(5), systemd.syntax(7)): its job, or its first error with its line.
-use Rattle.std.specs.Prelude.{ℕ, ◌-◌, Bool, false, ◌&&◌, ◌||◌, ◌==◌, nat_le, nat_lt, nat_eq, if◌then◌else◌, List, [], ◌∷◌, ◌++◌, length, take, map, codes, Option, Some, None, is_none, Ok, Err, unwrap_or}
+-- What the lines of a timer file say (systemd.timer(5), systemd.syntax(7)), and what the job of the file is.
+use Rattle.std.specs.Prelude.{ℕ, ◌-◌, Bool, false, ◌&&◌, ◌||◌, ◌==◌, nat_le, nat_lt, nat_eq, if◌then◌else◌, List, [], ◌∷◌, ◌++◌, length, take, codes, Option, Some, None, Ok, Err, unwrap_or}
 use Rattle.std.specs.Char.{is_ascii_alphabetic, is_ascii_digit}
 use Rattle.std.specs.List.{cons_option, list_any, list_all, slice_index, slice_range, ends_with, position_or_len, before_first, after_first}
 use Rattle.std.specs.Option.{option_map_or}
 use Rattle.std.specs.Str.{byte, bytes_eq}
 use Rattle.plan_match.specs.declared.event.Calendar.{Calendar}
-use Rattle.plan_rules.specs.declared.line_fault.LineCause.TheVariants.{BadTimerName, NoTimerSection, TooManyLines}
+use Rattle.plan_rules.specs.declared.line_fault.LineCause.TheVariants.{NoTimerSection}
 use Rattle.plan_match.specs.declared.rule.Rule.TheVariants.{Events}
-use Rattle.plan_rules.specs.declared.timer_lines.Key.{Key}
-use Rattle.plan_rules.specs.declared.timer_lines.Key.TheVariants.{OnCalendar, Monotonic, UnitName, OtherKey}
-use Rattle.plan_rules.specs.Limits.{least_name, most_name, most_events}
+use Rattle.plan_rules.specs.declared.timer_lines.LineEffect.{LineEffect}
+use Rattle.plan_rules.specs.declared.timer_lines.LineEffect.TheVariants as does
+use Rattle.plan_rules.specs.declared.timer_lines.Sections.{Sections}
+use Rattle.plan_rules.specs.Limits.{least_name, most_name}
 use Rattle.plan_texts.specs.Text.{begins_with}
-use Rattle.plan_texts.specs.Steps.{◌>>=◌}
-use Rattle.plan_grammar.specs.Event.{event_reading}
-use Rattle.plan_grammar.specs.EventZones.{Zones}
-use Rattle.plan_rules.specs.LineFaults.{LineReading, TextReading, in_line, on_line}
-use Rattle.plan_rules.specs.FileText.{text_reading}
+use Rattle.plan_rules.specs.LineFaults.{TextReading, on_line}
 use Rattle.plan_rules.specs.Job.{JobParts}
-use Rattle.plan_rules.specs.TimerDelays.{Setting, delay_of}
-use Rattle.plan_texts.specs.WholeLines.{whole_lines, trimmed}
+use Rattle.plan_rules.specs.TimerDelays.{Setting}
+use Rattle.plan_texts.specs.WholeLines.{trimmed}
 
 -- ---- the name
 
@@ -68,12 +65,11 @@ monotonic_keys =
     codes "OnActiveSec" ∷ codes "OnBootSec" ∷ codes "OnStartupSec" ∷ codes "OnUnitActiveSec"
     ∷ codes "OnUnitInactiveSec" ∷ []
 
--- the kind of a setting; keys are compared exactly (systemd.syntax(7))
-unfoldable pub key_of : List ℕ → Key
-key_of text =
-    if bytes_eq text (codes "OnCalendar") then OnCalendar
-    else (if list_any (bytes_eq text) monotonic_keys then Monotonic
-    else (if bytes_eq text (codes "Unit") then UnitName else OtherKey))
+-- a setting empties the list of the times at which the timer elapses: a time setting without a value (systemd.timer(5),
+-- `OnCalendar=`); keys are compared exactly (systemd.syntax(7))
+abbrev pub is_reset : Setting → Bool
+is_reset setting =
+    (bytes_eq setting.0 (codes "OnCalendar") || list_any (bytes_eq setting.0) monotonic_keys) && (length setting.1 == 0)
 
 -- what a line does: it empties the list of events, adds an event to it, names the unit that is started, or does nothing
 -- (systemd.timer(5))
@@ -83,13 +79,20 @@ pub data Effect : Type 0 where
   Starts : (unit : List ℕ) → Effect
   Nothing : Effect
 
--- what a setting does: an empty value of a time setting empties the list (systemd.timer(5)); an empty unit and the times of
--- monotonic timers are ignored (agenda)
-abbrev pub effect_of : Key → List ℕ → Effect
-effect_of OnCalendar value = if length value == 0 then Reset else Event value
-effect_of Monotonic value = if length value == 0 then Reset else Nothing
-effect_of UnitName value = if length value == 0 then Nothing else Starts value
-effect_of OtherKey value = Nothing
+-- what a line does, as the code says it
+abbrev pub effect_shown : LineEffect → Effect
+effect_shown does.Reset = Reset
+effect_shown (does.Event text) = Event text.now
+effect_shown (does.Starts unit) = Starts unit.now
+effect_shown does.Nothing = Nothing
+
+-- what a setting does; an empty unit and the times of monotonic timers are ignored (agenda)
+unfoldable pub effect_of : Setting → Effect
+effect_of setting =
+    if is_reset setting then Reset
+    else (if length setting.1 == 0 then Nothing
+    else (if bytes_eq setting.0 (codes "OnCalendar") then Event setting.1
+    else (if bytes_eq setting.0 (codes "Unit") then Starts setting.1 else Nothing)))
 
 -- ---- what the lines do
 
@@ -97,15 +100,28 @@ effect_of OtherKey value = Nothing
 abbrev pub inside_after : Bool → Option (List ℕ) → Bool
 inside_after inside section = option_map_or is_timer section inside
 
+-- the sections after a line, by the section that it begins
+abbrev pub sections_after : Sections → Option (List ℕ) → Sections
+sections_after sections section = record {
+  inside = inside_after sections.inside section;
+  found = sections.found || inside_after false section;
+}
+
 -- what a line does, by its section or its setting: only settings in a `[Timer]` section have an effect (systemd.syntax(7))
 abbrev pub line_effect : Bool → Option (List ℕ) → Option (List ℕ × List ℕ) → Effect
 line_effect inside (Some section) setting = Nothing
 line_effect inside None None = Nothing
-line_effect inside None (Some setting) = if inside then effect_of (key_of (setting.0)) (setting.1) else Nothing
+line_effect inside None (Some setting) = if inside then effect_of setting else Nothing
+
+-- the setting of a line, by the section that it begins and by what it says; only those in a `[Timer]` section count
+-- (systemd.syntax(7))
+abbrev pub setting_in : (inside : Bool) → (section : Option (List ℕ)) → (setting : Option Setting) → Option Setting
+setting_in inside (Some section) setting = None
+setting_in inside None setting = if inside then setting else None
 
 -- the key and the value of a line in a `[Timer]` section; a line that begins a section has none (systemd.syntax(7))
 abbrev pub timer_setting : Bool → List ℕ → Option Setting
-timer_setting inside text = if inside && is_none (section_name text) then setting_of text else None
+timer_setting inside text = setting_in inside (section_name text) (setting_of text)
 
 -- the settings in the `[Timer]` sections of lines, in order; the first line is in such a section if `inside` (systemd.syntax(7))
 abbrev pub settings_from : (inside : Bool) → List (ℕ × List ℕ) → List Setting
@@ -124,34 +140,7 @@ effects_from inside (line ∷ more) =
 abbrev pub has_timer : List (ℕ × List ℕ) → Bool
 has_timer lines = list_any (λ line. inside_after false (section_name (line.1))) lines
 
--- ---- the events, and the unit that is started
-
--- the event that a text adds to a list, where events may name these zones; a list that already has 64 is an error, before the
--- text is read (agenda)
-abbrev pub added_event : Zones → List Calendar → List ℕ → LineReading Calendar
-added_event zones held text =
-    if nat_lt (length held) most_events then in_line (event_reading zones text) else Err TooManyLines
-
--- the events that lines add to a list: those after the last reset (systemd.timer(5), `OnCalendar=`); the first error decides,
--- even if a later line empties the list (agenda)
-abbrev pub events_from : Zones → List Calendar → List (ℕ × Effect) → TextReading (List Calendar)
-events_from zones held [] = Ok held
-events_from zones held ((number, Reset) ∷ more) = events_from zones [] more
-events_from zones held ((number, Event text) ∷ more) = do
-  event ← on_line number (added_event zones held text)
-  events_from zones (held ++ event ∷ []) more
-events_from zones held ((number, Starts unit) ∷ more) = events_from zones held more
-events_from zones held ((number, Nothing) ∷ more) = events_from zones held more
-
--- the first unit that is named (agenda)
-abbrev pub first_unit : List (ℕ × Effect) → Option (List ℕ)
-first_unit [] = None
-first_unit ((number, Reset) ∷ more) = first_unit more
-first_unit ((number, Event text) ∷ more) = first_unit more
-first_unit ((number, Starts unit) ∷ more) = Some unit
-first_unit ((number, Nothing) ∷ more) = first_unit more
-
--- ---- a timer file
+-- ---- the job
 
 -- the job of a timer, from its name, the unit that it names, its events, and its delay (systemd.timer(5))
 abbrev pub timer_job : List ℕ → Option (List ℕ) → List Calendar → (delay : ℕ) → JobParts
@@ -164,19 +153,3 @@ job_with found name unit events delay =
     if found
     then Ok (timer_job name unit events delay)
     else on_line 0 (Err NoTimerSection)
-
--- the job of a timer's whole lines, without blanks at their ends; a missing `[Timer]` section is the last error to be found (agenda)
-abbrev pub timer_of_lines : Zones → (name : List ℕ) → List (ℕ × List ℕ) → TextReading JobParts
-timer_of_lines zones name lines = do
-  events ← events_from zones [] (effects_from false lines)
-  job_with (has_timer lines) name (first_unit (effects_from false lines)) events (delay_of (settings_from false lines))
-
--- the meaning of a timer file whose events may name these zones: its name is checked first, then its bytes, then its lines are
--- read (agenda)
-abbrev pub timer_reading : Zones → (name bytes : List ℕ) → TextReading JobParts
-timer_reading zones name bytes =
-    if is_timer_name name
-    then (do
-      text ← text_reading bytes
-      timer_of_lines zones name (map (λ line. (line.0, trimmed (line.1))) (whole_lines text)))
-    else on_line 0 (Err BadTimerName)

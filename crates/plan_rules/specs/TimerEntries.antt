@@ -1,9 +1,11 @@
--- What the lines of a timer file say of its events, each read by itself, and the state of the list of events while they are read.
-use Rattle.std.specs.Prelude.{ℕ, ◌+◌, Bool, false, true, ◌||◌, nat_lt, if◌then◌else◌, List, [], ◌∷◌, ◌++◌, map, Option, Some, None, Ok, Err, string_bytes}
-use Rattle.std.specs.List.{cons_option}
-use Rattle.std.specs.Result.{result_ok}
+-- What the lines of a timer file do to its job, each read by itself, and the meaning of the file (systemd.timer(5)): its job, or
+-- its first error with its line.
+use Rattle.std.specs.Prelude.{ℕ, ◌+◌, Bool, false, true, ◌||◌, nat_lt, if◌then◌else◌, List, [], ◌∷◌, ◌++◌, map, Option, Some, None, option_map, unwrap_or, Ok, Err, string_bytes}
+use Rattle.std.specs.List.{filter_map}
 use Rattle.plan_match.specs.declared.event.Calendar.{Calendar}
 use Rattle.plan_rules.specs.declared.entry.Entry.{Entry}
+use Rattle.plan_rules.specs.declared.line_fault.LineFault.{LineFault}
+use Rattle.plan_rules.specs.declared.timer_draft.TimerDraft.{TimerDraft}
 use Rattle.plan_rules.specs.declared.timer_events.TimerLine.{TimerLine}
 use Rattle.plan_rules.specs.declared.timer_events.TimerLine.TheVariants as does
 use Rattle.plan_rules.specs.declared.line_fault.LineCause.TheVariants.{BadTimerName, TooManyLines}
@@ -13,11 +15,11 @@ use Rattle.plan_texts.specs.declared.whole_lines.WholeLine.{WholeLine}
 use Rattle.plan_texts.specs.WholeLines.{whole_lines, trimmed}
 use Rattle.plan_grammar.specs.Event.{event_reading}
 use Rattle.plan_grammar.specs.EventZones.{Zones}
-use Rattle.plan_rules.specs.Entries.{entry_at, refusals, unless_refused}
+use Rattle.plan_rules.specs.Entries.{entry_at, fault_of, faults_of, unless_faulty}
 use Rattle.plan_rules.specs.FileText.{text_reading}
 use Rattle.plan_rules.specs.Job.{JobParts}
 use Rattle.plan_rules.specs.LineFaults.{LineReading, TextReading, in_line, on_line}
-use Rattle.plan_rules.specs.Timer.{Effect, Reset, Event, Starts, Nothing, effects_from, first_unit, has_timer, inside_after, is_timer_name, job_with, line_effect, section_name, setting_of, settings_from}
+use Rattle.plan_rules.specs.Timer.{Effect, Reset, Event, Starts, Nothing, effects_from, has_timer, inside_after, is_timer_name, job_with, line_effect, section_name, setting_of, settings_from}
 use Rattle.plan_rules.specs.TimerDelays.{delay_of}
 
 -- ---- the list of events, where a rejected event counts like a valid one (agenda)
@@ -30,13 +32,6 @@ pub record EventCount : Type 0 where
 -- the state before the first line
 abbrev pub no_events : EventCount
 no_events = record { held = 0; told = false }
-
--- the meaning of an event, which may name these zones; if the list already has 64, the event isn't read, and the first such event
--- of a file gets an error (agenda)
-abbrev pub event_by : Zones → EventCount → List ℕ → Option (LineReading Calendar)
-event_by zones count text =
-    if nat_lt count.held most_events then Some (in_line (event_reading zones text))
-    else (if count.told then None else Some (Err TooManyLines))
 
 -- the state after an event
 abbrev pub after_event_text : EventCount → EventCount
@@ -51,15 +46,17 @@ pub data LineStep : Type 0 where
   Has : Entry Calendar → LineStep
   Names : (unit : List ℕ) → LineStep
 
--- what the line with this number does, if an event was read of it
-abbrev pub event_line : ℕ → Option (LineReading Calendar) → LineStep
-event_line number None = Idle
-event_line number (Some reading) = Has (entry_at number reading)
+-- what the line with this number does by an event, which may name these zones: if the list already has 64, the event isn't read,
+-- and the first such event of a file gets an error (agenda)
+abbrev pub event_by : Zones → ℕ → EventCount → List ℕ → LineStep
+event_by zones number count text =
+    if nat_lt count.held most_events then Has (entry_at number (in_line (event_reading zones text)))
+    else (if count.told then Idle else Has (entry_at number (Err TooManyLines)))
 
--- the same, by its effect
+-- what the line with this number does, by its effect
 abbrev pub line_by : Zones → ℕ → EventCount → Effect → LineStep
 line_by zones number count Reset = Empties
-line_by zones number count (Event text) = event_line number (event_by zones count text)
+line_by zones number count (Event text) = event_by zones number count text
 line_by zones number count (Starts unit) = Names unit
 line_by zones number count Nothing = Idle
 
@@ -67,6 +64,11 @@ line_by zones number count Nothing = Idle
 abbrev pub entry_of : LineStep → Option (Entry Calendar)
 entry_of (Has entry) = Some entry
 entry_of other = None
+
+-- the error of a line, if it has an event that is rejected
+abbrev pub fault_in_line : LineStep → Option LineFault
+fault_in_line (Has entry) = fault_of entry
+fault_in_line other = None
 
 -- the state after a line; a reset empties the list (systemd.timer(5), `OnCalendar=`)
 abbrev pub count_after : EventCount → Effect → EventCount
@@ -77,11 +79,15 @@ count_after count Nothing = count
 
 -- ---- all lines
 
--- the entries of lines, by what the lines do, from a state of the list
+-- what lines do to the job, by their effects, from a state of the list
+abbrev pub steps_from : Zones → EventCount → List (ℕ × Effect) → List LineStep
+steps_from zones count [] = []
+steps_from zones count ((number, effect) ∷ more) =
+    line_by zones number count effect ∷ steps_from zones (count_after count effect) more
+
+-- the entries of the same lines
 abbrev pub entries_from : Zones → EventCount → List (ℕ × Effect) → List (Entry Calendar)
-entries_from zones count [] = []
-entries_from zones count ((number, effect) ∷ more) =
-    cons_option (entry_of (line_by zones number count effect)) (entries_from zones (count_after count effect) more)
+entries_from zones count effects = filter_map entry_of (steps_from zones count effects)
 
 -- the state after lines
 abbrev pub count_from : EventCount → List (ℕ × Effect) → EventCount
@@ -138,29 +144,60 @@ timer_lines bytes = do
   text ← text_reading bytes
   Ok (map (λ line. (line.0, trimmed (line.1))) (whole_lines text))
 
--- ---- the meaning of a timer file by its entries
+-- ---- the job
 
--- the events in the list after lines, from the events that it already has, if none is rejected
-abbrev pub events_after : Zones → List Calendar → List (ℕ × Effect) → List Calendar
-events_after zones held [] = held
-events_after zones held ((number, Reset) ∷ more) = events_after zones [] more
-events_after zones held ((number, Event text) ∷ more) =
-    events_after zones (held ++ cons_option (result_ok (in_line (event_reading zones text))) []) more
-events_after zones held ((number, Starts unit) ∷ more) = events_after zones held more
-events_after zones held ((number, Nothing) ∷ more) = events_after zones held more
+-- what lines say of the job: the events in the list, and the unit that is started, if one is named
+pub record Draft : Type 0 where
+  pub events : List Calendar
+  pub unit : Option (List ℕ)
 
--- the job of whole lines: the first rejected event decides (agenda)
-abbrev pub lines_by_entries : Zones → (name : List ℕ) → List (ℕ × List ℕ) → TextReading JobParts
-lines_by_entries zones name lines = do
-  events ← unless_refused (refusals (entries_from zones no_events (effects_from false lines)))
-      (events_after zones [] (effects_from false lines))
-  job_with (has_timer lines) name (first_unit (effects_from false lines)) events (delay_of (settings_from false lines))
+-- the same, as the code keeps it
+abbrev pub draft_of : TimerDraft → Draft
+draft_of draft = record { events = draft.events; unit = option_map (λ unit. string_bytes unit) draft.unit }
 
--- the job of a timer file, by its entries (agenda)
-abbrev pub timer_by_entries : Zones → (name bytes : List ℕ) → TextReading JobParts
-timer_by_entries zones name bytes =
+-- before the first line
+abbrev pub no_draft : Draft
+no_draft = record { events = []; unit = None }
+
+-- with an event at the end of the list; a rejected event isn't added (agenda)
+abbrev pub with_event : Draft → LineReading Calendar → Draft
+with_event draft (Ok event) = record draft { events = draft.events ++ event ∷ [] }
+with_event draft (Err cause) = draft
+
+-- after a line; only the first unit that is named counts (agenda)
+abbrev pub draft_after : Draft → LineStep → Draft
+draft_after draft Idle = draft
+draft_after draft Empties = record draft { events = [] }
+draft_after draft (Has entry) = with_event draft entry.read
+draft_after draft (Names unit) = record draft { unit = Some (unwrap_or draft.unit unit) }
+
+-- after lines
+abbrev pub draft_from : Draft → List LineStep → Draft
+draft_from draft [] = draft
+draft_from draft (step ∷ more) = draft_from (draft_after draft step) more
+
+-- what all lines do, and what they say of the job
+abbrev pub all_steps : Zones → List (ℕ × List ℕ) → List LineStep
+all_steps zones lines = steps_from zones no_events (effects_from false lines)
+
+abbrev pub lines_draft : Zones → List (ℕ × List ℕ) → Draft
+lines_draft zones lines = draft_from no_draft (all_steps zones lines)
+
+-- ---- a timer file
+
+-- the job of a timer's whole lines, without blanks at their ends. The first rejected event is the error of the file, even if a
+-- later line empties the list; a missing `[Timer]` section is the last error to be found (agenda)
+abbrev pub timer_of_lines : Zones → (name : List ℕ) → List (ℕ × List ℕ) → TextReading JobParts
+timer_of_lines zones name lines = do
+  draft ← unless_faulty (faults_of (filter_map entry_of (all_steps zones lines))) (lines_draft zones lines)
+  job_with (has_timer lines) name draft.unit draft.events (delay_of (settings_from false lines))
+
+-- the meaning of a timer file whose events may name these zones: its name is checked first, then its bytes, then its lines are
+-- read (agenda)
+abbrev pub timer_reading : Zones → (name bytes : List ℕ) → TextReading JobParts
+timer_reading zones name bytes =
     if is_timer_name name
     then (do
-      text ← text_reading bytes
-      lines_by_entries zones name (map (λ line. (line.0, trimmed (line.1))) (whole_lines text)))
+      lines ← timer_lines bytes
+      timer_of_lines zones name lines)
     else on_line 0 (Err BadTimerName)

@@ -1,15 +1,14 @@
 //! Crontabs, and the jobs of their lines (crontab(5)).
 
-ghost use Rattle.std.specs.Prelude.{◌≡◌, ◌≤◌, ◌↔◌, ℕ, List, Bool, false, Err, IfErr, IfOk, IsTrue, length, map, option_map, string_bytes};
+ghost use Rattle.std.specs.Prelude.{◌≡◌, ◌≢◌, ◌≤◌, ◌↔◌, Bool, false, Err, IfErr, IfOk, IsTrue, length, map, option_map, string_bytes};
 ghost use Rattle.std.specs.Result.{result_map_both};
 ghost use Rattle.std.specs.Str.{is_utf8};
 ghost use Rattle.plan_texts.specs.Limits.{most_bytes};
 ghost use Rattle.plan_texts.specs.Steps.{GivesUnless};
 ghost use Rattle.plan_texts.specs.Lines.{after_blanks, is_too_large};
-ghost use Rattle.plan_rules.specs.LineFaults.{on_line, of_whole, want_of_memory, GivesLine, IsOwnCause};
-ghost use Rattle.plan_rules.specs.declared.crontabs.Kind.{Kind};
-ghost use Rattle.plan_rules.specs.Entries.{entry_on};
-ghost use Rattle.plan_rules.specs.Crontab.{crontab_by_entries, command_reading, what_reading, job_name, job_reading, begins_setting, setting_reading, line_reading, jobs_reading, crontab_reading};
+ghost use Rattle.plan_rules.specs.LineFaults.{of_whole, want_of_memory, GivesLine, IsOwnCause};
+ghost use Rattle.plan_rules.specs.Entries.{entry_on, meant_by};
+ghost use Rattle.plan_rules.specs.Crontab.{command_reading, what_reading, job_name, job_reading, begins_setting, setting_reading, line_reading, entries_of_lines, crontab_reading};
 
 use crate::entry::Entry;
 use crate::file_text::text_of;
@@ -56,6 +55,8 @@ pub fn crontab(alloc: Global, label: &str, bytes: &[u8], kind: Kind) -> Result<V
         ↔ ((is_too_large bytes.now ≡ false) × (is_utf8 bytes.now ≡ false)) }
     ensures memory { IfErr result (λ fault. fault.cause ≡ LineCause.NoMemory → fault.line ≡ 0) }
     ensures own_cause { IfErr result (λ fault. IsOwnCause fault.cause) }
+    // The name of a file is not checked here.
+    ensures no_name { IfErr result (λ fault. fault.cause ≢ LineCause.BadTabName) }
 {
     let text = text_of(bytes)?;
     let lines = lines(alloc, text)?;
@@ -88,16 +89,7 @@ pub fn crontab_entry(
     Ok(Some(Entry { line: number, read }))
 }
 
-/// States the law of a crontab's entries: the jobs of a crontab are those of its entries if none is rejected.
-/// Otherwise the crontab has the error of its first rejected entry.
-///
-/// The function does nothing; its contract is the law.
-pub fn crontab_is_its_entries()
-    ensures { (label : List ℕ) (kind : Kind) (bytes : List ℕ) →
-        crontab_reading label kind bytes ≡ crontab_by_entries label kind bytes }
-{}
-
-// Returns the jobs of lines, in order.
+// Returns the jobs of lines, in order, or the error of the first rejected line.
 fn jobs_of_lines(
     alloc: Global,
     label: &str,
@@ -106,32 +98,15 @@ fn jobs_of_lines(
 ) -> Result<Vec<Job>, LineFault>
     requires { length lines.now ≤ most_bytes }
     ensures { GivesUnless want_of_memory (λ jobs. jobs.items) result
-        (jobs_reading label.now kind (map (λ line. line.now) lines.now)) }
+        (meant_by (entries_of_lines label.now kind (map (λ line. line.now) lines.now))) }
 {
     let mut jobs = Vec::new(alloc);
     for (place, line) in lines.iter().enumerate() {
-        if let Some(job) = numbered_job(alloc, label, kind, place as u32 + 1, line)? {
-            jobs.push(job)?;
+        if let Some(entry) = crontab_entry(alloc, label, kind, place as u32 + 1, line)? {
+            jobs.push(entry.accepted()?)?;
         }
     }
     Ok(jobs)
-}
-
-// Returns the job of the line with a number, if it has one.
-fn numbered_job(
-    alloc: Global,
-    label: &str,
-    kind: Kind,
-    number: u32,
-    line: &str,
-) -> Result<Option<Job>, LineFault>
-    ensures { GivesUnless want_of_memory (λ job. job) result
-        (on_line number (line_reading label.now kind number line.now)) }
-{
-    match job_of_line(alloc, label, kind, number, line) {
-        Ok(job) => Ok(job),
-        Err(cause) => Err(cause.on_line(number)),
-    }
 }
 
 // Returns the job of a line, if it has one. The first character decides what the line is.
@@ -146,10 +121,10 @@ fn job_of_line(
     ensures { GivesLine result (line_reading label.now kind number line.now) }
 {
     let line = after_blanks(line);
-    match line.as_bytes() {
-        [] | [b'#', ..] => Ok(None),
-        [first, ..] if begins_setting(*first) => setting(line),
-        _ => Ok(Some(job(alloc, label, kind, number, line)?)),
+    match line.as_bytes().first() {
+        None | Some(b'#') => Ok(None),
+        Some(first) if begins_setting(*first) => setting(line),
+        Some(_) => Ok(Some(job(alloc, label, kind, number, line)?)),
     }
 }
 
@@ -200,6 +175,7 @@ fn what(alloc: Global, kind: Kind, text: &str) -> Result<(Option<String>, String
 }
 
 // Returns the command: the text without leading blanks, to the end of the line.
+#[tactic(auto, using(crate::proofs::CrontabLemmas::no_command, crate::proofs::CrontabLemmas::a_command))]
 fn command(text: &str) -> Result<&str, LineCause>
     ensures { result_map_both (λ command. command.now) (λ cause. cause) result
         ≡ command_reading (after_blanks text.now) }

@@ -14,7 +14,7 @@ use plan_texts::lines::is_too_large;
 ///
 /// The first of these that applies, with line 0: `TooLarge` for more than 1,048,576 bytes, `NotUtf8` if the
 /// bytes are not valid UTF-8.
-#[tactic(auto, using(crate::proofs::FileFaults::text_of_utf8, crate::proofs::FileFaults::text_of_other))]
+#[tactic(auto, using(crate::proofs::FileFaults::text_of_large, crate::proofs::FileFaults::text_of_utf8, crate::proofs::FileFaults::text_of_other))]
 pub fn text_of(bytes: &[u8]) -> Result<&str, LineFault>
     ensures value { result_map_both (λ text. text.now) (λ fault. fault) result ≡ text_reading bytes.now }
     ensures few { IfOk result (λ text. length text.now ≤ most_bytes) }

@@ -2,10 +2,11 @@
 //!
 //! Open `crontabs` first (crontab(5)), then `named_crontabs`, for crontabs with a file name, and `timers`
 //! (systemd.timer(5), systemd.syntax(7)). Each takes its text from `file_text` and makes a `job` of each rule. `jobs`
-//! is the list of all jobs, by their names. An `entry` is what one line says by itself. `timer_events` reads the
-//! lines of a timer one after the other, and `crontabs` those of a crontab, so that a caller can report all errors
-//! of a file. `timer_lines` says what each line of a timer does. `timer_delays` finds how late a timer may start.
-//! `timer_zones` finds the `names` of the time zones that the events of a timer end with.
+//! is the list of all jobs, by their names. An `entry` is what one line says by itself: the first rejected one is the
+//! error of the file, and a caller can report all of them. `timer_lines` says what each line of a timer does,
+//! `timer_events` reads the lines one after the other, and `timer_draft` keeps what they say of the job.
+//! `timer_delays` finds how late a timer may start. `timer_zones` finds the `names` of the time zones that the events
+//! of a timer end with.
 //!
 //! The crate also re-exports names of three crates below it: plan_texts, plan_match and plan_grammar.
 #![tactic(auto)]
@@ -19,12 +20,13 @@ mod line_fault;
 mod named_crontabs;
 mod names;
 mod timer_delays;
+mod timer_draft;
 mod timer_events;
 mod timer_lines;
 mod timer_zones;
 mod timers;
 
-pub use crontabs::{Kind, crontab, crontab_entry, crontab_is_its_entries, job_name};
+pub use crontabs::{Kind, crontab, crontab_entry, job_name};
 pub use entry::Entry;
 pub use file_text::text_of;
 pub use job::Job;
@@ -39,7 +41,8 @@ pub use plan_grammar::{
 pub use plan_match::{Calendar, CronRule, DayCount, Events, Rule};
 pub use plan_texts::{Text, cut, lines, number};
 pub use timer_delays::TimerDelays;
-pub use timer_events::{TimerLine, TimerReader, timer_is_its_entries};
-pub use timer_lines::setting_of;
+pub use timer_draft::TimerDraft;
+pub use timer_events::{TimerLine, TimerReader};
+pub use timer_lines::{is_monotonic_key, is_reset, setting_of};
 pub use timer_zones::{add_timer_zones, only_named_zones_matter};
 pub use timers::{MOST_EVENTS, is_timer_name, timer, timer_job};

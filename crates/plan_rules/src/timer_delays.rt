@@ -42,6 +42,7 @@ impl TimerDelays {
     }
 
     /// Returns the delay of the timer's job, in seconds: the sum of both time spans, rounded up, at most `END_SECOND`.
+    #[tactic(auto, using(crate::proofs::TimerLemmas::capped))]
     pub fn seconds(self) -> u64
         ensures { result ≡ delay_seconds self }
     {
@@ -51,6 +52,7 @@ impl TimerDelays {
 }
 
 // Returns the time span of a key after one more line, by the time span before it.
+#[tactic(auto, using(crate::proofs::TimerLemmas::span_given))]
 fn span_after(key: &str, before: u64, setting: Option<(&str, &str)>) -> u64
     ensures { result ≡ span_after key.now before (option_map (λ setting. (setting.0.now, setting.1.now)) setting.entry) }
 {

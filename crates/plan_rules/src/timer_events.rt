@@ -1,14 +1,12 @@
 //! The lines of a timer file, read one after the other, each by itself (systemd.timer(5)).
 
-ghost use Rattle.std.specs.Prelude.{◌≡◌, ℕ, List, IfOk, OnOk};
+ghost use Rattle.std.specs.Prelude.{◌≡◌, ◌+◌, ◌<◌, IfOk, OnOk};
 ghost use Rattle.plan_grammar.specs.Event.{event_reading};
-ghost use Rattle.plan_grammar.specs.EventZones.{Zones};
 ghost use Rattle.plan_rules.specs.LineFaults.{in_line};
-ghost use Rattle.plan_rules.specs.Timer.{timer_reading};
-ghost use Rattle.plan_rules.specs.TimerEntries.{timer_by_entries};
+ghost use Rattle.plan_rules.specs.TimerEntries.{line_shown, fault_in_line};
 
 use crate::entry::Entry;
-use crate::line_fault::LineCause;
+use crate::line_fault::{LineCause, LineFault};
 use crate::timer_lines::{LineEffect, Sections};
 use crate::timers::MOST_EVENTS;
 use plan_grammar::{EventZones, calendar_event};
@@ -28,6 +26,18 @@ pub enum TimerLine<'a> {
     Event(Entry<Calendar>),
     /// Names the unit that is started.
     Starts(&'a str),
+}
+
+impl TimerLine<'_> {
+    // Returns the error of the line, if it has an event that is rejected.
+    pub(crate) fn fault(&self) -> Option<LineFault>
+        ensures { result ≡ fault_in_line (line_shown self.now) }
+    {
+        match self {
+            TimerLine::Event(entry) => entry.fault(),
+            _ => None,
+        }
+    }
 }
 
 /// Reads the whole lines of a timer file one after the other, each event by itself (systemd.timer(5)).
@@ -60,8 +70,9 @@ impl<'z> Model for TimerReader<'z> {
 
 impl<'z> TimerReader<'z> {
     ghost use Rattle.std.specs.Option.{option_map};
+    ghost use Rattle.plan_rules.specs.Limits.{most_events};
     ghost use Rattle.plan_rules.specs.Timer.{timer_setting};
-    ghost use Rattle.plan_rules.specs.TimerEntries.{after_event_text, event_by, event_line, line_in, line_shown, no_events, no_lines, shown_line, state_after};
+    ghost use Rattle.plan_rules.specs.TimerEntries.{after_event_text, event_by, line_in, no_events, no_lines, shown_line, state_after};
 
     /// Returns a reader that has read no line yet. Events may name these zones.
     pub fn new(zones: &'z EventZones) -> TimerReader<'z>
@@ -129,6 +140,14 @@ impl<'z> TimerReader<'z> {
         self.held = 0;
     }
 
+    // Counts an event of the list.
+    fn count_event(&mut self)
+        requires { self.old.count.held < most_events }
+        ensures { self.new ≡ record self.old { count = record self.old.count { held = self.old.count.held + 1 } } }
+    {
+        self.held += 1;
+    }
+
     // Reads an event, unless the list is full.
     fn read_event<'a>(
         &mut self,
@@ -136,12 +155,12 @@ impl<'z> TimerReader<'z> {
         number: u32,
         text: &str,
     ) -> Result<TimerLine<'a>, AllocError>
-        ensures line { IfOk result (λ read. line_shown read ≡ event_line number (event_by self.old.zones self.old.count text.now)) }
+        ensures line { IfOk result (λ read. line_shown read ≡ event_by self.old.zones number self.old.count text.now) }
         ensures after { OnOk result (self.new ≡ record self.old { count = after_event_text self.old.count }) }
     {
         if self.held < MOST_EVENTS {
             let read = event_in_line(alloc, text, self.zones)?;
-            self.held += 1;
+            self.count_event();
             return Ok(TimerLine::Event(Entry { line: number, read }));
         }
         if self.told {
@@ -154,14 +173,6 @@ impl<'z> TimerReader<'z> {
         }))
     }
 }
-
-/// States the law of a timer's entries: the first rejected event is the error of the file. If no event is
-/// rejected, the rule of the job is the list of the events after the last reset.
-///
-/// The function does nothing; its contract is the law.
-pub fn timer_is_its_entries()
-    ensures { (zones : Zones) → (name bytes : List ℕ) → timer_reading zones name bytes ≡ timer_by_entries zones name bytes }
-{}
 
 // Returns the event of a text in a line, or what is wrong with it. The event may name these zones. The outer error is a
 // failed allocation.

@@ -1,25 +1,13 @@
 //! What the lines of a timer file do (systemd.timer(5), systemd.syntax(7)).
 
 ghost use Rattle.std.specs.Prelude.{◌≡◌, false, Some};
+ghost use Rattle.std.specs.List.{list_any};
 ghost use Rattle.std.specs.Option.{option_map};
+ghost use Rattle.std.specs.Str.{bytes_eq};
 ghost use Rattle.plan_texts.specs.WholeLines.{trimmed};
-ghost use Rattle.plan_rules.specs.Timer.{effect_of, key_of, line_effect, section_name, setting_of, timer_setting};
-ghost use Rattle.plan_rules.specs.TimerSteps.{effect_shown, sections_after};
+ghost use Rattle.plan_rules.specs.Timer.{effect_of, effect_shown, is_reset, line_effect, monotonic_keys, section_name, sections_after, setting_of, timer_setting};
 
 use plan_texts::whole_lines::trimmed;
-
-/// The kinds of settings in the `[Timer]` section.
-#[derive(Clone, Copy)]
-pub enum Key {
-    /// `OnCalendar`: a calendar event.
-    OnCalendar,
-    /// `OnBootSec` and the like: a time span after another event.
-    Monotonic,
-    /// `Unit`: the unit that is started.
-    UnitName,
-    /// Any other setting.
-    OtherKey,
-}
 
 /// What a line does to the list of a timer's events, and to the unit that the timer starts.
 #[derive(Clone, Copy)]
@@ -68,7 +56,7 @@ impl Sections {
             return LineEffect::Nothing;
         }
         match setting_of(text) {
-            Some((key, value)) => effect_of(key_of(key), value),
+            Some((key, value)) => effect_of(key, value),
             None => LineEffect::Nothing,
         }
     }
@@ -79,10 +67,10 @@ impl Sections {
         ensures { option_map (λ setting. (setting.0.now, setting.1.now)) result
             ≡ timer_setting self.now.inside text.now }
     {
-        if !self.inside || section_name(text.as_bytes()).is_some() {
-            return None;
+        match section_name(text.as_bytes()) {
+            None if self.inside => setting_of(text),
+            _ => None,
         }
-        setting_of(text)
     }
 
     // Enters the section with this name.
@@ -95,15 +83,37 @@ impl Sections {
 }
 
 // Returns what a setting of the `[Timer]` section does.
-fn effect_of<'a>(key: Key, value: &'a str) -> LineEffect<'a>
-    ensures { effect_shown result ≡ effect_of key value.now }
+#[tactic(auto, unfolding(crate::specs::Timer::effect_of))]
+fn effect_of<'a>(key: &str, value: &'a str) -> LineEffect<'a>
+    ensures { effect_shown result ≡ effect_of (key.now, value.now) }
 {
+    if is_reset(key, value) {
+        return LineEffect::Reset;
+    }
     match key {
-        Key::OnCalendar | Key::Monotonic if value.is_empty() => LineEffect::Reset,
-        Key::OnCalendar => LineEffect::Event(value),
-        Key::UnitName if !value.is_empty() => LineEffect::Starts(value),
+        _ if value.is_empty() => LineEffect::Nothing,
+        "OnCalendar" => LineEffect::Event(value),
+        "Unit" => LineEffect::Starts(value),
         _ => LineEffect::Nothing,
     }
+}
+
+/// Returns whether a setting empties the list of the times at which a timer elapses: a time setting, such as
+/// `OnCalendar=` or `OnBootSec=`, without a value (systemd.timer(5)).
+pub fn is_reset(key: &str, value: &str) -> bool
+    ensures { result ≡ is_reset (key.now, value.now) }
+{
+    (key == "OnCalendar" || is_monotonic_key(key)) && value.is_empty()
+}
+
+/// Returns whether a key is that of a monotonic timer, such as `OnBootSec` (systemd.timer(5)).
+pub fn is_monotonic_key(key: &str) -> bool
+    ensures { result ≡ list_any (bytes_eq key.now) monotonic_keys }
+{
+    matches!(
+        key,
+        "OnActiveSec" | "OnBootSec" | "OnStartupSec" | "OnUnitActiveSec" | "OnUnitInactiveSec"
+    )
 }
 
 // Returns the name of the section, if the line begins one.
@@ -125,19 +135,4 @@ pub fn setting_of(text: &str) -> Option<(&str, &str)>
 {
     let (key, value) = text.split_once('=')?;
     Some((trimmed(key), trimmed(value)))
-}
-
-// Returns which kind of setting has this key.
-#[tactic(auto, unfolding(crate::specs::Timer::key_of))]
-fn key_of(key: &str) -> Key
-    ensures { result ≡ key_of key.now }
-{
-    match key {
-        "OnCalendar" => Key::OnCalendar,
-        "OnActiveSec" | "OnBootSec" | "OnStartupSec" | "OnUnitActiveSec" | "OnUnitInactiveSec" => {
-            Key::Monotonic
-        }
-        "Unit" => Key::UnitName,
-        _ => Key::OtherKey,
-    }
 }

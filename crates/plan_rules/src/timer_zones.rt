@@ -3,9 +3,8 @@
 ghost use Rattle.std.specs.Prelude.{◌≡◌, ℕ, IsTrue, List, OnErr, OnOk, Some, false, length, map, take};
 ghost use Rattle.plan_grammar.specs.declared.NamedZone.{NamedZone};
 ghost use Rattle.plan_rules.specs.Names.{with_found, with_names};
-ghost use Rattle.plan_rules.specs.Timer.{timer_reading};
-ghost use Rattle.plan_rules.specs.TimerEntries.{shown_line};
-ghost use Rattle.plan_rules.specs.TimerSteps.{effect_shown};
+ghost use Rattle.plan_rules.specs.Timer.{effect_shown};
+ghost use Rattle.plan_rules.specs.TimerEntries.{shown_line, timer_reading};
 ghost use Rattle.plan_rules.specs.TimerZones.{HaveSameClocks, are_ascii, effect_zone, timer_zones, zones_from};
 
 use crate::file_text::text_of;

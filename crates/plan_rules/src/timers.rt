@@ -1,24 +1,23 @@
 //! Timer files, and the job of each (systemd.timer(5), systemd.syntax(7)).
 
-ghost use Rattle.std.specs.Prelude.{◌≡◌, ◌↔◌, Bool, true, false, [], Ok, Err, IfErr, IfOk, IsTrue, map, string_bytes};
+ghost use Rattle.std.specs.Prelude.{◌≡◌, ◌↔◌, Bool, true, false, Err, IfErr, IfOk, IsTrue, map, string_bytes};
 ghost use Rattle.std.specs.List.{list_all};
 ghost use Rattle.std.specs.Option.{option_map};
 ghost use Rattle.std.specs.Str.{is_utf8};
 ghost use Rattle.plan_texts.specs.Steps.{GivesUnless};
-ghost use Rattle.plan_rules.specs.LineFaults.{of_whole, on_line, want_of_memory, IsOwnCause};
+ghost use Rattle.plan_rules.specs.LineFaults.{of_whole, want_of_memory, IsOwnCause};
 ghost use Rattle.plan_texts.specs.Lines.{is_too_large};
-ghost use Rattle.plan_rules.specs.TimerEntries.{shown_line};
-ghost use Rattle.plan_rules.specs.Timer.{is_name_byte, is_timer_name, service_name, timer_job, timer_of_lines, timer_reading, job_with};
-ghost use Rattle.plan_rules.specs.TimerDelays.{delay_seconds};
+ghost use Rattle.plan_rules.specs.TimerEntries.{shown_line, timer_of_lines, timer_reading};
+ghost use Rattle.plan_rules.specs.Timer.{is_name_byte, is_timer_name, service_name, timer_job};
 
-use crate::entry::Entry;
 use crate::file_text::text_of;
 use crate::job::Job;
 use crate::line_fault::{LineCause, LineFault};
 use crate::timer_delays::TimerDelays;
-use crate::timer_events::{TimerLine, TimerReader};
+use crate::timer_draft::TimerDraft;
+use crate::timer_events::TimerReader;
 use plan_grammar::EventZones;
-use plan_match::{Calendar, Events, Rule};
+use plan_match::{Events, Rule};
 use plan_texts::whole_lines::{WholeLine, whole_lines};
 use std::alloc::{AllocError, Global};
 use std::sync::Arc;
@@ -80,10 +79,9 @@ pub fn timer(alloc: Global, name: &str, bytes: &[u8], zones: &EventZones) -> Res
 pub fn is_timer_name(name: &[u8]) -> bool
     ensures { result ≡ is_timer_name name.now }
 {
-    if name.len() < LEAST_NAME || name.len() > MOST_NAME {
-        return false;
-    }
-    name.ends_with(ENDING.as_bytes()) && are_name_bytes(name)
+    (LEAST_NAME..=MOST_NAME).contains(&name.len())
+        && name.ends_with(ENDING.as_bytes())
+        && are_name_bytes(name)
 }
 
 // Returns whether the name of a timer may have all these bytes.
@@ -102,7 +100,7 @@ fn is_name_byte(byte: u8) -> bool
         || matches!(byte, b':' | b'-' | b'_' | b'.' | b'\\')
 }
 
-// Returns the job of the whole lines of a timer file.
+// Returns the job of the whole lines of a timer file, or the error of the first rejected event.
 fn timer_of_lines(
     alloc: Global,
     name: &str,
@@ -113,11 +111,22 @@ fn timer_of_lines(
     ensures { GivesUnless want_of_memory (λ job. job) result
         (timer_of_lines zones.now name.now (map shown_line lines.now)) }
 {
-    let mut settings = Settings::new(alloc, zones);
+    let mut reader = TimerReader::new(zones);
+    let mut draft = TimerDraft::new(alloc);
+    let mut delays = TimerDelays::new();
     for line in lines {
-        settings.read(alloc, line)?;
+        delays = delays.after(reader.setting(line));
+        let read = reader.read(alloc, line)?;
+        if let Some(fault) = read.fault() {
+            return Err(fault);
+        }
+        draft.add(alloc, read)?;
     }
-    settings.into_job(alloc, name)
+    if !reader.has_section() {
+        return Err(LineCause::NoTimerSection.on_line(0));
+    }
+    let TimerDraft { events, unit } = draft;
+    Ok(timer_job(alloc, name, unit, events, delays.seconds())?)
 }
 
 /// Returns the job of the timer file with a valid name, from the unit that it names, if it does, its list of events,
@@ -152,93 +161,4 @@ fn service_name(alloc: Global, name: &str) -> Result<String, AllocError>
 {
     let stem = &name[..name.len() - ENDING.len()];
     format!(in alloc; "{stem}.service")
-}
-
-// The settings of a timer file that were read so far.
-#[derive(Drop)]
-struct Settings<'z> {
-    reader: TimerReader<'z>,
-    // The list of events, as many as the reader counted.
-    events: Events,
-    // The first unit that was named.
-    unit: Option<String>,
-    // The time spans of the delay.
-    delays: TimerDelays,
-}
-
-impl<'z> Settings<'z> {
-    ghost use Rattle.plan_rules.specs.TimerEntries.{shown_line};
-    ghost use Rattle.plan_rules.specs.TimerSteps.{draft_of, after_event, after_line, after_unit, no_settings};
-
-    // Returns the settings before the first line. Events may name these zones.
-    fn new(alloc: Global, zones: &'z EventZones) -> Settings<'z>
-        ensures { draft_of result ≡ no_settings zones.now }
-    {
-        Settings {
-            reader: TimerReader::new(zones),
-            events: Events::new(alloc),
-            unit: None,
-            delays: TimerDelays::new(),
-        }
-    }
-
-    // Reads a whole line.
-    fn read(&mut self, alloc: Global, line: &WholeLine) -> Result<(), LineFault>
-        ensures { GivesUnless want_of_memory (λ _. draft_of self.new) result
-            (after_line (draft_of self.old) (shown_line line.now)) }
-    {
-        self.delays = self.delays.after(self.reader.setting(line));
-        match self.reader.read(alloc, line)? {
-            TimerLine::Empties => {
-                self.events.clear();
-                Ok(())
-            }
-            TimerLine::Event(entry) => self.add_event(entry),
-            TimerLine::Starts(unit) => self.name_unit(alloc, unit),
-            TimerLine::Nothing => Ok(()),
-        }
-    }
-
-    // Adds an event to the list, unless it is rejected.
-    fn add_event(&mut self, entry: Entry<Calendar>) -> Result<(), LineFault>
-        ensures { GivesUnless want_of_memory (λ _. draft_of self.new) result
-            (on_line entry.line (after_event (draft_of self.old) entry.read)) }
-    {
-        match entry.read {
-            Ok(event) => {
-                self.events.push(event)?;
-                Ok(())
-            }
-            Err(cause) => Err(cause.on_line(entry.line)),
-        }
-    }
-
-    // Keeps the unit, if it is the first one.
-    fn name_unit(&mut self, alloc: Global, unit: &str) -> Result<(), LineFault>
-        ensures { GivesUnless want_of_memory (λ _. draft_of self.new) result (Ok (after_unit (draft_of self.old) unit.now)) }
-    {
-        if self.unit.is_none() {
-            self.unit = Some(String::from_str(alloc, unit)?);
-        }
-        Ok(())
-    }
-
-    // Returns the job of the timer file with this name, once all its lines are read.
-    fn into_job(self, alloc: Global, name: &str) -> Result<Job, LineFault>
-        requires { is_timer_name name.now ≡ true }
-        ensures { GivesUnless want_of_memory (λ job. job) result
-            (job_with self.entry.reader.found name.now (option_map (λ unit. string_bytes unit) self.entry.unit)
-            self.entry.events (delay_seconds self.entry.delays)) }
-    {
-        let Settings {
-            reader,
-            events,
-            unit,
-            delays,
-        } = self;
-        if !reader.has_section() {
-            return Err(LineCause::NoTimerSection.on_line(0));
-        }
-        Ok(timer_job(alloc, name, unit, events, delays.seconds())?)
-    }
 }

@@ -1,8 +1,8 @@
 //! The names that errors print, where no contract states them.
+use agenda_arguments::UsageFault;
 use agenda_faults::RunFault;
 use agenda_script::{ScriptCause, ScriptFault};
 use agenda_sources::SourceFault;
-use agenda_words::UsageFault;
 use plan_collect::{CollectFault, PlanFault};
 use plan_rules::{LineCause, LineFault, RuleCause, RuleFault, Text};
 use plan_streams::WriteFault;

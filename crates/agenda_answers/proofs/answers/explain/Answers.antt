@@ -1,4 +1,4 @@
-use Rattle.agenda_answers.proofs.GoalLemmas.{flushed_after, ran}
+use Rattle.agenda_answers.proofs.StepLemmas.{flushed_after, ran}
 use Rattle.agenda_answers.proofs.answers.explain.Goals as goal
 
 pub returns-clause-ends : goal.returns-clause-ends

@@ -1,7 +1,6 @@
 -- The file was read whole, or what was read of it means the same (`steps_left`).
-use Rattle.agenda_answers.proofs.GoalLemmas.{flushed_after, ran_by}
+use Rattle.agenda_answers.proofs.StepLemmas.{failed_first, flushed_after, ran_by}
 use Rattle.agenda_answers.proofs.ScriptLemmas.{steps_left}
-use Rattle.agenda_answers.proofs.StepLemmas.{failed_first}
 use Rattle.agenda_answers.proofs.answers.steps.Goals as goal
 
 pub returns-in_err-script-clause-ends : goal.returns-in_err-script-clause-ends

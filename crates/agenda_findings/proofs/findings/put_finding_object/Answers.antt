@@ -1,7 +1,6 @@
-use Rattle.std.proofs.Common.{◌≡◌, ◌++◌, true, codes, refl, ap, sym, subst, append_assoc}
+use Rattle.std.proofs.Common.{◌++◌, true, codes, refl, ap, sym, subst, append_assoc}
 use Rattle.plan_streams.proofs.StreamLemmas.{takes_both}
 use Rattle.plan_streams.specs.Writer.{Takes}
-use Rattle.plan_check.specs.Quotes.{QuotedFinding}
 use Rattle.plan_write.specs.Json.{json_bytes, text_in}
 use Rattle.plan_write.proofs.TakesLemmas.{takes_three}
 use Rattle.agenda_findings.specs.Findings.{finding_object, members_before, message_of}
@@ -12,15 +11,13 @@ pub returns : goal.returns
 returns g c =
     let holds = g.S.Stream.holds in
     let takes_all = g.S.Stream.takes_all in
-    let one = c.args.one.now in
-    let before = members_before c.args.path.now one.finding in
-    let text = json_bytes (message_of c.args.form one) in
-    let same : c.one.inside.finding ≡ one.finding = ap (λ (quoted : QuotedFinding). quoted.finding) c.one.view_is in
+    let finding = c.args.finding.now in
+    let before = members_before c.args.path.now finding in
+    let text = json_bytes (message_of c.args.form finding) in
     takes_three holds takes_all c.args.lines.now c.put_members_before.new.lines c.put.new.self c.put-2.new.self before
-    (codes ",\"text\":\"") (text ++ codes "\"}\n") (finding_object c.args.path.now c.args.form one)
-    (subst (Takes holds takes_all c.args.lines.now c.put_members_before.new.lines) (λ i. members_before c.args.path.now (same i))
-    c.put_members_before.ensures) c.put.ensures
+    (codes ",\"text\":\"") (text ++ codes "\"}\n") (finding_object c.args.path.now c.args.form finding)
+    c.put_members_before.ensures c.put.ensures
     (takes_both holds takes_all c.put.new.self c.put_message.new.lines c.put-2.new.self text (codes "\"}\n")
     (text ++ codes "\"}\n") (subst (Takes holds takes_all c.put.new.self c.put_message.new.lines)
-    (λ i. text_in true (message c.args.form (same i).what (c.quote_of.ensures i))) c.put_message.ensures) c.put-2.ensures refl)
+    (λ i. text_in true (message c.args.form finding.kind (c.quote_of.ensures i))) c.put_message.ensures) c.put-2.ensures refl)
     (ap (λ end. before ++ (codes ",\"text\":\"" ++ end)) (sym (append_assoc text (codes "\"") (codes "}\n"))))

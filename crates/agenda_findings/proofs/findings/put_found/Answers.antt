@@ -12,5 +12,5 @@ returns-in-Some g c =
     let found = c.in-Some.ensures.lookup in
     let there : Some c.in-Some.source.now ≡ slice_get c.args.paths.now c.args.one.now.place =
     sym (slice_get_read c.args.paths.now (length c.args.paths.now) c.args.one.now.place c.in-Some.source.now refl found.3.0 found.1) in
-    subst (λ (source : Option SourcePath). taken (found_line c.args.json source c.args.one.now.quoted)) there
-    (subst taken (λ i. finding_in c.args.json (c.as_str.ensures i) (c.form_of.ensures i) c.args.one.now.quoted) c.put_finding.ensures)
+    subst (λ (source : Option SourcePath). taken (found_line c.args.json source c.args.one.now.finding)) there
+    (subst taken (λ i. finding_in c.args.json (c.as_str.ensures i) (c.form_of.ensures i) c.args.one.now.finding) c.put_finding.ensures)

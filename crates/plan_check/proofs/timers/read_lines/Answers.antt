@@ -1,15 +1,15 @@
 -- Line by line: what was found so far, with what the remaining lines add to it, is what is found in all lines.
-use Rattle.std.proofs.Common.{◌≡◌, ◌+◌, ◌++◌, ◌||◌, append-nil, drop, map, ap, sym, ◌∙◌}
+use Rattle.std.proofs.Common.{◌≡◌, ◌+◌, ◌++◌, ◌||◌, [], append-nil, append_assoc, drop, map, ap, refl, rules, sym, ◌∙◌}
 use Rattle.std.proofs.lemmas.List.{drop_all}
-use Rattle.std.specs.Option.{option_or}
-use Rattle.plan_rules.specs.Timer.{effects_from, first_unit, has_timer, settings_from, timer_setting}
+use Rattle.plan_rules.specs.Timer.{effects_from, has_timer, is_reset, settings_from, timer_setting}
 use Rattle.plan_rules.specs.TimerDelays.{delays_with}
-use Rattle.plan_rules.specs.TimerEntries.{EventCount, TimerState, count_from, shown_line}
-use Rattle.plan_rules.proofs.TimerEntryLemmas.{lines_more, section_step, count_step}
+use Rattle.plan_rules.specs.TimerEntries.{EventCount, TimerState, count_from, draft_from, draft_of, shown_line, state_after, steps_from}
+use Rattle.plan_rules.proofs.TimerEntryLemmas.{count_step, lines_more, section_step}
+use Rattle.plan_rules.proofs.TimerLemmas.{delays_front}
 use Rattle.plan_check.specs.declared.settings.Standing.{Standing}
-use Rattle.plan_check.specs.Settings.{is_reset, is_span, standing_after}
-use Rattle.plan_check.specs.Timers.{lines_findings, right_events, unit_of}
-use Rattle.plan_check.proofs.TimerLinesLemmas.{delays_step, events_step, lines_step, section_last, stands_last, stands_step, stands_with, unit_last, unit_step}
+use Rattle.plan_check.specs.Settings.{delay_after, is_span, standing_after}
+use Rattle.plan_check.specs.Timers.{lines_findings}
+use Rattle.plan_check.proofs.TimerLinesLemmas.{delay_front, delay_with, one_more, section_last, stands_front, stands_last, stands_with}
 use Rattle.plan_check.proofs.timers.read_lines.Goals as goal
 
 pub loop-line-init : goal.loop-line-init
@@ -17,7 +17,6 @@ loop-line-init c =
     let all = map shown_line c.args.lines.now in
     let state = c.new-reader.ensures in
     let settings = ap (λ (s : TimerState). settings_from s.inside all) state in
-    let effects = ap (λ (s : TimerState). effects_from s.inside all) state in
     let stood = c.new-standing.ensures in
     record {
       found = ap (λ (s : TimerState). c.args.found.now.items ++ lines_findings c.args.clock.now s all) state;
@@ -25,8 +24,10 @@ loop-line-init c =
       count = ap (λ (s : TimerState). count_from s.count (effects_from s.inside all)) state;
       monotonic = λ i. stands_with is_span is_reset (stood i).monotonic (settings i);
       delays = λ i. delays_with (stood i).delays (settings i);
-      unit = λ i. option_or (c.new-draft.ensures.unit i) (first_unit (effects i));
-      events = λ i. right_events (state i) (c.new-draft.ensures.events i) all;
+      draft = λ i. draft_from (c.new-draft.ensures i)
+          (steps_from (state i).zones (state i).count (effects_from (state i).inside all));
+      delay = ap (delay_with []) settings;
+      delay_is_text = search rules;
     }
 
 pub loop-line-preserved : goal.loop-line-preserved
@@ -34,82 +35,48 @@ loop-line-preserved c =
     let line = shown_line c.line-item.result in
     let more = map shown_line (drop (c.loop-line.line-index + 1) c.args.lines.now) in
     let old = c.loop-line.reader in
-    let new = c.add_line.new.reader in
+    let new = c.in_ok-add_line.ensures.reader in
     let stood = c.loop-line.standing in
+    let setting = timer_setting old.inside line.1 in
+    let settings = settings_from (state_after old line.1).inside more in
+    let so_far = c.loop-line.invariant in
     let next =
     sym (lines_more shown_line c.args.lines.now c.loop-line.line-index c.line-item.result c.loop-line-test.true c.line-item.is) in
-    let stands : c.after-standing.result ≡ standing_after stood (timer_setting old.inside line.1) =
-    c.after-standing.ensures ∙ ap (standing_after stood) c.setting.ensures in
+    let stands : c.after-standing.result ≡ standing_after stood setting =
+    c.after-standing.ensures ∙ ap (standing_after stood) c.setting-setting.ensures in
     record {
-      found = lines_step c.args.clock.now c.loop-line.found.items c.add_line.new.found.items old new line more _
-          c.in_ok-add_line.ensures.found c.in_ok-add_line.ensures.reader
-          (ap (λ left. c.loop-line.found.items ++ lines_findings c.args.clock.now old left) next ∙ c.loop-line.invariant.found);
-      section = section_step old new line more _ c.in_ok-add_line.ensures.reader
-          (ap (λ left. old.found || has_timer left) next ∙ c.loop-line.invariant.section);
-      count = count_step old new line more _ c.in_ok-add_line.ensures.reader
-          (ap (λ left. count_from old.count (effects_from old.inside left)) next ∙ c.loop-line.invariant.count);
-      monotonic = stands_step is_span is_reset stood.monotonic c.after-standing.result.monotonic old new line more _
-          (ap (λ (s : Standing). s.monotonic) stands) c.in_ok-add_line.ensures.reader
-          (ap (λ left. stands_with is_span is_reset stood.monotonic (settings_from old.inside left)) next
-          ∙ c.loop-line.invariant.monotonic);
-      delays = delays_step stood.delays c.after-standing.result.delays old new line more _
-          (ap (λ (s : Standing). s.delays) stands) c.in_ok-add_line.ensures.reader
-          (ap (λ left. delays_with stood.delays (settings_from old.inside left)) next ∙ c.loop-line.invariant.delays);
-      unit = unit_step (unit_of c.loop-line.draft) (unit_of c.add_line.new.draft) old new line more _ c.in_ok-add_line.ensures.unit
-          c.in_ok-add_line.ensures.reader
-          (ap (λ left. option_or (unit_of c.loop-line.draft) (first_unit (effects_from old.inside left))) next
-          ∙ c.loop-line.invariant.unit);
-      events = events_step c.loop-line.draft.events c.add_line.new.draft.events old new line more _ c.in_ok-add_line.ensures.events
-          c.in_ok-add_line.ensures.reader
-          (ap (λ left. right_events old c.loop-line.draft.events left) next ∙ c.loop-line.invariant.events);
+      found = one_more (λ found s left. found ++ lines_findings c.args.clock.now s left) old line more next
+          c.in_ok-add_line.ensures.found new (sym (append_assoc c.loop-line.found.items _ _)) so_far.found;
+      section = section_step old c.add_line.new.reader line more _ new (ap (λ left. old.found || has_timer left) next ∙ so_far.section);
+      count = count_step old c.add_line.new.reader line more _ new
+          (ap (λ left. count_from old.count (effects_from old.inside left)) next ∙ so_far.count);
+      monotonic = one_more (λ stands s left. stands_with is_span is_reset stands (settings_from s.inside left)) old line more next
+          (ap (λ (s : Standing). s.monotonic) stands) new (stands_front is_span is_reset stood.monotonic setting settings) so_far.monotonic;
+      delays = one_more (λ delays s left. delays_with delays (settings_from s.inside left)) old line more next
+          (ap (λ (s : Standing). s.delays) stands) new (delays_front stood.delays setting settings) so_far.delays;
+      delay = one_more (λ delay s left. delay_with delay (settings_from s.inside left)) old line more next
+          (c.delay_after-delay.ensures ∙ ap (delay_after c.loop-line.delay.now) c.setting-setting.ensures) new
+          (delay_front c.loop-line.delay.now setting settings) so_far.delay;
+      delay_is_text = c.delay_after-delay.utf8;
+      draft = one_more (λ draft s left. draft_from draft (steps_from s.zones s.count (effects_from s.inside left))) old line more next
+          c.in_ok-add_line.ensures.draft new refl so_far.draft;
     }
 
-pub returns-clause-section : goal.returns-clause-section
-returns-clause-section c =
+pub returns : goal.returns
+returns c =
     let now = c.loop-line.reader in
-    let none = ap (map shown_line) (drop_all c.loop-line.line-index c.args.lines.now c.loop-line-test.false) in
-    sym (section_last now.found) ∙ ap (λ left. now.found || has_timer left) (sym none) ∙ c.loop-line.invariant.section
-
-pub returns-clause-held : goal.returns-clause-held
-returns-clause-held c =
-    let now = c.loop-line.reader in
-    let none = ap (map shown_line) (drop_all c.loop-line.line-index c.args.lines.now c.loop-line-test.false) in
-    ap (λ (count : EventCount). count.held)
-    (ap (λ left. count_from now.count (effects_from now.inside left)) (sym none) ∙ c.loop-line.invariant.count)
-
-pub returns-clause-monotonic : goal.returns-clause-monotonic
-returns-clause-monotonic c =
-    let now = c.loop-line.reader in
-    let stood = c.loop-line.standing.monotonic in
-    let none = ap (map shown_line) (drop_all c.loop-line.line-index c.args.lines.now c.loop-line-test.false) in
-    sym (stands_last is_span is_reset stood)
-    ∙ ap (λ left. stands_with is_span is_reset stood (settings_from now.inside left)) (sym none)
-    ∙ c.loop-line.invariant.monotonic
-
-pub returns-clause-delays : goal.returns-clause-delays
-returns-clause-delays c =
-    let now = c.loop-line.reader in
-    let none = ap (map shown_line) (drop_all c.loop-line.line-index c.args.lines.now c.loop-line-test.false) in
-    ap (λ left. delays_with c.loop-line.standing.delays (settings_from now.inside left)) (sym none) ∙ c.loop-line.invariant.delays
-
-pub returns-clause-unit : goal.returns-clause-unit
-returns-clause-unit c =
-    let now = c.loop-line.reader in
-    let unit = unit_of c.loop-line.draft in
-    let none = ap (map shown_line) (drop_all c.loop-line.line-index c.args.lines.now c.loop-line-test.false) in
-    sym (unit_last unit)
-    ∙ ap (λ left. option_or unit (first_unit (effects_from now.inside left))) (sym none)
-    ∙ c.loop-line.invariant.unit
-
-pub returns-clause-events : goal.returns-clause-events
-returns-clause-events c =
-    let none = ap (map shown_line) (drop_all c.loop-line.line-index c.args.lines.now c.loop-line-test.false) in
-    ap (right_events c.loop-line.reader c.loop-line.draft.events) (sym none) ∙ c.loop-line.invariant.events
-
-pub returns-clause-found : goal.returns-clause-found
-returns-clause-found c =
+    let stood = c.loop-line.standing in
     let found = c.loop-line.found.items in
-    let none = ap (map shown_line) (drop_all c.loop-line.line-index c.args.lines.now c.loop-line-test.false) in
-    sym (append-nil found)
-    ∙ ap (λ left. found ++ lines_findings c.args.clock.now c.loop-line.reader left) (sym none)
-    ∙ c.loop-line.invariant.found
+    let so_far = c.loop-line.invariant in
+    let none = sym (ap (map shown_line) (drop_all c.loop-line.line-index c.args.lines.now c.loop-line-test.false)) in
+    record {
+      section = sym (section_last now.found) ∙ ap (λ left. now.found || has_timer left) none ∙ so_far.section;
+      held = ap (λ (count : EventCount). count.held) (ap (λ left. count_from now.count (effects_from now.inside left)) none ∙ so_far.count);
+      monotonic = sym (stands_last is_span is_reset stood.monotonic)
+          ∙ ap (λ left. stands_with is_span is_reset stood.monotonic (settings_from now.inside left)) none ∙ so_far.monotonic;
+      delays = ap (λ left. delays_with stood.delays (settings_from now.inside left)) none ∙ so_far.delays;
+      delay = ap (λ left. delay_with c.loop-line.delay.now (settings_from now.inside left)) none ∙ so_far.delay;
+      draft = ap (λ left. draft_from (draft_of c.loop-line.draft) (steps_from now.zones now.count (effects_from now.inside left))) none
+          ∙ so_far.draft;
+      found = sym (append-nil found) ∙ ap (λ left. found ++ lines_findings c.args.clock.now now left) none ∙ so_far.found;
+    }

@@ -1,14 +1,15 @@
-use Rattle.std.proofs.Common.{◌≡◌, false, ◌||◌, [], ◌++◌, map, drop}
-use Rattle.std.specs.Option.{option_or}
-use Rattle.plan_rules.specs.Timer.{effects_from, first_unit, has_timer, settings_from}
+use denote.Shadow.{shadow}
+use denote.Text.{Utf8}
+use Rattle.std.proofs.Common.{◌≡◌, false, ◌||◌, ◌++◌, map, drop}
+use Rattle.plan_rules.specs.Timer.{effects_from, has_timer, is_reset, settings_from}
 use Rattle.plan_rules.specs.TimerDelays.{default_delays, delays_with}
-use Rattle.plan_rules.specs.TimerEntries.{no_events, no_lines, count_from, shown_line}
-use Rattle.plan_check.specs.Settings.{is_monotonic, is_reset, is_span}
-use Rattle.plan_check.specs.Timers.{lines_findings, right_events, unit_of}
-use Rattle.plan_check.proofs.TimerLinesLemmas.{stands_with}
+use Rattle.plan_rules.specs.TimerEntries.{count_from, draft_from, draft_of, lines_draft, no_events, no_lines, shown_line, steps_from}
+use Rattle.plan_check.specs.Settings.{is_monotonic, is_span, last_delay}
+use Rattle.plan_check.specs.Timers.{lines_findings}
+use Rattle.plan_check.proofs.TimerLinesLemmas.{delay_with, stands_with}
 use Rattle.plan_check.proofs.timers.read_lines.Given as goal
 
--- what was found, with what the remaining lines add to it, is what is found in all lines
+-- what was found, with what the remaining lines add to it, is what is found in all lines; the delay is text
 abbrev pub invariant-loop-line : goal.invariant-loop-line
 invariant-loop-line l =
     let left = map shown_line (drop l.line-index l.lines) in
@@ -21,6 +22,8 @@ invariant-loop-line l =
           ≡ is_monotonic (settings_from false all);
       delays : delays_with l.standing.delays (settings_from l.reader.inside left)
           ≡ delays_with default_delays (settings_from false all);
-      unit : option_or (unit_of l.draft) (first_unit (effects_from l.reader.inside left)) ≡ first_unit (effects_from false all);
-      events : right_events l.reader l.draft.events left ≡ right_events (no_lines l.zones) [] all;
+      delay : delay_with l.delay (settings_from l.reader.inside left) ≡ last_delay (settings_from false all);
+      delay_is_text : shadow (Utf8 l.delay);
+      draft : draft_from (draft_of l.draft) (steps_from l.reader.zones l.reader.count (effects_from l.reader.inside left))
+          ≡ lines_draft l.zones all;
     }

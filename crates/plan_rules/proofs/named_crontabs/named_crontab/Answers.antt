@@ -1,13 +1,12 @@
 -- At the last return the name is valid in the directory: for the clauses about errors.
-use Rattle.std.proofs.Common.{◌≡◌, true, rules, sym, ◌∙◌, true≢false}
+use Rattle.std.proofs.Common.{◌≡◌, ◌≢◌, true, IfErr, refl, rules, subst, sym, ◌∙◌, true≢false}
+use Rattle.plan_rules.specs.declared.line_fault.LineCause.TheVariants.{BadTabName}
 use Rattle.plan_rules.specs.NamedCrontabs.{is_crontab_name}
-use Rattle.plan_rules.proofs.NamedCrontabFaults.{no_name_fault, of_crontab}
 use Rattle.plan_rules.proofs.named_crontabs.named_crontab.Goals as goal
 
 pub returns-clause-bad_name : goal.returns-clause-bad_name
 returns-clause-bad_name c = (
-  λ is. absurd (no_name_fault (λ jobs. jobs.items) c.crontab.result _ c.crontab.ensures.meaning
-      (of_crontab c.args.name.now c.kind_in.result c.args.bytes.now) is),
+  λ is. absurd (subst (λ result. IfErr result (λ fault. fault.cause ≢ BadTabName)) is c.crontab.ensures.no_name refl),
   λ other. let named : is_crontab_name c.args.directory c.args.name.now ≡ true = search rules in absurd (true≢false (sym named ∙ other)),
 )
 

@@ -1,7 +1,7 @@
 use Rattle.std.proofs.Common.{◌≡◌, ℕ, List, Option, Some, OnOk, ap, sym, ◌∙◌, subst}
 use Rattle.std.specs.Option.{option_map}
 use Rattle.plan_rules.specs.Names.{with_found}
-use Rattle.plan_rules.specs.TimerSteps.{effect_shown}
+use Rattle.plan_rules.specs.Timer.{effect_shown}
 use Rattle.plan_rules.specs.TimerZones.{effect_zone}
 use Rattle.plan_rules.proofs.timer_zones.add_effect_zone.Goals as goal
 

@@ -1,0 +1,78 @@
+-- How a request for jobs is answered: for `make_outcome` and `report`.
+use Rattle.std.proofs.Common.{◌≡◌, ◌≢◌, ◌⊎◌, inl, inr, ℕ, Bool, true, false, List, [], ◌∷◌, Option, Result, Ok, Err, IfErr, is_err, refl, subst}
+use Rattle.std.proofs.KnownBytes.{Keeps-refl}
+use Rattle.plan_rules.specs.Job.{JobParts}
+use Rattle.plan_streams.specs.Stream.{Puts}
+use Rattle.plan_streams.specs.declared.WriteFault.{WriteFault}
+use Rattle.plan_write.specs.declared.Format.{Format}
+use Rattle.agenda_kinds.specs.declared.SourcePath.{SourcePath}
+use Rattle.agenda_sources.specs.declared.Found.{Found}
+use Rattle.agenda_sources.specs.declared.Source.{Source}
+use Rattle.agenda_sources.specs.declared.TimeZones.{TimeZones}
+use Rattle.agenda_faults.specs.declared.faults.Failure.{Failure}
+use Rattle.agenda_faults.specs.declared.faults.Failure.TheVariants.{Run}
+use Rattle.agenda_faults.specs.declared.faults.RunFault.{RunFault}
+use Rattle.agenda_faults.specs.declared.faults.RunFault.TheVariants.{NoMemory}
+use Rattle.agenda_commands.specs.declared.Goal.{Goal}
+use Rattle.agenda_commands.specs.Goal.{AnswersGoal, Makes, checked_jobs, valid_goal}
+use Rattle.agenda_commands.specs.Prepare.{errors_if, jobs_if}
+use Rattle.agenda_answers.specs.Outcome.{Outcome, Reports, answer_of, kept_of, lines_of_skipped, settles}
+
+-- ---- what is kept, and the answer
+
+pub kept_made :
+    (keeps_going : Bool) (zones : TimeZones) (sources : List Source) (errors : List Found) (jobs : Option (List JobParts)) →
+    errors ≡ errors_if keeps_going zones sources → jobs ≡ jobs_if keeps_going zones sources →
+    kept_of keeps_going zones sources (Ok (errors, jobs))
+kept_made true zones sources errors jobs found left = cc
+kept_made false zones sources errors jobs found left = cc
+
+pub kept_fails :
+    (keeps_going : Bool) (zones : TimeZones) (sources : List Source) → (keeps_going ≡ false → false ≡ true) →
+    kept_of keeps_going zones sources (Err (Run NoMemory))
+kept_fails true zones sources spared = refl
+kept_fails false zones sources spared = let none : false ≡ true = spared refl in cc
+
+fails_at_once :
+    (valid : Result (Unit {0}) RunFault) (made : Result (List ℕ) RunFault) (failure : Failure) → IfErr valid (λ fault. made ≡ Err fault) →
+    failure ≡ Run NoMemory → made ≡ Err NoMemory → IfErr valid (λ fault. failure ≡ Run fault)
+fails_at_once (Ok done) made failure bad is memory = tt
+fails_at_once (Err fault) made failure bad is memory = cc
+
+pub settled_answer :
+    (format : Format) (goal : Goal) (jobs : Result (List JobParts) RunFault) (made : Result (List ℕ) RunFault)
+    (answer : Result (Result (List ℕ) RunFault) Failure) →
+    Makes (AnswersGoal format goal (checked_jobs goal jobs)) (λ text. text) made → IfErr (valid_goal goal) (λ fault. made ≡ Err fault) →
+    settles made answer → answer_of format goal jobs answer
+settled_answer format goal jobs made (Ok (Ok text)) is bad same =
+    ((λ none. cc), subst (Makes (AnswersGoal format goal (checked_jobs goal jobs)) (λ text. text)) same is)
+settled_answer format goal jobs made (Ok (Err fault)) is bad (other, same) = (
+  (λ none. other (let one : fault ≡ NoMemory = cc in one)),
+  (subst (Makes (AnswersGoal format goal (checked_jobs goal jobs)) (λ text. text)) same is) other,
+)
+settled_answer format goal jobs made (Err failure) is bad (memory, none) =
+    (memory, fails_at_once (valid_goal goal) made failure bad memory none)
+
+pub settled_failure :
+    (format : Format) (goal : Goal) (jobs : Result (List JobParts) RunFault) (made : Result (List ℕ) RunFault) (failure : Failure) →
+    IfErr (valid_goal goal) (λ fault. made ≡ Err fault) → (failure ≡ Run NoMemory) × (made ≡ Err NoMemory) →
+    answer_of format goal jobs (Err failure)
+settled_failure format goal jobs made failure bad (memory, none) =
+    (memory, fails_at_once (valid_goal goal) made failure bad memory none)
+
+-- ---- the streams
+
+one_skipped : {A B : Type 0} (unread : List A) (errors : List B) → (unread ≡ [] → errors ≡ [] → ⊥) → (unread ≢ []) ⊎ (errors ≢ [])
+one_skipped [] [] none = absurd (none refl refl)
+one_skipped [] (error ∷ more) none = inr (λ is. cc)
+one_skipped (path ∷ more) errors none = inl (λ is. cc)
+
+-- standard error failed, which it doesn't if nothing is skipped
+pub reported_off :
+    (sources : List SourcePath) (kept : Outcome) (result : Result (Unit {0}) WriteFault) (flag all_out all_err : Bool)
+    (out old new : Option (List ℕ)) → flag ≡ is_err result → flag ≡ true → Puts all_err result old new (lines_of_skipped kept) →
+    (kept.unread ≡ [] → kept.errors ≡ [] → result ≡ Ok tt) →
+    Reports sources kept 3 (record { takes_all = all_out; old = out; new = out }) (record { takes_all = all_err; old = old; new = new })
+reported_off sources kept (Ok done) flag all_out all_err out old new is set put spared = absurd cc
+reported_off sources kept (Err fault) flag all_out all_err out old new is set off spared =
+    inl (one_skipped kept.unread kept.errors (λ a b. let no_error : Err fault ≡ Ok tt = spared a b in cc), off, refl, Keeps-refl out)

@@ -1,0 +1,76 @@
+-- What arguments request, once the timestamps were read. All of it is our choice (agenda).
+use Rattle.std.specs.Prelude.{◌≡◌, ℕ, ◌<◌, ◌≤◌, false, List, Ok, Err}
+use Rattle.plan_sets.specs.Limits.{end_second}
+use Rattle.plan_sets.specs.Moment.{HasFault, moment_text_of}
+use Rattle.plan_sets.specs.declared.MomentFault.{MomentFault}
+use Rattle.plan_collect.specs.Span.{Bounds}
+use Rattle.plan_collect.specs.declared.SpanFault.TheVariants.{Backwards}
+use Rattle.agenda_arguments.specs.declared.Ask.{Ask}
+use Rattle.agenda_arguments.specs.declared.Ask.TheVariants.{Next, Plan, Upcoming, Quiet, Check, Steps, Explain}
+use Rattle.agenda_arguments.specs.declared.JobsRequest.{JobsRequest}
+use Rattle.agenda_arguments.specs.declared.PlanRequest.{PlanRequest}
+use Rattle.agenda_faults.specs.declared.faults.Failure.{Failure}
+use Rattle.agenda_faults.specs.declared.faults.Failure.TheVariants.{After, Since, Upto, Span}
+use Rattle.agenda_commands.specs.declared.Goal.TheVariants as goal
+use Rattle.agenda_commands.specs.declared.Planning.{Planning}
+use Rattle.agenda_answers.specs.declared.requests.Request.{Request}
+use Rattle.agenda_answers.specs.declared.requests.Request.TheVariants as request
+use Rattle.agenda_answers.specs.Steps.{Step, gives, ◌>>=◌}
+
+-- the timestamp of an option, with the failure if the text isn't one
+abbrev pub moment_of : (MomentFault → Failure) → List ℕ → Step ℕ
+moment_of of_option text (Ok moment) = (moment ≤ end_second) × (text ≡ moment_text_of moment)
+moment_of of_option text (Err failure) = (fault : MomentFault) × (failure ≡ of_option fault) × HasFault text fault
+
+-- two timestamps bound a span unless the second is earlier
+abbrev pub bounded : (since upto : ℕ) → Step Bounds
+bounded since upto (Ok span) = span ≡ record { since = since; upto = upto }
+bounded since upto (Err failure) = (failure ≡ Span Backwards) × (upto < since)
+
+-- the span of a plan: the first timestamp is read first, then the second, then their order is checked
+abbrev pub span_of : (since upto : List ℕ) → Step Bounds
+span_of since upto = do
+  begin ← moment_of Since since
+  end ← moment_of Upto upto
+  bounded begin end
+
+-- how the jobs of a request are planned: over its span
+abbrev pub planning_of : PlanRequest → Step Planning
+planning_of request = do
+  span ← span_of request.since request.upto
+  gives (record { span = span; sizes = request.sizes; delays = request.jobs.delays })
+
+-- the request, unless a timestamp is rejected
+abbrev pub request_of : Ask → Step Request
+request_of (Next starts) = do
+  moment ← moment_of After starts.after
+  gives (request.Starts (record {
+    after = moment;
+    zones = starts.zones;
+    count = starts.count;
+    rule = starts.rule;
+    format = starts.format;
+  }))
+request_of (Plan plan) = do
+  planning ← planning_of plan
+  gives (request.Jobs (goal.Plan planning) plan.jobs)
+request_of (Upcoming after jobs) = do
+  moment ← moment_of After after
+  gives (request.Jobs (goal.Upcoming moment jobs.delays) jobs)
+request_of (Quiet plan least) = do
+  planning ← planning_of plan
+  gives (request.Jobs (goal.Quiet planning least) plan.jobs)
+request_of (Check zones sources json) = gives (request.Check zones sources json)
+request_of (Steps file) = gives (request.Steps file)
+request_of (Explain code) = gives (request.Explain code)
+
+-- the same jobs for a request that doesn't keep going
+abbrev pub stopping_jobs : JobsRequest → JobsRequest
+stopping_jobs jobs = record jobs { keep_going = false }
+
+-- what is requested, without keeping going
+abbrev pub stopping : Ask → Ask
+stopping (Plan plan) = Plan (record plan { jobs = stopping_jobs plan.jobs })
+stopping (Upcoming after jobs) = Upcoming after (stopping_jobs jobs)
+stopping (Quiet plan least) = Quiet (record plan { jobs = stopping_jobs plan.jobs }) least
+stopping other = other

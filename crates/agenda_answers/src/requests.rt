@@ -1,0 +1,175 @@
+//! Reads the timestamps of a request.
+
+ghost use Rattle.std.specs.Prelude.{◌≡◌};
+ghost use Rattle.agenda_answers.specs.Requests.{moment_of, planning_of, request_of, span_of};
+ghost use Rattle.agenda_faults.specs.declared.faults.Failure.TheVariants.{After};
+ghost use Rattle.agenda_arguments.specs.declared.Ask.TheVariants.{Next, Plan, Quiet, Upcoming};
+
+use agenda_arguments::{Ask, FormatRequest, JobsRequest, NextRequest, PlanRequest, ZonesRequest};
+use agenda_codes::Code;
+use agenda_commands::{Goal, Planning};
+use agenda_faults::Failure;
+use agenda_kinds::{Asked, SourcePaths};
+use plan_collect::Span;
+use plan_rules::Text;
+use plan_sets::read_moment;
+
+/// What next starts are listed of.
+#[derive(Drop)]
+pub(crate) struct StartsRequest {
+    /// The starts are later than this, in seconds since 1970-01-01T00:00:00Z.
+    pub after: u64,
+    /// The time zones of the rule.
+    pub zones: ZonesRequest,
+    /// The number of starts.
+    pub count: u64,
+    /// The rule.
+    pub rule: Asked,
+    /// How the answer is written.
+    pub format: FormatRequest,
+}
+
+/// A request whose timestamps were read.
+#[derive(Drop)]
+pub(crate) enum Request {
+    /// Print the next starts of one rule.
+    Starts(StartsRequest),
+    /// Print what a goal makes of jobs.
+    Jobs {
+        /// The goal.
+        goal: Goal,
+        /// The jobs.
+        jobs: JobsRequest,
+    },
+    /// Print what is wrong with crontabs and timers.
+    Check {
+        /// The time zones of the rules.
+        zones: ZonesRequest,
+        /// The paths of the sources.
+        sources: SourcePaths,
+        /// Whether each line is a JSON object.
+        json: bool,
+    },
+    /// Print the replies to the steps of a script.
+    Steps {
+        /// The path of the script.
+        file: Text,
+    },
+    /// Print what a code means, or the list of all codes.
+    Explain(Option<Code>),
+}
+
+/// Reads the timestamps of what is requested.
+///
+/// # Errors
+///
+/// `After`, `Since` or `Upto` if a text isn't a timestamp, and then `Span` if two of them bound no span.
+pub(crate) fn request_of(ask: Ask) -> Result<Request, Failure>
+    ensures { request_of ask result }
+{
+    match ask {
+        Ask::Next(request) => starts_request(request),
+        Ask::Plan(request) => plan_request(request),
+        Ask::Upcoming { after, jobs } => upcoming_request(&after, jobs),
+        Ask::Quiet { plan, least } => quiet_request(plan, least),
+        Ask::Check {
+            zones,
+            sources,
+            json,
+        } => Ok(Request::Check {
+            zones,
+            sources,
+            json,
+        }),
+        Ask::Steps { file } => Ok(Request::Steps { file }),
+        Ask::Explain(code) => Ok(Request::Explain(code)),
+    }
+}
+
+// Reads the timestamp of `next`.
+fn starts_request(request: NextRequest) -> Result<Request, Failure>
+    ensures { request_of (Next request) result }
+{
+    let after = moment_after(&request.after)?;
+    Ok(Request::Starts(StartsRequest {
+        after,
+        zones: request.zones,
+        count: u64::from(request.count),
+        rule: request.rule,
+        format: request.format,
+    }))
+}
+
+// Reads the timestamps of `plan`.
+fn plan_request(request: PlanRequest) -> Result<Request, Failure>
+    ensures { request_of (Plan request) result }
+{
+    let planning = planning_of(&request)?;
+    Ok(Request::Jobs {
+        goal: Goal::Plan(planning),
+        jobs: request.jobs,
+    })
+}
+
+// Reads the timestamp of `upcoming`.
+fn upcoming_request(after: &Text, jobs: JobsRequest) -> Result<Request, Failure>
+    ensures { request_of (Upcoming after.now jobs) result }
+{
+    let after = moment_after(after)?;
+    let delays = jobs.delays;
+    Ok(Request::Jobs {
+        goal: Goal::Upcoming { after, delays },
+        jobs,
+    })
+}
+
+// Reads the timestamps of `quiet`.
+fn quiet_request(request: PlanRequest, least: u32) -> Result<Request, Failure>
+    ensures { request_of (Quiet request least) result }
+{
+    let planning = planning_of(&request)?;
+    Ok(Request::Jobs {
+        goal: Goal::Quiet { planning, least },
+        jobs: request.jobs,
+    })
+}
+
+// Returns how the jobs of a request are planned.
+fn planning_of(request: &PlanRequest) -> Result<Planning, Failure>
+    ensures { planning_of request.now result }
+{
+    let span = span_between(&request.since, &request.upto)?;
+    Ok(Planning {
+        span,
+        sizes: request.sizes,
+        delays: request.jobs.delays,
+    })
+}
+
+// Reads the timestamp after which starts are requested.
+fn moment_after(after: &Text) -> Result<u64, Failure>
+    ensures { moment_of After after.now result }
+{
+    match read_moment(after.as_str()) {
+        Ok(moment) => Ok(moment),
+        Err(fault) => Err(Failure::After(fault)),
+    }
+}
+
+// Reads the two timestamps of a span.
+fn span_between(since: &Text, upto: &Text) -> Result<Span, Failure>
+    ensures { span_of since.now upto.now result }
+{
+    let begin = match read_moment(since.as_str()) {
+        Ok(begin) => begin,
+        Err(fault) => return Err(Failure::Since(fault)),
+    };
+    let end = match read_moment(upto.as_str()) {
+        Ok(end) => end,
+        Err(fault) => return Err(Failure::Upto(fault)),
+    };
+    match Span::new(begin, end) {
+        Ok(span) => Ok(span),
+        Err(fault) => Err(Failure::Span(fault)),
+    }
+}

@@ -1,0 +1,8 @@
+-- clap's first value of an option is the first in its row.
+use Rattle.std.proofs.Common.{◌∙◌}
+use Rattle.clap.proofs.WalkLemmas.{first_value-rows}
+use Rattle.clap.specs.Words.{found_of}
+use Rattle.agenda_arguments.proofs.values.value_of.Goals as goal
+
+pub returns : goal.returns
+returns c = c.get_str.ensures ∙ first_value-rows (found_of c.args.given.now) c.args.option.now

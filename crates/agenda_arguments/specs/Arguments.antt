@@ -1,0 +1,208 @@
+-- What the arguments of the command line request.
+use Rattle.std.specs.Prelude.{◌≡◌, ⊤, ℕ, Bool, false, List, [], ◌∷◌, Option, Some, None, Result, Ok, Err}
+use Rattle.std.specs.Prelude.{codes, if◌then◌else◌, map, option_and_then, unwrap_or}
+use Rattle.std.specs.List.{flat_map}
+use Rattle.std.specs.Option.{option_map_or}
+use Rattle.std.specs.Str.{bytes_eq}
+use Rattle.std.specs.Str.Parse.{digits_value, without_leading_plus}
+use Rattle.clap.specs.ValueTests.{accepts}
+use Rattle.clap.specs.Words.{Kinds, Row, all_of, fault_of, first_of, one_of, subcommand_of}
+use Rattle.clap.specs.declared.builder.value_parser.ValueParser.TheVariants as parser
+use Rattle.clap.specs.declared.error.kind.ErrorKind.{ErrorKind}
+use Rattle.clap.specs.declared.error.kind.ErrorKind.TheVariants.{DisplayHelp, DisplayVersion, OutOfMemory}
+use Rattle.plan_texts.specs.Steps.{◌>>=◌}
+use Rattle.plan_collect.specs.declared.Sizes.{Sizes}
+use Rattle.agenda_arguments.specs.declared.ask.Ask.{Ask}
+use Rattle.agenda_arguments.specs.declared.ask.Ask.TheVariants.{Next, Plan, Upcoming, Quiet, Check, Steps, Explain}
+use Rattle.agenda_codes.specs.declared.Code.{Code}
+use Rattle.agenda_codes.specs.Codes.{code_named}
+use Rattle.agenda_kinds.specs.declared.Asked.{Asked}
+use Rattle.agenda_kinds.specs.declared.Asked.TheVariants.{Cron, Event}
+use Rattle.agenda_arguments.specs.declared.ask.FormatRequest.{FormatRequest}
+use Rattle.agenda_arguments.specs.declared.ask.JobsRequest.{JobsRequest}
+use Rattle.agenda_arguments.specs.declared.ask.PlanRequest.{PlanRequest}
+use Rattle.agenda_arguments.specs.declared.ask.UsageFault.{UsageFault}
+use Rattle.agenda_arguments.specs.declared.ask.UsageFault.TheVariants.{NoMemory, Usage, Help}
+use Rattle.agenda_arguments.specs.declared.ask.ZonesRequest.{ZonesRequest}
+use Rattle.agenda_kinds.specs.declared.SourceKind.{SourceKind}
+use Rattle.agenda_kinds.specs.declared.SourcePath.{SourcePath}
+use Rattle.agenda_kinds.specs.Kind.{is_many, kinds, option_of}
+use Rattle.agenda_arguments.specs.Command.{agenda}
+
+-- why arguments request no command: they request help or the version, or they are invalid (agenda)
+pub data ArgumentsFault : Type 0 where
+  wants_help : ArgumentsFault
+  is_usage : ArgumentsFault
+
+-- the value of a required option (agenda)
+abbrev pub wanted : {X : Type 0} → Option X → Result X ArgumentsFault
+wanted None = Err is_usage
+wanted (Some x) = Ok x
+
+-- the number that a text gives in decimal digits, if it has at most 32 bits (agenda)
+abbrev pub number_in_text : List ℕ → Option ℕ
+number_in_text text = if accepts false (parser.Unsigned 0 4294967295) text
+    then Some (digits_value 10 (without_leading_plus text)) else None
+
+-- the number in an optional text (agenda)
+abbrev pub number_in : Option (List ℕ) → Option ℕ
+number_in text = option_and_then number_in_text text
+
+-- exactly one of a cron rule and a calendar event is required (agenda)
+abbrev pub one_rule : Option (List ℕ) → Option (List ℕ) → Result Asked ArgumentsFault
+one_rule (Some cron) None = Ok (Cron cron)
+one_rule None (Some calendar) = Ok (Event calendar)
+one_rule (Some cron) (Some calendar) = Err is_usage
+one_rule None None = Err is_usage
+
+-- the text of the zone, which is optional (agenda)
+abbrev pub zone_in : List Row → Option (List ℕ)
+zone_in rows = first_of (codes "zone") rows
+
+-- whether a flag is given: the first value of its option is `true` then, and `false` otherwise (agenda)
+abbrev pub is_given : (name : List ℕ) → List Row → Bool
+is_given name rows = option_map_or (λ value. bytes_eq value (codes "true")) (first_of name rows) false
+
+-- the time zones of a request, by the values: that of the rules, and whether events may end with one (agenda)
+abbrev pub zones_in : List Row → ZonesRequest
+zones_in rows = record { zone = zone_in rows; event_zones = is_given (codes "event-zones") rows }
+
+-- how an answer is written, by the values (agenda)
+abbrev pub format_in : List Row → FormatRequest
+format_in rows = record { json = is_given (codes "json") rows; local = is_given (codes "local") rows }
+
+-- what `next` requests, by its values (agenda)
+abbrev pub asked_by_next : List Row → Result Ask ArgumentsFault
+asked_by_next rows = do
+  after ← wanted (first_of (codes "after") rows)
+  count ← wanted (number_in (one_of (codes "count") rows))
+  rule ← one_rule (first_of (codes "cron") rows) (first_of (codes "calendar") rows)
+  Ok (Next (record { after = after; zones = zones_in rows; count = count; rule = rule; format = format_in rows }))
+
+-- the sizes of a plan, in the order in which they are checked (agenda)
+abbrev pub sizes_in : List Row → Result Sizes ArgumentsFault
+sizes_in rows = do
+  planners ← wanted (number_in (one_of (codes "planners") rows))
+  room ← wanted (number_in (one_of (codes "room") rows))
+  limit ← wanted (number_in (one_of (codes "limit") rows))
+  Ok (record { planners = planners; room = room; limit = limit })
+
+-- a path with the kind of its source (agenda)
+abbrev pub path_of : SourceKind → List ℕ → SourcePath
+path_of kind path = record { kind = kind; path = path }
+
+-- an optional text, as a list (agenda)
+abbrev pub all_given : Option (List ℕ) → List (List ℕ)
+all_given None = []
+all_given (Some text) = text ∷ []
+
+-- the paths of the sources of a kind: all of them, in the order of the arguments, or at most one for a kind
+-- with a single source (agenda)
+abbrev pub paths_in : SourceKind → List Row → List (List ℕ)
+paths_in kind rows =
+    if is_many kind then unwrap_or (all_of (option_of kind) rows) [] else all_given (first_of (option_of kind) rows)
+
+-- the paths of all sources, in the order of their kinds (agenda)
+abbrev pub sources_in : List Row → List SourcePath
+sources_in rows = flat_map (λ kind. map (path_of kind) (paths_in kind rows)) kinds
+
+-- what jobs are read from, by the values; there may be no source (agenda)
+abbrev pub jobs_in : List Row → JobsRequest
+jobs_in rows = record {
+  zones = zones_in rows;
+  sources = sources_in rows;
+  keep_going = is_given (codes "keep-going") rows;
+  delays = is_given (codes "delays") rows;
+  format = format_in rows;
+}
+
+-- what a plan is made from, by its values; the end of the span is that of `--upto`, or of its other name (agenda)
+unfoldable pub plan_in : List Row → Result PlanRequest ArgumentsFault
+plan_in rows = do
+  since ← wanted (first_of (codes "since") rows)
+  upto ← wanted (first_of (codes "upto") rows)
+  sizes ← sizes_in rows
+  Ok (record { since = since; upto = upto; jobs = jobs_in rows; sizes = sizes })
+
+-- what `plan` requests, by its values (agenda)
+abbrev pub asked_by_plan : List Row → Result Ask ArgumentsFault
+asked_by_plan rows = do
+  plan ← plan_in rows
+  Ok (Plan plan)
+
+-- what `upcoming` requests, by its values (agenda)
+abbrev pub asked_by_upcoming : List Row → Result Ask ArgumentsFault
+asked_by_upcoming rows = do
+  after ← wanted (first_of (codes "after") rows)
+  Ok (Upcoming after (jobs_in rows))
+
+-- what `quiet` requests, by its values (agenda)
+abbrev pub asked_by_quiet : List Row → Result Ask ArgumentsFault
+asked_by_quiet rows = do
+  plan ← plan_in rows
+  least ← wanted (number_in (one_of (codes "least") rows))
+  Ok (Quiet plan least)
+
+-- what `check` requests, by its values; there may be no source (agenda)
+abbrev pub asked_by_check : List Row → Result Ask ArgumentsFault
+asked_by_check rows = Ok (Check (zones_in rows) (sources_in rows) (is_given (codes "json") rows))
+
+-- what `steps` requests, by its values (agenda)
+abbrev pub asked_by_steps : List Row → Result Ask ArgumentsFault
+asked_by_steps rows = do
+  file ← wanted (first_of (codes "file") rows)
+  Ok (Steps file)
+
+-- the code with an optional name; the name must be one of a code (agenda)
+abbrev pub code_in : Option (List ℕ) → Result (Option Code) ArgumentsFault
+code_in None = Ok None
+code_in (Some name) = do
+  code ← wanted (code_named name)
+  Ok (Some code)
+
+-- what `explain` requests, by its values (agenda)
+abbrev pub asked_by_explain : List Row → Result Ask ArgumentsFault
+asked_by_explain rows = do
+  code ← code_in (first_of (codes "code") rows)
+  Ok (Explain code)
+
+-- what the given subcommand requests, by its name and its values (agenda)
+abbrev pub asked_by_subcommand : Option (List ℕ × List Row) → Result Ask ArgumentsFault
+asked_by_subcommand None = Err is_usage
+asked_by_subcommand (Some met) =
+    if bytes_eq met.0 (codes "next") then asked_by_next met.1
+    else (if bytes_eq met.0 (codes "plan") then asked_by_plan met.1
+    else (if bytes_eq met.0 (codes "upcoming") then asked_by_upcoming met.1
+    else (if bytes_eq met.0 (codes "quiet") then asked_by_quiet met.1
+    else (if bytes_eq met.0 (codes "check") then asked_by_check met.1
+    else (if bytes_eq met.0 (codes "steps") then asked_by_steps met.1
+    else (if bytes_eq met.0 (codes "explain") then asked_by_explain met.1 else Err is_usage))))))
+
+-- how an error of clap is answered: help and the version are printed, and all other errors are usage errors (agenda)
+abbrev pub fault_of_kind : ErrorKind → ArgumentsFault
+fault_of_kind DisplayHelp = wants_help
+fault_of_kind DisplayVersion = wants_help
+fault_of_kind _ = is_usage
+
+-- arguments that clap rejects request nothing; the first error decides (agenda)
+abbrev pub asked_unless : Kinds → Result Ask ArgumentsFault → Result Ask ArgumentsFault
+asked_unless [] read = read
+asked_unless (kind ∷ _) read = Err (fault_of_kind kind)
+
+-- what the arguments request (agenda)
+unfoldable pub asked_by : List (List ℕ) → Result Ask ArgumentsFault
+asked_by words = asked_unless (fault_of agenda words) (asked_by_subcommand (subcommand_of agenda words))
+
+-- the result is what the definition says, or an allocation failed (agenda)
+abbrev pub Gives : {X : Type 0} → Result X UsageFault → Result X ArgumentsFault → Type 0
+Gives (Ok x) read = read ≡ Ok x
+Gives (Err NoMemory) read = ⊤
+Gives (Err (Usage text)) read = read ≡ Err is_usage
+Gives (Err (Help text)) read = read ≡ Err wants_help
+
+-- the error that is returned for a kind of clap's errors (agenda)
+abbrev pub IsAnswerTo : ErrorKind → UsageFault → Type 0
+IsAnswerTo OutOfMemory fault = fault ≡ NoMemory
+IsAnswerTo DisplayHelp fault = (text : List ℕ) × (fault ≡ Help text)
+IsAnswerTo DisplayVersion fault = (text : List ℕ) × (fault ≡ Help text)
+IsAnswerTo _ fault = (text : List ℕ) × (fault ≡ Usage text)

@@ -1,0 +1,176 @@
+-- The command line of the program, as it is described to clap.
+use Rattle.std.specs.Prelude.{ℕ, Bool, false, true, pos, List, [], ◌∷◌, ◌++◌, map, Some, codes}
+use Rattle.clap.specs.Words.{App, Rule, new_app, new_rule, with_rule, with_subcommand}
+use Rattle.clap.specs.Simple.{on_top}
+use Rattle.clap.specs.declared.builder.action.ArgAction.TheVariants.{Append, SetTrue}
+use Rattle.clap.specs.declared.builder.value_parser.ValueParser.TheVariants as parser
+use Rattle.agenda_kinds.specs.declared.SourceKind.{SourceKind}
+use Rattle.agenda_kinds.specs.declared.SourceKind.TheVariants.{Timer}
+use Rattle.agenda_arguments.specs.declared.command.CommandOption.{CommandOption}
+use Rattle.agenda_arguments.specs.declared.command.CommandOption.TheVariants.{Flag, Text, Moment, Number, Tuning}
+use Rattle.agenda_arguments.specs.declared.command.Subcommand.{Subcommand}
+use Rattle.agenda_arguments.specs.declared.command.Subcommand.TheVariants as each
+use Rattle.agenda_kinds.specs.Kind.{is_many, kinds, option_of}
+
+-- an argument `VALUE`, which is optional (agenda)
+abbrev pub argument_named : List ℕ → Rule
+argument_named name = record (new_rule name) { value_names = 1 }
+
+-- an option `--name VALUE`, which is optional (agenda)
+abbrev pub option_named : List ℕ → Rule
+option_named name = record (argument_named name) { long = Some name }
+
+-- a flag `--name`: an option without a value (agenda)
+abbrev pub flag_option : List ℕ → Rule
+flag_option name = record (new_rule name) { long = Some name; action = Some SetTrue }
+
+-- an option for a timestamp, which is required (agenda)
+abbrev pub moment_option : List ℕ → Rule
+moment_option name = record (option_named name) { required = true }
+
+-- an argument with another long name (agenda)
+abbrev pub with_alias : Rule → (name : List ℕ) → Rule
+with_alias rule name = record rule { aliases = rule.aliases ++ name ∷ [] }
+
+-- an option for a whole number of 32 bits, which has a default (agenda)
+abbrev pub number_option : List ℕ → List ℕ → Rule
+number_option name default = record (option_named name) {
+  parser = Some (parser.Signed (pos 0) (pos 4294967295));
+  defaults = default ∷ [];
+}
+
+-- the rule of an option that a subcommand lists (agenda)
+abbrev pub rule_for : CommandOption → Rule
+rule_for (Flag name help) = flag_option name.now
+rule_for (Text name value help) = option_named name.now
+rule_for (Moment name help) = moment_option name.now
+rule_for (Number name default help) = number_option name.now default.now
+rule_for (Tuning name default help) = number_option name.now default.now
+
+-- the required argument `FILE` (agenda)
+abbrev pub file_argument : Rule
+file_argument = record (argument_named (codes "file")) { required = true }
+
+-- the optional argument `CODE` (agenda)
+abbrev pub code_argument : Rule
+code_argument = argument_named (codes "code")
+
+-- an argument that may be given any number of times, if `many` (agenda)
+abbrev pub with_count : (many : Bool) → Rule → Rule
+with_count false rule = rule
+with_count true rule = record rule { action = Some Append }
+
+-- what gives the path of a source of a kind: the argument `TIMER`, or an option (agenda)
+abbrev pub path_rule : SourceKind → Rule
+path_rule Timer = argument_named (option_of Timer)
+path_rule kind = option_named (option_of kind)
+
+-- what names sources of a kind: `--crontab F`, `--system-crontab F`, and, any number of times, `--cron-d F`,
+-- `--spool F` and `TIMER` (agenda)
+abbrev pub source_rule : SourceKind → Rule
+source_rule kind = with_count (is_many kind) (path_rule kind)
+
+-- a command with these arguments added, one after the other (agenda)
+abbrev pub with_each : App → List Rule → App
+with_each app [] = app
+with_each app (rule ∷ rules) = with_each (with_rule app rule) rules
+
+-- a subcommand with these options and arguments (agenda)
+abbrev pub subcommand_with : List ℕ → List Rule → App
+subcommand_with name rules = with_each (new_app name) rules
+
+-- a command with the options and arguments that name sources added: `[--crontab F] [--system-crontab F]
+-- [--cron-d F ..] [--spool F ..] [TIMER ..]` (agenda)
+unfoldable pub with_sources : App → App
+with_sources app = with_each app (map source_rule kinds)
+
+-- a command with the options for time zones added: `[--zone ZONE] [--event-zones]` (agenda)
+unfoldable pub with_zones : App → App
+with_zones app = with_each app (option_named (codes "zone") ∷ flag_option (codes "event-zones") ∷ [])
+
+-- a command with the flags for the form of its output added: `[--json] [--local]` (agenda)
+unfoldable pub with_format : App → App
+with_format app = with_each app (flag_option (codes "json") ∷ flag_option (codes "local") ∷ [])
+
+-- a command with what `plan`, `upcoming` and `quiet` have in common added: the zones, `[--keep-going] [--delays]`, the form of the
+-- output and the sources (agenda)
+unfoldable pub with_jobs : App → App
+with_jobs app =
+    with_sources (with_format (with_each (with_zones app) (flag_option (codes "keep-going") ∷ flag_option (codes "delays") ∷ [])))
+
+-- a command with the span of a plan added: `--since T --upto T`; `--until` is another name of `--upto` (agenda)
+unfoldable pub with_span : App → App
+with_span app = with_each app (moment_option (codes "since") ∷ with_alias (moment_option (codes "upto")) (codes "until") ∷ [])
+
+-- a command with the sizes of a plan added: `[--planners N] [--room N] [--limit N]`; `default` is the default of the limit (agenda)
+unfoldable pub with_sizes : App → (default : List ℕ) → App
+with_sizes app default = with_each app (number_option (codes "planners") (codes "2") ∷ number_option (codes "room") (codes "16")
+    ∷ number_option (codes "limit") default ∷ [])
+
+-- `next --after T`, the zones, `[--count N] (--cron TEXT or --calendar TEXT)` and the form of the output; that exactly one of `--cron`
+-- and `--calendar` is present is checked after clap's parse (agenda)
+unfoldable pub next : App
+next = with_format (with_each (with_zones (subcommand_with (codes "next") (moment_option (codes "after") ∷ [])))
+    (number_option (codes "count") (codes "1") ∷ option_named (codes "cron") ∷ option_named (codes "calendar") ∷ []))
+
+-- `plan` with the span, the jobs and the sizes (agenda)
+unfoldable pub plan : App
+plan = with_sizes (with_jobs (with_span (new_app (codes "plan")))) (codes "10000")
+
+-- `upcoming --after T` and the jobs (agenda)
+unfoldable pub upcoming : App
+upcoming = with_jobs (subcommand_with (codes "upcoming") (moment_option (codes "after") ∷ []))
+
+-- `quiet` with the span, the jobs, `[--least N]` and the sizes (agenda)
+unfoldable pub quiet : App
+quiet = with_sizes
+    (with_each (with_jobs (with_span (new_app (codes "quiet")))) (number_option (codes "least") (codes "1800") ∷ []))
+    (codes "1000000")
+
+-- `check` with the zones, `[--json]` and the sources (agenda)
+unfoldable pub check : App
+check = with_sources (with_each (with_zones (new_app (codes "check"))) (flag_option (codes "json") ∷ []))
+
+-- `steps FILE` (agenda)
+unfoldable pub steps : App
+steps = subcommand_with (codes "steps") (file_argument ∷ [])
+
+-- `explain [CODE]` (agenda)
+unfoldable pub explain : App
+explain = subcommand_with (codes "explain") (code_argument ∷ [])
+
+-- `agenda` without its subcommands; it requires a subcommand or `--version`, and has no subcommand `help`, so
+-- that each error of clap has only one answer (agenda)
+abbrev pub agenda_alone : App
+agenda_alone = on_top (λ s. record s {
+  has_version = true;
+  subcommand_required = true;
+  disable_help_subcommand = true;
+}) (new_app (codes "agenda"))
+
+-- `agenda next ..`, `agenda plan ..`, `agenda upcoming ..`, `agenda quiet ..`, `agenda check ..`, `agenda steps ..` or
+-- `agenda explain ..` (agenda)
+unfoldable pub agenda : App
+agenda =
+    with_subcommand (with_subcommand (with_subcommand (with_subcommand (with_subcommand (with_subcommand (with_subcommand
+    agenda_alone next.top) plan.top) upcoming.top) quiet.top) check.top) steps.top) explain.top
+
+-- the subcommands, in the order in which help lists them (agenda)
+abbrev pub subcommands : List Subcommand
+subcommands =
+    each.Next ∷ each.Plan ∷ each.Upcoming ∷ each.Quiet ∷ each.Check ∷ each.Steps ∷ each.Explain ∷ []
+
+-- the command line of a subcommand (agenda)
+abbrev pub app_for : Subcommand → App
+app_for each.Next = next
+app_for each.Plan = plan
+app_for each.Upcoming = upcoming
+app_for each.Quiet = quiet
+app_for each.Check = check
+app_for each.Steps = steps
+app_for each.Explain = explain
+
+-- a command with these subcommands added, one after the other (agenda)
+abbrev pub with_subcommands : App → List Subcommand → App
+with_subcommands app [] = app
+with_subcommands app (subcommand ∷ rest) = with_subcommands (with_subcommand app (app_for subcommand).top) rest

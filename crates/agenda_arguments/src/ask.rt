@@ -1,0 +1,133 @@
+//! What the arguments of the command line request.
+
+use agenda_codes::Code;
+use agenda_kinds::{Asked, SourcePaths};
+use plan_collect::Sizes;
+use plan_texts::Text;
+use std::alloc::AllocError;
+use thiserror::Error;
+
+/// The time zones of a request.
+#[derive(Debug, Drop)]
+pub struct ZonesRequest {
+    /// The text of the time zone of the rules. It is UTC if this is missing.
+    pub zone: Option<Text>,
+    /// Whether calendar events may end with a time zone other than UTC.
+    pub event_zones: bool,
+}
+
+/// How an answer is written.
+#[derive(Clone, Copy, Debug)]
+pub struct FormatRequest {
+    /// Whether each line is a JSON object.
+    pub json: bool,
+    /// Whether times are shown by the clock of the time zone.
+    pub local: bool,
+}
+
+/// What jobs are read from.
+#[derive(Debug, Drop)]
+pub struct JobsRequest {
+    /// The time zones of the rules.
+    pub zones: ZonesRequest,
+    /// The paths of the sources, in the order of their kinds. Those of one kind are in the order of the arguments.
+    pub sources: SourcePaths,
+    /// Whether what is invalid or can't be read is skipped and reported.
+    pub keep_going: bool,
+    /// Whether the delays of timers count, so that a start may happen later than planned.
+    pub delays: bool,
+    /// How the answer is written.
+    pub format: FormatRequest,
+}
+
+/// What a plan is made from.
+#[derive(Debug, Drop)]
+pub struct PlanRequest {
+    /// The text of a timestamp, the start of the span.
+    pub since: Text,
+    /// The text of a timestamp, the end of the span. It is outside the span.
+    pub upto: Text,
+    /// The jobs.
+    pub jobs: JobsRequest,
+    /// The number of planners, the capacity of each one's ring, and the maximum number of starts.
+    pub sizes: Sizes,
+}
+
+/// What next starts are listed of.
+#[derive(Debug, Drop)]
+pub struct NextRequest {
+    /// The text of a timestamp. The starts are later.
+    pub after: Text,
+    /// The time zones of the rule.
+    pub zones: ZonesRequest,
+    /// The number of starts.
+    pub count: u32,
+    /// The rule.
+    pub rule: Asked,
+    /// How the answer is written.
+    pub format: FormatRequest,
+}
+
+/// A request to the program.
+#[derive(Debug, Drop)]
+pub enum Ask {
+    /// Print the next starts of one rule.
+    Next(NextRequest),
+    /// Print the agenda of the jobs of crontabs and timers.
+    Plan(PlanRequest),
+    /// Print when each job of crontabs and timers starts next.
+    Upcoming {
+        /// The text of a timestamp. The starts are later.
+        after: Text,
+        /// The jobs.
+        jobs: JobsRequest,
+    },
+    /// Print the gaps in which no job of crontabs and timers starts.
+    Quiet {
+        /// The plan that is searched for gaps.
+        plan: PlanRequest,
+        /// The minimum length of a gap, in seconds.
+        least: u32,
+    },
+    /// Print what is wrong with crontabs and timers.
+    Check {
+        /// The time zones of the rules.
+        zones: ZonesRequest,
+        /// The paths of the sources, in the same order as for a plan.
+        sources: SourcePaths,
+        /// Whether each line is a JSON object.
+        json: bool,
+    },
+    /// Print the replies to the steps of a script.
+    Steps {
+        /// The path of the script.
+        file: Text,
+    },
+    /// Print what a code of an error or of a warning means, or the list of all codes if none is given.
+    Explain(Option<Code>),
+}
+
+/// Why the arguments request no command.
+#[derive(Debug, Drop, Error)]
+pub enum UsageFault {
+    /// An allocation failed.
+    #[error("NoMemory")]
+    NoMemory,
+    /// The arguments are invalid. The text is for standard error.
+    #[error("Usage")]
+    Usage(Text),
+    /// The arguments request help or the version. The text is for standard output.
+    #[error("Help")]
+    Help(Text),
+}
+
+impl From<AllocError> for UsageFault {
+    ghost use Rattle.std.specs.Prelude.{◌≡◌};
+    ghost use Rattle.agenda_arguments.specs.declared.ask.UsageFault.TheVariants.{NoMemory};
+
+    ghost from_gives = { λ _ fault. fault ≡ NoMemory };
+
+    fn from(_error: AllocError) -> UsageFault {
+        UsageFault::NoMemory
+    }
+}

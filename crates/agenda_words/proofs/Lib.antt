@@ -1,2 +1,0 @@
-pub mod OnLiterals
-pub mod RefusalLemmas

@@ -1,7 +1,0 @@
-use Rattle.std.proofs.Common.{◌≡◌, ◌++◌, map, take}
-use Rattle.agenda_words.specs.Arguments.{path_of}
-use Rattle.agenda_words.proofs.paths.add_all.Given as goal
-
--- the paths so far follow the paths from before the loop
-abbrev pub invariant-loop-path : goal.invariant-loop-path
-invariant-loop-path l = l.paths ≡ l.fn.paths ++ map (path_of l.kind) (map (λ path. path.now) (take l.path-index l.written))

@@ -1,0 +1,4 @@
+pub mod LeadsLemmas
+pub mod LinksLemmas
+pub mod OrderLemmas
+pub mod PlaceLemmas

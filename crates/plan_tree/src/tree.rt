@@ -1,0 +1,62 @@
+//! What is at each path of a tree.
+
+use crate::name::Name;
+use plan_texts::Text;
+use std::alloc::{AllocError, Global};
+
+/// What is at a path, without following a link.
+#[derive(Debug, Drop)]
+pub enum Node {
+    /// Nothing has this path.
+    Missing,
+    /// It can't be determined what has this path: a directory on the way can't be searched.
+    Unreadable,
+    /// A regular file.
+    File {
+        /// Whether it has no bytes.
+        is_empty: bool,
+    },
+    /// A directory.
+    Directory,
+    /// A symbolic link, and its text.
+    Link(Text),
+    /// The device /dev/null.
+    Null,
+    /// A device, a pipe or a socket.
+    Other,
+}
+
+/// The names in a directory.
+#[derive(Debug, Drop)]
+pub struct Listing {
+    /// The names, in any order, without `.` and `..`.
+    pub names: Vec<Name>,
+    /// Whether these are all names: none was skipped because it isn't UTF-8.
+    pub is_whole: bool,
+}
+
+/// A tree of files. Paths are relative to its root, and have no `/` at either end.
+pub trait Tree {
+    ghost use Rattle.std.specs.Prelude.{◌≡◌, Bool, true, IfOk, take};
+    ghost use Rattle.std.specs.Option.{option_map};
+    ghost use Rattle.plan_tree.specs.Tree.{Held, listed};
+
+    /// Whether contracts know what the tree holds.
+    ghost is_known: { Bool };
+
+    /// What the tree holds.
+    ghost held: { Self → Held };
+
+    /// Returns what is at a path.
+    fn node(&self, alloc: Global, path: &str) -> Result<Node, AllocError>
+        ensures { is_known ≡ true → IfOk result (λ node. node ≡ (held self.now).node path.now) };
+
+    /// Returns the names in a directory, or `None` if it can't be listed.
+    fn names(&self, alloc: Global, path: &str) -> Result<Option<Listing>, AllocError>
+        ensures { is_known ≡ true → IfOk result (λ names. option_map listed names ≡ (held self.now).names path.now) };
+
+    /// Returns the first `most` bytes of a file, or all if there are fewer; `None` if it can't be read.
+    fn front(&self, alloc: Global, path: &str, most: u64) -> Result<Option<Vec<u8>>, AllocError>
+        ensures { is_known ≡ true → IfOk result (λ bytes.
+            option_map (λ read. read.items) bytes ≡ option_map (take most) ((held self.now).bytes path.now)) };
+}

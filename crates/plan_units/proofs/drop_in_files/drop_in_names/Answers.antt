@@ -1,0 +1,12 @@
+-- A name is cut before its last `.`.
+use Rattle.std.proofs.Common.{lit<}
+use Rattle.plan_units.proofs.NameLemmas.{boundary_before_last}
+use Rattle.plan_units.proofs.drop_in_files.drop_in_names.Goals as goal
+
+pub range-requires-clause-end_boundary : goal.range-requires-clause-end_boundary
+range-requires-clause-end_boundary c =
+    rw (c.type_start-end.ensures, c.as_bytes.ensures.value) (boundary_before_last 46 c.args.name.now (lit< tt) c.utf8.name)
+
+pub range_from-requires : goal.range_from-requires
+range_from-requires c = λ some.
+    rw (c.type_start-end.ensures, c.as_bytes.ensures.value) (boundary_before_last 46 c.args.name.now (lit< tt) c.utf8.name)

@@ -1,0 +1,61 @@
+-- What several directories have together: of entries that have the same name, the first counts.
+use Rattle.std.specs.Prelude.{ℕ, if◌then◌else◌, List, [], ◌∷◌, ◌++◌, Bool, insert, Option, None, Some}
+use Rattle.std.specs.List.{list_any, prefix_len}
+use Rattle.std.specs.Str.{bytes_eq}
+use Rattle.plan_tree.specs.declared.tree.Node.{Node}
+use Rattle.plan_tree.specs.declared.tree.Node.TheVariants.{Directory}
+use Rattle.plan_tree.specs.Entries.{entries_of}
+use Rattle.plan_tree.specs.Order.{is_before}
+use Rattle.plan_tree.specs.Place.{child}
+use Rattle.plan_tree.specs.Tree.{Held}
+use Rattle.plan_units.specs.declared.merging.Entry.{Entry}
+use Rattle.plan_units.specs.declared.paths.UnitDir.{UnitDir}
+
+-- ---- one directory
+
+abbrev pub names_in : Option (List (List ℕ) × Bool) → List (List ℕ)
+names_in None = []
+names_in (Some listing) = listing.0
+
+-- a directory that is a link isn't read (systemd 252 of Debian)
+abbrev pub names_by : Node → List (List ℕ) → List (List ℕ)
+names_by Directory names = names
+names_by _ names = []
+
+-- the names in a directory
+abbrev pub names_at : Held → List ℕ → List (List ℕ)
+names_at held dir = names_by (held.node dir) (names_in (entries_of (held.names dir)))
+
+-- ---- several directories
+
+-- entries in the order of their names, and one more, unless one has its name (systemd.unit(5))
+abbrev pub with_entry : List Entry → Entry → List Entry
+with_entry found entry =
+    if list_any (λ other. bytes_eq other.name entry.name) found then found else
+    insert found (prefix_len (λ other. is_before other.name entry.name) found) entry
+
+-- entries, and those of more names in a directory
+abbrev pub with_names : List Entry → List ℕ → List (List ℕ) → List Entry
+with_names found dir [] = found
+with_names found dir (name ∷ more) = with_names (with_entry found (record { path = child dir name; name = name })) dir more
+
+-- entries, and those of more directories
+abbrev pub with_dirs : Held → List Entry → List (List ℕ) → List Entry
+with_dirs held found [] = found
+with_dirs held found (dir ∷ more) = with_dirs held (with_names found dir (names_at held dir)) more
+
+-- the entries of some directories
+abbrev pub entries_among : Held → List (List ℕ) → List Entry
+entries_among held dirs = with_dirs held [] dirs
+
+-- ---- the directories of names
+
+-- the directories of some names and a suffix in a directory of units
+abbrev pub places_in : List ℕ → List (List ℕ) → List ℕ → List (List ℕ)
+places_in dir [] suffix = []
+places_in dir (name ∷ more) suffix = child dir (name ++ suffix) ∷ places_in dir more suffix
+
+-- the same in each directory of units, first to last
+abbrev pub places_of : List UnitDir → List (List ℕ) → List ℕ → List (List ℕ)
+places_of [] names suffix = []
+places_of (dir ∷ more) names suffix = places_in dir.real names suffix ++ places_of more names suffix

@@ -1,0 +1,12 @@
+pub mod SearchPath
+pub mod UnitNames
+pub mod UnitFile
+pub mod Masks
+pub mod Unit
+pub mod Entries
+pub mod Specifiers
+pub mod Settings
+pub mod DropIns
+pub mod Wants
+pub mod Reach
+pub mod Timers

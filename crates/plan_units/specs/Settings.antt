@@ -1,0 +1,74 @@
+-- The units that the text of a unit's file wants (systemd.unit(5), [Unit] section options; systemd.syntax(7)).
+use Rattle.std.specs.Prelude.{ℕ, ◌-◌, Bool, false, ◌&&◌, ◌||◌, ◌==◌, nat_lt, if◌then◌else◌, List, [], ◌∷◌, ◌++◌, length, slice_index, slice_range, Option, None, Some, codes}
+use Rattle.std.specs.List.{after_first, before_first, position_or_len}
+use Rattle.std.specs.Str.{byte, bytes_eq, is_utf8}
+use Rattle.plan_texts.specs.Lines.{is_too_large}
+use Rattle.plan_texts.specs.Text.{begins_with, words}
+use Rattle.plan_texts.specs.WholeLines.{trimmed, whole_lines}
+use Rattle.plan_tree.specs.Contents.{contents_of}
+use Rattle.plan_tree.specs.Tree.{Held}
+use Rattle.plan_units.specs.Specifiers.{expanded}
+
+-- ---- a whole line, without blanks at its ends
+
+-- the name between `[` and `]` of the section that a line begins (systemd.syntax(7))
+unfoldable pub section_name : List ℕ → Option (List ℕ)
+section_name text =
+    if begins_with (λ b. b == byte "[") text && (slice_index text (length text - 1) == byte "]")
+    then Some (slice_range text 1 (length text - 1))
+    else None
+
+-- the key and the value of a setting, before and after the first `=`, without blanks at their ends (systemd.syntax(7))
+unfoldable pub setting_of : List ℕ → Option (List ℕ × List ℕ)
+setting_of text =
+    let is_equals : ℕ → Bool = λ b. b == byte "=" in
+    if nat_lt (position_or_len is_equals text) (length text)
+    then Some (trimmed (before_first is_equals text), trimmed (after_first is_equals text))
+    else None
+
+-- whether the lines after a line are in a section `[Unit]`; names of sections are compared exactly (systemd.syntax(7))
+abbrev pub inside_after : Bool → Option (List ℕ) → Bool
+inside_after inside None = inside
+inside_after inside (Some section) = bytes_eq section (codes "Unit")
+
+-- ---- the names in a setting
+
+-- the settings whose units start with the unit (systemd.unit(5))
+abbrev pub is_wanting : List ℕ → Bool
+is_wanting key =
+    bytes_eq key (codes "Wants") || (bytes_eq key (codes "Requires") || (bytes_eq key (codes "BindsTo") || bytes_eq key (codes "Upholds")))
+
+-- the names that words write in a file of a unit; what isn't UTF-8 is no name (agenda)
+abbrev pub names_of_words : List ℕ → List (List ℕ) → List (List ℕ)
+names_of_words unit [] = []
+names_of_words unit (word ∷ more) =
+    if is_utf8 (expanded unit word) then expanded unit word ∷ names_of_words unit more else names_of_words unit more
+
+-- the names are the words of the value, so an empty value takes nothing away (systemd.unit(5))
+abbrev pub names_of_setting : List ℕ → Option (List ℕ × List ℕ) → List (List ℕ)
+names_of_setting unit None = []
+names_of_setting unit (Some setting) = if is_wanting setting.0 then names_of_words unit (words setting.1) else []
+
+-- ---- all lines
+
+-- the names in the sections `[Unit]` of whole lines; `inside` says whether the first line is in one
+abbrev pub names_of_lines : List ℕ → (inside : Bool) → List (ℕ × List ℕ) → List (List ℕ)
+names_of_lines unit inside [] = []
+names_of_lines unit inside (line ∷ more) =
+    (if inside then names_of_setting unit (setting_of (trimmed line.1)) else [])
+    ++ names_of_lines unit (inside_after inside (section_name (trimmed line.1))) more
+
+-- the names in the text of a file; one that is too large or isn't UTF-8 names none (agenda)
+abbrev pub names_of_text : List ℕ → List ℕ → List (List ℕ)
+names_of_text unit text =
+    if is_too_large text then [] else
+    if is_utf8 text then names_of_lines unit false (whole_lines text) else
+    []
+
+abbrev pub names_of_found : List ℕ → Option (List ℕ) → List (List ℕ)
+names_of_found unit None = []
+names_of_found unit (Some text) = names_of_text unit text
+
+-- the names that a file of a unit writes, by its path; one that can't be read writes none (agenda)
+abbrev pub set_names : Held → List ℕ → List ℕ → List (List ℕ)
+set_names held unit path = names_of_found unit (contents_of held path)

@@ -1,0 +1,76 @@
+-- Which file counts for a unit's name (systemd.unit(5)).
+use Rattle.std.specs.Prelude.{ℕ, ◌+◌, ◌-◌, Bool, not, ◌&&◌, ◌==◌, nat_eq, nat_lt, if◌then◌else◌, List, [], ◌∷◌, ◌++◌, length, drop, Option, None, Some}
+use Rattle.std.specs.List.{list_any, starts_with, suffix_len}
+use Rattle.std.specs.Str.{byte, bytes_eq}
+use Rattle.plan_tree.specs.declared.tree.Node.{Node}
+use Rattle.plan_tree.specs.declared.tree.Node.TheVariants.{Missing, Unreadable, File, Directory, Link, Null, Other}
+use Rattle.plan_tree.specs.Links.{is_here, is_up}
+use Rattle.plan_tree.specs.Place.{child, names_of, parent, start}
+use Rattle.plan_units.specs.declared.file.UnitFile.{UnitFile}
+use Rattle.plan_units.specs.declared.paths.UnitDir.{UnitDir}
+use Rattle.plan_units.specs.SearchPath.{unit_paths}
+use Rattle.plan_units.specs.UnitNames.{named_for, template_of}
+
+-- ---- where a link leads by its names alone
+
+-- names are read without a look at the tree (agenda)
+abbrev pub lead_from : List ℕ → List (List ℕ) → List ℕ
+lead_from dir [] = dir
+lead_from dir (name ∷ rest) = lead_from (if is_here name then dir else if is_up name then parent dir else child dir name) rest
+
+-- where the text of a link in a directory leads
+abbrev pub lead : List ℕ → List ℕ → List ℕ
+lead dir text = lead_from (start dir text) (names_of text)
+
+-- the last name of a path
+abbrev pub last_name : List ℕ → List ℕ
+last_name path = drop (length path - suffix_len (λ b. not (b == byte "/")) path) path
+
+-- a path is below a directory
+abbrev pub is_below : List ℕ → List ℕ → Bool
+is_below path dir = starts_with nat_eq path (dir ++ byte "/" ∷ []) && nat_lt (length dir + 1) (length path)
+
+-- a path is below one of the directories of units
+abbrev pub is_unit_path : List ℕ → Bool
+is_unit_path path = list_any (λ dir. is_below path dir) unit_paths
+
+-- ---- the file of a name
+
+-- the file of a name in a directory
+abbrev pub file_at : UnitDir → List ℕ → Option (List ℕ) → UnitFile
+file_at dir name alias = record { path = child dir.path name; real = child dir.real name; alias = alias }
+
+-- a link to another name in a directory of units is an alias. One to the same name there doesn't count, nor one of an
+-- instance to its template (systemd.unit(5); (agenda))
+abbrev pub file_by_lead : UnitDir → List ℕ → List ℕ → Option UnitFile
+file_by_lead dir name path =
+    if not (is_unit_path path) then Some (file_at dir name None) else
+    if bytes_eq (named_for name (last_name path)) name then None else
+    Some (file_at dir name (Some (last_name path)))
+
+-- what counts in a directory; a directory of that name doesn't (systemd.unit(5))
+abbrev pub file_by : Node → UnitDir → List ℕ → Option UnitFile
+file_by Missing dir name = None
+file_by Unreadable dir name = None
+file_by Directory dir name = None
+file_by (Link text) dir name = file_by_lead dir name (lead dir.path text)
+file_by (File is_empty) dir name = Some (file_at dir name None)
+file_by Null dir name = Some (file_at dir name None)
+file_by Other dir name = Some (file_at dir name None)
+
+abbrev pub or_next : Option UnitFile → Option UnitFile → Option UnitFile
+or_next None next = next
+or_next (Some file) next = Some file
+
+-- the first of the directories counts that has a file of the name (systemd.unit(5))
+abbrev pub file_of_name : (List ℕ → Node) → List UnitDir → List ℕ → Option UnitFile
+file_of_name node [] name = None
+file_of_name node (dir ∷ more) name = or_next (file_by (node (child dir.real name)) dir name) (file_of_name node more name)
+
+-- for an instance without a file, the one of its template counts (systemd.unit(5))
+abbrev pub file_of_template : (List ℕ → Node) → List UnitDir → Option (List ℕ) → Option UnitFile
+file_of_template node dirs None = None
+file_of_template node dirs (Some template) = file_of_name node dirs template
+
+abbrev pub file_of_unit : (List ℕ → Node) → List UnitDir → List ℕ → Option UnitFile
+file_of_unit node dirs name = or_next (file_of_name node dirs name) (file_of_template node dirs (template_of name))

@@ -1,0 +1,34 @@
+-- Names of units: PREFIX.TYPE, PREFIX@.TYPE of a template, PREFIX@INSTANCE.TYPE of an instance (systemd.unit(5)).
+use Rattle.std.specs.Prelude.{ℕ, ◌+◌, ◌-◌, not, ◌==◌, nat_lt, if◌then◌else◌, List, ◌∷◌, ◌++◌, length, take, drop, slice_range, Option, None, Some}
+use Rattle.std.specs.List.{prefix_len, suffix_len}
+use Rattle.std.specs.Str.{byte}
+
+-- where the type starts: at the last `.`
+abbrev pub type_start : List ℕ → ℕ
+type_start name = length name - suffix_len (λ b. not (b == byte ".")) name - 1
+
+-- the parts of the name of a template or an instance: PREFIX, INSTANCE, which is empty for a template, and TYPE with its `.`.
+-- The first `@` counts, and the last `.`
+abbrev pub parts_of : List ℕ → Option (List ℕ × List ℕ × List ℕ)
+parts_of name =
+    let at = prefix_len (λ b. not (b == byte "@")) name in
+    let end = type_start name in
+    if nat_lt at end then Some (take at name, slice_range name (at + 1) end, drop end name) else None
+
+-- the template of an instance; None for another name
+abbrev pub template_by : Option (List ℕ × List ℕ × List ℕ) → Option (List ℕ)
+template_by None = None
+template_by (Some parts) = if length parts.1 == 0 then None else Some (parts.0 ++ byte "@" ∷ parts.2)
+
+abbrev pub template_of : List ℕ → Option (List ℕ)
+template_of name = template_by (parts_of name)
+
+-- for an instance, the instance of a template that has the same INSTANCE; otherwise the other name itself
+abbrev pub named_by : Option (List ℕ × List ℕ × List ℕ) → Option (List ℕ × List ℕ × List ℕ) → List ℕ → List ℕ
+named_by (Some template) (Some instance) other =
+    if length template.1 == 0 then template.0 ++ byte "@" ∷ instance.1 ++ template.2 else other
+named_by _ _ other = other
+
+-- the unit that another name means for a name: if that is a template, its instance (systemd.unit(5), on aliases)
+abbrev pub named_for : List ℕ → List ℕ → List ℕ
+named_for name other = named_by (parts_of other) (parts_of name) other

@@ -1,0 +1,182 @@
+//! Which file counts for a unit's name (systemd.unit(5)).
+
+ghost use Rattle.std.specs.Prelude.{◌≡◌, ◌+◌, ◌-◌, ◌++◌, ◌∷◌, [], not, ◌==◌, true, IfOk, drop, length, map, nat_eq, nat_lt};
+ghost use Rattle.std.specs.List.{list_any, prefix_len, suffix_len};
+ghost use Rattle.std.specs.Str.{byte};
+ghost use Rattle.plan_tree.specs.Place.{child, start};
+ghost use Rattle.plan_units.specs.UnitFile.{file_by, file_by_lead, file_of_name, file_of_unit, is_below, is_unit_path, last_name, lead, lead_from};
+
+use crate::names::{named_for, template_of};
+use crate::paths::{UnitDir, unit_paths};
+use plan_texts::begins_with;
+use plan_tree::{Name, Node, Place, Tree, is_here, is_up, names_of};
+use std::alloc::{AllocError, Global};
+
+/// The file of a name.
+#[derive(Debug, Drop)]
+pub struct UnitFile {
+    /// Its path.
+    pub path: Place,
+    /// The path that it is read by: its directory is no link.
+    pub real: Place,
+    /// The other name that it stands for, if it is an alias.
+    pub alias: Option<Name>,
+}
+
+/// Returns the file of a unit's name: that of the name itself, or else of its template.
+///
+/// # Errors
+///
+/// `AllocError` if an allocation fails.
+pub fn file_of_unit<T: Tree>(
+    alloc: Global,
+    tree: &T,
+    dirs: &[UnitDir],
+    name: &str,
+) -> Result<Option<UnitFile>, AllocError>
+    ensures { T.is_known ≡ true → IfOk result (λ file.
+        file ≡ file_of_unit (T.held tree.now).node dirs.now name.now) }
+{
+    if let Some(file) = file_of_name(alloc, tree, dirs, name)? {
+        return Ok(Some(file));
+    }
+    match template_of(alloc, name)? {
+        None => Ok(None),
+        Some(template) => file_of_name(alloc, tree, dirs, template.as_str()),
+    }
+}
+
+// Returns the file of a name: the first in the directories that counts.
+fn file_of_name<T: Tree>(
+    alloc: Global,
+    tree: &T,
+    dirs: &[UnitDir],
+    name: &str,
+) -> Result<Option<UnitFile>, AllocError>
+    ensures { T.is_known ≡ true → IfOk result (λ file.
+        file ≡ file_of_name (T.held tree.now).node dirs.now name.now) }
+{
+    for dir in dirs {
+        if let Some(file) = file_in(alloc, tree, dir, name)? {
+            return Ok(Some(file));
+        }
+    }
+    Ok(None)
+}
+
+// Returns the file of a name in a directory, if one counts.
+fn file_in<T: Tree>(
+    alloc: Global,
+    tree: &T,
+    dir: &UnitDir,
+    name: &str,
+) -> Result<Option<UnitFile>, AllocError>
+    ensures { T.is_known ≡ true → IfOk result (λ file.
+        file ≡ file_by ((T.held tree.now).node (child dir.now.real name.now)) dir.now name.now) }
+{
+    let real = dir.real.child(alloc, name)?;
+    match tree.node(alloc, real.as_str())? {
+        Node::Missing | Node::Unreadable | Node::Directory => Ok(None),
+        Node::Link(text) => {
+            let to = lead(alloc, dir.path.as_str(), text.as_str())?;
+            file_by_lead(alloc, dir, name, to.as_str())
+        }
+        Node::File { .. } | Node::Null | Node::Other => Ok(Some(UnitFile {
+            path: dir.path.child(alloc, name)?,
+            real,
+            alias: None,
+        })),
+    }
+}
+
+// Returns the file of a name that is a link in a directory, if it counts. By its names the link leads to `to`.
+fn file_by_lead(
+    alloc: Global,
+    dir: &UnitDir,
+    name: &str,
+    to: &str,
+) -> Result<Option<UnitFile>, AllocError>
+    ensures { IfOk result (λ file. file ≡ file_by_lead dir.now name.now to.now) }
+{
+    let alias = if is_unit_path(alloc, to)? {
+        let last = last_name(to);
+        if named_for(alloc, name, last)?.as_str() == name {
+            return Ok(None);
+        }
+        Some(Name::at(alloc, last)?)
+    } else {
+        None
+    };
+    Ok(Some(UnitFile {
+        path: dir.path.child(alloc, name)?,
+        real: dir.real.child(alloc, name)?,
+        alias,
+    }))
+}
+
+// Returns where the text of a link in a directory leads, by its names alone.
+fn lead(alloc: Global, dir: &str, text: &str) -> Result<Place, AllocError>
+    ensures { IfOk result (λ place. place ≡ lead dir.now text.now) }
+{
+    let mut place = if begins_with(text.as_bytes(), b'/') {
+        Place::root(alloc)
+    } else {
+        Place::at(alloc, dir)?
+    };
+    let names = names_of(alloc, text)?;
+    for name in names.as_slice() {
+        place = lead_on(alloc, place, name)?;
+    }
+    Ok(place)
+}
+
+// Returns where a name leads from a directory.
+fn lead_on(alloc: Global, dir: Place, name: &str) -> Result<Place, AllocError>
+    ensures { IfOk result (λ place. place ≡ lead_from dir (name.now ∷ [])) }
+{
+    if is_here(name) {
+        return Ok(dir);
+    }
+    if is_up(name) {
+        let mut dir = dir;
+        dir.leave();
+        return Ok(dir);
+    }
+    dir.child(alloc, name)
+}
+
+// Returns whether a path is below one of the directories of units.
+fn is_unit_path(alloc: Global, path: &str) -> Result<bool, AllocError>
+    ensures { IfOk result (λ is. is ≡ is_unit_path path.now) }
+{
+    for dir in &unit_paths() {
+        if is_below(alloc, path, dir)? {
+            return Ok(true);
+        }
+    }
+    Ok(false)
+}
+
+// Returns whether a path is below a directory.
+fn is_below(alloc: Global, path: &str, dir: &str) -> Result<bool, AllocError>
+    ensures { IfOk result (λ is. is ≡ is_below path.now dir.now) }
+{
+    let mut front = String::from_str(alloc, dir)?;
+    front.push_str("/")?;
+    Ok(path.as_bytes().starts_with(front.as_str().as_bytes()) && dir.len() + 1 < path.len())
+}
+
+// Returns the last name of a path.
+fn last_name(path: &str) -> &str
+    ensures { result.now ≡ last_name path.now }
+{
+    let start = path.len().saturating_sub(last_name_len(path.as_bytes()));
+    &path[start..]
+}
+
+// Returns the length of the last name of a path.
+fn last_name_len(path: &[u8]) -> usize
+    ensures { result ≡ suffix_len (λ b. not (b == byte "/")) path.now }
+{
+    path.iter().rev().take_while(|byte| **byte != b'/').count()
+}

@@ -1,0 +1,94 @@
+//! The search path of units (systemd.unit(5)).
+
+ghost use Rattle.std.specs.Prelude.{◌≡◌, true, IfOk, OnOk, Some, map};
+ghost use Rattle.std.specs.List.{list_any};
+ghost use Rattle.std.specs.Str.{bytes_eq};
+ghost use Rattle.plan_tree.specs.Links.{end_of};
+ghost use Rattle.plan_units.specs.SearchPath.{dir_by, search_path, unit_paths, with_dir};
+
+use plan_tree::{End, Node, Place, Tree, follow};
+use std::alloc::{AllocError, Global};
+
+/// A directory of the search path of units.
+#[derive(Debug, Drop)]
+pub struct UnitDir {
+    /// Its path.
+    pub path: Place,
+    /// Where that leads.
+    pub real: Place,
+}
+
+// Returns the paths of the directories of units, first to last.
+pub(crate) fn unit_paths() -> [&'static str; 13]
+    ensures { map (λ path. path.now) result ≡ unit_paths }
+{
+    [
+        "etc/systemd/system.control",
+        "run/systemd/system.control",
+        "run/systemd/transient",
+        "run/systemd/generator.early",
+        "etc/systemd/system",
+        "etc/systemd/system.attached",
+        "run/systemd/system",
+        "run/systemd/system.attached",
+        "run/systemd/generator",
+        "usr/local/lib/systemd/system",
+        "lib/systemd/system",
+        "usr/lib/systemd/system",
+        "run/systemd/generator.late",
+    ]
+}
+
+/// Returns the directories of units that exist in a tree, first to last.
+///
+/// A directory that is the same as an earlier one, at the end of its links, is skipped.
+///
+/// # Errors
+///
+/// `AllocError` if an allocation fails.
+pub fn search_path<T: Tree>(alloc: Global, tree: &T) -> Result<Vec<UnitDir>, AllocError>
+    ensures { T.is_known ≡ true → IfOk result (λ dirs. dirs.items ≡ search_path (T.held tree.now).node) }
+{
+    let mut dirs = Vec::new(alloc);
+    for path in &unit_paths() {
+        if let Some(dir) = dir_at(alloc, tree, path)? {
+            add_dir(&mut dirs, dir)?;
+        }
+    }
+    Ok(dirs)
+}
+
+// Returns the directory of units where a path leads, if it leads to a directory.
+fn dir_at<T: Tree>(alloc: Global, tree: &T, path: &str) -> Result<Option<UnitDir>, AllocError>
+    ensures { T.is_known ≡ true → IfOk result (λ dir.
+        dir ≡ dir_by (T.held tree.now).node path.now (end_of (T.held tree.now).node path.now)) }
+{
+    match follow(alloc, tree, path)? {
+        End::Found(real) => match tree.node(alloc, real.as_str())? {
+            Node::Directory => Ok(Some(UnitDir {
+                path: Place::at(alloc, path)?,
+                real,
+            })),
+            _ => Ok(None),
+        },
+        End::Nothing | End::Unknown => Ok(None),
+    }
+}
+
+// Adds a directory, unless one is the same.
+fn add_dir(dirs: &mut Vec<UnitDir>, dir: UnitDir) -> Result<(), AllocError>
+    ensures { OnOk result (dirs.new.items ≡ with_dir dirs.old.items (Some dir)) }
+{
+    if is_among(dirs.as_slice(), dir.real.as_str()) {
+        return Ok(());
+    }
+    dirs.push(dir)?;
+    Ok(())
+}
+
+// Returns whether a path is where one of some directories leads.
+fn is_among(dirs: &[UnitDir], real: &str) -> bool
+    ensures { result ≡ list_any (λ other. bytes_eq other.real real.now) dirs.now }
+{
+    dirs.iter().any(|other| other.real.as_str() == real)
+}

@@ -1,0 +1,150 @@
+//! The units that the text of a unit's file wants (systemd.unit(5), systemd.syntax(7)).
+
+ghost use Rattle.std.specs.Prelude.{◌≡◌, false, true, IfOk, None, Some, if◌then◌else◌, map};
+ghost use Rattle.std.specs.Option.{option_map};
+ghost use Rattle.std.specs.Str.{is_utf8};
+ghost use Rattle.plan_texts.specs.WholeLines.{whole_text};
+ghost use Rattle.plan_units.specs.Settings.{inside_after, is_wanting, names_of_found, names_of_lines, names_of_setting, names_of_text, names_of_words, section_name, set_names, setting_of};
+
+use crate::specifiers::expanded;
+use plan_texts::lines::{MOST_BYTES, is_too_large};
+use plan_texts::whole_lines::{WholeLine, trimmed, whole_lines};
+use plan_texts::words;
+use plan_tree::{Name, Tree, contents};
+use std::alloc::{AllocError, Global};
+
+// Returns the names of the units that a file of a unit wants.
+pub(crate) fn set_names<T: Tree>(
+    alloc: Global,
+    tree: &T,
+    unit: &str,
+    path: &str,
+) -> Result<Vec<Name>, AllocError>
+    ensures { T.is_known ≡ true → IfOk result (λ names.
+        names.items ≡ set_names (T.held tree.now) unit.now path.now) }
+{
+    let found = contents(alloc, tree, path, MOST_BYTES as u64 + 1)?;
+    names_of_found(alloc, unit, found)
+}
+
+// Returns the names of the units that the text of the file of a unit wants, if there is one.
+fn names_of_found(
+    alloc: Global,
+    unit: &str,
+    found: Option<Vec<u8>>,
+) -> Result<Vec<Name>, AllocError>
+    ensures { IfOk result (λ names.
+        names.items ≡ names_of_found unit.now (option_map (λ text. text.items) found)) }
+{
+    match found {
+        None => Ok(Vec::new(alloc)),
+        Some(text) => names_of_text(alloc, unit, text.as_slice()),
+    }
+}
+
+// Returns the names of the units that the text of the file of a unit wants.
+#[tactic(auto, using(crate::proofs::TextLemmas::name_of_utf8, crate::proofs::TextLemmas::name_of_other))]
+fn names_of_text(alloc: Global, unit: &str, text: &[u8]) -> Result<Vec<Name>, AllocError>
+    ensures { IfOk result (λ names. names.items ≡ names_of_text unit.now text.now) }
+{
+    if is_too_large(text) {
+        return Ok(Vec::new(alloc));
+    }
+    let Ok(text) = str::from_utf8(text) else {
+        return Ok(Vec::new(alloc));
+    };
+    let lines = whole_lines(alloc, text)?;
+    names_of_lines(alloc, unit, lines.as_slice())
+}
+
+// Returns the names in the sections `[Unit]` of whole lines.
+fn names_of_lines(alloc: Global, unit: &str, lines: &[WholeLine]) -> Result<Vec<Name>, AllocError>
+    ensures { IfOk result (λ names. names.items ≡ names_of_lines unit.now false (map whole_text lines.now)) }
+{
+    let mut names = Vec::new(alloc);
+    let mut inside = false;
+    for line in lines {
+        let text = trimmed(line.text.as_str());
+        if inside {
+            let mut more = names_of_setting(alloc, unit, text)?;
+            names.append(&mut more)?;
+        }
+        inside = inside_after(inside, text.as_bytes());
+    }
+    Ok(names)
+}
+
+// Returns whether the lines after a line are in a section `[Unit]`.
+fn inside_after(inside: bool, text: &[u8]) -> bool
+    ensures { result ≡ inside_after inside (section_name text.now) }
+{
+    match section_name(text) {
+        Some(section) => section == b"Unit".as_slice(),
+        None => inside,
+    }
+}
+
+// Returns the name of the section, if the line begins one.
+#[tactic(auto, unfolding(crate::specs::Settings::section_name))]
+fn section_name(text: &[u8]) -> Option<&[u8]>
+    ensures { option_map (λ name. name.now) result ≡ section_name text.now }
+{
+    match text {
+        [b'[', name @ .., b']'] => Some(name),
+        _ => None,
+    }
+}
+
+// Returns the key and the value of the setting on a line, without blanks at their ends.
+#[tactic(auto, unfolding(crate::specs::Settings::setting_of))]
+fn setting_of(text: &str) -> Option<(&str, &str)>
+    ensures { option_map (λ setting. (setting.0.now, setting.1.now)) result ≡ setting_of text.now }
+{
+    let (key, value) = text.split_once('=')?;
+    Some((trimmed(key), trimmed(value)))
+}
+
+// Returns the names in the setting on a line, if its units start with the unit.
+fn names_of_setting(alloc: Global, unit: &str, text: &str) -> Result<Vec<Name>, AllocError>
+    ensures { IfOk result (λ names. names.items ≡ names_of_setting unit.now (setting_of text.now)) }
+{
+    match setting_of(text) {
+        Some((key, value)) if is_wanting(key) => {
+            let words = words(alloc, value.as_bytes())?;
+            names_of_words(alloc, unit, words.as_slice())
+        }
+        _ => Ok(Vec::new(alloc)),
+    }
+}
+
+// Returns whether the units of a setting with this key start with the unit.
+fn is_wanting(key: &str) -> bool
+    ensures { result ≡ is_wanting key.now }
+{
+    key == "Wants" || key == "Requires" || key == "BindsTo" || key == "Upholds"
+}
+
+// Returns the names that words write in the file of a unit.
+fn names_of_words(alloc: Global, unit: &str, words: &[&[u8]]) -> Result<Vec<Name>, AllocError>
+    ensures { IfOk result (λ names. names.items ≡ names_of_words unit.now (map (λ word. word.now) words.now)) }
+{
+    let mut names = Vec::new(alloc);
+    for word in words {
+        let text = expanded(alloc, unit, word)?;
+        if let Some(name) = name_of(alloc, text.as_slice())? {
+            names.push(name)?;
+        }
+    }
+    Ok(names)
+}
+
+// Returns a text as a name, if it is UTF-8.
+#[tactic(auto, using(crate::proofs::TextLemmas::name_of_utf8, crate::proofs::TextLemmas::name_of_other))]
+fn name_of(alloc: Global, text: &[u8]) -> Result<Option<Name>, AllocError>
+    ensures { IfOk result (λ name. name ≡ (if is_utf8 text.now then Some text.now else None)) }
+{
+    match str::from_utf8(text) {
+        Ok(text) => Ok(Some(Name::at(alloc, text)?)),
+        Err(_) => Ok(None),
+    }
+}

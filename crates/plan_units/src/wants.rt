@@ -1,0 +1,182 @@
+//! Which units a unit wants, and the units that are reached (systemd.unit(5)).
+
+ghost use Rattle.std.specs.Prelude.{◌≡◌, ◌++◌, true, IfOk, IfNone, IfSome, OnOk, if◌then◌else◌, ◌∷◌, []};
+ghost use Rattle.plan_units.specs.Reach.{AreReached, AreTooMany};
+ghost use Rattle.plan_units.specs.Wants.{counted_names, is_counted, linked_names, set_by_unit, set_in, wants_of, with_template};
+ghost use Rattle.plan_units.specs.UnitNames.{template_of};
+
+use crate::drop_in_files::drop_ins;
+use crate::mask::is_mask;
+use crate::merging::{Entry, entries_among, places_of};
+use crate::names::template_of;
+use crate::paths::UnitDir;
+use crate::reach::{Wants, reached};
+use crate::settings::set_names;
+use crate::unit::{Unit, unit_of};
+use plan_tree::{Name, Node, Tree};
+use std::alloc::{AllocError, Global};
+
+/// The units of a tree, by the directories of their search path.
+#[derive(Drop)]
+pub struct TreeUnits<'a, T: Tree> {
+    /// The tree.
+    pub tree: &'a T,
+    /// The directories of units, first to last.
+    pub dirs: &'a [UnitDir],
+}
+
+impl<T: Tree> Wants for TreeUnits<'_, T> {
+    ghost use Rattle.plan_units.specs.Wants.{wants_of};
+
+    ghost is_known = { T.is_known };
+
+    ghost wants = { λ units name. wants_of (T.held units.tree.now) units.dirs.now name };
+
+    fn wanted(&self, alloc: Global, name: &str) -> Result<Vec<Name>, AllocError> {
+        wanted_names(alloc, self.tree, self.dirs, name)
+    }
+}
+
+/// Returns the units of a tree that are reached from a name, or `None` if there are more than 10,000.
+///
+/// # Errors
+///
+/// `AllocError` if an allocation fails.
+pub fn reached_units<T: Tree>(
+    alloc: Global,
+    tree: &T,
+    dirs: &[UnitDir],
+    first: Name,
+) -> Result<Option<Vec<Name>>, AllocError>
+    ensures all { T.is_known ≡ true → IfOk result (λ found.
+        IfSome found (λ names. AreReached (wants_of (T.held tree.now) dirs.now) first names.items)) }
+    ensures too_many { T.is_known ≡ true → IfOk result (λ found.
+        IfNone found (AreTooMany (wants_of (T.held tree.now) dirs.now) first)) }
+{
+    reached(alloc, &TreeUnits { tree, dirs }, first)
+}
+
+/// Returns the names that a name wants: the unit that it is, the units that are linked in the directories of the name, and
+/// those that the files of its unit name. A name without a unit wants none, and a masked unit neither.
+///
+/// # Errors
+///
+/// `AllocError` if an allocation fails.
+pub fn wanted_names<T: Tree>(
+    alloc: Global,
+    tree: &T,
+    dirs: &[UnitDir],
+    name: &str,
+) -> Result<Vec<Name>, AllocError>
+    ensures { T.is_known ≡ true → IfOk result (λ names.
+        names.items ≡ wants_of (T.held tree.now) dirs.now name.now) }
+{
+    let mut names = Vec::new(alloc);
+    let Some(unit) = unit_of(alloc, tree, dirs, name)? else {
+        return Ok(names);
+    };
+    if is_mask(alloc, tree, unit.file.real.as_str())? {
+        return Ok(names);
+    }
+    let mut wanted = linked_names(alloc, tree, dirs, name, ".wants")?;
+    let mut required = linked_names(alloc, tree, dirs, name, ".requires")?;
+    let mut set = set_by_unit(alloc, tree, dirs, &unit)?;
+    names.push(unit.name)?;
+    names.append(&mut wanted)?;
+    names.append(&mut required)?;
+    names.append(&mut set)?;
+    Ok(names)
+}
+
+// Returns the names that a unit's file and its drop-ins write.
+fn set_by_unit<T: Tree>(
+    alloc: Global,
+    tree: &T,
+    dirs: &[UnitDir],
+    unit: &Unit,
+) -> Result<Vec<Name>, AllocError>
+    ensures { T.is_known ≡ true → IfOk result (λ names.
+        names.items ≡ set_by_unit (T.held tree.now) dirs.now unit.now) }
+{
+    let name = unit.name.as_str();
+    let mut names = set_names(alloc, tree, name, unit.file.real.as_str())?;
+    let found = drop_ins(alloc, tree, dirs, name)?;
+    let mut more = set_in(alloc, tree, name, found.as_slice())?;
+    names.append(&mut more)?;
+    Ok(names)
+}
+
+// Returns the names that some files of a unit write.
+fn set_in<T: Tree>(
+    alloc: Global,
+    tree: &T,
+    unit: &str,
+    files: &[Entry],
+) -> Result<Vec<Name>, AllocError>
+    ensures { T.is_known ≡ true → IfOk result (λ names.
+        names.items ≡ set_in (T.held tree.now) unit.now files.now) }
+{
+    let mut names = Vec::new(alloc);
+    for file in files {
+        let mut more = set_names(alloc, tree, unit, file.path.as_str())?;
+        names.append(&mut more)?;
+    }
+    Ok(names)
+}
+
+// Returns the names that are linked in the directories of a name with a suffix. The directories of its template count too.
+fn linked_names<T: Tree>(
+    alloc: Global,
+    tree: &T,
+    dirs: &[UnitDir],
+    name: &str,
+    suffix: &str,
+) -> Result<Vec<Name>, AllocError>
+    ensures { T.is_known ≡ true → IfOk result (λ names.
+        names.items ≡ linked_names (T.held tree.now) dirs.now name.now suffix.now) }
+{
+    let names = with_template(alloc, name)?;
+    let places = places_of(alloc, dirs, names.as_slice(), suffix)?;
+    let found = entries_among(alloc, tree, places.as_slice())?;
+    counted_names(alloc, tree, found)
+}
+
+// Returns a name and, for an instance, that of its template.
+fn with_template(alloc: Global, name: &str) -> Result<Vec<Name>, AllocError>
+    ensures { IfOk result (λ names. names.items ≡ with_template name.now (template_of name.now)) }
+{
+    let mut names = Vec::new(alloc);
+    names.push(Name::at(alloc, name)?)?;
+    if let Some(template) = template_of(alloc, name)? {
+        names.push(template)?;
+    }
+    Ok(names)
+}
+
+// Returns the names of the entries that count: the links that lead to no mask.
+fn counted_names<T: Tree>(
+    alloc: Global,
+    tree: &T,
+    found: Vec<Entry>,
+) -> Result<Vec<Name>, AllocError>
+    ensures { T.is_known ≡ true → IfOk result (λ names.
+        names.items ≡ counted_names (T.held tree.now).node found.items) }
+{
+    let mut names = Vec::new(alloc);
+    for entry in found {
+        if is_counted(alloc, tree, entry.path.as_str())? {
+            names.push(entry.name)?;
+        }
+    }
+    Ok(names)
+}
+
+// Returns whether an entry with this path counts.
+fn is_counted<T: Tree>(alloc: Global, tree: &T, path: &str) -> Result<bool, AllocError>
+    ensures { T.is_known ≡ true → IfOk result (λ is. is ≡ is_counted (T.held tree.now).node path.now) }
+{
+    match tree.node(alloc, path)? {
+        Node::Link(_) => Ok(!is_mask(alloc, tree, path)?),
+        _ => Ok(false),
+    }
+}
