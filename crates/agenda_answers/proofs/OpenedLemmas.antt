@@ -2,7 +2,7 @@
 use Rattle.std.proofs.Common.{◌≡◌, OnOk, ℕ, ◌+◌, ◌<◌, List, [], ◌∷◌, ◌++◌, length, take, drop, get_or, suc, Option, None, Some, Result, Ok, Err, ap, refl, sym, subst, ◌∙◌, drop-cons, append_assoc, append-nil}
 use Rattle.std.proofs.lemmas.List.{map-append, take_more, take-append-drop}
 use Rattle.std.proofs.lemmas.Grind.{flat_map-append}
-use Rattle.agenda_kinds.specs.declared.SourcePath.{SourcePath}
+use Rattle.agenda_sources.specs.declared.SourcePath.{SourcePath}
 use Rattle.agenda_answers.specs.EventZones.{is_given}
 use Rattle.agenda_answers.specs.Opened.{OpensFirst, files_of_names, files_unless, followed_by, source_files}
 

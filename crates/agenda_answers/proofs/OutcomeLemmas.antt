@@ -5,7 +5,7 @@ use Rattle.plan_rules.specs.Job.{JobParts}
 use Rattle.plan_streams.specs.Stream.{Puts}
 use Rattle.plan_streams.specs.declared.WriteFault.{WriteFault}
 use Rattle.plan_write.specs.declared.Format.{Format}
-use Rattle.agenda_kinds.specs.declared.SourcePath.{SourcePath}
+use Rattle.agenda_sources.specs.declared.SourcePath.{SourcePath}
 use Rattle.agenda_sources.specs.declared.Found.{Found}
 use Rattle.agenda_sources.specs.declared.Source.{Source}
 use Rattle.agenda_sources.specs.declared.TimeZones.{TimeZones}

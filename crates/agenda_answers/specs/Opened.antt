@@ -7,7 +7,7 @@ use Rattle.plan_zones.specs.ZoneTexts.{Source as ZoneSource, Path, Name, source_
 use Rattle.agenda_faults.specs.declared.faults.RunFault.TheVariants as run
 use Rattle.agenda_faults.specs.declared.faults.Failure.{Failure}
 use Rattle.agenda_faults.specs.declared.faults.Failure.TheVariants.{Run}
-use Rattle.agenda_kinds.specs.declared.SourcePath.{SourcePath}
+use Rattle.agenda_sources.specs.declared.SourcePath.{SourcePath}
 use Rattle.agenda_sources.specs.declared.Source.{Source}
 use Rattle.agenda_sources.specs.ZoneNames.{zone_names}
 use Rattle.agenda_arguments.specs.declared.ZonesRequest.{ZonesRequest}

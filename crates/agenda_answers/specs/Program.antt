@@ -7,7 +7,7 @@ use Rattle.agenda_arguments.specs.Arguments.{Gives, asked_by}
 use Rattle.agenda_faults.specs.declared.faults.Failure.{Failure}
 use Rattle.agenda_faults.specs.declared.faults.Failure.TheVariants.{Run}
 use Rattle.agenda_faults.specs.declared.faults.RunFault.TheVariants.{NoMemory}
-use Rattle.agenda_kinds.specs.declared.SourcePath.{SourcePath}
+use Rattle.agenda_sources.specs.declared.SourcePath.{SourcePath}
 use Rattle.agenda_commands.specs.declared.Goal.{Goal}
 use Rattle.agenda_answers.specs.declared.requests.Request.{Request}
 use Rattle.agenda_answers.specs.declared.requests.Request.TheVariants.{Starts, Jobs, Check, Steps, Explain}

@@ -1,9 +1,9 @@
 -- The sources of a plan, by the given paths. All of it is our choice (agenda).
 use Rattle.std.specs.Prelude.{◌≡◌, Bool, true, false, Option, None, Some, List, [], ◌∷◌, ◌++◌, Ok, Err}
-use Rattle.agenda_kinds.specs.declared.Asked.{Asked}
+use Rattle.agenda_sources.specs.declared.Asked.{Asked}
 use Rattle.agenda_sources.specs.declared.Source.{Source}
 use Rattle.agenda_sources.specs.declared.TimeZones.{TimeZones}
-use Rattle.agenda_kinds.specs.declared.SourcePath.{SourcePath}
+use Rattle.agenda_sources.specs.declared.SourcePath.{SourcePath}
 use Rattle.agenda_sources.specs.Name.{file_name}
 use Rattle.agenda_sources.specs.ZoneNames.{asked_zones, zone_names}
 use Rattle.agenda_arguments.specs.declared.ZonesRequest.{ZonesRequest}

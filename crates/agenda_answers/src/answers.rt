@@ -14,7 +14,7 @@ use agenda_codes::Code;
 use agenda_commands::{Checked, run_check, run_explain, run_next, run_script};
 use agenda_faults::status::{DONE, REFUSED};
 use agenda_faults::{Failure, RunFault, fault_line};
-use agenda_kinds::{SourcePath, SourcePaths};
+use agenda_sources::{SourcePath, SourcePaths};
 use plan_rules::Text;
 use plan_streams::Stream;
 use std::alloc::Global;

@@ -9,7 +9,7 @@ use agenda_arguments::{Ask, FormatRequest, JobsRequest, NextRequest, PlanRequest
 use agenda_codes::Code;
 use agenda_commands::{Goal, Planning};
 use agenda_faults::Failure;
-use agenda_kinds::{Asked, SourcePaths};
+use agenda_sources::{Asked, SourcePaths};
 use plan_collect::Span;
 use plan_rules::Text;
 use plan_sets::read_moment;

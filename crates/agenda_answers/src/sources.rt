@@ -13,8 +13,7 @@ use crate::files::{Files, read_path};
 use crate::zone::read_clock;
 use agenda_arguments::ZonesRequest;
 use agenda_faults::Failure;
-use agenda_kinds::{Asked, SourcePath, SourcePaths};
-use agenda_sources::{Source, Sources, TimeZones, file_name};
+use agenda_sources::{Asked, Source, SourcePath, SourcePaths, Sources, TimeZones, file_name};
 use plan_rules::Text;
 use std::alloc::{AllocError, Global};
 

@@ -16,17 +16,17 @@ use Rattle.agenda_arguments.specs.declared.ask.Ask.{Ask}
 use Rattle.agenda_arguments.specs.declared.ask.Ask.TheVariants.{Next, Plan, Upcoming, Quiet, Check, Steps, Explain}
 use Rattle.agenda_codes.specs.declared.Code.{Code}
 use Rattle.agenda_codes.specs.Codes.{code_named}
-use Rattle.agenda_kinds.specs.declared.Asked.{Asked}
-use Rattle.agenda_kinds.specs.declared.Asked.TheVariants.{Cron, Event}
+use Rattle.agenda_sources.specs.declared.Asked.{Asked}
+use Rattle.agenda_sources.specs.declared.Asked.TheVariants.{Cron, Event}
 use Rattle.agenda_arguments.specs.declared.ask.FormatRequest.{FormatRequest}
 use Rattle.agenda_arguments.specs.declared.ask.JobsRequest.{JobsRequest}
 use Rattle.agenda_arguments.specs.declared.ask.PlanRequest.{PlanRequest}
 use Rattle.agenda_arguments.specs.declared.ask.UsageFault.{UsageFault}
 use Rattle.agenda_arguments.specs.declared.ask.UsageFault.TheVariants.{NoMemory, Usage, Help}
 use Rattle.agenda_arguments.specs.declared.ask.ZonesRequest.{ZonesRequest}
-use Rattle.agenda_kinds.specs.declared.SourceKind.{SourceKind}
-use Rattle.agenda_kinds.specs.declared.SourcePath.{SourcePath}
-use Rattle.agenda_kinds.specs.Kind.{is_many, kinds, option_of}
+use Rattle.plan_rules.specs.declared.SourceKind.{SourceKind}
+use Rattle.agenda_sources.specs.declared.SourcePath.{SourcePath}
+use Rattle.plan_rules.specs.SourceKind.{is_many, kinds, option_of}
 use Rattle.agenda_arguments.specs.Command.{agenda}
 
 -- why arguments request no command: they request help or the version, or they are invalid (agenda)

@@ -4,13 +4,13 @@ use Rattle.clap.specs.Words.{App, Rule, new_app, new_rule, with_rule, with_subco
 use Rattle.clap.specs.Simple.{on_top}
 use Rattle.clap.specs.declared.builder.action.ArgAction.TheVariants.{Append, SetTrue}
 use Rattle.clap.specs.declared.builder.value_parser.ValueParser.TheVariants as parser
-use Rattle.agenda_kinds.specs.declared.SourceKind.{SourceKind}
-use Rattle.agenda_kinds.specs.declared.SourceKind.TheVariants.{Timer}
+use Rattle.plan_rules.specs.declared.SourceKind.{SourceKind}
+use Rattle.plan_rules.specs.declared.SourceKind.TheVariants.{Timer}
 use Rattle.agenda_arguments.specs.declared.command.CommandOption.{CommandOption}
 use Rattle.agenda_arguments.specs.declared.command.CommandOption.TheVariants.{Flag, Text, Moment, Number, Tuning}
 use Rattle.agenda_arguments.specs.declared.command.Subcommand.{Subcommand}
 use Rattle.agenda_arguments.specs.declared.command.Subcommand.TheVariants as each
-use Rattle.agenda_kinds.specs.Kind.{is_many, kinds, option_of}
+use Rattle.plan_rules.specs.SourceKind.{is_many, kinds, option_of}
 
 -- an argument `VALUE`, which is optional (agenda)
 abbrev pub argument_named : List ℕ → Rule

@@ -13,7 +13,7 @@ use crate::codes::code_of;
 use crate::command::agenda_command;
 use crate::paths::sources_of;
 use crate::values::{is_given, number_argument, text, text_if_given, text_of, value_of};
-use agenda_kinds::Asked;
+use agenda_sources::Asked;
 use clap::ArgMatches;
 use clap::error::ErrorKind;
 use plan_collect::Sizes;

@@ -1,7 +1,7 @@
 //! What the arguments of the command line request.
 
 use agenda_codes::Code;
-use agenda_kinds::{Asked, SourcePaths};
+use agenda_sources::{Asked, SourcePaths};
 use plan_collect::Sizes;
 use plan_texts::Text;
 use std::alloc::AllocError;

@@ -9,8 +9,8 @@ ghost use Rattle.agenda_arguments.specs.Command.{with_sources, with_span};
 
 mod help;
 
-use agenda_kinds::SourceKind;
 use clap::{Arg, ArgAction, Command, value_parser};
+use plan_rules::SourceKind;
 use std::alloc::{AllocError, Global};
 
 // The version of the program, which is written only here, and the prover's version.

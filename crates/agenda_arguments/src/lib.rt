@@ -1,8 +1,8 @@
 //! The arguments of the command line: what they request, or the text of help or of a usage error.
 //!
-//! The crate uses the kit's `clap`, plan_texts for the texts that it keeps, agenda_kinds for the table of the
-//! kinds of sources, and agenda_codes for the codes that can be explained. Read `arguments` first, then
-//! `command`, which describes the command line to clap, with the texts in its `help`.
+//! The crate uses the kit's `clap`, plan_texts for the texts that it keeps, plan_rules for the table of the kinds of
+//! sources, agenda_sources for their paths, and agenda_codes for the codes that can be explained. Read `arguments`
+//! first, then `command`, which describes the command line to clap, with the texts in its `help`.
 #![tactic(auto)]
 
 mod arguments;

@@ -2,12 +2,13 @@
 ghost use Rattle.std.specs.Prelude.{◌≡◌, ◌++◌, ◌∷◌, [], IfOk, OnOk, map, unwrap_or};
 ghost use Rattle.std.specs.List.{flat_map};
 ghost use Rattle.clap.specs.Words.{all_of, first_of, found_of, rows_of};
-ghost use Rattle.agenda_kinds.specs.Kind.{option_of};
+ghost use Rattle.plan_rules.specs.SourceKind.{option_of};
 ghost use Rattle.agenda_arguments.specs.Arguments.{all_given, path_of, paths_in, sources_in};
 
 use crate::values::text;
-use agenda_kinds::{SourceKind, SourcePath, SourcePaths};
+use agenda_sources::{SourcePath, SourcePaths};
 use clap::ArgMatches;
+use plan_rules::SourceKind;
 use std::alloc::{AllocError, Global};
 
 /// Returns the paths of the given sources, in the order of their kinds. Those of one kind are in the order of

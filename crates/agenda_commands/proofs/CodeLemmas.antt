@@ -24,7 +24,7 @@ use Rattle.plan_collect.specs.declared.PlanFault.{PlanFault}
 use Rattle.plan_collect.specs.declared.PlanFault.TheVariants as plan
 use Rattle.plan_collect.specs.declared.SpanFault.{SpanFault}
 use Rattle.plan_collect.specs.declared.SpanFault.TheVariants as span
-use Rattle.agenda_kinds.specs.declared.SourcePath.{SourcePath}
+use Rattle.agenda_sources.specs.declared.SourcePath.{SourcePath}
 use Rattle.agenda_script.specs.Causes.{script_cause}
 use Rattle.agenda_script.specs.declared.ScriptCause.{ScriptCause}
 use Rattle.agenda_script.specs.declared.ScriptCause.TheVariants as script

@@ -5,7 +5,7 @@ use Rattle.agenda_sources.specs.Findings.{sources_findings}
 use Rattle.agenda_sources.specs.Sources.{sources_reading}
 use Rattle.agenda_sources.specs.declared.Source.{Source}
 use Rattle.agenda_sources.specs.declared.TimeZones.{TimeZones}
-use Rattle.agenda_kinds.specs.declared.SourcePath.{SourcePath}
+use Rattle.agenda_sources.specs.declared.SourcePath.{SourcePath}
 use Rattle.agenda_faults.specs.declared.faults.RunFault.{RunFault}
 use Rattle.agenda_commands.specs.declared.check.Checked.{Checked}
 use Rattle.agenda_commands.specs.declared.check.Checked.TheVariants as checked

@@ -10,8 +10,8 @@ use Rattle.plan_texts.specs.Steps.{◌>>=◌}
 pub use Rattle.plan_write.specs.Next.{next_text}
 use Rattle.plan_write.specs.declared.Format.{Format}
 use Rattle.agenda_sources.specs.declared.TimeZones.{TimeZones}
-use Rattle.agenda_kinds.specs.declared.Asked.{Asked}
-use Rattle.agenda_kinds.specs.declared.Asked.TheVariants.{Cron, Event}
+use Rattle.agenda_sources.specs.declared.Asked.{Asked}
+use Rattle.agenda_sources.specs.declared.Asked.TheVariants.{Cron, Event}
 use Rattle.agenda_faults.specs.declared.faults.RunFault.{RunFault}
 use Rattle.agenda_faults.specs.declared.faults.RunFault.TheVariants.{BadCount}
 use Rattle.agenda_faults.specs.Faults.{fault_of_rule}

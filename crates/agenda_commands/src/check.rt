@@ -9,8 +9,7 @@ ghost use Rattle.agenda_commands.specs.Check.{check_output, sources_checked, che
 
 use agenda_faults::RunFault;
 use agenda_findings::write_findings;
-use agenda_kinds::SourcePath;
-use agenda_sources::{Found, Sources, TimeZones, findings_of_sources};
+use agenda_sources::{Found, SourcePath, Sources, TimeZones, findings_of_sources};
 use plan_check::FindingKind;
 use plan_streams::Stream;
 use std::alloc::Global;

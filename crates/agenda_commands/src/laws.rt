@@ -4,7 +4,7 @@ ghost use Rattle.std.specs.Prelude.{List};
 ghost use Rattle.agenda_commands.specs.CodeLaws.{ComesOnLine, EndsWithCode, HasCode, HasLine};
 ghost use Rattle.agenda_faults.specs.FaultLines.{fault_text};
 ghost use Rattle.agenda_faults.specs.declared.faults.Failure.{Failure};
-ghost use Rattle.agenda_kinds.specs.declared.SourcePath.{SourcePath};
+ghost use Rattle.agenda_sources.specs.declared.SourcePath.{SourcePath};
 ghost use Rattle.plan_check.specs.Finding.{warning_name};
 ghost use Rattle.plan_check.specs.declared.Warning.{Warning};
 ghost use Rattle.plan_rules.specs.Causes.{line_cause};

@@ -6,8 +6,7 @@ ghost use Rattle.agenda_commands.specs.Next.{asked_reading, asked_rule, next_out
 ghost use Rattle.plan_rules.specs.Readings.{Gives};
 
 use agenda_faults::RunFault;
-use agenda_kinds::Asked;
-use agenda_sources::TimeZones;
+use agenda_sources::{Asked, TimeZones};
 use plan_rules::{EventZones, Rule, RuleFault, calendar_rule, cron_rule};
 use plan_streams::Stream;
 use plan_write::{Format, write_next};

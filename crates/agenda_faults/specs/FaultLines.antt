@@ -26,8 +26,8 @@ use Rattle.plan_zones.specs.declared.zone_fault.ZoneFault.{ZoneFault}
 use Rattle.plan_zones.specs.declared.zone_fault.ZoneFault.TheVariants as zone
 use Rattle.plan_zones.specs.Zones.{zone_fault_name}
 use Rattle.agenda_sources.specs.Name.{file_name}
-use Rattle.agenda_kinds.specs.Kind.{label_of}
-use Rattle.agenda_kinds.specs.declared.SourcePath.{SourcePath}
+use Rattle.plan_rules.specs.SourceKind.{label_of}
+use Rattle.agenda_sources.specs.declared.SourcePath.{SourcePath}
 
 -- a cause, after the text that says what it is about
 abbrev pub caused_line : List ℕ → List ℕ → List ℕ

@@ -8,9 +8,8 @@ ghost use Rattle.plan_streams.specs.Stream.{Puts, PutsOrBreaksOff};
 ghost use Rattle.plan_streams.specs.Writer.{Takes};
 
 use crate::faults::{Failure, RunFault};
-use agenda_kinds::SourcePath;
 use agenda_script::{ScriptCause, ScriptFault};
-use agenda_sources::file_name;
+use agenda_sources::{SourcePath, file_name};
 use itoa::Buffer as Digits;
 use plan_collect::{CollectFault, PlanFault};
 use plan_rules::{LineCause, LineFault, RuleCause, RuleFault};

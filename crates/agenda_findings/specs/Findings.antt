@@ -2,11 +2,10 @@
 use Rattle.std.specs.Prelude.{ℕ, Bool, true, false, ◌==◌, if◌then◌else◌, List, [], ◌++◌, codes, decimal, Option, Some, None, slice_get, unwrap_or}
 use Rattle.std.specs.List.{flat_map}
 use Rattle.plan_check.specs.declared.Finding.{Finding}
-use Rattle.plan_check.specs.declared.Form.{Form}
 use Rattle.plan_check.specs.declared.FindingKind.{FindingKind}
-use Rattle.agenda_sources.specs.Forms.{form_of}
+use Rattle.plan_rules.specs.declared.SourceKind.{SourceKind}
 use Rattle.agenda_sources.specs.declared.Found.{Found}
-use Rattle.agenda_kinds.specs.declared.SourcePath.{SourcePath}
+use Rattle.agenda_sources.specs.declared.SourcePath.{SourcePath}
 use Rattle.plan_write.specs.Json.{json_string}
 use Rattle.agenda_findings.specs.Messages.{code_of, message, severity}
 
@@ -23,12 +22,12 @@ abbrev pub after_message : FindingKind → List ℕ
 after_message kind = codes " [" ++ (code_of kind ++ codes "]\n")
 
 -- the message of a finding
-abbrev pub message_of : Form → Finding → List ℕ
-message_of form finding = message form finding.kind (unwrap_or finding.quote [])
+abbrev pub message_of : SourceKind → Finding → List ℕ
+message_of source finding = message source finding.kind (unwrap_or finding.quote [])
 
--- the line of a finding in a file of a form
-abbrev pub finding_line : (path : List ℕ) → Form → Finding → List ℕ
-finding_line path form finding = before_message path finding ++ (message_of form finding ++ after_message finding.kind)
+-- the line of a finding in a source of a kind
+abbrev pub finding_line : (path : List ℕ) → SourceKind → Finding → List ℕ
+finding_line path source finding = before_message path finding ++ (message_of source finding ++ after_message finding.kind)
 
 -- the number of a line as a value; a finding about the whole file has none
 abbrev pub line_value : ℕ → List ℕ
@@ -43,20 +42,20 @@ abbrev pub members_before : (path : List ℕ) → Finding → List ℕ
 members_before path finding =
     codes "{\"path\":" ++ (json_string path ++ (codes ",\"line\":" ++ (line_value finding.line ++ kind_members finding.kind)))
 
--- the object of a finding in a file of a form
-abbrev pub finding_object : (path : List ℕ) → Form → Finding → List ℕ
-finding_object path form finding =
-    members_before path finding ++ (codes ",\"text\":" ++ (json_string (message_of form finding) ++ codes "}\n"))
+-- the object of a finding in a source of a kind
+abbrev pub finding_object : (path : List ℕ) → SourceKind → Finding → List ℕ
+finding_object path source finding =
+    members_before path finding ++ (codes ",\"text\":" ++ (json_string (message_of source finding) ++ codes "}\n"))
 
--- a finding in a file of a form
-abbrev pub finding_in : (json : Bool) → (path : List ℕ) → Form → Finding → List ℕ
-finding_in true path form finding = finding_object path form finding
-finding_in false path form finding = finding_line path form finding
+-- a finding in a source of a kind
+abbrev pub finding_in : (json : Bool) → (path : List ℕ) → SourceKind → Finding → List ℕ
+finding_in true path source finding = finding_object path source finding
+finding_in false path source finding = finding_line path source finding
 
 -- the same, if the source exists
 abbrev pub found_line : (json : Bool) → Option SourcePath → Finding → List ℕ
 found_line json None finding = []
-found_line json (Some source) finding = finding_in json source.path (form_of source.kind) finding
+found_line json (Some source) finding = finding_in json source.path source.kind finding
 
 -- a line for each finding, in order, with the path of its source as it was given; places are counted from 0
 abbrev pub check_text : (json : Bool) → List SourcePath → List Found → List ℕ

@@ -9,13 +9,11 @@ use Rattle.plan_grammar.specs.declared.RuleCause.{RuleCause}
 use Rattle.plan_grammar.specs.declared.RuleCause.TheVariants as rule
 use Rattle.plan_grammar.specs.declared.RuleFault.{RuleFault}
 use Rattle.plan_rules.specs.Causes.{line_cause}
-use Rattle.plan_rules.specs.declared.Kind.TheVariants.{System}
 use Rattle.plan_rules.specs.declared.LineCause.{LineCause}
 use Rattle.plan_rules.specs.declared.LineCause.TheVariants as line
-use Rattle.plan_rules.specs.declared.CrontabDirectory.TheVariants.{CronD}
+use Rattle.plan_rules.specs.declared.SourceKind.{SourceKind}
+use Rattle.plan_rules.specs.declared.SourceKind.TheVariants.{System, CronD, Timer}
 use Rattle.plan_check.specs.Finding.{warning_name}
-use Rattle.plan_check.specs.declared.Form.{Form}
-use Rattle.plan_check.specs.declared.Form.TheVariants as form
 use Rattle.plan_check.specs.declared.Warning.{Warning}
 use Rattle.plan_check.specs.declared.Warning.TheVariants as warning
 use Rattle.plan_check.specs.declared.FindingKind.{FindingKind}
@@ -154,37 +152,36 @@ part_message fault quote =
 abbrev pub event_message : RuleFault → (quote : List ℕ) → List ℕ
 event_message fault quote = if fault.part == 0 then whole_event fault.cause quote else part_message fault quote
 
--- the error of a rule in a file of a form
-abbrev pub rule_message : Form → RuleFault → (quote : List ℕ) → List ℕ
-rule_message (form.Crontab kind) fault quote = cron_message fault quote
-rule_message (form.Named directory) fault quote = cron_message fault quote
-rule_message form.Timer fault quote = event_message fault quote
+-- the error of a rule in a source of a kind
+abbrev pub rule_message : SourceKind → RuleFault → (quote : List ℕ) → List ℕ
+rule_message Timer fault quote = event_message fault quote
+rule_message other fault quote = cron_message fault quote
 
 -- ---- other errors
 
 -- what is missing after a rule: in the format of the system's crontab a user comes before the command (crontab(5))
-unfoldable pub missing_command : Form → List ℕ
-missing_command (form.Crontab System) = codes "expected a user and a command"
-missing_command (form.Named CronD) = codes "expected a user and a command"
+unfoldable pub missing_command : SourceKind → List ℕ
+missing_command System = codes "expected a user and a command"
+missing_command CronD = codes "expected a user and a command"
 missing_command other = codes "no command"
 
 -- the error of a line, or of a whole file, that isn't the error of a rule
-unfoldable pub plain_message : Form → LineCause → List ℕ
-plain_message form line.NoMemory = codes "out of memory"
-plain_message form line.NotUtf8 = codes "not UTF-8"
-plain_message form line.TooLarge = codes "larger than 1048576 bytes"
-plain_message form line.BadSetting = codes "expected NAME=VALUE, or five fields and a command"
-plain_message form (line.Rule fault) = []
-plain_message form line.NoCommand = missing_command form
-plain_message form line.BadTimerName = codes "not a timer's name: it must end in .timer and name no template"
-plain_message form line.NoTimerSection = codes "no [Timer] section"
-plain_message form line.TooManyLines = codes "more than 64 events"
-plain_message form line.BadTabName = codes "not a name that cron reads"
+unfoldable pub plain_message : SourceKind → LineCause → List ℕ
+plain_message source line.NoMemory = codes "out of memory"
+plain_message source line.NotUtf8 = codes "not UTF-8"
+plain_message source line.TooLarge = codes "larger than 1048576 bytes"
+plain_message source line.BadSetting = codes "expected NAME=VALUE, or five fields and a command"
+plain_message source (line.Rule fault) = []
+plain_message source line.NoCommand = missing_command source
+plain_message source line.BadTimerName = codes "not a timer's name: it must end in .timer and name no template"
+plain_message source line.NoTimerSection = codes "no [Timer] section"
+plain_message source line.TooManyLines = codes "more than 64 events"
+plain_message source line.BadTabName = codes "not a name that cron reads"
 
 -- the error of a line, or of a whole file
-abbrev pub line_message : Form → LineCause → (quote : List ℕ) → List ℕ
-line_message form (line.Rule fault) quote = rule_message form fault quote
-line_message form other quote = plain_message form other
+abbrev pub line_message : SourceKind → LineCause → (quote : List ℕ) → List ℕ
+line_message source (line.Rule fault) quote = rule_message source fault quote
+line_message source other quote = plain_message source other
 
 -- ---- all findings
 
@@ -231,12 +228,12 @@ same_name name = around (codes "another job is named ") name []
 abbrev pub full_message : List ℕ
 full_message = codes "more than 1000 jobs"
 
--- a finding in a file of a form
-abbrev pub message : Form → FindingKind → (quote : List ℕ) → List ℕ
-message form (Rejected cause) quote = line_message form cause quote
-message form SameName quote = same_name quote
-message form Full quote = full_message
-message form (Warned warning) quote = warning_message warning quote
+-- a finding in a source of a kind
+abbrev pub message : SourceKind → FindingKind → (quote : List ℕ) → List ℕ
+message source (Rejected cause) quote = line_message source cause quote
+message source SameName quote = same_name quote
+message source Full quote = full_message
+message source (Warned warning) quote = warning_message warning quote
 
 -- what was rejected is an error
 abbrev pub severity : FindingKind → List ℕ

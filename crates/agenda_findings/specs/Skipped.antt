@@ -2,7 +2,7 @@
 use Rattle.std.specs.Prelude.{ℕ, false, List, ◌++◌, codes}
 use Rattle.std.specs.List.{flat_map}
 use Rattle.agenda_sources.specs.declared.Found.{Found}
-use Rattle.agenda_kinds.specs.declared.SourcePath.{SourcePath}
+use Rattle.agenda_sources.specs.declared.SourcePath.{SourcePath}
 use Rattle.agenda_findings.specs.Findings.{check_text}
 
 -- the line of a file that can't be read

@@ -6,10 +6,10 @@ ghost use Rattle.plan_streams.specs.Writer.{Takes};
 ghost use Rattle.agenda_findings.specs.Findings.{after_message, before_message, check_text, finding_in, finding_line, finding_object, found_line, line_mark, line_value, members_before, kind_members};
 
 use crate::messages::{code_of, put_message, severity};
-use agenda_kinds::SourcePath;
-use agenda_sources::{Found, form_of};
+use agenda_sources::{Found, SourcePath};
 use itoa::Buffer as Digits;
-use plan_check::{Finding, FindingKind, Form};
+use plan_check::{Finding, FindingKind};
+use plan_rules::SourceKind;
 use plan_streams::{Stream, TextWriter, WriteFault};
 use plan_write::put_string;
 
@@ -63,59 +63,53 @@ fn put_found<S: Stream>(
     ensures { Takes S.holds S.takes_all lines.old lines.new (found_line json (slice_get paths.now one.now.place) one.now.finding) }
 {
     if let Some(source) = paths.get(one.place) {
-        put_finding(
-            source.path.as_str(),
-            form_of(source.kind),
-            &one.finding,
-            json,
-            lines,
-        );
+        put_finding(source.path.as_str(), source.kind, &one.finding, json, lines);
     }
 }
 
-// Puts the line of a finding in a file of a form.
+// Puts the line of a finding in a source of a kind.
 fn put_finding<S: Stream>(
     path: &str,
-    form: Form,
+    source: SourceKind,
     finding: &Finding,
     json: bool,
     lines: &mut TextWriter<'_, S>,
 )
-    ensures { Takes S.holds S.takes_all lines.old lines.new (finding_in json path.now form finding.now) }
+    ensures { Takes S.holds S.takes_all lines.old lines.new (finding_in json path.now source finding.now) }
 {
     if json {
-        put_finding_object(path, form, finding, lines);
+        put_finding_object(path, source, finding, lines);
     } else {
-        put_finding_line(path, form, finding, lines);
+        put_finding_line(path, source, finding, lines);
     }
 }
 
 // Puts the line of a finding in text.
 fn put_finding_line<S: Stream>(
     path: &str,
-    form: Form,
+    source: SourceKind,
     finding: &Finding,
     lines: &mut TextWriter<'_, S>,
 )
-    ensures { Takes S.holds S.takes_all lines.old lines.new (finding_line path.now form finding.now) }
+    ensures { Takes S.holds S.takes_all lines.old lines.new (finding_line path.now source finding.now) }
 {
     put_before_message(path, finding, lines);
-    put_message(form, finding.kind, quote_of(finding), false, lines);
+    put_message(source, finding.kind, quote_of(finding), false, lines);
     put_after_message(finding.kind, lines);
 }
 
 // Puts the object of a finding.
 fn put_finding_object<S: Stream>(
     path: &str,
-    form: Form,
+    source: SourceKind,
     finding: &Finding,
     lines: &mut TextWriter<'_, S>,
 )
-    ensures { Takes S.holds S.takes_all lines.old lines.new (finding_object path.now form finding.now) }
+    ensures { Takes S.holds S.takes_all lines.old lines.new (finding_object path.now source finding.now) }
 {
     put_members_before(path, finding, lines);
     lines.put(b",\"text\":\"");
-    put_message(form, finding.kind, quote_of(finding), true, lines);
+    put_message(source, finding.kind, quote_of(finding), true, lines);
     lines.put(b"\"}\n");
 }
 

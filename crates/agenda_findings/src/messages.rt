@@ -6,9 +6,9 @@ ghost use Rattle.plan_streams.specs.Writer.{Takes};
 ghost use Rattle.plan_write.specs.Json.{text_in};
 ghost use Rattle.agenda_findings.specs.Messages.{around, bad_delay, code_of, cron_message, delayed, dots, escaped, event_message, expected_fields, field_message, field_name, field_values, full_message, message, missing_command, no_event, part_message, part_name, part_values, plain_message, plain_warning, problem, problem_after, problem_text, quoted, range_of, rule_message, same_name, severity, shown, skipped_starts, unknown_key, unknown_word, warning_message, whole_event, whole_rule, with_specifiers};
 
-use plan_check::{FindingKind, Form, Warning};
+use plan_check::{FindingKind, Warning};
 use plan_grammar::{RuleCause, RuleFault};
-use plan_rules::{CrontabDirectory, Kind, LineCause};
+use plan_rules::{LineCause, SourceKind};
 use plan_sets::SetFault;
 use plan_streams::{Stream, TextWriter};
 use plan_write::{hex_digit, put_text};
@@ -38,23 +38,23 @@ pub(crate) fn code_of(kind: FindingKind) -> &'static str
     }
 }
 
-// Puts the message of a finding in a file of a form.
+// Puts the message of a finding in a source of a kind.
 pub(crate) fn put_message<S: Stream>(
-    form: Form,
+    source: SourceKind,
     kind: FindingKind,
     quote: &str,
     json: bool,
     lines: &mut TextWriter<'_, S>,
 )
-    ensures { Takes S.holds S.takes_all lines.old lines.new (text_in json (message form kind quote.now)) }
+    ensures { Takes S.holds S.takes_all lines.old lines.new (text_in json (message source kind quote.now)) }
 {
     match kind {
         FindingKind::Rejected(LineCause::Rule(fault)) => put_rule_message(
-            form, fault, quote, json, lines,
+            source, fault, quote, json, lines,
         ),
         FindingKind::Rejected(cause) => put_text(
             json,
-            plain_message(form, cause).as_bytes(),
+            plain_message(source, cause).as_bytes(),
             lines,
         ),
         FindingKind::SameName => put_same_name(quote, json, lines),
@@ -150,8 +150,8 @@ fn put_delayed<S: Stream>(delay: &str, json: bool, lines: &mut TextWriter<'_, S>
 
 // Returns the message of the error of a line, or of a whole file, that isn't the error of a rule.
 #[tactic(auto, unfolding(crate::specs::Messages::plain_message))]
-fn plain_message(form: Form, cause: LineCause) -> &'static str
-    ensures { result.now ≡ plain_message form cause }
+fn plain_message(source: SourceKind, cause: LineCause) -> &'static str
+    ensures { result.now ≡ plain_message source cause }
 {
     match cause {
         LineCause::NoMemory => "out of memory",
@@ -159,7 +159,7 @@ fn plain_message(form: Form, cause: LineCause) -> &'static str
         LineCause::TooLarge => "larger than 1048576 bytes",
         LineCause::BadSetting => "expected NAME=VALUE, or five fields and a command",
         LineCause::Rule(_) => "",
-        LineCause::NoCommand => missing_command(form),
+        LineCause::NoCommand => missing_command(source),
         LineCause::BadTimerName => {
             "not a timer's name: it must end in .timer and name no template"
         }
@@ -171,30 +171,28 @@ fn plain_message(form: Form, cause: LineCause) -> &'static str
 
 // Returns what is missing after a rule.
 #[tactic(auto, unfolding(crate::specs::Messages::missing_command))]
-fn missing_command(form: Form) -> &'static str
-    ensures { result.now ≡ missing_command form }
+fn missing_command(source: SourceKind) -> &'static str
+    ensures { result.now ≡ missing_command source }
 {
-    match form {
-        Form::Crontab(Kind::System) | Form::Named(CrontabDirectory::CronD) => {
-            "expected a user and a command"
-        }
+    match source {
+        SourceKind::System | SourceKind::CronD => "expected a user and a command",
         _ => "no command",
     }
 }
 
-// Puts the error of a rule in a file of a form.
+// Puts the error of a rule in a source of a kind.
 fn put_rule_message<S: Stream>(
-    form: Form,
+    source: SourceKind,
     fault: RuleFault,
     quote: &str,
     json: bool,
     lines: &mut TextWriter<'_, S>,
 )
-    ensures { Takes S.holds S.takes_all lines.old lines.new (text_in json (rule_message form fault quote.now)) }
+    ensures { Takes S.holds S.takes_all lines.old lines.new (text_in json (rule_message source fault quote.now)) }
 {
-    match form {
-        Form::Crontab(_) | Form::Named(_) => put_cron_message(fault, quote, json, lines),
-        Form::Timer => put_event_message(fault, quote, json, lines),
+    match source {
+        SourceKind::Timer => put_event_message(fault, quote, json, lines),
+        _ => put_cron_message(fault, quote, json, lines),
     }
 }
 

@@ -7,8 +7,7 @@ ghost use Rattle.plan_streams.specs.Writer.{Takes};
 ghost use Rattle.agenda_findings.specs.Skipped.{skipped_text, unread_line};
 
 use crate::findings::put_all_found;
-use agenda_kinds::SourcePath;
-use agenda_sources::Found;
+use agenda_sources::{Found, SourcePath};
 use plan_streams::{Stream, TextWriter, WriteFault};
 
 /// Writes what a plan that keeps going skips: first a line `agenda: PATH: Device` for each file that can't be

@@ -14,9 +14,8 @@ use Rattle.plan_check.specs.declared.deciding.FileFault.{FileFault}
 use Rattle.plan_check.specs.declared.deciding.FileFault.TheVariants.{Rejected}
 use Rattle.plan_check.specs.declared.finding.Finding.{Finding}
 use Rattle.plan_check.specs.Deciding.{deciding, first_early, known_jobs, late_fault, unless_fault, with_reading}
-use Rattle.plan_check.specs.Files.{File, after_file, file_findings}
+use Rattle.plan_check.specs.Files.{File, after_file, file_findings, file_reading}
 use Rattle.plan_check.specs.Finding.{errors_of, is_warning}
-use Rattle.plan_check.specs.Form.{form_reading}
 use Rattle.plan_check.specs.Known.{KnownJobs, no_jobs, without_warnings}
 use Rattle.agenda_sources.specs.declared.findings.Found.{Found}
 use Rattle.agenda_sources.specs.declared.sources.Source.{Source}
@@ -117,7 +116,7 @@ sources_agree law zones place jobs [] = (refl, refl)
 sources_agree law zones place jobs (source ∷ more) =
     let file = source_file source in
     source_agrees place (file_findings zones (known_jobs jobs) file) (after_file zones (known_jobs jobs) file)
-    (with_reading jobs (form_reading zones file.form file.name file.bytes)) more zones (law zones jobs file)
+    (with_reading jobs (file_reading zones file.kind file.name file.bytes)) more zones (law zones jobs file)
     (λ next. sources_agree law zones (place + 1) next more)
 
 -- ---- no error is found exactly if jobs are made

@@ -8,8 +8,7 @@ use Rattle.plan_grammar.specs.EventZones.{Zones}
 use Rattle.plan_rules.specs.Job.{JobParts}
 use Rattle.plan_check.specs.declared.deciding.FileFault.{FileFault}
 use Rattle.plan_check.specs.Deciding.{known_jobs, known_with, strictly, with_reading}
-use Rattle.plan_check.specs.Files.{File, after_file, file_findings}
-use Rattle.plan_check.specs.Form.{form_reading}
+use Rattle.plan_check.specs.Files.{File, after_file, file_findings, file_reading}
 use Rattle.plan_check.specs.Known.{KnownJobs}
 use Rattle.agenda_sources.specs.declared.fault.SourceFault.{SourceFault}
 use Rattle.agenda_sources.specs.declared.findings.Found.{Found}
@@ -67,7 +66,7 @@ read_fault zones sources index source known fault whole within is so_far read =
 -- the law of plan_check
 abbrev pub FileLaw : Type 0
 FileLaw = (zones : Zones) (jobs : List JobParts) (file : File) →
-    strictly zones (known_jobs jobs) file ≡ known_with jobs (form_reading zones file.form file.name file.bytes)
+    strictly zones (known_jobs jobs) file ≡ known_with jobs (file_reading zones file.kind file.name file.bytes)
 
 known_then :
     (place : ℕ) (made : Result (List JobParts) FileFault) (known : KnownJobs → SourceReading KnownJobs)
@@ -86,7 +85,7 @@ jobs_known law zones place jobs (source ∷ more) =
     let file = source_file source in
     ap (λ (r : Result KnownJobs FileFault).
     (in_source place r >>= λ next. strictly_from zones (place + 1) next more) >>= λ last. Ok last.jobs) (law zones jobs file)
-    ∙ known_then place (with_reading jobs (form_reading zones file.form file.name file.bytes))
+    ∙ known_then place (with_reading jobs (file_reading zones file.kind file.name file.bytes))
     (λ next. strictly_from zones (place + 1) next more) (λ next. sources_from zones (place + 1) next more)
     (λ next. jobs_known law zones (place + 1) next more)
 

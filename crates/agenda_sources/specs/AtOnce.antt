@@ -5,13 +5,12 @@ use Rattle.plan_rules.specs.LineFaults.{of_whole}
 use Rattle.agenda_sources.specs.declared.sources.Source.{Source}
 use Rattle.agenda_sources.specs.declared.fault.SourceFault.{SourceFault}
 use Rattle.agenda_sources.specs.Faults.{fault_at}
-use Rattle.plan_check.specs.Form.{cause_at_once}
-use Rattle.agenda_sources.specs.Forms.{form_of}
+use Rattle.plan_check.specs.Files.{cause_at_once}
 
 -- the error of the source at a place, if it has one that is found at once
 abbrev pub source_at_once : ℕ → Source → Option SourceFault
 source_at_once place source =
-    option_map (λ cause. fault_at place (of_whole cause)) (cause_at_once (form_of source.kind) source.name source.bytes)
+    option_map (λ cause. fault_at place (of_whole cause)) (cause_at_once source.kind source.name source.bytes)
 
 -- the error of the sources that is found at once: only the first source can have one
 abbrev pub fault_at_once : List Source → Option SourceFault

@@ -9,12 +9,11 @@ use Rattle.plan_check.specs.Known.{KnownJobs, no_jobs}
 use Rattle.agenda_sources.specs.declared.findings.Found.{Found}
 use Rattle.agenda_sources.specs.declared.sources.Source.{Source}
 use Rattle.agenda_sources.specs.declared.time_zones.TimeZones.{TimeZones}
-use Rattle.agenda_sources.specs.Forms.{form_of}
 use Rattle.agenda_sources.specs.Sources.{zoned}
 
 -- a source as a file
 abbrev pub source_file : Source → File
-source_file source = file_of (form_of source.kind) source.name source.bytes
+source_file source = file_of source.kind source.name source.bytes
 
 -- a finding in the source at a place
 abbrev pub found_at : (place : ℕ) → Finding → Found

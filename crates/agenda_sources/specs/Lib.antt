@@ -1,7 +1,6 @@
 pub mod AtOnce
 pub mod Faults
 pub mod Findings
-pub mod Forms
 pub mod Name
 pub mod Sources
 pub mod ZoneNames

@@ -9,15 +9,14 @@ use Rattle.agenda_sources.specs.declared.time_zones.TimeZones.{TimeZones}
 use Rattle.agenda_sources.specs.declared.sources.Source.{Source}
 use Rattle.agenda_sources.specs.Faults.{SourceReading, in_source}
 use Rattle.plan_check.specs.Deciding.{with_reading}
-use Rattle.plan_check.specs.Form.{form_reading}
-use Rattle.agenda_sources.specs.Forms.{form_of}
+use Rattle.plan_check.specs.Files.{file_reading}
 
 -- ---- one more source
 
 -- these jobs, then those of the source at a place, from 0. Calendar events may name these zones
 abbrev pub with_source : Zones → ℕ → List JobParts → Source → SourceReading (List JobParts)
 with_source zones place jobs source =
-    in_source place (with_reading jobs (form_reading zones (form_of source.kind) source.name source.bytes))
+    in_source place (with_reading jobs (file_reading zones source.kind source.name source.bytes))
 
 -- ---- all sources
 

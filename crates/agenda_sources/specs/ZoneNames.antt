@@ -4,22 +4,20 @@ use Rattle.std.specs.List.{flat_map}
 use Rattle.plan_grammar.specs.Event.{zone_name}
 use Rattle.plan_rules.specs.Names.{with_found, with_names}
 use Rattle.plan_rules.specs.TimerZones.{timer_zones}
-use Rattle.plan_check.specs.declared.form.Form.{Form}
-use Rattle.plan_check.specs.declared.form.Form.TheVariants.{Crontab, Named, Timer}
-use Rattle.agenda_kinds.specs.declared.asked.Asked.{Asked}
-use Rattle.agenda_kinds.specs.declared.asked.Asked.TheVariants as asked
+use Rattle.plan_rules.specs.declared.source_kind.SourceKind.{SourceKind}
+use Rattle.plan_rules.specs.declared.source_kind.SourceKind.TheVariants.{Timer}
+use Rattle.agenda_sources.specs.declared.asked.Asked.{Asked}
+use Rattle.agenda_sources.specs.declared.asked.Asked.TheVariants as asked
 use Rattle.agenda_sources.specs.declared.sources.Source.{Source}
-use Rattle.agenda_sources.specs.Forms.{form_of}
 
 -- the names of the zones of a file's events, in order; crontabs have no events
-abbrev pub form_zones : Form → (bytes : List ℕ) → List (List ℕ)
-form_zones (Crontab kind) bytes = []
-form_zones (Named directory) bytes = []
-form_zones Timer bytes = timer_zones bytes
+abbrev pub file_zones : SourceKind → (bytes : List ℕ) → List (List ℕ)
+file_zones Timer bytes = timer_zones bytes
+file_zones other bytes = []
 
 -- the same for a source
 abbrev pub source_zones : Source → List (List ℕ)
-source_zones source = form_zones (form_of source.kind) source.bytes
+source_zones source = file_zones source.kind source.bytes
 
 -- the names of the zones of all sources, each once, in order
 abbrev pub zone_names : List Source → List (List ℕ)

@@ -8,11 +8,10 @@ ghost use Rattle.agenda_sources.specs.declared.time_zones.TimeZones.{TimeZones};
 ghost use Rattle.agenda_sources.specs.Findings.{after_sources, found_at, found_from, is_all_clean, kept_jobs, source_file, sources_errors, sources_findings};
 ghost use Rattle.agenda_sources.specs.Sources.{jobs_reading, sources_reading};
 
-use crate::forms::form_of;
 use crate::reading::in_zone;
 use crate::sources::{Source, Sources};
 use crate::time_zones::TimeZones;
-use plan_check::{Finding, Known, a_file_means_its_reading, errors_need_no_clock};
+use plan_check::{Finding, Known, a_file_means_its_reading, errors_need_no_clock, file_findings};
 use plan_clock::Clock;
 use plan_rules::{EventZones, Jobs};
 use std::alloc::{AllocError, Global};
@@ -37,7 +36,7 @@ pub struct Kept {
 
 /// Returns all findings of the sources, in the order of the sources, each with the text that its message quotes.
 ///
-/// The findings of a source are those of `findings` of plan_check's `Form`. Rules start in these time zones.
+/// The findings of a source are those of `file_findings` of plan_check. Rules start in these time zones.
 ///
 /// # Errors
 ///
@@ -130,9 +129,8 @@ fn add_source(
         ++ map (found_at place) (file_findings zones.now known.old (source_file source.now))) }
     ensures known { OnOk result (known.new ≡ after_file zones.now known.old (source_file source.now)) }
 {
-    let form = form_of(source.kind);
     let (name, bytes) = (source.name.as_str(), source.bytes.as_slice());
-    let more = form.findings(alloc, known, name, bytes, zones)?;
+    let more = file_findings(alloc, known, source.kind, name, bytes, zones)?;
     add_all(found, place, more)
 }
 

@@ -4,11 +4,9 @@ ghost use Rattle.std.specs.Prelude.{◌≡◌, [], IfOk, OnErr, OnOk, option_map
 ghost use Rattle.plan_rules.specs.Names.{with_found, with_names};
 ghost use Rattle.agenda_sources.specs.ZoneNames.{asked_zones, source_zones, zone_names};
 
-use crate::forms::form_of;
+use crate::asked::Asked;
 use crate::sources::{Source, Sources};
-use agenda_kinds::Asked;
-use plan_check::Form;
-use plan_rules::{Names, add_timer_zones, zone_name};
+use plan_rules::{Names, SourceKind, add_timer_zones, zone_name};
 use std::alloc::{AllocError, Global};
 
 /// Returns the names of the time zones that the calendar events of sources end with, but for UTC, each once, in the order
@@ -35,9 +33,9 @@ fn add_source_zones(alloc: Global, names: &mut Names, source: &Source) -> Result
     ensures added { OnOk result (names.new ≡ with_names names.old (source_zones source.now)) }
     ensures unchanged { OnErr result (names.new ≡ names.old) }
 {
-    match form_of(source.kind) {
-        Form::Timer => add_timer_zones(alloc, names, source.bytes.as_slice()),
-        Form::Crontab(_) | Form::Named(_) => Ok(()),
+    match source.kind {
+        SourceKind::Timer => add_timer_zones(alloc, names, source.bytes.as_slice()),
+        _ => Ok(()),
     }
 }
 

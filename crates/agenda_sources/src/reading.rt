@@ -9,10 +9,9 @@ ghost use Rattle.agenda_sources.specs.Findings.{source_file};
 ghost use Rattle.agenda_sources.specs.Sources.{jobs_reading, sources_reading, zoned};
 
 use crate::fault::SourceFault;
-use crate::forms::form_of;
 use crate::sources::{Source, Sources};
 use crate::time_zones::TimeZones;
-use plan_check::{Known, a_file_means_its_reading, deciding_fault};
+use plan_check::{Known, a_file_means_its_reading, cause_at_once, deciding_fault, file_findings};
 use plan_clock::Clock;
 use plan_rules::{EventZones, Jobs, LineFault};
 use std::alloc::{AllocError, Global};
@@ -26,8 +25,8 @@ use std::alloc::{AllocError, Global};
 ///
 /// The first error is returned:
 ///
-/// - `InSource`: a source is invalid. This is its first error, as `crontab`, `named_crontab` or `timer` of plan_rules
-///   returns it.
+/// - `InSource`: a source is invalid. This is the error of its name, else its first error, as `crontab` or `timer` of
+///   plan_rules returns it.
 /// - `SameName`: two jobs have the same name.
 /// - `Full`: there are more than 1,000 jobs.
 /// - `NoMemory`: an allocation failed, also while a source was read. It never replaces an error of the first
@@ -98,9 +97,8 @@ fn add_jobs(
     if let Some(fault) = source_at_once(place, source) {
         return Err(fault);
     }
-    let form = form_of(source.kind);
     let (name, bytes) = (source.name.as_str(), source.bytes.as_slice());
-    let Ok(found) = form.findings(alloc, known, name, bytes, zones) else {
+    let Ok(found) = file_findings(alloc, known, source.kind, name, bytes, zones) else {
         return Err(SourceFault::NoMemory);
     };
     match deciding_fault(alloc, found) {
@@ -122,7 +120,7 @@ fn source_at_once(place: usize, source: &Source) -> Option<SourceFault>
     ensures fault { result ≡ source_at_once place source.now }
     ensures own { IfSome result IsOwnFault }
 {
-    let form = form_of(source.kind);
-    let cause = form.cause_at_once(source.name.as_str(), source.bytes.as_slice())?;
+    let (name, bytes) = (source.name.as_str(), source.bytes.as_slice());
+    let cause = cause_at_once(source.kind, name, bytes)?;
     Some(SourceFault::in_source(place, LineFault { line: 0, cause }))
 }

@@ -3,7 +3,7 @@
 ghost use Rattle.std.specs.Prelude.{◌≡◌};
 
 use crate::bytes::Bytes;
-use agenda_kinds::SourceKind;
+use plan_rules::SourceKind;
 use plan_texts::Text;
 use std::marker::Model;
 

@@ -4,7 +4,7 @@
 use Rattle.std.proofs.Common.{◌≡◌, ℕ, zero, suc, ◌+◌, Bool, true, false, not, ◌&&◌, nat_lt, cond, List, [], ◌∷◌, ◌++◌, length, map, Option, Some, None, is_none, is_some, option_map, Result, Ok, Err, IfErr, refl, ap, sym, ◌∙◌, subst, arith}
 use Rattle.std.specs.List.{cons_option, enumerate_from, filter_map}
 use Rattle.std.specs.Option.{option_or}
-use Rattle.std.specs.Prelude.{unwrap_or}
+use Rattle.std.specs.Prelude.{codes, unwrap_or}
 use Rattle.std.specs.Str.{is_utf8}
 use Rattle.plan_texts.specs.Lines.{is_too_large, lines}
 use Rattle.plan_texts.specs.Steps.{◌>>=◌}
@@ -17,10 +17,13 @@ use Rattle.plan_grammar.specs.declared.fault.RuleCause.{RuleCause}
 use Rattle.plan_grammar.specs.declared.fault.RuleCause.TheVariants as rule
 use Rattle.plan_grammar.specs.declared.fault.RuleFault.{RuleFault}
 use Rattle.plan_rules.specs.declared.crontabs.Kind.{Kind}
+use Rattle.plan_rules.specs.declared.crontabs.Kind.TheVariants as whose
 use Rattle.plan_rules.specs.declared.entry.Entry.{Entry}
 use Rattle.plan_rules.specs.declared.line_fault.LineCause.{LineCause}
 use Rattle.plan_rules.specs.declared.line_fault.LineCause.TheVariants.{BadTabName, BadTimerName, NoTimerSection, NotUtf8, TooLarge, TooManyLines}
 use Rattle.plan_rules.specs.declared.line_fault.LineFault.{LineFault}
+use Rattle.plan_rules.specs.declared.source_kind.SourceKind.{SourceKind}
+use Rattle.plan_rules.specs.declared.source_kind.SourceKind.TheVariants.{Crontab, System, CronD, Spool, Timer}
 use Rattle.plan_rules.specs.Crontab.{crontab_reading, entries_of_lines, line_entry, line_reading}
 use Rattle.plan_rules.specs.Entries.{entry_at, entry_on, faults_of, given, meant_by, fault_on, unless_faulty}
 use Rattle.plan_rules.specs.FileText.{text_reading}
@@ -28,7 +31,7 @@ use Rattle.plan_rules.specs.Job.{JobParts}
 use Rattle.plan_rules.specs.Jobs.{number_of}
 use Rattle.plan_rules.specs.Limits.{most_events, most_jobs}
 use Rattle.plan_rules.specs.LineFaults.{LineReading, TextReading, cause_by_cause, fault_on_line, in_line, on_line}
-use Rattle.plan_rules.specs.NamedCrontabs.{is_crontab_name, kind_in}
+use Rattle.plan_rules.specs.SourceKind.{is_package_name, is_user_name, name_cause}
 use Rattle.plan_rules.specs.Timer.{Effect, Reset, Event, Starts, Nothing, effects_from, has_timer, is_timer_name, job_with, settings_from, timer_job, timer_setting}
 use Rattle.plan_rules.specs.TimerDelays.{Setting, delay_of}
 use Rattle.plan_rules.specs.TimerEntries.{EventCount, effect_in, LineStep, Idle, Empties, Has, Names, TimerState, Draft, entries_from, entry_of, line_by, line_in, lines_draft, no_events, no_lines, state_after, timer_lines, timer_of_lines}
@@ -36,13 +39,10 @@ use Rattle.plan_check.specs.declared.deciding.FileFault.{FileFault}
 use Rattle.plan_check.specs.declared.deciding.FileFault.TheVariants as fault
 use Rattle.plan_check.specs.declared.finding.Finding.{Finding}
 use Rattle.plan_check.specs.declared.finding.FindingKind.TheVariants.{Rejected, SameName, Full}
-use Rattle.plan_check.specs.declared.form.Form.{Form}
-use Rattle.plan_check.specs.declared.form.Form.TheVariants.{Crontab, Named, Timer}
 use Rattle.plan_check.specs.Crontabs.{after_crontab, after_line, after_lines, crontab_findings, field_quote, line_findings, lines_findings}
 use Rattle.plan_check.specs.Deciding.{deciding, early_cause, early_fault, known_jobs, known_with, late_fault, strictly, unless_fault, with_each}
 use Rattle.plan_check.specs.Finding.{finding_at, first_of, found_if, rejected_at}
-use Rattle.plan_check.specs.Files.{File, file_of}
-use Rattle.plan_check.specs.Form.{alone, form_reading, label_of}
+use Rattle.plan_check.specs.Files.{File, after_text, alone, file_reading, jobs_of_text, text_findings, unless_named}
 use Rattle.plan_check.specs.Known.{KnownJobs, after_other, has_room, is_taken, name_quote, with_jobs, without_warnings}
 use Rattle.plan_check.specs.Settings.{value_of}
 use Rattle.plan_check.specs.Timers as timers
@@ -234,20 +234,31 @@ crontab_means jobs label kind bytes = text_means (is_too_large bytes) (is_utf8 b
 
 -- ---- a file's name
 
--- what is wrong with a name
-abbrev unless : Bool → LineCause → Option LineCause
-unless good cause = cond good None (Some cause)
+abbrev OfName : Option LineCause → Type 0
+OfName None = Unit {0}
+OfName (Some cause) = OfLine cause
+
+name_unless : (good : Bool) (cause : LineCause) → OfLine cause → OfName (cond good None (Some cause))
+name_unless true cause of = tt
+name_unless false cause of = of
+
+of_name : (kind : SourceKind) (name : List ℕ) → OfName (name_cause kind name)
+of_name Crontab name = tt
+of_name System name = tt
+of_name CronD name = name_unless (is_package_name name) BadTabName tt
+of_name Spool name = name_unless (is_user_name name) BadTabName tt
+of_name Timer name = name_unless (is_timer_name name) BadTimerName tt
 
 -- a file whose name is bad has that error, whatever its text
 named_means :
-    (good : Bool) (cause : LineCause) (jobs : List JobParts) (reading : TextReading (List JobParts)) (F : KnownJobs → List Finding)
-    (G : KnownJobs → KnownJobs) → OfLine cause →
-    (good ≡ true → strict (F (known_jobs jobs)) (G (known_jobs jobs)) ≡ known_with jobs reading) →
-    strict (cons_option (option_map (rejected_at 0) (unless good cause)) []
-    ++ F (with_jobs (known_jobs jobs) (is_none (unless good cause)))) (G (with_jobs (known_jobs jobs) (is_none (unless good cause))))
-    ≡ known_with jobs (cond good reading (on_line 0 (Err cause)))
-named_means true cause jobs reading F G of means = means refl
-named_means false cause jobs reading F G of means =
+    (cause : Option LineCause) (jobs : List JobParts) (reading : TextReading (List JobParts)) (F : KnownJobs → List Finding)
+    (G : KnownJobs → KnownJobs) → OfName cause →
+    (cause ≡ None → strict (F (known_jobs jobs)) (G (known_jobs jobs)) ≡ known_with jobs reading) →
+    strict (cons_option (option_map (rejected_at 0) cause) [] ++ F (with_jobs (known_jobs jobs) (is_none cause)))
+    (G (with_jobs (known_jobs jobs) (is_none cause)))
+    ≡ known_with jobs (unless_named cause reading)
+named_means None jobs reading F G of means = means refl
+named_means (Some cause) jobs reading F G of means =
     let known = with_jobs (known_jobs jobs) false in
     early_decides (rejected_at 0 cause ∷ F known) (G known) (fault_on_line 0 cause)
     (early_of (F known)) (λ i. cons_option (early_line 0 cause of i) (early_of (F known)))
@@ -393,32 +404,33 @@ timer_text_means true utf8 zones jobs name bytes f good = refl
 timer_text_means false true zones jobs name bytes f good = lines_of_timer zones jobs name (f bytes) good
 timer_text_means false false zones jobs name bytes f good = refl
 
-alone_named :
-    (good : Bool) (reading : TextReading JobParts) (fault : LineFault) →
-    alone (cond good reading (Err fault)) ≡ cond good (alone reading) (Err fault)
-alone_named true reading fault = refl
-alone_named false reading fault = refl
+-- a timer whose name is good
+timer_named :
+    (good : Bool) (zones : Zones) (jobs : List JobParts) (name bytes : List ℕ) → is_timer_name name ≡ good →
+    cond good None (Some BadTimerName) ≡ None →
+    strict (timer_findings zones (known_jobs jobs) name (timer_lines bytes)) (after_timer zones (known_jobs jobs) name (timer_lines bytes))
+    ≡ known_with jobs (alone (cond good (timer_lines bytes >>= λ lines. timer_of_lines zones name lines) (on_line 0 (Err BadTimerName))))
+timer_named true zones jobs name bytes good named =
+    timer_text_means (is_too_large bytes) (is_utf8 bytes) zones jobs name bytes
+    (λ text. map (λ line. (line.0, trimmed line.1)) (whole_lines text)) good
+timer_named false zones jobs name bytes good named = absurd cc
 
 -- ---- a file
 
-file_means :
-    (zones : Zones) (jobs : List JobParts) (form : Form) (name bytes : List ℕ) →
-    strictly zones (known_jobs jobs) (file_of form name bytes) ≡ known_with jobs (form_reading zones form name bytes)
-file_means zones jobs (Crontab kind) name bytes = crontab_means jobs (label_of kind) kind bytes
-file_means zones jobs (Named directory) name bytes =
-    let kind = kind_in directory in
-    named_means (is_crontab_name directory name) BadTabName jobs (crontab_reading name kind bytes)
-    (λ known. crontab_findings known name kind (text_reading bytes)) (λ known. after_crontab known name kind (text_reading bytes)) tt
-    (λ good. crontab_means jobs name kind bytes)
-file_means zones jobs Timer name bytes =
-    let lines : List ℕ → List (ℕ × List ℕ) = λ text. map (λ line. (line.0, trimmed line.1)) (whole_lines text) in
-    let reading : TextReading JobParts = timer_lines bytes >>= λ lines. timer_of_lines zones name lines in
-    named_means (is_timer_name name) BadTimerName jobs (alone reading)
-    (λ known. timer_findings zones known name (timer_lines bytes)) (λ known. after_timer zones known name (timer_lines bytes)) tt
-    (timer_text_means (is_too_large bytes) (is_utf8 bytes) zones jobs name bytes lines)
-    ∙ ap (known_with jobs) (sym (alone_named (is_timer_name name) reading (fault_on_line 0 BadTimerName)))
+text_jobs :
+    (zones : Zones) (jobs : List JobParts) (kind : SourceKind) (name bytes : List ℕ) → name_cause kind name ≡ None →
+    strict (text_findings zones (known_jobs jobs) kind name bytes) (after_text zones (known_jobs jobs) kind name bytes)
+    ≡ known_with jobs (jobs_of_text zones kind name bytes)
+text_jobs zones jobs Crontab name bytes named = crontab_means jobs (codes "cron") whose.User bytes
+text_jobs zones jobs System name bytes named = crontab_means jobs (codes "system") whose.System bytes
+text_jobs zones jobs CronD name bytes named = crontab_means jobs name whose.System bytes
+text_jobs zones jobs Spool name bytes named = crontab_means jobs name whose.User bytes
+text_jobs zones jobs Timer name bytes named = timer_named (is_timer_name name) zones jobs name bytes refl named
 
 pub law_of_readings :
     (zones : Zones) (jobs : List JobParts) (file : File) →
-    strictly zones (known_jobs jobs) file ≡ known_with jobs (form_reading zones file.form file.name file.bytes)
-law_of_readings zones jobs file = file_means zones jobs file.form file.name file.bytes
+    strictly zones (known_jobs jobs) file ≡ known_with jobs (file_reading zones file.kind file.name file.bytes)
+law_of_readings zones jobs file =
+    named_means (name_cause file.kind file.name) jobs (jobs_of_text zones file.kind file.name file.bytes)
+    (λ known. text_findings zones known file.kind file.name file.bytes) (λ known. after_text zones known file.kind file.name file.bytes)
+    (of_name file.kind file.name) (text_jobs zones jobs file.kind file.name file.bytes)

@@ -3,30 +3,31 @@
 use Rattle.std.proofs.Common.{◌≡◌, ℕ, ◌+◌, Bool, true, false, not, ◌&&◌, cond, List, [], ◌∷◌, ◌++◌, Option, Some, None, is_some, option_map, Ok, Err, refl, ap, sym, ◌∙◌, true≢false}
 use Rattle.std.proofs.lemmas.List.Elements.{filter-append}
 use Rattle.std.specs.List.{cons_option, enumerate_from}
+use Rattle.std.specs.Prelude.{codes}
 use Rattle.plan_clock.specs.declared.row.Change.{Change}
 use Rattle.plan_match.specs.declared.event.Calendar.{Calendar}
 use Rattle.plan_grammar.specs.EventZones.{Zones}
 use Rattle.plan_rules.specs.declared.crontabs.Kind.{Kind}
+use Rattle.plan_rules.specs.declared.crontabs.Kind.TheVariants as whose
 use Rattle.plan_rules.specs.declared.line_fault.LineCause.{LineCause}
 use Rattle.plan_rules.specs.declared.line_fault.LineCause.TheVariants.{NoTimerSection}
+use Rattle.plan_rules.specs.declared.source_kind.SourceKind.{SourceKind}
+use Rattle.plan_rules.specs.declared.source_kind.SourceKind.TheVariants.{Crontab, System, CronD, Spool, Timer}
 use Rattle.plan_texts.specs.Lines.{lines}
 use Rattle.plan_rules.specs.Crontab.{line_reading}
 use Rattle.plan_rules.specs.FileText.{text_reading}
 use Rattle.plan_rules.specs.Job.{JobParts}
 use Rattle.plan_rules.specs.LineFaults.{LineReading, TextReading}
-use Rattle.plan_rules.specs.NamedCrontabs.{kind_in}
+use Rattle.plan_rules.specs.SourceKind.{name_cause}
 use Rattle.plan_rules.specs.Timer.{has_timer, is_timer_name, timer_setting}
 use Rattle.plan_rules.specs.TimerDelays.{Setting}
 use Rattle.plan_rules.specs.TimerEntries.{LineStep, Idle, Empties, Has, Names, TimerState, line_in, no_lines, state_after, timer_lines}
 use Rattle.plan_check.specs.declared.finding.Finding.{Finding}
 use Rattle.plan_check.specs.declared.finding.Warning.TheVariants.{ZoneSetting}
 use Rattle.plan_check.specs.declared.finding.FindingKind.TheVariants.{Rejected, SameName, Full, Warned}
-use Rattle.plan_check.specs.declared.form.Form.{Form}
-use Rattle.plan_check.specs.declared.form.Form.TheVariants.{Crontab, Named, Timer}
 use Rattle.plan_check.specs.Crontabs.{after_crontab, after_line, after_lines, crontab_findings, entry_findings, line_findings, lines_findings}
 use Rattle.plan_check.specs.Files.{File, after_file, after_text, file_findings, in_file, name_findings, text_findings}
 use Rattle.plan_check.specs.Finding.{errors_of, finding_at, found_if, is_clean, is_warning, rejected_at}
-use Rattle.plan_check.specs.Form.{label_of, name_cause}
 use Rattle.plan_check.specs.Known.{KnownJobs, after_job, after_other, has_room, is_taken, job_findings, name_quote, without_warnings}
 use Rattle.plan_check.specs.Settings.{value_of}
 use Rattle.plan_check.specs.Timers as timers
@@ -229,17 +230,21 @@ timer_without zones known name (Ok lines) =
 -- ---- a file
 
 text_errors :
-    (zones : Zones) (known : KnownJobs) (form : Form) (name bytes : List ℕ) →
-    text_findings zones (without_warnings known) form name bytes ≡ errors_of (text_findings zones known form name bytes)
-text_errors zones known (Crontab kind) name bytes = crontab_errors known (label_of kind) kind (text_reading bytes)
-text_errors zones known (Named directory) name bytes = crontab_errors known name (kind_in directory) (text_reading bytes)
+    (zones : Zones) (known : KnownJobs) (kind : SourceKind) (name bytes : List ℕ) →
+    text_findings zones (without_warnings known) kind name bytes ≡ errors_of (text_findings zones known kind name bytes)
+text_errors zones known Crontab name bytes = crontab_errors known (codes "cron") whose.User (text_reading bytes)
+text_errors zones known System name bytes = crontab_errors known (codes "system") whose.System (text_reading bytes)
+text_errors zones known CronD name bytes = crontab_errors known name whose.System (text_reading bytes)
+text_errors zones known Spool name bytes = crontab_errors known name whose.User (text_reading bytes)
 text_errors zones known Timer name bytes = timer_errors zones known name (timer_lines bytes)
 
 text_without :
-    (zones : Zones) (known : KnownJobs) (form : Form) (name bytes : List ℕ) →
-    after_text zones (without_warnings known) form name bytes ≡ without_warnings (after_text zones known form name bytes)
-text_without zones known (Crontab kind) name bytes = crontab_without known (label_of kind) kind (text_reading bytes)
-text_without zones known (Named directory) name bytes = crontab_without known name (kind_in directory) (text_reading bytes)
+    (zones : Zones) (known : KnownJobs) (kind : SourceKind) (name bytes : List ℕ) →
+    after_text zones (without_warnings known) kind name bytes ≡ without_warnings (after_text zones known kind name bytes)
+text_without zones known Crontab name bytes = crontab_without known (codes "cron") whose.User (text_reading bytes)
+text_without zones known System name bytes = crontab_without known (codes "system") whose.System (text_reading bytes)
+text_without zones known CronD name bytes = crontab_without known name whose.System (text_reading bytes)
+text_without zones known Spool name bytes = crontab_without known name whose.User (text_reading bytes)
 text_without zones known Timer name bytes = timer_without zones known name (timer_lines bytes)
 
 name_errors :
@@ -252,11 +257,11 @@ pub file_errors :
     (zones : Zones) (known : KnownJobs) (file : File) → file_findings zones (without_warnings known) file
     ≡ errors_of (file_findings zones known file)
 file_errors zones known file =
-    let inside = in_file known file.form file.name in
-    (λ i. name_errors (name_cause file.form file.name) i ++ text_errors zones inside file.form file.name file.bytes i)
-    ∙ sym (errors_append (name_findings file.form file.name) (text_findings zones inside file.form file.name file.bytes))
+    let inside = in_file known file.kind file.name in
+    (λ i. name_errors (name_cause file.kind file.name) i ++ text_errors zones inside file.kind file.name file.bytes i)
+    ∙ sym (errors_append (name_findings file.kind file.name) (text_findings zones inside file.kind file.name file.bytes))
 
 pub file_without :
     (zones : Zones) (known : KnownJobs) (file : File) → after_file zones (without_warnings known) file
     ≡ without_warnings (after_file zones known file)
-file_without zones known file = text_without zones (in_file known file.form file.name) file.form file.name file.bytes
+file_without zones known file = text_without zones (in_file known file.kind file.name) file.kind file.name file.bytes

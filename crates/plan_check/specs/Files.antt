@@ -1,55 +1,104 @@
--- The findings of a file, and what is known after it (agenda).
-use Rattle.std.specs.Prelude.{ℕ, List, [], ◌++◌, is_none, option_map}
+-- How a file is read, by the kind of its source: its name, the jobs of its bytes, its findings, and what is known after it (agenda).
+use Rattle.std.specs.Prelude.{ℕ, if◌then◌else◌, List, [], ◌∷◌, ◌++◌, codes, Option, Some, None, is_none, option_map, Ok, Err}
 use Rattle.std.specs.List.{cons_option}
+use Rattle.std.specs.Option.{option_or}
+use Rattle.std.specs.Str.{is_utf8}
+use Rattle.plan_texts.specs.Lines.{is_too_large}
+use Rattle.plan_texts.specs.Steps.{◌>>=◌}
 use Rattle.plan_grammar.specs.EventZones.{Zones}
+use Rattle.plan_rules.specs.declared.crontabs.Kind.TheVariants as whose
+use Rattle.plan_rules.specs.declared.line_fault.LineCause.{LineCause}
+use Rattle.plan_rules.specs.declared.line_fault.LineCause.TheVariants.{NotUtf8, TooLarge}
+use Rattle.plan_rules.specs.declared.source_kind.SourceKind.{SourceKind}
+use Rattle.plan_rules.specs.declared.source_kind.SourceKind.TheVariants.{Crontab, System, CronD, Spool, Timer}
+use Rattle.plan_rules.specs.Crontab.{crontab_reading}
 use Rattle.plan_rules.specs.FileText.{text_reading}
-use Rattle.plan_rules.specs.NamedCrontabs.{kind_in}
-use Rattle.plan_rules.specs.TimerEntries.{timer_lines}
+use Rattle.plan_rules.specs.Job.{JobParts}
+use Rattle.plan_rules.specs.LineFaults.{TextReading, on_line}
+use Rattle.plan_rules.specs.SourceKind.{name_cause}
+use Rattle.plan_rules.specs.TimerEntries.{timer_lines, timer_reading}
 use Rattle.plan_check.specs.declared.finding.Finding.{Finding}
-use Rattle.plan_check.specs.declared.form.Form.{Form}
-use Rattle.plan_check.specs.declared.form.Form.TheVariants.{Crontab, Named, Timer}
 use Rattle.plan_check.specs.Crontabs.{crontab_findings, after_crontab}
 use Rattle.plan_check.specs.Finding.{rejected_at}
-use Rattle.plan_check.specs.Form.{label_of, name_cause}
 use Rattle.plan_check.specs.Known.{KnownJobs, with_jobs}
 use Rattle.plan_check.specs.Timers.{after_timer, timer_findings}
 
 -- a file
 pub record File : Type 0 where
-  pub form : Form
+  pub kind : SourceKind
   pub name : List ℕ
   pub bytes : List ℕ
 
-abbrev pub file_of : Form → (name bytes : List ℕ) → File
-file_of form name bytes = record { form = form; name = name; bytes = bytes }
+abbrev pub file_of : SourceKind → (name bytes : List ℕ) → File
+file_of kind name bytes = record { kind = kind; name = name; bytes = bytes }
+
+-- ---- the jobs of a file
+
+-- the reading of one job, as a list of one
+abbrev pub alone : TextReading JobParts → TextReading (List JobParts)
+alone reading = do
+  job ← reading
+  Ok (job ∷ [])
+
+-- the jobs of a file by its text, or its first error. A crontab's jobs are named after the label `cron` or `system`, or after the
+-- file's name; a user precedes each command in the system's crontab and in /etc/cron.d (crontab(5), cron(8) of Debian)
+abbrev pub jobs_of_text : Zones → SourceKind → (name bytes : List ℕ) → TextReading (List JobParts)
+jobs_of_text zones Crontab name bytes = crontab_reading (codes "cron") whose.User bytes
+jobs_of_text zones System name bytes = crontab_reading (codes "system") whose.System bytes
+jobs_of_text zones CronD name bytes = crontab_reading name whose.System bytes
+jobs_of_text zones Spool name bytes = crontab_reading name whose.User bytes
+jobs_of_text zones Timer name bytes = alone (timer_reading zones name bytes)
+
+-- this reading, unless something is wrong with the file's name
+abbrev pub unless_named : Option LineCause → TextReading (List JobParts) → TextReading (List JobParts)
+unless_named None reading = reading
+unless_named (Some cause) reading = on_line 0 (Err cause)
+
+-- the jobs of a file, or its first error: its name is checked first
+abbrev pub file_reading : Zones → SourceKind → (name bytes : List ℕ) → TextReading (List JobParts)
+file_reading zones kind name bytes = unless_named (name_cause kind name) (jobs_of_text zones kind name bytes)
 
 -- ---- findings
 
 -- the finding of a file's name, if it is bad
-abbrev pub name_findings : Form → (name : List ℕ) → List Finding
-name_findings form name = cons_option (option_map (rejected_at 0) (name_cause form name)) []
+abbrev pub name_findings : SourceKind → (name : List ℕ) → List Finding
+name_findings kind name = cons_option (option_map (rejected_at 0) (name_cause kind name)) []
 
 -- what is known in a file: if its name is bad, it makes no jobs
-abbrev pub in_file : KnownJobs → Form → (name : List ℕ) → KnownJobs
-in_file known form name = with_jobs known (is_none (name_cause form name))
+abbrev pub in_file : KnownJobs → SourceKind → (name : List ℕ) → KnownJobs
+in_file known kind name = with_jobs known (is_none (name_cause kind name))
 
 -- the findings of a file's text
-abbrev pub text_findings : Zones → KnownJobs → Form → (name bytes : List ℕ) → List Finding
-text_findings zones known (Crontab kind) name bytes = crontab_findings known (label_of kind) kind (text_reading bytes)
-text_findings zones known (Named directory) name bytes = crontab_findings known name (kind_in directory) (text_reading bytes)
+abbrev pub text_findings : Zones → KnownJobs → SourceKind → (name bytes : List ℕ) → List Finding
+text_findings zones known Crontab name bytes = crontab_findings known (codes "cron") whose.User (text_reading bytes)
+text_findings zones known System name bytes = crontab_findings known (codes "system") whose.System (text_reading bytes)
+text_findings zones known CronD name bytes = crontab_findings known name whose.System (text_reading bytes)
+text_findings zones known Spool name bytes = crontab_findings known name whose.User (text_reading bytes)
 text_findings zones known Timer name bytes = timer_findings zones known name (timer_lines bytes)
 
 -- what is known after a file's text
-abbrev pub after_text : Zones → KnownJobs → Form → (name bytes : List ℕ) → KnownJobs
-after_text zones known (Crontab kind) name bytes = after_crontab known (label_of kind) kind (text_reading bytes)
-after_text zones known (Named directory) name bytes = after_crontab known name (kind_in directory) (text_reading bytes)
+abbrev pub after_text : Zones → KnownJobs → SourceKind → (name bytes : List ℕ) → KnownJobs
+after_text zones known Crontab name bytes = after_crontab known (codes "cron") whose.User (text_reading bytes)
+after_text zones known System name bytes = after_crontab known (codes "system") whose.System (text_reading bytes)
+after_text zones known CronD name bytes = after_crontab known name whose.System (text_reading bytes)
+after_text zones known Spool name bytes = after_crontab known name whose.User (text_reading bytes)
 after_text zones known Timer name bytes = after_timer zones known name (timer_lines bytes)
 
 -- the findings of a file: its name is checked first, and then its text, even if the name is bad
 abbrev pub file_findings : Zones → KnownJobs → File → List Finding
 file_findings zones known file =
-    name_findings file.form file.name ++ text_findings zones (in_file known file.form file.name) file.form file.name file.bytes
+    name_findings file.kind file.name ++ text_findings zones (in_file known file.kind file.name) file.kind file.name file.bytes
 
 -- what is known after a file
 abbrev pub after_file : Zones → KnownJobs → File → KnownJobs
-after_file zones known file = after_text zones (in_file known file.form file.name) file.form file.name file.bytes
+after_file zones known file = after_text zones (in_file known file.kind file.name) file.kind file.name file.bytes
+
+-- ---- errors that are found before any memory is requested
+
+-- what is wrong with a file's bytes: their number is checked first
+abbrev pub bytes_cause : List ℕ → Option LineCause
+bytes_cause bytes = if is_too_large bytes then Some TooLarge else (if is_utf8 bytes then None else Some NotUtf8)
+
+-- what is wrong with a file: its name is checked first
+abbrev pub cause_at_once : SourceKind → (name bytes : List ℕ) → Option LineCause
+cause_at_once kind name bytes = option_or (name_cause kind name) (bytes_cause bytes)

@@ -5,6 +5,5 @@ pub mod Warnings
 pub mod Crontabs
 pub mod Settings
 pub mod Timers
-pub mod Form
 pub mod Files
 pub mod Deciding

@@ -5,19 +5,18 @@ ghost use Rattle.plan_grammar.specs.EventZones.{Zones};
 ghost use Rattle.plan_rules.specs.Job.{JobParts};
 ghost use Rattle.plan_check.specs.Deciding.{known_jobs, known_with, strictly};
 ghost use Rattle.plan_check.specs.Finding.{errors_of};
-ghost use Rattle.plan_check.specs.Form.{form_reading};
 ghost use Rattle.plan_check.specs.Known.{KnownJobs, without_warnings};
-ghost use Rattle.plan_check.specs.Files.{File, after_file, file_findings};
+ghost use Rattle.plan_check.specs.Files.{File, after_file, file_findings, file_reading};
 
-/// States the law of the error that decides: after files that made jobs, a file makes exactly the jobs that `crontab`,
-/// `named_crontab` or `timer` of plan_rules returns, added in order, and the error that decides among its findings is
-/// the error of that function; else `SameName` or `Full` of the first job that can't be added.
+/// States the law of the error that decides: after files that made jobs, a file with a good name makes exactly the jobs
+/// that `crontab` or `timer` of plan_rules returns, added in order, and the error that decides among its findings is the
+/// error of its name, else that of this function, else `SameName` or `Full` of the first job that can't be added.
 ///
 /// The function does nothing: its contract is the law.
 pub fn a_file_means_its_reading()
     ensures { (zones : Zones) (jobs : List JobParts) (file : File)
         → strictly zones (known_jobs jobs) file
-        ≡ known_with jobs (form_reading zones file.form file.name file.bytes) }
+        ≡ known_with jobs (file_reading zones file.kind file.name file.bytes) }
 {}
 
 /// States the law of errors: without a clock, the findings of a file are the errors among those with one, and the same

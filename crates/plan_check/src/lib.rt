@@ -1,7 +1,7 @@
 //! The findings of `check`: all errors and warnings of a crontab or a timer file, line by line.
 //!
 //! plan_rules reads each line by itself, and plan_next says whether a rule has a start. Read `finding` first,
-//! then `form`, which finds what is wrong with a file, and `crontabs` and `timers` for the lines. `deciding` finds the
+//! then `files`, which finds what is wrong with a file, and `crontabs` and `timers` for the lines. `deciding` finds the
 //! one error that decides if a file with an error makes no jobs.
 //! `warnings`, `settings` and `skipped` are what they warn about. `known` is what is passed from file to file, with
 //! the jobs that are kept. `laws` connects findings with jobs.
@@ -9,8 +9,8 @@
 
 mod crontabs;
 mod deciding;
+mod files;
 mod finding;
-mod form;
 mod known;
 mod laws;
 mod report;
@@ -20,7 +20,7 @@ mod timers;
 mod warnings;
 
 pub use deciding::{FileFault, deciding_fault};
+pub use files::{cause_at_once, file_findings};
 pub use finding::{Finding, FindingKind, Warning};
-pub use form::Form;
 pub use known::Known;
 pub use laws::{a_file_means_its_reading, errors_need_no_clock};

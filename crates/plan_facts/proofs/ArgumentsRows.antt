@@ -12,10 +12,10 @@ use Rattle.agenda_arguments.specs.declared.ask.FormatRequest.{FormatRequest}
 use Rattle.agenda_arguments.specs.declared.ask.JobsRequest.{JobsRequest}
 use Rattle.agenda_arguments.specs.declared.ask.PlanRequest.{PlanRequest}
 use Rattle.agenda_arguments.specs.declared.ask.ZonesRequest.{ZonesRequest}
-use Rattle.agenda_kinds.specs.declared.Asked.{Asked}
-use Rattle.agenda_kinds.specs.declared.Asked.TheVariants.{Cron, Event}
-use Rattle.agenda_kinds.specs.declared.SourceKind.TheVariants.{Crontab, System, CronD, Spool, Timer}
-use Rattle.agenda_kinds.specs.declared.SourcePath.{SourcePath}
+use Rattle.agenda_sources.specs.declared.Asked.{Asked}
+use Rattle.agenda_sources.specs.declared.Asked.TheVariants.{Cron, Event}
+use Rattle.plan_rules.specs.declared.SourceKind.TheVariants.{Crontab, System, CronD, Spool, Timer}
+use Rattle.agenda_sources.specs.declared.SourcePath.{SourcePath}
 use Rattle.agenda_arguments.specs.Arguments.{asked_by, is_usage, path_of, wants_help}
 use Rattle.agenda_arguments.proofs.OnLiterals.{agenda_on_literals}
 

@@ -17,11 +17,11 @@ pub mod Entries
 pub mod Job
 pub mod Crontab
 pub mod Delays
-pub mod NamedCrontabs
 pub mod Jobs
 pub mod Zone
 pub mod TimerDelays
 pub mod Timer
+pub mod SourceKind
 pub mod TimerEntries
 pub mod Names
 pub mod TimerZones

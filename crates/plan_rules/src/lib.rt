@@ -1,9 +1,9 @@
 //! Crontabs and timer files, the jobs in them, and the rules by which these jobs start.
 //!
-//! Open `crontabs` first (crontab(5)), then `named_crontabs`, for crontabs with a file name, and `timers`
-//! (systemd.timer(5), systemd.syntax(7)). Each takes its text from `file_text` and makes a `job` of each rule. `jobs`
-//! is the list of all jobs, by their names. An `entry` is what one line says by itself: the first rejected one is the
-//! error of the file, and a caller can report all of them. `timer_lines` says what each line of a timer does,
+//! Open `crontabs` first (crontab(5)), then `timers` (systemd.timer(5), systemd.syntax(7)). Each takes its text from
+//! `file_text` and makes a `job` of each rule. `source_kind` is the table of the kinds of such files, with their names.
+//! `jobs` is the list of all jobs, by their names. An `entry` is what one line says by itself: the first rejected one
+//! is the error of the file, and a caller can report all of them. `timer_lines` says what each line of a timer does,
 //! `timer_events` reads the lines one after the other, and `timer_draft` keeps what they say of the job.
 //! `timer_delays` finds how late a timer may start. `timer_zones` finds the `names` of the time zones that the events
 //! of a timer end with.
@@ -17,8 +17,8 @@ mod file_text;
 mod job;
 mod jobs;
 mod line_fault;
-mod named_crontabs;
 mod names;
+mod source_kind;
 mod timer_delays;
 mod timer_draft;
 mod timer_events;
@@ -32,7 +32,6 @@ pub use file_text::text_of;
 pub use job::Job;
 pub use jobs::{AddFault, Jobs, MOST_JOBS};
 pub use line_fault::{LineCause, LineFault};
-pub use named_crontabs::{CrontabDirectory, is_crontab_name, kind_in, named_crontab};
 pub use names::Names;
 pub use plan_grammar::{
     EventZones, NamedZone, RuleCause, RuleFault, calendar_event, calendar_rule, cron_rule,
@@ -40,6 +39,7 @@ pub use plan_grammar::{
 };
 pub use plan_match::{Calendar, CronRule, DayCount, Events, Rule};
 pub use plan_texts::{Text, cut, lines, number};
+pub use source_kind::SourceKind;
 pub use timer_delays::TimerDelays;
 pub use timer_draft::TimerDraft;
 pub use timer_events::{TimerLine, TimerReader};

@@ -1,8 +1,8 @@
 -- The name of the option or argument is that of the kind.
 use Rattle.std.proofs.Common.{◌≡◌, ◌∙◌, ap, sym, refl}
-use Rattle.agenda_kinds.specs.Kind.{option_of}
-use Rattle.agenda_kinds.specs.declared.SourceKind.{SourceKind}
-use Rattle.agenda_kinds.specs.declared.SourceKind.TheVariants.{Timer}
+use Rattle.plan_rules.specs.SourceKind.{option_of}
+use Rattle.plan_rules.specs.declared.SourceKind.{SourceKind}
+use Rattle.plan_rules.specs.declared.SourceKind.TheVariants.{Timer}
 use Rattle.agenda_arguments.specs.Command.{argument_named, option_named, path_rule}
 use Rattle.agenda_arguments.proofs.command.path_argument.Goals as goal
 

@@ -2,8 +2,8 @@
 use Rattle.std.proofs.Common.{◌≡◌, ◌<◌, ◌+◌, ◌∷◌, ◌∙◌, ℕ, List, ap, drop, map, refl, slice_index_or}
 use Rattle.std.proofs.lemmas.List.{drop_more}
 use Rattle.clap.specs.Words.{App, Rule, app_of, rule_of, with_rule}
-use Rattle.agenda_kinds.specs.Kind.{kinds}
-use Rattle.agenda_kinds.specs.declared.SourceKind.{SourceKind}
+use Rattle.plan_rules.specs.SourceKind.{kinds}
+use Rattle.plan_rules.specs.declared.SourceKind.{SourceKind}
 use Rattle.agenda_arguments.specs.Command.{source_rule, with_each}
 use Rattle.agenda_arguments.proofs.command.with_sources.Goals as goal
 

@@ -1,7 +1,7 @@
 use Rattle.std.proofs.Common.{◌≡◌, false, drop, map}
 use Rattle.clap.specs.Words.{app_of}
 use Rattle.clap.specs.declared.builder.command.Command.TheViews.{out-Command}
-use Rattle.agenda_kinds.specs.Kind.{kinds}
+use Rattle.plan_rules.specs.SourceKind.{kinds}
 use Rattle.agenda_arguments.specs.Command.{source_rule, with_each, with_sources}
 use Rattle.agenda_arguments.proofs.command.with_sources.Given as goal
 

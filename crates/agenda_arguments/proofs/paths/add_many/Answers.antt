@@ -2,7 +2,7 @@ use Rattle.std.proofs.Common.{◌≡◌, ◌∙◌, ap, sym, subst, Some, None, 
 use Rattle.std.specs.Prelude.{unwrap_or}
 use Rattle.clap.proofs.WalkLemmas.{raw_values-rows}
 use Rattle.clap.specs.Words.{all_of, found_of, rows_of}
-use Rattle.agenda_kinds.specs.Kind.{option_of}
+use Rattle.plan_rules.specs.SourceKind.{option_of}
 use Rattle.agenda_arguments.specs.Arguments.{path_of}
 use Rattle.agenda_arguments.proofs.paths.add_many.Goals as goal
 

@@ -1,7 +1,7 @@
 use Rattle.std.proofs.Common.{◌≡◌, ◌∙◌, ap, sym, subst, Some, None, Option, OnOk, List, ℕ, ◌++◌, map, append-nil}
 use Rattle.clap.proofs.WalkLemmas.{first_value-rows}
 use Rattle.clap.specs.Words.{first_of, found_of, rows_of}
-use Rattle.agenda_kinds.specs.Kind.{option_of}
+use Rattle.plan_rules.specs.SourceKind.{option_of}
 use Rattle.agenda_arguments.specs.Arguments.{all_given, path_of}
 use Rattle.agenda_arguments.proofs.paths.add_one.Goals as goal
 

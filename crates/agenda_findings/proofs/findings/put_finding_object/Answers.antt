@@ -13,11 +13,11 @@ returns g c =
     let takes_all = g.S.Stream.takes_all in
     let finding = c.args.finding.now in
     let before = members_before c.args.path.now finding in
-    let text = json_bytes (message_of c.args.form finding) in
+    let text = json_bytes (message_of c.args.source finding) in
     takes_three holds takes_all c.args.lines.now c.put_members_before.new.lines c.put.new.self c.put-2.new.self before
-    (codes ",\"text\":\"") (text ++ codes "\"}\n") (finding_object c.args.path.now c.args.form finding)
+    (codes ",\"text\":\"") (text ++ codes "\"}\n") (finding_object c.args.path.now c.args.source finding)
     c.put_members_before.ensures c.put.ensures
     (takes_both holds takes_all c.put.new.self c.put_message.new.lines c.put-2.new.self text (codes "\"}\n")
     (text ++ codes "\"}\n") (subst (Takes holds takes_all c.put.new.self c.put_message.new.lines)
-    (λ i. text_in true (message c.args.form finding.kind (c.quote_of.ensures i))) c.put_message.ensures) c.put-2.ensures refl)
+    (λ i. text_in true (message c.args.source finding.kind (c.quote_of.ensures i))) c.put_message.ensures) c.put-2.ensures refl)
     (ap (λ end. before ++ (codes ",\"text\":\"" ++ end)) (sym (append_assoc text (codes "\"") (codes "}\n"))))

@@ -2,7 +2,7 @@
 
 ghost use Rattle.std.specs.Prelude.{◌≡◌, ◌++◌, ◌∷◌, [], IfErr, is_ok, if◌then◌else◌};
 
-use crate::kind::SourceKind;
+use plan_rules::SourceKind;
 use plan_texts::Text;
 use std::alloc::{AllocFailed, Global};
 use std::marker::Model;
@@ -24,7 +24,7 @@ pub struct SourcePaths {
 
 impl Model for SourcePaths {
     ghost use Rattle.std.specs.Prelude.{List};
-    ghost use Rattle.agenda_kinds.specs.declared.paths.SourcePath.{SourcePath};
+    ghost use Rattle.agenda_sources.specs.declared.paths.SourcePath.{SourcePath};
 
     ghost Value = { List SourcePath };
 
@@ -48,7 +48,7 @@ impl SourcePaths {
     /// `AllocFailed`, with the path, if an allocation fails. The list is unchanged then.
     pub fn push(&mut self, path: SourcePath) -> Result<(), AllocFailed<SourcePath>>
         ensures list { self.new ≡ (if is_ok result then self.old ++ path ∷ [] else self.old) }
-        ensures returned { IfErr result (λ refused. refused.value ≡ path) }
+        ensures returned { IfErr result (λ failed. failed.value ≡ path) }
     {
         self.kept.push(path)
     }
