@@ -3,7 +3,7 @@ use Rattle.std.proofs.Common.{◌≡◌, inl, inr, ℕ, List, [], ◌++◌, take
 use Rattle.std.specs.declared.io.ErrorKind.{ErrorKind}
 use Rattle.std.specs.declared.io.ErrorKind.TheVariants.{OutOfMemory}
 use Rattle.agenda_faults.specs.declared.faults.Failure.{Failure}
-use Rattle.agenda_answers.specs.Files.{IsFrontOf, IsUnread, Known, MayFail}
+use Rattle.agenda_answers.specs.Files.{IsFrontOf, IsUnread, KnownFile, MayFail}
 use Rattle.agenda_answers.specs.Opened.{failure_of_kind}
 
 pub front_read :
@@ -16,7 +16,7 @@ front_read remaining (Some xs) limit most old new known same none read =
 
 -- a file gave an error of this kind
 pub unread_by_kind :
-    (file : Known) (unread failure : Failure) (kind : ErrorKind) → MayFail file kind → failure ≡ failure_of_kind kind unread →
+    (file : KnownFile) (unread failure : Failure) (kind : ErrorKind) → MayFail file kind → failure ≡ failure_of_kind kind unread →
     IsUnread file unread failure
 unread_by_kind file unread failure OutOfMemory may is = inl is
 unread_by_kind file unread failure _ may is = inr (is, may (λ same. cc))

@@ -8,7 +8,7 @@ use Rattle.plan_zones.specs.ZoneTexts.{Source, Utc, Path, Name, source_of, zone_
 use Rattle.agenda_faults.specs.Faults.{failure_of_zone}
 use Rattle.agenda_faults.specs.declared.faults.Failure.{Failure}
 use Rattle.agenda_faults.specs.declared.faults.Failure.TheVariants.{File, Zone}
-use Rattle.agenda_answers.specs.Files.{Held, Known, front_of}
+use Rattle.agenda_answers.specs.Files.{Held, KnownFile, front_of}
 use Rattle.agenda_answers.specs.Steps.{Step, fails, gives, ◌>>=◌}
 
 -- the clock of a zone's file, by the bytes of the file
@@ -17,7 +17,7 @@ clock_of_bytes bytes (Ok clock) = IsClockOf bytes clock
 clock_of_bytes bytes (Err failure) = (fault : ZoneFault) × Rejects fault bytes × (failure ≡ failure_of_zone fault)
 
 -- the clock of a zone's file, with the failure if it can't be opened or read
-abbrev pub clock_of_file : Known → (unread : Failure) → Step (List Change)
+abbrev pub clock_of_file : KnownFile → (unread : Failure) → Step (List Change)
 clock_of_file file unread = do
   bytes ← front_of file unread
   clock_of_bytes bytes

@@ -19,11 +19,11 @@ pub trait Files {
     ghost use Rattle.std.specs.Prelude.{◌≡◌, List, [], ◌∷◌, ℕ, Option, IfErr, IfOk, OnOk};
     ghost use Rattle.std.specs.IoError.{error_kind};
     ghost use Rattle.std.specs.declared.io.ErrorKind.{ErrorKind};
-    ghost use Rattle.agenda_answers.specs.Files.{IsFrontOf, Known, MayFail};
+    ghost use Rattle.agenda_answers.specs.Files.{IsFrontOf, KnownFile, MayFail};
     ghost use Rattle.agenda_answers.specs.Opened.{followed_by};
 
     /// What contracts know of the file with a path.
-    ghost held: { Self → List ℕ → Known };
+    ghost held: { Self → List ℕ → KnownFile };
 
     /// The paths of the files that were opened so far, in order, if contracts know them.
     ghost opened: { Self → Option (List (List ℕ)) };
