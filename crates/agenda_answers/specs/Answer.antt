@@ -111,14 +111,14 @@ pub record Leaves (takes_all : Bool) (step : Step Printed) (done : Result ℕ Fa
   pub ends : step end
   pub puts : HoldsAfter takes_all end done old new
 
--- a stream: whether it accepts all bytes, and what it held before and after
-pub record Stream : Type 0 where
+-- what happens to a stream: whether it accepts all bytes, and what it held before and after
+pub record StreamChange : Type 0 where
   pub takes_all : Bool
   pub old : Option (List ℕ)
   pub new : Option (List ℕ)
 
 -- the exit status, and standard error: nothing after success, and after a failure its status and its line
-abbrev pub Ends : List SourcePath → Result ℕ Failure → (status : ℕ) → Stream → Type 0
+abbrev pub Ends : List SourcePath → Result ℕ Failure → (status : ℕ) → StreamChange → Type 0
 Ends sources (Ok status) found err = (found ≡ status) × Keeps err.old err.new
 Ends sources (Err failure) found err =
     (found ≡ status_of failure) × PutsOrBreaksOff err.takes_all err.old err.new (fault_text sources failure)

@@ -11,7 +11,7 @@ use Rattle.agenda_sources.specs.declared.SourcePath.{SourcePath}
 use Rattle.agenda_commands.specs.declared.Goal.{Goal}
 use Rattle.agenda_answers.specs.declared.requests.Request.{Request}
 use Rattle.agenda_answers.specs.declared.requests.Request.TheVariants.{Starts, Jobs, Check, Steps, Explain}
-use Rattle.agenda_answers.specs.Answer.{Ends, Leaves, Printed, Stream, check_ends, explain_ends, next_ends, steps_ends, usage_ends}
+use Rattle.agenda_answers.specs.Answer.{Ends, Leaves, Printed, StreamChange, check_ends, explain_ends, next_ends, steps_ends, usage_ends}
 use Rattle.agenda_answers.specs.Files.{Held}
 use Rattle.agenda_answers.specs.Outcome.{AnswersJobs, Outcome, ReportsOrFails, outcome_by}
 use Rattle.agenda_answers.specs.Requests.{request_of, stopping_jobs}
@@ -19,7 +19,7 @@ use Rattle.agenda_answers.specs.Steps.{Step, fails}
 
 -- an answer: its exit status, and both streams
 abbrev pub Answering : Type 1
-Answering = ℕ → (out err : Stream) → Type 0
+Answering = ℕ → (out err : StreamChange) → Type 0
 
 -- what a command leaves on standard output, and how it ends. These are the paths of the sources that are requested
 abbrev pub AnswersBy : Step Printed → List SourcePath → Answering
@@ -54,7 +54,7 @@ SkipsNothing (Err failure) = failure ≢ Run NoMemory
 -- if nothing is skipped, a request that keeps going is answered as it may be without that
 abbrev pub ChangesNothing : Held → Goal → JobsRequest → Type 0
 ChangesNothing held goal jobs =
-    (end : Result Outcome Failure) → outcome_by true held goal jobs end → SkipsNothing end → (status : ℕ) → (out err : Stream) →
+    (end : Result Outcome Failure) → outcome_by true held goal jobs end → SkipsNothing end → (status : ℕ) → (out err : StreamChange) →
     ReportsOrFails jobs.sources end status out err → AnswersJobs held goal (stopping_jobs jobs) status out err
 
 -- ---- the whole program
