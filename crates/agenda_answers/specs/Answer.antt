@@ -118,7 +118,7 @@ pub record StreamChange : Type 0 where
   pub new : Option (List ℕ)
 
 -- the exit status, and standard error: nothing after success, and after a failure its status and its line
-abbrev pub Ends : List SourcePath → Result ℕ Failure → (status : ℕ) → StreamChange → Type 0
-Ends sources (Ok status) found err = (found ≡ status) × Keeps err.old err.new
-Ends sources (Err failure) found err =
+abbrev pub Exits : List SourcePath → Result ℕ Failure → (status : ℕ) → StreamChange → Type 0
+Exits sources (Ok status) found err = (found ≡ status) × Keeps err.old err.new
+Exits sources (Err failure) found err =
     (found ≡ status_of failure) × PutsOrBreaksOff err.takes_all err.old err.new (fault_text sources failure)

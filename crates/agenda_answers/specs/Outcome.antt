@@ -21,7 +21,7 @@ use Rattle.agenda_commands.specs.declared.Goal.{Goal}
 use Rattle.agenda_commands.specs.Goal.{AnswersGoal, checked_jobs, valid_goal}
 use Rattle.agenda_commands.specs.Prepare.{jobs_or}
 use Rattle.agenda_answers.specs.declared.sources.Tried.{Tried}
-use Rattle.agenda_answers.specs.Answer.{Ends, HoldsAfter, Printed, StreamChange}
+use Rattle.agenda_answers.specs.Answer.{Exits, HoldsAfter, Printed, StreamChange}
 use Rattle.agenda_answers.specs.Files.{Held}
 use Rattle.agenda_answers.specs.Formats.{format_made}
 use Rattle.agenda_answers.specs.Sources.{input_of}
@@ -86,10 +86,10 @@ abbrev pub printed : Result (List ℕ) RunFault → (status : ℕ) → Result Pr
 printed (Ok text) status = Ok (record { text = text; status = status })
 printed (Err fault) status = Err (Run fault)
 
--- how a request ends: what it leaves on standard output, its exit status, and standard error
-abbrev pub EndsWith : List SourcePath → Result Printed Failure → ℕ → (out err : StreamChange) → Type 0
-EndsWith sources end status out err =
-    (done : Result ℕ Failure) × HoldsAfter out.takes_all end done out.old out.new × Ends sources done status err
+-- what a request leaves on standard output, its exit status, and standard error
+abbrev pub ExitsWith : List SourcePath → Result Printed Failure → ℕ → (out err : StreamChange) → Type 0
+ExitsWith sources end status out err =
+    (done : Result ℕ Failure) × HoldsAfter out.takes_all end done out.old out.new × Exits sources done status err
 
 -- standard error breaks off in the lines of what is skipped, and nothing is printed; or it takes them, and the
 -- answer follows
@@ -97,12 +97,12 @@ abbrev pub Reports : List SourcePath → Outcome → ℕ → (out err : StreamCh
 Reports sources kept status out err =
     (HasSkipped kept × BreaksOff err.takes_all err.old err.new (lines_of_skipped kept) × (status ≡ failed_status) × Keeps out.old out.new)
     ⊎ ((mid : Option (List ℕ)) × Appends err.old mid (lines_of_skipped kept)
-    × EndsWith sources (printed kept.answer (skipped_status kept.unread kept.errors)) status out (record err { old = mid }))
+    × ExitsWith sources (printed kept.answer (skipped_status kept.unread kept.errors)) status out (record err { old = mid }))
 
 -- the same, unless the request failed, with nothing but its line
 abbrev pub ReportsOrFails : List SourcePath → Result Outcome Failure → ℕ → (out err : StreamChange) → Type 0
 ReportsOrFails sources (Ok kept) status out err = Reports sources kept status out err
-ReportsOrFails sources (Err failure) status out err = EndsWith sources (Err failure) status out err
+ReportsOrFails sources (Err failure) status out err = ExitsWith sources (Err failure) status out err
 
 -- the answer to a request for jobs
 abbrev pub AnswersJobs : Held → Goal → JobsRequest → ℕ → (out err : StreamChange) → Type 0

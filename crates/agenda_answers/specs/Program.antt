@@ -11,7 +11,7 @@ use Rattle.agenda_sources.specs.declared.SourcePath.{SourcePath}
 use Rattle.agenda_commands.specs.declared.Goal.{Goal}
 use Rattle.agenda_answers.specs.declared.requests.Request.{Request}
 use Rattle.agenda_answers.specs.declared.requests.Request.TheVariants.{Starts, Jobs, Check, Steps, Explain}
-use Rattle.agenda_answers.specs.Answer.{Ends, Leaves, Printed, StreamChange, check_ends, explain_ends, next_ends, steps_ends, usage_ends}
+use Rattle.agenda_answers.specs.Answer.{Exits, Leaves, Printed, StreamChange, check_ends, explain_ends, next_ends, steps_ends, usage_ends}
 use Rattle.agenda_answers.specs.Files.{Held}
 use Rattle.agenda_answers.specs.Outcome.{AnswersJobs, Outcome, ReportsOrFails, outcome_by}
 use Rattle.agenda_answers.specs.Requests.{request_of, stopping_jobs}
@@ -24,7 +24,7 @@ Answering = ℕ → (out err : StreamChange) → Type 0
 -- what a command leaves on standard output, and how it ends. These are the paths of the sources that are requested
 abbrev pub AnswersBy : Step Printed → List SourcePath → Answering
 AnswersBy step sources status out err =
-    (done : Result ℕ Failure) × Leaves out.takes_all step done out.old out.new × Ends sources done status err
+    (done : Result ℕ Failure) × Leaves out.takes_all step done out.old out.new × Exits sources done status err
 
 -- the answer to a request
 abbrev pub AnswersRequest : Held → Request → Answering

@@ -1,7 +1,7 @@
 //! Does what the arguments request, over any files and streams.
 
 ghost use Rattle.std.specs.Prelude.{◌≡◌, ◌≢◌, IsOk, IsTrue, Ok, OnOk, map, string_bytes, true};
-ghost use Rattle.agenda_answers.specs.Answer.{Ends, Leaves, SaysNotUtf8, check_ends, explain_ends, next_ends, status_after, status_on, steps_ends, usage_ends};
+ghost use Rattle.agenda_answers.specs.Answer.{Exits, Leaves, SaysNotUtf8, check_ends, explain_ends, next_ends, status_after, status_on, steps_ends, usage_ends};
 ghost use Rattle.agenda_answers.specs.Program.{Answers, AnswersArguments, AnswersAsk, AnswersRequest};
 
 use crate::files::{Files, read_path};
@@ -140,7 +140,7 @@ pub fn unread_arguments(alloc: Global, kind: ErrorKind) -> UsageFault
 // Returns the exit status after a request, and writes the line of its error. `sources` are the paths of the
 // sources that it names.
 pub(crate) fn end<S: Stream>(done: Result<u8, Failure>, sources: &[SourcePath], err: &mut S) -> u8
-    ensures ends { Ends sources.now done result
+    ensures exits { Exits sources.now done result
         (record { takes_all = S.takes_all; old = S.holds err.old; new = S.holds err.new }) }
     ensures succeeded { result ≡ 0 → IsOk done }
     ensures flushed { S.takes_all ≡ true → IsTrue (S.is_flushed err.old) → IsTrue (S.is_flushed err.new) }

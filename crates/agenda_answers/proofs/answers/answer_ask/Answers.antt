@@ -9,5 +9,5 @@ pub returns-in-Err-clause-answers : goal.returns-in-Err-clause-answers
 returns-in-Err-clause-answers g c = (
   Err c.in-Err.failure,
   c.in-Err.ensures,
-  (Err c.in-Err.failure, record { end = Err c.in-Err.failure; ends = refl; puts = (refl, Keeps-refl _) }, c.end.ensures.ends),
+  (Err c.in-Err.failure, record { end = Err c.in-Err.failure; ends = refl; puts = (refl, Keeps-refl _) }, c.end.ensures.exits),
 )

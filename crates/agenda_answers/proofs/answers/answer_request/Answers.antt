@@ -1,17 +1,17 @@
 use Rattle.agenda_answers.proofs.answers.answer_request.Goals as goal
 
 pub returns-in-Starts-clause-answers : goal.returns-in-Starts-clause-answers
-returns-in-Starts-clause-answers g c = rw c.in-Starts.is (_, c.next.ensures.ends, c.end.ensures.ends)
+returns-in-Starts-clause-answers g c = rw c.in-Starts.is (_, c.next.ensures.ends, c.end.ensures.exits)
 
 pub returns-in-Jobs-clause-answers : goal.returns-in-Jobs-clause-answers
 returns-in-Jobs-clause-answers g c = rw c.in-Jobs.is c.answer_jobs.ensures.answers
 
 pub returns-in-Check-clause-answers : goal.returns-in-Check-clause-answers
 returns-in-Check-clause-answers g c =
-    rw c.in-Check.is (_, c.check-done.ensures.ends, rw c.as_slice.ensures at c.end-in-Check.ensures.ends)
+    rw c.in-Check.is (_, c.check-done.ensures.ends, rw c.as_slice.ensures at c.end-in-Check.ensures.exits)
 
 pub returns-in-Steps-clause-answers : goal.returns-in-Steps-clause-answers
-returns-in-Steps-clause-answers g c = rw c.in-Steps.is (_, c.steps.ensures.ends, c.end-in-Steps.ensures.ends)
+returns-in-Steps-clause-answers g c = rw c.in-Steps.is (_, c.steps.ensures.ends, c.end-in-Steps.ensures.exits)
 
 pub returns-in-Explain-clause-answers : goal.returns-in-Explain-clause-answers
-returns-in-Explain-clause-answers g c = rw c.in-Explain.is (_, c.explain.ensures.ends, c.end-in-Explain.ensures.ends)
+returns-in-Explain-clause-answers g c = rw c.in-Explain.is (_, c.explain.ensures.ends, c.end-in-Explain.ensures.exits)

@@ -9,5 +9,5 @@ pub returns-in-Err-clause-answers : goal.returns-in-Err-clause-answers
 returns-in-Err-clause-answers g c = (
   Err c.in-Err.failure,
   c.in-Err.ensures.made,
-  (Err c.in-Err.failure, (refl, Keeps-refl _), rw c.as_slice-in-Err.ensures at c.end.ensures.ends),
+  (Err c.in-Err.failure, (refl, Keeps-refl _), rw c.as_slice-in-Err.ensures at c.end.ensures.exits),
 )
