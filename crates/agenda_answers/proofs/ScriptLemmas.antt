@@ -11,7 +11,7 @@ use Rattle.agenda_faults.specs.declared.faults.Failure.TheVariants.{Run}
 use Rattle.agenda_answers.specs.Answer.{Leaves, Printed, prints, steps_ends}
 use Rattle.agenda_answers.specs.Files.{Held, most_read, IsFrontOf, IsHeld}
 use Rattle.agenda_answers.specs.Steps.{goes}
-use Rattle.agenda_commands.specs.Script.{IsTextOfRun, RefusesRun}
+use Rattle.agenda_commands.specs.Script.{IsTextOfRun, RejectsRun}
 
 -- a script with more bytes than the limit is too large, whatever its bytes are
 too_large : (bytes : List ℕ) → most_read ≤ length bytes → script_reading bytes ≡ fault_on 0 TooLarge
@@ -35,18 +35,18 @@ whole_script (Some whole) bytes front = (whole, refl, sym (script_reading-take w
 -- what a run ends with depends only on the script's meaning
 run_whole :
     (bytes script : List ℕ) (end : Result Printed Failure) → script_reading script ≡ script_reading bytes →
-    prints 0 (IsTextOfRun bytes) (RefusesRun bytes) end → prints 0 (IsTextOfRun script) (RefusesRun script) end
+    prints 0 (IsTextOfRun bytes) (RejectsRun bytes) end → prints 0 (IsTextOfRun script) (RejectsRun script) end
 run_whole bytes script (Ok printed) same ((meaning, replies, reads, many, turn, lawful, is), zero) =
     ((meaning, replies, same ∙ reads, many, turn, lawful, is), zero)
 run_whole bytes script (Err (Run (run.Script fault))) same reads = same ∙ reads
-run_whole bytes script (Err (Run run.NoMemory)) same refused = tt
+run_whole bytes script (Err (Run run.NoMemory)) same failed = tt
 run_whole bytes script (Err (Run other)) same none = absurd none
 run_whole bytes script (Err other) same none = absurd none
 
 -- what a run of a file's first bytes leaves is what `steps` leaves
 pub steps_left :
     (held : Held) (file bytes : List ℕ) (takes_all : Bool) (done : Result ℕ Failure) (old new : Option (List ℕ)) →
-    IsFrontOf (held file).bytes most_read bytes → Leaves takes_all (prints 0 (IsTextOfRun bytes) (RefusesRun bytes)) done old new →
+    IsFrontOf (held file).bytes most_read bytes → Leaves takes_all (prints 0 (IsTextOfRun bytes) (RejectsRun bytes)) done old new →
     Leaves takes_all (steps_ends held file) done old new
 steps_left held file bytes takes_all done old new front left =
     let (script, whole, means) = whole_script (held file).bytes bytes front in

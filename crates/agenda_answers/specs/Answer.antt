@@ -12,7 +12,7 @@ use Rattle.agenda_faults.specs.declared.faults.Failure.TheVariants.{Usage, Run, 
 use Rattle.agenda_sources.specs.declared.SourcePath.{SourcePath}
 use Rattle.agenda_faults.specs.FaultLines.{fault_text}
 use Rattle.agenda_faults.specs.Faults.{status_of}
-use Rattle.agenda_faults.specs.Status.{done_status, refused_status}
+use Rattle.agenda_faults.specs.Status.{done_status, rejected_status}
 use Rattle.agenda_answers.specs.declared.requests.StartsRequest.{StartsRequest}
 use Rattle.agenda_answers.specs.Files.{Held, whole_of}
 use Rattle.agenda_answers.specs.Formats.{format_made}
@@ -24,7 +24,7 @@ use Rattle.agenda_commands.specs.Check.{check_output, sources_checked}
 use Rattle.agenda_commands.specs.Command.{IsFaultOf, IsTextOf}
 use Rattle.agenda_commands.specs.Explain.{explain_output}
 use Rattle.agenda_commands.specs.Next.{next_output, valid_count}
-use Rattle.agenda_commands.specs.Script.{IsTextOfRun, RefusesRun}
+use Rattle.agenda_commands.specs.Script.{IsTextOfRun, RejectsRun}
 use Rattle.plan_streams.specs.Stream.{BreaksOff, PutsOrBreaksOff}
 use Rattle.plan_streams.specs.declared.WriteFault.{WriteFault}
 
@@ -70,7 +70,7 @@ next_ends held request = do
 -- the exit status of `check`
 abbrev pub status_on : Checked → ℕ
 status_on WithoutErrors = done_status
-status_on WithErrors = refused_status
+status_on WithErrors = rejected_status
 
 -- `check`: the zone is read first, then the files and the zones of events; after that only an allocation can fail
 abbrev pub check_ends : Held → ZonesRequest → List SourcePath → (json : Bool) → Step Printed
@@ -82,7 +82,7 @@ check_ends held zones paths json = do
 abbrev pub steps_ends : Held → List ℕ → Step Printed
 steps_ends held file = do
   script ← whole_of (held file) (File file)
-  prints done_status (IsTextOfRun script) (RefusesRun script)
+  prints done_status (IsTextOfRun script) (RejectsRun script)
 
 -- `explain`: no file is read
 abbrev pub explain_ends : Option Code → Step Printed

@@ -10,7 +10,7 @@ use Rattle.agenda_faults.specs.declared.faults.RunFault.{RunFault}
 use Rattle.agenda_faults.specs.declared.faults.RunFault.TheVariants.{NoMemory}
 use Rattle.agenda_faults.specs.declared.faults.Failure.{Failure}
 use Rattle.agenda_faults.specs.declared.faults.Failure.TheVariants.{Run}
-use Rattle.agenda_faults.specs.Status.{done_status, failed_status, refused_status}
+use Rattle.agenda_faults.specs.Status.{done_status, failed_status, rejected_status}
 use Rattle.agenda_sources.specs.declared.SourcePath.{SourcePath}
 use Rattle.agenda_sources.specs.declared.Found.{Found}
 use Rattle.agenda_sources.specs.declared.Source.{Source}
@@ -78,7 +78,7 @@ lines_of_skipped kept = skipped_text kept.unread kept.paths kept.errors
 -- the exit status of an answer: whether a file can't be read, and whether there is an error
 abbrev pub skipped_status : (unread : List SourcePath) → (errors : List Found) → ℕ
 skipped_status [] [] = done_status
-skipped_status [] (error ∷ more) = refused_status
+skipped_status [] (error ∷ more) = rejected_status
 skipped_status (path ∷ more) errors = failed_status
 
 -- what is printed after the lines of what is skipped, or the failure

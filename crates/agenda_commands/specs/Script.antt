@@ -19,7 +19,7 @@ IsTextOfRun script text =
     × (text ≡ replies_text replies)
 
 -- when a run of a script is rejected, and why
-abbrev pub RefusesRun : List ℕ → RunFault → Type 0
-RefusesRun script (run.Script fault) = script_reading script ≡ Err fault
-RefusesRun script run.NoMemory = ⊤
-RefusesRun script other = ⊥
+abbrev pub RejectsRun : List ℕ → RunFault → Type 0
+RejectsRun script (run.Script fault) = script_reading script ≡ Err fault
+RejectsRun script run.NoMemory = ⊤
+RejectsRun script other = ⊥

@@ -6,7 +6,7 @@ ghost use Rattle.plan_mailbox.specs.Lanes.{mailbox_of};
 ghost use Rattle.plan_mailbox.specs.Mailbox.{IsNew, senders_of};
 ghost use Rattle.plan_mailbox.specs.Reply.{RepliesInTurn};
 ghost use Rattle.agenda_commands.specs.Command.{Fails, Writes};
-ghost use Rattle.agenda_commands.specs.Script.{IsTextOfRun, RefusesRun};
+ghost use Rattle.agenda_commands.specs.Script.{IsTextOfRun, RejectsRun};
 
 use agenda_faults::RunFault;
 use agenda_script::{Script, read_script};
@@ -25,7 +25,7 @@ use std::alloc::Global;
 /// written then. `Device` if the stream failed, which then accepted the first bytes of the text.
 pub fn run_script<S: Stream>(alloc: Global, script: &[u8], out: &mut S) -> Result<(), RunFault>
     ensures written { OnOk result (Writes (IsTextOfRun script.now) (S.holds out.old) (S.holds out.new)) }
-    ensures refused { IfErr result (λ fault. Fails S.takes_all (IsTextOfRun script.now) (RefusesRun script.now) fault
+    ensures failed { IfErr result (λ fault. Fails S.takes_all (IsTextOfRun script.now) (RejectsRun script.now) fault
         (S.holds out.old) (S.holds out.new)) }
     ensures flushed { OnOk result (IsTrue (S.is_flushed out.new)) }
 {

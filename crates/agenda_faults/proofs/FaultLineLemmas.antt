@@ -21,42 +21,42 @@ use Rattle.plan_zones.specs.declared.zone_fault.ZoneFault.{ZoneFault}
 use Rattle.plan_zones.specs.declared.zone_fault.ZoneFault.TheVariants as zone
 use Rattle.plan_zones.specs.Zones.{zone_fault_name}
 
-pub rule_line-refused :
-    (part : ℕ) (refused : RuleCause) → refused ≢ cause.NoMemory →
-    rule_line part refused ≡ numbered_line (codes "agenda: rule: part ") part (rule_cause refused)
-rule_line-refused part cause.NoMemory not = absurd (not refl)
-rule_line-refused part other not = refl
+pub rule_line-other :
+    (part : ℕ) (other : RuleCause) → other ≢ cause.NoMemory →
+    rule_line part other ≡ numbered_line (codes "agenda: rule: part ") part (rule_cause other)
+rule_line-other part cause.NoMemory not = absurd (not refl)
+rule_line-other part other not = refl
 
-pub script_line-refused :
-    (line : ℕ) (refused : ScriptCause) → refused ≢ script.NoMemory →
-    script_line line refused ≡ numbered_line (codes "agenda: script: line ") line (script_cause refused)
-script_line-refused line script.NoMemory not = absurd (not refl)
-script_line-refused line other not = refl
+pub script_line-other :
+    (line : ℕ) (other : ScriptCause) → other ≢ script.NoMemory →
+    script_line line other ≡ numbered_line (codes "agenda: script: line ") line (script_cause other)
+script_line-other line script.NoMemory not = absurd (not refl)
+script_line-other line other not = refl
 
 -- the line of a rule in a source
-pub source_rule_line-refused :
-    (source : List ℕ) (line part : ℕ) (refused : RuleCause) → refused ≢ cause.NoMemory →
-    source_rule_line source line part refused ≡ text_of_part source line part (rule_cause refused)
-source_rule_line-refused source line part cause.NoMemory not = absurd (not refl)
-source_rule_line-refused source line part other not = refl
+pub source_rule_line-other :
+    (source : List ℕ) (line part : ℕ) (other : RuleCause) → other ≢ cause.NoMemory →
+    source_rule_line source line part other ≡ text_of_part source line part (rule_cause other)
+source_rule_line-other source line part cause.NoMemory not = absurd (not refl)
+source_rule_line-other source line part other not = refl
 
 -- the line of a source
-pub source_line-refused :
-    (source : List ℕ) (line : ℕ) (refused : LineCause) → refused ≢ on_line.NoMemory → ((fault : RuleFault) → refused ≢ on_line.Rule fault) →
-    source_line source line refused ≡ text_of_line source line (line_cause refused)
-source_line-refused source line on_line.NoMemory not no_rule = absurd (not refl)
-source_line-refused source line (on_line.Rule fault) not no_rule = absurd (no_rule fault refl)
-source_line-refused source line other not no_rule = refl
+pub source_line-other :
+    (source : List ℕ) (line : ℕ) (other : LineCause) → other ≢ on_line.NoMemory → ((fault : RuleFault) → other ≢ on_line.Rule fault) →
+    source_line source line other ≡ text_of_line source line (line_cause other)
+source_line-other source line on_line.NoMemory not no_rule = absurd (not refl)
+source_line-other source line (on_line.Rule fault) not no_rule = absurd (no_rule fault refl)
+source_line-other source line other not no_rule = refl
 
 -- the line of an error of a collector
-pub collect_line-refused :
-    (refused : CollectFault) → refused ≢ collect.NoMemory →
-    collect_line refused ≡ caused_line (codes "agenda: plan: ") (collect_cause refused)
-collect_line-refused collect.NoMemory not = absurd (not refl)
-collect_line-refused other not = refl
+pub collect_line-other :
+    (other : CollectFault) → other ≢ collect.NoMemory →
+    collect_line other ≡ caused_line (codes "agenda: plan: ") (collect_cause other)
+collect_line-other collect.NoMemory not = absurd (not refl)
+collect_line-other other not = refl
 
 -- the line of a zone that can't be used
-pub zone_line-refused :
-    (refused : ZoneFault) → refused ≢ zone.NoMemory → zone_line refused ≡ caused_line (codes "agenda: zone: ") (zone_fault_name refused)
-zone_line-refused zone.NoMemory not = absurd (not refl)
-zone_line-refused other not = refl
+pub zone_line-other :
+    (other : ZoneFault) → other ≢ zone.NoMemory → zone_line other ≡ caused_line (codes "agenda: zone: ") (zone_fault_name other)
+zone_line-other zone.NoMemory not = absurd (not refl)
+zone_line-other other not = refl

@@ -44,12 +44,12 @@ memory_line = codes "agenda: NoMemory\n"
 -- the rule of `next`: its part and cause. If an allocation failed, the line has no part
 abbrev pub rule_line : ℕ → RuleCause → List ℕ
 rule_line part cause.NoMemory = memory_line
-rule_line part refused = numbered_line (codes "agenda: rule: part ") part (rule_cause refused)
+rule_line part fault = numbered_line (codes "agenda: rule: part ") part (rule_cause fault)
 
 -- a script: its line and cause. If an allocation failed, no line is named
 abbrev pub script_line : ℕ → ScriptCause → List ℕ
 script_line line script.NoMemory = memory_line
-script_line line refused = numbered_line (codes "agenda: script: line ") line (script_cause refused)
+script_line line fault = numbered_line (codes "agenda: script: line ") line (script_cause fault)
 
 -- an error on a line of a crontab or a timer file: the source's name, the line's number and the cause
 abbrev pub text_of_line : (source : List ℕ) → (line : ℕ) → (cause : List ℕ) → List ℕ
@@ -63,13 +63,13 @@ text_of_part source line part cause =
 -- a rule on a line of a crontab or a timer file. If an allocation failed, no line is named
 abbrev pub source_rule_line : List ℕ → (line part : ℕ) → RuleCause → List ℕ
 source_rule_line source line part cause.NoMemory = memory_line
-source_rule_line source line part refused = text_of_part source line part (rule_cause refused)
+source_rule_line source line part fault = text_of_part source line part (rule_cause fault)
 
 -- a crontab or a timer file that is rejected. If an allocation failed, no line is named
 abbrev pub source_line : List ℕ → ℕ → LineCause → List ℕ
 source_line source line on_line.NoMemory = memory_line
 source_line source line (on_line.Rule fault) = source_rule_line source line fault.part fault.cause
-source_line source line refused = text_of_line source line (line_cause refused)
+source_line source line fault = text_of_line source line (line_cause fault)
 
 -- the name of a source in error lines: the label of its kind, or its file's name
 abbrev pub name_of : SourcePath → List ℕ
@@ -87,7 +87,7 @@ source_name sources place = name_in (slice_get sources place)
 -- an error of a collector. If an allocation failed, no cause is named
 abbrev pub collect_line : CollectFault → List ℕ
 collect_line collect.NoMemory = memory_line
-collect_line refused = caused_line (codes "agenda: plan: ") (collect_cause refused)
+collect_line fault = caused_line (codes "agenda: plan: ") (collect_cause fault)
 
 -- a plan that was not made. If an allocation failed, no cause is named
 abbrev pub plan_line : PlanFault → List ℕ
@@ -118,7 +118,7 @@ run_line sources BadLeast = codes "agenda: quiet: BadLeast\n"
 -- a zone that can't be used. If an allocation failed, the zone is not named
 abbrev pub zone_line : ZoneFault → List ℕ
 zone_line zone.NoMemory = memory_line
-zone_line refused = caused_line (codes "agenda: zone: ") (zone_fault_name refused)
+zone_line fault = caused_line (codes "agenda: zone: ") (zone_fault_name fault)
 
 -- what standard error gets: the text of usage unchanged, or one line
 abbrev pub fault_text : List SourcePath → Failure → List ℕ

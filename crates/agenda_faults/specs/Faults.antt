@@ -20,7 +20,7 @@ use Rattle.plan_zones.specs.declared.zone_fault.ZoneFault.TheVariants as zone
 use Rattle.agenda_script.specs.declared.fault.ScriptCause.{ScriptCause}
 use Rattle.agenda_script.specs.declared.fault.ScriptCause.TheVariants as script
 use Rattle.agenda_script.specs.declared.fault.ScriptFault.{ScriptFault}
-use Rattle.agenda_faults.specs.Status.{failed_status, refused_status, usage_status}
+use Rattle.agenda_faults.specs.Status.{failed_status, rejected_status, usage_status}
 
 -- the error of a rule, by its cause
 abbrev pub fault_by_cause : RuleCause → RuleFault → RunFault
@@ -60,56 +60,56 @@ failure_of_zone fault = Zone fault
 -- the status for a rule: NoMemory counts as a failed allocation (agenda)
 abbrev pub rule_status : RuleCause → ℕ
 rule_status cause.NoMemory = failed_status
-rule_status other = refused_status
+rule_status other = rejected_status
 
 -- the status for a script: NoMemory counts as a failed allocation (agenda)
 abbrev pub script_status : ScriptCause → ℕ
 script_status script.NoMemory = failed_status
-script_status other = refused_status
+script_status other = rejected_status
 
 -- the status for a line: NoMemory counts as a failed allocation, also as the cause of its rule (agenda)
 abbrev pub line_status : LineCause → ℕ
 line_status line.NoMemory = failed_status
 line_status (line.Rule fault) = rule_status fault.cause
-line_status other = refused_status
+line_status other = rejected_status
 
 -- the status for a collector: NoMemory counts as a failed allocation (agenda)
 abbrev pub collect_status : CollectFault → ℕ
 collect_status collect.NoMemory = failed_status
-collect_status other = refused_status
+collect_status other = rejected_status
 
 -- the status for a plan: NoMemory counts as a failed allocation, also as the collector's error (agenda)
 abbrev pub plan_status : PlanFault → ℕ
 plan_status plan.NoMemory = failed_status
 plan_status (plan.NotSettled unsettled) = failed_status
 plan_status (plan.Collect fault) = collect_status fault
-plan_status other = refused_status
+plan_status other = rejected_status
 
 -- the status for a zone: NoMemory counts as a failed allocation (agenda)
 abbrev pub zone_status : ZoneFault → ℕ
 zone_status zone.NoMemory = failed_status
-zone_status other = refused_status
+zone_status other = rejected_status
 
 -- the status for a command that was not done (agenda)
 abbrev pub run_status : RunFault → ℕ
 run_status NoMemory = failed_status
-run_status BadCount = refused_status
+run_status BadCount = rejected_status
 run_status (Rule fault) = rule_status fault.cause
 run_status (InSource place fault) = line_status fault.cause
-run_status (SameName name) = refused_status
-run_status Full = refused_status
+run_status (SameName name) = rejected_status
+run_status Full = rejected_status
 run_status (Plan fault) = plan_status fault
 run_status (Script fault) = script_status fault.cause
 run_status (Device fault) = failed_status
-run_status BadLeast = refused_status
+run_status BadLeast = rejected_status
 
 -- the exit status for a failure (agenda)
 abbrev pub status_of : Failure → ℕ
 status_of (Usage text) = usage_status
-status_of (After fault) = refused_status
-status_of (Since fault) = refused_status
-status_of (Upto fault) = refused_status
-status_of (Span fault) = refused_status
+status_of (After fault) = rejected_status
+status_of (Since fault) = rejected_status
+status_of (Upto fault) = rejected_status
+status_of (Span fault) = rejected_status
 status_of (Zone fault) = zone_status fault
 status_of (Run fault) = run_status fault
 status_of (File path) = failed_status

@@ -6,8 +6,8 @@ abbrev pub done_status : ℕ
 done_status = 0
 
 -- input, a size, a count or a limit is rejected, or an error in a file is reported (agenda)
-abbrev pub refused_status : ℕ
-refused_status = 1
+abbrev pub rejected_status : ℕ
+rejected_status = 1
 
 -- the arguments are invalid (agenda)
 abbrev pub usage_status : ℕ

@@ -55,7 +55,7 @@ impl From<AllocError> for RunFault {
 
     ghost from_gives = { λ _ fault. fault ≡ NoMemory };
 
-    fn from(_refused: AllocError) -> RunFault {
+    fn from(_failed: AllocError) -> RunFault {
         RunFault::NoMemory
     }
 }
@@ -66,7 +66,7 @@ impl<T: Drop> From<AllocFailed<T>> for RunFault {
 
     ghost from_gives = { λ _ fault. fault ≡ NoMemory };
 
-    fn from(_refused: AllocFailed<T>) -> RunFault {
+    fn from(_failed: AllocFailed<T>) -> RunFault {
         RunFault::NoMemory
     }
 }
@@ -171,7 +171,7 @@ impl From<AllocError> for Failure {
 
     ghost from_gives = { λ _ failure. failure ≡ Run NoMemory };
 
-    fn from(_refused: AllocError) -> Failure {
+    fn from(_failed: AllocError) -> Failure {
         Failure::Run(RunFault::NoMemory)
     }
 }
@@ -183,7 +183,7 @@ impl<T: Drop> From<AllocFailed<T>> for Failure {
 
     ghost from_gives = { λ _ failure. failure ≡ Run NoMemory };
 
-    fn from(_refused: AllocFailed<T>) -> Failure {
+    fn from(_failed: AllocFailed<T>) -> Failure {
         Failure::Run(RunFault::NoMemory)
     }
 }

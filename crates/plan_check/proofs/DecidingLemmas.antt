@@ -1,5 +1,5 @@
 -- A file means its reading, with its jobs added in order: for `a_file_means_its_reading`.
--- Both sides go by the entries of the lines: rejected entries are the early errors (`early_lines`, `events_refused`), and
+-- Both sides go by the entries of the lines: rejected entries are the early errors (`early_lines`, `events_rejected`), and
 -- each valid entry of a crontab is a job that is added or not (`job_means`).
 use Rattle.std.proofs.Common.{◌≡◌, ℕ, zero, suc, ◌+◌, Bool, true, false, not, ◌&&◌, nat_lt, cond, List, [], ◌∷◌, ◌++◌, length, map, Option, Some, None, is_none, is_some, option_map, Result, Ok, Err, IfErr, refl, ap, sym, ◌∙◌, subst, arith}
 use Rattle.std.specs.List.{cons_option, enumerate_from, filter_map}
@@ -266,33 +266,33 @@ named_means (Some cause) jobs reading F G of means =
 -- ---- the events of a timer
 
 -- without a clock, the findings of events are the errors of those that are rejected
-abbrev AreRefused : List Finding → List LineFault → Type 0
-AreRefused found faults = (early_of found ≡ faults) × (faults ≡ [] → found ≡ [])
+abbrev AreRejected : List Finding → List LineFault → Type 0
+AreRejected found faults = (early_of found ≡ faults) × (faults ≡ [] → found ≡ [])
 
 no_setting : (line : ℕ) (setting : Option Setting) → setting_findings None line setting ≡ []
 no_setting line None = refl
 no_setting line (Some setting) = refl
 
-read_refused :
+read_rejected :
     (line : ℕ) (text : List ℕ) (read : LineReading Calendar) (found : List Finding) (faults : List LineFault) → IfErr read OfLine →
-    AreRefused found faults →
-    AreRefused ((timers.read_findings None line text read ++ []) ++ found) (cons_option (fault_on line read) faults)
-read_refused line text (Ok event) found faults of are = are
-read_refused line text (Err cause) found faults of are = (λ i. cons_option (early_line line cause of i) (are.0 i), λ none. absurd cc)
+    AreRejected found faults →
+    AreRejected ((timers.read_findings None line text read ++ []) ++ found) (cons_option (fault_on line read) faults)
+read_rejected line text (Ok event) found faults of are = are
+read_rejected line text (Err cause) found faults of are = (λ i. cons_option (early_line line cause of i) (are.0 i), λ none. absurd cc)
 
 abbrev OfStep : LineStep → Type 0
 OfStep (Has entry) = IfErr entry.read OfLine
 OfStep other = Unit {0}
 
-step_refused :
+step_rejected :
     (setting : Option Setting) (step : LineStep) (found : List Finding) (more : List (Entry Calendar)) → OfStep step →
-    AreRefused found (faults_of more) →
-    AreRefused ((step_findings None setting step ++ []) ++ found) (faults_of (cons_option (entry_of step) more))
-step_refused setting (Has entry) found more of are =
-    read_refused entry.line (value_of setting) entry.read found (faults_of more) of are
-step_refused setting Idle found more of are = are
-step_refused setting Empties found more of are = are
-step_refused setting (Names unit) found more of are = are
+    AreRejected found (faults_of more) →
+    AreRejected ((step_findings None setting step ++ []) ++ found) (faults_of (cons_option (entry_of step) more))
+step_rejected setting (Has entry) found more of are =
+    read_rejected entry.line (value_of setting) entry.read found (faults_of more) of are
+step_rejected setting Idle found more of are = are
+step_rejected setting Empties found more of are = are
+step_rejected setting (Names unit) found more of are = are
 
 of_event :
     (room told : Bool) (number : ℕ) (read : Reading Calendar) →
@@ -308,20 +308,20 @@ of_step zones number count (Event text) =
 of_step zones number count (Starts unit) = tt
 of_step zones number count Nothing = tt
 
-events_refused :
+events_rejected :
     (state : TimerState) (lines : List (ℕ × List ℕ)) →
-    AreRefused (timers.lines_findings None state lines)
+    AreRejected (timers.lines_findings None state lines)
     (faults_of (entries_from state.zones state.count (effects_from state.inside lines)))
-events_refused state [] = (refl, λ none. refl)
-events_refused state (line ∷ more) =
+events_rejected state [] = (refl, λ none. refl)
+events_rejected state (line ∷ more) =
     let setting = timer_setting state.inside line.1 in
     let step = line_in state line in
     let next = state_after state line.1 in
     let entries = entries_from next.zones next.count (effects_from next.inside more) in
-    subst (λ noted. AreRefused ((step_findings None setting step ++ noted) ++ timers.lines_findings None next more)
+    subst (λ noted. AreRejected ((step_findings None setting step ++ noted) ++ timers.lines_findings None next more)
     (faults_of (cons_option (entry_of step) entries))) (sym (no_setting line.0 setting))
-    (step_refused setting step (timers.lines_findings None next more) entries
-    (of_step state.zones line.0 state.count (effect_in state line.1)) (events_refused next more))
+    (step_rejected setting step (timers.lines_findings None next more) entries
+    (of_step state.zones line.0 state.count (effect_in state line.1)) (events_rejected next more))
 
 -- ---- a timer
 
@@ -387,7 +387,7 @@ lines_of_timer :
     ≡ known_with jobs (alone (timer_of_lines zones name lines))
 lines_of_timer zones jobs name lines good =
     let faults = faults_of (entries_from zones no_events (effects_from false lines)) in
-    let are = events_refused (no_lines zones) lines in
+    let are = events_rejected (no_lines zones) lines in
     timer_means faults (is_timer_name name) (has_timer lines) jobs (0 + length jobs) (right_job zones name lines)
     (timers.lines_findings None (no_lines zones) lines) (omega arith) good are.0 are.1
     ∙ ap (λ reading. known_with jobs (alone reading))

@@ -10,7 +10,7 @@ pub returns-clause-ends : goal.returns-clause-ends
 returns-clause-ends g c =
     rw c.status_after.ensures (steps_left (g.F.Files.held c.args.files.now) c.args.file.now _ _ _ _ _
     (rw c.as_str.ensures at c.in_ok-script.ensures.read)
-    (ran_by _ _ _ _ _ _ (rw c.as_slice.ensures at c.run_script.ensures.written) (rw c.as_slice.ensures at c.run_script.ensures.refused)))
+    (ran_by _ _ _ _ _ _ (rw c.as_slice.ensures at c.run_script.ensures.written) (rw c.as_slice.ensures at c.run_script.ensures.failed)))
 
 pub returns-clause-flushed : goal.returns-clause-flushed
 returns-clause-flushed g c = rw c.status_after.ensures (flushed_after _ c.run_script.result c.run_script.ensures.flushed)

@@ -1,6 +1,6 @@
 use Rattle.std.proofs.Common.{◌≡◌}
 use Rattle.plan_grammar.specs.Causes.{rule_cause}
-use Rattle.agenda_faults.proofs.FaultLineLemmas.{rule_line-refused}
+use Rattle.agenda_faults.proofs.FaultLineLemmas.{rule_line-other}
 use Rattle.agenda_faults.proofs.fault_lines.put_rule_fault.Goals as goal
 
 pub returns-in-NoMemory : goal.returns-in-NoMemory
@@ -10,4 +10,4 @@ pub returns-in_default : goal.returns-in_default
 returns-in_default g c =
     let part : c.from.result ≡ c.args.fault.part = cc in
     let name : c.name.result.now ≡ rule_cause c.args.fault.cause = cc in
-    rw (rule_line-refused c.args.fault.part c.args.fault.cause c.in_default.not-NoMemory, ← part, ← name) c.put_numbered.ensures
+    rw (rule_line-other c.args.fault.part c.args.fault.cause c.in_default.not-NoMemory, ← part, ← name) c.put_numbered.ensures
