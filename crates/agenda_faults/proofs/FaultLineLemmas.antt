@@ -1,7 +1,6 @@
 -- The lines of errors whose cause is known not to be `NoMemory`: for the last branch of `put_rule_fault`,
--- `put_script_fault`, `put_source_rule_fault`, `put_source_fault`, `put_collect_fault` and `put_zone_fault`. By
--- the cases of the cause: `NoMemory` is ruled out, and so is `Rule` for the line of a source. In every other
--- case the definition computes.
+-- `put_script_fault`, `put_source_rule_fault` and `put_source_fault`. By the cases of the cause: `NoMemory` is ruled
+-- out, and so is `Rule` for the line of a source. In every other case the definition computes.
 use Rattle.std.proofs.Common.{◌≡◌, ◌≢◌, ℕ, List, codes, refl}
 use Rattle.plan_rules.specs.declared.RuleCause.{RuleCause}
 use Rattle.plan_rules.specs.declared.RuleCause.TheVariants as cause
@@ -10,16 +9,10 @@ use Rattle.agenda_script.specs.declared.fault.ScriptCause.TheVariants as script
 use Rattle.plan_rules.specs.declared.RuleFault.{RuleFault}
 use Rattle.plan_rules.specs.declared.LineCause.{LineCause}
 use Rattle.plan_rules.specs.declared.LineCause.TheVariants as on_line
-use Rattle.plan_collect.specs.declared.CollectFault.{CollectFault}
-use Rattle.plan_collect.specs.declared.CollectFault.TheVariants as collect
 use Rattle.agenda_script.specs.Causes.{script_cause}
-use Rattle.plan_collect.specs.Causes.{collect_cause}
 use Rattle.plan_grammar.specs.Causes.{rule_cause}
 use Rattle.plan_rules.specs.Causes.{line_cause}
-use Rattle.agenda_faults.specs.FaultLines.{caused_line, collect_line, numbered_line, rule_line, script_line, source_line, source_rule_line, text_of_line, text_of_part, zone_line}
-use Rattle.plan_zones.specs.declared.zone_fault.ZoneFault.{ZoneFault}
-use Rattle.plan_zones.specs.declared.zone_fault.ZoneFault.TheVariants as zone
-use Rattle.plan_zones.specs.Zones.{zone_fault_name}
+use Rattle.agenda_faults.specs.FaultLines.{numbered_line, rule_line, script_line, source_line, source_rule_line, text_of_line, text_of_part}
 
 pub rule_line-other :
     (part : ℕ) (other : RuleCause) → other ≢ cause.NoMemory →
@@ -47,16 +40,3 @@ pub source_line-other :
 source_line-other source line on_line.NoMemory not no_rule = absurd (not refl)
 source_line-other source line (on_line.Rule fault) not no_rule = absurd (no_rule fault refl)
 source_line-other source line other not no_rule = refl
-
--- the line of an error of a collector
-pub collect_line-other :
-    (other : CollectFault) → other ≢ collect.NoMemory →
-    collect_line other ≡ caused_line (codes "agenda: plan: ") (collect_cause other)
-collect_line-other collect.NoMemory not = absurd (not refl)
-collect_line-other other not = refl
-
--- the line of a zone that can't be used
-pub zone_line-other :
-    (other : ZoneFault) → other ≢ zone.NoMemory → zone_line other ≡ caused_line (codes "agenda: zone: ") (zone_fault_name other)
-zone_line-other zone.NoMemory not = absurd (not refl)
-zone_line-other other not = refl
