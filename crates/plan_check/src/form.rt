@@ -63,7 +63,8 @@ impl Form {
     ///
     /// # Errors
     ///
-    /// `AllocError` if an allocation fails. The contract doesn't say what `known` has then.
+    /// `AllocError` if an allocation fails. The contract doesn't say what `known` has then. Capacity for one finding is
+    /// allocated first. So without a clock, an error of a job's name needs no more memory if it is the first finding.
     pub fn findings(
         self,
         alloc: Global,
@@ -75,7 +76,7 @@ impl Form {
         ensures found { IfOk result (λ found. found.items ≡ file_findings zones.now known.old (file_of self name.now bytes.now)) }
         ensures known { OnOk result (known.new ≡ after_file zones.now known.old (file_of self name.now bytes.now)) }
     {
-        let mut found = Vec::new(alloc);
+        let mut found = Vec::with_capacity(alloc, 1)?;
         self.add_name(known, &mut found, name)?;
         self.add_text(alloc, known, &mut found, name, bytes, zones)?;
         Ok(found)
