@@ -2,7 +2,7 @@
 -- `send_reply` and `close_reply`. For `next`, if the reply isn't `Nothing`, by the cases of `taking`: the sender of a message
 -- has a number below 8, since it is a sender of the mailbox. For larger numbers nothing waits, but the first message in line
 -- does.
-use Rattle.std.proofs.Common.{◌≡◌, ℕ, ◌<◌, ◌≤◌, Bool, true, false, cond, eqb, ltb, length, List, [], ◌∷◌, Option, None, Some, Ok, refl, sym, ap, subst, ◌∙◌, ⊎_elim, arith}
+use Rattle.std.proofs.Common.{◌≡◌, ℕ, ◌<◌, ◌≤◌, Bool, true, false, cond, eqb, ltb, length, List, [], ◌∷◌, Option, Some, Ok, refl, sym, ap, subst, ◌∙◌, ⊎_elim, arith}
 use Rattle.std.proofs.lemmas.Bool.Decides.{nat_tests}
 use Rattle.std.specs.List.{list_all}
 use Rattle.std.specs.Prelude.{Result, MatchResult}
