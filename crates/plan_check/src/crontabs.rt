@@ -1,15 +1,17 @@
 //! The findings of a crontab's text (crontab(5)).
 
-ghost use Rattle.std.specs.Prelude.{◌≡◌, ◌≤◌, ◌++◌, IfOk, length, map, OnOk};
+ghost use Rattle.std.specs.Prelude.{◌≡◌, ◌<◌, ◌≤◌, ◌++◌, IfOk, IfSome, IsOk, None, length, map, OnOk, vec_capacity, vec_len};
 ghost use Rattle.std.specs.List.{enumerate_from};
 ghost use Rattle.plan_texts.specs.Limits.{most_bytes};
 ghost use Rattle.plan_rules.specs.Crontab.{line_reading};
 ghost use Rattle.plan_rules.specs.FileText.{text_reading};
 ghost use Rattle.plan_check.specs.Crontabs.{after_crontab, after_entry, after_line, after_lines, after_word, crontab_findings, entry_findings, field_quote, first_word, line_findings, lines_findings, word_at};
+ghost use Rattle.plan_check.specs.Known.{after_job, job_findings, name_fault};
+ghost use Rattle.plan_check.specs.Warnings.{warnings_by};
 
 use crate::finding::Finding;
 use crate::known::Known;
-use crate::report::{add_name_fault, kept, reject};
+use crate::report::{add_all, add_job, kept, reject};
 use crate::warnings::{add_setting_warning, add_warnings};
 use plan_rules::lines::lines;
 use plan_rules::{Entry, Job, Kind, LineCause, LineFault, crontab_entry, text_of};
@@ -94,16 +96,33 @@ fn add_entry(
 {
     let Entry { line, read } = entry;
     match read {
-        Ok(job) => {
-            add_name_fault(alloc, known, found, line, job.name())?;
-            add_warnings(alloc, found, known.clock(), line, &job)?;
-            known.add(job)
-        }
+        Ok(job) => add_line_job(alloc, known, found, line, job),
         Err(cause) => {
             let quote = field_quote(alloc, text, cause)?;
             reject(found, line, cause, quote)
         }
     }
+}
+
+// Adds a job of a line, or what is wrong with its name, and then the warnings on it.
+fn add_line_job(
+    alloc: Global,
+    known: &mut Known,
+    found: &mut Vec<Finding>,
+    line: u32,
+    job: Job,
+) -> Result<(), AllocError>
+    ensures found { OnOk result (found.new.items ≡ found.old.items
+        ++ (job_findings known.old line job.name ++ warnings_by known.old.clock line job)) }
+    ensures known { OnOk result (known.new ≡ after_job known.old job) }
+    // If something is wrong with its name, there is room for one finding and no warning, no memory is requested.
+    ensures at_once { known.old.clock ≡ None → vec_len found.old < vec_capacity found.old
+        → IfSome (name_fault known.old job.name) (λ _. IsOk result) }
+{
+    let mut warnings = Vec::new(alloc);
+    add_warnings(alloc, &mut warnings, known.clock(), line, &job)?;
+    add_job(known, found, line, job)?;
+    add_all(found, warnings)
 }
 
 // Returns the text that an error of a line quotes.

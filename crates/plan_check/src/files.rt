@@ -51,7 +51,8 @@ use std::alloc::{AllocError, Global};
 ///
 /// # Errors
 ///
-/// `AllocError` if an allocation fails. The contract doesn't say what `known` has then.
+/// `AllocError` if an allocation fails. The contract doesn't say what `known` has then. Capacity for one finding is
+/// allocated first. So without a clock, an error of a job's name needs no more memory if it is the first finding.
 pub fn file_findings(
     alloc: Global,
     known: &mut Known,
@@ -63,7 +64,7 @@ pub fn file_findings(
     ensures found { IfOk result (λ found. found.items ≡ file_findings zones.now known.old (file_of kind name.now bytes.now)) }
     ensures known { OnOk result (known.new ≡ after_file zones.now known.old (file_of kind name.now bytes.now)) }
 {
-    let mut found = Vec::new(alloc);
+    let mut found = Vec::with_capacity(alloc, 1)?;
     add_name(known, &mut found, kind, name)?;
     add_text(alloc, known, &mut found, kind, name, bytes, zones)?;
     Ok(found)

@@ -6,14 +6,14 @@ ghost use Rattle.plan_match.specs.declared.rule.Rule.TheVariants as rule;
 ghost use Rattle.plan_rules.specs.Timer.{has_timer, is_timer_name, settings_from, timer_job, timer_setting};
 ghost use Rattle.plan_rules.specs.TimerDelays.{default_delays, delays_with, last_span, random_key};
 ghost use Rattle.plan_rules.specs.TimerEntries.{draft_after, draft_of, held_after, line_in, line_shown, lines_draft, no_lines, shown_line, state_after, timer_lines};
-ghost use Rattle.plan_check.specs.Known.{after_job, after_other};
+ghost use Rattle.plan_check.specs.Known.{after_job, after_other, job_findings};
 ghost use Rattle.plan_check.specs.Settings.{is_monotonic, last_delay};
 ghost use Rattle.plan_check.specs.Timers.{after_timer, event_quote, event_warnings, line_findings, lines_findings, read_findings, setting_findings, step_findings, timer_findings, timer_warnings};
 ghost use Rattle.plan_check.specs.Warnings.{never_starts};
 
 use crate::finding::{Finding, FindingKind, Warning};
 use crate::known::Known;
-use crate::report::{add_if, add_name_fault, add_quoting_if, kept, reject};
+use crate::report::{add_all, add_if, add_job, add_name_fault, add_quoting_if, kept, reject};
 use crate::settings::{Standing, delay_after, is_bad_delay, is_unknown_key, value_of};
 use crate::skipped::may_skip_starts;
 use plan_clock::Clock;
@@ -75,29 +75,49 @@ fn add_lines(
     )?;
     let missing = FindingKind::Rejected(LineCause::NoTimerSection);
     add_if(found, !reader.has_section(), 0, missing)?;
-    add_name_fault(alloc, known, found, 0, name)?;
-    add_timer_warnings(alloc, found, known.clock(), &reader, standing, delay, lines)?;
-    found.append(&mut later)?;
+    let mut warnings = Vec::new(alloc);
+    add_timer_warnings(
+        alloc,
+        &mut warnings,
+        known.clock(),
+        &reader,
+        standing,
+        delay,
+        lines,
+    )?;
     let delay = standing.delays.seconds();
-    add_timer_job(alloc, known, name, reader.has_section(), draft, delay)
+    add_timer_job(
+        alloc,
+        known,
+        found,
+        name,
+        reader.has_section(),
+        draft,
+        delay,
+    )?;
+    add_all(found, warnings)?;
+    add_all(found, later)
 }
 
-// Adds the job of a timer, whose delay is in seconds, unless the whole timer is rejected.
+// Adds the job of a timer, whose delay is in seconds, unless the whole timer is rejected. Adds what is wrong with its name.
 fn add_timer_job(
     alloc: Global,
     known: &mut Known,
+    found: &mut Vec<Finding>,
     name: &str,
     has_section: bool,
     draft: TimerDraft,
     delay: u64,
 ) -> Result<(), AllocError>
-    ensures { OnOk result (known.new ≡ (if is_timer_name name.now && has_section
+    ensures found { OnOk result (found.new.items ≡ found.old.items ++ job_findings known.old 0 name.now) }
+    ensures known { OnOk result (known.new ≡ (if is_timer_name name.now && has_section
         then after_job known.old (timer_job name.now (draft_of draft).unit draft.events delay) else after_other known.old name.now)) }
 {
     if is_timer_name(name.as_bytes()) && has_section {
         let job = timer_job(alloc, name, draft.unit, draft.events, delay)?;
-        return known.add(job);
+        return add_job(known, found, 0, job);
     }
+    add_name_fault(alloc, known, found, 0, name)?;
     known.add_other(alloc, name)
 }
 

@@ -1,6 +1,6 @@
 //! The warnings on the lines of crontabs, and on events that never start.
 
-ghost use Rattle.std.specs.Prelude.{◌≡◌, ◌++◌, ◌<◌, ◌&&◌, IfOk, None, OnOk, is_some, length};
+ghost use Rattle.std.specs.Prelude.{◌≡◌, ◌++◌, ◌<◌, ◌&&◌, IfOk, IsOk, None, OnOk, is_some, length};
 ghost use Rattle.std.specs.List.{list_any};
 ghost use Rattle.std.specs.Str.{bytes_eq};
 ghost use Rattle.plan_match.specs.Zone.{rule_in};
@@ -25,7 +25,8 @@ pub(crate) fn add_warnings(
     line: u32,
     job: &Job,
 ) -> Result<(), AllocError>
-    ensures { OnOk result (found.new.items ≡ found.old.items ++ warnings_by clock.now line job.now) }
+    ensures warnings { OnOk result (found.new.items ≡ found.old.items ++ warnings_by clock.now line job.now) }
+    ensures at_once { clock.now ≡ None → IsOk result }
 {
     match clock {
         Some(clock) => add_job_warnings(alloc, found, clock, line, job),

@@ -1,6 +1,6 @@
 //! The collector, which checks what planners send, keeps the starts, and makes the agenda of them.
 
-ghost use Rattle.std.specs.Prelude.{◌≡◌, ◌≢◌, ℕ, ◌+◌, ◌%◌, ◌<◌, ◌≤◌, ◌↔◌, [], ◌++◌, Bool, true, false, ◌&&◌, ◌==◌, nat_lt, nat_le, IsTrue, length, map, slice_get, slice_index, slice_set, IfOk, IfErr, IsOk, OnOk, OnErr};
+ghost use Rattle.std.specs.Prelude.{◌≡◌, ◌≢◌, ℕ, ◌+◌, ◌%◌, ◌<◌, ◌≤◌, ◌↔◌, [], ◌++◌, Bool, true, false, ◌&&◌, ◌==◌, nat_lt, nat_le, IsTrue, length, map, slice_get, slice_index, slice_set, IfOk, IfErr, IsOk, OnOk, OnErr, Some};
 ghost use Rattle.std.specs.List.{list_all};
 ghost use Rattle.plan_sets.specs.Limits.{end_second};
 ghost use Rattle.plan_next.specs.Starts.{starts};
@@ -241,17 +241,8 @@ impl Collector {
         ensures too_many { result ≡ Err CollectFault.TooMany
             → self.old.limit < length (agenda_of_windows self.old.timings self.old.span) }
     {
-        if !self.belongs(planner, &note) {
-            return Err(CollectFault::Stranger);
-        }
-        if self.has_ended(planner) {
-            return Err(CollectFault::AfterLast);
-        }
-        if !self.adjoins(&note) {
-            return Err(CollectFault::Gap);
-        }
-        if !self.has_room(&note) {
-            return Err(CollectFault::TooMany);
+        if let Some(fault) = self.refusal(planner, &note) {
+            return Err(fault);
         }
         match note {
             Note::Part(job, piece) => self.keep(job, &piece),
@@ -280,6 +271,26 @@ impl Collector {
         let mut entries = self.entries;
         sort_starts(&mut entries);
         Ok(Agenda::new(span, entries))
+    }
+
+    // Returns why a message is rejected, unless an allocation fails.
+    fn refusal(&self, planner: usize, note: &Note) -> Option<CollectFault>
+        ensures value { result ≡ refusal self.now planner note.now }
+        ensures own { result ≢ Some CollectFault.NoMemory }
+        ensures too_many { result ≡ Some CollectFault.TooMany
+            → self.now.limit < length (agenda_of_windows self.now.timings self.now.span) }
+    {
+        if !self.belongs(planner, note) {
+            Some(CollectFault::Stranger)
+        } else if self.has_ended(planner) {
+            Some(CollectFault::AfterLast)
+        } else if !self.adjoins(note) {
+            Some(CollectFault::Gap)
+        } else if !self.has_room(note) {
+            Some(CollectFault::TooMany)
+        } else {
+            None
+        }
     }
 
     // Returns whether this planner may send the message.

@@ -5,17 +5,17 @@ use Rattle.std.proofs.Common.{◌≡◌, ℕ, Bool, true, false, List, [], ◌�
 use Rattle.plan_sets.specs.declared.item.Item.TheVariants.{One, Range}
 use Rattle.plan_sets.specs.declared.item.SetFault.TheVariants.{OutOfRange, Backwards, ZeroStep}
 use Rattle.plan_sets.specs.declared.civil.Civil.{Civil}
-use Rattle.plan_sets.specs.Items.{set_reading, held_values}
+use Rattle.plan_sets.specs.Items.{held_values}
 use Rattle.plan_sets.specs.ValuesLaws.{has_value-values_where}
 use Rattle.plan_grammar.specs.declared.fault.RuleCause.TheVariants.{WrongParts, BadNumber, BadName, Values, UnknownWord}
 use Rattle.plan_match.specs.declared.rule.Rule.{Rule}
 use Rattle.plan_match.specs.declared.rule.Rule.TheVariants.{Cron, Never}
-use Rattle.plan_texts.specs.Text.{cut_at, decimal_number}
 use Rattle.plan_texts.specs.Lines.{cut_word}
 use Rattle.plan_grammar.specs.Readings.{Reading, refused}
-use Rattle.plan_grammar.specs.Cron.{cron_reading, rule_reading, at_reading, fields_in_front, five_fields, field_reading, items_reading, item_reading, side_reading, value_reading, step_reading, week_days_of}
+use Rattle.plan_grammar.specs.Cron.{cron_reading, rule_reading, at_reading, fields_in_front, week_days_of}
 use Rattle.plan_match.specs.Match.{rule_matches}
-use Rattle.plan_facts.specs.Rows.{at_minute}
+use Rattle.plan_facts.specs.Rows.{RowsHold, at_minute}
+use Rattle.plan_facts.proofs.OnTexts.{on_cron}
 
 -- whether a text is a rule that matches civil fields
 abbrev match_reading : Reading Rule → Civil → Bool
@@ -34,8 +34,7 @@ every_minute : cron_reading (codes "* * * * *") ≡ Ok (Cron (record {
   is_wildcard = true;
   clock = [];
 }))
-unfolding rule_reading cut_word fields_in_front cut_at decimal_number set_reading at_reading five_fields field_reading items_reading
-    item_reading side_reading value_reading step_reading
+unfolding on_cron
 every_minute = refl
 
 -- lists, and two restricted day fields
@@ -50,8 +49,7 @@ half_past_four : cron_reading (codes "30 4 1,15 * 5") ≡ Ok (Cron (record {
   is_wildcard = false;
   clock = [];
 }))
-unfolding rule_reading cut_word fields_in_front cut_at decimal_number set_reading at_reading five_fields field_reading items_reading
-    item_reading side_reading value_reading step_reading
+unfolding on_cron
 half_past_four = refl
 
 -- blanks around the text and between its fields are ignored; `*/2` is unrestricted
@@ -66,8 +64,7 @@ odd_days : cron_reading (codes "  0 0 */2   * 1 ") ≡ Ok (Cron (record {
   is_wildcard = false;
   clock = [];
 }))
-unfolding rule_reading cut_word fields_in_front cut_at decimal_number set_reading at_reading five_fields field_reading items_reading
-    item_reading side_reading value_reading step_reading
+unfolding on_cron
 odd_days = refl
 
 -- whether the rule of a text is a wildcard
@@ -90,67 +87,41 @@ wildcards : map (λ text. has_wildcard (cron_reading text))
     ∷ codes "@yearly"
     ∷ [])
     ≡ true ∷ true ∷ true ∷ true ∷ false ∷ false ∷ false ∷ false ∷ false ∷ false ∷ false ∷ []
-unfolding rule_reading cut_word fields_in_front cut_at decimal_number set_reading at_reading five_fields field_reading items_reading
-    item_reading side_reading value_reading step_reading
+unfolding on_cron
 wildcards = refl
 
 -- invalid texts, each with its error
-refusals : map cron_reading
-    (codes "60 * * * *"
-    ∷ codes "5/15 * * * *"
-    ∷ codes "0 0 * * x"
-    ∷ codes "0 0 * foo *"
-    ∷ codes "1,,2 * * * *"
-    ∷ codes "12345 * * * *"
-    ∷ codes "0 5/ * * *"
-    ∷ codes "* * * * 6-0"
-    ∷ codes "*/0 * * * *"
-    ∷ codes " @dayly"
-    ∷ codes "0 0 * x"
-    ∷ codes "99 0 1 1 * x"
-    ∷ codes " "
+refusals : RowsHold cron_reading
+    ((codes "60 * * * *", refused 1 (Values OutOfRange))
+    ∷ (codes "5/15 * * * *", refused 1 WrongParts)
+    ∷ (codes "0 0 * * x", refused 5 BadName)
+    ∷ (codes "0 0 * foo *", refused 4 BadName)
+    ∷ (codes "1,,2 * * * *", refused 1 WrongParts)
+    ∷ (codes "12345 * * * *", refused 1 BadNumber)
+    ∷ (codes "0 5/ * * *", refused 2 WrongParts)
+    ∷ (codes "* * * * 6-0", refused 5 (Values Backwards))
+    ∷ (codes "*/0 * * * *", refused 1 (Values ZeroStep))
+    ∷ (codes " @dayly", refused 0 UnknownWord)
+    ∷ (codes "0 0 * x", refused 0 WrongParts)
+    ∷ (codes "99 0 1 1 * x", refused 0 WrongParts)
+    ∷ (codes " ", refused 0 WrongParts)
     ∷ [])
-    ≡ refused 1 (Values OutOfRange)
-    ∷ refused 1 WrongParts
-    ∷ refused 5 BadName
-    ∷ refused 4 BadName
-    ∷ refused 1 WrongParts
-    ∷ refused 1 BadNumber
-    ∷ refused 2 WrongParts
-    ∷ refused 5 (Values Backwards)
-    ∷ refused 1 (Values ZeroStep)
-    ∷ refused 0 UnknownWord
-    ∷ refused 0 WrongParts
-    ∷ refused 0 WrongParts
-    ∷ refused 0 WrongParts
-    ∷ []
-unfolding rule_reading cut_word fields_in_front cut_at decimal_number set_reading at_reading five_fields field_reading items_reading
-    item_reading side_reading value_reading step_reading
+unfolding on_cron
 refusals = refl
 
 -- the order of the checks within an element: the first value, the second, the step, then whether a step is
 -- allowed there. The forms of all elements are checked before the values
-first_faults : map cron_reading
-    (codes "a-b/c * * * *"
-    ∷ codes "1-b/c * * * *"
-    ∷ codes "1-2/c * * * *"
-    ∷ codes "x/ * * * *"
-    ∷ codes "1/x * * * *"
-    ∷ codes "1/2 * * * *"
-    ∷ codes "99,x * * * *"
-    ∷ codes "99 x * * *"
+first_faults : RowsHold cron_reading
+    ((codes "a-b/c * * * *", refused 1 BadName)
+    ∷ (codes "1-b/c * * * *", refused 1 BadName)
+    ∷ (codes "1-2/c * * * *", refused 1 BadNumber)
+    ∷ (codes "x/ * * * *", refused 1 BadName)
+    ∷ (codes "1/x * * * *", refused 1 BadNumber)
+    ∷ (codes "1/2 * * * *", refused 1 WrongParts)
+    ∷ (codes "99,x * * * *", refused 1 BadName)
+    ∷ (codes "99 x * * *", refused 1 (Values OutOfRange))
     ∷ [])
-    ≡ refused 1 BadName
-    ∷ refused 1 BadName
-    ∷ refused 1 BadNumber
-    ∷ refused 1 BadName
-    ∷ refused 1 BadNumber
-    ∷ refused 1 WrongParts
-    ∷ refused 1 BadName
-    ∷ refused 1 (Values OutOfRange)
-    ∷ []
-unfolding rule_reading cut_word fields_in_front cut_at decimal_number set_reading at_reading five_fields field_reading items_reading
-    item_reading side_reading value_reading step_reading
+unfolding on_cron
 first_faults = refl
 
 -- whether a text's rule matches midnight of some days of January 2024, given with their weekdays
@@ -160,33 +131,28 @@ at_midnight text days = map (λ (day : ℕ × ℕ). match_reading (cron_reading 
 -- Friday the 5th, by the day of the week, and Monday the 15th, by the day of the month
 either_day_suffices : map (λ (day : ℕ × ℕ). match_reading (cron_reading (codes "30 4 1,15 * 5")) (at_minute 1 day.0 day.1 4 30))
     ((5, 4) ∷ (15, 0) ∷ (16, 1) ∷ []) ≡ true ∷ true ∷ false ∷ []
-unfolding rule_reading cut_word fields_in_front cut_at decimal_number set_reading at_reading five_fields field_reading items_reading
-    item_reading side_reading value_reading step_reading week_days_of at_minute
+unfolding on_cron week_days_of at_minute
 either_day_suffices = simp has_value-values_where
 
 -- a star comes first, so both must match: Mondays the 1st and 15th, not Monday the 8th, not Wednesday the 3rd
 star_stands_first : at_midnight (codes "0 0 */2 * 1") ((1, 0) ∷ (3, 2) ∷ (8, 0) ∷ (15, 0) ∷ []) ≡ true ∷ false ∷ false ∷ true ∷ []
-unfolding rule_reading cut_word fields_in_front cut_at decimal_number set_reading at_reading five_fields field_reading items_reading
-    item_reading side_reading value_reading step_reading week_days_of at_minute at_midnight
+unfolding on_cron week_days_of at_minute at_midnight
 star_stands_first = simp has_value-values_where
 
 -- weekday 7 is Sunday: Sunday the 7th, not Saturday the 6th
 seven_is_sunday : at_midnight (codes "0 0 * * 7") ((6, 5) ∷ (7, 6) ∷ []) ≡ false ∷ true ∷ []
-unfolding rule_reading cut_word fields_in_front cut_at decimal_number set_reading at_reading five_fields field_reading items_reading
-    item_reading side_reading value_reading step_reading week_days_of at_minute at_midnight
+unfolding on_cron week_days_of at_minute at_midnight
 seven_is_sunday = simp has_value-values_where
 
 -- a step past the range's end leaves only the first value
 step_past_the_end : at_midnight (codes "0 0 1-31/40 * *") ((1, 0) ∷ (2, 1) ∷ (31, 2) ∷ []) ≡ true ∷ false ∷ false ∷ []
-unfolding rule_reading cut_word fields_in_front cut_at decimal_number set_reading at_reading five_fields field_reading items_reading
-    item_reading side_reading value_reading step_reading week_days_of at_minute at_midnight
+unfolding on_cron week_days_of at_minute at_midnight
 step_past_the_end = simp has_value-values_where
 
 -- `*/25` is minutes 0, 25 and 50
 every_25_minutes : map (λ (minute : ℕ). match_reading (cron_reading (codes "*/25 * * * *")) (at_minute 1 1 0 0 minute))
     (0 ∷ 24 ∷ 25 ∷ 50 ∷ 59 ∷ []) ≡ true ∷ false ∷ true ∷ true ∷ false ∷ []
-unfolding rule_reading cut_word fields_in_front cut_at decimal_number set_reading at_reading five_fields field_reading items_reading
-    item_reading side_reading value_reading step_reading week_days_of at_minute
+unfolding on_cron week_days_of at_minute
 every_25_minutes = simp has_value-values_where
 
 -- names, in any case of their letters, with a step of hours: Friday the 1st of March at 9 and 17, not at 10, not on Saturday
@@ -194,32 +160,21 @@ every_25_minutes = simp has_value-values_where
 named_months_and_days : map (λ (at : ℕ × ℕ × ℕ × ℕ). match_reading (cron_reading (codes "0 9-17/4 * jan,Mar MON-fri"))
     (at_minute at.0 at.1 at.2 at.3 0))
     ((3, 1, 4, 9) ∷ (3, 1, 4, 17) ∷ (3, 1, 4, 10) ∷ (3, 2, 5, 9) ∷ (2, 29, 3, 9) ∷ []) ≡ true ∷ true ∷ false ∷ false ∷ false ∷ []
-unfolding rule_reading cut_word fields_in_front cut_at decimal_number set_reading at_reading five_fields field_reading items_reading
-    item_reading side_reading value_reading step_reading week_days_of at_minute
+unfolding on_cron week_days_of at_minute
 named_months_and_days = simp has_value-values_where
 
 -- names are allowed only in fields 4 and 5, never as a step, and a range of names may be backwards
-refused_names : map cron_reading
-    (codes "jan * * * *"
-    ∷ codes "* * mon * *"
-    ∷ codes "* * * mon *"
-    ∷ codes "* * * */jan *"
-    ∷ codes "0 0 * * sat-sun"
-    ∷ codes "* * * * sunday"
-    ∷ codes "@Daily"
-    ∷ codes "@daily x"
+refused_names : RowsHold cron_reading
+    ((codes "jan * * * *", refused 1 BadName)
+    ∷ (codes "* * mon * *", refused 3 BadName)
+    ∷ (codes "* * * mon *", refused 4 BadName)
+    ∷ (codes "* * * */jan *", refused 4 BadNumber)
+    ∷ (codes "0 0 * * sat-sun", refused 5 (Values Backwards))
+    ∷ (codes "* * * * sunday", refused 5 BadName)
+    ∷ (codes "@Daily", refused 0 UnknownWord)
+    ∷ (codes "@daily x", refused 0 UnknownWord)
     ∷ [])
-    ≡ refused 1 BadName
-    ∷ refused 3 BadName
-    ∷ refused 4 BadName
-    ∷ refused 4 BadNumber
-    ∷ refused 5 (Values Backwards)
-    ∷ refused 5 BadName
-    ∷ refused 0 UnknownWord
-    ∷ refused 0 UnknownWord
-    ∷ []
-unfolding rule_reading cut_word fields_in_front cut_at decimal_number set_reading at_reading five_fields field_reading items_reading
-    item_reading side_reading value_reading step_reading
+unfolding on_cron
 refused_names = refl
 
 -- each word of the table is its five fields, and `@reboot` never starts a job

@@ -2,24 +2,21 @@
 -- A row is `refl` once the definitions that it names are unfolded. The row of a set's members needs a law of
 -- sets, and the row of a text that is too large takes the text's length as given.
 use Rattle.std.proofs.Common.{◌≡◌, ℕ, Bool, true, false, List, [], ◌∷◌, length, map, codes, Option, Some, None, Ok, Err, refl}
-use Rattle.std.specs.Fmt.{digits}
-use Rattle.std.specs.Str.{chars, is_utf8}
 use Rattle.plan_sets.specs.declared.item.SetFault.TheVariants.{OutOfRange, Backwards}
-use Rattle.plan_sets.specs.Items.{set_reading}
 use Rattle.plan_sets.specs.ValuesLaws.{has_value-values_where}
 use Rattle.plan_rules.specs.declared.crontabs.Kind.TheVariants.{User, System}
 use Rattle.plan_grammar.specs.declared.fault.RuleCause.{RuleCause}
 use Rattle.plan_grammar.specs.declared.fault.RuleCause.TheVariants.{WrongParts, BadNumber, BadName, Values, UnknownWord}
 use Rattle.plan_rules.specs.declared.line_fault.LineCause.{LineCause}
 use Rattle.plan_rules.specs.declared.line_fault.LineCause.TheVariants.{NotUtf8, TooLarge, BadSetting, Rule, NoCommand}
-use Rattle.plan_texts.specs.Text.{cut_at, decimal_number}
-use Rattle.plan_grammar.specs.Cron.{rule_in_front, at_reading, fields_in_front, five_fields, field_reading, items_reading, item_reading, side_reading, value_reading, step_reading, week_days_of}
+use Rattle.plan_grammar.specs.Cron.{week_days_of}
 use Rattle.plan_match.specs.Match.{rule_matches}
-use Rattle.plan_texts.specs.Lines.{lines, cut_word}
+use Rattle.plan_texts.specs.Lines.{lines}
 use Rattle.plan_rules.specs.LineFaults.{TextReading}
 use Rattle.plan_rules.specs.Job.{JobParts}
-use Rattle.plan_rules.specs.Crontab.{what_reading, job_reading, line_reading, entries_of_lines, crontab_reading}
-use Rattle.plan_facts.specs.Rows.{at_minute}
+use Rattle.plan_rules.specs.Crontab.{crontab_reading}
+use Rattle.plan_facts.specs.Rows.{RowsHold, at_minute}
+use Rattle.plan_facts.proofs.OnTexts.{on_crontabs}
 
 -- the error of a line
 on : ℕ → LineCause → TextReading (List JobParts)
@@ -52,9 +49,7 @@ parts_of (Err fault) = []
 reboot_and_daily :
     parts_of (crontab_reading (codes "cron") User nightly) ≡
     (codes "cron:3", None, codes "a") ∷ (codes "cron:4", None, codes "b") ∷ []
-unfolding is_utf8 chars lib.Utf8.encode digits lines cut_word rule_in_front at_reading fields_in_front what_reading job_reading
-    line_reading entries_of_lines cut_at decimal_number set_reading five_fields field_reading items_reading item_reading side_reading
-    value_reading step_reading
+unfolding on_crontabs
 reboot_and_daily = refl
 
 -- the system's crontab: the user and the command
@@ -64,9 +59,7 @@ parts_hourly = codes "17 * * * * root cd / && run-parts x"
 run_parts :
     parts_of (crontab_reading (codes "system") System parts_hourly) ≡
     (codes "system:1", Some (codes "root"), codes "cd / && run-parts x") ∷ []
-unfolding is_utf8 chars lib.Utf8.encode digits lines cut_word rule_in_front fields_in_front what_reading job_reading line_reading
-    entries_of_lines cut_at decimal_number set_reading five_fields field_reading items_reading item_reading side_reading value_reading
-    step_reading
+unfolding on_crontabs
 run_parts = refl
 
 -- whether the first job of a text matches civil fields
@@ -77,9 +70,7 @@ first_matches other times = []
 -- at 00:17:00 and 01:17:00, not at 00:00:00
 run_parts_hourly :
     first_matches (crontab_reading (codes "system") System parts_hourly) ((0, 17) ∷ (1, 17) ∷ (0, 0) ∷ []) ≡ true ∷ true ∷ false ∷ []
-unfolding is_utf8 chars lib.Utf8.encode digits lines cut_word rule_in_front fields_in_front what_reading job_reading line_reading
-    entries_of_lines cut_at decimal_number set_reading five_fields field_reading items_reading item_reading side_reading value_reading
-    step_reading week_days_of at_minute
+unfolding on_crontabs week_days_of at_minute
 run_parts_hourly = simp has_value-values_where
 
 -- what a user's job runs is kept as it is written, without the blanks before it
@@ -88,53 +79,33 @@ kept_as_written : map (λ text. parts_of (crontab_reading (codes "cron") User te
     ≡ ((codes "cron:3", None, codes "a # b % ") ∷ [])
     ∷ ((codes "cron:2", None, codes "a\r") ∷ [])
     ∷ []
-unfolding is_utf8 chars lib.Utf8.encode digits lines cut_word rule_in_front at_reading fields_in_front what_reading job_reading
-    line_reading entries_of_lines cut_at decimal_number set_reading five_fields field_reading items_reading item_reading side_reading
-    value_reading step_reading
+unfolding on_crontabs
 kept_as_written = refl
 
 -- invalid texts of a user, each with its error
-user_refusals : map (crontab_reading (codes "cron") User)
-    (codes "MAILTO x"
-    ∷ codes "* * * * *"
-    ∷ codes "@daily"
-    ∷ codes "@daily\t"
-    ∷ codes "@every x"
-    ∷ codes "0 0 * x"
-    ∷ codes "0 0 * * x"
-    ∷ codes "0 0 * foo * x"
-    ∷ codes "1,,2 * * * * x"
-    ∷ codes "12345 * * * * x"
-    ∷ codes "0 0 * * sat-sun x"
-    ∷ codes "\n\n99 * * * *\nMAILTO"
-    ∷ (255 ∷ [])
+user_refusals : RowsHold (crontab_reading (codes "cron") User)
+    ((codes "MAILTO x", on 1 BadSetting)
+    ∷ (codes "* * * * *", on 1 NoCommand)
+    ∷ (codes "@daily", on 1 NoCommand)
+    ∷ (codes "@daily\t", on 1 NoCommand)
+    ∷ (codes "@every x", on 1 (part 0 UnknownWord))
+    ∷ (codes "0 0 * x", on 1 (part 0 WrongParts))
+    ∷ (codes "0 0 * * x", on 1 (part 5 BadName))
+    ∷ (codes "0 0 * foo * x", on 1 (part 4 BadName))
+    ∷ (codes "1,,2 * * * * x", on 1 (part 1 WrongParts))
+    ∷ (codes "12345 * * * * x", on 1 (part 1 BadNumber))
+    ∷ (codes "0 0 * * sat-sun x", on 1 (part 5 (Values Backwards)))
+    ∷ (codes "\n\n99 * * * *\nMAILTO", on 3 (part 1 (Values OutOfRange)))
+    ∷ ((255 ∷ []), on 0 NotUtf8)
     ∷ [])
-    ≡ on 1 BadSetting
-    ∷ on 1 NoCommand
-    ∷ on 1 NoCommand
-    ∷ on 1 NoCommand
-    ∷ on 1 (part 0 UnknownWord)
-    ∷ on 1 (part 0 WrongParts)
-    ∷ on 1 (part 5 BadName)
-    ∷ on 1 (part 4 BadName)
-    ∷ on 1 (part 1 WrongParts)
-    ∷ on 1 (part 1 BadNumber)
-    ∷ on 1 (part 5 (Values Backwards))
-    ∷ on 3 (part 1 (Values OutOfRange))
-    ∷ on 0 NotUtf8
-    ∷ []
-unfolding on part is_utf8 chars lib.Utf8.encode digits lines cut_word rule_in_front at_reading fields_in_front what_reading job_reading
-    line_reading entries_of_lines cut_at decimal_number set_reading five_fields field_reading items_reading item_reading side_reading
-    value_reading step_reading
+unfolding on_crontabs on part
 user_refusals = refl
 
 -- a user without a command
 user_alone :
     map (crontab_reading (codes "system") System) (codes "* * * * * root" ∷ codes "@daily root \t" ∷ codes "@daily" ∷ []) ≡
     on 1 NoCommand ∷ on 1 NoCommand ∷ on 1 NoCommand ∷ []
-unfolding on is_utf8 chars lib.Utf8.encode digits lines cut_word rule_in_front at_reading fields_in_front what_reading job_reading
-    line_reading entries_of_lines cut_at decimal_number set_reading five_fields field_reading items_reading item_reading side_reading
-    value_reading step_reading
+unfolding on_crontabs on
 user_alone = refl
 
 -- one byte too many

@@ -7,19 +7,20 @@ use Rattle.plan_sets.specs.declared.item.SetFault.TheVariants.{OutOfRange, Backw
 use Rattle.plan_sets.specs.declared.civil.Civil.{Civil}
 use Rattle.plan_sets.specs.Limits.{first_year, last_year}
 use Rattle.plan_sets.specs.Values.{values_where}
-use Rattle.plan_sets.specs.Items.{set_reading, held_values}
+use Rattle.plan_sets.specs.Items.{held_values}
 use Rattle.plan_sets.specs.ValuesLaws.{has_value-values_where}
 use Rattle.plan_grammar.specs.declared.fault.RuleCause.TheVariants.{WrongParts, BadNumber, BadName, Values, Fraction, UnknownZone, Zone, UnknownWord, Specifier}
 use Rattle.plan_clock.specs.declared.row.Change.{Change}
 use Rattle.plan_match.specs.declared.event.DayCount.TheVariants.{FromStart, FromEnd}
 use Rattle.plan_match.specs.declared.event.Calendar.{Calendar}
 use Rattle.plan_match.specs.declared.rule.Rule.TheVariants.{Events}
-use Rattle.plan_texts.specs.Text.{words, cut_at, decimal_number}
+use Rattle.plan_texts.specs.Text.{words}
 use Rattle.plan_grammar.specs.Readings.{Reading, refused}
-use Rattle.plan_grammar.specs.Shape.{date_reading, time_reading, dated, shape_reading}
-use Rattle.plan_grammar.specs.EventZones.{Zones, zone_clock}
-use Rattle.plan_grammar.specs.Event.{component_number, component_value, component_side, component_item, component_items, places_reading, is_listed_place, component_reading, weekday_of, weekday_reading, weekday_item, weekday_items, weekdays_reading, event_of, spelled_out, zone_cut, expression_of, zoneless, words_reading, zone_name, event_reading, event_rule_reading}
+use Rattle.plan_grammar.specs.EventZones.{Zones}
+use Rattle.plan_grammar.specs.Event.{is_listed_place, zone_cut, zone_name, event_reading, event_rule_reading}
 use Rattle.plan_match.specs.EventMatch.{event_matches}
+use Rattle.plan_facts.specs.Rows.{RowsHold}
+use Rattle.plan_facts.proofs.OnTexts.{on_events}
 
 -- every second of every day
 every_second : event_reading None (codes "*:*:*") ≡ Ok (record {
@@ -34,9 +35,7 @@ every_second : event_reading None (codes "*:*:*") ≡ Ok (record {
   names_zone = false;
   clock = [];
 })
-unfolding words cut_at decimal_number set_reading date_reading time_reading dated shape_reading component_number component_value
-    component_side component_item component_items places_reading component_reading weekday_of weekday_reading weekday_item
-    weekday_items weekdays_reading event_of spelled_out zone_clock zone_cut expression_of zoneless words_reading
+unfolding on_events
 every_second = refl
 
 -- weekdays, lists, ranges and steps; missing years are all of them
@@ -52,9 +51,7 @@ lists_ranges_and_steps : event_reading None (codes "Sat,Mon..Tue 10-1..7/3 8..9:
   names_zone = false;
   clock = [];
 })
-unfolding words cut_at decimal_number set_reading date_reading time_reading dated shape_reading component_number component_value
-    component_side component_item component_items places_reading component_reading weekday_of weekday_reading weekday_item
-    weekday_items weekdays_reading event_of spelled_out zone_clock zone_cut expression_of zoneless words_reading
+unfolding on_events
 lists_ranges_and_steps = refl
 
 -- days from the month's end
@@ -70,18 +67,14 @@ third_last_of_february : event_rule_reading None (codes "*-02~03") ≡ Ok (Event
   names_zone = false;
   clock = [];
 } ∷ []))
-unfolding words cut_at decimal_number set_reading date_reading time_reading dated shape_reading component_number component_value
-    component_side component_item component_items places_reading component_reading weekday_of weekday_reading weekday_item
-    weekday_items weekdays_reading event_of spelled_out zone_clock zone_cut expression_of zoneless words_reading
+unfolding on_events
 third_last_of_february = refl
 
 -- a word of the table, in any case, also before the zone
 words_of_the_table : map (event_reading None) (codes "weekly" ∷ codes "qUARTERLY utc" ∷ codes "Wed, 17:48 UTC" ∷ codes "Mon..mon" ∷ [])
     ≡ map (event_reading None) (codes "Mon *-*-* 00:00:00" ∷ codes "*-01,04,07,10-01 UTC" ∷ codes "wednesday *-* 17:48:00 uTC" ∷ codes
     "monday..Monday" ∷ [])
-unfolding words cut_at decimal_number set_reading date_reading time_reading dated shape_reading component_number component_value
-    component_side component_item component_items places_reading component_reading weekday_of weekday_reading weekday_item
-    weekday_items weekdays_reading event_of spelled_out zone_clock zone_cut expression_of zoneless words_reading
+unfolding on_events
 words_of_the_table = refl
 
 -- whether a text is an event that names a zone
@@ -92,9 +85,7 @@ zone_of (Err fault) = false
 -- it is one if there are several words and the last is the zone
 named_zones : map (λ text. zone_of (event_reading None text))
     (codes "Mon 09:00 UTC" ∷ codes "daily utc" ∷ codes "Mon 09:00" ∷ codes "daily" ∷ []) ≡ true ∷ true ∷ false ∷ false ∷ []
-unfolding words cut_at decimal_number set_reading date_reading time_reading dated shape_reading component_number component_value
-    component_side component_item component_items places_reading component_reading weekday_of weekday_reading weekday_item
-    weekday_items weekdays_reading event_of spelled_out zone_clock zone_cut expression_of zoneless words_reading
+unfolding on_events
 named_zones = refl
 
 -- a list with one zone
@@ -110,18 +101,14 @@ clock_of (Err fault) = None
 zones_of_texts : map (λ text. clock_of (event_reading one_zone text))
     (codes "Mon 09:00 Europe/Oslo" ∷ codes "daily\tEurope/Oslo " ∷ codes "daily Utc" ∷ codes "daily" ∷ []) ≡
     Some (record { second = 0; offset = pos 3600 } ∷ []) ∷ Some (record { second = 0; offset = pos 3600 } ∷ []) ∷ Some [] ∷ None ∷ []
-unfolding words cut_at decimal_number set_reading date_reading time_reading dated shape_reading component_number component_value
-    component_side component_item component_items places_reading component_reading weekday_of weekday_reading weekday_item
-    weekday_items weekdays_reading event_of spelled_out zone_clock zone_cut expression_of zoneless words_reading
+unfolding on_events
 zones_of_texts = refl
 
 -- with a list, a zone that isn't in it is unknown; names are compared exactly, and a first word is no zone
 unknown_zones : map (event_reading one_zone)
     (codes "daily Europe/Berlin" ∷ codes "daily europe/oslo" ∷ codes "daily Europe/Oslo/" ∷ codes "Europe/Oslo" ∷ [])
     ≡ refused 8 UnknownZone ∷ refused 8 UnknownZone ∷ refused 8 UnknownZone ∷ refused 1 BadName ∷ []
-unfolding words cut_at decimal_number set_reading date_reading time_reading dated shape_reading component_number component_value
-    component_side component_item component_items places_reading component_reading weekday_of weekday_reading weekday_item
-    weekday_items weekdays_reading event_of spelled_out zone_clock zone_cut expression_of zoneless words_reading
+unfolding on_events
 unknown_zones = refl
 
 -- the names by which zones are looked up: the last of several words, unless it is UTC or not in ASCII
@@ -133,89 +120,49 @@ unfolding words zone_cut
 names_to_look_up = refl
 
 -- invalid texts, each with its error
-refusals : map (event_reading None)
-    (codes "Mon 12:00:00.5"
-    ∷ codes "daily Europe/Oslo"
-    ∷ codes "*-*-9..3"
-    ∷ codes "fortnightly"
-    ∷ codes "*-*-%i"
-    ∷ codes " "
-    ∷ codes "UTC"
-    ∷ codes "Sat..Mon"
-    ∷ codes "Mon,,"
-    ∷ codes "Mond 12:00"
-    ∷ codes "*-*~*/2"
-    ∷ codes "*-*~0"
-    ∷ codes "*-*~32/0"
-    ∷ codes "*-*~3..5/0"
-    ∷ codes "~3"
-    ∷ codes "1969-1-1"
-    ∷ codes "12024-1-1"
-    ∷ codes "12:00:00:00"
-    ∷ codes "12:00 1-1"
-    ∷ codes "2024-1"
+refusals : RowsHold (event_reading None)
+    ((codes "Mon 12:00:00.5", refused 7 Fraction)
+    ∷ (codes "daily Europe/Oslo", refused 8 Zone)
+    ∷ (codes "*-*-9..3", refused 4 (Values Backwards))
+    ∷ (codes "fortnightly", refused 0 UnknownWord)
+    ∷ (codes "*-*-%i", refused 0 Specifier)
+    ∷ (codes " ", refused 0 WrongParts)
+    ∷ (codes "UTC", refused 0 UnknownWord)
+    ∷ (codes "Sat..Mon", refused 1 (Values Backwards))
+    ∷ (codes "Mon,,", refused 1 WrongParts)
+    ∷ (codes "Mond 12:00", refused 1 BadName)
+    ∷ (codes "*-*~*/2", refused 4 WrongParts)
+    ∷ (codes "*-*~0", refused 4 (Values OutOfRange))
+    ∷ (codes "*-*~32/0", refused 4 (Values OutOfRange))
+    ∷ (codes "*-*~3..5/0", refused 4 (Values ZeroStep))
+    ∷ (codes "~3", refused 3 WrongParts)
+    ∷ (codes "1969-1-1", refused 2 (Values OutOfRange))
+    ∷ (codes "12024-1-1", refused 2 BadNumber)
+    ∷ (codes "12:00:00:00", refused 0 WrongParts)
+    ∷ (codes "12:00 1-1", refused 0 WrongParts)
+    ∷ (codes "2024-1", refused 3 (Values OutOfRange))
     ∷ [])
-    ≡ refused 7 Fraction
-    ∷ refused 8 Zone
-    ∷ refused 4 (Values Backwards)
-    ∷ refused 0 UnknownWord
-    ∷ refused 0 Specifier
-    ∷ refused 0 WrongParts
-    ∷ refused 0 UnknownWord
-    ∷ refused 1 (Values Backwards)
-    ∷ refused 1 WrongParts
-    ∷ refused 1 BadName
-    ∷ refused 4 WrongParts
-    ∷ refused 4 (Values OutOfRange)
-    ∷ refused 4 (Values OutOfRange)
-    ∷ refused 4 (Values ZeroStep)
-    ∷ refused 3 WrongParts
-    ∷ refused 2 (Values OutOfRange)
-    ∷ refused 2 BadNumber
-    ∷ refused 0 WrongParts
-    ∷ refused 0 WrongParts
-    ∷ refused 3 (Values OutOfRange)
-    ∷ []
-unfolding words cut_at decimal_number set_reading date_reading time_reading dated shape_reading component_number component_value
-    component_side component_item component_items places_reading component_reading weekday_of weekday_reading weekday_item
-    weekday_items weekdays_reading event_of spelled_out zone_clock zone_cut expression_of zoneless words_reading
+unfolding on_events
 refusals = refl
 
 -- the order in which a text is read: specifier, zone, shape, weekdays, and then the components from the year on
-first_faults : map (event_reading None)
-    (codes "Foo 1 2 3 Oslo %"
-    ∷ codes "Foo 1 2 3 Oslo"
-    ∷ codes "Foo 1 2 3"
-    ∷ codes "Tue..Mon,Foo +-1-1"
-    ∷ codes "Tue..Mon +-1-1"
-    ∷ codes "+-x-z +:b:c"
-    ∷ codes "1-x-z +:b:c"
-    ∷ codes "1-1-z +:b:c"
-    ∷ codes "1-1-1 +:b:c"
-    ∷ codes "1-1-1 9:b:.5"
-    ∷ codes "1-1-1 9:9:.5"
-    ∷ codes "*-*-32,x"
-    ∷ codes "*-*~x../+"
-    ∷ codes "*-*~*/+"
+first_faults : RowsHold (event_reading None)
+    ((codes "Foo 1 2 3 Oslo %", refused 0 Specifier)
+    ∷ (codes "Foo 1 2 3 Oslo", refused 8 Zone)
+    ∷ (codes "Foo 1 2 3", refused 0 WrongParts)
+    ∷ (codes "Tue..Mon,Foo +-1-1", refused 1 BadName)
+    ∷ (codes "Tue..Mon +-1-1", refused 1 (Values Backwards))
+    ∷ (codes "+-x-z +:b:c", refused 2 BadNumber)
+    ∷ (codes "1-x-z +:b:c", refused 3 BadNumber)
+    ∷ (codes "1-1-z +:b:c", refused 4 BadNumber)
+    ∷ (codes "1-1-1 +:b:c", refused 5 BadNumber)
+    ∷ (codes "1-1-1 9:b:.5", refused 6 BadNumber)
+    ∷ (codes "1-1-1 9:9:.5", refused 7 Fraction)
+    ∷ (codes "*-*-32,x", refused 4 BadNumber)
+    ∷ (codes "*-*~x../+", refused 4 BadNumber)
+    ∷ (codes "*-*~*/+", refused 4 BadNumber)
     ∷ [])
-    ≡ refused 0 Specifier
-    ∷ refused 8 Zone
-    ∷ refused 0 WrongParts
-    ∷ refused 1 BadName
-    ∷ refused 1 (Values Backwards)
-    ∷ refused 2 BadNumber
-    ∷ refused 3 BadNumber
-    ∷ refused 4 BadNumber
-    ∷ refused 5 BadNumber
-    ∷ refused 6 BadNumber
-    ∷ refused 7 Fraction
-    ∷ refused 4 BadNumber
-    ∷ refused 4 BadNumber
-    ∷ refused 4 BadNumber
-    ∷ []
-unfolding words cut_at decimal_number set_reading date_reading time_reading dated shape_reading component_number component_value
-    component_side component_item component_items places_reading component_reading weekday_of weekday_reading weekday_item
-    weekday_items weekdays_reading event_of spelled_out zone_clock zone_cut expression_of zoneless words_reading
+unfolding on_events
 first_faults = refl
 
 -- civil fields of a second
@@ -239,31 +186,23 @@ match_reading (Err fault) civil = false
 from_the_end : map (match_reading (event_reading None (codes "*-02~03")))
     (at_time 2024 2 27 1 0 0 0 ∷ at_time 2025 2 26 2 0 0 0 ∷ at_time 2024 2 26 0 0 0 0 ∷ at_time 2024 3 29 4 0 0 0 ∷ at_time 2024 2
     27 1 0 0 1 ∷ []) ≡ true ∷ true ∷ false ∷ false ∷ false ∷ []
-unfolding words cut_at decimal_number set_reading date_reading time_reading dated shape_reading component_number component_value
-    component_side component_item component_items places_reading component_reading weekday_of weekday_reading weekday_item
-    weekday_items weekdays_reading event_of spelled_out zone_clock zone_cut expression_of zoneless words_reading at_time
+unfolding on_events at_time
 from_the_end = simp has_value-values_where
 
 -- the last Monday of May is among the last seven days
 last_monday_of_may : map (match_reading (event_reading None (codes "Mon *-05~07/1")))
     (at_time 2024 5 27 0 0 0 0 ∷ at_time 2024 5 20 0 0 0 0 ∷ at_time 2024 5 28 1 0 0 0 ∷ []) ≡ true ∷ false ∷ false ∷ []
-unfolding words cut_at decimal_number set_reading date_reading time_reading dated shape_reading component_number component_value
-    component_side component_item component_items places_reading component_reading weekday_of weekday_reading weekday_item
-    weekday_items weekdays_reading event_of spelled_out zone_clock zone_cut expression_of zoneless words_reading at_time
+unfolding on_events at_time
 last_monday_of_may = simp has_value-values_where
 
 -- a range after `~` may be in either order, and its steps go down from the greater place
 either_way : map (match_reading (event_reading None (codes "*-*~1..3/2 12:00")))
     (at_time 2024 2 27 1 12 0 0 ∷ at_time 2024 2 28 2 12 0 0 ∷ at_time 2024 2 29 3 12 0 0 ∷ []) ≡ true ∷ false ∷ true ∷ []
-unfolding words cut_at decimal_number set_reading date_reading time_reading dated shape_reading component_number component_value
-    component_side component_item component_items places_reading component_reading weekday_of weekday_reading weekday_item
-    weekday_items weekdays_reading event_of spelled_out zone_clock zone_cut expression_of zoneless words_reading at_time
+unfolding on_events at_time
 either_way = simp has_value-values_where
 
 -- years of two digits are 1970 to 2069
 two_digits : map (λ (text : List ℕ). match_reading (event_reading None text) (at_time 1999 2 3 2 4 5 0))
     (codes "99-2-3 4:5" ∷ codes "1999-2-3 4:5" ∷ codes "69-2-3 4:5" ∷ []) ≡ true ∷ true ∷ false ∷ []
-unfolding words cut_at decimal_number set_reading date_reading time_reading dated shape_reading component_number component_value
-    component_side component_item component_items places_reading component_reading weekday_of weekday_reading weekday_item
-    weekday_items weekdays_reading event_of spelled_out zone_clock zone_cut expression_of zoneless words_reading at_time
+unfolding on_events at_time
 two_digits = simp has_value-values_where

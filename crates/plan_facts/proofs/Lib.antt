@@ -1,3 +1,4 @@
+mod OnTexts
 mod CivilRows
 mod MomentRows
 mod CronRows

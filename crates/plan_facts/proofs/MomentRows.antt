@@ -6,20 +6,20 @@ use Rattle.std.specs.Prelude.{codes}
 use Rattle.jiff_core.proofs.SignedLemmas.{signed_arith}
 use Rattle.plan_sets.specs.Limits.{end_second, first_year}
 use Rattle.plan_sets.specs.declared.moment.MomentFault.TheVariants.{BadForm, NoSuchDate, OutOfYears}
-use Rattle.plan_sets.specs.Civil.{civil_fields, month_and_day, year_and_day}
 use Rattle.plan_sets.specs.Moment.{moment_text_of, HasFault, IsInCalendar, Says, Written}
 use Rattle.plan_sets.specs.CivilLaws.{days_from_civil-before_year, days_from_civil-end, days_from_civil-first}
+use Rattle.plan_facts.proofs.OnTexts.{on_civil}
 
 the_epoch : moment_text_of 0 ≡ codes "1970-01-01T00:00:00Z"
-unfolding moment_text_of civil_fields year_and_day month_and_day
+unfolding on_civil moment_text_of
 the_epoch = refl
 
 with_a_time : moment_text_of 1_700_000_000 ≡ codes "2023-11-14T22:13:20Z"
-unfolding moment_text_of civil_fields year_and_day month_and_day
+unfolding on_civil moment_text_of
 with_a_time = refl
 
 the_end : moment_text_of end_second ≡ codes "3000-01-01T00:00:00Z"
-unfolding moment_text_of civil_fields year_and_day month_and_day
+unfolding on_civil moment_text_of
 the_end = refl
 
 -- a month of one digit doesn't have the form of a timestamp

@@ -6,21 +6,17 @@ use Rattle.std.specs.List.{list_any, range_with_len}
 use Rattle.plan_clock.specs.declared.row.Change.{Change}
 use Rattle.plan_clock.specs.Rows.{row_at, shown, size, natural, is_repeated}
 use Rattle.plan_sets.specs.declared.civil.Civil.{Civil}
-use Rattle.plan_sets.specs.Civil.{civil_fields, month_and_day, year_and_day}
-use Rattle.plan_sets.specs.Items.{set_reading}
+use Rattle.plan_sets.specs.Civil.{civil_fields}
 use Rattle.plan_sets.specs.ValuesLaws.{has_value-values_where}
 use Rattle.plan_match.specs.declared.rule.Rule.{Rule}
 use Rattle.plan_match.specs.declared.rule.Rule.TheVariants.{Cron}
 use Rattle.plan_match.specs.Heeds.{cron_heeds}
 use Rattle.plan_match.specs.Zone.{rule_in}
-use Rattle.plan_texts.specs.Text.{words, cut_at, decimal_number}
-use Rattle.plan_texts.specs.Lines.{cut_word}
 use Rattle.plan_grammar.specs.Readings.{Reading}
-use Rattle.plan_grammar.specs.Shape.{date_reading, time_reading, dated, shape_reading}
-use Rattle.plan_grammar.specs.Cron.{cron_reading, rule_reading, fields_in_front, five_fields, field_reading, items_reading, item_reading, side_reading, value_reading, step_reading, week_days_of}
-use Rattle.plan_grammar.specs.EventZones.{zone_clock}
-use Rattle.plan_grammar.specs.Event.{component_number, component_value, component_side, component_item, component_items, places_reading, component_reading, weekday_of, weekday_reading, weekday_item, weekday_items, weekdays_reading, event_of, spelled_out, zone_cut, expression_of, zoneless, words_reading, event_rule_reading}
+use Rattle.plan_grammar.specs.Cron.{cron_reading, week_days_of}
+use Rattle.plan_grammar.specs.Event.{event_rule_reading}
 use Rattle.plan_next.specs.Starts.{is_start, some_between, starts_in}
+use Rattle.plan_facts.proofs.OnTexts.{on_civil, on_cron, on_events}
 
 -- Europe/Berlin in 2025: an hour ahead of UTC, two from 2025-03-30T01:00:00Z on, and one again from 2025-10-26T01:00:00Z on
 abbrev berlin : List Change
@@ -64,7 +60,7 @@ over_the_gap : map shown_in_berlin (1_743_296_399 ∷ 1_743_296_400 ∷ [])
     ≡ record { year = 2025; month = 3; day = 30; weekday = 6; hour = 1; minute = 59; second = 59 }
     ∷ record { year = 2025; month = 3; day = 30; weekday = 6; hour = 3; minute = 0; second = 0 }
     ∷ []
-unfolding row_at civil_fields year_and_day month_and_day
+unfolding on_civil row_at
 over_the_gap = refl
 
 -- Sunday 2025-10-26: after 02:59:59 comes 02:00:00, and 02:30:00 is shown twice
@@ -74,7 +70,7 @@ over_the_fold : map shown_in_berlin (1_761_438_600 ∷ 1_761_440_399 ∷ 1_761_4
     ∷ record { year = 2025; month = 10; day = 26; weekday = 6; hour = 2; minute = 0; second = 0 }
     ∷ record { year = 2025; month = 10; day = 26; weekday = 6; hour = 2; minute = 30; second = 0 }
     ∷ []
-unfolding row_at civil_fields year_and_day month_and_day
+unfolding on_civil row_at
 over_the_fold = refl
 
 -- from the change in October on, the clock repeats for an hour what it showed; after the change in March it
@@ -94,23 +90,20 @@ starts_by clock (Err fault) n = false
 fixed_time_in_a_fold :
     map (starts_by berlin (cron_reading (codes "30 2 * * *"))) (1_761_438_600 ∷ 1_761_442_200 ∷ 1_761_528_600 ∷ []) ≡
     true ∷ false ∷ true ∷ []
-unfolding rule_reading cut_word fields_in_front cut_at decimal_number set_reading five_fields field_reading items_reading item_reading
-    side_reading value_reading step_reading week_days_of row_at starts_in civil_fields year_and_day month_and_day
+unfolding on_cron on_civil week_days_of row_at starts_in
 fixed_time_in_a_fold = simp has_value-values_where
 
 -- a wildcard rule starts at both: 00:30:00Z and 01:30:00Z
 wildcard_in_a_fold :
     map (starts_by berlin (cron_reading (codes "30 * * * *"))) (1_761_438_600 ∷ 1_761_442_200 ∷ 1_761_440_400 ∷ []) ≡
     true ∷ true ∷ false ∷ []
-unfolding rule_reading cut_word fields_in_front cut_at decimal_number set_reading five_fields field_reading items_reading item_reading
-    side_reading value_reading step_reading week_days_of row_at starts_in civil_fields year_and_day month_and_day
+unfolding on_cron on_civil week_days_of row_at starts_in
 wildcard_in_a_fold = simp has_value-values_where
 
 -- a wildcard rule doesn't make up for what a gap skips: it starts at 2025-03-31T00:00:00Z, not at 2025-03-30T01:00:00Z
 wildcard_in_a_gap :
     map (starts_by berlin (cron_reading (codes "*/20 2 * * *"))) (1_743_296_400 ∷ 1_743_379_200 ∷ []) ≡ false ∷ true ∷ []
-unfolding rule_reading cut_word fields_in_front cut_at decimal_number set_reading five_fields field_reading items_reading item_reading
-    side_reading value_reading step_reading week_days_of row_at starts_in civil_fields year_and_day month_and_day
+unfolding on_cron on_civil week_days_of row_at starts_in
 wildcard_in_a_gap = simp has_value-values_where
 
 or_right : (a b : Bool) → b ≡ true → (a || b) ≡ true
@@ -137,22 +130,19 @@ skipped test a m b low high is =
 
 -- a job at a particular time that a gap skips starts when the clock goes forward, at 2025-03-30T01:00:00Z: 02:30 is skipped
 half_past_two_in_a_gap : starts_by berlin (cron_reading (codes "30 2 * * *")) 1_743_296_400 ≡ true
-unfolding rule_reading cut_word fields_in_front cut_at decimal_number set_reading five_fields field_reading items_reading item_reading
-    side_reading value_reading step_reading week_days_of row_at starts_in civil_fields year_and_day month_and_day
+unfolding on_cron on_civil week_days_of row_at starts_in
 half_past_two_in_a_gap = skipped _ 1_743_300_000 1_743_301_800 1_743_303_600 (omega arith) (omega arith) (simp has_value-values_where)
 
 -- so does one with several times in the gap
 fixed_times_in_a_gap : starts_by berlin (cron_reading (codes "0-59/20 2 * * *")) 1_743_296_400 ≡ true
-unfolding rule_reading cut_word fields_in_front cut_at decimal_number set_reading five_fields field_reading items_reading item_reading
-    side_reading value_reading step_reading week_days_of row_at starts_in civil_fields year_and_day month_and_day
+unfolding on_cron on_civil week_days_of row_at starts_in
 fixed_times_in_a_gap = skipped _ 1_743_300_000 1_743_300_000 1_743_303_600 (omega arith) (omega arith) (simp has_value-values_where)
 
 -- it starts once, not at 01:20:00Z or 01:40:00Z too; the next start is 2025-03-31T00:00:00Z
 after_the_gap :
     map (starts_by berlin (cron_reading (codes "0-59/20 2 * * *")))
     (1_743_297_600 ∷ 1_743_298_800 ∷ 1_743_379_200 ∷ 1_743_379_500 ∷ []) ≡ false ∷ false ∷ true ∷ false ∷ []
-unfolding rule_reading cut_word fields_in_front cut_at decimal_number set_reading five_fields field_reading items_reading item_reading
-    side_reading value_reading step_reading week_days_of row_at starts_in civil_fields year_and_day month_and_day
+unfolding on_cron on_civil week_days_of row_at starts_in
 after_the_gap = simp has_value-values_where
 
 -- Antarctica/Casey: eight hours ahead of UTC, eleven from 2009-10-17T18:00:00Z on, and eight again from 2010-03-04T15:00:00Z on
@@ -165,16 +155,14 @@ casey =
 
 -- a gap of three hours isn't made up for: 02:00 of 2009-10-18 is skipped, and 2009-10-18T15:00:00Z is 02:00 of the 19th
 three_hours_forward : map (starts_by casey (cron_reading (codes "0 2 * * *"))) (1_255_802_400 ∷ 1_255_878_000 ∷ []) ≡ false ∷ true ∷ []
-unfolding rule_reading cut_word fields_in_front cut_at decimal_number set_reading five_fields field_reading items_reading item_reading
-    side_reading value_reading step_reading week_days_of row_at starts_in civil_fields year_and_day month_and_day
+unfolding on_cron on_civil week_days_of row_at starts_in
 three_hours_forward = simp has_value-values_where
 
 -- a fold of three hours isn't run again: 01:59 of 2010-03-05 is shown at 2010-03-04T14:59:00Z, and again at 17:59:00Z
 three_hours_back :
     map (starts_by casey (cron_reading (codes "59 1 * * *"))) (1_267_714_740 ∷ 1_267_725_540 ∷ 1_267_811_940 ∷ []) ≡
     true ∷ false ∷ true ∷ []
-unfolding rule_reading cut_word fields_in_front cut_at decimal_number set_reading five_fields field_reading items_reading item_reading
-    side_reading value_reading step_reading week_days_of row_at starts_in civil_fields year_and_day month_and_day
+unfolding on_cron on_civil week_days_of row_at starts_in
 three_hours_back = simp has_value-values_where
 
 -- whether a text is a rule that heeds a change of that size
@@ -187,14 +175,12 @@ heeded_sizes :
     map (heeds (cron_reading (codes "30 2 * * *")))
     (negsuc 10_800 ∷ negsuc 10_799 ∷ negsuc 0 ∷ pos 0 ∷ pos 1 ∷ pos 10_799 ∷ pos 10_800 ∷ []) ≡
     false ∷ true ∷ true ∷ false ∷ true ∷ true ∷ false ∷ []
-unfolding rule_reading cut_word fields_in_front cut_at decimal_number set_reading five_fields field_reading items_reading item_reading
-    side_reading value_reading step_reading
+unfolding on_cron
 heeded_sizes = refl
 
 -- a wildcard rule heeds no change
 unheeded_sizes : map (heeds (cron_reading (codes "30 * * * *"))) (negsuc 3_599 ∷ pos 3_600 ∷ []) ≡ false ∷ false ∷ []
-unfolding rule_reading cut_word fields_in_front cut_at decimal_number set_reading five_fields field_reading items_reading item_reading
-    side_reading value_reading step_reading
+unfolding on_cron
 unheeded_sizes = refl
 
 -- a clock that shows UTC until 1970-01-01T01:00:00Z, and then goes two minutes forward
@@ -213,52 +199,35 @@ at_the_gap : map (λ text. starts_by two_minutes (cron_reading text) 3_600)
     ∷ codes "2 * * * *"
     ∷ [])
     ≡ true ∷ true ∷ true ∷ false ∷ false ∷ false ∷ true ∷ []
-unfolding rule_reading cut_word fields_in_front cut_at decimal_number set_reading five_fields field_reading items_reading item_reading
-    side_reading value_reading step_reading week_days_of row_at starts_in some_between civil_fields year_and_day month_and_day
+unfolding on_cron on_civil week_days_of row_at starts_in some_between
 at_the_gap = simp has_value-values_where
 
 -- a calendar event starts at the first of two seconds that show its time
 event_in_a_fold :
     map (starts_by berlin (event_rule_reading None (codes "02:30"))) (1_761_438_600 ∷ 1_761_442_200 ∷ 1_761_528_600 ∷ []) ≡
     true ∷ false ∷ true ∷ []
-unfolding words cut_at decimal_number set_reading date_reading time_reading dated shape_reading component_number component_value
-    component_side component_item component_items places_reading component_reading weekday_of weekday_reading weekday_item
-    weekday_items weekdays_reading event_of spelled_out zone_clock zone_cut expression_of zoneless words_reading row_at starts_in
-    civil_fields
-    year_and_day month_and_day
+unfolding on_events on_civil row_at starts_in
 event_in_a_fold = simp has_value-values_where
 
 -- so an hourly one pauses for an hour: it starts at 00:00:00Z and 02:00:00Z, not at 01:00:00Z
 hourly_in_a_fold :
     map (starts_by berlin (event_rule_reading None (codes "hourly"))) (1_761_436_800 ∷ 1_761_440_400 ∷ 1_761_444_000 ∷ []) ≡
     true ∷ false ∷ true ∷ []
-unfolding words cut_at decimal_number set_reading date_reading time_reading dated shape_reading component_number component_value
-    component_side component_item component_items places_reading component_reading weekday_of weekday_reading weekday_item
-    weekday_items weekdays_reading event_of spelled_out zone_clock zone_cut expression_of zoneless words_reading row_at starts_in
-    civil_fields
-    year_and_day month_and_day
+unfolding on_events on_civil row_at starts_in
 hourly_in_a_fold = simp has_value-values_where
 
 -- an event doesn't make up for what a gap skips: 02:30 is next shown at 2025-03-31T00:30:00Z
 event_in_a_gap :
     map (starts_by berlin (event_rule_reading None (codes "02:30"))) (1_743_296_400 ∷ 1_743_298_200 ∷ 1_743_381_000 ∷ []) ≡
     false ∷ false ∷ true ∷ []
-unfolding words cut_at decimal_number set_reading date_reading time_reading dated shape_reading component_number component_value
-    component_side component_item component_items places_reading component_reading weekday_of weekday_reading weekday_item
-    weekday_items weekdays_reading event_of spelled_out zone_clock zone_cut expression_of zoneless words_reading row_at starts_in
-    civil_fields
-    year_and_day month_and_day
+unfolding on_events on_civil row_at starts_in
 event_in_a_gap = simp has_value-values_where
 
 -- an event that names its zone starts by that zone: 02:30 in UTC
 event_in_utc :
     map (starts_by berlin (event_rule_reading None (codes "02:30 UTC"))) (1_761_438_600 ∷ 1_761_442_200 ∷ 1_761_445_800 ∷ []) ≡
     false ∷ false ∷ true ∷ []
-unfolding words cut_at decimal_number set_reading date_reading time_reading dated shape_reading component_number component_value
-    component_side component_item component_items places_reading component_reading weekday_of weekday_reading weekday_item
-    weekday_items weekdays_reading event_of spelled_out zone_clock zone_cut expression_of zoneless words_reading row_at starts_in
-    civil_fields
-    year_and_day month_and_day
+unfolding on_events on_civil row_at starts_in
 event_in_utc = simp has_value-values_where
 
 -- an event that names another zone starts by that one, whatever the zone of the rules is: 02:30 in Berlin
@@ -266,25 +235,19 @@ event_in_berlin :
     map (starts_by [] (event_rule_reading (Some (record { name = codes "Europe/Berlin"; clock = berlin } ∷ [])) (codes
     "02:30 Europe/Berlin")))
     (1_761_438_600 ∷ 1_761_442_200 ∷ 1_761_445_800 ∷ 1_761_528_600 ∷ []) ≡ true ∷ false ∷ false ∷ true ∷ []
-unfolding words cut_at decimal_number set_reading date_reading time_reading dated shape_reading component_number component_value
-    component_side component_item component_items places_reading component_reading weekday_of weekday_reading weekday_item
-    weekday_items weekdays_reading event_of spelled_out zone_clock zone_cut expression_of zoneless words_reading row_at starts_in
-    civil_fields
-    year_and_day month_and_day
+unfolding on_events on_civil row_at starts_in
 event_in_berlin = simp has_value-values_where
 
 -- nothing starts while a clock shows a time before the first year. This clock is an hour behind UTC
 before_the_years :
     map (starts_by (record { second = 0; offset = negsuc 3_599 } ∷ []) (cron_reading (codes "* * * * *"))) (0 ∷ 3_540 ∷ 3_600 ∷ []) ≡
     false ∷ false ∷ true ∷ []
-unfolding rule_reading cut_word fields_in_front cut_at decimal_number set_reading five_fields field_reading items_reading item_reading
-    side_reading value_reading step_reading week_days_of row_at starts_in civil_fields year_and_day month_and_day
+unfolding on_cron on_civil week_days_of row_at starts_in
 before_the_years = simp has_value-values_where
 
 -- nor while it shows a time after the last year. This clock is an hour ahead
 after_the_years :
     map (starts_by (record { second = 0; offset = pos 3_600 } ∷ []) (cron_reading (codes "* * * * *")))
     (32_503_676_340 ∷ 32_503_676_400 ∷ []) ≡ true ∷ false ∷ []
-unfolding rule_reading cut_word fields_in_front cut_at decimal_number set_reading five_fields field_reading items_reading item_reading
-    side_reading value_reading step_reading week_days_of row_at starts_in civil_fields year_and_day month_and_day
+unfolding on_cron on_civil week_days_of row_at starts_in
 after_the_years = simp has_value-values_where

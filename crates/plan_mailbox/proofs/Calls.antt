@@ -1,49 +1,18 @@
--- What a mailbox replies, by cases: for `send`, `take`, `close` and `is_new` of `Lanes`, and for `is_new` of `Lanes::new`.
+-- What a mailbox replies, by cases: for `take` and `is_new` of `Lanes`, and for `is_new` of `Lanes::new`.
 -- Each lemma applies what the code found to the tests of the definition. In `next-found-in` and `next-none-in` the code
 -- searched the lanes, and the definition the mailbox's lists of the same length: Lines.antt does the rest.
-use Rattle.std.proofs.Common.{◌≡◌, ℕ, zero, suc, ◌<◌, ◌≤◌, Bool, true, false, not, ◌||◌, ltb, List, [], ◌∷◌, length, map, replicate, None, Some, find, refl, subst, sym, ap, ◌∙◌, arith}
+use Rattle.std.proofs.Common.{◌≡◌, ℕ, zero, suc, Bool, true, false, not, ◌||◌, ltb, List, [], ◌∷◌, length, map, replicate, None, Some, find, refl, subst, sym, ap, ◌∙◌, arith}
 use Rattle.std.proofs.lemmas.Bool.Decides.{nat_tests}
 use Rattle.std.specs.List.{list_any, list_all, slice_get, AllPass}
 use Rattle.std.proofs.lemmas.List.{length-map, length-replicate}
-use Rattle.std.proofs.lemmas.Bool.{cond-true, cond-false, le-ltb, lt-ltb, eq-eqb, ne_eqb, or_parts, not-true}
+use Rattle.std.proofs.lemmas.Bool.{or_parts, not-true}
 use Rattle.std.proofs.lemmas.List.Elements.{All-head, All-tail}
-use Rattle.plan_mailbox.specs.declared.replies.Reply.TheVariants.{Sent, Full, Closed, NoSender, Took, Shut, AlreadyShut, Unknown}
-use Rattle.plan_mailbox.specs.Mailbox.{Mailbox, senders_of, waiting_at, is_closed_at, send_reply, close_reply, next_of, take_reply, IsNew, new_mailbox}
+use Rattle.plan_mailbox.specs.declared.replies.Reply.TheVariants.{Took}
+use Rattle.plan_mailbox.specs.Mailbox.{Mailbox, senders_of, next_of, take_reply, IsNew, new_mailbox}
 use Rattle.plan_mailbox.specs.Places.{waiting_in}
 use Rattle.plan_mailbox.specs.Turn.{in_turn, line_of}
 use Rattle.plan_mailbox.specs.Reply.{taking}
 use Rattle.plan_mailbox.proofs.Lines.{next-found, next-none}
-
--- a message is sent if nothing rejects it
-pub send_reply-sent :
-    {M : Type 0} (b : Mailbox M) (s : ℕ) (m : M) → s < senders_of b → is_closed_at b s ≡ false →
-    (length (waiting_at b s) ≡ b.room → ⊥) → send_reply b s m ≡ Sent
-send_reply-sent b s m known open' fits = cond-true _ _ _ (lt-ltb s (senders_of b) known) ∙ cond-false _ _ _ open' ∙ cond-false _ _ _
-    (ne_eqb _ _ fits)
-
--- the replies to a send that is rejected
-pub send_reply-no_sender : {M : Type 0} (b : Mailbox M) (s : ℕ) (m : M) → senders_of b ≤ s → NoSender m ≡ send_reply b s m
-send_reply-no_sender b s m past = sym (cond-false _ _ _ (le-ltb s (senders_of b) past))
-
-pub send_reply-closed :
-    {M : Type 0} (b : Mailbox M) (s : ℕ) (m : M) → s < senders_of b → is_closed_at b s ≡ true → Closed m ≡ send_reply b s m
-send_reply-closed b s m known closed = sym (cond-true _ _ _ (lt-ltb s (senders_of b) known) ∙ cond-true _ _ _ closed)
-
-pub send_reply-full :
-    {M : Type 0} (b : Mailbox M) (s : ℕ) (m : M) → s < senders_of b → is_closed_at b s ≡ false →
-    length (waiting_at b s) ≡ b.room → Full m ≡ send_reply b s m
-send_reply-full b s m known open' full = sym (cond-true _ _ _ (lt-ltb s (senders_of b) known) ∙ cond-false _ _ _ open' ∙ cond-true _ _ _
-    (eq-eqb _ _ full))
-
--- the replies to a close
-pub close_reply-unknown : {M : Type 0} (b : Mailbox M) (s : ℕ) → senders_of b ≤ s → Unknown ≡ close_reply b s
-close_reply-unknown b s past = sym (cond-false _ _ _ (le-ltb s (senders_of b) past))
-
-pub close_reply-already : {M : Type 0} (b : Mailbox M) (s : ℕ) → s < senders_of b → is_closed_at b s ≡ true → AlreadyShut ≡ close_reply b s
-close_reply-already b s known closed = sym (cond-true _ _ _ (lt-ltb s (senders_of b) known) ∙ cond-true _ _ _ closed)
-
-pub close_reply-shut : {M : Type 0} (b : Mailbox M) (s : ℕ) → s < senders_of b → is_closed_at b s ≡ false → Shut ≡ close_reply b s
-close_reply-shut b s known open' = sym (cond-true _ _ _ (lt-ltb s (senders_of b) known) ∙ cond-false _ _ _ open')
 
 -- if no mark is set, all marks are false
 pub none_closed : (marks : List Bool) → list_any (λ x. x) marks ≡ false → marks ≡ replicate (length marks) false

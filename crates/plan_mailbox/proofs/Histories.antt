@@ -1,12 +1,12 @@
 -- A history with one more event: for Steps.antt. `in_order-whole` is also for `prefix` of `takes_what_was_sent`. The
 -- longer history at any time is the shorter one at that time, or the whole. So `IsLawful-push` needs only what
 -- `IsAllowed` says of the whole. For the waiting messages, `Leaves-push` cuts what was sent after what was taken.
-use Rattle.std.proofs.Common.{◌≡◌, ℕ, ◌+◌, ◌%◌, ◌<◌, ◌≤◌, Bool, true, false, cond, ◌||◌, eqb, List, [], ◌∷◌, ◌++◌, length, take, drop, None, refl, sym, ap, ◌∙◌, inl, inr, ⊎_elim, subst, arith, add-zero, zero-add}
+use Rattle.std.proofs.Math.Bool.{or-false}
+use Rattle.std.proofs.Common.{◌≡◌, ℕ, ◌+◌, ◌%◌, ◌<◌, ◌≤◌, true, false, cond, ◌||◌, eqb, List, [], ◌∷◌, ◌++◌, length, take, drop, None, refl, sym, ap, ◌∙◌, inl, inr, ⊎_elim, subst, arith, add-zero, zero-add}
 use Rattle.std.proofs.lemmas.Bool.Decides.{nat_tests}
 use Rattle.std.specs.Prelude.{flat_map, count_by}
 use Rattle.std.specs.List.{list_any, last_or}
 use Rattle.std.proofs.lemmas.List.{append-nil, append_assoc, take_all, take-append-le, drop-append-le, drop_all, length-append, take-append-drop}
-use Rattle.std.proofs.Math.Seq.{take-nil, drop-nil}
 use Rattle.std.proofs.lemmas.List.Concat.{flat_map-append}
 use Rattle.std.proofs.lemmas.List.Folds.{list_any-append}
 use Rattle.std.proofs.lemmas.List.Sums.{sum_by-append, sum_by-cons}
@@ -20,15 +20,12 @@ use Rattle.plan_mailbox.proofs.Places.{last_or_push}
 flat_map_push : {X A : Type 0} (f : X → List A) (xs : List X) (x : X) → flat_map f (xs ++ x ∷ []) ≡ flat_map f xs ++ f x
 flat_map_push f xs x = flat_map-append f xs (x ∷ []) ∙ ap (λ r. flat_map f xs ++ r) (append-nil (f x))
 
-pub or_false : (b : Bool) → (b || false) ≡ b
-or_false b = grind (arith, nat_tests)
-
 -- what a history with one more event says about a sender
 pub was_closed-push : {M : Type 0} (h : List (Event M)) (e : Event M) (s : ℕ) → was_closed (h ++ e ∷ []) s ≡ (was_closed h s || closes s e)
-was_closed-push h e s = list_any-append (closes s) h (e ∷ []) ∙ ap (λ b. was_closed h s || b) (or_false (closes s e))
+was_closed-push h e s = list_any-append (closes s) h (e ∷ []) ∙ ap (λ b. was_closed h s || b) (or-false (closes s e))
 
 pub any_send-push : {M : Type 0} (h : List (Event M)) (e : Event M) → list_any is_send (h ++ e ∷ []) ≡ (list_any is_send h || is_send e)
-any_send-push h e = list_any-append is_send h (e ∷ []) ∙ ap (λ b. list_any is_send h || b) (or_false (is_send e))
+any_send-push h e = list_any-append is_send h (e ∷ []) ∙ ap (λ b. list_any is_send h || b) (or-false (is_send e))
 
 pub sent_of-push : {M : Type 0} (h : List (Event M)) (e : Event M) (s : ℕ) → sent_of (h ++ e ∷ []) s ≡ sent_of h s ++ sent_by s e
 sent_of-push h e s = flat_map_push (sent_by s) h e

@@ -1,7 +1,7 @@
 -- Lists by their places: for the calls of `Lanes`, which write to at most one lane, and for lemmas on histories. By
 -- induction over the list, or from the library's lemmas. `map_set_same` is used most: a write leaves a mapped list as it
 -- was if the function gives the same for the new element as for the old.
-use Rattle.std.proofs.Common.{◌≡◌, ℕ, zero, suc, ◌+◌, ◌<◌, Bool, false, cond, eqb, List, [], ◌∷◌, ◌++◌, length, get_or, set, map, replicate, drop, Option, Some, refl, subst, sym, ap, ◌∙◌, arith, add-zero, get_or-set_other}
+use Rattle.std.proofs.Common.{◌≡◌, ℕ, zero, suc, ◌+◌, ◌<◌, Bool, false, cond, eqb, List, [], ◌∷◌, ◌++◌, length, get_or, set, map, replicate, drop, Option, Some, refl, sym, ap, ◌∙◌, arith, add-zero, get_or-set_other}
 use Rattle.std.specs.List.{All, list_all, range_with_len, last_or, slice_get}
 use Rattle.std.proofs.lemmas.List.{append-nil, get_or-map, map-set, nil_from_length, set-get_or}
 use Rattle.std.proofs.lemmas.Option.{slice_get_past}
@@ -73,8 +73,3 @@ slice_get-drop (suc n) (x ∷ xs) k = let e : suc (n + k) ≡ suc n + k = omega 
 -- the elements of a list that a loop went through, when none are left
 pub all_yielded : {A : Type 0} (yielded left all : List A) → yielded ++ left ≡ all → length left ≡ 0 → yielded ≡ all
 all_yielded yielded left all e none = sym (append-nil yielded) ∙ ap (λ rest. yielded ++ rest) (sym (nil_from_length left none)) ∙ e
-
--- a fact of all elements stays, after a write of the element that was read
-pub All-set_read :
-    {A : Type 0} (P : A → Type 0) (xs : List A) (i : ℕ) (y : A) → y ≡ get_or xs i y → All P xs → All P (set xs i y)
-All-set_read P xs i y e h = subst (All P) (sym (ap (set xs i) e ∙ set-get_or xs i y)) h

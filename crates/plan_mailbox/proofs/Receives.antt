@@ -1,4 +1,4 @@
--- The receiving ends, when one of them changes: for `take_among`, and for `settle` and `try_take` of `Inlet`.
+-- The receiving ends, when one of them changes: for `take_among`, and for `settle` of `Inlet`.
 -- `receiving` maps functions over the ends. So a write to one end is a write to each of these lists, or to none if the
 -- function gives the same as before (`map_set_same`). `receiving-take` and the two others do so for all four lists.
 use Rattle.std.proofs.Common.{◌≡◌, ℕ, ◌+◌, ◌%◌, ◌<◌, ◌≤◌, List, [], ◌∷◌, ◌++◌, length, get_or, set, drop, map, true, false, inl, inr, subst, sym, ap, ◌∙◌, arith}
@@ -6,13 +6,10 @@ use Rattle.std.proofs.lemmas.List.{map-set, length-map, get_or_past, get_or-set_
 use Rattle.std.proofs.lemmas.Bool.{cases_lt}
 use Rattle.std.proofs.Math.Seq.{drop-append_seam}
 use mathlib.Core.List.{IsPrefix}
-use Rattle.rtrb.specs.Ring.{IsPair, received, known_items}
-use Rattle.rtrb.specs.declared.producer.Producer.{Producer}
-use Rattle.rtrb.specs.declared.consumer.Consumer.{Consumer}
-use Rattle.std.specs.declared.alloc.Global.{Global}
+use Rattle.rtrb.specs.Ring.{received, known_items}
 use Rattle.plan_mailbox.specs.declared.ring_end.RingEnd.{RingEnd}
 use Rattle.plan_mailbox.specs.History as history
-use Rattle.plan_mailbox.specs.Ends.{Ring, producer_ring, consumer_ring, receiving, after_settle, taken_at, known_at, is_settled_at, IsTake, IsTakeAmong, NothingKnown, ReceivingEnd}
+use Rattle.plan_mailbox.specs.Ends.{consumer_ring, receiving, after_settle, taken_at, known_at, is_settled_at, IsTake, IsTakeAmong, NothingKnown, ReceivingEnd}
 use Rattle.plan_mailbox.proofs.Places.{map_read, map_set_same}
 
 -- a list is a prefix of the list that starts with it
@@ -99,20 +96,6 @@ module _ {M : Type 0} (turn : ℕ) (ends : List (RingEnd M)) (s : ℕ) (now was 
       all_known = λ set. known-was ∙ all_known (sym settled-was ∙ set) ∙ ap (λ rest. m ∷ rest) (sym known-now);
       passed = passed;
     }
-
--- a sending end and a receiving end of one ring
-pub IsPair-from : {M P : Type 0} (p : Producer M Global P) (c : Consumer M Global P) → producer_ring p ≡ consumer_ring c → IsPair p c
-IsPair-from p c e =
-    (ap (λ (r : Ring). r.0) (sym e), ap (λ (r : Ring). r.1) (sym e), ap (λ (r : Ring). r.2) (sym e), ap (λ (r : Ring). r.3) (sym e))
-
--- ends that are seen alike, with any turn, and how many there are
-pub receiving-turn :
-    {M : Type 0} (turn : ℕ) (now was : List (RingEnd M)) → receiving 0 now ≡ receiving 0 was → receiving turn now ≡ receiving turn was
-receiving-turn {M} turn now was = ap (λ (b : ReceivingEnd M). record b { turn = turn })
-
-pub length-same : {M : Type 0} (now was : List (RingEnd M)) → receiving 0 now ≡ receiving 0 was → length now ≡ length was
-length-same {M} now was same = sym (length-map now (λ e. consumer_ring e.consumer)) ∙ ap (λ (b : ReceivingEnd M). length b.rings) same
-    ∙ length-map was (λ e. consumer_ring e.consumer)
 
 -- A take checks the senders from the turn on, and then those before the turn: for `Inlet::try_take`.
 module _ {M : Type 0} (turn senders : ℕ) (before : List (RingEnd M)) (many : senders ≡ length before) where

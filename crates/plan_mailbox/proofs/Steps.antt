@@ -1,6 +1,7 @@
 -- A mailbox that a history left, and one more step: for `in_turn`, `lawful` and `left` of `run_steps`, by way of
 -- Runs.antt. `Keeps-step` goes through the tests of the reply in their order. A rejected step records no event. For the
 -- others there is one lemma each, `Keeps-sends`, `Keeps-takes` and `Keeps-closes`, about the step's sender and all others.
+use Rattle.std.proofs.Math.Bool.{or-false}
 use Rattle.std.proofs.Common.{◌≡◌, ℕ, ◌≢◌, ◌+◌, ◌%◌, ◌<◌, ◌≤◌, Bool, true, false, cond, ◌||◌, eqb, ltb, List, [], ◌∷◌, ◌++◌, length, drop, set, get_or, replicate, Option, None, Some, refl, sym, ap, ◌∙◌, inl, inr, ⊎_elim, subst, arith}
 use Rattle.std.proofs.lemmas.Bool.Decides.{nat_tests}
 use Rattle.std.specs.List.{list_all, list_any, slice_get, range_with_len}
@@ -16,7 +17,7 @@ use Rattle.plan_mailbox.specs.Reply.{taking, reply_after}
 use Rattle.plan_mailbox.specs.Mailbox.{Mailbox, senders_of, waiting_at, is_closed_at, sending, next_of, taking_from, after_close, reply_of, after, new_mailbox, IsLeftBy}
 use Rattle.plan_mailbox.proofs.Lines.{line_of-same, first_in_line}
 use Rattle.plan_mailbox.proofs.Places.{all_by_places, get_or-set}
-use Rattle.plan_mailbox.proofs.Histories.{or_false, any_send-push, was_closed-push, Leaves-sends, Leaves-takes, Leaves-takes_other, Leaves-closes, IsLawful-nil, IsLawful-push, in_order-whole, roomy-whole, turn_of-takes, turn_of-other}
+use Rattle.plan_mailbox.proofs.Histories.{any_send-push, was_closed-push, Leaves-sends, Leaves-takes, Leaves-takes_other, Leaves-closes, IsLawful-nil, IsLawful-push, in_order-whole, roomy-whole, turn_of-takes, turn_of-other}
 
 -- the mailbox replies what the definition by histories says
 pub reply_of-left :
@@ -83,7 +84,7 @@ Keeps-sends senders room h b s m k known open' fits =
               | inl e ↦ rw e (ap (λ ws. ws ++ m ∷ []) (sym (l.waits s ∙ ap (waiting_of h) (eqb-true s t e))))
               | inr e ↦ rw e (append-nil (waiting_of h t) ∙ sym (l.waits t))
             ]);
-        closed_is = λ t. l.closed_is t ∙ sym (was_closed-push h (Sends s m) t ∙ or_false (was_closed h t));
+        closed_is = λ t. l.closed_is t ∙ sym (was_closed-push h (Sends s m) t ∙ or-false (was_closed h t));
         turn_is = l.turn_is ∙ sym (turn_of-other senders h (Sends s m) refl);
         sent_is = sym (any_send-push h (Sends s m) ∙ or_right (list_any is_send h) true refl);
       };
@@ -125,9 +126,9 @@ Keeps-takes senders room h b s m rest k known w =
               | inl e ↦ rw e (ap (drop 1) (l.waits s ∙ w) ∙ sym taken.waits ∙ ap (waiting_of (h ++ Takes s m ∷ [])) (eqb-true s t e))
               | inr e ↦ rw e (l.waits t ∙ sym (others t e).waits)
             ];
-        closed_is = λ t. l.closed_is t ∙ sym (was_closed-push h (Takes s m) t ∙ or_false (was_closed h t));
+        closed_is = λ t. l.closed_is t ∙ sym (was_closed-push h (Takes s m) t ∙ or-false (was_closed h t));
         turn_is = ap (λ n. (s + 1) % n) l.senders_stay ∙ sym (turn_of-takes senders h s m);
-        sent_is = l.sent_is ∙ sym (any_send-push h (Takes s m) ∙ or_false (list_any is_send h));
+        sent_is = l.sent_is ∙ sym (any_send-push h (Takes s m) ∙ or-false (list_any is_send h));
       };
     }
 
@@ -156,7 +157,7 @@ Keeps-closes senders room h b s k known open' =
         closed_is = λ t. get_or-set b.closed s true t false within ∙ sym
             (was_closed-push h (Closes s) t ∙ ap (λ c. c || eqb s t) (sym (l.closed_is t)) ∙ or_cond (is_closed_at b t) (eqb s t));
         turn_is = l.turn_is ∙ sym (turn_of-other senders h (Closes s) refl);
-        sent_is = l.sent_is ∙ sym (any_send-push h (Closes s) ∙ or_false (list_any is_send h));
+        sent_is = l.sent_is ∙ sym (any_send-push h (Closes s) ∙ or-false (list_any is_send h));
       };
     }
 

@@ -86,7 +86,7 @@ impl<M: Drop, L: Lane<M>> Post<M> for Lanes<M, L> {
     ghost seen = { mailbox_of };
 
     fn send(&mut self, sender: usize, message: M) -> Reply<M> {
-        let Some(lane) = self.lanes.get_mut(sender) else {
+        let Some(lane) = self.lanes.get(sender) else {
             return Reply::NoSender(message);
         };
         if lane.is_closed() {
@@ -95,7 +95,7 @@ impl<M: Drop, L: Lane<M>> Post<M> for Lanes<M, L> {
         if lane.len() == self.room {
             return Reply::Full(message);
         }
-        lane.push(message);
+        self.lanes[sender].push(message);
         self.has_sent = true;
         Reply::Sent
     }
@@ -118,13 +118,13 @@ impl<M: Drop, L: Lane<M>> Post<M> for Lanes<M, L> {
     }
 
     fn close(&mut self, sender: usize) -> Reply<M> {
-        let Some(lane) = self.lanes.get_mut(sender) else {
+        let Some(lane) = self.lanes.get(sender) else {
             return Reply::Unknown;
         };
         if lane.is_closed() {
             return Reply::AlreadyShut;
         }
-        lane.close();
+        self.lanes[sender].close();
         Reply::Shut
     }
 

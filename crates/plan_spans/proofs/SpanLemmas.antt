@@ -1,21 +1,13 @@
 -- How pairs are added.
 -- For the loop of `sum_of_pairs`. Its invariant adds the pairs that are left to the sum so far (`sum_with`): a pair goes from
 -- those to the sum (`pair_step`), and a sum that is too large stays so (`past_infinity`).
-use Rattle.std.proofs.Common.{◌≡◌, ℕ, zero, suc, ◌+◌, ◌<◌, ◌≤◌, true, false, ◌==◌, List, [], ◌∷◌, length, Option, Some, None, refl, ap, sym, arith, add_assoc, zero-add, add-zero}
+use Rattle.std.proofs.Common.{◌≡◌, ℕ, zero, suc, ◌+◌, ◌<◌, ◌≤◌, true, false, ◌==◌, List, [], ◌∷◌, length, Option, Some, None, refl, ap, sym, arith, add_assoc, add-zero}
 use Rattle.std.proofs.lemmas.Bool.{eqb-true, le-ltb, lt-ltb, true≢false}
-use Rattle.plan_spans.specs.Spans.{◌>>=◌, pair_in_front, sum_of_pairs, infinity, finite, finite_sum}
+use Rattle.plan_spans.specs.Spans.{◌>>=◌, pair_in_front, sum_of_pairs, infinity, finite}
 
 -- a sum so far with the pairs that a text consists of
 abbrev pub sum_with : ℕ → List ℕ → ℕ → Option ℕ
 sum_with before text most = sum_of_pairs text most >>= (λ sum. finite (before + sum))
-
-from_zero : (left : Option ℕ) → (left >>= (λ sum. finite (0 + sum))) ≡ (left >>= finite)
-from_zero None = refl
-from_zero (Some sum) = ap finite (zero-add sum)
-
--- before the first pair
-pub sum_with-start : (text : List ℕ) → sum_with 0 text (length text) ≡ finite_sum text
-sum_with-start text = from_zero (sum_of_pairs text (length text))
 
 add_later : (before value : ℕ) (left : Option ℕ) →
     ((left >>= (λ sum. Some (value + sum))) >>= (λ sum. finite (before + sum))) ≡ (left >>= (λ sum. finite (before + value + sum)))

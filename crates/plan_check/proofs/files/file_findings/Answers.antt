@@ -8,7 +8,7 @@ returns-clause-found c =
     let name = c.args.name.now in
     let bytes = c.args.bytes.now in
     let named : c.add_name.new.found.items ≡ name_findings c.args.kind name =
-    c.in_ok-add_name.ensures.found ∙ ap (λ before. before ++ name_findings c.args.kind name) c.new-found.ensures.items in
+    c.in_ok-add_name.ensures.found ∙ ap (λ before. before ++ name_findings c.args.kind name) c.in_ok-found.ensures.items in
     c.in_ok-add_text.ensures.found ∙ (λ i. named i ++ text_findings c.args.zones.now (c.add_name.ensures.known i) c.args.kind name bytes)
 
 pub returns-clause-known : goal.returns-clause-known

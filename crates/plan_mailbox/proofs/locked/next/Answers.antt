@@ -1,17 +1,9 @@
-use Rattle.std.proofs.Common.{◌≤◌, sym, ap, ◌∙◌, arith}
+use Rattle.std.proofs.Common.{◌≤◌, arith}
 use Rattle.std.proofs.lemmas.List.{length-map}
 use Rattle.plan_mailbox.specs.Lanes.{mailbox_of}
-use Rattle.plan_mailbox.specs.Locked.{answer_to_take}
 use Rattle.plan_mailbox.specs.Mailbox.{most_senders, senders_of}
 use Rattle.plan_mailbox.proofs.LockedReplies.{take-replies}
 use Rattle.plan_mailbox.proofs.locked.next.Goals as goal
-
-pub returns-in-Nothing : goal.returns-in-Nothing
-returns-in-Nothing g c = record {
-  reply = tt;
-  answer = ap answer_to_take (sym c.in-Nothing.is ∙ c.take.ensures.reply);
-  after = c.take.ensures.after;
-}
 
 pub returns-in_default : goal.returns-in_default
 returns-in_default g c =

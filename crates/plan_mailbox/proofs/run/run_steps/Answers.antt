@@ -1,31 +1,10 @@
 -- For `run_steps`. At the end all steps were performed, so the invariant speaks of the whole list.
-use Rattle.std.proofs.Common.{length, refl, sym, ap, ◌∙◌, append_assoc, ◌++◌, arith}
+use Rattle.std.proofs.Common.{length, sym, ap, ◌∙◌, append_assoc, ◌++◌, arith}
 use Rattle.std.proofs.lemmas.List.{length-append}
 use Rattle.std.specs.Vec.Iter.{into_iter_items}
 use Rattle.plan_mailbox.specs.Mailbox.{senders_of}
 use Rattle.plan_mailbox.proofs.Runs.{IsRun-nil, IsRun-push, IsRun-all}
 use Rattle.plan_mailbox.proofs.run.run_steps.Goals as goal
-
-pub returns-in_default-clause-refused : goal.returns-in_default-clause-refused
-returns-in_default-clause-refused g c = refl
-
-pub returns-in_default-clause-unchanged : goal.returns-in_default-clause-unchanged
-returns-in_default-clause-unchanged g c = refl
-
-pub returns-in_default-clause-as_many : goal.returns-in_default-clause-as_many
-returns-in_default-clause-as_many g c = tt
-
-pub returns-in_default-clause-in_turn : goal.returns-in_default-clause-in_turn
-returns-in_default-clause-in_turn g c = tt
-
-pub returns-in_default-clause-lawful : goal.returns-in_default-clause-lawful
-returns-in_default-clause-lawful g c = tt
-
-pub returns-in_default-clause-left : goal.returns-in_default-clause-left
-returns-in_default-clause-left g c = tt
-
-pub returns-in_default-clause-waits : goal.returns-in_default-clause-waits
-returns-in_default-clause-waits g c = tt
 
 pub loop-step-init : goal.loop-step-init
 loop-step-init g c =
@@ -63,12 +42,6 @@ loop-step-preserved g c =
           (IsRun-push (senders_of before) before.room c.loop-step.yielded c.loop-step.replies.items seen c.in-Some.step
           c.loop-step.invariant.run);
     }
-
-pub returns-clause-refused : goal.returns-clause-refused
-returns-clause-refused g c = tt
-
-pub returns-clause-unchanged : goal.returns-clause-unchanged
-returns-clause-unchanged g c = tt
 
 pub returns-clause-as_many : goal.returns-clause-as_many
 returns-clause-as_many g c =

@@ -1,6 +1,5 @@
 -- Step by step: the set has the steps up to the value, and no number between two steps is a step.
-use Rattle.std.proofs.Common.{◌≡◌, ◌+◌, ◌-◌, ◌%◌, ◌||◌, nat_eq, refl, ap, ◌∙◌, arith}
-use Rattle.std.proofs.lemmas.Bool.Decides.{nat_tests}
+use Rattle.std.proofs.Common.{◌≡◌, ◌+◌, ◌-◌, ◌%◌, ◌||◌, nat_eq, ap, ◌∙◌, arith}
 use Rattle.std.proofs.Math.Nat.{add-mod_right}
 use Rattle.plan_sets.specs.Values.{Values, has_value}
 use Rattle.plan_sets.specs.ValuesLaws.{has_value-with_value}
@@ -15,15 +14,6 @@ returns-then-last-value-clause-added c v =
     ∙ ap (λ b. nat_eq v c.loop-value.value || b) (so_far.added v)
     ∙ last_step_added a.first c.loop-value.value a.last a.step v (has_value a.values.now v) c.requires.moves so_far.from so_far.to
     (omega (arith, c.if-last-value.true)) so_far.is_step
-
-pub loop-value-init : goal.loop-value-init
-loop-value-init c = record {
-  base = refl;
-  from = omega arith;
-  to = c.requires.forwards;
-  is_step = grind (arith, nat_tests);
-  added = λ v. grind (arith, nat_tests);
-}
 
 pub loop-value-preserved : goal.loop-value-preserved
 loop-value-preserved c =

@@ -1,80 +1,15 @@
 -- For `reply` and `after` of `Lanes::take`. If a sender was found, the oldest message of its lane is first in line.
 -- `after` then rewrites the mailbox's lists by the one write to that lane, and uses `reply`. If none was found, nothing
 -- is in line, and the reply depends on whether all lanes are closed.
-use Rattle.std.proofs.Common.{◌≡◌, ◌+◌, ◌<◌, ◌≤◌, [], length, get_or, subst, ap, sym, ◌∙◌, true, false, arith}
+use Rattle.std.proofs.Common.{◌≡◌, ◌<◌, [], length, subst, ap, sym, ◌∙◌, true, false}
 use Rattle.std.specs.List.{list_all}
 use Rattle.std.proofs.lemmas.List.{map-set, length-map}
-use Rattle.std.proofs.lemmas.List.Elements.{All-set}
-use Rattle.std.proofs.lemmas.Nat.{mod_below}
 use Rattle.std.proofs.lemmas.List.Folds.{list_all-map}
 use Rattle.plan_mailbox.specs.Mailbox.{senders_of, taking_from}
 use Rattle.plan_mailbox.specs.Lanes.{mailbox_of}
-use Rattle.plan_mailbox.specs.Places.{waiting_in}
 use Rattle.plan_mailbox.proofs.Places.{map_read, map_set_same}
 use Rattle.plan_mailbox.proofs.Calls.{next-found-in, next-none-in, take_reply-found, take_reply-none}
 use Rattle.plan_mailbox.proofs.lanes.LanesPost.take.Goals as goal
-
-pub first_waiting-requires : goal.first_waiting-requires
-first_waiting-requires g c =
-    let mailbox = c.args.self.now in
-    rw c.deref.ensures.value (omega (arith, mailbox.lanes.ok, mailbox.turn_in_range))
-
-pub pop-message-requires : goal.pop-message-requires
-pop-message-requires g c =
-    let lanes = c.args.self.now.lanes in
-    let lane = c.index_mut.result.now in
-    let known : c.in-Some.sender < length lanes.items = subst (λ ls. c.in-Some.sender < length ls) c.deref.ensures.value
-    c.in-Some.ensures.known in
-    let was = map_read g.L.Lane.waiting lanes.items c.in-Some.sender lane [] known c.index_mut.ensures.value in
-    subst (λ xs. 0 < length xs) was
-    (subst (λ ls. 0 < length (waiting_in g.L.Lane.waiting ls c.in-Some.sender)) c.deref.ensures.value c.in-Some.ensures.waits)
-
-pub overflow_add-self : goal.overflow_add-self
-overflow_add-self g c =
-    let mailbox = c.args.self.now in
-    let lanes = mailbox.lanes in
-    let known : c.in-Some.sender < length lanes.items = subst (λ ls. c.in-Some.sender < length ls) c.deref.ensures.value
-    c.in-Some.ensures.known in
-    omega (arith, known, lanes.ok, mailbox.few_senders)
-
-pub nonzero_rem-self : goal.nonzero_rem-self
-nonzero_rem-self g c = omega (arith, c.len.ensures, c.args.self.now.has_senders)
-
--- A message waited, so one was sent.
-pub invariant_of-self : goal.invariant_of-self
-invariant_of-self g c =
-    let mailbox = c.args.self.now in
-    let lanes = mailbox.lanes in
-    let sender = c.in-Some.sender in
-    let lane = c.index_mut.result.now in
-    let left = c.pop-message.new.self in
-    let read = c.index_mut.ensures.value in
-    let known : c.in-Some.sender < length lanes.items = subst (λ ls. c.in-Some.sender < length ls) c.deref.ensures.value
-    c.in-Some.ensures.known in
-    let waited : length (g.L.Lane.waiting lane) ≤ mailbox.room = rw read (mailbox.fits sender lane known) in
-    let one_less = ap length c.pop-message.ensures.oldest in
-    let fits : length (g.L.Lane.waiting left) ≤ mailbox.room = omega (arith, one_less, waited) in
-    let has_sent : mailbox.has_sent ≡ false → ⊥ = λ unsent.
-    omega (
-      arith,
-      one_less,
-      ap (λ x. length (g.L.Lane.waiting x)) read,
-      g.met.L.Lane.waits_sent (get_or lanes.items sender lane),
-      mailbox.unused unsent sender lane known,
-    ) in
-    let some : 0 < c.len.result = omega (arith, c.len.ensures, mailbox.has_senders) in
-    record {
-      has_senders = mailbox.has_senders;
-      few_senders = mailbox.few_senders;
-      has_room = mailbox.has_room;
-      little_room = mailbox.little_room;
-      turn_in_range = omega (arith, mod_below (sender + 1) c.len.result some, c.len.ensures);
-      reserved = All-set (λ x. g.L.Lane.places x ≡ mailbox.room) lanes.items sender left
-          (c.pop-message.ensures.places_stay ∙ ap g.L.Lane.places read ∙ mailbox.reserved sender lane known) mailbox.reserved;
-      fits = All-set (λ x. length (g.L.Lane.waiting x) ≤ mailbox.room) lanes.items sender left fits mailbox.fits;
-      begins = λ unsent. absurd (has_sent unsent);
-      unused = λ unsent. absurd (has_sent unsent);
-    }
 
 pub returns-in-Some-clause-reply : goal.returns-in-Some-clause-reply
 returns-in-Some-clause-reply g c =
