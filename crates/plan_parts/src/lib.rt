@@ -1,0 +1,13 @@
+//! The parts of a source: the files that its text is merged from, and where each line of the text comes from.
+//!
+//! This crate depends on plan_texts alone. Read `part` and `merging` first, then `origin`.
+#![tactic(auto)]
+
+mod counting;
+mod merging;
+mod origin;
+mod part;
+
+pub use merging::merged;
+pub use origin::{Origin, origin_of};
+pub use part::Part;
