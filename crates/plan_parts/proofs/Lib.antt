@@ -1,2 +1,4 @@
 pub mod LinesLemmas
+pub mod NameLemmas
 pub mod OriginLemmas
+pub mod SpecifierLemmas

@@ -1,5 +1,5 @@
 -- The lines of texts that are merged, and how many lines a text has.
-use Rattle.std.proofs.Common.{◌≡◌, ℕ, suc, ◌+◌, ◌-◌, ◌<◌, ◌≤◌, Bool, true, false, not, cond, ◌==◌, eqb, List, [], ◌∷◌, ◌++◌, length, get_or, codes, refl, ap, sym, ◌∙◌, append_assoc, arith}
+use Rattle.std.proofs.Common.{◌≡◌, ℕ, suc, ◌+◌, ◌-◌, Bool, true, false, cond, ◌==◌, List, [], ◌∷◌, ◌++◌, length, codes, refl, ap, sym, ◌∙◌, append_assoc, arith}
 use Rattle.std.proofs.lemmas.Bool.Decides.{nat_tests}
 use Rattle.std.proofs.lemmas.List.{append-nil}
 use Rattle.std.proofs.lemmas.List.Elements.{All-nil, All-cons, All-head, All-tail}
@@ -61,6 +61,11 @@ lines_before text rest =
 no_lines : lines [] ≡ []
 unfolding lines
 no_lines = refl
+
+-- the lines of lines that are written
+pub lines_of_written : (ls : List (List ℕ)) → All HasNoNewline ls → lines (written ls) ≡ ls
+lines_of_written ls none =
+    ap lines (sym (append-nil (written ls))) ∙ lines_written ls [] none ∙ ap (λ more. ls ++ more) no_lines ∙ append-nil ls
 
 pub lines_with_newline : (text : List ℕ) → lines (with_newline text) ≡ lines text
 lines_with_newline text =

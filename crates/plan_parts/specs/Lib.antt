@@ -1,3 +1,5 @@
 pub mod Files
 pub mod Merging
 pub mod Origin
+pub mod NameParts
+pub mod Specifiers
