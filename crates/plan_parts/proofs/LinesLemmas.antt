@@ -138,7 +138,8 @@ newlines_none (b ∷ more) none =
 newlines_written : (ls : List (List ℕ)) → All HasNoNewline ls → newlines (written ls) ≡ length ls
 newlines_written [] none = refl
 newlines_written (line ∷ more) none =
-    let whole : newlines (line ++ 10 ∷ written more) ≡ newlines line + newlines (10 ∷ written more) = newlines_append line (10 ∷ written more) in
+    let whole : newlines (line ++ 10 ∷ written more) ≡ newlines line + newlines (10 ∷ written more) =
+    newlines_append line (10 ∷ written more) in
     let newline : newlines (10 ∷ written more) ≡ 1 + newlines (written more) = newlines_append (10 ∷ []) (written more) in
     let here : newlines line ≡ 0 = newlines_none line (All-head HasNoNewline line more none) in
     let rest : newlines (written more) ≡ length more = newlines_written more (All-tail HasNoNewline line more none) in
@@ -154,3 +155,40 @@ lines_counted text =
     sym (newlines_written (lines text) (none_in_lines text))
     ∙ ap newlines (written-lines text ∙ with_newline_is text)
     ∙ counted_by (ends_line text) text
+
+-- ---- a merged text ends in a newline
+
+ends_append : (xs : List ℕ) (y : ℕ) (ys : List ℕ) → ends_line (xs ++ y ∷ ys) ≡ ends_line (y ∷ ys)
+ends_append [] y ys = refl
+ends_append (x ∷ []) y ys = last_of_more x y ys
+ends_append (x ∷ next ∷ more) y ys = last_of_more x next (more ++ y ∷ ys) ∙ ends_append (next ∷ more) y ys
+
+ends_newline : (text : List ℕ) → ends_line text ≡ true → ends_line (10 ∷ text) ≡ true
+ends_newline [] ended = refl
+ends_newline (b ∷ more) ended = last_of_more 10 b more ∙ ended
+
+ended_written : (ls : List (List ℕ)) → ends_line (written ls) ≡ true
+ended_written [] = refl
+ended_written (line ∷ more) = ends_append line 10 (written more) ∙ ends_newline (written more) (ended_written more)
+
+written-append : (xs ys : List (List ℕ)) → written (xs ++ ys) ≡ written xs ++ written ys
+written-append [] ys = refl
+written-append (line ∷ more) ys =
+    ap (λ t. line ++ 10 ∷ t) (written-append more ys) ∙ sym (append_assoc line (10 ∷ written more) (written ys))
+
+added_written : (texts : List (List ℕ)) → added texts ≡ written (lines_after texts)
+added_written [] = refl
+added_written (text ∷ more) =
+    ap (λ t. between ++ t)
+    (ap (λ t. t ++ added more) (sym (written-lines text))
+    ∙ ap (λ t. written (lines text) ++ t) (added_written more)
+    ∙ sym (written-append (lines text) (lines_after more)))
+
+pub merged_ended : (texts : List (List ℕ)) → ends_line (merged texts) ≡ true
+merged_ended [] = refl
+merged_ended (text ∷ more) =
+    ap ends_line
+    (ap (λ t. t ++ added more) (sym (written-lines text))
+    ∙ ap (λ t. written (lines text) ++ t) (added_written more)
+    ∙ sym (written-append (lines text) (lines_after more)))
+    ∙ ended_written (lines text ++ lines_after more)

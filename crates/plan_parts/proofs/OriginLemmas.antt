@@ -6,7 +6,7 @@ use Rattle.std.proofs.lemmas.List.{append-nil, drop_more, drop_all, length-map}
 use Rattle.std.specs.List.{slice_get}
 use Rattle.plan_texts.specs.Lines.{lines}
 use Rattle.plan_parts.specs.declared.origin.Origin.{Origin}
-use Rattle.plan_parts.specs.Files.{File, texts_of}
+use Rattle.plan_parts.specs.Files.{FileBytes, texts_of}
 use Rattle.plan_parts.specs.Merging.{merged}
 use Rattle.plan_parts.specs.Origin.{IsAdded, after_one, line_at, line_in, origin_of}
 use Rattle.plan_parts.proofs.LinesLemmas.{lines_after, lines_merged}
@@ -103,7 +103,8 @@ same_by :
     ≡ line_in (next ∷ more) (origin_of (next ∷ more) (n - length (lines text) - 2))) →
     0 < (cond b (record { part = 0; line = n }) (after_one (origin_of (next ∷ more) (n - length (lines text) - 2)))).line →
     line_at (merged (text ∷ next ∷ more)) n
-    ≡ line_in (text ∷ next ∷ more) (cond b (record { part = 0; line = n }) (after_one (origin_of (next ∷ more) (n - length (lines text) - 2))))
+    ≡ line_in (text ∷ next ∷ more)
+    (cond b (record { part = 0; line = n }) (after_one (origin_of (next ∷ more) (n - length (lines text) - 2))))
 same_by text next more n true is rest some = line_here text (next ∷ more) n (grind (arith, nat_tests))
 same_by text next more n false is rest some =
     let m = n - length (lines text) - 2 in
@@ -171,11 +172,11 @@ abbrev pub shifted : ℕ → Origin → Origin
 shifted place origin = record { part = place + origin.part; line = origin.line }
 
 -- the line is `left` of the files from this place on
-pub record IsReached (files : List File) (line place left : ℕ) : Type 0 where
+pub record IsReached (files : List FileBytes) (line place left : ℕ) : Type 0 where
   pub same : origin_of (texts_of files) line ≡ shifted place (origin_of (texts_of (drop place files)) left)
   pub here : 0 < length files → place < length files
 
-pub reached_first : (files : List File) (line : ℕ) → IsReached files line 0 line
+pub reached_first : (files : List FileBytes) (line : ℕ) → IsReached files line 0 line
 reached_first files line =
     let o = origin_of (texts_of files) line in
     let none : 0 + o.part ≡ o.part = omega arith in
@@ -187,7 +188,9 @@ shifted_here place left o is =
     ap (shifted place) is ∙ ap (λ p. record { part = p; line = left }) none
 
 -- a line of the first text is in that text
-first_has : (text : List ℕ) (more : List (List ℕ)) (left : ℕ) → left ≤ length (lines text) → origin_of (text ∷ more) left ≡ record { part = 0; line = left }
+first_has :
+    (text : List ℕ) (more : List (List ℕ)) (left : ℕ) → left ≤ length (lines text) →
+    origin_of (text ∷ more) left ≡ record { part = 0; line = left }
 first_has text [] left fits = refl
 first_has text (next ∷ more) left fits =
     let first : nat_le left (length (lines text)) ≡ true = grind (arith, nat_tests) in
@@ -204,10 +207,10 @@ first_lacks text (next ∷ more) left some later =
 
 -- the line is in the last file
 pub reached_last :
-    (files : List File) (line place left : ℕ) → IsReached files line place left → place + 1 ≡ length files →
+    (files : List FileBytes) (line place left : ℕ) → IsReached files line place left → place + 1 ≡ length files →
     origin_of (texts_of files) line ≡ record { part = place; line = left }
 reached_last files line place left so_far last =
-    let d : File = record { path = []; bytes = [] } in
+    let d : FileBytes = record { path = []; bytes = [] } in
     let one : drop place files ≡ get_or files place d ∷ drop (place + 1) files = drop_more files place d (omega (arith, last)) in
     let none : drop (place + 1) files ≡ [] = drop_all (place + 1) files (omega (arith, last)) in
     so_far.same
@@ -216,7 +219,7 @@ reached_last files line place left so_far last =
 
 -- the line is in a file that has so many lines
 pub reached_here :
-    (files : List File) (line place left : ℕ) (d : File) → IsReached files line place left → place < length files →
+    (files : List FileBytes) (line place left : ℕ) (d : FileBytes) → IsReached files line place left → place < length files →
     left ≤ length (lines (get_or files place d).bytes) → origin_of (texts_of files) line ≡ record { part = place; line = left }
 reached_here files line place left d so_far inside fits =
     so_far.same
@@ -226,12 +229,13 @@ reached_here files line place left d so_far inside fits =
 
 -- the line is in a later file
 reached_next :
-    (files : List File) (line place left : ℕ) (d : File) → IsReached files line place left → place + 1 < length files →
+    (files : List FileBytes) (line place left : ℕ) (d : FileBytes) → IsReached files line place left → place + 1 < length files →
     length (lines (get_or files place d).bytes) < left →
     IsReached files line (place + 1) (left - length (lines (get_or files place d).bytes) - 2)
 reached_next files line place left d so_far more later =
     let rest = texts_of (drop (place + 1) files) in
-    let some : 0 < length rest = rw (length-map (drop (place + 1) files) (λ file. file.bytes), length-drop (place + 1) files) (omega (arith, more)) in
+    let some : 0 < length rest =
+    rw (length-map (drop (place + 1) files) (λ file. file.bytes), length-drop (place + 1) files) (omega (arith, more)) in
     let o = origin_of rest (left - length (lines (get_or files place d).bytes) - 2) in
     let sum : place + (o.part + 1) ≡ place + 1 + o.part = omega arith in
     record {
@@ -244,7 +248,7 @@ reached_next files line place left d so_far more later =
 
 -- the same, with the file and the numbers that the code has
 pub reached_later :
-    (files : List File) (line place left : ℕ) (file : File) (count next : ℕ) → file ≡ get_or files place file →
+    (files : List FileBytes) (line place left : ℕ) (file : FileBytes) (count next : ℕ) → file ≡ get_or files place file →
     count ≡ length (lines file.bytes) → next ≡ left - count - 2 → IsReached files line place left → place + 1 < length files →
     count < left → IsReached files line (place + 1) next
 reached_later files line place left file count next found counted later so_far more after =

@@ -3,3 +3,4 @@ pub mod Merging
 pub mod Origin
 pub mod NameParts
 pub mod Specifiers
+pub mod Parts

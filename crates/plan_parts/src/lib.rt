@@ -8,10 +8,12 @@ mod merging;
 mod name_parts;
 mod origin;
 mod part;
+mod parts;
 mod specifiers;
 
 pub use merging::merged;
 pub use name_parts::{parts_of, type_len, type_start};
 pub use origin::{Origin, origin_of};
 pub use part::Part;
+pub use parts::{Parts, UnitParts};
 pub use specifiers::expanded;

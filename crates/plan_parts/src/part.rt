@@ -20,9 +20,9 @@ pub struct Part {
 impl Model for Part {
     ghost use Rattle.std.specs.Prelude.{◌≡◌, length};
     ghost use Rattle.plan_texts.specs.Lines.{lines};
-    ghost use Rattle.plan_parts.specs.Files.{File};
+    ghost use Rattle.plan_parts.specs.Files.{FileBytes};
 
-    ghost Value = { File };
+    ghost Value = { FileBytes };
 
     ghost view = { λ part. record { path = part.path; bytes = part.bytes.items } };
 

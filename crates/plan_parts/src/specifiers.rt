@@ -33,7 +33,7 @@ pub fn expanded(alloc: Global, name: &str, text: &[u8]) -> Result<Vec<u8>, Alloc
 fn specifiers_replaced(alloc: Global, name: &str, text: &[u8]) -> Result<Vec<u8>, AllocError>
     ensures { IfOk result (λ read. read.items ≡ expanded name.now text.now) }
 {
-    if has_newline(name.as_bytes()) {
+    if has_byte(name.as_bytes(), b'\n') {
         return Vec::from_slice(alloc, text);
     }
     replaced_by_parts(alloc, name, text)
@@ -58,11 +58,11 @@ fn replaced_by_parts(alloc: Global, name: &str, text: &[u8]) -> Result<Vec<u8>, 
     )
 }
 
-// Returns whether a text contains a newline.
-fn has_newline(text: &[u8]) -> bool
-    ensures { result ≡ has_byte (byte "\n") text.now }
+// Returns whether a text contains a byte.
+pub(crate) fn has_byte(text: &[u8], mark: u8) -> bool
+    ensures { result ≡ has_byte mark text.now }
 {
-    text.iter().any(|byte| *byte == b'\n')
+    text.iter().any(|byte| *byte == mark)
 }
 
 // Returns a text with its specifiers replaced, for a name with its prefix and its instance.
@@ -76,7 +76,7 @@ fn replaced(
     ensures { IfOk result (λ read. read.items
         ≡ replaced (λ letter. text_for (specifier name.now prefix.now instance.now letter) letter) false text.now) }
 {
-    let mut read = Vec::new(alloc);
+    let mut read = Vec::with_capacity(alloc, text.len())?;
     let mut marked = false;
     for byte in text {
         if marked {
@@ -137,7 +137,7 @@ fn part_len(text: &[u8]) -> usize
 fn slashed(alloc: Global, text: &[u8]) -> Result<Vec<u8>, AllocError>
     ensures { IfOk result (λ read. read.items ≡ slashed text.now) }
 {
-    let mut read = Vec::new(alloc);
+    let mut read = Vec::with_capacity(alloc, text.len())?;
     for byte in text {
         read.push(if *byte == b'-' { b'/' } else { *byte })?;
     }
