@@ -16,9 +16,9 @@ use std::marker::Model;
 /// The parts of a source, in the order in which they are merged.
 #[derive(Debug, Drop)]
 pub enum Parts {
-    /// A file that is read unchanged.
+    /// A file that is read unchanged, such as a crontab, or a timer without drop-ins that isn't an instance.
     One(Part),
-    /// The file of a unit, and its drop-ins.
+    /// The file of a unit, and its drop-ins. A unit's name has its type, such as `.timer`.
     OfUnit(UnitParts),
 }
 
@@ -42,8 +42,8 @@ impl Model for UnitParts {
 }
 
 impl UnitParts {
-    /// Merges the file of a unit and its drop-ins, in this order. If the unit is an instance, the specifiers in the
-    /// text are replaced.
+    /// Merges the file of a unit and its drop-ins, in this order, as `merged` does. If the unit is an instance, the
+    /// specifiers in the text are replaced, as `expanded` does.
     ///
     /// # Errors
     ///
