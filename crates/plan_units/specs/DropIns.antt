@@ -8,7 +8,7 @@ use Rattle.plan_units.specs.declared.merging.Entry.{Entry}
 use Rattle.plan_units.specs.declared.paths.UnitDir.{UnitDir}
 use Rattle.plan_units.specs.Entries.{entries_among, places_of}
 use Rattle.plan_units.specs.Masks.{is_mask}
-use Rattle.plan_units.specs.UnitNames.{parts_of, type_start}
+use Rattle.plan_parts.specs.NameParts.{parts_of, type_start}
 
 -- ---- the names whose directories have drop-ins
 

@@ -4,7 +4,6 @@ pub mod UnitFile
 pub mod Masks
 pub mod Unit
 pub mod Entries
-pub mod Specifiers
 pub mod Settings
 pub mod DropIns
 pub mod Wants

@@ -7,7 +7,7 @@ use Rattle.plan_texts.specs.Text.{begins_with, words}
 use Rattle.plan_texts.specs.WholeLines.{trimmed, whole_lines}
 use Rattle.plan_tree.specs.Contents.{contents_of}
 use Rattle.plan_tree.specs.Tree.{Held}
-use Rattle.plan_units.specs.Specifiers.{expanded}
+use Rattle.plan_parts.specs.Specifiers.{expanded}
 
 -- ---- a whole line, without blanks at its ends
 

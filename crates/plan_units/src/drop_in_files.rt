@@ -5,8 +5,8 @@ ghost use Rattle.plan_units.specs.DropIns.{cuts_of, drop_in_dirs, drop_in_names,
 
 use crate::mask::is_mask;
 use crate::merging::{Entry, entries_among, places_of};
-use crate::names::{parts_of, type_len, type_start};
 use crate::paths::UnitDir;
+use plan_parts::{parts_of, type_len, type_start};
 use plan_tree::{Name, Place, Tree};
 use std::alloc::{AllocError, Global};
 

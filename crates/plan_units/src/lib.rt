@@ -11,7 +11,6 @@ mod names;
 mod paths;
 mod reach;
 mod settings;
-mod specifiers;
 mod timers;
 mod unit;
 mod wants;

@@ -6,7 +6,7 @@ ghost use Rattle.std.specs.Str.{is_utf8};
 ghost use Rattle.plan_texts.specs.WholeLines.{whole_text};
 ghost use Rattle.plan_units.specs.Settings.{inside_after, is_wanting, names_of_found, names_of_lines, names_of_setting, names_of_text, names_of_words, section_name, set_names, setting_of};
 
-use crate::specifiers::expanded;
+use plan_parts::expanded;
 use plan_texts::lines::{MOST_BYTES, is_too_large};
 use plan_texts::whole_lines::{WholeLine, trimmed, whole_lines};
 use plan_texts::words;

@@ -1,8 +1,8 @@
 -- A name is cut before and after its first `@`, and before its last `.`.
 use Rattle.std.proofs.Common.{◌≡◌, ◌<◌, ◌==◌, not, length, ap, ◌∙◌, lit<, arith}
 use Rattle.std.specs.List.{prefix_len}
-use Rattle.plan_units.proofs.NameLemmas.{boundary_after_first, boundary_before_first, boundary_before_last}
-use Rattle.plan_units.proofs.names.parts_of.Goals as goal
+use Rattle.plan_parts.proofs.NameLemmas.{boundary_after_first, boundary_before_first, boundary_before_last}
+use Rattle.plan_parts.proofs.name_parts.parts_of.Goals as goal
 
 pub range-requires-clause-end_boundary : goal.range-requires-clause-end_boundary
 range-requires-clause-end_boundary c =

@@ -1,8 +1,8 @@
 -- Specifiers in the file of an instance (systemd.unit(5), specifiers).
 use Rattle.std.specs.Prelude.{ℕ, ◌-◌, Bool, true, false, not, ◌==◌, if◌then◌else◌, List, [], ◌∷◌, ◌++◌, length, take, drop, map, Option, None, Some}
-use Rattle.std.specs.List.{suffix_len}
+use Rattle.std.specs.List.{list_any, suffix_len}
 use Rattle.std.specs.Str.{byte}
-use Rattle.plan_units.specs.UnitNames.{parts_of, type_start}
+use Rattle.plan_parts.specs.NameParts.{parts_of, type_start}
 
 -- what follows the last `-` of a text, or all of it
 abbrev pub last_part : List ℕ → List ℕ
@@ -27,9 +27,9 @@ specifier name prefix instance letter =
     None
 
 -- a `%` before another letter stays (agenda)
-abbrev pub written : Option (List ℕ) → ℕ → List ℕ
-written None letter = byte "%" ∷ letter ∷ []
-written (Some text) letter = text
+abbrev pub text_for : Option (List ℕ) → ℕ → List ℕ
+text_for None letter = byte "%" ∷ letter ∷ []
+text_for (Some text) letter = text
 
 -- a text, read from left to right, with the texts that `put` gives for letters after `%`; `marked` says whether it follows a `%`
 abbrev pub replaced : (put : ℕ → List ℕ) → (marked : Bool) → List ℕ → List ℕ
@@ -43,7 +43,13 @@ abbrev pub expanded_by : List ℕ → Option (List ℕ × List ℕ × List ℕ) 
 expanded_by name None text = text
 expanded_by name (Some parts) text =
     if length parts.1 == 0 then text else
-    replaced (λ letter. written (specifier name parts.0 parts.1 letter) letter) false text
+    replaced (λ letter. text_for (specifier name parts.0 parts.1 letter) letter) false text
 
+-- whether a text contains a byte
+abbrev pub has_byte : ℕ → List ℕ → Bool
+has_byte mark text = list_any (λ b. b == mark) text
+
+-- a text in the file of a unit with this name, with its specifiers replaced. No unit's name has a newline (systemd.unit(5)), so
+-- nothing is replaced for such a name, and no line is broken (agenda)
 abbrev pub expanded : List ℕ → List ℕ → List ℕ
-expanded name text = expanded_by name (parts_of name) text
+expanded name text = if has_byte (byte "\n") name then text else expanded_by name (parts_of name) text

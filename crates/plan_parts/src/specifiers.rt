@@ -1,16 +1,47 @@
 //! Specifiers in the file of an instance (systemd.unit(5), specifiers).
 
-ghost use Rattle.std.specs.Prelude.{◌≡◌, ◌==◌, false, IfOk, not};
+ghost use Rattle.std.specs.Prelude.{◌≡◌, ◌==◌, true, false, IfOk, map, not};
 ghost use Rattle.std.specs.List.{suffix_len};
 ghost use Rattle.std.specs.Str.{byte};
-ghost use Rattle.plan_units.specs.Specifiers.{expanded, last_part, replaced, slashed, specifier, written};
+ghost use Rattle.plan_texts.specs.Lines.{lines};
+ghost use Rattle.plan_parts.specs.Merging.{ends_line};
+ghost use Rattle.plan_parts.specs.NameParts.{parts_of};
+ghost use Rattle.plan_parts.specs.Specifiers.{expanded, expanded_by, has_byte, last_part, replaced, slashed, specifier, text_for};
 
-use crate::names::{parts_of, type_start};
+use crate::name_parts::{parts_of, type_start};
 use std::alloc::{AllocError, Global};
 
-// Returns a text of the file of a unit with this name. If the name is that of an instance, its specifiers are replaced.
-pub(crate) fn expanded(alloc: Global, name: &str, text: &[u8]) -> Result<Vec<u8>, AllocError>
+/// Returns a text of the file of a unit with this name. If the name is that of an instance, its specifiers are replaced,
+/// from left to right. Any other `%` stays.
+///
+/// Nothing is replaced for a name with a newline, which is no unit's name.
+///
+/// # Errors
+///
+/// `AllocError` if an allocation fails.
+pub fn expanded(alloc: Global, name: &str, text: &[u8]) -> Result<Vec<u8>, AllocError>
+    ensures value { IfOk result (λ read. read.items ≡ expanded name.now text.now) }
+    // The lines are those of the text, each with its specifiers replaced. So there are as many, in the same places.
+    ensures lines { ends_line text.now ≡ true → IfOk result (λ read. lines read.items ≡ map (expanded name.now) (lines text.now)) }
+    // A text without `%` stays.
+    ensures unmarked { has_byte (byte "%") text.now ≡ false → IfOk result (λ read. read.items ≡ text.now) }
+{
+    specifiers_replaced(alloc, name, text)
+}
+
+// Returns a text of the file of a unit with this name, with its specifiers replaced.
+fn specifiers_replaced(alloc: Global, name: &str, text: &[u8]) -> Result<Vec<u8>, AllocError>
     ensures { IfOk result (λ read. read.items ≡ expanded name.now text.now) }
+{
+    if has_byte(name.as_bytes(), b'\n') {
+        return Vec::from_slice(alloc, text);
+    }
+    replaced_by_parts(alloc, name, text)
+}
+
+// Returns a text of the file of a unit with this name, with its specifiers replaced, if the name is that of an instance.
+fn replaced_by_parts(alloc: Global, name: &str, text: &[u8]) -> Result<Vec<u8>, AllocError>
+    ensures { IfOk result (λ read. read.items ≡ expanded_by name.now (parts_of name.now) text.now) }
 {
     let Some((prefix, instance, _)) = parts_of(name) else {
         return Vec::from_slice(alloc, text);
@@ -27,6 +58,13 @@ pub(crate) fn expanded(alloc: Global, name: &str, text: &[u8]) -> Result<Vec<u8>
     )
 }
 
+// Returns whether a text contains a byte.
+pub(crate) fn has_byte(text: &[u8], mark: u8) -> bool
+    ensures { result ≡ has_byte mark text.now }
+{
+    text.iter().any(|byte| *byte == mark)
+}
+
 // Returns a text with its specifiers replaced, for a name with its prefix and its instance.
 fn replaced(
     alloc: Global,
@@ -36,13 +74,13 @@ fn replaced(
     text: &[u8],
 ) -> Result<Vec<u8>, AllocError>
     ensures { IfOk result (λ read. read.items
-        ≡ replaced (λ letter. written (specifier name.now prefix.now instance.now letter) letter) false text.now) }
+        ≡ replaced (λ letter. text_for (specifier name.now prefix.now instance.now letter) letter) false text.now) }
 {
-    let mut read = Vec::new(alloc);
+    let mut read = Vec::with_capacity(alloc, text.len())?;
     let mut marked = false;
     for byte in text {
         if marked {
-            let mut more = written(alloc, name, prefix, instance, *byte)?;
+            let mut more = text_for(alloc, name, prefix, instance, *byte)?;
             read.append(&mut more)?;
             marked = false;
         } else if *byte == b'%' {
@@ -58,14 +96,14 @@ fn replaced(
 }
 
 // Returns what a letter after `%` stands for. If it is no specifier, both stay.
-fn written(
+fn text_for(
     alloc: Global,
     name: &[u8],
     prefix: &[u8],
     instance: &[u8],
     letter: u8,
 ) -> Result<Vec<u8>, AllocError>
-    ensures { IfOk result (λ text. text.items ≡ written (specifier name.now prefix.now instance.now letter) letter) }
+    ensures { IfOk result (λ text. text.items ≡ text_for (specifier name.now prefix.now instance.now letter) letter) }
 {
     match letter {
         b'i' => Vec::from_slice(alloc, instance),
@@ -99,7 +137,7 @@ fn part_len(text: &[u8]) -> usize
 fn slashed(alloc: Global, text: &[u8]) -> Result<Vec<u8>, AllocError>
     ensures { IfOk result (λ read. read.items ≡ slashed text.now) }
 {
-    let mut read = Vec::new(alloc);
+    let mut read = Vec::with_capacity(alloc, text.len())?;
     for byte in text {
         read.push(if *byte == b'-' { b'/' } else { *byte })?;
     }

@@ -1,8 +1,0 @@
-use Rattle.std.proofs.Common.{◌≡◌, ◌++◌, drop, false}
-use Rattle.plan_units.specs.Specifiers.{replaced, specifier, written}
-use Rattle.plan_units.proofs.specifiers.replaced.Given as goal
-
-abbrev pub invariant-loop-byte : goal.invariant-loop-byte
-invariant-loop-byte l =
-    l.read.items ++ replaced (λ letter. written (specifier l.name l.prefix l.instance letter) letter) l.marked (drop l.byte-index l.text)
-    ≡ replaced (λ letter. written (specifier l.name l.prefix l.instance letter) letter) false l.text
