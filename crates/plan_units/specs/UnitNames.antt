@@ -1,11 +1,15 @@
 -- Names of units: PREFIX.TYPE, PREFIX@.TYPE of a template, PREFIX@INSTANCE.TYPE of an instance (systemd.unit(5)).
-use Rattle.std.specs.Prelude.{ℕ, ◌+◌, ◌-◌, not, ◌==◌, nat_lt, if◌then◌else◌, List, ◌∷◌, ◌++◌, length, take, drop, slice_range, Option, None, Some}
+use Rattle.std.specs.Prelude.{ℕ, ◌+◌, ◌-◌, Bool, false, not, ◌==◌, nat_lt, if◌then◌else◌, List, ◌∷◌, ◌++◌, length, take, drop, slice_range, Option, None, Some}
 use Rattle.std.specs.List.{prefix_len, suffix_len}
 use Rattle.std.specs.Str.{byte}
 
 -- where the type starts: at the last `.`
 abbrev pub type_start : List ℕ → ℕ
 type_start name = length name - suffix_len (λ b. not (b == byte ".")) name - 1
+
+-- what is before the type
+abbrev pub stem : List ℕ → List ℕ
+stem name = take (type_start name) name
 
 -- the parts of the name of a template or an instance: PREFIX, INSTANCE, which is empty for a template, and TYPE with its `.`.
 -- The first `@` counts, and the last `.`
@@ -14,6 +18,14 @@ parts_of name =
     let at = prefix_len (λ b. not (b == byte "@")) name in
     let end = type_start name in
     if nat_lt at end then Some (take at name, slice_range name (at + 1) end, drop end name) else None
+
+-- whether a name is that of a template, which has no INSTANCE
+abbrev pub is_template_by : Option (List ℕ × List ℕ × List ℕ) → Bool
+is_template_by None = false
+is_template_by (Some parts) = length parts.1 == 0
+
+abbrev pub is_template : List ℕ → Bool
+is_template name = is_template_by (parts_of name)
 
 -- the template of an instance; None for another name
 abbrev pub template_by : Option (List ℕ × List ℕ × List ℕ) → Option (List ℕ)

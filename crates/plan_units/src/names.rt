@@ -4,7 +4,7 @@ ghost use Rattle.std.specs.Prelude.{◌≡◌, ◌==◌, IfOk, not};
 ghost use Rattle.std.specs.List.{prefix_len, suffix_len};
 ghost use Rattle.std.specs.Option.{option_map};
 ghost use Rattle.std.specs.Str.{byte};
-ghost use Rattle.plan_units.specs.UnitNames.{named_for, parts_of, template_of, type_start};
+ghost use Rattle.plan_units.specs.UnitNames.{is_template, named_for, parts_of, stem, template_of, type_start};
 
 use plan_tree::Name;
 use std::alloc::{AllocError, Global};
@@ -31,6 +31,13 @@ pub(crate) fn type_start(name: &[u8]) -> usize
     before.saturating_sub(1)
 }
 
+/// Returns what is before the type of a name: all up to its last `.`.
+pub fn stem(name: &str) -> &str
+    ensures { result.now ≡ stem name.now }
+{
+    &name[..type_start(name.as_bytes())]
+}
+
 // Returns the parts of the name of a template or an instance: what is before the first `@`, from there to the last `.`,
 // and the rest; `None` for another name.
 pub(crate) fn parts_of(name: &str) -> Option<(&str, &str, &str)>
@@ -42,6 +49,16 @@ pub(crate) fn parts_of(name: &str) -> Option<(&str, &str, &str)>
         return None;
     }
     Some((&name[..at], &name[at + 1..end], &name[end..]))
+}
+
+/// Returns whether a name is that of a template, such as `a@.timer`.
+pub fn is_template(name: &str) -> bool
+    ensures { result ≡ is_template name.now }
+{
+    match parts_of(name) {
+        None => false,
+        Some((_, instance, _)) => instance.is_empty(),
+    }
 }
 
 // Returns the name of the template of an instance, or `None` for another name.

@@ -8,8 +8,12 @@ ghost use Rattle.plan_units.specs.Specifiers.{expanded, last_part, replaced, sla
 use crate::names::{parts_of, type_start};
 use std::alloc::{AllocError, Global};
 
-// Returns a text of the file of a unit with this name. If the name is that of an instance, its specifiers are replaced.
-pub(crate) fn expanded(alloc: Global, name: &str, text: &[u8]) -> Result<Vec<u8>, AllocError>
+/// Returns a text of the file of a unit with this name. If the name is that of an instance, its specifiers are replaced.
+///
+/// # Errors
+///
+/// `AllocError` if an allocation fails.
+pub fn expanded(alloc: Global, name: &str, text: &[u8]) -> Result<Vec<u8>, AllocError>
     ensures { IfOk result (λ read. read.items ≡ expanded name.now text.now) }
 {
     let Some((prefix, instance, _)) = parts_of(name) else {
