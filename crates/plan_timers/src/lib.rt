@@ -23,16 +23,7 @@ mod unwanted;
 mod wish;
 
 pub use accuracy::default_accuracy;
-pub use files::{FoundFiles, file_state, found_files};
-pub use links::{LinkDir, first_link, link_dirs};
-pub use names::job_name;
-pub use order::in_timer_order;
 pub use planned::{PlannedTimers, planned_timers};
 pub use skipped::{NotPlanned, Skipped, Why, WhyNot};
 pub use source::{SourceFile, TimerSource};
-pub use started::started_unit;
-pub use timer::with_timer;
-pub use timers::{TimersFound, machine_timers, timer_names};
-pub use units::Units;
-pub use unwanted::unwanted_timers;
-pub use wish::wish_of;
+pub use timers::{TimersFound, machine_timers};
