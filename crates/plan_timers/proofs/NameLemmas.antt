@@ -4,7 +4,7 @@ use Rattle.std.proofs.lemmas.Bool.{and_parts}
 use Rattle.std.proofs.lemmas.Bool.Decides.{nat_tests}
 use Rattle.std.proofs.lemmas.Str.{IsUtf8-from_ascii}
 use Rattle.std.specs.List.{ends_with, list_all}
-use Rattle.std.specs.Prelude.{◌&&◌, codes, length, nat_eq, nat_le}
+use Rattle.std.specs.Prelude.{codes, length, nat_eq, nat_le}
 use Rattle.std.specs.Str.{IsAscii, IsUtf8}
 use Rattle.plan_timers.specs.Names.{is_job_byte, is_job_name}
 

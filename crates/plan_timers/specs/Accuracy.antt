@@ -1,5 +1,5 @@
 -- The accuracy of timers that set none, in microseconds (systemd-system.conf(5), `DefaultTimerAccuracySec=`).
-use Rattle.std.specs.Prelude.{ℕ, Bool, false, if◌then◌else◌, List, [], ◌∷◌, ◌++◌, filter, Option, None, Some, codes, unwrap_or}
+use Rattle.std.specs.Prelude.{ℕ, Bool, false, if◌then◌else◌, List, [], ◌∷◌, filter, Option, None, Some, codes, unwrap_or}
 use Rattle.std.specs.List.{cons_option}
 use Rattle.std.specs.Str.{bytes_eq}
 use Rattle.plan_spans.specs.Spans.{time_span}

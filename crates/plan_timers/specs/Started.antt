@@ -1,5 +1,5 @@
 -- The unit that a timer starts (systemd.timer(5), `Unit=`), and what is wrong with it.
-use Rattle.std.specs.Prelude.{ℕ, Bool, true, false, ◌&&◌, ◌||◌, not, ◌==◌, if◌then◌else◌, List, [], ◌∷◌, ◌++◌, length, Option, None, Some, codes}
+use Rattle.std.specs.Prelude.{ℕ, Bool, false, ◌||◌, not, ◌==◌, if◌then◌else◌, List, [], ◌∷◌, ◌++◌, length, Option, None, Some, codes}
 use Rattle.std.specs.Str.{bytes_eq, is_utf8}
 use Rattle.plan_texts.specs.WholeLines.{trimmed}
 use Rattle.plan_timers.specs.declared.source.SourceFile.{SourceFile}

@@ -1,6 +1,6 @@
 //! The accuracy of timers that set none (systemd-system.conf(5), `DefaultTimerAccuracySec=`).
 
-ghost use Rattle.std.specs.Prelude.{◌≡◌, false, true, codes, IfOk, map};
+ghost use Rattle.std.specs.Prelude.{◌≡◌, false, true, IfOk, map};
 ghost use Rattle.plan_texts.specs.WholeLines.{whole_text};
 ghost use Rattle.plan_timers.specs.Accuracy.{accuracy_after_file, accuracy_after_files, accuracy_after_line, accuracy_after_lines, accuracy_after_setting, conf_dirs, conf_files, conf_paths, default_accuracy, inside_after};
 ghost use Rattle.plan_units.specs.Settings.{section_name};

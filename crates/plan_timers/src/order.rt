@@ -1,7 +1,6 @@
 //! The order of timers.
 
 ghost use Rattle.std.specs.Prelude.{◌≡◌, ◌==◌, IfOk};
-ghost use Rattle.std.specs.List.{list_any};
 ghost use Rattle.std.specs.Str.{byte};
 ghost use Rattle.plan_timers.specs.Names.{has_at, in_timer_order};
 

@@ -1,6 +1,6 @@
 //! The timers whose units can start, and why the others aren't planned (systemd.timer(5)).
 
-ghost use Rattle.std.specs.Prelude.{◌≡◌, true, codes, IfOk, None, Some};
+ghost use Rattle.std.specs.Prelude.{◌≡◌, true, IfOk};
 ghost use Rattle.plan_timers.specs.Planned.{fault_by_unit, not_planned, other_by, path_of, planned, unit_fault, why_not};
 
 use crate::skipped::{NotPlanned, WhyNot};

@@ -1,8 +1,6 @@
 //! The unit that a timer starts (systemd.timer(5), `Unit=`).
 
-ghost use Rattle.std.specs.Prelude.{◌≡◌, ◌++◌, false, true, codes, IfOk, if◌then◌else◌, None, Some, map};
-ghost use Rattle.std.specs.Option.{option_map};
-ghost use Rattle.std.specs.Str.{is_utf8};
+ghost use Rattle.std.specs.Prelude.{◌≡◌, ◌++◌, false, true, IfOk, if◌then◌else◌, None, Some, map};
 ghost use Rattle.plan_texts.specs.WholeLines.{whole_text};
 ghost use Rattle.plan_timers.specs.Started.{inside_after, named_in_files, named_in_lines, named_in_setting, service_of, started_unit, unit_in_line};
 ghost use Rattle.plan_units.specs.Settings.{section_name};

@@ -1,8 +1,6 @@
 //! One timer: its files, or why it is no source.
 
 ghost use Rattle.std.specs.Prelude.{◌≡◌, ◌++◌, true, IfOk};
-ghost use Rattle.std.specs.List.{list_any};
-ghost use Rattle.std.specs.Str.{bytes_eq};
 ghost use Rattle.plan_timers.specs.Timers.{found_view, is_alias, is_taken, timer_file, with_file, with_job, with_skipped, with_timer, with_wish};
 ghost use Rattle.plan_timers.specs.Wishes.{units_view};
 

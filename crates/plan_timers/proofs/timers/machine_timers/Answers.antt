@@ -1,5 +1,5 @@
 -- What is reached is reached from `default.target`.
-use Rattle.std.proofs.Common.{◌≡◌, subst}
+use Rattle.std.proofs.Common.{subst}
 use Rattle.std.specs.Prelude.{IfNone, IfSome}
 use Rattle.plan_units.specs.Reach.{AreReached, AreTooMany}
 use Rattle.plan_units.specs.Wants.{wants_of}
