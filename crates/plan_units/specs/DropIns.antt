@@ -1,5 +1,5 @@
 -- The drop-ins of a unit, in the order in which they are read (systemd.unit(5)).
-use Rattle.std.specs.Prelude.{ℕ, zero, suc, ◌+◌, ◌-◌, Bool, not, ◌&&◌, ◌==◌, nat_eq, nat_lt, if◌then◌else◌, List, [], ◌∷◌, ◌++◌, length, take, drop, slice_index, Option, None, Some, codes}
+use Rattle.std.specs.Prelude.{ℕ, zero, suc, ◌+◌, ◌-◌, Bool, not, ◌&&◌, ◌==◌, nat_eq, nat_lt, if◌then◌else◌, List, [], ◌∷◌, ◌++◌, length, take, drop, filter, slice_index, Option, None, Some, codes}
 use Rattle.std.specs.List.{ends_with, suffix_len}
 use Rattle.std.specs.Str.{byte}
 use Rattle.plan_tree.specs.declared.tree.Node.{Node}
@@ -57,18 +57,24 @@ type_of name = drop (length name - suffix_len (λ b. not (b == byte ".")) name) 
 -- ---- the drop-ins
 
 -- the directories NAME.d of these names, and then TYPE.d, in the directories of units (systemd.unit(5))
-abbrev pub drop_in_dirs : List UnitDir → List ℕ → List (List ℕ)
+abbrev pub drop_in_dirs : List UnitDir → List ℕ → List UnitDir
 drop_in_dirs dirs name =
     places_of dirs (drop_in_names name) (codes ".d") ++ places_of dirs (type_of name ∷ []) (codes ".d")
 
--- the entries that are read: those whose names end with `.conf`, but for masks (systemd.unit(5))
-abbrev pub is_read : (List ℕ → Node) → Entry → Bool
-is_read node entry = ends_with nat_eq entry.name (codes ".conf") && not (is_mask node entry.path)
+-- the names of drop-ins end with `.conf` (systemd.unit(5))
+abbrev pub is_drop_in : Entry → Bool
+is_drop_in entry = ends_with nat_eq entry.name (codes ".conf")
 
+-- the drop-ins of a unit, in the order of their names, with masks (systemd.unit(5))
+abbrev pub drop_in_entries : Held → List UnitDir → List ℕ → List Entry
+drop_in_entries held dirs name = filter is_drop_in (entries_among held (drop_in_dirs dirs name))
+
+-- the entries that are read: all but masks (systemd.unit(5))
 abbrev pub read_entries : (List ℕ → Node) → List Entry → List Entry
 read_entries node [] = []
-read_entries node (entry ∷ more) = if is_read node entry then entry ∷ read_entries node more else read_entries node more
+read_entries node (entry ∷ more) =
+    if is_mask node entry.real then read_entries node more else entry ∷ read_entries node more
 
--- the drop-ins of a unit, in the order of their names
+-- the drop-ins of a unit that are read, in the order of their names
 abbrev pub drop_ins : Held → List UnitDir → List ℕ → List Entry
-drop_ins held dirs name = read_entries held.node (entries_among held (drop_in_dirs dirs name))
+drop_ins held dirs name = read_entries held.node (drop_in_entries held dirs name)

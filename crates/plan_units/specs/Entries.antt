@@ -35,27 +35,32 @@ with_entry found entry =
     insert found (prefix_len (λ other. is_before other.name entry.name) found) entry
 
 -- entries, and those of more names in a directory
-abbrev pub with_names : List Entry → List ℕ → List (List ℕ) → List Entry
+abbrev pub with_names : List Entry → UnitDir → List (List ℕ) → List Entry
 with_names found dir [] = found
-with_names found dir (name ∷ more) = with_names (with_entry found (record { path = child dir name; name = name })) dir more
+with_names found dir (name ∷ more) =
+    with_names (with_entry found (record { path = child dir.path name; real = child dir.real name; name = name })) dir more
 
 -- entries, and those of more directories
-abbrev pub with_dirs : Held → List Entry → List (List ℕ) → List Entry
+abbrev pub with_dirs : Held → List Entry → List UnitDir → List Entry
 with_dirs held found [] = found
-with_dirs held found (dir ∷ more) = with_dirs held (with_names found dir (names_at held dir)) more
+with_dirs held found (dir ∷ more) = with_dirs held (with_names found dir (names_at held dir.real)) more
 
 -- the entries of some directories
-abbrev pub entries_among : Held → List (List ℕ) → List Entry
+abbrev pub entries_among : Held → List UnitDir → List Entry
 entries_among held dirs = with_dirs held [] dirs
 
 -- ---- the directories of names
 
+-- a directory in a directory of units
+abbrev pub dir_in : UnitDir → List ℕ → UnitDir
+dir_in dir name = record { path = child dir.path name; real = child dir.real name }
+
 -- the directories of some names and a suffix in a directory of units
-abbrev pub places_in : List ℕ → List (List ℕ) → List ℕ → List (List ℕ)
+abbrev pub places_in : UnitDir → List (List ℕ) → List ℕ → List UnitDir
 places_in dir [] suffix = []
-places_in dir (name ∷ more) suffix = child dir (name ++ suffix) ∷ places_in dir more suffix
+places_in dir (name ∷ more) suffix = dir_in dir (name ++ suffix) ∷ places_in dir more suffix
 
 -- the same in each directory of units, first to last
-abbrev pub places_of : List UnitDir → List (List ℕ) → List ℕ → List (List ℕ)
+abbrev pub places_of : List UnitDir → List (List ℕ) → List ℕ → List UnitDir
 places_of [] names suffix = []
-places_of (dir ∷ more) names suffix = places_in dir.real names suffix ++ places_of more names suffix
+places_of (dir ∷ more) names suffix = places_in dir names suffix ++ places_of more names suffix

@@ -9,7 +9,7 @@ use Rattle.plan_tree.specs.Place.{child, names_of, parent, start}
 use Rattle.plan_units.specs.declared.file.UnitFile.{UnitFile}
 use Rattle.plan_units.specs.declared.paths.UnitDir.{UnitDir}
 use Rattle.plan_units.specs.SearchPath.{unit_paths}
-use Rattle.plan_units.specs.UnitNames.{named_for, template_of}
+use Rattle.plan_units.specs.UnitNames.{is_template, named_for, template_of}
 
 -- ---- where a link leads by its names alone
 
@@ -72,5 +72,8 @@ abbrev pub file_of_template : (List ℕ → Node) → List UnitDir → Option (L
 file_of_template node dirs None = None
 file_of_template node dirs (Some template) = file_of_name node dirs template
 
+-- a template is no unit itself, so no file counts for its name
 abbrev pub file_of_unit : (List ℕ → Node) → List UnitDir → List ℕ → Option UnitFile
-file_of_unit node dirs name = or_next (file_of_name node dirs name) (file_of_template node dirs (template_of name))
+file_of_unit node dirs name =
+    if is_template name then None else
+    or_next (file_of_name node dirs name) (file_of_template node dirs (template_of name))

@@ -1,7 +1,19 @@
 -- Names of units: PREFIX.TYPE, PREFIX@.TYPE of a template, PREFIX@INSTANCE.TYPE of an instance (systemd.unit(5)).
-use Rattle.std.specs.Prelude.{ℕ, ◌==◌, if◌then◌else◌, List, ◌∷◌, ◌++◌, length, Option, None, Some}
+use Rattle.std.specs.Prelude.{ℕ, Bool, false, ◌==◌, if◌then◌else◌, List, ◌∷◌, ◌++◌, length, take, Option, None, Some}
 use Rattle.std.specs.Str.{byte}
-use Rattle.plan_parts.specs.NameParts.{parts_of}
+use Rattle.plan_parts.specs.NameParts.{parts_of, type_start}
+
+-- what is before the type
+abbrev pub stem : List ℕ → List ℕ
+stem name = take (type_start name) name
+
+-- whether a name is that of a template, which has no INSTANCE
+abbrev pub is_template_by : Option (List ℕ × List ℕ × List ℕ) → Bool
+is_template_by None = false
+is_template_by (Some parts) = length parts.1 == 0
+
+abbrev pub is_template : List ℕ → Bool
+is_template name = is_template_by (parts_of name)
 
 -- the template of an instance; None for another name
 abbrev pub template_by : Option (List ℕ × List ℕ × List ℕ) → Option (List ℕ)

@@ -27,7 +27,7 @@ is_counted node path = is_link (node path) && not (is_mask node path)
 abbrev pub counted_names : (List ℕ → Node) → List Entry → List (List ℕ)
 counted_names node [] = []
 counted_names node (entry ∷ more) =
-    if is_counted node entry.path then entry.name ∷ counted_names node more else counted_names node more
+    if is_counted node entry.real then entry.name ∷ counted_names node more else counted_names node more
 
 -- a name and, for an instance, that of its template
 abbrev pub with_template : List ℕ → Option (List ℕ) → List (List ℕ)
@@ -44,7 +44,7 @@ linked_names held dirs name suffix =
 -- the names that some files of a unit write
 abbrev pub set_in : Held → List ℕ → List Entry → List (List ℕ)
 set_in held unit [] = []
-set_in held unit (entry ∷ more) = set_names held unit entry.path ++ set_in held unit more
+set_in held unit (entry ∷ more) = set_names held unit entry.real ++ set_in held unit more
 
 -- the names that a unit's file and its drop-ins write
 abbrev pub set_by_unit : Held → List UnitDir → Unit → List (List ℕ)
@@ -52,15 +52,17 @@ set_by_unit held dirs unit = set_names held unit.name unit.file.real ++ set_in h
 
 -- ---- all
 
--- what a name wants: the unit that it is, what is linked in the directories of the name, and what the files of its
--- unit name. A name without a unit wants nothing, and a masked unit neither
+-- what the unit of a name wants: what is linked in the directories of the name, and what the files of the unit name. A
+-- masked unit wants nothing
+abbrev pub wants_of_unit : Held → List UnitDir → List ℕ → Unit → List (List ℕ)
+wants_of_unit held dirs name unit =
+    if is_mask held.node unit.file.real then [] else
+    linked_names held dirs name (codes ".wants") ++ linked_names held dirs name (codes ".requires") ++ set_by_unit held dirs unit
+
+-- what a name wants: the unit that it is, and what that wants. A name without a unit wants nothing
 abbrev pub wants_by : Held → List UnitDir → List ℕ → Option Unit → List (List ℕ)
 wants_by held dirs name None = []
-wants_by held dirs name (Some unit) =
-    if is_mask held.node unit.file.real then [] else
-    unit.name
-    ∷ linked_names held dirs name (codes ".wants")
-    ++ (linked_names held dirs name (codes ".requires") ++ set_by_unit held dirs unit)
+wants_by held dirs name (Some unit) = unit.name ∷ wants_of_unit held dirs name unit
 
 abbrev pub wants_of : Held → List UnitDir → List ℕ → List (List ℕ)
 wants_of held dirs name = wants_by held dirs name (unit_of held.node dirs name)

@@ -1,19 +1,16 @@
 //! The drop-ins of a unit (systemd.unit(5)).
 
-ghost use Rattle.std.specs.Prelude.{◌≡◌, ◌∷◌, ◌++◌, true, IfOk, OnOk, map};
-ghost use Rattle.plan_units.specs.DropIns.{cuts_of, drop_in_dirs, drop_in_names, drop_ins, is_read, names_at, names_of_instance, read_entries, type_of, with_end};
+ghost use Rattle.std.specs.Prelude.{◌≡◌, ◌∷◌, ◌++◌, true, IfOk, OnOk, filter, map};
+ghost use Rattle.plan_units.specs.DropIns.{cuts_of, drop_in_dirs, drop_in_entries, drop_in_names, drop_ins, is_drop_in, names_at, names_of_instance, read_entries, type_of, with_end};
 
 use crate::mask::is_mask;
 use crate::merging::{Entry, entries_among, places_of};
 use crate::paths::UnitDir;
 use plan_parts::{parts_of, type_len, type_start};
-use plan_tree::{Name, Place, Tree};
+use plan_tree::{Name, Tree};
 use std::alloc::{AllocError, Global};
 
-/// Returns the drop-ins of a unit in the order in which they are read: that of their names.
-///
-/// They are the entries `*.conf` of the directories `NAME.d`, by the unit's name, its template's and shorter names, and of
-/// `TYPE.d`. Of entries that have the same name the first counts. A mask isn't read.
+/// Returns the drop-ins of a unit that are read, in the order of their names: all but masks.
 ///
 /// # Errors
 ///
@@ -27,12 +24,49 @@ pub fn drop_ins<T: Tree>(
     ensures { T.is_known ≡ true → IfOk result (λ found.
         found.items ≡ drop_ins (T.held tree.now) dirs.now name.now) }
 {
-    let places = drop_in_dirs(alloc, dirs, name)?;
-    let found = entries_among(alloc, tree, places.as_slice())?;
+    let found = drop_in_entries(alloc, tree, dirs, name)?;
     read_entries(alloc, tree, found)
 }
 
-// Returns the entries that are read.
+/// Returns the drop-ins of a unit in the order of their names, with masks.
+///
+/// They are the entries `*.conf` of the directories `NAME.d`, by the unit's name, its template's and shorter names, and of
+/// `TYPE.d`. Of entries that have the same name the first counts.
+///
+/// # Errors
+///
+/// `AllocError` if an allocation fails.
+pub fn drop_in_entries<T: Tree>(
+    alloc: Global,
+    tree: &T,
+    dirs: &[UnitDir],
+    name: &str,
+) -> Result<Vec<Entry>, AllocError>
+    ensures { T.is_known ≡ true → IfOk result (λ found.
+        found.items ≡ drop_in_entries (T.held tree.now) dirs.now name.now) }
+{
+    let places = drop_in_dirs(alloc, dirs, name)?;
+    let found = entries_among(alloc, tree, places.as_slice())?;
+    Ok(drop_ins_among(found))
+}
+
+/// Returns the entries that are drop-ins by their names: those whose names end with `.conf`.
+pub fn drop_ins_among(found: Vec<Entry>) -> Vec<Entry>
+    ensures { result.items ≡ filter is_drop_in found.items }
+{
+    let mut found = found;
+    found.retain(|entry| is_drop_in(entry));
+    found
+}
+
+// Returns whether an entry is a drop-in by its name.
+fn is_drop_in(entry: &Entry) -> bool
+    ensures { result ≡ is_drop_in entry.now }
+{
+    entry.name.as_str().as_bytes().ends_with(b".conf")
+}
+
+// Returns the entries that are no masks.
 fn read_entries<T: Tree>(
     alloc: Global,
     tree: &T,
@@ -43,25 +77,15 @@ fn read_entries<T: Tree>(
 {
     let mut read = Vec::new(alloc);
     for entry in found {
-        if is_read(alloc, tree, &entry)? {
+        if !is_mask(alloc, tree, entry.real.as_str())? {
             read.push(entry)?;
         }
     }
     Ok(read)
 }
 
-// Returns whether an entry is read.
-fn is_read<T: Tree>(alloc: Global, tree: &T, entry: &Entry) -> Result<bool, AllocError>
-    ensures { T.is_known ≡ true → IfOk result (λ is. is ≡ is_read (T.held tree.now).node entry.now) }
-{
-    if !entry.name.as_str().as_bytes().ends_with(b".conf") {
-        return Ok(false);
-    }
-    Ok(!is_mask(alloc, tree, entry.path.as_str())?)
-}
-
 // Returns the directories of a unit's drop-ins, first to last.
-fn drop_in_dirs(alloc: Global, dirs: &[UnitDir], name: &str) -> Result<Vec<Place>, AllocError>
+fn drop_in_dirs(alloc: Global, dirs: &[UnitDir], name: &str) -> Result<Vec<UnitDir>, AllocError>
     ensures { IfOk result (λ places. places.items ≡ drop_in_dirs dirs.now name.now) }
 {
     let names = drop_in_names(alloc, name)?;

@@ -6,7 +6,7 @@ ghost use Rattle.std.specs.Str.{byte};
 ghost use Rattle.plan_tree.specs.Place.{child, start};
 ghost use Rattle.plan_units.specs.UnitFile.{file_by, file_by_lead, file_of_name, file_of_unit, is_below, is_unit_path, last_name, lead, lead_from};
 
-use crate::names::{named_for, template_of};
+use crate::names::{is_template, named_for, template_of};
 use crate::paths::{UnitDir, unit_paths};
 use plan_texts::begins_with;
 use plan_tree::{Name, Node, Place, Tree, is_here, is_up, names_of};
@@ -23,7 +23,8 @@ pub struct UnitFile {
     pub alias: Option<Name>,
 }
 
-/// Returns the file of a unit's name: that of the name itself, or else of its template.
+/// Returns the file of a unit's name: that of the name itself, or else of its template. The name of a template is not that
+/// of a unit, so it has none.
 ///
 /// # Errors
 ///
@@ -37,6 +38,9 @@ pub fn file_of_unit<T: Tree>(
     ensures { T.is_known ≡ true → IfOk result (λ file.
         file ≡ file_of_unit (T.held tree.now).node dirs.now name.now) }
 {
+    if is_template(name) {
+        return Ok(None);
+    }
     if let Some(file) = file_of_name(alloc, tree, dirs, name)? {
         return Ok(Some(file));
     }
@@ -166,8 +170,8 @@ fn is_below(alloc: Global, path: &str, dir: &str) -> Result<bool, AllocError>
     Ok(path.as_bytes().starts_with(front.as_str().as_bytes()) && dir.len() + 1 < path.len())
 }
 
-// Returns the last name of a path.
-fn last_name(path: &str) -> &str
+/// Returns the last name of a path.
+pub fn last_name(path: &str) -> &str
     ensures { result.now ≡ last_name path.now }
 {
     let start = path.len().saturating_sub(last_name_len(path.as_bytes()));

@@ -13,8 +13,10 @@ use std::alloc::{AllocError, Global};
 /// An entry of a directory.
 #[derive(Debug, Drop)]
 pub struct Entry {
-    /// Its path, in which no directory is a link.
+    /// Its path.
     pub path: Place,
+    /// The path that it is read by: its directory is no link.
+    pub real: Place,
     /// Its name.
     pub name: Name,
 }
@@ -28,21 +30,25 @@ pub struct Entry {
 pub fn entries_among<T: Tree>(
     alloc: Global,
     tree: &T,
-    dirs: &[Place],
+    dirs: &[UnitDir],
 ) -> Result<Vec<Entry>, AllocError>
     ensures { T.is_known ≡ true → IfOk result (λ found.
         found.items ≡ entries_among (T.held tree.now) dirs.now) }
 {
     let mut found = Vec::new(alloc);
     for dir in dirs {
-        let names = names_at(alloc, tree, dir.as_str())?;
+        let names = names_at(alloc, tree, dir.real.as_str())?;
         add_names(alloc, &mut found, dir, names)?;
     }
     Ok(found)
 }
 
-// Returns the names in a directory that is no link.
-fn names_at<T: Tree>(alloc: Global, tree: &T, dir: &str) -> Result<Vec<Name>, AllocError>
+/// Returns the names in a directory, in order. One that is a link isn't read.
+///
+/// # Errors
+///
+/// `AllocError` if an allocation fails.
+pub fn names_at<T: Tree>(alloc: Global, tree: &T, dir: &str) -> Result<Vec<Name>, AllocError>
     ensures { T.is_known ≡ true → IfOk result (λ names. names.items ≡ names_at (T.held tree.now) dir.now) }
 {
     match tree.node(alloc, dir)? {
@@ -58,14 +64,15 @@ fn names_at<T: Tree>(alloc: Global, tree: &T, dir: &str) -> Result<Vec<Name>, Al
 fn add_names(
     alloc: Global,
     found: &mut Vec<Entry>,
-    dir: &Place,
+    dir: &UnitDir,
     names: Vec<Name>,
 ) -> Result<(), AllocError>
     ensures { OnOk result (found.new.items ≡ with_names found.old.items dir.now names.items) }
 {
     for name in names {
-        let path = dir.child(alloc, name.as_str())?;
-        add_entry(found, Entry { path, name })?;
+        let path = dir.path.child(alloc, name.as_str())?;
+        let real = dir.real.child(alloc, name.as_str())?;
+        add_entry(found, Entry { path, real, name })?;
     }
     Ok(())
 }
@@ -102,12 +109,12 @@ pub(crate) fn places_of(
     dirs: &[UnitDir],
     names: &[Name],
     suffix: &str,
-) -> Result<Vec<Place>, AllocError>
+) -> Result<Vec<UnitDir>, AllocError>
     ensures { IfOk result (λ places. places.items ≡ places_of dirs.now names.now suffix.now) }
 {
     let mut places = Vec::new(alloc);
     for dir in dirs {
-        let mut more = places_in(alloc, &dir.real, names, suffix)?;
+        let mut more = places_in(alloc, dir, names, suffix)?;
         places.append(&mut more)?;
     }
     Ok(places)
@@ -116,10 +123,10 @@ pub(crate) fn places_of(
 // Returns the directories of some names and a suffix in a directory.
 fn places_in(
     alloc: Global,
-    dir: &Place,
+    dir: &UnitDir,
     names: &[Name],
     suffix: &str,
-) -> Result<Vec<Place>, AllocError>
+) -> Result<Vec<UnitDir>, AllocError>
     ensures { IfOk result (λ places. places.items ≡ places_in dir.now names.now suffix.now) }
 {
     let mut places = Vec::new(alloc);

@@ -1,11 +1,28 @@
 //! Names of units, templates and instances (systemd.unit(5)).
 
 ghost use Rattle.std.specs.Prelude.{◌≡◌, IfOk};
-ghost use Rattle.plan_units.specs.UnitNames.{named_for, template_of};
+ghost use Rattle.plan_units.specs.UnitNames.{is_template, named_for, stem, template_of};
 
-use plan_parts::parts_of;
+use plan_parts::{parts_of, type_start};
 use plan_tree::Name;
 use std::alloc::{AllocError, Global};
+
+/// Returns what is before the type of a name: all up to its last `.`.
+pub fn stem(name: &str) -> &str
+    ensures { result.now ≡ stem name.now }
+{
+    &name[..type_start(name.as_bytes())]
+}
+
+/// Returns whether a name is that of a template, such as `a@.timer`.
+pub fn is_template(name: &str) -> bool
+    ensures { result ≡ is_template name.now }
+{
+    match parts_of(name) {
+        None => false,
+        Some((_, instance, _)) => instance.is_empty(),
+    }
+}
 
 // Returns the name of the template of an instance, or `None` for another name.
 pub(crate) fn template_of(alloc: Global, name: &str) -> Result<Option<Name>, AllocError>

@@ -9,13 +9,31 @@ ghost use Rattle.plan_units.specs.SearchPath.{dir_by, search_path, unit_paths, w
 use plan_tree::{End, Node, Place, Tree, follow};
 use std::alloc::{AllocError, Global};
 
-/// A directory of the search path of units.
+/// A directory of units, or a directory in one.
 #[derive(Debug, Drop)]
 pub struct UnitDir {
     /// Its path.
     pub path: Place,
-    /// Where that leads.
+    /// The path that it is read by: for a directory of the search path, where its path leads.
     pub real: Place,
+}
+
+impl UnitDir {
+    ghost use Rattle.plan_units.specs.Entries.{dir_in};
+
+    /// Returns the directory of a name in this directory.
+    ///
+    /// # Errors
+    ///
+    /// `AllocError` if an allocation fails.
+    pub fn child(&self, alloc: Global, name: &str) -> Result<UnitDir, AllocError>
+        ensures { IfOk result (λ dir. dir ≡ dir_in self.now name.now) }
+    {
+        Ok(UnitDir {
+            path: self.path.child(alloc, name)?,
+            real: self.real.child(alloc, name)?,
+        })
+    }
 }
 
 // Returns the paths of the directories of units, first to last.
@@ -58,8 +76,12 @@ pub fn search_path<T: Tree>(alloc: Global, tree: &T) -> Result<Vec<UnitDir>, All
     Ok(dirs)
 }
 
-// Returns the directory of units where a path leads, if it leads to a directory.
-fn dir_at<T: Tree>(alloc: Global, tree: &T, path: &str) -> Result<Option<UnitDir>, AllocError>
+/// Returns the directory where a path leads, if it leads to one.
+///
+/// # Errors
+///
+/// `AllocError` if an allocation fails.
+pub fn dir_at<T: Tree>(alloc: Global, tree: &T, path: &str) -> Result<Option<UnitDir>, AllocError>
     ensures { T.is_known ≡ true → IfOk result (λ dir.
         dir ≡ dir_by (T.held tree.now).node path.now (end_of (T.held tree.now).node path.now)) }
 {

@@ -55,8 +55,12 @@ pub fn reached<W: Wants>(
     }
 }
 
-// Adds the names that aren't found yet.
-fn add_new(found: &mut Vec<Name>, names: Vec<Name>) -> Result<(), AllocError>
+/// Adds the names that aren't found yet.
+///
+/// # Errors
+///
+/// `AllocError` if an allocation fails.
+pub fn add_new(found: &mut Vec<Name>, names: Vec<Name>) -> Result<(), AllocError>
     ensures { OnOk result (found.new.items ≡ with_new found.old.items names.items) }
 {
     for name in names {

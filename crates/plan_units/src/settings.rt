@@ -84,9 +84,9 @@ fn inside_after(inside: bool, text: &[u8]) -> bool
     }
 }
 
-// Returns the name of the section, if the line begins one.
+/// Returns the name of the section, if the line begins one (systemd.syntax(7)). The line has no blanks at its ends.
 #[tactic(auto, unfolding(crate::specs::Settings::section_name))]
-fn section_name(text: &[u8]) -> Option<&[u8]>
+pub fn section_name(text: &[u8]) -> Option<&[u8]>
     ensures { option_map (λ name. name.now) result ≡ section_name text.now }
 {
     match text {
@@ -95,9 +95,10 @@ fn section_name(text: &[u8]) -> Option<&[u8]>
     }
 }
 
-// Returns the key and the value of the setting on a line, without blanks at their ends.
+/// Returns the key and the value of the setting on a line, without blanks at their ends (systemd.syntax(7)). Returns `None`
+/// if the line has no `=`.
 #[tactic(auto, unfolding(crate::specs::Settings::setting_of))]
-fn setting_of(text: &str) -> Option<(&str, &str)>
+pub fn setting_of(text: &str) -> Option<(&str, &str)>
     ensures { option_map (λ setting. (setting.0.now, setting.1.now)) result ≡ setting_of text.now }
 {
     let (key, value) = text.split_once('=')?;

@@ -43,8 +43,8 @@ fn timers_among(names: Vec<Name>) -> Vec<Name>
     names
 }
 
-// Returns whether a name is that of a timer.
-fn is_timer(name: &Name) -> bool
+/// Returns whether a name is that of a timer.
+pub fn is_timer(name: &Name) -> bool
     ensures { result ≡ is_timer name.now }
 {
     name.as_str().as_bytes().ends_with(b".timer")

@@ -2,7 +2,7 @@
 
 ghost use Rattle.std.specs.Prelude.{◌≡◌, ◌++◌, true, IfOk, IfNone, IfSome, OnOk, if◌then◌else◌, ◌∷◌, []};
 ghost use Rattle.plan_units.specs.Reach.{AreReached, AreTooMany};
-ghost use Rattle.plan_units.specs.Wants.{counted_names, is_counted, linked_names, set_by_unit, set_in, wants_of, with_template};
+ghost use Rattle.plan_units.specs.Wants.{counted_names, is_counted, linked_names, set_by_unit, set_in, wants_of, wants_of_unit, with_template};
 ghost use Rattle.plan_units.specs.UnitNames.{template_of};
 
 use crate::drop_in_files::drop_ins;
@@ -57,7 +57,7 @@ pub fn reached_units<T: Tree>(
 }
 
 /// Returns the names that a name wants: the unit that it is, the units that are linked in the directories of the name, and
-/// those that the files of its unit name. A name without a unit wants none, and a masked unit neither.
+/// those that the files of its unit name. A name without a unit wants none, and of a masked unit only the unit is reached.
 ///
 /// # Errors
 ///
@@ -75,21 +75,40 @@ pub fn wanted_names<T: Tree>(
     let Some(unit) = unit_of(alloc, tree, dirs, name)? else {
         return Ok(names);
     };
-    if is_mask(alloc, tree, unit.file.real.as_str())? {
-        return Ok(names);
-    }
-    let mut wanted = linked_names(alloc, tree, dirs, name, ".wants")?;
-    let mut required = linked_names(alloc, tree, dirs, name, ".requires")?;
-    let mut set = set_by_unit(alloc, tree, dirs, &unit)?;
+    let mut wanted = wants_of_unit(alloc, tree, dirs, name, &unit)?;
     names.push(unit.name)?;
     names.append(&mut wanted)?;
+    Ok(names)
+}
+
+// Returns the names that the unit of a name wants.
+fn wants_of_unit<T: Tree>(
+    alloc: Global,
+    tree: &T,
+    dirs: &[UnitDir],
+    name: &str,
+    unit: &Unit,
+) -> Result<Vec<Name>, AllocError>
+    ensures { T.is_known ≡ true → IfOk result (λ names.
+        names.items ≡ wants_of_unit (T.held tree.now) dirs.now name.now unit.now) }
+{
+    if is_mask(alloc, tree, unit.file.real.as_str())? {
+        return Ok(Vec::new(alloc));
+    }
+    let mut names = linked_names(alloc, tree, dirs, name, ".wants")?;
+    let mut required = linked_names(alloc, tree, dirs, name, ".requires")?;
+    let mut set = set_by_unit(alloc, tree, dirs, unit)?;
     names.append(&mut required)?;
     names.append(&mut set)?;
     Ok(names)
 }
 
-// Returns the names that a unit's file and its drop-ins write.
-fn set_by_unit<T: Tree>(
+/// Returns the names that a unit's file and its drop-ins write in settings such as `Wants=`.
+///
+/// # Errors
+///
+/// `AllocError` if an allocation fails.
+pub fn set_by_unit<T: Tree>(
     alloc: Global,
     tree: &T,
     dirs: &[UnitDir],
@@ -118,7 +137,7 @@ fn set_in<T: Tree>(
 {
     let mut names = Vec::new(alloc);
     for file in files {
-        let mut more = set_names(alloc, tree, unit, file.path.as_str())?;
+        let mut more = set_names(alloc, tree, unit, file.real.as_str())?;
         names.append(&mut more)?;
     }
     Ok(names)
@@ -164,15 +183,19 @@ fn counted_names<T: Tree>(
 {
     let mut names = Vec::new(alloc);
     for entry in found {
-        if is_counted(alloc, tree, entry.path.as_str())? {
+        if is_counted(alloc, tree, entry.real.as_str())? {
             names.push(entry.name)?;
         }
     }
     Ok(names)
 }
 
-// Returns whether an entry with this path counts.
-fn is_counted<T: Tree>(alloc: Global, tree: &T, path: &str) -> Result<bool, AllocError>
+/// Returns whether what has a path counts as a link to a unit: it is a link, and leads to no mask.
+///
+/// # Errors
+///
+/// `AllocError` if an allocation fails.
+pub fn is_counted<T: Tree>(alloc: Global, tree: &T, path: &str) -> Result<bool, AllocError>
     ensures { T.is_known ≡ true → IfOk result (λ is. is ≡ is_counted (T.held tree.now).node path.now) }
 {
     match tree.node(alloc, path)? {

@@ -1,0 +1,11 @@
+pub mod Names
+pub mod Source
+pub mod Links
+pub mod Wishes
+pub mod Unwanted
+pub mod Files
+pub mod Timers
+pub mod Texts
+pub mod Started
+pub mod Planned
+pub mod Accuracy

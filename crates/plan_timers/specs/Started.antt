@@ -1,0 +1,62 @@
+-- The unit that a timer starts (systemd.timer(5), `Unit=`), and what is wrong with it.
+use Rattle.std.specs.Prelude.{ℕ, Bool, false, ◌||◌, not, ◌==◌, if◌then◌else◌, List, [], ◌∷◌, ◌++◌, length, Option, None, Some, codes}
+use Rattle.std.specs.Str.{bytes_eq, is_utf8}
+use Rattle.plan_texts.specs.WholeLines.{trimmed}
+use Rattle.plan_timers.specs.declared.source.SourceFile.{SourceFile}
+use Rattle.plan_timers.specs.Source.{TimerParts}
+use Rattle.plan_timers.specs.Texts.{lines_at}
+use Rattle.plan_timers.specs.Wishes.{or_path}
+use Rattle.plan_tree.specs.Tree.{Held}
+use Rattle.plan_units.specs.Settings.{section_name, setting_of}
+use Rattle.plan_parts.specs.Specifiers.{expanded}
+use Rattle.plan_units.specs.UnitNames.{stem}
+
+-- ---- one line
+
+-- whether the lines after a line are in a section `[Timer]`; names of sections are compared exactly (systemd.syntax(7))
+abbrev pub inside_after : Bool → Option (List ℕ) → Bool
+inside_after inside None = inside
+inside_after inside (Some section) = bytes_eq section (codes "Timer")
+
+-- the unit that a setting names, with its specifiers replaced; an empty one names none (systemd.timer(5)), nor does one that isn't
+-- UTF-8 (agenda)
+abbrev pub named_in_setting : List ℕ → List ℕ × List ℕ → Option (List ℕ)
+named_in_setting unit setting =
+    if not (bytes_eq setting.0 (codes "Unit")) || (length setting.1 == 0) then None else
+    if is_utf8 (expanded unit setting.1) then Some (expanded unit setting.1) else
+    None
+
+abbrev pub named_by : List ℕ → Option (List ℕ × List ℕ) → Option (List ℕ)
+named_by unit None = None
+named_by unit (Some setting) = named_in_setting unit setting
+
+-- only settings in a `[Timer]` section count (systemd.syntax(7))
+abbrev pub unit_in_line : List ℕ → (inside : Bool) → List ℕ → Option (List ℕ)
+unit_in_line unit inside text = if inside then named_by unit (setting_of text) else None
+
+-- ---- all lines
+
+-- the first line that names a unit counts (systemd 252); `inside` says whether the first line is in a `[Timer]` section
+abbrev pub named_in_lines : List ℕ → (inside : Bool) → List (ℕ × List ℕ) → Option (List ℕ)
+named_in_lines unit inside [] = None
+named_in_lines unit inside (line ∷ more) =
+    or_path (unit_in_line unit inside (trimmed line.1))
+    (named_in_lines unit (inside_after inside (section_name (trimmed line.1))) more)
+
+-- the first of a timer's files that names a unit counts; each is read from its first section on (agenda)
+abbrev pub named_in_files : Held → List ℕ → List SourceFile → Option (List ℕ)
+named_in_files held unit [] = None
+named_in_files held unit (file ∷ more) =
+    or_path (named_in_lines unit false (lines_at held file.real)) (named_in_files held unit more)
+
+-- the service with a timer's name (systemd.timer(5), `Unit=`)
+abbrev pub service_of : List ℕ → List ℕ
+service_of name = stem name ++ codes ".service"
+
+abbrev pub unit_or_service : List ℕ → Option (List ℕ) → List ℕ
+unit_or_service name None = service_of name
+unit_or_service name (Some unit) = unit
+
+-- the unit that a timer starts (systemd.timer(5), `Unit=`)
+abbrev pub started_unit : Held → TimerParts → List ℕ
+started_unit held timer = unit_or_service timer.unit (named_in_files held timer.unit timer.files)

@@ -1,0 +1,153 @@
+-- Which timers of a machine are sources, and why the others aren't.
+use Rattle.std.specs.Prelude.{◌≡◌, ℕ, Bool, true, false, not, ◌&&◌, if◌then◌else◌, List, [], ◌∷◌, ◌++◌, filter, Option, None, Some, Ok, Err, Result}
+use Rattle.std.specs.List.{list_any}
+use Rattle.std.specs.Str.{bytes_eq}
+use Rattle.plan_timers.specs.declared.skipped.Skipped.{Skipped}
+use Rattle.plan_timers.specs.declared.skipped.Why.{Why}
+use Rattle.plan_timers.specs.declared.skipped.Why.TheVariants.{BadName, NameTaken, NoSuchTimer}
+use Rattle.plan_timers.specs.declared.source.SourceFile.{SourceFile}
+use Rattle.plan_timers.specs.declared.timer.Refusal.{Refusal}
+use Rattle.plan_timers.specs.declared.timer.Refusal.TheVariants as refusal
+use Rattle.plan_timers.specs.declared.timers.TimersFound.{TimersFound}
+use Rattle.plan_timers.specs.Files.{files_among, found_file, skipped_among}
+use Rattle.plan_timers.specs.Links.{link_dirs}
+use Rattle.plan_timers.specs.Names.{in_timer_order, job_of, name_fault}
+use Rattle.plan_timers.specs.Source.{TimerParts}
+use Rattle.plan_timers.specs.Unwanted.{unwanted_timers}
+use Rattle.plan_timers.specs.Wishes.{KnownUnits, wish_of}
+use Rattle.plan_tree.specs.declared.tree.Node.{Node}
+use Rattle.plan_tree.specs.Order.{sorted}
+use Rattle.plan_tree.specs.Tree.{Held}
+use Rattle.plan_units.specs.declared.merging.Entry.{Entry}
+use Rattle.plan_units.specs.declared.paths.UnitDir.{UnitDir}
+use Rattle.plan_units.specs.declared.unit.Unit.{Unit}
+use Rattle.plan_units.specs.DropIns.{drop_in_entries}
+use Rattle.plan_units.specs.Entries.{entries_among}
+use Rattle.plan_units.specs.Reach.{AreReached, with_new}
+use Rattle.plan_units.specs.Timers.{first_unit, is_timer}
+use Rattle.plan_units.specs.Unit.{unit_of}
+use Rattle.plan_units.specs.Wants.{wants_of}
+
+-- ---- what is found
+
+-- the timers that are sources, and what is skipped, both in their order
+pub record FoundTimers : Type 0 where
+  pub sources : List TimerParts
+  pub skipped : List Skipped
+
+abbrev pub found_view : TimersFound → FoundTimers
+found_view found = record { sources = found.sources.items; skipped = found.skipped.items }
+
+abbrev pub nothing_found : FoundTimers
+nothing_found = record { sources = []; skipped = [] }
+
+abbrev pub with_skipped : FoundTimers → Skipped → FoundTimers
+with_skipped found more = record { sources = found.sources; skipped = found.skipped ++ more ∷ [] }
+
+-- what enables a timer is skipped
+abbrev pub with_wish : Held → KnownUnits → FoundTimers → List ℕ → Why → FoundTimers
+with_wish held units found name why = with_skipped found (record { path = wish_of held units name; why = why })
+
+-- a timer is a source with its file and those of its drop-ins that can be read; the other drop-ins are skipped
+abbrev pub with_file : Held → KnownUnits → FoundTimers → List ℕ → List ℕ → SourceFile → FoundTimers
+with_file held units found name job file =
+    let drop_ins = drop_in_entries held units.dirs name in
+    record {
+      sources = found.sources ++ record { unit = name; name = job; files = file ∷ files_among held drop_ins } ∷ [];
+      skipped = found.skipped ++ skipped_among held drop_ins;
+    }
+
+-- ---- one timer
+
+-- an alias is the unit that it names (systemd.unit(5))
+abbrev pub is_alias : List ℕ → Option Unit → Bool
+is_alias name None = false
+is_alias name (Some unit) = not (bytes_eq unit.name name)
+
+abbrev pub file_or_refusal : Result SourceFile Skipped → Result SourceFile Refusal
+file_or_refusal (Ok file) = Ok file
+file_or_refusal (Err skipped) = Err (refusal.File skipped)
+
+-- the file of a unit
+abbrev pub file_by_unit : Held → Option Unit → Result SourceFile Refusal
+file_by_unit held None = Err (refusal.Wish NoSuchTimer)
+file_by_unit held (Some unit) = file_or_refusal (found_file held unit.file.path unit.file.real)
+
+-- the file of a timer, unless its name says that it is no source
+abbrev pub file_by_fault : Held → Option Why → Option Unit → Result SourceFile Refusal
+file_by_fault held (Some why) unit = Err (refusal.Wish why)
+file_by_fault held None unit = file_by_unit held unit
+
+abbrev pub timer_file : Held → List ℕ → Option Unit → Result SourceFile Refusal
+timer_file held name unit = file_by_fault held (name_fault name) unit
+
+-- a source has this name
+abbrev pub is_taken : List TimerParts → List ℕ → Bool
+is_taken sources job = list_any (λ source. bytes_eq source.name job) sources
+
+-- a timer whose job has a valid name; of two timers whose jobs have one name the first is a source (agenda)
+abbrev pub with_job : Held → KnownUnits → FoundTimers → List ℕ → List ℕ → Result SourceFile Refusal → FoundTimers
+with_job held units found name job (Err (refusal.Wish why)) = with_wish held units found name why
+with_job held units found name job (Err (refusal.File skipped)) = with_skipped found skipped
+with_job held units found name job (Ok file) =
+    if is_taken found.sources job then with_wish held units found name NameTaken else with_file held units found name job file
+
+abbrev pub with_name : Held → KnownUnits → FoundTimers → List ℕ → Option Unit → Option (List ℕ) → FoundTimers
+with_name held units found name unit None = with_wish held units found name BadName
+with_name held units found name unit (Some job) = with_job held units found name job (timer_file held name unit)
+
+-- a timer, unless its name is an alias
+abbrev pub with_unit : Held → KnownUnits → FoundTimers → List ℕ → Option Unit → FoundTimers
+with_unit held units found name unit =
+    if is_alias name unit then found else with_name held units found name unit (job_of name)
+
+-- what is found, and one more timer
+abbrev pub with_timer : Held → KnownUnits → FoundTimers → List ℕ → FoundTimers
+with_timer held units found name = with_unit held units found name (unit_of held.node units.dirs name)
+
+-- ---- all timers
+
+abbrev pub with_timers : Held → KnownUnits → FoundTimers → List (List ℕ) → FoundTimers
+with_timers held units found [] = found
+with_timers held units found (name ∷ more) = with_timers held units (with_timer held units found name) more
+
+-- a timer has a file; that of a template isn't one
+abbrev pub is_some : Option Unit → Bool
+is_some None = false
+is_some (Some unit) = true
+
+abbrev pub has_file : (List ℕ → Node) → List UnitDir → List ℕ → Bool
+has_file node dirs name = is_timer name && is_some (unit_of node dirs name)
+
+abbrev pub names_with_file : (List ℕ → Node) → List UnitDir → List Entry → List (List ℕ)
+names_with_file node dirs [] = []
+names_with_file node dirs (entry ∷ more) =
+    if has_file node dirs entry.name then entry.name ∷ names_with_file node dirs more else names_with_file node dirs more
+
+-- the timers that have a file in the directories of units
+abbrev pub file_timers : Held → List UnitDir → List (List ℕ)
+file_timers held dirs = names_with_file held.node dirs (entries_among held dirs)
+
+-- the timers that the boot reaches, and with `all` also those that have a file
+abbrev pub timer_names : Held → List UnitDir → (all : Bool) → List (List ℕ) → List (List ℕ)
+timer_names held dirs false reached = filter is_timer reached
+timer_names held dirs true reached = with_new (filter is_timer reached) (file_timers held dirs)
+
+abbrev pub with_unwanted : FoundTimers → List Skipped → FoundTimers
+with_unwanted found more = record { sources = found.sources; skipped = found.skipped ++ more }
+
+-- what is found of the timers of these units; without `all`, those that only other units want come last
+abbrev pub timers_of_units : Held → KnownUnits → (all : Bool) → FoundTimers
+timers_of_units held units all =
+    let found = with_timers held units nothing_found (in_timer_order (timer_names held units.dirs all units.reached)) in
+    if all then found else with_unwanted found (unwanted_timers held units)
+
+-- what is found of the timers of a machine whose boot reaches these names
+abbrev pub timers_among : Held → List UnitDir → (all : Bool) → List (List ℕ) → FoundTimers
+timers_among held dirs all reached =
+    timers_of_units held (record { dirs = dirs; links = link_dirs held dirs; reached = sorted reached }) all
+
+-- what is found of the timers of a machine: the boot reaches what is reached from its first unit (systemd.special(7))
+abbrev pub AreMachineTimers : Held → List UnitDir → (all : Bool) → FoundTimers → Type 0
+AreMachineTimers held dirs all found =
+    (reached : List (List ℕ)) × AreReached (wants_of held dirs) first_unit reached × (found ≡ timers_among held dirs all reached)

@@ -1,0 +1,29 @@
+//! The timers of a machine: which of them are sources, and why the others aren't (systemd.timer(5)).
+//!
+//! Read `timers` first, which goes over the timers one after the other, then `timer` for one of them. `order` says in which
+//! order they come, `names` which names a timer may have, `links` and `wish` what enables it, and `files` which of its files
+//! can be read. `unwanted` finds the timers that only units want that the boot doesn't start, `started` and `planned` the
+//! unit that a timer starts, and `accuracy` the accuracy of timers that set none.
+#![tactic(auto)]
+
+mod accuracy;
+mod files;
+mod links;
+mod names;
+mod order;
+mod planned;
+mod skipped;
+mod source;
+mod started;
+mod texts;
+mod timer;
+mod timers;
+mod units;
+mod unwanted;
+mod wish;
+
+pub use accuracy::default_accuracy;
+pub use planned::{PlannedTimers, planned_timers};
+pub use skipped::{NotPlanned, Skipped, Why, WhyNot};
+pub use source::{SourceFile, TimerSource};
+pub use timers::{TimersFound, machine_timers};

@@ -1,0 +1,127 @@
+//! The directories of links, and the links that enable a timer (systemd.unit(5)).
+
+ghost use Rattle.std.specs.Prelude.{◌≡◌, true, IfOk};
+ghost use Rattle.plan_timers.specs.Links.{first_link, is_directory, is_link_dir, link_dir, link_dirs, link_dirs_among, names_links};
+
+use plan_tree::{Name, Node, Place, Tree};
+use plan_units::{UnitDir, is_counted, names_at, stem};
+use std::alloc::{AllocError, Global};
+
+/// A directory of links to the units that a unit wants.
+#[derive(Debug, Drop)]
+pub struct LinkDir {
+    /// The name of the unit.
+    pub unit: Name,
+    /// The directory: `NAME.wants` or `NAME.requires`.
+    pub dir: UnitDir,
+}
+
+/// Returns the directories `NAME.wants` and `NAME.requires` in the order of the search path, and in each directory of it in
+/// the order of their names. One that is a link isn't read.
+///
+/// # Errors
+///
+/// `AllocError` if an allocation fails.
+pub fn link_dirs<T: Tree>(
+    alloc: Global,
+    tree: &T,
+    dirs: &[UnitDir],
+) -> Result<Vec<LinkDir>, AllocError>
+    ensures { T.is_known ≡ true → IfOk result (λ found.
+        found.items ≡ link_dirs (T.held tree.now) dirs.now) }
+{
+    let mut found = Vec::new(alloc);
+    for dir in dirs {
+        let names = names_at(alloc, tree, dir.real.as_str())?;
+        let mut more = link_dirs_among(alloc, tree, dir, names)?;
+        found.append(&mut more)?;
+    }
+    Ok(found)
+}
+
+// Returns the directories of links that have these names in a directory.
+fn link_dirs_among<T: Tree>(
+    alloc: Global,
+    tree: &T,
+    dir: &UnitDir,
+    names: Vec<Name>,
+) -> Result<Vec<LinkDir>, AllocError>
+    ensures { T.is_known ≡ true → IfOk result (λ found.
+        found.items ≡ link_dirs_among (T.held tree.now).node dir.now names.items) }
+{
+    let mut found = Vec::new(alloc);
+    for name in names {
+        if is_link_dir(alloc, tree, dir, name.as_str())? {
+            found.push(link_dir(alloc, dir, name.as_str())?)?;
+        }
+    }
+    Ok(found)
+}
+
+// Returns the directory of links that has this name in a directory.
+fn link_dir(alloc: Global, dir: &UnitDir, name: &str) -> Result<LinkDir, AllocError>
+    ensures { IfOk result (λ found. found ≡ link_dir dir.now name.now) }
+{
+    Ok(LinkDir {
+        unit: Name::at(alloc, stem(name))?,
+        dir: dir.child(alloc, name)?,
+    })
+}
+
+// Returns whether a name in a directory is that of a directory of links.
+fn is_link_dir<T: Tree>(
+    alloc: Global,
+    tree: &T,
+    dir: &UnitDir,
+    name: &str,
+) -> Result<bool, AllocError>
+    ensures { T.is_known ≡ true → IfOk result (λ is.
+        is ≡ is_link_dir (T.held tree.now).node dir.now name.now) }
+{
+    if !names_links(name) {
+        return Ok(false);
+    }
+    let real = dir.real.child(alloc, name)?;
+    let node = tree.node(alloc, real.as_str())?;
+    Ok(is_directory(&node))
+}
+
+// Returns whether a name is `NAME.wants` or `NAME.requires`.
+fn names_links(name: &str) -> bool
+    ensures { result ≡ names_links name.now }
+{
+    name.as_bytes().ends_with(b".wants") || name.as_bytes().ends_with(b".requires")
+}
+
+// Returns whether a node is a directory.
+fn is_directory(node: &Node) -> bool
+    ensures { result ≡ is_directory node.now }
+{
+    match node {
+        Node::Directory => true,
+        _ => false,
+    }
+}
+
+/// Returns the path of the first link of a name in directories of links. A mask is none.
+///
+/// # Errors
+///
+/// `AllocError` if an allocation fails.
+pub fn first_link<T: Tree>(
+    alloc: Global,
+    tree: &T,
+    links: &[LinkDir],
+    name: &str,
+) -> Result<Option<Place>, AllocError>
+    ensures { T.is_known ≡ true → IfOk result (λ path.
+        path ≡ first_link (T.held tree.now).node links.now name.now) }
+{
+    for link in links {
+        let real = link.dir.real.child(alloc, name)?;
+        if is_counted(alloc, tree, real.as_str())? {
+            return Ok(Some(link.dir.path.child(alloc, name)?));
+        }
+    }
+    Ok(None)
+}

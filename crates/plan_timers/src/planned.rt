@@ -1,0 +1,134 @@
+//! The timers whose units can start, and why the others aren't planned (systemd.timer(5)).
+
+ghost use Rattle.std.specs.Prelude.{◌≡◌, true, IfOk};
+ghost use Rattle.plan_timers.specs.Planned.{fault_by_unit, not_planned, other_by, path_of, planned, unit_fault, why_not};
+
+use crate::skipped::{NotPlanned, WhyNot};
+use crate::source::{SourceFile, TimerSource, text_at};
+use crate::started::started_unit;
+use plan_tree::Tree;
+use plan_units::{Unit, UnitDir, is_mask, unit_of};
+use std::alloc::{AllocError, Global};
+
+/// Timers that are planned, and why others aren't.
+#[derive(Debug, Drop)]
+pub struct PlannedTimers {
+    /// The timers that are planned.
+    pub planned: Vec<TimerSource>,
+    /// The others.
+    pub others: Vec<NotPlanned>,
+}
+
+// What is wrong with a unit.
+#[derive(Clone, Copy, Debug, PartialEq, Eq)]
+pub(crate) enum UnitFault {
+    // No file counts for it.
+    Missing,
+    // Its file is a mask.
+    Masked,
+}
+
+/// Returns which of some timers are planned, in their order: those whose unit has a file and isn't masked.
+///
+/// # Errors
+///
+/// `AllocError` if an allocation fails.
+pub fn planned_timers<T: Tree>(
+    alloc: Global,
+    tree: &T,
+    dirs: &[UnitDir],
+    sources: Vec<TimerSource>,
+) -> Result<PlannedTimers, AllocError>
+    ensures planned { T.is_known ≡ true → IfOk result (λ found.
+        found.planned.items ≡ planned (T.held tree.now) dirs.now sources.items) }
+    ensures others { T.is_known ≡ true → IfOk result (λ found.
+        found.others.items ≡ not_planned (T.held tree.now) dirs.now sources.items) }
+{
+    let mut planned = Vec::new(alloc);
+    let mut others = Vec::new(alloc);
+    for source in sources {
+        match why_not(alloc, tree, dirs, &source)? {
+            None => planned.push(source)?,
+            Some(other) => others.push(other)?,
+        }
+    }
+    Ok(PlannedTimers { planned, others })
+}
+
+// Returns why a timer isn't planned, or `None` if it is.
+fn why_not<T: Tree>(
+    alloc: Global,
+    tree: &T,
+    dirs: &[UnitDir],
+    source: &TimerSource,
+) -> Result<Option<NotPlanned>, AllocError>
+    ensures { T.is_known ≡ true → IfOk result (λ other.
+        other ≡ why_not (T.held tree.now) dirs.now source.now) }
+{
+    let unit = started_unit(alloc, tree, source)?;
+    let fault = unit_fault(alloc, tree, dirs, unit.as_str())?;
+    other_by(alloc, source.files.as_slice(), unit.as_str(), fault)
+}
+
+// Returns why a timer with these files isn't planned, by what is wrong with its unit.
+fn other_by(
+    alloc: Global,
+    files: &[SourceFile],
+    unit: &str,
+    fault: Option<UnitFault>,
+) -> Result<Option<NotPlanned>, AllocError>
+    ensures { IfOk result (λ other. other ≡ other_by files.now unit.now fault) }
+{
+    let Some(fault) = fault else {
+        return Ok(None);
+    };
+    let path = text_at(alloc, path_of(files))?;
+    let unit = text_at(alloc, unit)?;
+    let why = match fault {
+        UnitFault::Missing => WhyNot::UnitMissing(unit),
+        UnitFault::Masked => WhyNot::UnitMasked(unit),
+    };
+    Ok(Some(NotPlanned { path, why }))
+}
+
+// Returns the path of the first of some files.
+fn path_of(files: &[SourceFile]) -> &str
+    ensures { result.now ≡ path_of files.now }
+{
+    match files {
+        [file, ..] => file.path.as_str(),
+        [] => "",
+    }
+}
+
+// Returns what is wrong with the unit of a name.
+fn unit_fault<T: Tree>(
+    alloc: Global,
+    tree: &T,
+    dirs: &[UnitDir],
+    name: &str,
+) -> Result<Option<UnitFault>, AllocError>
+    ensures { T.is_known ≡ true → IfOk result (λ fault.
+        fault ≡ unit_fault (T.held tree.now) dirs.now name.now) }
+{
+    let unit = unit_of(alloc, tree, dirs, name)?;
+    fault_by_unit(alloc, tree, unit)
+}
+
+// Returns what is wrong with a unit, if there is one.
+fn fault_by_unit<T: Tree>(
+    alloc: Global,
+    tree: &T,
+    unit: Option<Unit>,
+) -> Result<Option<UnitFault>, AllocError>
+    ensures { T.is_known ≡ true → IfOk result (λ fault. fault ≡ fault_by_unit (T.held tree.now) unit) }
+{
+    let Some(unit) = unit else {
+        return Ok(Some(UnitFault::Missing));
+    };
+    if is_mask(alloc, tree, unit.file.real.as_str())? {
+        Ok(Some(UnitFault::Masked))
+    } else {
+        Ok(None)
+    }
+}

@@ -1,0 +1,130 @@
+//! The unit that a timer starts (systemd.timer(5), `Unit=`).
+
+ghost use Rattle.std.specs.Prelude.{◌≡◌, ◌++◌, false, true, IfOk, if◌then◌else◌, None, Some, map};
+ghost use Rattle.plan_texts.specs.WholeLines.{whole_text};
+ghost use Rattle.plan_timers.specs.Started.{inside_after, named_in_files, named_in_lines, named_in_setting, service_of, started_unit, unit_in_line};
+ghost use Rattle.plan_units.specs.Settings.{section_name};
+
+use crate::source::{SourceFile, TimerSource};
+use crate::texts::lines_at;
+use plan_texts::whole_lines::{WholeLine, trimmed};
+use plan_tree::{Name, Tree};
+use plan_parts::expanded;
+use plan_units::{section_name, setting_of, stem};
+use std::alloc::{AllocError, Global};
+
+/// Returns the name of the unit that a timer starts: that of the first `Unit=` in its files, or else its own name with
+/// `.service`.
+///
+/// # Errors
+///
+/// `AllocError` if an allocation fails.
+pub fn started_unit<T: Tree>(
+    alloc: Global,
+    tree: &T,
+    source: &TimerSource,
+) -> Result<Name, AllocError>
+    ensures { T.is_known ≡ true → IfOk result (λ unit.
+        unit ≡ started_unit (T.held tree.now) source.now) }
+{
+    let unit = source.unit.as_str();
+    match named_in_files(alloc, tree, unit, source.files.as_slice())? {
+        Some(named) => Ok(named),
+        None => service_of(alloc, unit),
+    }
+}
+
+// Returns a timer's name with `.service` in place of its type.
+fn service_of(alloc: Global, name: &str) -> Result<Name, AllocError>
+    ensures { IfOk result (λ service. service ≡ service_of name.now) }
+{
+    let mut service = String::from_str(alloc, stem(name))?;
+    service.push_str(".service")?;
+    Ok(Name::new(service))
+}
+
+// Returns the unit that the first of some files of a timer names.
+fn named_in_files<T: Tree>(
+    alloc: Global,
+    tree: &T,
+    unit: &str,
+    files: &[SourceFile],
+) -> Result<Option<Name>, AllocError>
+    ensures { T.is_known ≡ true → IfOk result (λ named.
+        named ≡ named_in_files (T.held tree.now) unit.now files.now) }
+{
+    for file in files {
+        let lines = lines_at(alloc, tree, file.real.as_str())?;
+        if let Some(named) = named_in_lines(alloc, unit, lines.as_slice())? {
+            return Ok(Some(named));
+        }
+    }
+    Ok(None)
+}
+
+// Returns the unit that the first of some whole lines of a timer names.
+fn named_in_lines(
+    alloc: Global,
+    unit: &str,
+    lines: &[WholeLine],
+) -> Result<Option<Name>, AllocError>
+    ensures { IfOk result (λ named. named ≡ named_in_lines unit.now false (map whole_text lines.now)) }
+{
+    let mut inside = false;
+    for line in lines {
+        let text = trimmed(line.text.as_str());
+        if let Some(named) = unit_in_line(alloc, unit, inside, text)? {
+            return Ok(Some(named));
+        }
+        inside = inside_after(inside, text.as_bytes());
+    }
+    Ok(None)
+}
+
+// Returns whether the lines after a line are in a section `[Timer]`.
+fn inside_after(inside: bool, text: &[u8]) -> bool
+    ensures { result ≡ inside_after inside (section_name text.now) }
+{
+    match section_name(text) {
+        Some(section) => section == b"Timer".as_slice(),
+        None => inside,
+    }
+}
+
+// Returns the unit that a line names.
+fn unit_in_line(
+    alloc: Global,
+    unit: &str,
+    inside: bool,
+    text: &str,
+) -> Result<Option<Name>, AllocError>
+    ensures { IfOk result (λ named. named ≡ unit_in_line unit.now inside text.now) }
+{
+    if !inside {
+        return Ok(None);
+    }
+    match setting_of(text) {
+        Some((key, value)) => named_in_setting(alloc, unit, key, value),
+        None => Ok(None),
+    }
+}
+
+// Returns the unit that a setting in a section `[Timer]` names.
+#[tactic(auto, using(crate::proofs::TextLemmas::text_of_utf8, crate::proofs::TextLemmas::no_text_of_other))]
+fn named_in_setting(
+    alloc: Global,
+    unit: &str,
+    key: &str,
+    value: &str,
+) -> Result<Option<Name>, AllocError>
+    ensures { IfOk result (λ named. named ≡ named_in_setting unit.now (key.now, value.now)) }
+{
+    if key != "Unit" || value.is_empty() {
+        return Ok(None);
+    }
+    let named = expanded(alloc, unit, value.as_bytes())?;
+    match str::from_utf8(named.as_slice()) {
+        Ok(named) => Ok(Some(Name::at(alloc, named)?)),
+        Err(_) => Ok(None),
+    }
+}

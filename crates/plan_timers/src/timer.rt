@@ -1,0 +1,179 @@
+//! One timer: its files, or why it is no source.
+
+ghost use Rattle.std.specs.Prelude.{◌≡◌, ◌++◌, true, IfOk};
+ghost use Rattle.plan_timers.specs.Timers.{found_view, is_alias, is_taken, timer_file, with_file, with_job, with_skipped, with_timer, with_wish};
+ghost use Rattle.plan_timers.specs.Wishes.{units_view};
+
+use crate::files::{found_file, found_files};
+use crate::names::{job_name, name_fault};
+use crate::skipped::{Skipped, Why};
+use crate::source::{SourceFile, TimerSource, text_at};
+use crate::timers::TimersFound;
+use crate::units::Units;
+use crate::wish::wish_of;
+use plan_texts::Text;
+use plan_tree::{Name, Tree};
+use plan_units::{Unit, drop_in_entries, unit_of};
+use std::alloc::{AllocError, Global};
+
+// Why a timer has no file that can be read.
+#[derive(Debug, Drop)]
+pub(crate) enum Refusal {
+    // What enables it is skipped.
+    Wish(Why),
+    // Its file is skipped.
+    File(Skipped),
+}
+
+/// Returns what was found so far, and one more timer. An alias is the timer that it names, so it adds nothing.
+///
+/// # Errors
+///
+/// `AllocError` if an allocation fails.
+pub fn with_timer<T: Tree>(
+    alloc: Global,
+    tree: &T,
+    units: &Units<'_>,
+    found: TimersFound,
+    name: Name,
+) -> Result<TimersFound, AllocError>
+    ensures { T.is_known ≡ true → IfOk result (λ after. found_view after
+        ≡ with_timer (T.held tree.now) (units_view units.now) (found_view found) name) }
+{
+    let unit = unit_of(alloc, tree, units.dirs, name.as_str())?;
+    if is_alias(&name, &unit) {
+        return Ok(found);
+    }
+    match job_name(alloc, name.as_str())? {
+        None => with_wish(alloc, tree, units, found, name.as_str(), Why::BadName),
+        Some(job) => {
+            let file = timer_file(alloc, tree, name.as_str(), &unit)?;
+            with_job(alloc, tree, units, found, name, job, file)
+        }
+    }
+}
+
+// Returns whether a name is an alias of its unit.
+fn is_alias(name: &Name, unit: &Option<Unit>) -> bool
+    ensures { result ≡ is_alias name.now unit.now }
+{
+    match unit {
+        None => false,
+        Some(unit) => unit.name != *name,
+    }
+}
+
+// Returns the file of a timer by its unit, or why it has none that can be read. The outer error is a failed allocation.
+fn timer_file<T: Tree>(
+    alloc: Global,
+    tree: &T,
+    name: &str,
+    unit: &Option<Unit>,
+) -> Result<Result<SourceFile, Refusal>, AllocError>
+    ensures { T.is_known ≡ true → IfOk result (λ file.
+        file ≡ timer_file (T.held tree.now) name.now unit.now) }
+{
+    if let Some(why) = name_fault(name) {
+        return Ok(Err(Refusal::Wish(why)));
+    }
+    let Some(unit) = unit else {
+        return Ok(Err(Refusal::Wish(Why::NoSuchTimer)));
+    };
+    match found_file(
+        alloc,
+        tree,
+        unit.file.path.as_str(),
+        unit.file.real.as_str(),
+    )? {
+        Ok(file) => Ok(Ok(file)),
+        Err(skipped) => Ok(Err(Refusal::File(skipped))),
+    }
+}
+
+// Returns what was found, and a timer whose job has this name, by its file.
+fn with_job<T: Tree>(
+    alloc: Global,
+    tree: &T,
+    units: &Units<'_>,
+    found: TimersFound,
+    name: Name,
+    job: Text,
+    file: Result<SourceFile, Refusal>,
+) -> Result<TimersFound, AllocError>
+    ensures { T.is_known ≡ true → IfOk result (λ after. found_view after
+        ≡ with_job (T.held tree.now) (units_view units.now) (found_view found) name job file) }
+{
+    match file {
+        Err(Refusal::Wish(why)) => with_wish(alloc, tree, units, found, name.as_str(), why),
+        Err(Refusal::File(skipped)) => with_skipped(found, skipped),
+        Ok(file) => {
+            if is_taken(found.sources.as_slice(), job.as_str()) {
+                return with_wish(alloc, tree, units, found, name.as_str(), Why::NameTaken);
+            }
+            with_file(alloc, tree, units, found, name, job, file)
+        }
+    }
+}
+
+// Returns whether one of some sources has this name.
+fn is_taken(sources: &[TimerSource], job: &str) -> bool
+    ensures { result ≡ is_taken sources.now job.now }
+{
+    sources.iter().any(|source| source.name.as_str() == job)
+}
+
+// Returns what was found, and a timer that is a source.
+fn with_file<T: Tree>(
+    alloc: Global,
+    tree: &T,
+    units: &Units<'_>,
+    found: TimersFound,
+    unit: Name,
+    name: Text,
+    file: SourceFile,
+) -> Result<TimersFound, AllocError>
+    ensures { T.is_known ≡ true → IfOk result (λ after. found_view after
+        ≡ with_file (T.held tree.now) (units_view units.now) (found_view found) unit name file) }
+{
+    let entries = drop_in_entries(alloc, tree, units.dirs, unit.as_str())?;
+    let mut drop_ins = found_files(alloc, tree, entries.as_slice())?;
+    let mut files = Vec::new(alloc);
+    files.push(file)?;
+    files.append(&mut drop_ins.files)?;
+    let TimersFound {
+        mut sources,
+        mut skipped,
+    } = found;
+    sources.push(TimerSource { unit, name, files })?;
+    skipped.append(&mut drop_ins.skipped)?;
+    Ok(TimersFound { sources, skipped })
+}
+
+// Returns what was found, and what enables a timer as skipped.
+fn with_wish<T: Tree>(
+    alloc: Global,
+    tree: &T,
+    units: &Units<'_>,
+    found: TimersFound,
+    name: &str,
+    why: Why,
+) -> Result<TimersFound, AllocError>
+    ensures { T.is_known ≡ true → IfOk result (λ after. found_view after
+        ≡ with_wish (T.held tree.now) (units_view units.now) (found_view found) name.now why) }
+{
+    let wish = wish_of(alloc, tree, units, name)?;
+    let path = text_at(alloc, wish.as_str())?;
+    with_skipped(found, Skipped { path, why })
+}
+
+// Returns what was found, and one thing more that is skipped.
+fn with_skipped(found: TimersFound, more: Skipped) -> Result<TimersFound, AllocError>
+    ensures { IfOk result (λ after. found_view after ≡ with_skipped (found_view found) more) }
+{
+    let TimersFound {
+        sources,
+        mut skipped,
+    } = found;
+    skipped.push(more)?;
+    Ok(TimersFound { sources, skipped })
+}
