@@ -7,9 +7,9 @@ ghost use Rattle.plan_units.specs.Settings.{section_name};
 
 use crate::source::{SourceFile, TimerSource};
 use crate::texts::lines_at;
+use plan_parts::expanded;
 use plan_texts::whole_lines::{WholeLine, trimmed};
 use plan_tree::{Name, Tree};
-use plan_parts::expanded;
 use plan_units::{section_name, setting_of, stem};
 use std::alloc::{AllocError, Global};
 

@@ -1,0 +1,9 @@
+pub mod Source
+pub mod Reports
+pub mod Collection
+pub mod Files
+pub mod Directories
+pub mod Cron
+pub mod Spool
+pub mod Daemon
+pub mod Others

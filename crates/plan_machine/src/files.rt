@@ -1,0 +1,64 @@
+//! Where a path leads, and the file there.
+
+ghost use Rattle.std.specs.Prelude.{◌≡◌, true, IfOk};
+ghost use Rattle.plan_machine.specs.Files.{file_at, is_file, lead_of, read_file};
+
+use crate::reports::copy_of;
+use crate::source::SourceFile;
+use plan_tree::{End, Node, Tree, follow};
+use std::alloc::{AllocError, Global};
+
+// Returns where a path leads.
+#[tactic(auto, unfolding(crate::specs::Files::lead_of))]
+pub(crate) fn lead_of<T: Tree>(alloc: Global, tree: &T, path: &str) -> Result<End, AllocError>
+    ensures { T.is_known ≡ true → IfOk result (λ end. end ≡ lead_of (T.held tree.now).node path.now) }
+{
+    follow(alloc, tree, path)
+}
+
+// Returns the file where a path leads, with its first `most` bytes; `None` if it leads to no regular file that can
+// be read.
+pub(crate) fn file_at<T: Tree>(
+    alloc: Global,
+    tree: &T,
+    most: u64,
+    path: &str,
+    end: &End,
+) -> Result<Option<SourceFile>, AllocError>
+    ensures { T.is_known ≡ true → IfOk result (λ file. file ≡ file_at (T.held tree.now) most path.now end.now) }
+{
+    match end {
+        End::Found(real) => read_file(alloc, tree, most, path, real.as_str()),
+        End::Nothing | End::Unknown => Ok(None),
+    }
+}
+
+// Returns the file at the end of a path's links. It is opened once.
+fn read_file<T: Tree>(
+    alloc: Global,
+    tree: &T,
+    most: u64,
+    path: &str,
+    real: &str,
+) -> Result<Option<SourceFile>, AllocError>
+    ensures { T.is_known ≡ true → IfOk result (λ file. file ≡ read_file (T.held tree.now) most path.now real.now) }
+{
+    if real == "dev/null" || !is_file(&tree.node(alloc, real)?) {
+        return Ok(None);
+    }
+    match tree.front(alloc, real, most)? {
+        None => Ok(None),
+        Some(bytes) => Ok(Some(SourceFile::new(
+            copy_of(alloc, path)?,
+            copy_of(alloc, real)?,
+            bytes,
+        ))),
+    }
+}
+
+// Returns whether a node is a regular file.
+pub(crate) fn is_file(node: &Node) -> bool
+    ensures { result ≡ is_file node.now }
+{
+    matches!(node, Node::File { .. })
+}
