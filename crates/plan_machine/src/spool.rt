@@ -7,7 +7,7 @@ use crate::collection::{MachineSources, has_package};
 use crate::directories::{can_search, is_directory, is_directory_at, look, read_directory};
 use crate::files::{file_at, is_file, lead_of};
 use crate::reports::{Why, copy_of};
-use crate::source::MachineSource;
+use crate::source::{MachineSource, is_bad_name};
 use plan_rules::SourceKind;
 use plan_texts::Text;
 use plan_tree::{End, Name, Place, Tree};
