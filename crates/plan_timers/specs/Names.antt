@@ -5,9 +5,8 @@ use Rattle.std.specs.List.{ends_with, list_all, list_any}
 use Rattle.std.specs.Str.{byte}
 use Rattle.plan_texts.specs.Text.{begins_with}
 use Rattle.plan_timers.specs.declared.skipped.Why.{Why}
-use Rattle.plan_timers.specs.declared.skipped.Why.TheVariants.{Escape, Template}
+use Rattle.plan_timers.specs.declared.skipped.Why.TheVariants.{Escape}
 use Rattle.plan_tree.specs.Order.{sorted}
-use Rattle.plan_units.specs.UnitNames.{is_template}
 
 -- whether a name has an `@`, as those of templates and instances have (systemd.unit(5))
 abbrev pub has_at : List ℕ → Bool
@@ -39,9 +38,7 @@ abbrev pub job_of : List ℕ → Option (List ℕ)
 job_of name =
     if begins_with (λ b. b == byte "@") name || not (is_job_name (dashed name)) then None else Some (dashed name)
 
--- why a timer is no source by its name: a template is no unit, and what `\` means in the name of an instance isn't read (agenda)
+-- why a timer is no source by its name: what `\` means in the name of an instance isn't read (agenda)
 abbrev pub name_fault : List ℕ → Option Why
 name_fault name =
-    if is_template name then Some Template else
-    if has_at name && list_any (λ b. b == byte "\\") name then Some Escape else
-    None
+    if has_at name && list_any (λ b. b == byte "\\") name then Some Escape else None

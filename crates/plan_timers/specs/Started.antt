@@ -5,7 +5,7 @@ use Rattle.plan_texts.specs.WholeLines.{trimmed}
 use Rattle.plan_timers.specs.declared.source.SourceFile.{SourceFile}
 use Rattle.plan_timers.specs.Source.{TimerParts}
 use Rattle.plan_timers.specs.Texts.{lines_at}
-use Rattle.plan_timers.specs.Wishes.{or_path}
+use Rattle.plan_timers.specs.Links.{or_path}
 use Rattle.plan_tree.specs.Tree.{Held}
 use Rattle.plan_units.specs.Settings.{section_name, setting_of}
 use Rattle.plan_parts.specs.Specifiers.{expanded}

@@ -2,7 +2,7 @@
 use Rattle.std.specs.Prelude.{ℕ, Bool, not, ◌&&◌, if◌then◌else◌, List, [], ◌∷◌, Option, None, Some}
 use Rattle.plan_timers.specs.declared.links.LinkDir.{LinkDir}
 use Rattle.plan_timers.specs.declared.units.Units.{Units}
-use Rattle.plan_timers.specs.Links.{first_link}
+use Rattle.plan_timers.specs.Links.{first_link, or_path}
 use Rattle.plan_tree.specs.Tree.{Held}
 use Rattle.plan_units.specs.declared.paths.UnitDir.{UnitDir}
 use Rattle.plan_units.specs.declared.unit.Unit.{Unit}
@@ -29,10 +29,6 @@ is_set held dirs unit name = not (is_mask held.node unit.file.real) && is_in nam
 abbrev pub path_of_setting : Held → List UnitDir → Option Unit → List ℕ → Option (List ℕ)
 path_of_setting held dirs None name = None
 path_of_setting held dirs (Some unit) name = if is_set held dirs unit name then Some unit.file.path else None
-
-abbrev pub or_path : Option (List ℕ) → Option (List ℕ) → Option (List ℕ)
-or_path None next = next
-or_path (Some path) next = Some path
 
 -- the file of the first of these units that wants a name by a setting
 abbrev pub first_setting : Held → List UnitDir → List (List ℕ) → List ℕ → Option (List ℕ)

@@ -1,10 +1,10 @@
 //! The directories of links, and the links that enable a timer (systemd.unit(5)).
 
 ghost use Rattle.std.specs.Prelude.{◌≡◌, true, IfOk};
-ghost use Rattle.plan_timers.specs.Links.{first_link, is_directory, is_link_dir, link_dir, link_dirs, link_dirs_among, names_links};
+ghost use Rattle.plan_timers.specs.Links.{first_link, is_directory, is_link_dir, link_at, link_dir, link_dirs, link_dirs_among, link_in, names_links};
 
 use plan_tree::{Name, Node, Place, Tree};
-use plan_units::{UnitDir, is_counted, names_at, stem};
+use plan_units::{UnitDir, is_counted, names_at, stem, template_of, wanted_name};
 use std::alloc::{AllocError, Global};
 
 /// A directory of links to the units that a unit wants.
@@ -103,7 +103,8 @@ fn is_directory(node: &Node) -> bool
     }
 }
 
-/// Returns the path of the first link of a name in directories of links. A mask is none.
+/// Returns the path of the first link of a name in directories of links. A mask is none. A link to a template is one of the
+/// instance that the directory's unit means by it.
 ///
 /// # Errors
 ///
@@ -118,10 +119,51 @@ pub fn first_link<T: Tree>(
         path ≡ first_link (T.held tree.now).node links.now name.now) }
 {
     for link in links {
-        let real = link.dir.real.child(alloc, name)?;
-        if is_counted(alloc, tree, real.as_str())? {
-            return Ok(Some(link.dir.path.child(alloc, name)?));
+        if let Some(path) = link_in(alloc, tree, link, name)? {
+            return Ok(Some(path));
         }
     }
     Ok(None)
+}
+
+// Returns the path of the link of a name in a directory of links.
+fn link_in<T: Tree>(
+    alloc: Global,
+    tree: &T,
+    link: &LinkDir,
+    name: &str,
+) -> Result<Option<Place>, AllocError>
+    ensures { T.is_known ≡ true → IfOk result (λ path.
+        path ≡ link_in (T.held tree.now).node link.now name.now) }
+{
+    if let Some(path) = link_at(alloc, tree, &link.dir, name)? {
+        return Ok(Some(path));
+    }
+    let Some(template) = template_of(alloc, name)? else {
+        return Ok(None);
+    };
+    let meant = wanted_name(alloc, link.unit.as_str(), template.as_str())?;
+    if meant.as_str() == name {
+        link_at(alloc, tree, &link.dir, template.as_str())
+    } else {
+        Ok(None)
+    }
+}
+
+// Returns the path of a name in a directory, if what is there counts as a link.
+fn link_at<T: Tree>(
+    alloc: Global,
+    tree: &T,
+    dir: &UnitDir,
+    name: &str,
+) -> Result<Option<Place>, AllocError>
+    ensures { T.is_known ≡ true → IfOk result (λ path.
+        path ≡ link_at (T.held tree.now).node dir.now name.now) }
+{
+    let real = dir.real.child(alloc, name)?;
+    if is_counted(alloc, tree, real.as_str())? {
+        Ok(Some(dir.path.child(alloc, name)?))
+    } else {
+        Ok(None)
+    }
 }

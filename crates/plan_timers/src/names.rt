@@ -8,7 +8,6 @@ ghost use Rattle.plan_timers.specs.Names.{dashed, is_job_byte, is_job_name, job_
 use crate::order::has_at;
 use crate::skipped::Why;
 use plan_texts::{Text, begins_with};
-use plan_units::is_template;
 use std::alloc::{AllocError, Global};
 
 /// The minimum number of bytes in the name of a timer's job.
@@ -75,14 +74,10 @@ fn dashed(alloc: Global, name: &[u8]) -> Result<Vec<u8>, AllocError>
     Ok(job)
 }
 
-// Returns why a timer with this name is no source, if its name alone says so: it is that of a template, or that of an
-// instance and has a `\`.
+// Returns why a timer with this name is no source, if its name alone says so: it is that of an instance and has a `\`.
 pub(crate) fn name_fault(name: &str) -> Option<Why>
     ensures { result ≡ name_fault name.now }
 {
-    if is_template(name) {
-        return Some(Why::Template);
-    }
     if has_at(name) && has_backslash(name) {
         return Some(Why::Escape);
     }

@@ -7,8 +7,6 @@ use plan_texts::Text;
 pub enum Why {
     /// The name of the timer's job is invalid, or the timer's name begins with `@`.
     BadName,
-    /// The name is that of a template.
-    Template,
     /// The name of an instance has a `\`.
     Escape,
     /// No file counts for the name.

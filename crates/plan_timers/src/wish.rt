@@ -10,7 +10,7 @@ use plan_tree::{Name, Place, Tree};
 use plan_units::{Unit, UnitDir, is_mask, set_by_unit, unit_of};
 use std::alloc::{AllocError, Global};
 
-/// Returns the path of what enables a timer: the first link that has its name, or else its own file, or else the file of the
+/// Returns the path of what enables a timer: its first link, or else its own file, or else the file of the
 /// first unit that wants it by a setting. A timer without any of these is named by itself.
 ///
 /// # Errors

@@ -1,5 +1,5 @@
-pub mod DropInLemmas
 pub mod ReachLemmas
 pub mod TextLemmas
 pub mod TimerLemmas
+pub mod UnitDirLemmas
 pub mod UnitLemmas

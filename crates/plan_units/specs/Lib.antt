@@ -5,6 +5,7 @@ pub mod Masks
 pub mod Unit
 pub mod Entries
 pub mod Settings
+pub mod UnitDirs
 pub mod DropIns
 pub mod Wants
 pub mod Reach

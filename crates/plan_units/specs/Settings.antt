@@ -1,6 +1,6 @@
 -- The units that the text of a unit's file wants (systemd.unit(5), [Unit] section options; systemd.syntax(7)).
 use Rattle.std.specs.Prelude.{ℕ, ◌-◌, Bool, false, ◌&&◌, ◌||◌, ◌==◌, nat_lt, if◌then◌else◌, List, [], ◌∷◌, ◌++◌, length, slice_index, slice_range, Option, None, Some, codes}
-use Rattle.std.specs.List.{after_first, before_first, position_or_len}
+use Rattle.std.specs.List.{after_first, before_first, cons_option, position_or_len}
 use Rattle.std.specs.Str.{byte, bytes_eq, is_utf8}
 use Rattle.plan_texts.specs.Lines.{is_too_large}
 use Rattle.plan_texts.specs.Text.{begins_with, words}
@@ -8,6 +8,7 @@ use Rattle.plan_texts.specs.WholeLines.{trimmed, whole_lines}
 use Rattle.plan_tree.specs.Contents.{contents_of}
 use Rattle.plan_tree.specs.Tree.{Held}
 use Rattle.plan_parts.specs.Specifiers.{expanded}
+use Rattle.plan_units.specs.UnitNames.{wanted_name}
 
 -- ---- a whole line, without blanks at its ends
 
@@ -38,11 +39,14 @@ abbrev pub is_wanting : List ℕ → Bool
 is_wanting key =
     bytes_eq key (codes "Wants") || (bytes_eq key (codes "Requires") || (bytes_eq key (codes "BindsTo") || bytes_eq key (codes "Upholds")))
 
--- the names that words write in a file of a unit; what isn't UTF-8 is no name (agenda)
+-- the name that a word means in a file of a unit; what isn't UTF-8 is no name (agenda)
+unfoldable pub name_of_word : List ℕ → List ℕ → Option (List ℕ)
+name_of_word unit word = if is_utf8 (expanded unit word) then Some (wanted_name unit (expanded unit word)) else None
+
+-- the names that words mean in a file of a unit
 abbrev pub names_of_words : List ℕ → List (List ℕ) → List (List ℕ)
 names_of_words unit [] = []
-names_of_words unit (word ∷ more) =
-    if is_utf8 (expanded unit word) then expanded unit word ∷ names_of_words unit more else names_of_words unit more
+names_of_words unit (word ∷ more) = cons_option (name_of_word unit word) (names_of_words unit more)
 
 -- the names are the words of the value, so an empty value takes nothing away (systemd.unit(5))
 abbrev pub names_of_setting : List ℕ → Option (List ℕ × List ℕ) → List (List ℕ)

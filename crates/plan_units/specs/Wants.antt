@@ -7,11 +7,12 @@ use Rattle.plan_units.specs.declared.merging.Entry.{Entry}
 use Rattle.plan_units.specs.declared.paths.UnitDir.{UnitDir}
 use Rattle.plan_units.specs.declared.unit.Unit.{Unit}
 use Rattle.plan_units.specs.DropIns.{drop_ins}
-use Rattle.plan_units.specs.Entries.{entries_among, places_of}
+use Rattle.plan_units.specs.Entries.{entries_among}
 use Rattle.plan_units.specs.Masks.{is_mask}
 use Rattle.plan_units.specs.Settings.{set_names}
 use Rattle.plan_units.specs.Unit.{unit_of}
-use Rattle.plan_units.specs.UnitNames.{template_of}
+use Rattle.plan_units.specs.UnitDirs.{unit_dirs}
+use Rattle.plan_units.specs.UnitNames.{wanted_name}
 
 -- ---- by links
 
@@ -23,21 +24,16 @@ is_link _ = false
 abbrev pub is_counted : (List ℕ → Node) → List ℕ → Bool
 is_counted node path = is_link (node path) && not (is_mask node path)
 
--- the names of the entries that count
-abbrev pub counted_names : (List ℕ → Node) → List Entry → List (List ℕ)
-counted_names node [] = []
-counted_names node (entry ∷ more) =
-    if is_counted node entry.real then entry.name ∷ counted_names node more else counted_names node more
+-- the names of the entries that count, as they are meant for a unit
+abbrev pub counted_names : (List ℕ → Node) → List ℕ → List Entry → List (List ℕ)
+counted_names node unit [] = []
+counted_names node unit (entry ∷ more) =
+    if is_counted node entry.real then wanted_name unit entry.name ∷ counted_names node unit more else counted_names node unit more
 
--- a name and, for an instance, that of its template
-abbrev pub with_template : List ℕ → Option (List ℕ) → List (List ℕ)
-with_template name None = name ∷ []
-with_template name (Some template) = name ∷ template ∷ []
-
--- the names in the directories of a name with a suffix; the directories of its template count too (systemd.unit(5))
-abbrev pub linked_names : Held → List UnitDir → List ℕ → List ℕ → List (List ℕ)
-linked_names held dirs name suffix =
-    counted_names held.node (entries_among held (places_of dirs (with_template name (template_of name)) suffix))
+-- the names in the directories of a name with a suffix, as they are meant for its unit (systemd.unit(5); systemd 252)
+abbrev pub linked_names : Held → List UnitDir → List ℕ → List ℕ → List ℕ → List (List ℕ)
+linked_names held dirs name unit suffix =
+    counted_names held.node unit (entries_among held (unit_dirs dirs name suffix))
 
 -- ---- by settings
 
@@ -57,7 +53,8 @@ set_by_unit held dirs unit = set_names held unit.name unit.file.real ++ set_in h
 abbrev pub wants_of_unit : Held → List UnitDir → List ℕ → Unit → List (List ℕ)
 wants_of_unit held dirs name unit =
     if is_mask held.node unit.file.real then [] else
-    linked_names held dirs name (codes ".wants") ++ linked_names held dirs name (codes ".requires") ++ set_by_unit held dirs unit
+    linked_names held dirs name unit.name (codes ".wants") ++ linked_names held dirs name unit.name (codes ".requires")
+    ++ set_by_unit held dirs unit
 
 -- what a name wants: the unit that it is, and what that wants. A name without a unit wants nothing
 abbrev pub wants_by : Held → List UnitDir → List ℕ → Option Unit → List (List ℕ)

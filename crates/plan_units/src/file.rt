@@ -6,7 +6,7 @@ ghost use Rattle.std.specs.Str.{byte};
 ghost use Rattle.plan_tree.specs.Place.{child, start};
 ghost use Rattle.plan_units.specs.UnitFile.{file_by, file_by_lead, file_of_name, file_of_unit, is_below, is_unit_path, last_name, lead, lead_from};
 
-use crate::names::{is_template, named_for, template_of};
+use crate::names::{can_be_alias, is_template, named_for, template_of};
 use crate::paths::{UnitDir, unit_paths};
 use plan_texts::begins_with;
 use plan_tree::{Name, Node, Place, Tree, is_here, is_up, names_of};
@@ -104,6 +104,9 @@ fn file_by_lead(
 {
     let alias = if is_unit_path(alloc, to)? {
         let last = last_name(to);
+        if !can_be_alias(name, last) {
+            return Ok(None);
+        }
         if named_for(alloc, name, last)?.as_str() == name {
             return Ok(None);
         }

@@ -13,13 +13,14 @@ mod reach;
 mod settings;
 mod timers;
 mod unit;
+mod unit_dirs;
 mod wants;
 
 pub use drop_in_files::{drop_in_entries, drop_ins, drop_ins_among};
 pub use file::{UnitFile, file_of_unit, last_name};
 pub use mask::is_mask;
 pub use merging::{Entry, entries_among, names_at};
-pub use names::{is_template, stem};
+pub use names::{stem, template_of, wanted_name};
 pub use paths::{UnitDir, dir_at, search_path};
 pub use reach::{Wants, add_new, reached};
 pub use settings::{section_name, setting_of};

@@ -4,8 +4,10 @@ ghost use Rattle.std.specs.Prelude.{◌≡◌, false, true, IfOk, None, Some, if
 ghost use Rattle.std.specs.Option.{option_map};
 ghost use Rattle.std.specs.Str.{is_utf8};
 ghost use Rattle.plan_texts.specs.WholeLines.{whole_text};
-ghost use Rattle.plan_units.specs.Settings.{inside_after, is_wanting, names_of_found, names_of_lines, names_of_setting, names_of_text, names_of_words, section_name, set_names, setting_of};
+ghost use Rattle.plan_units.specs.Settings.{inside_after, is_wanting, name_of_word, names_of_found, names_of_lines, names_of_setting, names_of_text, names_of_words, section_name, set_names, setting_of};
+ghost use Rattle.plan_units.specs.UnitNames.{wanted_name};
 
+use crate::names::wanted_name;
 use plan_parts::expanded;
 use plan_texts::lines::{MOST_BYTES, is_too_large};
 use plan_texts::whole_lines::{WholeLine, trimmed, whole_lines};
@@ -125,27 +127,36 @@ fn is_wanting(key: &str) -> bool
     key == "Wants" || key == "Requires" || key == "BindsTo" || key == "Upholds"
 }
 
-// Returns the names that words write in the file of a unit.
+// Returns the names that words mean in the file of a unit.
 fn names_of_words(alloc: Global, unit: &str, words: &[&[u8]]) -> Result<Vec<Name>, AllocError>
     ensures { IfOk result (λ names. names.items ≡ names_of_words unit.now (map (λ word. word.now) words.now)) }
 {
     let mut names = Vec::new(alloc);
     for word in words {
-        let text = expanded(alloc, unit, word)?;
-        if let Some(name) = name_of(alloc, text.as_slice())? {
+        if let Some(name) = name_of_word(alloc, unit, word)? {
             names.push(name)?;
         }
     }
     Ok(names)
 }
 
-// Returns a text as a name, if it is UTF-8.
+// Returns the name that a word means in the file of a unit, if it is UTF-8.
+#[tactic(auto, unfolding(crate::specs::Settings::name_of_word))]
+fn name_of_word(alloc: Global, unit: &str, word: &[u8]) -> Result<Option<Name>, AllocError>
+    ensures { IfOk result (λ name. name ≡ name_of_word unit.now word.now) }
+{
+    let text = expanded(alloc, unit, word)?;
+    name_of_text(alloc, unit, text.as_slice())
+}
+
+// Returns the name that a text means in the file of a unit, if it is UTF-8.
 #[tactic(auto, using(crate::proofs::TextLemmas::name_of_utf8, crate::proofs::TextLemmas::name_of_other))]
-fn name_of(alloc: Global, text: &[u8]) -> Result<Option<Name>, AllocError>
-    ensures { IfOk result (λ name. name ≡ (if is_utf8 text.now then Some text.now else None)) }
+fn name_of_text(alloc: Global, unit: &str, text: &[u8]) -> Result<Option<Name>, AllocError>
+    ensures { IfOk result (λ name. name
+        ≡ (if is_utf8 text.now then Some (wanted_name unit.now text.now) else None)) }
 {
     match str::from_utf8(text) {
-        Ok(text) => Ok(Some(Name::at(alloc, text)?)),
+        Ok(text) => Ok(Some(wanted_name(alloc, unit, text)?)),
         Err(_) => Ok(None),
     }
 }

@@ -2,17 +2,17 @@
 
 ghost use Rattle.std.specs.Prelude.{◌≡◌, ◌++◌, true, IfOk, IfNone, IfSome, OnOk, if◌then◌else◌, ◌∷◌, []};
 ghost use Rattle.plan_units.specs.Reach.{AreReached, AreTooMany};
-ghost use Rattle.plan_units.specs.Wants.{counted_names, is_counted, linked_names, set_by_unit, set_in, wants_of, wants_of_unit, with_template};
-ghost use Rattle.plan_units.specs.UnitNames.{template_of};
+ghost use Rattle.plan_units.specs.Wants.{counted_names, is_counted, linked_names, set_by_unit, set_in, wants_of, wants_of_unit};
 
 use crate::drop_in_files::drop_ins;
 use crate::mask::is_mask;
-use crate::merging::{Entry, entries_among, places_of};
-use crate::names::template_of;
+use crate::merging::{Entry, entries_among};
+use crate::names::wanted_name;
 use crate::paths::UnitDir;
 use crate::reach::{Wants, reached};
 use crate::settings::set_names;
 use crate::unit::{Unit, unit_of};
+use crate::unit_dirs::unit_dirs;
 use plan_tree::{Name, Node, Tree};
 use std::alloc::{AllocError, Global};
 
@@ -95,15 +95,16 @@ fn wants_of_unit<T: Tree>(
     if is_mask(alloc, tree, unit.file.real.as_str())? {
         return Ok(Vec::new(alloc));
     }
-    let mut names = linked_names(alloc, tree, dirs, name, ".wants")?;
-    let mut required = linked_names(alloc, tree, dirs, name, ".requires")?;
+    let own = unit.name.as_str();
+    let mut names = linked_names(alloc, tree, dirs, name, own, ".wants")?;
+    let mut required = linked_names(alloc, tree, dirs, name, own, ".requires")?;
     let mut set = set_by_unit(alloc, tree, dirs, unit)?;
     names.append(&mut required)?;
     names.append(&mut set)?;
     Ok(names)
 }
 
-/// Returns the names that a unit's file and its drop-ins write in settings such as `Wants=`.
+/// Returns the names that a unit's file and its drop-ins mean in settings such as `Wants=`.
 ///
 /// # Errors
 ///
@@ -143,48 +144,37 @@ fn set_in<T: Tree>(
     Ok(names)
 }
 
-// Returns the names that are linked in the directories of a name with a suffix. The directories of its template count too.
+// Returns the names that are linked in the directories of a name with a suffix, as they are meant for its unit.
 fn linked_names<T: Tree>(
     alloc: Global,
     tree: &T,
     dirs: &[UnitDir],
     name: &str,
+    unit: &str,
     suffix: &str,
 ) -> Result<Vec<Name>, AllocError>
     ensures { T.is_known ≡ true → IfOk result (λ names.
-        names.items ≡ linked_names (T.held tree.now) dirs.now name.now suffix.now) }
+        names.items ≡ linked_names (T.held tree.now) dirs.now name.now unit.now suffix.now) }
 {
-    let names = with_template(alloc, name)?;
-    let places = places_of(alloc, dirs, names.as_slice(), suffix)?;
+    let places = unit_dirs(alloc, dirs, name, suffix)?;
     let found = entries_among(alloc, tree, places.as_slice())?;
-    counted_names(alloc, tree, found)
+    counted_names(alloc, tree, unit, found)
 }
 
-// Returns a name and, for an instance, that of its template.
-fn with_template(alloc: Global, name: &str) -> Result<Vec<Name>, AllocError>
-    ensures { IfOk result (λ names. names.items ≡ with_template name.now (template_of name.now)) }
-{
-    let mut names = Vec::new(alloc);
-    names.push(Name::at(alloc, name)?)?;
-    if let Some(template) = template_of(alloc, name)? {
-        names.push(template)?;
-    }
-    Ok(names)
-}
-
-// Returns the names of the entries that count: the links that lead to no mask.
+// Returns the names of the entries that count, as they are meant for a unit. They are the links that lead to no mask.
 fn counted_names<T: Tree>(
     alloc: Global,
     tree: &T,
+    unit: &str,
     found: Vec<Entry>,
 ) -> Result<Vec<Name>, AllocError>
     ensures { T.is_known ≡ true → IfOk result (λ names.
-        names.items ≡ counted_names (T.held tree.now).node found.items) }
+        names.items ≡ counted_names (T.held tree.now).node unit.now found.items) }
 {
     let mut names = Vec::new(alloc);
     for entry in found {
         if is_counted(alloc, tree, entry.real.as_str())? {
-            names.push(entry.name)?;
+            names.push(wanted_name(alloc, unit, entry.name.as_str())?)?;
         }
     }
     Ok(names)

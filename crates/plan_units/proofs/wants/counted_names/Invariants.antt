@@ -6,5 +6,5 @@ use Rattle.plan_units.proofs.wants.counted_names.Given as goal
 abbrev pub invariant-loop-entry : goal.invariant-loop-entry
 invariant-loop-entry g l =
     g.T.Tree.is_known ≡ true →
-    l.names.items ++ counted_names (g.T.Tree.held l.tree).node (into_iter_items l.entry-iterator)
-    ≡ counted_names (g.T.Tree.held l.tree).node l.fn.found.items
+    l.names.items ++ counted_names (g.T.Tree.held l.tree).node l.unit (into_iter_items l.entry-iterator)
+    ≡ counted_names (g.T.Tree.held l.tree).node l.unit l.fn.found.items

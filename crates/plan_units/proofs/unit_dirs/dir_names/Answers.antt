@@ -1,7 +1,7 @@
 -- A name is cut before its last `.`.
 use Rattle.std.proofs.Common.{lit<}
 use Rattle.plan_parts.proofs.NameLemmas.{boundary_before_last}
-use Rattle.plan_units.proofs.drop_in_files.drop_in_names.Goals as goal
+use Rattle.plan_units.proofs.unit_dirs.dir_names.Goals as goal
 
 pub range-requires-clause-end_boundary : goal.range-requires-clause-end_boundary
 range-requires-clause-end_boundary c =

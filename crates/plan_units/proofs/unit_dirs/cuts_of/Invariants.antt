@@ -1,6 +1,6 @@
 use Rattle.std.proofs.Common.{◌≡◌, ◌++◌, ◌≤◌, length, map}
-use Rattle.plan_units.specs.DropIns.{cuts_below, cuts_of}
-use Rattle.plan_units.proofs.drop_in_files.cuts_of.Given as goal
+use Rattle.plan_units.specs.UnitDirs.{cuts_below, cuts_of}
+use Rattle.plan_units.proofs.unit_dirs.cuts_of.Given as goal
 
 abbrev pub decreases-loop-place : goal.decreases-loop-place
 decreases-loop-place l = l.place

@@ -1,7 +1,7 @@
 -- The parts of a text that are cut at a place, and those at the places before it.
 use Rattle.std.proofs.Common.{◌≡◌, ◌≢◌, ℕ, zero, suc, ◌+◌, ◌-◌, ◌<◌, ◌≤◌, ◌&&◌, ◌==◌, nat_lt, true, cond, List, [], ◌∷◌, ◌++◌, take, slice_index, slice_range, append_assoc, append-nil, refl, ap, sym, ◌∙◌, arith}
 use Rattle.std.proofs.lemmas.Bool.Decides.{nat_tests}
-use Rattle.plan_units.specs.DropIns.{cuts_below}
+use Rattle.plan_units.specs.UnitDirs.{cuts_below}
 
 -- what one place adds
 abbrev pub cut_at_place : List ℕ → ℕ → List (List ℕ)

@@ -1,6 +1,6 @@
 use Rattle.std.proofs.Common.{◌≡◌, ◌++◌, drop, map}
-use Rattle.plan_units.specs.DropIns.{cuts_of, with_end}
-use Rattle.plan_units.proofs.drop_in_files.add_cuts.Given as goal
+use Rattle.plan_units.specs.UnitDirs.{cuts_of, with_end}
+use Rattle.plan_units.proofs.unit_dirs.add_cuts.Given as goal
 
 abbrev pub invariant-loop-shorter : goal.invariant-loop-shorter
 invariant-loop-shorter l =

@@ -2,9 +2,9 @@
 use Rattle.std.proofs.Common.{◌≡◌, ◌≢◌, ◌-◌, ◌<◌, ◌++◌, ◌∷◌, [], ℕ, List, Bor, length, map, slice_index_or, ap, ◌∙◌, arith}
 use Rattle.std.proofs.lemmas.List.{map-append}
 use Rattle.std.proofs.lemmas.Str.{IsCharBoundary-after_ascii}
-use Rattle.plan_units.specs.DropIns.{cuts_below, cuts_of}
-use Rattle.plan_units.proofs.DropInLemmas.{cut_taken, cuts_done}
-use Rattle.plan_units.proofs.drop_in_files.cuts_of.Goals as goal
+use Rattle.plan_units.specs.UnitDirs.{cuts_below, cuts_of}
+use Rattle.plan_units.proofs.UnitDirLemmas.{cut_taken, cuts_done}
+use Rattle.plan_units.proofs.unit_dirs.cuts_of.Goals as goal
 
 pub range-requires-clause-end_boundary : goal.range-requires-clause-end_boundary
 range-requires-clause-end_boundary c =

@@ -1,6 +1,6 @@
 use Rattle.std.proofs.Common.{lit<}
 use Rattle.plan_parts.proofs.NameLemmas.{boundary_after_last}
-use Rattle.plan_units.proofs.drop_in_files.type_of.Goals as goal
+use Rattle.plan_units.proofs.unit_dirs.type_of.Goals as goal
 
 pub range_from-requires : goal.range_from-requires
 range_from-requires c = λ some.
