@@ -2,7 +2,8 @@
 
 use crate::tree::TextTree;
 use plan_timers::{
-    SourceFile, TimersFound, Why, WhyNot, default_accuracy, machine_timers, planned_timers,
+    NotPlanned, SourceFile, TimersFound, Why, WhyNot, default_accuracy, machine_timers,
+    planned_timers,
 };
 use plan_units::search_path;
 use std::alloc::{AllocError, Global};
@@ -109,22 +110,32 @@ fn timers_that_the_boot_reaches_are_sources(rt: HostRuntime) -> Result<(), Fail>
     Ok(())
 }
 
+// Returns whether a timer isn't planned since other.service is missing.
+fn lacks_other_service(other: &NotPlanned) -> bool {
+    match &other.why {
+        WhyNot::UnitMissing(unit) => unit.as_str() == "other.service",
+        WhyNot::UnitMasked(_) => false,
+    }
+}
+
 #[test]
 fn a_timer_without_its_unit_is_not_planned(rt: HostRuntime) -> Result<(), Fail> {
     let alloc = rt.alloc();
     let tree = TextTree(MACHINE);
     let dirs = search_path(alloc, &tree)?;
     let sources = match machine_timers(alloc, &tree, dirs.as_slice(), false)? {
-        Some(TimersFound { sources, .. }) => sources,
+        Some(
+            TimersFound {
+                sources,
+                skipped: _skipped,
+            },
+        ) => sources,
         None => Vec::new(alloc),
     };
     let found = planned_timers(alloc, &tree, dirs.as_slice(), sources)?;
     assert_eq!(&rt; found.planned.len(), 2);
     assert_eq!(&rt; found.others.len(), 1);
-    let is_missing = found.others.iter().all(
-        |other| matches!(&other.why, WhyNot::UnitMissing(unit) if unit.as_str() == "other.service"),
-    );
-    assert!(&rt; is_missing);
+    assert!(&rt; found.others.iter().all(lacks_other_service));
     assert_eq!(&rt; default_accuracy(alloc, &tree)?, 5_000_000);
     Ok(())
 }

@@ -25,12 +25,13 @@ impl TextTree<'_> {
 }
 
 impl Tree for TextTree<'_> {
-    ghost use Rattle.std.specs.Prelude.{false, None};
+    ghost use Rattle.std.specs.Prelude.{false};
+    ghost use Rattle.plan_tree.specs.Tree.{unknown};
 
     // The tests compare what is found. They prove nothing about this tree.
     ghost is_known = { false };
 
-    ghost held = { λ _. record { node = λ _. Missing; names = λ _. None; bytes = λ _. None } };
+    ghost held = { λ _. unknown };
 
     fn node(&self, alloc: Global, path: &str) -> Result<Node, AllocError> {
         match self.find(path) {
