@@ -19,6 +19,14 @@ _agenda() {
     local at
     for ((at = 1; at < cword; at++)); do
         case ${words[at]} in
+            machine)
+                command=machine
+                # a command of this one may follow
+                ((at + 1 == cword)) || command="machine ${words[at + 1]}"
+                # without a question, the options are those of upcoming
+                [[ $command != machine\ -* ]] || command='machine upcoming'
+                break
+                ;;
             next | plan | upcoming | quiet | check | steps | explain)
                 command=${words[at]}
                 break
@@ -33,6 +41,10 @@ _agenda() {
             ;;
         next:--calendar)
             mapfile -t COMPREPLY < <(compgen -W 'minutely hourly daily weekly monthly quarterly semiannually yearly annually' -- "$cur")
+            return
+            ;;
+        machine\ *:--root)
+            _filedir -d
             return
             ;;
         *:--crontab | *:--system-crontab | *:--cron-d | *:--spool)
@@ -61,12 +73,13 @@ _agenda() {
     local sources='--zone= --event-zones --crontab= --system-crontab= --cron-d= --spool= --help'
     local jobs="--keep-going --delays --json --local $sources"
     local span='--since= --upto= --until= --planners= --room= --limit='
+    local machine='--root= --all --zone= --utc --json --help'
     case $command:$cur in
         :-*)
             mapfile -t COMPREPLY < <(compgen -W '--help --version' -- "$cur")
             ;;
         :*)
-            mapfile -t COMPREPLY < <(compgen -W 'next plan upcoming quiet check steps explain' -- "$cur")
+            mapfile -t COMPREPLY < <(compgen -W 'next plan upcoming quiet check machine steps explain' -- "$cur")
             ;;
         next:*)
             mapfile -t COMPREPLY < <(compgen -W '--after= --zone= --event-zones --count= --cron= --calendar= --json --local --help' -- "$cur")
@@ -86,6 +99,29 @@ _agenda() {
             ;;
         check:-*)
             mapfile -t COMPREPLY < <(compgen -W "--json $sources" -- "$cur")
+            [[ ${COMPREPLY-} == *= ]] && compopt -o nospace
+            ;;
+        machine:-* | machine\ upcoming:*)
+            mapfile -t COMPREPLY < <(compgen -W "--after= --delays $machine" -- "$cur")
+            [[ ${COMPREPLY-} == *= ]] && compopt -o nospace
+            ;;
+        machine:*)
+            mapfile -t COMPREPLY < <(compgen -W 'upcoming plan quiet check sources' -- "$cur")
+            ;;
+        machine\ plan:*)
+            mapfile -t COMPREPLY < <(compgen -W "$span --delays $machine" -- "$cur")
+            [[ ${COMPREPLY-} == *= ]] && compopt -o nospace
+            ;;
+        machine\ quiet:*)
+            mapfile -t COMPREPLY < <(compgen -W "$span --least= --nominal $machine" -- "$cur")
+            [[ ${COMPREPLY-} == *= ]] && compopt -o nospace
+            ;;
+        machine\ sources:*)
+            mapfile -t COMPREPLY < <(compgen -W '--root= --all --json --help' -- "$cur")
+            [[ ${COMPREPLY-} == *= ]] && compopt -o nospace
+            ;;
+        machine\ check:*)
+            mapfile -t COMPREPLY < <(compgen -W "$machine" -- "$cur")
             [[ ${COMPREPLY-} == *= ]] && compopt -o nospace
             ;;
         plan:* | upcoming:* | quiet:* | check:*)

@@ -13,12 +13,13 @@ function __fish_agenda_zones
     end
 end
 
-set -l none 'not __fish_seen_subcommand_from next plan upcoming quiet check steps explain'
+set -l none 'not __fish_seen_subcommand_from next plan upcoming quiet check machine steps explain'
 complete -c agenda -n $none -a next -d 'Print the next starts of one rule'
 complete -c agenda -n $none -a plan -d 'Print every start in a span of time'
 complete -c agenda -n $none -a upcoming -d 'Print when each job of crontabs and timers starts next'
 complete -c agenda -n $none -a quiet -d 'Print the gaps in which no job starts'
 complete -c agenda -n $none -a check -d 'Print errors and likely mistakes in crontabs and timers'
+complete -c agenda -n $none -a machine -d 'Answer questions about a machine\'s crontabs and timers'
 complete -c agenda -n $none -a steps -d 'Run a script of steps on a mailbox'
 complete -c agenda -n $none -a explain -d 'Explain the code of an error or a warning'
 complete -c agenda -s h -l help -d 'Print help'
@@ -27,7 +28,8 @@ complete -c agenda -n $none -s V -l version -d 'Print the version'
 set -l after '__fish_seen_subcommand_from next upcoming'
 complete -c agenda -n $after -l after -x -d 'Only starts later than this time'
 
-set -l zone '__fish_seen_subcommand_from next plan upcoming quiet check'
+# machine has a command check of its own
+set -l zone 'not __fish_seen_subcommand_from machine; and __fish_seen_subcommand_from next plan upcoming quiet check'
 complete -c agenda -n $zone -l zone -r -F -d 'The time zone of the rules [UTC]' -a '(__fish_agenda_zones)'
 complete -c agenda -n $zone -l event-zones -d 'Read events that end with a time zone'
 complete -c agenda -n $zone -l json -d 'Print each line as a JSON object'
@@ -60,12 +62,31 @@ set -l jobs '__fish_seen_subcommand_from plan upcoming quiet'
 complete -c agenda -n $jobs -l keep-going -d 'Skip what is invalid or can\'t be read, and report it'
 complete -c agenda -n $jobs -l delays -d 'Include the delays of timers'
 
-set -l sources '__fish_seen_subcommand_from plan upcoming quiet check'
+set -l sources 'not __fish_seen_subcommand_from machine; and __fish_seen_subcommand_from plan upcoming quiet check'
 complete -c agenda -n $sources -l crontab -r -F -d 'A user\'s crontab'
 complete -c agenda -n $sources -l system-crontab -r -F -d 'The system\'s crontab'
 complete -c agenda -n $sources -l cron-d -r -F -d 'A crontab of a package'
 complete -c agenda -n $sources -l spool -r -F -d 'A user\'s crontab, named by the user'
 complete -c agenda -n $sources -k -a '(__fish_complete_suffix .timer)'
+
+set -l machine '__fish_seen_subcommand_from machine; and not __fish_seen_subcommand_from upcoming plan quiet check sources'
+complete -c agenda -n $machine -a upcoming -d 'Print when each job of a machine starts next'
+complete -c agenda -n $machine -a plan -d 'Print every start of a machine\'s jobs in a span of time'
+complete -c agenda -n $machine -a quiet -d 'Print the gaps in which no job of a machine starts'
+complete -c agenda -n $machine -a check -d 'Print errors and likely mistakes in a machine\'s crontabs and timers'
+complete -c agenda -n $machine -a sources -d 'List a machine\'s crontabs and timers'
+
+set -l question '__fish_seen_subcommand_from machine'
+complete -c agenda -n $question -l root -x -d 'The root directory of the machine [/]' -a '(__fish_complete_directories)'
+complete -c agenda -n $question -l all -d 'Include timers that aren\'t enabled'
+complete -c agenda -n $question -l json -d 'Print each line as a JSON object'
+
+set -l zoned '__fish_seen_subcommand_from machine; and not __fish_seen_subcommand_from sources'
+complete -c agenda -n $zoned -l zone -r -F -d 'The time zone of the rules, if not that of the machine' \
+    -a '(__fish_agenda_zones)'
+complete -c agenda -n $zoned -l utc -d 'Read the rules in UTC'
+complete -c agenda -n '__fish_seen_subcommand_from machine; and __fish_seen_subcommand_from quiet' -l nominal \
+    -d 'Don\'t count the delays of timers'
 
 complete -c agenda -n '__fish_seen_subcommand_from steps' -F
 complete -c agenda -n '__fish_seen_subcommand_from explain' -a '(agenda explain 2>/dev/null)'

@@ -504,15 +504,15 @@ package_dep5() {
   count "the format of the file copyright"
 }
 
-# Prints the names of the kit's crates that the crates of the project name.
+# Prints the names of the kit's crates that the crates of the program name.
 package_kit_crates() {
   local name
   while IFS= read -r name; do
     [ -d "$top/crates/$name" ] || echo "$name"
-  done < <(awk '{ sub(/^[^:]*:/, ""); for (i = 1; i <= NF; i++) print $i }' "$top/crates.txt" | sort -u)
+  done < <(crate_lines agenda | awk '{ for (i = 2; i <= NF; i++) print $i }' | sort -u)
 }
 
-# The file copyright has a paragraph of each crate of the kit that the crates of the project name.
+# The file copyright has a paragraph of each crate of the kit that the crates of the program name.
 package_crates() {
   local name
   while IFS= read -r name; do
@@ -549,7 +549,7 @@ package_notice() {
     tell "the licence of $1 has another text"
 }
 
-# The file copyright says of each crate of the kit what its licence files say. These are the crates that the crates of the project name, and
+# The file copyright says of each crate of the kit what its licence files say. These are the crates that the crates of the program name, and
 # those that they need, by the kit's list.
 package_notices() {
   local kit name at=0

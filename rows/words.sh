@@ -1,6 +1,7 @@
 # shellcheck shell=bash disable=SC2154
 # What the words of the command line ask for: the texts of help, of the version and of usage, and, by what the program does, how it
-# reads each word. In the rows the words have `|` between them; the name of the program isn't among them.
+# reads each word. In the rows the words have `|` between them; the name of the program isn't among them. Those of the commands of
+# `agenda machine` are in rows/machine-words.sh.
 
 # Runs the program with the words $1.
 words_run() {
@@ -38,6 +39,7 @@ Commands:
   upcoming  Prints when each job of crontabs and timers starts next
   quiet     Prints the gaps in which no job of crontabs and timers starts
   check     Prints errors and likely mistakes in crontabs and timers
+  machine   Answers questions about a machine's crontabs and timers
   steps     Runs a script of steps on a mailbox, for testing
   explain   Explains a code, such as OutOfRange, and what to do about it
 
@@ -56,6 +58,7 @@ Examples:
   agenda upcoming --after 2024-01-01T00:00:00Z --crontab jobs backup.timer
   agenda quiet --since 2024-01-01T00:00:00Z --upto 2024-01-02T00:00:00Z --crontab jobs
   agenda check --crontab jobs backup.timer
+  agenda machine check
   agenda steps script
   agenda explain OutOfRange
 END
@@ -280,6 +283,34 @@ Example:
 END
 }
 
+words_make_help_of_machine() {
+  cat >"$work/words/machine.text" <<'END'
+Answers questions about a machine's crontabs and timers
+
+Usage: agenda machine [COMMAND] [OPTIONS]
+
+Commands:
+  upcoming  Prints when each job of a machine starts next
+  plan      Prints every start of a machine's jobs in a span of time
+  quiet     Prints the gaps in which no job of a machine starts
+  check     Prints errors and likely mistakes in a machine's crontabs and timers
+  sources   Lists a machine's crontabs and timers
+
+Options:
+  -h, --help  Print help
+
+The machine is the one that agenda runs on, or, with --root, one whose disk is mounted at
+DIR. Its crontabs, its timers with their drop-ins, and its time zone are found by the rules
+of cron and systemd. Nothing on it is changed. agenda(1) says which files are read.
+Without a command, the options are those of upcoming.
+
+Examples:
+  agenda machine
+  agenda machine plan --since 2026-12-01T22:00:00Z --until 2026-12-02T05:00:00Z
+  agenda machine check --root /mnt
+END
+}
+
 words_make_help_of_steps() {
   cat >"$work/words/steps.text" <<'END'
 Runs a script of steps on a mailbox, for testing
@@ -360,6 +391,9 @@ quiet quiet|--since|2024-01-01T00:00:00Z|--least|0|-h
 check check|--help
 check check|-h
 check check|--crontab|nothing|nothing|-h
+machine machine|--help
+machine machine|-h
+machine machine|--help|check
 steps steps|--help
 steps steps|-h
 steps steps|script|-h
@@ -379,7 +413,7 @@ words_tell_usage() {
 words_tell_usage_of_agenda() {
   words_tell_usage '' <<'END'
 error: 'agenda' requires a subcommand but one was not provided
-  [subcommands: next, plan, upcoming, quiet, check, steps, explain]
+  [subcommands: next, plan, upcoming, quiet, check, machine, steps, explain]
 
 Usage: agenda <COMMAND>
 
@@ -868,6 +902,7 @@ words_make_help_of_plan
 words_make_help_of_upcoming
 words_make_help_of_quiet
 words_make_help_of_check
+words_make_help_of_machine
 words_make_help_of_steps
 words_make_help_of_explain
 words_make_version

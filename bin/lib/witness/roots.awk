@@ -8,7 +8,8 @@
 #   link     a link
 #
 # Links to files are relative to their own directory, because systemd follows a link that begins with `/` out
-# of the root here.
+# of the root here. Directories that are links aren't made: neither `systemd-analyze --root` nor agenda-machine reads
+# them, but systemd itself does, as boot-roots.awk shows.
 
 # Returns a number from 0 up to n, excluded.
 function any(n) {
@@ -98,8 +99,6 @@ function make_common(name) {
   make("empty", "opt/empty")
   make("file", "opt/unit")
   make("file", "opt/drop-in")
-  make("file", "opt/folder/l.conf")
-  make("link", "opt/folder/a.timer", "nowhere")
   if (comes(30)) {
     name = comes(50) ? "a.timer" : "a-b.timer"
     make("link", folders[1 + any(5)] "/alias.timer", comes(50) ? name : "/usr/lib/systemd/system/" name)
@@ -110,13 +109,6 @@ function make_common(name) {
   if (comes(10)) make_wish("@x.timer")
   if (comes(10)) make_wish("u@.timer")
   if (comes(10)) make_wish("t@i\\x2dj.timer")
-}
-
-# Makes a link to a directory of drop-ins or of enablement links.
-function make_linked(folder) {
-  folder = folders[1 + any(5)]
-  if (comes(70)) make("link", folder "/" owners[1 + any(n_owners)] ".d", elsewhere(folder, "folder"))
-  else make("link", folder "/x.target.wants", elsewhere(folder, "folder"))
 }
 
 BEGIN {
@@ -135,7 +127,6 @@ BEGIN {
     merged = comes(12)
     if (merged) make("link", "lib", "usr/lib")
     folders[4] = merged ? folders[5] : "lib/systemd/system"
-    for (at = 0; at < 2; at++) if (comes(12)) make_linked()
     for (at = 3 + any(6); at > 0; at--) {
       chosen = timers[1 + any(n_timers)]
       make_timer(chosen ".timer")

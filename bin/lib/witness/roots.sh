@@ -7,17 +7,19 @@
 
 roots=100
 
-# Makes the roots of standard input, which roots.awk writes, whose number has the remainder $1 when divided by $2.
+# Makes the roots of standard input, which roots.awk or boot-roots.awk writes, in the directory $3: those whose number
+# has the remainder $1 when divided by $2.
 make_roots() {
   local number kind path text
   while IFS=$'\t' read -r number kind path text; do
     [ $((number % $2)) = "$1" ] || continue
-    path=$work/roots/$number/$path
+    path=$3/$number/$path
     # nothing is written through a link, which may lead out of the root
     if [ -L "$path" ] || [ -L "${path%/*}" ]; then continue; fi
     [ -d "${path%/*}" ] || mkdir -p -- "${path%/*}"
     case $kind in
       file) printf '[Timer]\nOnCalendar=%%n %%N %%p %%i %%j %%I %%P 0%%%%\n' >"$path" ;;
+      text) printf '%b' "$text" >"$path" ;;
       target) printf '[Unit]\nDescription=wishes\n' >"$path" ;;
       empty) : >"$path" ;;
       folder) mkdir -p -- "$path" ;;
@@ -101,7 +103,7 @@ compare_root() {
 # Makes and compares the roots whose number has the remainder $1 when divided by $2.
 compare_share() {
   local number root
-  make_roots "$1" "$2" <"$work/roots.list"
+  make_roots "$1" "$2" "$work/roots" <"$work/roots.list"
   for ((number = 1; number <= roots; number++)); do
     [ $((number % $2)) = "$1" ] || continue
     root=$work/roots/$number

@@ -1,10 +1,12 @@
 //! The program `agenda`: shows when jobs start, and what a mailbox replies, as its arguments request.
 #![tactic(auto)]
 
-use agenda_answers::{Files, answer, answer_arguments, read_front, unread_arguments};
+use agenda_answers::{Files, Host, answer, answer_arguments, read_front, unread_arguments};
+use plan_tree::DiskTree;
 use std::alloc::Global;
 use std::fs::File;
 use std::process::ExitCode;
+use std::time::{SystemTime, UNIX_EPOCH};
 use std::{env, io};
 
 #[cfg(test)]
@@ -30,22 +32,47 @@ impl Files for HostFiles<'_> {
 }
 
 fn main(rt: HostRuntime) -> ExitCode {
-    let (mut files, mut out, mut err) = (HostFiles(&rt), rt.stdout(), rt.stderr());
+    let (mut files, tree) = (HostFiles(&rt), DiskTree::new(&rt));
+    let host = Host {
+        tree: &tree,
+        time: time_of(&rt),
+    };
+    let (mut out, mut err) = (rt.stdout(), rt.stderr());
     let status = match given_arguments(&rt) {
         Ok(words) => answer_arguments(
             &rt,
             rt.alloc(),
             words.as_slice(),
             &mut files,
+            &host,
             &mut out,
             &mut err,
         ),
         Err(fault) => {
             let asked = Err(unread_arguments(rt.alloc(), fault.kind()));
-            answer(&rt, rt.alloc(), asked, &mut files, &mut out, &mut err)
+            answer(
+                &rt,
+                rt.alloc(),
+                asked,
+                &mut files,
+                &host,
+                &mut out,
+                &mut err,
+            )
         }
     };
     ExitCode::from(status)
+}
+
+// Returns the time in seconds since 1970, or 0 if the clock can't be read or shows an earlier time.
+fn time_of(rt: &HostRuntime) -> u64 {
+    match SystemTime::now(rt) {
+        Ok(time) => match time.duration_since(UNIX_EPOCH) {
+            Ok(duration) => duration.as_secs(),
+            Err(_) => 0,
+        },
+        Err(_) => 0,
+    }
 }
 
 // Returns the arguments of the command line, with the program's name first.

@@ -2,16 +2,18 @@
 use Rattle.std.proofs.Common.{◌≡◌, ◌≢◌, Bool, true, false, ℕ, List, [], ◌∷◌, Option, None, Some, Result, Ok, Err, refl, ap, sym, subst, ◌∙◌}
 use Rattle.plan_clock.specs.declared.row.Change.{Change}
 use Rattle.agenda_sources.specs.declared.SourcePath.{SourcePath}
+use Rattle.agenda_sources.specs.declared.Found.{Found}
 use Rattle.agenda_sources.specs.declared.Source.{Source}
 use Rattle.agenda_sources.specs.declared.TimeZones.{TimeZones}
 use Rattle.agenda_sources.specs.Findings.{kept_jobs, sources_errors}
 use Rattle.agenda_sources.specs.Sources.{jobs_reading}
 use Rattle.agenda_arguments.specs.declared.Ask.{Ask}
-use Rattle.agenda_arguments.specs.declared.Ask.TheVariants.{Next, Plan, Upcoming, Quiet, Check, Steps, Explain}
+use Rattle.agenda_arguments.specs.declared.Ask.TheVariants.{Next, Plan, Upcoming, Quiet, Check, Steps, Explain, Machine}
 use Rattle.agenda_arguments.specs.declared.JobsRequest.{JobsRequest}
 use Rattle.agenda_arguments.specs.declared.ZonesRequest.{ZonesRequest}
 use Rattle.agenda_faults.specs.declared.faults.Failure.{Failure}
 use Rattle.agenda_faults.specs.declared.faults.Failure.TheVariants.{Run}
+use Rattle.agenda_faults.specs.declared.faults.RunFault.{RunFault}
 use Rattle.agenda_faults.specs.declared.faults.RunFault.TheVariants.{NoMemory}
 use Rattle.agenda_faults.specs.Faults.{fault_of_sources}
 use Rattle.agenda_commands.specs.declared.Goal.{Goal}
@@ -20,7 +22,7 @@ use Rattle.agenda_commands.specs.Prepare.{jobs_or}
 use Rattle.agenda_answers.specs.declared.sources.Tried.{Tried}
 use Rattle.agenda_answers.specs.EventZones.{found_by, found_zones, is_given, zones_by}
 use Rattle.agenda_answers.specs.Files.{Held}
-use Rattle.agenda_answers.specs.Outcome.{Outcome, answer_of, outcome_by}
+use Rattle.agenda_answers.specs.Outcome.{Outcome, answer_of, outcome_by, skipped_status}
 use Rattle.agenda_answers.specs.Program.{ChangesNothing, SkipsNothing}
 use Rattle.agenda_answers.specs.Requests.{request_of, stopping}
 use Rattle.agenda_answers.specs.Sources.{input_of, tries_of, with_first}
@@ -107,12 +109,22 @@ abbrev pub KeepsAll : Type 0
 KeepsAll = (zones : TimeZones) → (sources : List Source) → sources_errors zones sources ≡ [] →
     jobs_reading zones sources ≡ Ok (kept_jobs zones sources)
 
+-- the outcome with these errors
+abbrev outcome_with : Tried → Result (List ℕ) RunFault → List Found → Outcome
+outcome_with tried answer errors = record {
+  unread = tried.unread;
+  paths = tried.paths;
+  errors = errors;
+  answer = answer;
+  status = skipped_status tried.unread errors;
+}
+
 same_outcome :
     (law : KeepsAll) (held : Held) (goal : Goal) (jobs : JobsRequest) (end : Result Outcome Failure) → outcome_by true held goal jobs end →
     SkipsNothing end → outcome_by false held goal jobs end
 same_outcome law held goal jobs (Ok kept)
     (goes (tried, zones) read (goes format made (goes (errors, left) found (goes answer is same)))) none =
-    let all : kept ≡ record { unread = tried.unread; paths = tried.paths; errors = errors; answer = answer } = cc in
+    let all : kept ≡ outcome_with tried answer errors = cc in
     let no_errors : errors ≡ [] = sym (ap (λ k. k.errors) all) ∙ none.1 in
     let all_kept : jobs_reading zones tried.sources ≡ Ok (kept_jobs zones tried.sources) =
     law zones tried.sources (sym (ap (λ pair. pair.0) found) ∙ no_errors) in
@@ -120,7 +132,7 @@ same_outcome law held goal jobs (Ok kept)
     ap (λ pair. jobs_or pair.1 zones tried.sources) found ∙ sym (ap (step fault_of_sources) all_kept) in
     goes (tried, zones) (input_read held jobs.zones jobs.sources tried zones read (sym (ap (λ k. k.unread) all) ∙ none.0))
     (goes format made (goes ([], None) refl (goes answer (subst (λ js. answer_of format goal js (Ok answer)) same_jobs is)
-    (ap Ok (all ∙ ap (λ es. record { unread = tried.unread; paths = tried.paths; errors = es; answer = answer }) no_errors)))))
+    (ap Ok (all ∙ ap (outcome_with tried answer) no_errors)))))
 same_outcome law held goal jobs (Ok kept) (goes input read (goes format made (goes left found (stops failure _ same)))) none = absurd cc
 same_outcome law held goal jobs (Ok kept) (goes input read (goes format made (stops failure _ same))) none = absurd cc
 same_outcome law held goal jobs (Ok kept) (goes input read (stops failure _ same)) none = absurd cc
@@ -150,3 +162,4 @@ times_rejected (Quiet plan least) failure (goes planning is same) = absurd cc
 times_rejected (Check zones sources json) failure is = is
 times_rejected (Steps file) failure is = is
 times_rejected (Explain code) failure is = is
+times_rejected (Machine machine) failure is = is

@@ -1,8 +1,10 @@
 pub mod EventZonesLemmas
 pub mod FileLemmas
 pub mod KeepingLaws
+pub mod MachineLemmas
 pub mod OpenedLemmas
 pub mod OutcomeLemmas
+pub mod RootLemmas
 pub mod ScriptLemmas
 pub mod StepLemmas
 pub mod TriedLemmas

@@ -15,7 +15,7 @@ use Rattle.agenda_faults.specs.Faults.{status_of}
 use Rattle.agenda_faults.specs.Status.{done_status, rejected_status}
 use Rattle.agenda_answers.specs.declared.requests.StartsRequest.{StartsRequest}
 use Rattle.agenda_answers.specs.Files.{Held, whole_of}
-use Rattle.agenda_answers.specs.Formats.{format_made}
+use Rattle.agenda_answers.specs.Formats.{format_made, utc_name}
 use Rattle.agenda_answers.specs.Sources.{input_of, rule_zones}
 use Rattle.agenda_answers.specs.Steps.{Step, fails, gives, ◌>>=◌}
 use Rattle.agenda_commands.specs.declared.Checked.{Checked}
@@ -64,7 +64,7 @@ status_after (Err fault) = Err (Run fault)
 abbrev pub next_ends : Held → StartsRequest → Step Printed
 next_ends held request = do
   zones ← rule_zones held request.zones request.rule
-  format ← format_made request.format request.zones.zone zones.clock
+  format ← format_made request.format request.zones.zone utc_name zones.clock
   outputs_if (valid_count request.count) (next_output zones request.rule request.after request.count format)
 
 -- the exit status of `check`

@@ -1,5 +1,5 @@
 -- How the answer to a request is written. All of it is our choice (agenda).
-use Rattle.std.specs.Prelude.{◌≡◌, Bool, true, false, ℕ, List, codes, Option, None, Some, Ok, Err, unwrap_or}
+use Rattle.std.specs.Prelude.{◌≡◌, Bool, true, false, if◌then◌else◌, ℕ, List, codes, Option, None, Some, Ok, Err, unwrap_or}
 use Rattle.plan_clock.specs.declared.row.Change.{Change}
 use Rattle.plan_rules.specs.declared.NamedZone.{NamedZone}
 use Rattle.plan_write.specs.declared.Format.{Format}
@@ -8,20 +8,28 @@ use Rattle.agenda_faults.specs.declared.faults.Failure.TheVariants.{Run}
 use Rattle.agenda_faults.specs.declared.faults.RunFault.TheVariants.{NoMemory}
 use Rattle.agenda_answers.specs.Steps.{Step}
 
--- the given zone, with its text as its name, or UTC if none is given
-abbrev pub zone_of : (given : Option (List ℕ)) → (clock : List Change) → NamedZone
-zone_of given clock = record { name = unwrap_or given (codes "UTC"); clock = clock }
+-- the given zone, with its text as its name; without a text it is called `unnamed`
+abbrev pub zone_of : (given : Option (List ℕ)) → (unnamed : List ℕ) → (clock : List Change) → NamedZone
+zone_of given unnamed clock = record { name = unwrap_or given unnamed; clock = clock }
 
 -- the zone by whose clock times are shown: none unless that is requested
-abbrev pub local_zone : (local : Bool) → (given : Option (List ℕ)) → (clock : List Change) → Option NamedZone
-local_zone true given clock = Some (zone_of given clock)
-local_zone false given clock = None
+abbrev pub local_zone : (local : Bool) → (given : Option (List ℕ)) → (unnamed : List ℕ) → (clock : List Change) → Option NamedZone
+local_zone true given unnamed clock = Some (zone_of given unnamed clock)
+local_zone false given unnamed clock = None
 
 -- the format of a request whose zone has this clock
-abbrev pub format_of : FormatRequest → (given : Option (List ℕ)) → (clock : List Change) → Format
-format_of request given clock = record { json = request.json; local = local_zone request.local given clock }
+abbrev pub format_of : FormatRequest → (given : Option (List ℕ)) → (unnamed : List ℕ) → (clock : List Change) → Format
+format_of request given unnamed clock = record { json = request.json; local = local_zone request.local given unnamed clock }
 
 -- the format is made; an allocation can only fail if local times are requested
-abbrev pub format_made : FormatRequest → (given : Option (List ℕ)) → (clock : List Change) → Step Format
-format_made request given clock (Ok format) = format ≡ format_of request given clock
-format_made request given clock (Err failure) = (failure ≡ Run NoMemory) × (request.local ≡ true)
+abbrev pub format_made : FormatRequest → (given : Option (List ℕ)) → (unnamed : List ℕ) → (clock : List Change) → Step Format
+format_made request given unnamed clock (Ok format) = format ≡ format_of request given unnamed clock
+format_made request given unnamed clock (Err failure) = (failure ≡ Run NoMemory) × (request.local ≡ true)
+
+-- the name of UTC
+abbrev pub utc_name : List ℕ
+utc_name = codes "UTC"
+
+-- what a zone without a name is called
+abbrev pub unnamed_zone : (is_of_file : Bool) → List ℕ
+unnamed_zone is_of_file = if is_of_file then codes "local" else utc_name

@@ -2,10 +2,15 @@ pub mod Answer
 pub mod EventZones
 pub mod Files
 pub mod Formats
+pub mod Host
+pub mod Machine
+pub mod MachineGoal
+pub mod MachineZone
 pub mod Opened
 pub mod Outcome
 pub mod Program
 pub mod Requests
+pub mod Root
 pub mod Sources
 pub mod Steps
 pub mod Zone

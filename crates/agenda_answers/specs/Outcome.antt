@@ -23,17 +23,24 @@ use Rattle.agenda_commands.specs.Prepare.{jobs_or}
 use Rattle.agenda_answers.specs.declared.sources.Tried.{Tried}
 use Rattle.agenda_answers.specs.Answer.{Exits, HoldsAfter, Printed, StreamChange}
 use Rattle.agenda_answers.specs.Files.{Held}
-use Rattle.agenda_answers.specs.Formats.{format_made}
+use Rattle.agenda_answers.specs.Formats.{format_made, utc_name}
 use Rattle.agenda_answers.specs.Sources.{input_of}
 use Rattle.agenda_answers.specs.Steps.{Step, computes, gives, ◌>>=◌}
 
--- the paths of files that can't be read and those of the others, the errors in these, and the answer for the jobs
--- that are left
+-- the paths of files that can't be read and those of the others, the errors in these, the answer for the jobs that are left, and its
+-- exit status
 pub record Outcome : Type 0 where
   pub unread : List SourcePath
   pub paths : List SourcePath
   pub errors : List Found
   pub answer : Result (List ℕ) RunFault
+  pub status : ℕ
+
+-- the exit status of an answer: whether a file can't be read, and whether there is an error
+abbrev pub skipped_status : (unread : List SourcePath) → (errors : List Found) → ℕ
+skipped_status [] [] = done_status
+skipped_status [] (error ∷ more) = rejected_status
+skipped_status (path ∷ more) errors = failed_status
 
 -- the errors that are skipped and the jobs that are left without them, if the request keeps going
 abbrev pub kept_of : (keeps_going : Bool) → TimeZones → List Source → Step (List Found × Option (List JobParts))
@@ -54,10 +61,16 @@ answer_of format goal jobs (Err failure) = (failure ≡ Run NoMemory) × IfErr (
 -- the format is made, then the errors of the sources are found, and then the answer is made
 abbrev pub outcome_of : (keeps_going : Bool) → Goal → JobsRequest → Tried × TimeZones → Step Outcome
 outcome_of keeps_going goal jobs (tried, zones) = do
-  format ← format_made jobs.format jobs.zones.zone zones.clock
+  format ← format_made jobs.format jobs.zones.zone utc_name zones.clock
   kept ← kept_of keeps_going zones tried.sources
   answer ← answer_of format goal (jobs_or kept.1 zones tried.sources)
-  gives (record { unread = tried.unread; paths = tried.paths; errors = kept.0; answer = answer })
+  gives (record {
+    unread = tried.unread;
+    paths = tried.paths;
+    errors = kept.0;
+    answer = answer;
+    status = skipped_status tried.unread kept.0;
+  })
 
 -- the same, once the zone and then the files were read
 abbrev pub outcome_by : (keeps_going : Bool) → Held → Goal → JobsRequest → Step Outcome
@@ -75,12 +88,6 @@ HasSkipped kept = (kept.unread ≢ []) ⊎ (kept.errors ≢ [])
 abbrev pub lines_of_skipped : Outcome → List ℕ
 lines_of_skipped kept = skipped_text kept.unread kept.paths kept.errors
 
--- the exit status of an answer: whether a file can't be read, and whether there is an error
-abbrev pub skipped_status : (unread : List SourcePath) → (errors : List Found) → ℕ
-skipped_status [] [] = done_status
-skipped_status [] (error ∷ more) = rejected_status
-skipped_status (path ∷ more) errors = failed_status
-
 -- what is printed after the lines of what is skipped, or the failure
 abbrev pub printed : Result (List ℕ) RunFault → (status : ℕ) → Result Printed Failure
 printed (Ok text) status = Ok (record { text = text; status = status })
@@ -97,7 +104,7 @@ abbrev pub Reports : List SourcePath → Outcome → ℕ → (out err : StreamCh
 Reports sources kept status out err =
     (HasSkipped kept × BreaksOff err.takes_all err.old err.new (lines_of_skipped kept) × (status ≡ failed_status) × Keeps out.old out.new)
     ⊎ ((mid : Option (List ℕ)) × Appends err.old mid (lines_of_skipped kept)
-    × ExitsWith sources (printed kept.answer (skipped_status kept.unread kept.errors)) status out (record err { old = mid }))
+    × ExitsWith sources (printed kept.answer kept.status) status out (record err { old = mid }))
 
 -- the same, unless the request failed, with nothing but its line
 abbrev pub ReportsOrFails : List SourcePath → Result Outcome Failure → ℕ → (out err : StreamChange) → Type 0

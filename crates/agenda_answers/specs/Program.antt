@@ -10,9 +10,11 @@ use Rattle.agenda_faults.specs.declared.faults.RunFault.TheVariants.{NoMemory}
 use Rattle.agenda_sources.specs.declared.SourcePath.{SourcePath}
 use Rattle.agenda_commands.specs.declared.Goal.{Goal}
 use Rattle.agenda_answers.specs.declared.requests.Request.{Request}
-use Rattle.agenda_answers.specs.declared.requests.Request.TheVariants.{Starts, Jobs, Check, Steps, Explain}
+use Rattle.agenda_answers.specs.declared.requests.Request.TheVariants.{Starts, Jobs, Check, Steps, Explain, Machine}
 use Rattle.agenda_answers.specs.Answer.{Exits, Leaves, Printed, StreamChange, check_ends, explain_ends, next_ends, steps_ends, usage_ends}
 use Rattle.agenda_answers.specs.Files.{Held}
+use Rattle.agenda_answers.specs.Host.{KnownHost}
+use Rattle.agenda_answers.specs.Machine.{AnswersMachine}
 use Rattle.agenda_answers.specs.Outcome.{AnswersJobs, Outcome, ReportsOrFails, outcome_by}
 use Rattle.agenda_answers.specs.Requests.{request_of, stopping_jobs}
 use Rattle.agenda_answers.specs.Steps.{Step, fails}
@@ -27,22 +29,23 @@ AnswersBy step sources status out err =
     (done : Result ℕ Failure) × Leaves out.takes_all step done out.old out.new × Exits sources done status err
 
 -- the answer to a request
-abbrev pub AnswersRequest : Held → Request → Answering
-AnswersRequest held (Starts starts) = AnswersBy (next_ends held starts) []
-AnswersRequest held (Jobs goal jobs) = AnswersJobs held goal jobs
-AnswersRequest held (Check zones sources json) = AnswersBy (check_ends held zones sources json) sources
-AnswersRequest held (Steps file) = AnswersBy (steps_ends held file) []
-AnswersRequest held (Explain code) = AnswersBy (explain_ends code) []
+abbrev pub AnswersRequest : Held → KnownHost → Request → Answering
+AnswersRequest held host (Starts starts) = AnswersBy (next_ends held starts) []
+AnswersRequest held host (Jobs goal jobs) = AnswersJobs held goal jobs
+AnswersRequest held host (Check zones sources json) = AnswersBy (check_ends held zones sources json) sources
+AnswersRequest held host (Steps file) = AnswersBy (steps_ends held file) []
+AnswersRequest held host (Explain code) = AnswersBy (explain_ends code) []
+AnswersRequest held host (Machine machine) = AnswersMachine held host machine
 
 -- the same, unless the request is rejected
-abbrev pub AnswersOrFails : Held → Result Request Failure → Answering
-AnswersOrFails held (Ok request) = AnswersRequest held request
-AnswersOrFails held (Err failure) = AnswersBy (fails failure) []
+abbrev pub AnswersOrFails : Held → KnownHost → Result Request Failure → Answering
+AnswersOrFails held host (Ok request) = AnswersRequest held host request
+AnswersOrFails held host (Err failure) = AnswersBy (fails failure) []
 
 -- the answer to what is asked: its timestamps are read first
-abbrev pub AnswersAsk : Held → Ask → Answering
-AnswersAsk held ask status out err =
-    (request : Result Request Failure) × request_of ask request × AnswersOrFails held request status out err
+abbrev pub AnswersAsk : Held → KnownHost → Ask → Answering
+AnswersAsk held host ask status out err =
+    (request : Result Request Failure) × request_of ask request × AnswersOrFails held host request status out err
 
 -- ---- the law of keeping going
 
@@ -60,11 +63,11 @@ ChangesNothing held goal jobs =
 -- ---- the whole program
 
 -- the program's answer: to a request, or to arguments that request no command
-abbrev pub Answers : Held → Result Ask UsageFault → Answering
-Answers held (Ok ask) = AnswersAsk held ask
-Answers held (Err fault) = AnswersBy (usage_ends fault) []
+abbrev pub Answers : Held → KnownHost → Result Ask UsageFault → Answering
+Answers held host (Ok ask) = AnswersAsk held host ask
+Answers held host (Err fault) = AnswersBy (usage_ends fault) []
 
 -- the same, by the arguments of the command line
-abbrev pub AnswersArguments : Held → List (List ℕ) → Answering
-AnswersArguments held words status out err =
-    (request : Result Ask UsageFault) × Gives request (asked_by words) × Answers held request status out err
+abbrev pub AnswersArguments : Held → KnownHost → List (List ℕ) → Answering
+AnswersArguments held host words status out err =
+    (request : Result Ask UsageFault) × Gives request (asked_by words) × Answers held host request status out err

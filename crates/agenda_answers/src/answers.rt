@@ -2,11 +2,14 @@
 
 ghost use Rattle.std.specs.Prelude.{◌≡◌, ◌≢◌, IsOk, IsTrue, Ok, OnOk, map, string_bytes, true};
 ghost use Rattle.agenda_answers.specs.Answer.{Exits, Leaves, SaysNotUtf8, check_ends, explain_ends, next_ends, status_after, status_on, steps_ends, usage_ends};
+ghost use Rattle.agenda_answers.specs.Host.{host_of};
 ghost use Rattle.agenda_answers.specs.Program.{Answers, AnswersArguments, AnswersAsk, AnswersRequest};
 
 use crate::files::{Files, read_path};
-use crate::formats::make_format;
+use crate::formats::{UTC, make_format};
+use crate::host::Host;
 use crate::jobs::answer_jobs;
+use crate::machine::answer_machine;
 use crate::requests::{Request, StartsRequest, request_of};
 use crate::sources::{read_input, read_rule_zones};
 use agenda_arguments::{Ask, UsageFault, ZonesRequest, read_words};
@@ -17,6 +20,7 @@ use agenda_faults::{Failure, RunFault, fault_line};
 use agenda_sources::{SourcePath, SourcePaths};
 use plan_rules::Text;
 use plan_streams::Stream;
+use plan_tree::Complete;
 use std::alloc::Global;
 use std::io::ErrorKind;
 use std::sync::Wait;
@@ -31,76 +35,81 @@ const NOT_UTF8: &str = "a word of the command line is not UTF-8\n";
 /// The status is 0 after success and after help; 1 if the input or a count is rejected, or if `check` finds
 /// an error; 2 if the arguments are invalid; 3 if an allocation, a device or a file failed.
 ///
-/// The answer goes to `out`. The line of an error, or the text of usage, goes to `err`.
-pub fn answer_arguments<R: Threads + Wait + Sync, F: Files, O: Stream, E: Stream>(
+/// The answer goes to `out`. The line of an error, or the text of usage, goes to `err`. What is asked about a machine is answered
+/// by its files and directories in `host`, and by the time there.
+pub fn answer_arguments<R: Threads + Wait + Sync, F: Files, T: Complete, O: Stream, E: Stream>(
     rt: &R,
     alloc: Global,
     words: &[String],
     files: &mut F,
+    host: &Host<'_, T>,
     out: &mut O,
     err: &mut E,
 ) -> u8
-    ensures answers { AnswersArguments (F.held files.old) (map string_bytes words.now) result
+    ensures answers { AnswersArguments (F.held files.old) (host_of T.is_known (T.held host.now.tree.now) host.now.time) (map string_bytes words.now) result
         (record { takes_all = O.takes_all; old = O.holds out.old; new = O.holds out.new })
         (record { takes_all = E.takes_all; old = E.holds err.old; new = E.holds err.new }) }
     ensures out_flushed { result ≡ 0 → IsTrue (O.is_flushed out.new) }
     ensures err_flushed { E.takes_all ≡ true → IsTrue (E.is_flushed err.old) → IsTrue (E.is_flushed err.new) }
 {
-    answer(rt, alloc, read_words(alloc, words), files, out, err)
+    answer(rt, alloc, read_words(alloc, words), files, host, out, err)
 }
 
 /// Does what is requested, like `answer_arguments`.
-pub fn answer<R: Threads + Wait + Sync, F: Files, O: Stream, E: Stream>(
+pub fn answer<R: Threads + Wait + Sync, F: Files, T: Complete, O: Stream, E: Stream>(
     rt: &R,
     alloc: Global,
     asked: Result<Ask, UsageFault>,
     files: &mut F,
+    host: &Host<'_, T>,
     out: &mut O,
     err: &mut E,
 ) -> u8
-    ensures answers { Answers (F.held files.old) asked result
+    ensures answers { Answers (F.held files.old) (host_of T.is_known (T.held host.now.tree.now) host.now.time) asked result
         (record { takes_all = O.takes_all; old = O.holds out.old; new = O.holds out.new })
         (record { takes_all = E.takes_all; old = E.holds err.old; new = E.holds err.new }) }
     ensures out_flushed { result ≡ 0 → IsTrue (O.is_flushed out.new) }
     ensures err_flushed { E.takes_all ≡ true → IsTrue (E.is_flushed err.old) → IsTrue (E.is_flushed err.new) }
 {
     match asked {
-        Ok(ask) => answer_ask(rt, alloc, ask, files, out, err),
+        Ok(ask) => answer_ask(rt, alloc, ask, files, host, out, err),
         Err(fault) => end(decline(fault, out), &[], err),
     }
 }
 
 // Does what is requested, unless a timestamp is rejected.
-fn answer_ask<R: Threads + Wait + Sync, F: Files, O: Stream, E: Stream>(
+fn answer_ask<R: Threads + Wait + Sync, F: Files, T: Complete, O: Stream, E: Stream>(
     rt: &R,
     alloc: Global,
     ask: Ask,
     files: &mut F,
+    host: &Host<'_, T>,
     out: &mut O,
     err: &mut E,
 ) -> u8
-    ensures answers { AnswersAsk (F.held files.old) ask result
+    ensures answers { AnswersAsk (F.held files.old) (host_of T.is_known (T.held host.now.tree.now) host.now.time) ask result
         (record { takes_all = O.takes_all; old = O.holds out.old; new = O.holds out.new })
         (record { takes_all = E.takes_all; old = E.holds err.old; new = E.holds err.new }) }
     ensures out_flushed { result ≡ 0 → IsTrue (O.is_flushed out.new) }
     ensures err_flushed { E.takes_all ≡ true → IsTrue (E.is_flushed err.old) → IsTrue (E.is_flushed err.new) }
 {
     match request_of(ask) {
-        Ok(request) => answer_request(rt, alloc, &request, files, out, err),
+        Ok(request) => answer_request(rt, alloc, &request, files, host, out, err),
         Err(failure) => end(Err(failure), &[], err),
     }
 }
 
 // Does what is requested.
-fn answer_request<R: Threads + Wait + Sync, F: Files, O: Stream, E: Stream>(
+fn answer_request<R: Threads + Wait + Sync, F: Files, T: Complete, O: Stream, E: Stream>(
     rt: &R,
     alloc: Global,
     request: &Request,
     files: &mut F,
+    host: &Host<'_, T>,
     out: &mut O,
     err: &mut E,
 ) -> u8
-    ensures answers { AnswersRequest (F.held files.old) request.now result
+    ensures answers { AnswersRequest (F.held files.old) (host_of T.is_known (T.held host.now.tree.now) host.now.time) request.now result
         (record { takes_all = O.takes_all; old = O.holds out.old; new = O.holds out.new })
         (record { takes_all = E.takes_all; old = E.holds err.old; new = E.holds err.new }) }
     ensures out_flushed { result ≡ 0 → IsTrue (O.is_flushed out.new) }
@@ -119,6 +128,7 @@ fn answer_request<R: Threads + Wait + Sync, F: Files, O: Stream, E: Stream>(
         }
         Request::Steps { file } => end(steps(alloc, file, files, out), &[], err),
         Request::Explain(code) => end(explain(*code, out), &[], err),
+        Request::Machine(machine) => answer_machine(rt, alloc, machine, files, host, out, err),
     }
 }
 
@@ -187,7 +197,13 @@ fn next<F: Files, S: Stream>(
     ensures flushed { OnOk result (IsTrue (S.is_flushed out.new)) }
 {
     let zones = read_rule_zones(alloc, files, &request.zones, &request.rule)?;
-    let format = make_format(alloc, request.format, &request.zones.zone, &zones.clock)?;
+    let format = make_format(
+        alloc,
+        request.format,
+        &request.zones.zone,
+        UTC,
+        &zones.clock,
+    )?;
     let (after, count) = (request.after, request.count);
     status_after(run_next(alloc, &request.rule, &zones, after, count, &format, out))
 }

@@ -184,7 +184,11 @@ fn is_given(alloc: Global, given: &Option<Text>, name: &str) -> Result<bool, All
 }
 
 // Looks up the zone with a name.
-fn look_up<F: Files>(alloc: Global, files: &mut F, name: &str) -> Result<Option<NamedZone>, Failure>
+pub(crate) fn look_up<F: Files>(
+    alloc: Global,
+    files: &mut F,
+    name: &str,
+) -> Result<Option<NamedZone>, Failure>
     ensures read { looked_up (F.held files.old) name.now result }
     ensures same { F.held files.new ≡ F.held files.old }
     ensures opens { OnOk result (F.opened files.new ≡ followed_by (F.opened files.old) (zone_files (source_of name.now))) }

@@ -51,7 +51,7 @@ pub fn read_front<R: Read + Drop>(alloc: Global, reader: R, most: u64) -> io::Re
 }
 
 // The maximum number of bytes that are read of a file: one more than the limit of every input.
-const MOST_READ: u64 = MOST_BYTES as u64 + 1;
+pub(crate) const MOST_READ: u64 = MOST_BYTES as u64 + 1;
 
 // Reads the first bytes of a file. If it can't be opened or read, returns `unread`.
 pub(crate) fn read_file<F: Files>(

@@ -1,7 +1,7 @@
 //! Makes the format of an answer.
 
 ghost use Rattle.std.specs.Prelude.{◌≡◌, IfOk};
-ghost use Rattle.agenda_answers.specs.Formats.{format_made, zone_of};
+ghost use Rattle.agenda_answers.specs.Formats.{format_made, unnamed_zone, zone_of};
 
 use crate::zone::named_zone;
 use agenda_arguments::FormatRequest;
@@ -11,10 +11,13 @@ use plan_rules::{NamedZone, Text};
 use plan_write::Format;
 use std::alloc::{AllocError, Global};
 
-/// The name of the zone in the header of an agenda if none is given.
-const UTC: &str = "UTC";
+/// The name of UTC in the header of an agenda.
+pub(crate) const UTC: &str = "UTC";
 
-/// Makes the format of an answer whose zone is given by this text, and has this clock.
+// The name of a zone whose file has none.
+const LOCAL: &str = "local";
+
+/// Makes the format of an answer whose zone is given by this text, and has this clock. Without a text the zone is called `unnamed`.
 ///
 /// # Errors
 ///
@@ -23,9 +26,10 @@ pub(crate) fn make_format(
     alloc: Global,
     request: FormatRequest,
     given: &Option<Text>,
+    unnamed: &str,
     clock: &Clock,
 ) -> Result<Format, Failure>
-    ensures { format_made request given.now clock.now result }
+    ensures { format_made request given.now unnamed.now clock.now result }
 {
     if !request.local {
         return Ok(Format {
@@ -33,20 +37,32 @@ pub(crate) fn make_format(
             local: None,
         });
     }
-    let zone = given_zone(alloc, given, clock)?;
+    let zone = given_zone(alloc, given, unnamed, clock)?;
     Ok(Format {
         json: request.json,
         local: Some(zone),
     })
 }
 
-// Returns the given zone, with its text as its name, or UTC if none is given.
-fn given_zone(alloc: Global, given: &Option<Text>, clock: &Clock) -> Result<NamedZone, AllocError>
-    ensures { IfOk result (λ zone. zone ≡ zone_of given.now clock.now) }
+/// Returns what a zone without a name is called.
+pub(crate) fn unnamed_zone(is_of_file: bool) -> &'static str
+    ensures { result.now ≡ unnamed_zone is_of_file }
+{
+    if is_of_file { LOCAL } else { UTC }
+}
+
+// Returns the given zone, with its text as its name.
+fn given_zone(
+    alloc: Global,
+    given: &Option<Text>,
+    unnamed: &str,
+    clock: &Clock,
+) -> Result<NamedZone, AllocError>
+    ensures { IfOk result (λ zone. zone ≡ zone_of given.now unnamed.now clock.now) }
 {
     let name = match given {
         Some(text) => text.as_str(),
-        None => UTC,
+        None => unnamed,
     };
     named_zone(alloc, name, clock)
 }

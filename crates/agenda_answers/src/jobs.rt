@@ -19,7 +19,7 @@ ghost use Rattle.agenda_arguments.specs.declared.JobsRequest.{JobsRequest};
 
 use crate::answers::end;
 use crate::files::Files;
-use crate::formats::make_format;
+use crate::formats::{UTC, make_format};
 use crate::sources::read_input;
 use agenda_arguments::JobsRequest;
 use agenda_commands::{Goal, PreparedAnswer, kept_if, prepare_answer};
@@ -33,17 +33,19 @@ use std::marker::Model;
 use std::sync::Wait;
 use std::thread::Threads;
 
-// What is skipped, and the answer without it. Contracts see this value as a record of the same name.
+/// What is skipped, and the answer without it. Contracts see this value as a record of the same name.
 #[derive(Drop)]
-struct Outcome {
-    // The paths of the files that can't be opened or read.
-    unread: SourcePaths,
-    // The paths of the other sources.
-    paths: SourcePaths,
-    // The errors of those sources.
-    errors: Vec<Found>,
-    // The answer for the other jobs, or its error, which isn't `NoMemory`.
-    answer: Result<PreparedAnswer, RunFault>,
+pub(crate) struct Outcome {
+    /// The paths of the files that can't be opened or read.
+    pub unread: SourcePaths,
+    /// The paths of the other sources.
+    pub paths: SourcePaths,
+    /// The errors of those sources.
+    pub errors: Vec<Found>,
+    /// The answer for the other jobs, or its error, which isn't `NoMemory`.
+    pub answer: Result<PreparedAnswer, RunFault>,
+    /// The exit status if there is an answer.
+    pub status: u8,
 }
 
 impl Model for Outcome {
@@ -51,7 +53,13 @@ impl Model for Outcome {
 
     ghost Value = { Outcome };
 
-    ghost view = { λ kept. record { unread = kept.unread; paths = kept.paths; errors = kept.errors.items; answer = kept.answer } };
+    ghost view = { λ kept. record {
+      unread = kept.unread;
+      paths = kept.paths;
+      errors = kept.errors.items;
+      answer = kept.answer;
+      status = kept.status;
+    } };
 }
 
 /// Answers a request for jobs, and returns the exit status.
@@ -91,20 +99,26 @@ fn make_outcome<R: Threads + Wait + Sync, F: Files>(
     ensures first { (sources : List Source) × OpensFirst (input_files jobs.now.zones jobs.now.sources sources) (F.opened files.old) (F.opened files.new) }
 {
     let (tried, zones) = read_input(alloc, files, &jobs.zones, &jobs.sources, jobs.keep_going)?;
-    let format = make_format(alloc, jobs.format, &jobs.zones.zone, &zones.clock)?;
+    let format = make_format(alloc, jobs.format, &jobs.zones.zone, UTC, &zones.clock)?;
     let (errors, kept) = kept_if(alloc, jobs.keep_going, &tried.sources, &zones)?;
     let made = prepare_answer(rt, alloc, kept, &tried.sources, &zones, goal, format);
     let answer = settled(made)?;
+    let status = skipped_status(tried.unread.as_slice(), errors.as_slice());
     Ok(Outcome {
         unread: tried.unread,
         paths: tried.paths,
         errors,
         answer,
+        status,
     })
 }
 
-// Returns an answer, or its error. Running out of memory is a failure.
-fn settled(
+/// Returns an answer, or its error.
+///
+/// # Errors
+///
+/// `Run(NoMemory)` if an allocation failed, which is no answer.
+pub(crate) fn settled(
     made: Result<PreparedAnswer, RunFault>,
 ) -> Result<Result<PreparedAnswer, RunFault>, Failure>
     ensures { settles made result }
@@ -116,9 +130,9 @@ fn settled(
     }
 }
 
-// Reports what is skipped, then writes the answer, and returns the exit status. `sources` are the paths that the
-// request names.
-fn report<O: Stream, E: Stream>(
+/// Reports what is skipped, then writes the answer, and returns the exit status. `sources` are the paths that the
+/// request names.
+pub(crate) fn report<O: Stream, E: Stream>(
     outcome: Outcome,
     sources: &[SourcePath],
     out: &mut O,
@@ -135,12 +149,13 @@ fn report<O: Stream, E: Stream>(
         paths,
         errors,
         answer,
+        status,
     } = outcome;
     let (unread, errors) = (unread.as_slice(), errors.as_slice());
     if write_skipped(unread, paths.as_slice(), errors, err).is_err() {
         return FAILED;
     }
-    let done = print_answer(answer, skipped_status(unread, errors), out);
+    let done = print_answer(answer, status, out);
     end(done, sources, err)
 }
 

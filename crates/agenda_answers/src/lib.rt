@@ -8,11 +8,17 @@ mod answers;
 mod event_zones;
 mod files;
 mod formats;
+mod host;
 mod jobs;
+mod machine;
+mod machine_goal;
+mod machine_zone;
 mod requests;
+mod root;
 mod sources;
 mod zone;
 
 pub use answers::{answer, answer_arguments, unread_arguments};
 pub use files::{Files, read_front};
+pub use host::Host;
 pub use jobs::keeping_going_changes_nothing;

@@ -2,10 +2,12 @@
 
 ghost use Rattle.std.specs.Prelude.{◌≡◌};
 ghost use Rattle.agenda_answers.specs.Requests.{moment_of, planning_of, request_of, span_of};
-ghost use Rattle.agenda_faults.specs.declared.faults.Failure.TheVariants.{After};
+ghost use Rattle.agenda_faults.specs.declared.faults.Failure.TheVariants.{After, Since, Upto};
 ghost use Rattle.agenda_arguments.specs.declared.Ask.TheVariants.{Next, Plan, Quiet, Upcoming};
 
-use agenda_arguments::{Ask, FormatRequest, JobsRequest, NextRequest, PlanRequest, ZonesRequest};
+use agenda_arguments::{
+    Ask, FormatRequest, JobsRequest, MachineRequest, NextRequest, PlanRequest, ZonesRequest,
+};
 use agenda_codes::Code;
 use agenda_commands::{Goal, Planning};
 use agenda_faults::Failure;
@@ -57,6 +59,8 @@ pub(crate) enum Request {
     },
     /// Print what a code means, or the list of all codes.
     Explain(Option<Code>),
+    /// Answer a question about a machine.
+    Machine(MachineRequest),
 }
 
 /// Reads the timestamps of what is requested.
@@ -83,6 +87,7 @@ pub(crate) fn request_of(ask: Ask) -> Result<Request, Failure>
         }),
         Ask::Steps { file } => Ok(Request::Steps { file }),
         Ask::Explain(code) => Ok(Request::Explain(code)),
+        Ask::Machine(request) => Ok(Request::Machine(request)),
     }
 }
 
@@ -146,8 +151,12 @@ fn planning_of(request: &PlanRequest) -> Result<Planning, Failure>
     })
 }
 
-// Reads the timestamp after which starts are requested.
-fn moment_after(after: &Text) -> Result<u64, Failure>
+/// Reads the timestamp after which starts are requested.
+///
+/// # Errors
+///
+/// `After` if the text isn't a timestamp.
+pub(crate) fn moment_after(after: &Text) -> Result<u64, Failure>
     ensures { moment_of After after.now result }
 {
     match read_moment(after.as_str()) {
@@ -156,18 +165,40 @@ fn moment_after(after: &Text) -> Result<u64, Failure>
     }
 }
 
+/// Reads the timestamp of the start of a span.
+///
+/// # Errors
+///
+/// `Since` if the text isn't a timestamp.
+pub(crate) fn moment_since(since: &Text) -> Result<u64, Failure>
+    ensures { moment_of Since since.now result }
+{
+    match read_moment(since.as_str()) {
+        Ok(moment) => Ok(moment),
+        Err(fault) => Err(Failure::Since(fault)),
+    }
+}
+
+/// Reads the timestamp of the end of a span.
+///
+/// # Errors
+///
+/// `Upto` if the text isn't a timestamp.
+pub(crate) fn moment_until(until: &Text) -> Result<u64, Failure>
+    ensures { moment_of Upto until.now result }
+{
+    match read_moment(until.as_str()) {
+        Ok(moment) => Ok(moment),
+        Err(fault) => Err(Failure::Upto(fault)),
+    }
+}
+
 // Reads the two timestamps of a span.
 fn span_between(since: &Text, upto: &Text) -> Result<Span, Failure>
     ensures { span_of since.now upto.now result }
 {
-    let begin = match read_moment(since.as_str()) {
-        Ok(begin) => begin,
-        Err(fault) => return Err(Failure::Since(fault)),
-    };
-    let end = match read_moment(upto.as_str()) {
-        Ok(end) => end,
-        Err(fault) => return Err(Failure::Upto(fault)),
-    };
+    let begin = moment_since(since)?;
+    let end = moment_until(upto)?;
     match Span::new(begin, end) {
         Ok(span) => Ok(span),
         Err(fault) => Err(Failure::Span(fault)),

@@ -81,7 +81,7 @@ fn clock_of_name<F: Files>(alloc: Global, files: &mut F, name: &str) -> Result<C
 }
 
 // Reads the clock of the zone whose file has these bytes.
-fn clock_of_bytes(alloc: Global, bytes: &[u8]) -> Result<Clock, Failure>
+pub(crate) fn clock_of_bytes(alloc: Global, bytes: &[u8]) -> Result<Clock, Failure>
     ensures { clock_of_bytes bytes.now result }
 {
     match read_zone(alloc, bytes) {

@@ -1,5 +1,5 @@
--- Clap leaves open which of several kinds of error it returns. `agenda` answers all of them in the same way.
--- For `read_words`, if clap rejects the arguments. There is one lemma for each of clap's definitions of
+-- Clap leaves open which of several kinds of error it returns. `agenda` and `agenda machine` answer all of them in the same way.
+-- For `asked_by_agenda` and `asked_by_machine`, if clap rejects the arguments. There is one lemma for each of clap's definitions of
 -- errors, from one use of an argument up to the whole command. The walk goes by induction over the arguments.
 -- Only `stray` has two kinds.
 use Rattle.std.proofs.Common.{◌≡◌, ◌∙◌, ◌&&◌, ◌||◌, ◌⊎◌, ◌==◌, ◌+◌, ℕ, Bool, true, false, zero, suc, List, [], ◌∷◌, Option, Some, None, Result, Err, ap, sym, subst, inl, inr, refl, not, cond, min, drop, length, nat_lt, codes}
@@ -26,7 +26,7 @@ use Rattle.clap.specs.declared.error.kind.ErrorKind.TheVariants as kind
 use Rattle.agenda_arguments.specs.declared.ask.Ask.{Ask}
 use Rattle.agenda_arguments.specs.declared.ask.UsageFault.{UsageFault}
 use Rattle.agenda_arguments.specs.declared.ask.UsageFault.TheVariants.{NoMemory}
-use Rattle.agenda_arguments.specs.Command.{agenda}
+use Rattle.agenda_arguments.specs.Command.{agenda, machine}
 use Rattle.agenda_arguments.specs.Arguments.{Gives, IsAnswerTo, ArgumentsFault, asked_unless, is_usage, fault_of_kind}
 use Rattle.agenda_arguments.proofs.OnLiterals.{agenda_on_literals}
 
@@ -262,13 +262,29 @@ pub agenda_alike : (words : List Text) → Alike (fault_of agenda words)
 unfolding clap_on_literals agenda_on_literals
 agenda_alike words = built_alike (built agenda) (argument_words agenda words) refl refl
 
+-- ---- the command line of `agenda machine`, with the same facts
+
+pub machine_is_simple : is_simple machine ≡ true
+unfolding clap_on_literals agenda_on_literals
+machine_is_simple = refl
+
+pub machine_is_free : is_simple_and_free machine ≡ true
+unfolding clap_on_literals agenda_on_literals
+machine_is_free = refl
+
+pub machine_alike : (words : List Text) → Alike (fault_of machine words)
+unfolding clap_on_literals agenda_on_literals
+machine_alike words = built_alike (built machine) (argument_words machine words) refl refl
+
+-- ---- the answers to errors from clap
+
 -- an error from clap is answered as the definition says
-pub listed : (kinds : Kinds) → Alike kinds → (k : ErrorKind) → IsAmong k kinds → (read : Result Ask ArgumentsFault)
+listed : (kinds : Kinds) → Alike kinds → (k : ErrorKind) → IsAmong k kinds → (read : Result Ask ArgumentsFault)
     → asked_unless kinds read ≡ Err (fault_of_kind k)
 listed [] alike k among read = absurd among
 listed (first ∷ rest) alike k among read = ap Err (alike.same first k (inl refl) among)
 
-pub answered : (k : ErrorKind) (fault : UsageFault) (read : Result Ask ArgumentsFault) → IsAnswerTo k fault
+answered : (k : ErrorKind) (fault : UsageFault) (read : Result Ask ArgumentsFault) → IsAnswerTo k fault
     → (k ≡ kind.OutOfMemory) ⊎ (read ≡ Err (fault_of_kind k)) → Gives (Err fault) read
 answered k fault read answer (inl memory) = no_memory fault (subst (λ x. IsAnswerTo x fault) memory answer)
   where
@@ -278,3 +294,11 @@ answered kind.OutOfMemory fault read answer (inr is) = subst (λ (x : UsageFault
 answered kind.DisplayHelp fault read answer (inr is) = subst (λ (x : UsageFault). Gives {X = Ask} (Err x) read) (sym answer.1) is
 answered kind.DisplayVersion fault read answer (inr is) = subst (λ (x : UsageFault). Gives {X = Ask} (Err x) read) (sym answer.1) is
 answered k fault read answer (inr is) = subst (λ (x : UsageFault). Gives {X = Ask} (Err x) read) (sym answer.1) is
+
+-- the answer to an error from clap, which is out of memory or one of the kinds that are listed
+pub rejected : (kinds : Kinds) → Alike kinds → (k : ErrorKind) (fault : UsageFault) (read : Result Ask ArgumentsFault) → IsAnswerTo k fault
+    → (k ≡ kind.OutOfMemory) ⊎ IsAmong k kinds → Gives (Err fault) (asked_unless kinds read)
+rejected kinds alike k fault read answer is = answered k fault (asked_unless kinds read) answer (elim is [
+  | inl memory ↦ inl memory
+  | inr among ↦ inr (listed kinds alike k among read)
+])

@@ -1,6 +1,6 @@
 -- What the arguments of the command line request.
 use Rattle.std.specs.Prelude.{◌≡◌, ⊤, ℕ, Bool, false, List, [], ◌∷◌, Option, Some, None, Result, Ok, Err}
-use Rattle.std.specs.Prelude.{codes, if◌then◌else◌, map, option_and_then, unwrap_or}
+use Rattle.std.specs.Prelude.{◌&&◌, ◌||◌, ◌==◌, codes, drop, if◌then◌else◌, map, not, option_and_then, slice_get, true, unwrap_or}
 use Rattle.std.specs.List.{flat_map}
 use Rattle.std.specs.Option.{option_map_or}
 use Rattle.std.specs.Str.{bytes_eq}
@@ -13,21 +13,26 @@ use Rattle.clap.specs.declared.error.kind.ErrorKind.TheVariants.{DisplayHelp, Di
 use Rattle.plan_texts.specs.Steps.{◌>>=◌}
 use Rattle.plan_collect.specs.declared.Sizes.{Sizes}
 use Rattle.agenda_arguments.specs.declared.ask.Ask.{Ask}
-use Rattle.agenda_arguments.specs.declared.ask.Ask.TheVariants.{Next, Plan, Upcoming, Quiet, Check, Steps, Explain}
+use Rattle.agenda_arguments.specs.declared.ask.Ask.TheVariants.{Next, Plan, Upcoming, Quiet, Check, Steps, Explain, Machine}
 use Rattle.agenda_codes.specs.declared.Code.{Code}
 use Rattle.agenda_codes.specs.Codes.{code_named}
 use Rattle.agenda_sources.specs.declared.Asked.{Asked}
 use Rattle.agenda_sources.specs.declared.Asked.TheVariants.{Cron, Event}
 use Rattle.agenda_arguments.specs.declared.ask.FormatRequest.{FormatRequest}
 use Rattle.agenda_arguments.specs.declared.ask.JobsRequest.{JobsRequest}
+use Rattle.agenda_arguments.specs.declared.ask.MachineGoal.{MachineGoal}
+use Rattle.agenda_arguments.specs.declared.ask.MachineGoal.TheVariants as machine_goal
+use Rattle.agenda_arguments.specs.declared.ask.MachineQuestion.{MachineQuestion}
+use Rattle.agenda_arguments.specs.declared.ask.MachineQuestion.TheVariants as question
 use Rattle.agenda_arguments.specs.declared.ask.PlanRequest.{PlanRequest}
+use Rattle.agenda_arguments.specs.declared.ask.SpanRequest.{SpanRequest}
 use Rattle.agenda_arguments.specs.declared.ask.UsageFault.{UsageFault}
 use Rattle.agenda_arguments.specs.declared.ask.UsageFault.TheVariants.{NoMemory, Usage, Help}
 use Rattle.agenda_arguments.specs.declared.ask.ZonesRequest.{ZonesRequest}
 use Rattle.plan_rules.specs.declared.SourceKind.{SourceKind}
 use Rattle.agenda_sources.specs.declared.SourcePath.{SourcePath}
 use Rattle.plan_rules.specs.SourceKind.{is_many, kinds, option_of}
-use Rattle.agenda_arguments.specs.Command.{agenda}
+use Rattle.agenda_arguments.specs.Command.{agenda, machine}
 
 -- why arguments request no command: they request help or the version, or they are invalid (agenda)
 pub data ArgumentsFault : Type 0 where
@@ -178,6 +183,75 @@ asked_by_subcommand (Some met) =
     else (if bytes_eq met.0 (codes "steps") then asked_by_steps met.1
     else (if bytes_eq met.0 (codes "explain") then asked_by_explain met.1 else Err is_usage))))))
 
+-- the time zone of a question about a machine, which is optional: UTC with `--utc`, but not together with `--zone` (agenda)
+abbrev pub machine_zone : Option (List ℕ) → (utc : Bool) → Result (Option (List ℕ)) ArgumentsFault
+machine_zone zone false = Ok zone
+machine_zone None true = Ok (Some (codes "UTC"))
+machine_zone (Some zone) true = Err is_usage
+
+-- what a question about a machine requests, by its values (agenda)
+abbrev pub asked_of_machine : List Row → MachineQuestion → Result Ask ArgumentsFault
+asked_of_machine rows asked = do
+  root ← wanted (first_of (codes "root") rows)
+  Ok (Machine (record { root = root; all = is_given (codes "all") rows; question = asked }))
+
+-- what `machine sources` requests, by its values (agenda)
+abbrev pub asked_by_machine_sources : List Row → Result Ask ArgumentsFault
+asked_by_machine_sources rows = asked_of_machine rows (question.Sources (is_given (codes "json") rows))
+
+-- what `machine check` requests, by its values (agenda)
+abbrev pub asked_by_machine_check : List Row → Result Ask ArgumentsFault
+asked_by_machine_check rows = do
+  zone ← machine_zone (zone_in rows) (is_given (codes "utc") rows)
+  asked_of_machine rows (question.Check zone (is_given (codes "json") rows))
+
+-- how the answer to a question about the jobs of a machine is written: its times are local, unless `--utc` is given (agenda)
+abbrev pub machine_format_in : List Row → FormatRequest
+machine_format_in rows = record { json = is_given (codes "json") rows; local = not (is_given (codes "utc") rows) }
+
+-- what is made of the jobs of a machine, by the values (agenda)
+abbrev pub asked_of_jobs : List Row → (delays : Bool) → MachineGoal → Result Ask ArgumentsFault
+asked_of_jobs rows delays goal = do
+  zone ← machine_zone (zone_in rows) (is_given (codes "utc") rows)
+  asked_of_machine rows (question.Jobs (record {
+    goal = goal;
+    zone = zone;
+    delays = delays;
+    format = machine_format_in rows;
+  }))
+
+-- the span of a question about a machine, by the values; both ends are optional (agenda)
+abbrev pub span_in : List Row → SpanRequest
+span_in rows = record { since = first_of (codes "since") rows; until = first_of (codes "until") rows }
+
+-- what `machine upcoming` requests, by its values (agenda)
+abbrev pub asked_by_machine_upcoming : List Row → Result Ask ArgumentsFault
+asked_by_machine_upcoming rows =
+    asked_of_jobs rows (is_given (codes "delays") rows) (machine_goal.Upcoming (first_of (codes "after") rows))
+
+-- what `machine plan` requests, by its values (agenda)
+abbrev pub asked_by_machine_plan : List Row → Result Ask ArgumentsFault
+asked_by_machine_plan rows = do
+  sizes ← sizes_in rows
+  asked_of_jobs rows (is_given (codes "delays") rows) (machine_goal.Plan (span_in rows) sizes)
+
+-- what `machine quiet` requests, by its values: delays count unless `--nominal` is given (agenda)
+abbrev pub asked_by_machine_quiet : List Row → Result Ask ArgumentsFault
+asked_by_machine_quiet rows = do
+  sizes ← sizes_in rows
+  least ← wanted (number_in (one_of (codes "least") rows))
+  asked_of_jobs rows (not (is_given (codes "nominal") rows)) (machine_goal.Quiet (span_in rows) sizes least)
+
+-- what the given question about a machine requests, by its name and its values (agenda)
+abbrev pub asked_by_question : Option (List ℕ × List Row) → Result Ask ArgumentsFault
+asked_by_question None = Err is_usage
+asked_by_question (Some met) =
+    if bytes_eq met.0 (codes "upcoming") then asked_by_machine_upcoming met.1
+    else (if bytes_eq met.0 (codes "plan") then asked_by_machine_plan met.1
+    else (if bytes_eq met.0 (codes "quiet") then asked_by_machine_quiet met.1
+    else (if bytes_eq met.0 (codes "check") then asked_by_machine_check met.1
+    else (if bytes_eq met.0 (codes "sources") then asked_by_machine_sources met.1 else Err is_usage))))
+
 -- how an error of clap is answered: help and the version are printed, and all other errors are usage errors (agenda)
 abbrev pub fault_of_kind : ErrorKind → ArgumentsFault
 fault_of_kind DisplayHelp = wants_help
@@ -189,9 +263,34 @@ abbrev pub asked_unless : Kinds → Result Ask ArgumentsFault → Result Ask Arg
 asked_unless [] read = read
 asked_unless (kind ∷ _) read = Err (fault_of_kind kind)
 
--- what the arguments request (agenda)
+-- what the arguments of `agenda` request, if they aren't those of `agenda machine` (agenda)
+unfoldable pub asked_by_agenda : List (List ℕ) → Result Ask ArgumentsFault
+asked_by_agenda words = asked_unless (fault_of agenda words) (asked_by_subcommand (subcommand_of agenda words))
+
+-- what the arguments of `agenda machine` request, of which the first is `machine` and the second a question (agenda)
+unfoldable pub asked_by_machine : List (List ℕ) → Result Ask ArgumentsFault
+asked_by_machine words = asked_unless (fault_of machine words) (asked_by_question (subcommand_of machine words))
+
+-- whether a word is an option other than help (agenda)
+abbrev pub is_option : List ℕ → Bool
+is_option word = option_map_or (λ byte. byte == 45) (slice_get word 0) false
+    && not (bytes_eq word (codes "-h") || bytes_eq word (codes "--help"))
+
+-- whether the arguments of `agenda machine` have no question: after `machine` there is nothing, or an option (agenda)
+abbrev pub lacks_question : List (List ℕ) → Bool
+lacks_question words = option_map_or is_option (slice_get words 1) true
+
+-- the arguments of `agenda machine` with a question: `upcoming` if there is none (agenda)
+abbrev pub with_question : List (List ℕ) → List (List ℕ)
+with_question words = if lacks_question words then codes "machine" ∷ codes "upcoming" ∷ drop 1 words else words
+
+-- whether the arguments are those of `agenda machine`: `machine` follows the name of the program (agenda)
+abbrev pub are_of_machine : List (List ℕ) → Bool
+are_of_machine words = option_map_or (λ word. bytes_eq word (codes "machine")) (slice_get words 1) false
+
+-- what the arguments request; those of `agenda machine`, from `machine` on, are a command line of their own (agenda)
 unfoldable pub asked_by : List (List ℕ) → Result Ask ArgumentsFault
-asked_by words = asked_unless (fault_of agenda words) (asked_by_subcommand (subcommand_of agenda words))
+asked_by words = if are_of_machine words then asked_by_machine (with_question (drop 1 words)) else asked_by_agenda words
 
 -- the result is what the definition says, or an allocation failed (agenda)
 abbrev pub Gives : {X : Type 0} → Result X UsageFault → Result X ArgumentsFault → Type 0

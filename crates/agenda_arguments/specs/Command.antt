@@ -7,9 +7,9 @@ use Rattle.clap.specs.declared.builder.value_parser.ValueParser.TheVariants as p
 use Rattle.plan_rules.specs.declared.SourceKind.{SourceKind}
 use Rattle.plan_rules.specs.declared.SourceKind.TheVariants.{Timer}
 use Rattle.agenda_arguments.specs.declared.command.CommandOption.{CommandOption}
-use Rattle.agenda_arguments.specs.declared.command.CommandOption.TheVariants.{Flag, Text, Moment, Number, Tuning}
-use Rattle.agenda_arguments.specs.declared.command.Subcommand.{Subcommand}
-use Rattle.agenda_arguments.specs.declared.command.Subcommand.TheVariants as each
+use Rattle.agenda_arguments.specs.declared.command.CommandOption.TheVariants.{Flag, Text, Preset, Moment, Number, Tuning}
+use Rattle.agenda_arguments.specs.declared.command.subcommands.Subcommand.{Subcommand}
+use Rattle.agenda_arguments.specs.declared.command.subcommands.Subcommand.TheVariants as each
 use Rattle.plan_rules.specs.SourceKind.{is_many, kinds, option_of}
 
 -- an argument `VALUE`, which is optional (agenda)
@@ -23,6 +23,10 @@ option_named name = record (argument_named name) { long = Some name }
 -- a flag `--name`: an option without a value (agenda)
 abbrev pub flag_option : List ℕ → Rule
 flag_option name = record (new_rule name) { long = Some name; action = Some SetTrue }
+
+-- an option for a text, which has a default (agenda)
+abbrev pub preset_option : List ℕ → (default : List ℕ) → Rule
+preset_option name default = record (option_named name) { defaults = default ∷ [] }
 
 -- an option for a timestamp, which is required (agenda)
 abbrev pub moment_option : List ℕ → Rule
@@ -43,6 +47,7 @@ number_option name default = record (option_named name) {
 abbrev pub rule_for : CommandOption → Rule
 rule_for (Flag name help) = flag_option name.now
 rule_for (Text name value help) = option_named name.now
+rule_for (Preset name value default help) = preset_option name.now default.now
 rule_for (Moment name help) = moment_option name.now
 rule_for (Number name default help) = number_option name.now default.now
 rule_for (Tuning name default help) = number_option name.now default.now
@@ -139,26 +144,53 @@ steps = subcommand_with (codes "steps") (file_argument ∷ [])
 unfoldable pub explain : App
 explain = subcommand_with (codes "explain") (code_argument ∷ [])
 
--- `agenda` without its subcommands; it requires a subcommand or `--version`, and has no subcommand `help`, so
--- that each error of clap has only one answer (agenda)
-abbrev pub agenda_alone : App
-agenda_alone = on_top (λ s. record s {
-  has_version = true;
-  subcommand_required = true;
-  disable_help_subcommand = true;
-}) (new_app (codes "agenda"))
+-- `machine`, as help lists it; its own arguments are those of another command line (agenda)
+unfoldable pub machine_listed : App
+machine_listed = new_app (codes "machine")
 
--- `agenda next ..`, `agenda plan ..`, `agenda upcoming ..`, `agenda quiet ..`, `agenda check ..`, `agenda steps ..` or
--- `agenda explain ..` (agenda)
-unfoldable pub agenda : App
-agenda =
-    with_subcommand (with_subcommand (with_subcommand (with_subcommand (with_subcommand (with_subcommand (with_subcommand
-    agenda_alone next.top) plan.top) upcoming.top) quiet.top) check.top) steps.top) explain.top
+-- a command with what names a machine added: `[--root DIR] [--all]`; the root directory is `/` if it isn't given (agenda)
+unfoldable pub with_machine : App → App
+with_machine app = with_each app (preset_option (codes "root") (codes "/") ∷ flag_option (codes "all") ∷ [])
 
--- the subcommands, in the order in which help lists them (agenda)
-abbrev pub subcommands : List Subcommand
-subcommands =
-    each.Next ∷ each.Plan ∷ each.Upcoming ∷ each.Quiet ∷ each.Check ∷ each.Steps ∷ each.Explain ∷ []
+-- `machine sources` with the machine and `[--json]` (agenda)
+unfoldable pub machine_sources : App
+machine_sources = with_each (with_machine (new_app (codes "sources"))) (flag_option (codes "json") ∷ [])
+
+-- what decides the time zone of a question about a machine: `[--zone ZONE or --utc]`; that not both are present is checked after
+-- clap's parse (agenda)
+abbrev pub machine_zone_rules : List Rule
+machine_zone_rules = option_named (codes "zone") ∷ flag_option (codes "utc") ∷ []
+
+-- the sizes of a plan of a machine: `[--limit N] [--planners N] [--room N]` (agenda)
+abbrev pub machine_size_rules : List Rule
+machine_size_rules = number_option (codes "limit") (codes "1000000") ∷ number_option (codes "planners") (codes "2")
+    ∷ number_option (codes "room") (codes "16") ∷ []
+
+-- `machine check` with the machine, the zone and `[--json]` (agenda)
+unfoldable pub machine_check : App
+machine_check = with_each (with_machine (new_app (codes "check"))) (machine_zone_rules ++ flag_option (codes "json") ∷ [])
+
+-- `machine upcoming` with the machine, `[--after T]`, the zone, `[--delays]` and `[--json]` (agenda)
+unfoldable pub machine_upcoming : App
+machine_upcoming = with_each (with_machine (new_app (codes "upcoming")))
+    (option_named (codes "after") ∷ machine_zone_rules ++ flag_option (codes "delays") ∷ flag_option (codes "json") ∷ [])
+
+-- a command with what names a machine and with the span of a plan added: `[--since T] [--until T]`; `--upto` is another name of
+-- `--until` (agenda)
+unfoldable pub with_machine_span : App → App
+with_machine_span app = with_each (with_machine app)
+    (option_named (codes "since") ∷ with_alias (option_named (codes "until")) (codes "upto") ∷ [])
+
+-- `machine plan` with the machine, the span, the zone, `[--delays]`, `[--json]` and the sizes (agenda)
+unfoldable pub machine_plan : App
+machine_plan = with_each (with_machine_span (new_app (codes "plan")))
+    (machine_zone_rules ++ flag_option (codes "delays") ∷ flag_option (codes "json") ∷ machine_size_rules)
+
+-- `machine quiet` with the machine, the span, `[--least N]`, the zone, `[--nominal]`, `[--json]` and the sizes (agenda)
+unfoldable pub machine_quiet : App
+machine_quiet = with_each (with_machine_span (new_app (codes "quiet")))
+    (number_option (codes "least") (codes "1800") ∷ machine_zone_rules ++ flag_option (codes "nominal") ∷ flag_option (codes "json")
+    ∷ machine_size_rules)
 
 -- the command line of a subcommand (agenda)
 abbrev pub app_for : Subcommand → App
@@ -167,10 +199,47 @@ app_for each.Plan = plan
 app_for each.Upcoming = upcoming
 app_for each.Quiet = quiet
 app_for each.Check = check
+app_for each.Machine = machine_listed
 app_for each.Steps = steps
 app_for each.Explain = explain
+app_for each.MachineUpcoming = machine_upcoming
+app_for each.MachinePlan = machine_plan
+app_for each.MachineQuiet = machine_quiet
+app_for each.MachineCheck = machine_check
+app_for each.MachineSources = machine_sources
+
+-- the subcommands of `agenda`, in the order in which help lists them (agenda)
+abbrev pub subcommands : List Subcommand
+subcommands =
+    each.Next ∷ each.Plan ∷ each.Upcoming ∷ each.Quiet ∷ each.Check ∷ each.Machine ∷ each.Steps ∷ each.Explain ∷ []
+
+-- the questions about a machine, in the order in which help lists them (agenda)
+abbrev pub questions : List Subcommand
+questions = each.MachineUpcoming ∷ each.MachinePlan ∷ each.MachineQuiet ∷ each.MachineCheck ∷ each.MachineSources ∷ []
 
 -- a command with these subcommands added, one after the other (agenda)
 abbrev pub with_subcommands : App → List Subcommand → App
 with_subcommands app [] = app
 with_subcommands app (subcommand ∷ rest) = with_subcommands (with_subcommand app (app_for subcommand).top) rest
+
+-- a command without its subcommands; it requires one, and has no subcommand `help`, so that each error of clap has only one
+-- answer (agenda)
+abbrev pub requiring_subcommand : App → App
+requiring_subcommand app = on_top (λ s. record s { subcommand_required = true; disable_help_subcommand = true }) app
+
+-- `agenda` without its subcommands; it requires a subcommand or `--version` (agenda)
+abbrev pub agenda_alone : App
+agenda_alone = requiring_subcommand (on_top (λ s. record s { has_version = true }) (new_app (codes "agenda")))
+
+-- `agenda next ..`, `agenda plan ..`, `agenda upcoming ..`, `agenda quiet ..`, `agenda check ..`, `agenda machine`, `agenda steps ..`
+-- or `agenda explain ..` (agenda)
+unfoldable pub agenda : App
+agenda = with_subcommands agenda_alone subcommands
+
+-- `machine` without its subcommands; it requires one (agenda)
+abbrev pub machine_alone : App
+machine_alone = requiring_subcommand (new_app (codes "machine"))
+
+-- `machine upcoming ..`, `machine plan ..`, `machine quiet ..`, `machine check ..` or `machine sources ..` (agenda)
+unfoldable pub machine : App
+machine = with_subcommands machine_alone questions

@@ -2,15 +2,17 @@
 ghost use Rattle.std.specs.Prelude.{◌≡◌, Err, IfOk, Some, codes, map, string_bytes};
 ghost use Rattle.clap.specs.Words.{first_of, found_of, kind_of, rows_of, subcommand_rows_of};
 ghost use Rattle.agenda_arguments.specs.Arguments.ArgumentsFault.{is_usage};
-ghost use Rattle.agenda_arguments.specs.Arguments.{Gives, IsAnswerTo, asked_by, asked_by_check, asked_by_explain, asked_by_next};
-ghost use Rattle.agenda_arguments.specs.Arguments.{asked_by_plan, asked_by_quiet, asked_by_steps, asked_by_subcommand};
-ghost use Rattle.agenda_arguments.specs.Arguments.{asked_by_upcoming, format_in, jobs_in, one_rule, plan_in, sizes_in, zones_in};
+ghost use Rattle.agenda_arguments.specs.Arguments.{Gives, IsAnswerTo, are_of_machine, asked_by, asked_by_agenda, asked_by_check};
+ghost use Rattle.agenda_arguments.specs.Arguments.{asked_by_explain, asked_by_next, asked_by_plan, asked_by_quiet, asked_by_steps};
+ghost use Rattle.agenda_arguments.specs.Arguments.{asked_by_subcommand, asked_by_upcoming, format_in, jobs_in, one_rule, plan_in};
+ghost use Rattle.agenda_arguments.specs.Arguments.{sizes_in, zones_in};
 
 use crate::ask::{
     Ask, FormatRequest, JobsRequest, NextRequest, PlanRequest, UsageFault, ZonesRequest,
 };
 use crate::codes::code_of;
 use crate::command::agenda_command;
+use crate::machine::asked_about_machine;
 use crate::paths::sources_of;
 use crate::values::{is_given, number_argument, text, text_if_given, text_of, value_of};
 use agenda_sources::Asked;
@@ -33,6 +35,27 @@ const NO_SUBCOMMAND: &str =
 /// the arguments are invalid; `NoMemory` if an allocation failed.
 pub fn read_words(alloc: Global, words: &[String]) -> Result<Ask, UsageFault>
     ensures { Gives result (asked_by (map string_bytes words.now)) }
+{
+    if are_of_machine(words) {
+        asked_about_machine(alloc, &words[1..])
+    } else {
+        asked_by_agenda(alloc, words)
+    }
+}
+
+// Returns whether the arguments are those of `agenda machine`.
+fn are_of_machine(words: &[String]) -> bool
+    ensures { result ≡ are_of_machine (map string_bytes words.now) }
+{
+    match words.get(1) {
+        Some(word) => word.as_str() == "machine",
+        None => false,
+    }
+}
+
+// Returns what the arguments of `agenda` request, if they aren't those of `agenda machine`.
+fn asked_by_agenda(alloc: Global, words: &[String]) -> Result<Ask, UsageFault>
+    ensures { Gives result (asked_by_agenda (map string_bytes words.now)) }
 {
     let command = agenda_command(alloc)?;
     match command.try_get_matches_from(words) {
@@ -67,8 +90,12 @@ fn asked_by_name(alloc: Global, name: &str, given: &ArgMatches<'_>) -> Result<As
     }
 }
 
-// Returns the error for arguments without a subcommand.
-fn no_subcommand(alloc: Global) -> Result<Ask, UsageFault>
+/// Returns the error for arguments without a subcommand.
+///
+/// # Errors
+///
+/// `Usage`, always; or `NoMemory` if an allocation failed.
+pub(crate) fn no_subcommand(alloc: Global) -> Result<Ask, UsageFault>
     ensures { Gives result (Err is_usage) }
 {
     Err(UsageFault::Usage(text(alloc, NO_SUBCOMMAND)?))
@@ -178,8 +205,12 @@ fn format_of(given: &ArgMatches<'_>) -> FormatRequest
     FormatRequest { json, local }
 }
 
-// Returns the sizes of a plan. The numbers in the arguments have 32 bits. Here they get the types that a plan uses.
-fn sizes_of(alloc: Global, given: &ArgMatches<'_>) -> Result<Sizes, UsageFault>
+/// Returns the sizes of a plan. The numbers in the arguments have 32 bits. Here they get the types that a plan uses.
+///
+/// # Errors
+///
+/// `Usage` if a number is missing; `NoMemory` if an allocation failed.
+pub(crate) fn sizes_of(alloc: Global, given: &ArgMatches<'_>) -> Result<Sizes, UsageFault>
     ensures { Gives result (sizes_in (rows_of (found_of given.now))) }
 {
     let planners = number_argument(alloc, given, "planners")?;
@@ -220,8 +251,12 @@ fn asked_by_explain(alloc: Global, given: &ArgMatches<'_>) -> Result<Ask, UsageF
     Ok(Ask::Explain(code))
 }
 
-// Returns the error for an error of `clap`, with its text.
-fn usage_fault(alloc: Global, error: &clap::Error) -> Result<UsageFault, AllocError>
+/// Returns the error for an error of `clap`, with its text.
+///
+/// # Errors
+///
+/// An allocation failed.
+pub(crate) fn usage_fault(alloc: Global, error: &clap::Error) -> Result<UsageFault, AllocError>
     ensures { IfOk result (IsAnswerTo (kind_of error.now)) }
 {
     let text = Text::new(error.to_string(alloc)?);

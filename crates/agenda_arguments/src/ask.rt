@@ -68,6 +68,84 @@ pub struct NextRequest {
     pub format: FormatRequest,
 }
 
+/// A span of time whose ends may be missing.
+#[derive(Debug, Drop)]
+pub struct SpanRequest {
+    /// The text of the start of the span. It is the present if this is missing.
+    pub since: Option<Text>,
+    /// The text of the end of the span, which is outside of it. It is a day after the start if this is missing.
+    pub until: Option<Text>,
+}
+
+/// What is made of the jobs of a machine.
+#[derive(Debug, Drop)]
+pub enum MachineGoal {
+    /// The next start of each job.
+    Upcoming {
+        /// The text of a time. The starts are later. It is the present if this is missing.
+        after: Option<Text>,
+    },
+    /// All starts in a span.
+    Plan {
+        /// The span.
+        span: SpanRequest,
+        /// The number of planners, the capacity of each one's ring, and the maximum number of starts.
+        sizes: Sizes,
+    },
+    /// The gaps of a span in which no job starts.
+    Quiet {
+        /// The span.
+        span: SpanRequest,
+        /// The sizes of the plan that is searched for gaps.
+        sizes: Sizes,
+        /// The minimum length of a gap, in seconds.
+        least: u32,
+    },
+}
+
+/// What is asked about the jobs of a machine.
+#[derive(Debug, Drop)]
+pub struct MachineJobs {
+    /// What is made of the jobs.
+    pub goal: MachineGoal,
+    /// The text of the time zone of the rules. It is that of the machine if this is missing.
+    pub zone: Option<Text>,
+    /// Whether the delays of timers count, so that a start may happen later than planned.
+    pub delays: bool,
+    /// How the answer is written.
+    pub format: FormatRequest,
+}
+
+/// A question about a machine.
+#[derive(Debug, Drop)]
+pub enum MachineQuestion {
+    /// Print what is made of the machine's jobs.
+    Jobs(MachineJobs),
+    /// List the crontabs and timers of the machine.
+    Sources {
+        /// Whether each line is a JSON object.
+        json: bool,
+    },
+    /// Print what is wrong with the crontabs and timers of the machine.
+    Check {
+        /// The text of the time zone of the rules. It is that of the machine if this is missing.
+        zone: Option<Text>,
+        /// Whether each line is a JSON object.
+        json: bool,
+    },
+}
+
+/// What is asked about a machine.
+#[derive(Debug, Drop)]
+pub struct MachineRequest {
+    /// The path of the directory that is the root directory of the machine.
+    pub root: Text,
+    /// Whether timers that aren't enabled are included.
+    pub all: bool,
+    /// The question.
+    pub question: MachineQuestion,
+}
+
 /// A request to the program.
 #[derive(Debug, Drop)]
 pub enum Ask {
@@ -105,6 +183,8 @@ pub enum Ask {
     },
     /// Print what a code of an error or of a warning means, or the list of all codes if none is given.
     Explain(Option<Code>),
+    /// Answer a question about the crontabs and timers of a machine.
+    Machine(MachineRequest),
 }
 
 /// Why the arguments request no command.

@@ -3,15 +3,19 @@ ghost use Rattle.std.specs.Prelude.{◌≡◌, [], ◌∷◌, IfOk, false, map};
 ghost use Rattle.clap.specs.Words.{app_of, items_of, new_app, rule_of, with_rule, with_subcommand};
 ghost use Rattle.clap.specs.declared.builder.command.Command.TheViews.{out-Command};
 ghost use Rattle.agenda_arguments.specs.Command.{agenda, agenda_alone, app_for, argument_named, check, code_argument, explain, file_argument};
-ghost use Rattle.agenda_arguments.specs.Command.{flag_option, moment_option, next, number_option, option_named, path_rule, plan, quiet, rule_for};
-ghost use Rattle.agenda_arguments.specs.Command.{source_rule, steps, subcommands, upcoming, with_alias, with_each, with_jobs};
-ghost use Rattle.agenda_arguments.specs.Command.{with_sources, with_span};
+ghost use Rattle.agenda_arguments.specs.Command.{flag_option, machine_listed, moment_option, next, number_option, option_named, path_rule};
+ghost use Rattle.agenda_arguments.specs.Command.{plan, preset_option, quiet, rule_for, source_rule, steps, upcoming, with_alias, with_each};
+ghost use Rattle.agenda_arguments.specs.Command.{with_jobs, with_sources, with_span, with_subcommands};
 
 mod help;
+mod machine;
+mod subcommands;
 
 use clap::{Arg, ArgAction, Command, value_parser};
+pub(crate) use machine::machine_command;
 use plan_rules::SourceKind;
 use std::alloc::{AllocError, Global};
+use subcommands::Subcommand;
 
 // The version of the program, which is written only here, and the prover's version.
 const VERSION: &str = "0.1.0\nproved with rattle-kit-13b logic dac8208d650f15bf";
@@ -24,6 +28,8 @@ enum CommandOption<'a> {
     Flag(&'a str, &'a str),
     // An option with a value, which is optional. The second text stands for the value in help.
     Text(&'a str, &'a str, &'a str),
+    // The same with a default, which is the third text.
+    Preset(&'a str, &'a str, &'a str, &'a str),
     // An option for a timestamp, which is required.
     Moment(&'a str, &'a str),
     // An option for a whole number of 32 bits. The second text is its default.
@@ -59,56 +65,14 @@ impl<'a> CommandOption<'a> {
         match self {
             CommandOption::Flag(name, help) => flag_option(alloc, name, help),
             CommandOption::Text(name, value, help) => text_option(alloc, name, value, help),
+            CommandOption::Preset(name, value, default, help) => {
+                preset_option(alloc, name, value, default, help)
+            }
             CommandOption::Moment(name, help) => moment_option(alloc, name, help),
             CommandOption::Number(name, default, help) => number_option(alloc, name, default, help),
             CommandOption::Tuning(name, default, help) => {
                 number_option(alloc, name, default, help).help_heading(help::TUNING)
             }
-        }
-    }
-}
-
-// A subcommand.
-#[derive(Clone, Copy)]
-enum Subcommand {
-    Next,
-    Plan,
-    Upcoming,
-    Quiet,
-    Check,
-    Steps,
-    Explain,
-}
-
-impl Subcommand {
-    // Returns all subcommands, in the order in which help lists them.
-    fn all() -> [Subcommand; 7]
-        ensures { result ≡ subcommands }
-    {
-        [
-            Subcommand::Next,
-            Subcommand::Plan,
-            Subcommand::Upcoming,
-            Subcommand::Quiet,
-            Subcommand::Check,
-            Subcommand::Steps,
-            Subcommand::Explain,
-        ]
-    }
-
-    // Returns the command line of the subcommand.
-    fn command<'a>(self, alloc: Global) -> Result<Command<'a>, AllocError>
-        ensures app { IfOk result (λ command. app_of command ≡ app_for self) }
-        ensures local { IfOk result (λ command. (out-Command command).has_globals ≡ false) }
-    {
-        match self {
-            Subcommand::Next => next_command(alloc),
-            Subcommand::Plan => plan_command(alloc),
-            Subcommand::Upcoming => upcoming_command(alloc),
-            Subcommand::Quiet => quiet_command(alloc),
-            Subcommand::Check => check_command(alloc),
-            Subcommand::Steps => steps_command(alloc),
-            Subcommand::Explain => explain_command(alloc),
         }
     }
 }
@@ -122,11 +86,7 @@ impl Subcommand {
 pub(crate) fn agenda_command<'a>(alloc: Global) -> Result<Command<'a>, AllocError>
     ensures { IfOk result (λ command. app_of command ≡ agenda) }
 {
-    let mut command = agenda_alone(alloc)?;
-    for subcommand in Subcommand::all() {
-        command = with_subcommand(alloc, command, subcommand)?;
-    }
-    Ok(command)
+    with_subcommands(alloc, agenda_alone(alloc)?, &Subcommand::of_agenda())
 }
 
 // Returns the command line without its subcommands.
@@ -223,6 +183,15 @@ fn check_command<'a>(alloc: Global) -> Result<Command<'a>, AllocError>
     with_sources(alloc, command)
 }
 
+// Returns `machine` as help lists it. Arguments that begin with it are read by `machine_command`.
+#[tactic(auto, unfolding(crate::specs::Command::machine_listed))]
+fn machine_listed<'a>(alloc: Global) -> Command<'a>
+    ensures app { app_of result ≡ machine_listed }
+    ensures local { (out-Command result).has_globals ≡ false }
+{
+    new_subcommand(alloc, "machine", help::MACHINE, help::AFTER_MACHINE)
+}
+
 #[tactic(auto, unfolding(crate::specs::Command::steps))]
 fn steps_command<'a>(alloc: Global) -> Result<Command<'a>, AllocError>
     ensures app { IfOk result (λ command. app_of command ≡ steps) }
@@ -254,6 +223,21 @@ fn new_subcommand<'a>(
     Command::new(alloc, name)
         .about(about)
         .after_help(after_help)
+}
+
+// Adds subcommands to the command, in order.
+fn with_subcommands<'a>(
+    alloc: Global,
+    command: Command<'a>,
+    subcommands: &[Subcommand],
+) -> Result<Command<'a>, AllocError>
+    ensures { IfOk result (λ new. app_of new ≡ with_subcommands (app_of command.entry) subcommands.now) }
+{
+    let mut command = command;
+    for subcommand in subcommands {
+        command = with_subcommand(alloc, command, *subcommand)?;
+    }
+    Ok(command)
 }
 
 // Adds a subcommand to the command.
@@ -439,6 +423,20 @@ fn number_option<'a>(alloc: Global, name: &'a str, default: &'a str, help: &'a s
     text_option(alloc, name, "N", help)
         .value_parser(value_parser!(u32))
         .default_value(default)
+}
+
+// Returns the option `--name VALUE`, a text, with a default.
+fn preset_option<'a>(
+    alloc: Global,
+    name: &'a str,
+    value: &'a str,
+    default: &'a str,
+    help: &'a str,
+) -> Arg<'a>
+    ensures rule { rule_of result ≡ preset_option name.entry.now default.entry.now }
+    ensures local { result.global ≡ false }
+{
+    text_option(alloc, name, value, help).default_value(default)
 }
 
 // Returns the option `--name VALUE`, which is optional.

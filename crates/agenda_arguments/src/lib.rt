@@ -2,17 +2,20 @@
 //!
 //! The crate uses the kit's `clap`, plan_texts for the texts that it keeps, plan_rules for the table of the kinds of
 //! sources, agenda_sources for their paths, and agenda_codes for the codes that can be explained. Read `arguments`
-//! first, then `command`, which describes the command line to clap, with the texts in its `help`.
+//! first, then `machine` for the arguments of `agenda machine`, and `command`, which describes both command lines to
+//! clap, with the texts in its `help`.
 #![tactic(auto)]
 
 mod arguments;
 mod ask;
 mod codes;
 mod command;
+mod machine;
 mod paths;
 mod values;
 
 pub use arguments::read_words;
 pub use ask::{
-    Ask, FormatRequest, JobsRequest, NextRequest, PlanRequest, UsageFault, ZonesRequest,
+    Ask, FormatRequest, JobsRequest, MachineGoal, MachineJobs, MachineQuestion, MachineRequest,
+    NextRequest, PlanRequest, SpanRequest, UsageFault, ZonesRequest,
 };

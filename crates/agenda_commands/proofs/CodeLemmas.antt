@@ -194,3 +194,5 @@ ends_failure sources (failure.Span fault) has = caused (codes "agenda: span: ") 
 ends_failure sources (failure.Zone fault) has = ends_zone fault
 ends_failure sources (failure.Run fault) has = ends_run sources fault has
 ends_failure sources (failure.File path) has = longer (codes "agenda: ") _ (longer path _ (ends (codes ": ") code.Device))
+ends_failure sources (failure.NotDirectory root) has = absurd has
+ends_failure sources (failure.TooManyUnits root) has = absurd has

@@ -52,8 +52,10 @@ ComesInRun (run.InSource place fault) = ComesOnLine fault.cause
 ComesInRun (run.Plan fault) = ComesInPlan fault
 ComesInRun other = ⊤
 
--- a failure that has a line, since it isn't a usage error, and that can come
+-- a failure that can come, and whose line has a code: usage errors, and what is wrong with the root of a machine, are in words
 abbrev pub HasLine : Failure → Type 0
 HasLine (failure.Usage text) = ⊥
+HasLine (failure.NotDirectory root) = ⊥
+HasLine (failure.TooManyUnits root) = ⊥
 HasLine (failure.Run fault) = ComesInRun fault
 HasLine other = ⊤

@@ -62,8 +62,15 @@ fn checked_on(found: &[Found]) -> Checked
     }
 }
 
-// Returns whether all findings are warnings.
-fn are_warnings(found: &[Found]) -> bool
+/// Returns whether all findings are warnings, so that none is an error.
+pub fn are_warnings(found: &[Found]) -> bool
+    ensures { result ≡ is_all_clean found.now }
+{
+    all_warned(found)
+}
+
+// Does the same, finding by finding.
+fn all_warned(found: &[Found]) -> bool
     ensures { result ≡ list_all (λ one. is_warning one.finding.kind) found.now }
 {
     found.iter().all(|one| is_warning(one.finding.kind))

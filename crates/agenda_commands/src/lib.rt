@@ -20,7 +20,7 @@ mod next;
 mod prepare;
 mod script;
 
-pub use check::{Checked, run_check};
+pub use check::{Checked, are_warnings, run_check};
 pub use explain::run_explain;
 pub use goal::{Goal, Planning};
 pub use laws::codes_are_explained;

@@ -7,7 +7,7 @@ use Rattle.agenda_script.specs.declared.fault.ScriptCause.TheVariants as script
 use Rattle.agenda_faults.specs.declared.faults.RunFault.{RunFault}
 use Rattle.agenda_faults.specs.declared.faults.RunFault.TheVariants.{NoMemory, BadCount, Rule, InSource, SameName, Full, Plan, Script, Device, BadLeast}
 use Rattle.agenda_faults.specs.declared.faults.Failure.{Failure}
-use Rattle.agenda_faults.specs.declared.faults.Failure.TheVariants.{Usage, After, Since, Upto, Span, Zone, Run, File}
+use Rattle.agenda_faults.specs.declared.faults.Failure.TheVariants.{Usage, After, Since, Upto, Span, Zone, Run, File, NotDirectory, TooManyUnits}
 use Rattle.plan_rules.specs.declared.LineCause.{LineCause}
 use Rattle.plan_rules.specs.declared.LineCause.TheVariants as on_line
 use Rattle.plan_collect.specs.declared.CollectFault.{CollectFault}
@@ -130,3 +130,5 @@ fault_text sources (Span fault) = caused_line (codes "agenda: span: ") (span_cau
 fault_text sources (Zone fault) = zone_line fault
 fault_text sources (Run fault) = run_line sources fault
 fault_text sources (File path) = codes "agenda: " ++ (path ++ codes ": Device\n")
+fault_text sources (NotDirectory root) = codes "agenda: " ++ (root ++ codes ": not a directory\n")
+fault_text sources (TooManyUnits root) = codes "agenda: " ++ (root ++ codes ": more than 10000 units\n")

@@ -6,7 +6,7 @@ use Rattle.plan_rules.specs.declared.RuleCause.TheVariants as cause
 use Rattle.agenda_faults.specs.declared.faults.RunFault.{RunFault}
 use Rattle.agenda_faults.specs.declared.faults.RunFault.TheVariants.{NoMemory, BadCount, Rule, InSource, SameName, Full, Plan, Script, Device, BadLeast}
 use Rattle.agenda_faults.specs.declared.faults.Failure.{Failure}
-use Rattle.agenda_faults.specs.declared.faults.Failure.TheVariants.{Usage, After, Since, Upto, Span, Zone, Run, File}
+use Rattle.agenda_faults.specs.declared.faults.Failure.TheVariants.{Usage, After, Since, Upto, Span, Zone, Run, File, NotDirectory, TooManyUnits}
 use Rattle.plan_rules.specs.declared.LineCause.{LineCause}
 use Rattle.plan_rules.specs.declared.LineCause.TheVariants as line
 use Rattle.plan_collect.specs.declared.CollectFault.{CollectFault}
@@ -113,3 +113,5 @@ status_of (Span fault) = rejected_status
 status_of (Zone fault) = zone_status fault
 status_of (Run fault) = run_status fault
 status_of (File path) = failed_status
+status_of (NotDirectory root) = rejected_status
+status_of (TooManyUnits root) = rejected_status

@@ -65,6 +65,17 @@ fn put_failure<S: Stream>(failure: &Failure, sources: &[SourcePath], line: &mut 
         Failure::Zone(fault) => put_zone_fault(*fault, line),
         Failure::Run(fault) => put_run_fault(fault, sources, line),
         Failure::File(path) => put_between(b"agenda: ", path.as_str(), b": Device\n", line),
+        Failure::NotDirectory(root) => {
+            put_between(b"agenda: ", root.as_str(), b": not a directory\n", line);
+        }
+        Failure::TooManyUnits(root) => {
+            put_between(
+                b"agenda: ",
+                root.as_str(),
+                b": more than 10000 units\n",
+                line,
+            );
+        }
     }
 }
 

@@ -162,6 +162,10 @@ pub enum Failure {
     Run(RunFault),
     /// The file with this path can't be opened or read.
     File(Text),
+    /// The root of a machine, which has this path, isn't a directory.
+    NotDirectory(Text),
+    /// The boot of the machine whose root has this path reaches more than 10,000 units.
+    TooManyUnits(Text),
 }
 
 impl From<AllocError> for Failure {
@@ -228,6 +232,7 @@ impl Failure {
             Failure::Zone(fault) => zone_status(*fault),
             Failure::Run(fault) => fault.status(),
             Failure::File(_) => FAILED,
+            Failure::NotDirectory(_) | Failure::TooManyUnits(_) => REFUSED,
         }
     }
 }

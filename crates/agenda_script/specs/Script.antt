@@ -118,12 +118,12 @@ script_reading bytes =
     else (if is_utf8 bytes then lines_reading (lines bytes) else fault_on 0 NotUtf8)
 
 -- an allocation failed: an error without a line
-abbrev pub memory_refused : ScriptFault
-memory_refused = record { line = 0; cause = NoMemory }
+abbrev pub memory_fault : ScriptFault
+memory_fault = record { line = 0; cause = NoMemory }
 
 -- the error of a script whose mailbox can't be made
 abbrev pub fault_of_mailbox : NewFault → ScriptFault
-fault_of_mailbox new.NoMemory = memory_refused
+fault_of_mailbox new.NoMemory = memory_fault
 fault_of_mailbox new.BadSize = record { line = 1; cause = BadSize }
 
 -- the sizes of a mailbox

@@ -78,11 +78,11 @@ impl Error for ScriptFault {}
 
 impl From<AllocError> for ScriptFault {
     ghost use Rattle.std.specs.Prelude.{◌≡◌};
-    ghost use Rattle.agenda_script.specs.Script.{memory_refused};
+    ghost use Rattle.agenda_script.specs.Script.{memory_fault};
 
-    ghost from_gives = { λ _ fault. fault ≡ memory_refused };
+    ghost from_gives = { λ _ fault. fault ≡ memory_fault };
 
-    fn from(_refused: AllocError) -> ScriptFault {
+    fn from(_error: AllocError) -> ScriptFault {
         ScriptFault {
             line: 0,
             cause: ScriptCause::NoMemory,
@@ -92,11 +92,11 @@ impl From<AllocError> for ScriptFault {
 
 impl<T: Drop> From<AllocFailed<T>> for ScriptFault {
     ghost use Rattle.std.specs.Prelude.{◌≡◌};
-    ghost use Rattle.agenda_script.specs.Script.{memory_refused};
+    ghost use Rattle.agenda_script.specs.Script.{memory_fault};
 
-    ghost from_gives = { λ _ fault. fault ≡ memory_refused };
+    ghost from_gives = { λ _ fault. fault ≡ memory_fault };
 
-    fn from(_refused: AllocFailed<T>) -> ScriptFault {
+    fn from(_error: AllocFailed<T>) -> ScriptFault {
         ScriptFault {
             line: 0,
             cause: ScriptCause::NoMemory,

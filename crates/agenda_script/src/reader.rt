@@ -6,7 +6,7 @@ ghost use Rattle.plan_mailbox.specs.Mailbox.{IsNew};
 ghost use Rattle.plan_mailbox.specs.Lanes.{mailbox_of};
 ghost use Rattle.plan_texts.specs.Lines.{is_too_large};
 ghost use Rattle.plan_texts.specs.Steps.{GivesUnless};
-ghost use Rattle.agenda_script.specs.Script.{fault_on, lines_reading, mailbox_in, mailbox_line, meaning_of, memory_refused, most_steps};
+ghost use Rattle.agenda_script.specs.Script.{fault_on, lines_reading, mailbox_in, mailbox_line, meaning_of, memory_fault, most_steps};
 ghost use Rattle.agenda_script.specs.Script.{script_reading, send_of, size_reading, sizes_in, sizes_of, step_of, step_on, steps_reading};
 
 use crate::fault::{ScriptCause, ScriptFault};
@@ -36,7 +36,7 @@ pub struct Script<'a> {
 /// any memory is requested.
 #[tactic(auto, unfolding(crate::specs::Script::script_reading))]
 pub fn read_script<'a>(alloc: Global, script: &'a [u8]) -> Result<Script<'a>, ScriptFault>
-    ensures meaning { GivesUnless memory_refused meaning_of result (script_reading script.now) }
+    ensures meaning { GivesUnless memory_fault meaning_of result (script_reading script.now) }
     ensures new { IfOk result (λ read. IsNew (mailbox_in read)) }
 
     // These two are found before any memory is requested.
@@ -58,7 +58,7 @@ pub fn read_script<'a>(alloc: Global, script: &'a [u8]) -> Result<Script<'a>, Sc
 // Reads a script from its lines.
 #[tactic(auto, unfolding(crate::specs::Script::lines_reading))]
 fn read_lines<'a>(alloc: Global, lines: &[&'a str]) -> Result<Script<'a>, ScriptFault>
-    ensures meaning { GivesUnless memory_refused meaning_of result
+    ensures meaning { GivesUnless memory_fault meaning_of result
         (lines_reading (map (λ line. line.now) lines.now)) }
     ensures new { IfOk result (λ read. IsNew (mailbox_in read)) }
 {
@@ -79,7 +79,7 @@ fn fault_on(line: u32, cause: ScriptCause) -> ScriptFault
 // Makes the new mailbox of the first line.
 #[tactic(auto, unfolding(crate::specs::Script::size_reading))]
 fn new_mailbox<'a>(alloc: Global, line: &[u8]) -> Result<Rings<Message<'a>>, ScriptFault>
-    ensures size { GivesUnless memory_refused (λ rings. sizes_in (mailbox_of rings)) result
+    ensures size { GivesUnless memory_fault (λ rings. sizes_in (mailbox_of rings)) result
         (size_reading line.now) }
     ensures new { IfOk result (λ rings. IsNew (mailbox_of rings)) }
 {
@@ -117,7 +117,7 @@ fn read_sizes(text: &[u8]) -> Option<(usize, usize)>
 
 // Reads the steps of the lines after the first.
 fn read_steps<'a>(alloc: Global, lines: &[&'a str]) -> Result<Vec<Step<Message<'a>>>, ScriptFault>
-    ensures { GivesUnless memory_refused (λ steps. steps.items) result
+    ensures { GivesUnless memory_fault (λ steps. steps.items) result
         (steps_reading (map (λ line. line.now) lines.now)) }
 {
     let mut steps = Vec::new(alloc);

@@ -51,10 +51,8 @@ fn shown(alloc: Global, all: &MachineSources) -> Result<String, AllocError> {
     let mut text = String::new(alloc);
     for source in all.found() {
         text.push_str(source.name())?;
-        for file in source.files() {
-            text.push_str(" ")?;
-            text.push_str(file.path())?;
-        }
+        text.push_str(" ")?;
+        text.push_str(source.parts().path(0).unwrap_or(""))?;
         text.push_str("\n")?;
     }
     for skipped in all.skipped() {

@@ -1,15 +1,16 @@
 //! Tests of which timers a machine starts, and why others aren't sources.
 
 use crate::tree::TextTree;
+use plan_parts::Part;
 use plan_timers::{
-    NotPlanned, SourceFile, TimersFound, Why, WhyNot, default_accuracy, machine_timers,
-    planned_timers,
+    NotPlanned, TimersFound, Unplanned, default_accuracy, machine_timers, planned_timers,
 };
 use plan_units::search_path;
 use std::alloc::{AllocError, Global};
 use std::test::Fail;
 
-// The boot reaches timers.target and s.service, and these want the timers. Nothing starts off.target.
+// The boot reaches timers.target and s.service, and these want the timers. Nothing starts off.target, and c+.timer is
+// invalid.
 const MACHINE: &str = "\
 d etc
 d etc/systemd
@@ -45,55 +46,44 @@ f usr/lib/systemd/system/c+.timer [Timer]|
 f usr/lib/systemd/system/idle.timer [Timer]|
 ";
 
+// As many bytes as tell that a file is too large.
+const MOST: u64 = 1_048_577;
+
 const FOUND: &str = "\
 a.timer: lib/systemd/system/a.timer etc/systemd/system/a.timer.d/b.conf etc/systemd/system/a.timer.d/z.conf
 s.timer: lib/systemd/system/s.timer
 b-x.timer: lib/systemd/system/b@.timer
 skipped etc/systemd/system/a.timer.d/m.conf: masked
-skipped etc/systemd/system/timers.target.wants/c+.timer: bad name
 skipped etc/systemd/system/timers.target.wants/gone.timer: no such timer
 skipped etc/systemd/system/masked.timer: masked
-skipped etc/systemd/system/off.target.wants/idle.timer: wanted by off.target alone
+skipped etc/systemd/system/off.target.wants/idle.timer: wanted by off.target alone, which the boot does not start
 ";
 
 fn shown(alloc: Global, found: &TimersFound) -> Result<String, AllocError> {
     let mut text = String::new(alloc);
     for source in &found.sources {
         text.push_str(source.name.as_str())?;
-        text.push_str(":")?;
-        push_paths(&mut text, source.files.as_slice())?;
+        text.push_str(": ")?;
+        text.push_str(source.file.path())?;
+        push_paths(&mut text, source.drop_ins.as_slice())?;
         text.push_str("\n")?;
     }
     for skipped in &found.skipped {
         text.push_str("skipped ")?;
         text.push_str(skipped.path.as_str())?;
         text.push_str(": ")?;
-        push_why(&mut text, &skipped.why)?;
+        text.push_str(skipped.why.text(alloc)?.as_str())?;
         text.push_str("\n")?;
     }
     Ok(text)
 }
 
-fn push_paths(text: &mut String, files: &[SourceFile]) -> Result<(), AllocError> {
+fn push_paths(text: &mut String, files: &[Part]) -> Result<(), AllocError> {
     for file in files {
         text.push_str(" ")?;
-        text.push_str(file.path.as_str())?;
+        text.push_str(file.path())?;
     }
     Ok(())
-}
-
-fn push_why(text: &mut String, why: &Why) -> Result<(), AllocError> {
-    match why {
-        Why::BadName => text.push_str("bad name"),
-        Why::NoSuchTimer => text.push_str("no such timer"),
-        Why::Masked => text.push_str("masked"),
-        Why::WantedBy(unit) => {
-            text.push_str("wanted by ")?;
-            text.push_str(unit.as_str())?;
-            text.push_str(" alone")
-        }
-        _ => text.push_str("another reason"),
-    }
 }
 
 #[test]
@@ -101,7 +91,7 @@ fn timers_that_the_boot_reaches_are_sources(rt: HostRuntime) -> Result<(), Fail>
     let alloc = rt.alloc();
     let tree = TextTree(MACHINE);
     let dirs = search_path(alloc, &tree)?;
-    let found = machine_timers(alloc, &tree, dirs.as_slice(), false)?;
+    let found = machine_timers(alloc, &tree, dirs.as_slice(), false, MOST)?;
     let text = match &found {
         Some(found) => shown(alloc, found)?,
         None => String::new(alloc),
@@ -110,11 +100,52 @@ fn timers_that_the_boot_reaches_are_sources(rt: HostRuntime) -> Result<(), Fail>
     Ok(())
 }
 
+// The directories of x.target and of a.timer are links.
+const LINKED: &str = "\
+d etc
+d etc/systemd
+d etc/systemd/system
+f etc/systemd/system/default.target [Unit]|Wants=x.target|
+l etc/systemd/system/x.target.wants /opt/w
+l etc/systemd/system/y.target.wants ../../../opt/w
+l etc/systemd/system/a.timer.d ../../../opt/l
+l etc/systemd/system/x.target.requires x.target.requires
+f etc/systemd/system/x.target [Unit]|
+f etc/systemd/system/a.timer [Timer]|
+f etc/systemd/system/b.timer [Timer]|
+d opt
+l opt/l d
+d opt/d
+f opt/d/x.conf [Timer]|
+d opt/w
+l opt/w/a.timer nowhere
+l opt/w/gone.timer nowhere
+";
+
+const FOUND_BY_LINKS: &str = "\
+a.timer: etc/systemd/system/a.timer etc/systemd/system/a.timer.d/x.conf
+skipped etc/systemd/system/x.target.wants/gone.timer: no such timer
+";
+
+#[test]
+fn directories_that_are_links_are_read(rt: HostRuntime) -> Result<(), Fail> {
+    let alloc = rt.alloc();
+    let tree = TextTree(LINKED);
+    let dirs = search_path(alloc, &tree)?;
+    let found = machine_timers(alloc, &tree, dirs.as_slice(), false, MOST)?;
+    let text = match &found {
+        Some(found) => shown(alloc, found)?,
+        None => String::new(alloc),
+    };
+    assert_eq!(&rt; text.as_str(), FOUND_BY_LINKS);
+    Ok(())
+}
+
 // Returns whether a timer isn't planned since other.service is missing.
 fn lacks_other_service(other: &NotPlanned) -> bool {
     match &other.why {
-        WhyNot::UnitMissing(unit) => unit.as_str() == "other.service",
-        WhyNot::UnitMasked(_) => false,
+        Unplanned::UnitMissing(unit) => unit.as_str() == "other.service",
+        _ => false,
     }
 }
 
@@ -123,7 +154,7 @@ fn a_timer_without_its_unit_is_not_planned(rt: HostRuntime) -> Result<(), Fail> 
     let alloc = rt.alloc();
     let tree = TextTree(MACHINE);
     let dirs = search_path(alloc, &tree)?;
-    let sources = match machine_timers(alloc, &tree, dirs.as_slice(), false)? {
+    let sources = match machine_timers(alloc, &tree, dirs.as_slice(), false, MOST)? {
         Some(
             TimersFound {
                 sources,

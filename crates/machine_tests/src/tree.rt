@@ -1,7 +1,7 @@
 //! A tree of files that is a text, with a line for each path.
 
 use plan_texts::Text;
-use plan_tree::{Listing, Name, Node, Tree};
+use plan_tree::{Complete, Listing, Name, Node, Tree};
 use std::alloc::{AllocError, Global};
 
 /// A tree that is a text. A line is a letter, a path and, after a blank, what is there: `d PATH` is a directory;
@@ -74,4 +74,10 @@ impl Tree for TextTree<'_> {
         }
         Ok(Some(bytes))
     }
+}
+
+impl Complete for TextTree<'_> {
+    ghost use Rattle.std.proofs.Common.{rules};
+
+    ghost complete = { Prim.search rules };
 }

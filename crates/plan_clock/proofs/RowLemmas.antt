@@ -58,9 +58,6 @@ pub bounded_at : (changes : List Change) (n : ℕ) → AreChanges changes → is
 unfolding row_at
 bounded_at changes n are = bounded_after changes (prefix_len (λ (change : Change). nat_le change.second n) changes) are
 
-pub begun_after : (changes : List Change) (n passed : ℕ) → HavePassed changes n passed → (row_after changes passed).second ≤ n
-begun_after changes n passed given = grind (arith, nat_tests)
-
 -- the last change that has passed and the one after it give the number of changes that have passed
 pub HavePassed-by :
     (changes : List Change) (n passed : ℕ) → AreChanges changes → 0 < passed → passed ≤ length changes →

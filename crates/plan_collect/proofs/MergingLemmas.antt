@@ -14,7 +14,7 @@ use Rattle.plan_collect.specs.declared.note.Note.TheVariants.{Part, Last}
 use Rattle.plan_collect.specs.declared.collector.CollectFault.{CollectFault}
 use Rattle.plan_collect.specs.declared.collector.CollectFault.TheVariants.{TooMany}
 use Rattle.plan_next.specs.Span.{Bounds}
-use Rattle.plan_collect.specs.Collecting.{Collected, held, belongs, is_rule_of, has_ended, adjoins, has_room, refusal, after, is_complete}
+use Rattle.plan_collect.specs.Collecting.{Collected, held, belongs, is_rule_of, has_ended, adjoins, has_room, fault_of_note, after, is_complete}
 use Rattle.plan_collect.specs.Tiling.{starts_in, notes_of}
 use Rattle.plan_collect.specs.Merging.{answer_to}
 use Rattle.plan_collect.specs.Windows.{Timing, first_second}
@@ -304,8 +304,9 @@ sends_other k other c Last notes not sound fits (inr (count, (few, rest))) =
     inr (count, (few, alike_over c.limit count other notes c (after c k Last) (alike_other k other c Last not fits) rest))
 
 -- a message that fits is rejected only for too many starts
-refusal_of : (k : ℕ) (c : Collected) (note : Note) → Fits k c note → refusal c k note ≡ (if has_room c note then None else Some TooMany)
-refusal_of k c note fits = rw (fits.own, fits.early, fits.next) refl
+fault_of_fitting :
+    (k : ℕ) (c : Collected) (note : Note) → Fits k c note → fault_of_note c k note ≡ (if has_room c note then None else Some TooMany)
+fault_of_fitting k c note fits = rw (fits.own, fits.early, fits.next) refl
 
 -- each message is from one of these planners
 abbrev pub AllOf : (planners : ℕ) → List (ℕ × Note) → Type 0
@@ -317,14 +318,14 @@ size_after k c (Part job piece) = refl
 size_after k c Last = length-set c.ended k true
 
 answer_accepted :
-    (c : Collected) (sent : ℕ × Note) (history : List (ℕ × Note)) → refusal c sent.0 sent.1 ≡ None →
+    (c : Collected) (sent : ℕ × Note) (history : List (ℕ × Note)) → fault_of_note c sent.0 sent.1 ≡ None →
     answer_to c (sent ∷ history) ≡ answer_to (after c sent.0 sent.1) history
 answer_accepted c sent history is = rw (is, answer_to) refl
 
-answer_refused :
-    (c : Collected) (sent : ℕ × Note) (history : List (ℕ × Note)) (fault : CollectFault) → refusal c sent.0 sent.1 ≡ Some fault →
+answer_rejected :
+    (c : Collected) (sent : ℕ × Note) (history : List (ℕ × Note)) (fault : CollectFault) → fault_of_note c sent.0 sent.1 ≡ Some fault →
     answer_to c (sent ∷ history) ≡ Err fault
-answer_refused c sent history fault is = rw (is, answer_to) refl
+answer_rejected c sent history fault is = rw (is, answer_to) refl
 
 -- the collector accepted all and is complete, or it answered TooMany
 abbrev pub IsFair : Result Collected CollectFault → Type 0
@@ -340,11 +341,11 @@ merged (sent ∷ history) c sound some known each =
     let note = sent.1 in
     let mine : Sends k c (note ∷ notes_of k history) = rw (notes_own k sent history refl) at (each k known.0) in
     let fits : Fits k c note = fits_of k c note (notes_of k history) mine in
-    let refused : refusal c k note ≡ (if has_room c note then None else Some TooMany) = refusal_of k c note fits in
+    let tested : fault_of_note c k note ≡ (if has_room c note then None else Some TooMany) = fault_of_fitting k c note fits in
     elim (cases_Bool (has_room c note)) [
       | inl room ↦ (
           let size : length (after c k note).ended ≡ length c.ended = size_after k c note in
-          let accepted : refusal c k note ≡ None = refused ∙ (rw room refl) in
+          let accepted : fault_of_note c k note ≡ None = tested ∙ (rw room refl) in
           subst IsFair (sym (answer_accepted c sent history accepted))
           (merged history (after c k note) (sound_after k c note sound fits room) (omega arith)
           (subst (λ n. AllOf n history) (sym size) known.1)
@@ -355,6 +356,6 @@ merged (sent ∷ history) c sound some known each =
                 (rw (notes_other other sent history (λ same. not (sym same))) at (each other (omega arith)))
           ])))
       | inr full ↦ (
-          let too_many : refusal c k note ≡ Some TooMany = refused ∙ (rw full refl) in
-          subst IsFair (sym (answer_refused c sent history TooMany too_many)) refl)
+          let too_many : fault_of_note c k note ≡ Some TooMany = tested ∙ (rw full refl) in
+          subst IsFair (sym (answer_rejected c sent history TooMany too_many)) refl)
     ]

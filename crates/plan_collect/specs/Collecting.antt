@@ -89,8 +89,8 @@ has_room c (Part job piece) = nat_le (length (held c) + length (starts piece.rul
 has_room c Last = true
 
 -- why a message is rejected, unless an allocation fails: the first that applies
-abbrev pub refusal : Collected → (planner : ℕ) → Note → Option CollectFault
-refusal c planner note =
+abbrev pub fault_of_note : Collected → (planner : ℕ) → Note → Option CollectFault
+fault_of_note c planner note =
     if belongs c planner note then
     (if has_ended c planner then Some AfterLast else
     (if adjoins c note then
@@ -105,9 +105,9 @@ AddsNothing Last = Unit {0}
 
 -- the answer to a message: the error, if it is rejected; else it is accepted, or an allocation failed
 abbrev pub Answers : Result (Unit {0}) CollectFault → Option CollectFault → Type 0
-Answers (Ok done) refused = refused ≡ None
-Answers (Err NoMemory) refused = refused ≡ None
-Answers (Err fault) refused = refused ≡ Some fault
+Answers (Ok done) expected = expected ≡ None
+Answers (Err NoMemory) expected = expected ≡ None
+Answers (Err fault) expected = expected ≡ Some fault
 
 -- what an accepted message changes
 abbrev pub after : Collected → (planner : ℕ) → Note → Collected

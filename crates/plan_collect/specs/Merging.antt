@@ -5,14 +5,14 @@ use Rattle.plan_collect.specs.declared.collector.CollectFault.{CollectFault}
 use Rattle.plan_collect.specs.declared.collector.CollectFault.TheVariants.{TooMany}
 use Rattle.plan_next.specs.Span.{Bounds}
 use Rattle.plan_collect.specs.Limits.{is_size}
-use Rattle.plan_collect.specs.Collecting.{Collected, begun, refusal, after, is_complete}
+use Rattle.plan_collect.specs.Collecting.{Collected, begun, fault_of_note, after, is_complete}
 use Rattle.plan_collect.specs.Tiling.{IsMerging}
 use Rattle.plan_collect.specs.Windows.{Timing}
 
 -- the answer to messages that arrive one after another, each with its planner's number: the first that is rejected ends it
 abbrev pub answer_to : Collected → List (ℕ × Note) → Result Collected CollectFault
 answer_to c [] = Ok c
-answer_to c (sent ∷ history) = elim (refusal c sent.0 sent.1) [
+answer_to c (sent ∷ history) = elim (fault_of_note c sent.0 sent.1) [
   | None ↦ answer_to (after c sent.0 sent.1) history
   | Some fault ↦ Err fault
 ]

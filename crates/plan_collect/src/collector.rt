@@ -7,7 +7,7 @@ ghost use Rattle.plan_next.specs.Starts.{starts};
 ghost use Rattle.plan_collect.specs.Start.{job_numbers};
 ghost use Rattle.plan_collect.specs.Agenda.{IsOfJobs};
 ghost use Rattle.plan_collect.specs.Limits.{is_limit, is_size};
-ghost use Rattle.plan_collect.specs.Collecting.{begun, is_rule_of, belongs, has_ended, adjoins, has_room, refusal, AddsNothing, Answers, after, finished, is_complete};
+ghost use Rattle.plan_collect.specs.Collecting.{begun, is_rule_of, belongs, has_ended, adjoins, has_room, fault_of_note, AddsNothing, Answers, after, finished, is_complete};
 ghost use Rattle.plan_collect.specs.Windows.{agenda_of_windows, timings_of};
 
 use crate::agenda::Agenda;
@@ -126,7 +126,7 @@ impl From<AllocError> for CollectorFault {
 
     ghost from_gives = { λ _ fault. fault ≡ NoMemory };
 
-    fn from(_refused: AllocError) -> CollectorFault {
+    fn from(_error: AllocError) -> CollectorFault {
         CollectorFault::NoMemory
     }
 }
@@ -138,7 +138,7 @@ impl From<AllocError> for CollectFault {
 
     ghost from_gives = { λ _ fault. fault ≡ NoMemory };
 
-    fn from(_refused: AllocError) -> CollectFault {
+    fn from(_error: AllocError) -> CollectFault {
         CollectFault::NoMemory
     }
 }
@@ -230,7 +230,7 @@ impl Collector {
     /// starts and an allocation failed. The message is then dropped as a whole, and the collector stays as it
     /// was.
     pub fn accept(&mut self, planner: usize, note: Note) -> Result<(), CollectFault>
-        ensures answer { Answers result (refusal self.old planner note) }
+        ensures answer { Answers result (fault_of_note self.old planner note) }
         ensures accepted { OnOk result (self.new ≡ after self.old planner note) }
         ensures unchanged { OnErr result (self.new ≡ self.old) }
 
@@ -241,7 +241,7 @@ impl Collector {
         ensures too_many { result ≡ Err CollectFault.TooMany
             → self.old.limit < length (agenda_of_windows self.old.timings self.old.span) }
     {
-        if let Some(fault) = self.refusal(planner, &note) {
+        if let Some(fault) = self.fault_of_note(planner, &note) {
             return Err(fault);
         }
         match note {
@@ -274,8 +274,8 @@ impl Collector {
     }
 
     // Returns why a message is rejected, unless an allocation fails.
-    fn refusal(&self, planner: usize, note: &Note) -> Option<CollectFault>
-        ensures value { result ≡ refusal self.now planner note.now }
+    fn fault_of_note(&self, planner: usize, note: &Note) -> Option<CollectFault>
+        ensures value { result ≡ fault_of_note self.now planner note.now }
         ensures own { result ≢ Some CollectFault.NoMemory }
         ensures too_many { result ≡ Some CollectFault.TooMany
             → self.now.limit < length (agenda_of_windows self.now.timings self.now.span) }

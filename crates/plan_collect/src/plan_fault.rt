@@ -61,7 +61,7 @@ impl From<NoMemory> for PlanFault {
 
     ghost from_gives = { λ _ fault. fault ≡ NoMemory };
 
-    fn from(_refused: NoMemory) -> PlanFault {
+    fn from(_error: NoMemory) -> PlanFault {
         PlanFault::NoMemory
     }
 }

@@ -9,10 +9,16 @@ use Rattle.clap.proofs.OnLiterals.{clap_on_literals}
 use Rattle.plan_texts.specs.Text.{words}
 use Rattle.plan_collect.specs.declared.Sizes.{Sizes}
 use Rattle.agenda_arguments.specs.declared.ask.Ask.{Ask}
-use Rattle.agenda_arguments.specs.declared.ask.Ask.TheVariants.{Next, Plan, Upcoming, Quiet, Check, Steps}
+use Rattle.agenda_arguments.specs.declared.ask.Ask.TheVariants.{Next, Plan, Upcoming, Quiet, Check, Steps, Machine}
 use Rattle.agenda_arguments.specs.declared.ask.FormatRequest.{FormatRequest}
 use Rattle.agenda_arguments.specs.declared.ask.JobsRequest.{JobsRequest}
+use Rattle.agenda_arguments.specs.declared.ask.MachineGoal.{MachineGoal}
+use Rattle.agenda_arguments.specs.declared.ask.MachineGoal.TheVariants as machine_goal
+use Rattle.agenda_arguments.specs.declared.ask.MachineJobs.{MachineJobs}
+use Rattle.agenda_arguments.specs.declared.ask.MachineQuestion.{MachineQuestion}
+use Rattle.agenda_arguments.specs.declared.ask.MachineQuestion.TheVariants as question
 use Rattle.agenda_arguments.specs.declared.ask.PlanRequest.{PlanRequest}
+use Rattle.agenda_arguments.specs.declared.ask.SpanRequest.{SpanRequest}
 use Rattle.agenda_arguments.specs.declared.ask.ZonesRequest.{ZonesRequest}
 use Rattle.agenda_sources.specs.declared.Asked.{Asked}
 use Rattle.agenda_sources.specs.declared.Asked.TheVariants.{Cron, Event}
@@ -185,6 +191,71 @@ other_rows : RowsHold asked_in
 unfolding words asked_by clap_on_literals agenda_on_literals
 other_rows = refl
 
+-- ---- machine
+
+abbrev asks_machine : (root : List ℕ) → (all : Bool) → MachineQuestion → Result Ask ArgumentsFault
+asks_machine root all asked = Ok (Machine (record { root = root; all = all; question = asked }))
+
+machine_rows : RowsHold asked_in
+    -- the root directory is `/` without `--root`
+    ((codes "agenda machine sources", asks_machine (codes "/") false (question.Sources false))
+    ∷ (codes "agenda machine sources --json --root r", asks_machine (codes "r") false (question.Sources true))
+    ∷ (codes "agenda machine sources --all --root=/r", asks_machine (codes "/r") true (question.Sources false))
+    ∷ (codes "agenda machine check", asks_machine (codes "/") false (question.Check None false))
+    ∷ (
+      codes "agenda machine check --zone z --root r --json --all",
+      asks_machine (codes "r") true (question.Check (Some (codes "z")) true),
+    )
+    -- `--utc` is `--zone UTC`
+    ∷ (codes "agenda machine check --utc", asks_machine (codes "/") false (question.Check (Some (codes "UTC")) false))
+    ∷ (codes "agenda machine --help", Err wants_help)
+    ∷ (codes "agenda machine check --zone z --utc --help", Err wants_help)
+    ∷ [])
+unfolding words asked_by clap_on_literals agenda_on_literals
+machine_rows = refl
+
+-- what is made of a machine's jobs, in the zone of the machine, and as text in local times
+abbrev asks_jobs : MachineGoal → (delays : Bool) → MachineJobs
+asks_jobs goal delays = record { goal = goal; zone = None; delays = delays; format = format_from false true }
+
+-- of the machine whose root directory is `/`
+abbrev asks_here : MachineJobs → Result Ask ArgumentsFault
+asks_here jobs = asks_machine (codes "/") false (question.Jobs jobs)
+
+abbrev span_from : (since until : Option (List ℕ)) → SpanRequest
+span_from since until = record { since = since; until = until }
+
+-- the sizes of a plan of a machine without options
+abbrev machine_sizes : Sizes
+machine_sizes = record { planners = 2; room = 16; limit = 1000000 }
+
+machine_jobs_rows : RowsHold asked_in
+    -- the question is `upcoming` if there is none
+    ((codes "agenda machine", asks_here (asks_jobs (machine_goal.Upcoming None) false))
+    ∷ (codes "agenda machine --delays --after t", asks_here (asks_jobs (machine_goal.Upcoming (Some (codes "t"))) true))
+    ∷ (codes "agenda machine upcoming", asks_here (asks_jobs (machine_goal.Upcoming None) false))
+    ∷ (
+      codes "agenda machine upcoming --utc --json",
+      asks_here (record (asks_jobs (machine_goal.Upcoming None) false) { zone = Some (codes "UTC"); format = format_from true false }),
+    )
+    ∷ (codes "agenda machine plan", asks_here (asks_jobs (machine_goal.Plan (span_from None None) machine_sizes) false))
+    ∷ (
+      codes "agenda machine plan --since s --upto u --limit 5 --zone z",
+      asks_here (record (asks_jobs
+          (machine_goal.Plan (span_from (Some (codes "s")) (Some (codes "u"))) (record machine_sizes { limit = 5 })) false) {
+            zone = Some (codes "z");
+          }),
+    )
+    -- delays count in `quiet`, unless `--nominal` is given
+    ∷ (codes "agenda machine quiet", asks_here (asks_jobs (machine_goal.Quiet (span_from None None) machine_sizes 1800) true))
+    ∷ (
+      codes "agenda machine quiet --nominal --least 60 --until u",
+      asks_here (asks_jobs (machine_goal.Quiet (span_from None (Some (codes "u"))) machine_sizes 60) false),
+    )
+    ∷ [])
+unfolding words asked_by clap_on_literals agenda_on_literals
+machine_jobs_rows = refl
+
 -- ---- usage errors
 
 abbrev is_usage_error : Result Ask ArgumentsFault → Bool
@@ -233,6 +304,17 @@ usage_errors : list_all (λ line. is_usage_error (asked_in line))
     ∷ codes "agenda check --local"
     ∷ codes "agenda steps --json a"
     ∷ codes "agenda steps --event-zones a"
+    -- another question about a machine, both zones, and an option of another question
+    ∷ codes "agenda machine plans"
+    ∷ codes "agenda machine --utc --zone z"
+    ∷ codes "agenda machine plan --after t"
+    ∷ codes "agenda machine quiet --delays"
+    ∷ codes "agenda machine check --zone z --utc"
+    ∷ codes "agenda machine sources --utc"
+    ∷ codes "agenda machine sources --event-zones"
+    -- `machine` isn't the first argument
+    ∷ codes "agenda -- machine sources"
+    ∷ codes "agenda sources"
     ∷ [])
     ≡ true
 unfolding words asked_by clap_on_literals agenda_on_literals

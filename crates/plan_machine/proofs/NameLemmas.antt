@@ -1,9 +1,11 @@
 -- No crontab has the name of an earlier one.
-use Rattle.std.proofs.Common.{◌≡◌, ℕ, Bool, true, false, not, ◌&&◌, cond, List, [], ◌∷◌, ◌++◌, codes, Option, None, Some, refl, sym, ◌∙◌}
+use Rattle.std.proofs.Common.{◌≡◌, ℕ, Bool, true, false, ◌&&◌, cond, List, [], ◌∷◌, ◌++◌, codes, Option, None, Some, refl, sym, ◌∙◌}
 use Rattle.std.proofs.lemmas.Bool.{or_parts, or_from}
 use Rattle.std.proofs.lemmas.List.Folds.{list_any-append}
 use Rattle.std.proofs.lemmas.Slice.Eq.{bytes_eq-Decides}
 use Rattle.std.specs.Str.{bytes_eq}
+use Rattle.plan_parts.specs.declared.parts.Parts.TheVariants.{One}
+use Rattle.plan_parts.specs.Files.{FileBytes}
 use Rattle.plan_rules.specs.declared.source_kind.SourceKind.{SourceKind}
 use Rattle.plan_rules.specs.declared.source_kind.SourceKind.TheVariants.{System, CronD, Spool}
 use Rattle.plan_machine.specs.Source.{is_bad_name}
@@ -11,14 +13,14 @@ use Rattle.plan_tree.specs.declared.links.End.{End}
 use Rattle.plan_tree.specs.declared.links.End.TheVariants.{Unknown, Nothing, Found}
 use Rattle.plan_tree.specs.Place.{child}
 use Rattle.plan_tree.specs.Tree.{Held}
-use Rattle.plan_machine.specs.declared.reports.Why.TheVariants.{BadName, NameTaken, NotUtf8}
+use Rattle.plan_timers.specs.declared.reports.Why.TheVariants.{BadName, NameTaken, NotUtf8}
 use Rattle.plan_machine.specs.Collection.{IsEachNameOnce, Sources, is_taken, no_sources, with_file, with_skipped, with_source}
 use Rattle.plan_machine.specs.Cron.{crontabs_of, system_path, with_cron_d, with_package, with_packages, with_system, with_system_at}
-use Rattle.plan_machine.specs.Directories.{is_directory_at, is_missing, listing_in, look, names_at, with_directory, with_listing, with_whole}
+use Rattle.plan_machine.specs.Directories.{is_directory_at, is_missing, listing_in, look, names_at, with_directory, with_listing}
 use Rattle.plan_machine.specs.Files.{file_at, lead_of}
-use Rattle.plan_machine.specs.Source.{FileParts, SourceParts, taken_name}
+use Rattle.plan_machine.specs.Source.{SourceParts, taken_name}
 use Rattle.plan_machine.specs.declared.spool.SpoolDir.{SpoolDir}
-use Rattle.plan_machine.specs.Spool.{cron_path, spool_name, spool_of, spool_parent, user_name, with_spool, with_spool_in, with_user, with_users}
+use Rattle.plan_machine.specs.Spool.{cron_path, spool_name, spool_of, spool_parent, user_name, with_spool_in, with_user, with_users}
 
 other_bytes : (one other : List ℕ) → bytes_eq one other ≡ false → bytes_eq other one ≡ false
 other_bytes one other differ =
@@ -62,11 +64,11 @@ once_unless_taken all path source false is once = once_more all.found source onc
 -- ---- a crontab
 
 once_with_file :
-    (all : Sources) (kind : SourceKind) (path name : List ℕ) (file : Option FileParts) → IsEachNameOnce all.found →
+    (all : Sources) (kind : SourceKind) (path name : List ℕ) (file : Option FileBytes) → IsEachNameOnce all.found →
     IsEachNameOnce (with_file all kind path name file).found
 once_with_file all kind path name None once = once
 once_with_file all kind path name (Some file) once =
-    let source : SourceParts = record { kind = kind; name = name; files = file ∷ [] } in
+    let source : SourceParts = record { kind = kind; name = name; parts = One file } in
     once_unless_taken all path source (is_taken all.found (taken_name source)) refl once
 
 -- ---- a directory
@@ -90,7 +92,7 @@ once_with_system_at :
     (held : Held) (most : ℕ) (all : Sources) (end : End) → IsEachNameOnce all.found →
     IsEachNameOnce (with_system_at held most all end).found
 once_with_system_at held most all end once =
-    let file : Option FileParts = file_at held most system_path end in
+    let file : Option FileBytes = file_at held most system_path end in
     once_either (is_missing end) all (with_file all System system_path (codes "crontab") file) once
     (once_with_file all System system_path (codes "crontab") file once)
 
@@ -99,7 +101,7 @@ once_with_package :
     IsEachNameOnce (with_package held most dir all name).found
 once_with_package held most dir all name once =
     let path : List ℕ = child dir name in
-    let file : Option FileParts = file_at held most path (lead_of held.node path) in
+    let file : Option FileBytes = file_at held most path (lead_of held.node path) in
     once_either (is_bad_name CronD name) (with_skipped all path BadName) (with_file all CronD path name file) once
     (once_with_file all CronD path name file once)
 
@@ -116,7 +118,7 @@ once_with_user :
 once_with_user held most dir names all name once =
     let path : List ℕ = child dir name in
     let end : End = lead_of held.node path in
-    let file : Option FileParts = file_at held most path end in
+    let file : Option FileBytes = file_at held most path end in
     let given : List ℕ = user_name all.found names name in
     let named : Sources = with_file all Spool path given file in
     once_either (bytes_eq dir cron_path && is_directory_at held.node end) all

@@ -4,10 +4,12 @@ use Rattle.std.specs.List.{list_any}
 use Rattle.std.specs.Str.{bytes_eq}
 use Rattle.plan_rules.specs.declared.source_kind.SourceKind.{SourceKind}
 use Rattle.plan_rules.specs.declared.source_kind.SourceKind.TheVariants.{Crontab, System, CronD, Spool, Timer}
-use Rattle.plan_machine.specs.declared.reports.Skipped.{Skipped}
-use Rattle.plan_machine.specs.declared.reports.Why.{Why}
-use Rattle.plan_machine.specs.declared.reports.Why.TheVariants.{NotReadable, NameTaken}
-use Rattle.plan_machine.specs.Source.{FileParts, SourceParts, taken_name}
+use Rattle.plan_parts.specs.declared.parts.Parts.TheVariants.{One}
+use Rattle.plan_parts.specs.Files.{FileBytes}
+use Rattle.plan_timers.specs.declared.reports.Skipped.{Skipped}
+use Rattle.plan_timers.specs.declared.reports.Why.{Why}
+use Rattle.plan_timers.specs.declared.reports.Why.TheVariants.{NotReadable, NameTaken}
+use Rattle.plan_machine.specs.Source.{SourceParts, taken_name}
 
 -- the sources and what is skipped, each in the order in which it was found
 pub record Sources : Type 0 where
@@ -49,10 +51,10 @@ has_package sources name = list_any (λ source. is_package source name) sources
 -- ---- a crontab
 
 -- a crontab is a source if it can be read and no earlier one has its name (agenda)
-abbrev pub with_file : Sources → SourceKind → List ℕ → List ℕ → Option FileParts → Sources
+abbrev pub with_file : Sources → SourceKind → List ℕ → List ℕ → Option FileBytes → Sources
 with_file all kind path name None = with_skipped all path NotReadable
 with_file all kind path name (Some file) =
-    let source : SourceParts = record { kind = kind; name = name; files = file ∷ [] } in
+    let source : SourceParts = record { kind = kind; name = name; parts = One file } in
     if is_taken all.found (taken_name source) then with_skipped all path NameTaken else with_source all source
 
 -- ---- all crontabs

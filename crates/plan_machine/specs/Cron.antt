@@ -1,11 +1,11 @@
 -- The crontabs of a machine (cron(8)).
-use Rattle.std.specs.Prelude.{ℕ, not, if◌then◌else◌, List, [], ◌∷◌, codes}
+use Rattle.std.specs.Prelude.{ℕ, if◌then◌else◌, List, [], ◌∷◌, codes}
 use Rattle.plan_rules.specs.declared.source_kind.SourceKind.TheVariants.{System, CronD}
 use Rattle.plan_machine.specs.Source.{is_bad_name}
 use Rattle.plan_tree.specs.declared.links.End.{End}
 use Rattle.plan_tree.specs.Place.{child}
 use Rattle.plan_tree.specs.Tree.{Held}
-use Rattle.plan_machine.specs.declared.reports.Why.TheVariants.{BadName}
+use Rattle.plan_timers.specs.declared.reports.Why.TheVariants.{BadName}
 use Rattle.plan_machine.specs.Collection.{Sources, no_sources, with_file, with_skipped}
 use Rattle.plan_machine.specs.Directories.{is_missing, look, names_at, with_directory}
 use Rattle.plan_machine.specs.Files.{file_at, lead_of}

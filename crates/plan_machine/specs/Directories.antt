@@ -1,5 +1,5 @@
 -- Directories of crontabs: whether one is there, and the names in it.
-use Rattle.std.specs.Prelude.{ℕ, Bool, true, false, not, ◌&&◌, if◌then◌else◌, List, [], Option, None, Some, codes}
+use Rattle.std.specs.Prelude.{ℕ, Bool, true, false, not, if◌then◌else◌, List, [], Option, None, Some, codes}
 use Rattle.plan_tree.specs.declared.links.End.{End}
 use Rattle.plan_tree.specs.declared.links.End.TheVariants.{Unknown, Nothing, Found}
 use Rattle.plan_tree.specs.declared.tree.Node.{Node}
@@ -7,7 +7,7 @@ use Rattle.plan_tree.specs.declared.tree.Node.TheVariants.{Directory, Link, Unre
 use Rattle.plan_tree.specs.Entries.{entries_of}
 use Rattle.plan_tree.specs.Place.{child}
 use Rattle.plan_tree.specs.Tree.{Held}
-use Rattle.plan_machine.specs.declared.reports.Why.TheVariants.{NotReadable, NotUtf8}
+use Rattle.plan_timers.specs.declared.reports.Why.TheVariants.{NotReadable, NotUtf8}
 use Rattle.plan_machine.specs.Collection.{Sources, with_skipped}
 use Rattle.plan_machine.specs.Files.{lead_of}
 

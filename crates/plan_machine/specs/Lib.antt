@@ -1,5 +1,4 @@
 pub mod Source
-pub mod Reports
 pub mod Collection
 pub mod Files
 pub mod Directories
@@ -7,3 +6,5 @@ pub mod Cron
 pub mod Spool
 pub mod Daemon
 pub mod Others
+pub mod Machine
+pub mod Zone

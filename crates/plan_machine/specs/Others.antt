@@ -8,8 +8,8 @@ use Rattle.plan_tree.specs.declared.tree.Node.{Node}
 use Rattle.plan_tree.specs.declared.tree.Node.TheVariants.{Directory, Link}
 use Rattle.plan_tree.specs.Place.{child}
 use Rattle.plan_tree.specs.Tree.{Held}
-use Rattle.plan_machine.specs.declared.reports.NotPlanned.{NotPlanned}
-use Rattle.plan_machine.specs.declared.reports.Unplanned.TheVariants.{Anacron, AtJobs, UserTimers}
+use Rattle.plan_timers.specs.declared.reports.NotPlanned.{NotPlanned}
+use Rattle.plan_timers.specs.declared.reports.Unplanned.TheVariants.{Anacron, AtJobs, UserTimers}
 use Rattle.plan_machine.specs.Directories.{is_directory, names_at, names_in}
 use Rattle.plan_machine.specs.Files.{is_file, lead_of}
 

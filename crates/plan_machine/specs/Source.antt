@@ -1,20 +1,15 @@
 -- A source of a machine.
 use Rattle.std.specs.Prelude.{ℕ, Bool, List, codes, is_some}
+use Rattle.plan_parts.specs.declared.parts.Parts.{Parts}
 use Rattle.plan_rules.specs.declared.source_kind.SourceKind.{SourceKind}
 use Rattle.plan_rules.specs.declared.source_kind.SourceKind.TheVariants.{Crontab, System, CronD, Spool, Timer}
 use Rattle.plan_rules.specs.SourceKind.{name_cause}
 
--- a file: the path where it was found, the path at the end of its links, and the bytes that were read
-pub record FileParts : Type 0 where
-  pub path : List ℕ
-  pub real : List ℕ
-  pub bytes : List ℕ
-
--- a source: its kind, the name that its jobs get, and its files
+-- a source: its kind, the name that its jobs get, and its parts
 pub record SourceParts : Type 0 where
   pub kind : SourceKind
   pub name : List ℕ
-  pub files : List FileParts
+  pub parts : Parts
 
 -- the name that no other crontab may have: what comes before the line number in the names of its jobs. Those of the system's
 -- crontab are named `system:N` (agenda)

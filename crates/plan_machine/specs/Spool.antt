@@ -11,7 +11,7 @@ use Rattle.plan_tree.specs.Place.{child}
 use Rattle.plan_tree.specs.Tree.{Held}
 use Rattle.plan_machine.specs.declared.spool.SpoolDir.{SpoolDir}
 use Rattle.plan_machine.specs.declared.spool.SpoolDir.TheVariants.{Debian, Suse, Fedora}
-use Rattle.plan_machine.specs.declared.reports.Why.TheVariants.{BadName}
+use Rattle.plan_timers.specs.declared.reports.Why.TheVariants.{BadName}
 use Rattle.plan_machine.specs.Collection.{Sources, has_package, with_file, with_skipped}
 use Rattle.plan_machine.specs.Directories.{can_search, is_directory, is_directory_at, look, names_at, with_directory}
 use Rattle.plan_machine.specs.Files.{file_at, is_file, lead_of}

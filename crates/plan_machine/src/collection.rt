@@ -3,10 +3,11 @@
 ghost use Rattle.std.specs.Prelude.{◌≡◌, IfOk};
 ghost use Rattle.plan_machine.specs.Collection.{has_package, is_package, is_taken, no_sources, with_file, with_skipped, with_source};
 
-use crate::reports::{Skipped, Why, copy_of};
-use crate::source::{MachineSource, SourceFile};
+use crate::source::MachineSource;
+use plan_parts::{Part, Parts};
 use plan_rules::SourceKind;
 use plan_texts::Text;
+use plan_timers::{Skipped, Why, copy_of};
 use std::alloc::{AllocError, Global};
 use std::marker::Model;
 
@@ -34,6 +35,14 @@ impl MachineSources {
             found: Vec::new(alloc),
             skipped: Vec::new(alloc),
         }
+    }
+
+    // Returns the sources, and what is skipped.
+    pub(crate) fn into_lists(self) -> (Vec<MachineSource>, Vec<Skipped>)
+        ensures found { result.0.items ≡ self.found }
+        ensures skipped { result.1.items ≡ self.skipped }
+    {
+        (self.found, self.skipped)
     }
 
     /// Returns the sources.
@@ -77,16 +86,14 @@ impl MachineSources {
         kind: SourceKind,
         path: &str,
         name: &str,
-        file: Option<SourceFile>,
+        file: Option<Part>,
     ) -> Result<MachineSources, AllocError>
         ensures { IfOk result (λ all. all ≡ with_file self kind path.now name.now file) }
     {
         let Some(file) = file else {
             return self.with_skipped(copy_of(alloc, path)?, Why::NotReadable);
         };
-        let mut files = Vec::new(alloc);
-        files.push(file)?;
-        let source = MachineSource::new(kind, copy_of(alloc, name)?, files);
+        let source = MachineSource::new(kind, copy_of(alloc, name)?, Parts::One(file));
         if is_taken(self.found(), source.taken_name()) {
             return self.with_skipped(copy_of(alloc, path)?, Why::NameTaken);
         }

@@ -7,10 +7,10 @@ ghost use Rattle.plan_machine.specs.Cron.{crontabs_of, with_cron_d, with_package
 use crate::collection::MachineSources;
 use crate::directories::{is_missing, look, read_directory};
 use crate::files::{file_at, lead_of};
-use crate::reports::{Why, copy_of};
 use crate::source::is_bad_name;
 use crate::spool::with_spool;
 use plan_rules::SourceKind;
+use plan_timers::{Why, copy_of};
 use plan_tree::{Name, Place, Tree};
 use std::alloc::{AllocError, Global};
 

@@ -7,7 +7,7 @@ ghost use Rattle.plan_machine.specs.Directories.{can_search, is_directory, is_di
 
 use crate::collection::MachineSources;
 use crate::files::lead_of;
-use crate::reports::{Why, copy_of};
+use plan_timers::{Why, copy_of};
 use plan_tree::{End, Listing, Name, Node, Place, Tree, entries};
 use std::alloc::{AllocError, Global};
 

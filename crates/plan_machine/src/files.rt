@@ -3,8 +3,8 @@
 ghost use Rattle.std.specs.Prelude.{◌≡◌, true, IfOk};
 ghost use Rattle.plan_machine.specs.Files.{file_at, is_file, lead_of, read_file};
 
-use crate::reports::copy_of;
-use crate::source::SourceFile;
+use plan_parts::Part;
+use plan_timers::copy_of;
 use plan_tree::{End, Node, Tree, follow};
 use std::alloc::{AllocError, Global};
 
@@ -24,7 +24,7 @@ pub(crate) fn file_at<T: Tree>(
     most: u64,
     path: &str,
     end: &End,
-) -> Result<Option<SourceFile>, AllocError>
+) -> Result<Option<Part>, AllocError>
     ensures { T.is_known ≡ true → IfOk result (λ file. file ≡ file_at (T.held tree.now) most path.now end.now) }
 {
     match end {
@@ -40,7 +40,7 @@ fn read_file<T: Tree>(
     most: u64,
     path: &str,
     real: &str,
-) -> Result<Option<SourceFile>, AllocError>
+) -> Result<Option<Part>, AllocError>
     ensures { T.is_known ≡ true → IfOk result (λ file. file ≡ read_file (T.held tree.now) most path.now real.now) }
 {
     if real == "dev/null" || !is_file(&tree.node(alloc, real)?) {
@@ -48,11 +48,7 @@ fn read_file<T: Tree>(
     }
     match tree.front(alloc, real, most)? {
         None => Ok(None),
-        Some(bytes) => Ok(Some(SourceFile::new(
-            copy_of(alloc, path)?,
-            copy_of(alloc, real)?,
-            bytes,
-        ))),
+        Some(bytes) => Ok(Some(Part::new(copy_of(alloc, path)?, bytes))),
     }
 }
 

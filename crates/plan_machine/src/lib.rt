@@ -1,6 +1,7 @@
-//! The crontabs of a machine, and what else starts jobs there.
+//! The crontabs and timers of a machine, and what else starts jobs there.
 //!
-//! A machine is a tree of files. Read `source` and `reports` first, which say what is found, then `cron`.
+//! A machine is a tree of files. Read `source` and `machine` first, which say what is found, then `cron`. The timers are those
+//! of plan_timers.
 #![tactic(auto)]
 
 mod collection;
@@ -8,14 +9,17 @@ mod cron;
 mod daemon;
 mod directories;
 mod files;
+mod machine;
 mod others;
-mod reports;
 mod source;
 mod spool;
+mod zone;
 
 pub use collection::MachineSources;
 pub use cron::crontabs;
 pub use daemon::{has_cron_daemon, lacks_cron_daemon};
+pub use machine::{Machine, find_machine};
 pub use others::{anacron_jobs, at_jobs, user_timers};
-pub use reports::{NotPlanned, Skipped, Unplanned, Why};
-pub use source::{MachineSource, SourceFile};
+pub use plan_timers::{NotPlanned, Skipped, Unplanned, Why};
+pub use source::MachineSource;
+pub use zone::{MachineZone, machine_zone};

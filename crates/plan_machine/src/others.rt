@@ -1,12 +1,12 @@
 //! What starts jobs on a machine but isn't planned.
 
-ghost use Rattle.std.specs.Prelude.{◌≡◌, ◌++◌, true, IfOk, map, nat_eq, codes};
+ghost use Rattle.std.specs.Prelude.{◌≡◌, true, IfOk, map};
 ghost use Rattle.plan_machine.specs.Others.{anacron_jobs, at_jobs, at_paths, has_at_job, has_file, has_timer, has_timer_below, has_user_timer, is_file_at, is_timer_below, is_timer_entry, is_unit_entry, user_timers, user_timers_in, user_timers_of, user_units};
 
 use crate::directories::{is_directory, names_at, names_in};
 use crate::files::{is_file, lead_of};
-use crate::reports::{NotPlanned, Unplanned, copy_of};
 use plan_texts::Text;
+use plan_timers::{NotPlanned, Unplanned, copy_of};
 use plan_tree::{End, Name, Node, Place, Tree};
 use std::alloc::{AllocError, Global};
 

@@ -1,64 +1,19 @@
-//! A source of a machine: its kind, the name that its jobs get, and its files.
+//! A source of a machine: its kind, the name that its jobs get, and its parts.
 
 ghost use Rattle.std.specs.Prelude.{◌≡◌};
 ghost use Rattle.plan_machine.specs.Source.{is_bad_name, taken_name};
 
+use plan_parts::Parts;
 use plan_rules::SourceKind;
 use plan_texts::Text;
 use std::marker::Model;
-
-/// A file of a source: where it was found, where it is, and the bytes that were read.
-#[derive(Debug, Drop)]
-pub struct SourceFile {
-    path: Text,
-    real: Text,
-    bytes: Vec<u8>,
-}
-
-impl Model for SourceFile {
-    ghost use Rattle.plan_machine.specs.Source.{FileParts};
-
-    ghost Value = { FileParts };
-
-    ghost view = { λ file. record { path = file.path; real = file.real; bytes = file.bytes.items } };
-}
-
-impl SourceFile {
-    /// Makes a file of its parts.
-    pub fn new(path: Text, real: Text, bytes: Vec<u8>) -> SourceFile
-        ensures { result ≡ record { path = path; real = real; bytes = bytes.items } }
-    {
-        SourceFile { path, real, bytes }
-    }
-
-    /// Returns the path where the file was found. People are shown this path.
-    pub fn path(&self) -> &str
-        ensures { result.now ≡ self.now.path }
-    {
-        self.path.as_str()
-    }
-
-    /// Returns the path at the end of its links. The file was opened by this path.
-    pub fn real(&self) -> &str
-        ensures { result.now ≡ self.now.real }
-    {
-        self.real.as_str()
-    }
-
-    /// Returns the bytes that were read of the file.
-    pub fn bytes(&self) -> &[u8]
-        ensures { result.now ≡ self.now.bytes }
-    {
-        self.bytes.as_slice()
-    }
-}
 
 /// A source of a machine.
 #[derive(Debug, Drop)]
 pub struct MachineSource {
     kind: SourceKind,
     name: Text,
-    files: Vec<SourceFile>,
+    parts: Parts,
 }
 
 impl Model for MachineSource {
@@ -66,15 +21,15 @@ impl Model for MachineSource {
 
     ghost Value = { SourceParts };
 
-    ghost view = { λ source. record { kind = source.kind; name = source.name; files = source.files.items } };
+    ghost view = { λ source. record { kind = source.kind; name = source.name; parts = source.parts } };
 }
 
 impl MachineSource {
-    /// Makes a source of its parts.
-    pub fn new(kind: SourceKind, name: Text, files: Vec<SourceFile>) -> MachineSource
-        ensures { result ≡ record { kind = kind; name = name; files = files.items } }
+    /// Makes a source.
+    pub fn new(kind: SourceKind, name: Text, parts: Parts) -> MachineSource
+        ensures { result ≡ record { kind = kind; name = name; parts = parts } }
     {
-        MachineSource { kind, name, files }
+        MachineSource { kind, name, parts }
     }
 
     /// Returns the kind of the source.
@@ -91,12 +46,12 @@ impl MachineSource {
         self.name.as_str()
     }
 
-    /// Returns the files of the source: of a crontab one, of a timer its file and then its drop-ins, in the order
+    /// Returns the parts of the source: of a crontab one file, of a timer its file and then its drop-ins, in the order
     /// in which they are merged.
-    pub fn files(&self) -> &[SourceFile]
-        ensures { result.now ≡ self.now.files }
+    pub fn parts(&self) -> &Parts
+        ensures { result.now ≡ self.now.parts }
     {
-        self.files.as_slice()
+        &self.parts
     }
 
     // Returns the name that no other crontab may have: what comes before the line number in the names of its jobs.

@@ -6,10 +6,10 @@ ghost use Rattle.plan_machine.specs.Spool.{is_closed, is_name_of, is_spool, spoo
 use crate::collection::{MachineSources, has_package};
 use crate::directories::{can_search, is_directory, is_directory_at, look, read_directory};
 use crate::files::{file_at, is_file, lead_of};
-use crate::reports::{Why, copy_of};
 use crate::source::{MachineSource, is_bad_name};
 use plan_rules::SourceKind;
 use plan_texts::Text;
+use plan_timers::{Why, copy_of};
 use plan_tree::{End, Name, Place, Tree};
 use std::alloc::{AllocError, Global};
 

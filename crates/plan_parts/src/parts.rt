@@ -12,6 +12,7 @@ use crate::specifiers::{expanded, has_byte};
 use plan_texts::Text;
 use std::alloc::{AllocError, Global};
 use std::marker::Model;
+use std::slice;
 
 /// The parts of a source, in the order in which they are merged.
 #[derive(Debug, Drop)]
@@ -110,6 +111,16 @@ impl Parts {
         match self {
             Parts::One(_) => Origin { part: 0, line },
             Parts::OfUnit(parts) => origin_of(parts.files(), line),
+        }
+    }
+
+    /// Borrows the parts.
+    pub fn files(&self) -> &[Part]
+        ensures { result.now ≡ files_of self.now }
+    {
+        match self {
+            Parts::One(part) => slice::from_ref(part),
+            Parts::OfUnit(parts) => parts.files(),
         }
     }
 

@@ -1,6 +1,6 @@
 -- A job's pieces, collected one after the other: for the loop of `collect_job` and its `fails`. `IsAt` says that in the
--- collector only the second to which the job is covered has changed. In `piece_refused` the first three tests of
--- `refusal` pass. So only the test of the limit remains, and the error is `TooMany` or `NoMemory`.
+-- collector only the second to which the job is covered has changed. In `piece_rejected` the first three tests of
+-- `fault_of_note` pass. So only the test of the limit remains, and the error is `TooMany` or `NoMemory`.
 use Rattle.std.proofs.Common.{◌≡◌, ◌≢◌, ℕ, zero, suc, ◌%◌, ◌<◌, ◌≤◌, Bool, true, false, cond, ◌&&◌, ◌==◌, List, [], ◌∷◌, length, None, Some, Result, Err, refl, ap, sym, subst, ◌∙◌, arith}
 use Rattle.std.specs.Prelude.{slice_get, slice_index, slice_set, unwrap_or, nat_lt, nat_le}
 use Rattle.std.proofs.lemmas.Bool.{and_from, eq-eqb, le-leb, lt-leb}
@@ -11,7 +11,7 @@ use Rattle.plan_next.specs.Piece.{Part}
 use Rattle.plan_collect.specs.declared.note.Note.TheVariants as note
 use Rattle.plan_collect.specs.declared.collector.CollectFault.{CollectFault}
 use Rattle.plan_collect.specs.declared.collector.CollectFault.TheVariants.{NoMemory, Stranger, Gap, TooMany, AfterLast}
-use Rattle.plan_collect.specs.Collecting.{Collected, is_rule_of, belongs, has_ended, adjoins, has_room, refusal, Answers}
+use Rattle.plan_collect.specs.Collecting.{Collected, is_rule_of, belongs, has_ended, adjoins, has_room, fault_of_note, Answers}
 use Rattle.plan_collect.specs.TilingLaws.{set_again}
 use Rattle.plan_collect.specs.Planning.{agenda_within}
 use Rattle.plan_collect.specs.declared.plan_fault.PlanFault.{PlanFault}
@@ -47,13 +47,13 @@ IsAt-more old now new job since end so_far is = record {
 }
 
 -- an error that comes after three tests passed
-last_refusal :
+last_fault :
     (room : Bool) (fault : CollectFault) (P : Type 0) → Answers (Err fault) (cond room None (Some TooMany)) →
     (fault ≡ TooMany → P) → (fault ≡ NoMemory → P) → P
-last_refusal true NoMemory P is many none = none refl
-last_refusal true other P is many none = absurd cc
-last_refusal false TooMany P is many none = many refl
-last_refusal false other P is many none = absurd cc
+last_fault true NoMemory P is many none = none refl
+last_fault true other P is many none = absurd cc
+last_fault false TooMany P is many none = many refl
+last_fault false other P is many none = absurd cc
 
 only_room :
     (belonging ended adjoining room : Bool) → belonging ≡ true → ended ≡ false → adjoining ≡ true →
@@ -78,16 +78,16 @@ too_many : (c : Collected) → c.limit < length (agenda_of_windows c.timings c.s
 too_many c many other = let more : nat_le (length (agenda_of_windows c.timings c.span)) c.limit ≡ false = lt-leb _ _ many in rw more refl
 
 -- the answer to a message that is rejected
-abbrev pub refused_by : CollectFault → Result (Unit {0}) CollectFault
-refused_by fault = Err fault
+abbrev pub err_of : CollectFault → Result (Unit {0}) CollectFault
+err_of fault = Err fault
 
 -- a rejected piece of a plan by one planner, if all tests but that of the limit pass
-pub piece_refused :
+pub piece_rejected :
     (old now : Collected) (job : ℕ) (timing : Timing) (piece : Part) (since upto : ℕ) (fault : CollectFault) → IsAt old now job since →
     old.ended ≡ false ∷ [] → old.span.upto ≡ upto → slice_get old.timings job ≡ Some timing → piece.rule ≡ timing.rule →
-    piece.since ≡ since → piece.upto ≤ upto → Answers (Err fault) (refusal now 0 (note.Part job piece)) →
-    (refused_by fault ≡ refused_by TooMany → now.limit < length (agenda_of_windows now.timings now.span)) → Fails old (of_collect fault)
-piece_refused old now job timing piece since upto fault so_far unended ends known own begins within answer many =
+    piece.since ≡ since → piece.upto ≤ upto → Answers (Err fault) (fault_of_note now 0 (note.Part job piece)) →
+    (err_of fault ≡ err_of TooMany → now.limit < length (agenda_of_windows now.timings now.span)) → Fails old (of_collect fault)
+piece_rejected old now job timing piece since upto fault so_far unended ends known own begins within answer many =
     let none_ended : now.ended ≡ false ∷ [] = so_far.ended ∙ unended in
     let there : slice_get now.timings job ≡ Some timing = ap (λ timings. slice_get timings job) so_far.timings ∙ known in
     let same : is_rule_of (slice_get now.timings job) piece.rule ≡ true = ap (λ t. is_rule_of t piece.rule) there ∙
@@ -105,8 +105,8 @@ piece_refused old now job timing piece since upto fault so_far unended ends know
     let adjoining : adjoins now (note.Part job piece) ≡ true = and_from (slice_index now.covered job == piece.since)
     (nat_le piece.upto now.span.upto) at_begin at_end in
     let P : Type 0 = Fails old (of_collect fault) in
-    last_refusal (has_room now (note.Part job piece)) fault P
+    last_fault (has_room now (note.Part job piece)) fault P
     (subst (Answers (Err fault)) (only_room (belongs now 0 (note.Part job piece)) (has_ended now 0)
     (adjoins now (note.Part job piece)) (has_room now (note.Part job piece)) belonging going_on adjoining) answer)
-    (λ is. subst (λ f. Fails old (of_collect f)) (sym is) (too_many old (more_than old now so_far (many (ap refused_by is)))))
+    (λ is. subst (λ f. Fails old (of_collect f)) (sym is) (too_many old (more_than old now so_far (many (ap err_of is)))))
     (λ is. subst (λ f. Fails old (of_collect f)) (sym is) (λ other. absurd (other refl)))

@@ -1,17 +1,12 @@
--- How a text begins (`begins_with-at`), and how a cut is found from left to right.
+-- How a cut is found from left to right.
 -- For the loop of `cut`: a place that is passed, the place of the mark, and the end (`cut_more`,
 -- `cut_found`, `cut_all`). `cut_at` is unfolded at one byte; `after_text` puts the passed bytes before the cut.
-use Rattle.std.proofs.Common.{◌≡◌, ℕ, ◌+◌, ◌<◌, ◌≤◌, Bool, true, false, nat_eq, List, [], ◌∷◌, ◌++◌, length, take, drop, get_or, Option, Some, None, refl, ap, sym, ◌∙◌, append_assoc, append-nil, take-append-drop, arith}
+use Rattle.std.proofs.Common.{◌≡◌, ℕ, ◌+◌, ◌<◌, ◌≤◌, true, false, nat_eq, List, [], ◌∷◌, ◌++◌, length, take, drop, get_or, Option, Some, None, refl, ap, sym, ◌∙◌, append_assoc, append-nil, take-append-drop}
 use Rattle.std.proofs.lemmas.Bool.Decides.{Decides-eqb}
 use Rattle.std.proofs.lemmas.List.{take_more, drop_more, drop_all}
 use Rattle.std.proofs.lemmas.Slice.Eq.{starts_is}
 use Rattle.std.specs.List.{starts_with}
-use Rattle.plan_texts.specs.Text.{begins_with, cut_at, after_text, stands_at}
-
--- a text that isn't empty begins with the byte at place 0
-pub begins_with-at : (test : ℕ → Bool) (text : List ℕ) → 1 ≤ length text → test (get_or text 0 0) ≡ true → true ≡ begins_with test text
-begins_with-at test [] some passes = absurd (omega arith)
-begins_with-at test (b ∷ bs) some passes = sym passes
+use Rattle.plan_texts.specs.Text.{cut_at, after_text, stands_at}
 
 after_text-after_text :
     (front more : List ℕ) (cut : Option (List ℕ × List ℕ)) → after_text front (after_text more cut) ≡ after_text (front ++ more) cut

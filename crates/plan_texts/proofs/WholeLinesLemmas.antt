@@ -1,17 +1,17 @@
 -- Whole lines: where a text may be cut before its trailing blanks, and how lines are merged one by one.
 -- For `trimmed`, and for the loop of `joined`. Its invariant adds the lines from a place on (`rest_from`) to the lines
--- so far. The reversed text gives the blanks at the end. One more line is a case split on whether it is a comment.
+-- so far. The reversed text gives the blanks at the end.
 use Rattle.std.proofs.Common.{◌≡◌, ℕ, ◌+◌, ◌-◌, ◌<◌, ◌≤◌, Bool, true, false, not, cond, List, [], ◌∷◌, ◌++◌, length, take, drop, get_or, filter, map, reverse, Option, Some, None, unwrap_or, string_bytes, refl, ap, sym, ◌∙◌, append_assoc, arith, inl, inr}
 use Rattle.std.proofs.lemmas.Bool.Decides.{nat_tests}
 use Rattle.std.proofs.lemmas.Bool.{cases_lt}
-use Rattle.std.proofs.lemmas.List.{drop_more, drop-map, get_or-reverse, map-append}
+use Rattle.std.proofs.lemmas.List.{drop_more, drop-map, get_or-reverse}
 use Rattle.std.proofs.lemmas.List.Sums.{prefix_len_passes, suffix_len-le-length}
 use Rattle.std.proofs.lemmas.Option.{same_Some, none-some}
 use Rattle.std.proofs.lemmas.Str.{IsCharBoundary-end, IsCharBoundary-before_ascii}
 use Rattle.std.specs.List.{suffix_len, enumerate_from}
 use Rattle.std.specs.Str.{IsUtf8, IsCharBoundary}
 use Rattle.plan_texts.specs.Text.{is_blank}
-use Rattle.plan_texts.specs.WholeLines.{line_text, is_comment, is_joined, with_space, in_front, with_line, joined, whole_text}
+use Rattle.plan_texts.specs.WholeLines.{line_text, is_comment, is_joined, with_space, in_front, with_line, joined}
 use Rattle.plan_texts.specs.Joining.{resumed, with_raw_line}
 use Rattle.plan_texts.specs.declared.whole_lines.WholeLine.{WholeLine}
 use Rattle.plan_texts.proofs.LinesLemmas.{blank_ascii}
@@ -64,28 +64,6 @@ rest_more v lines place d inside =
     ap (λ left. joined (filter (λ l. not (is_comment l.1)) (enumerate_from (place + 1) (map line_text left)))) split
     ∙ comment_or_line (is_comment (line_text line)) (place + 1, line_text line)
     (filter (λ l. not (is_comment l.1)) (enumerate_from (place + 1 + 1) (map line_text (drop (place + 1) (map v lines)))))
-
--- ---- the state while lines are merged
-
--- a comment changes nothing
-pub raw_comment :
-    (number : ℕ) (line text : List ℕ) (rest : List (ℕ × List ℕ)) → text ≡ line_text line → is_comment text ≡ true →
-    rest ≡ with_raw_line number line rest
-raw_comment number line text rest is comment = rw (sym is, comment) refl
-
--- any other line is put in front of those that follow
-pub raw_line :
-    (number : ℕ) (line text : List ℕ) (rest : List (ℕ × List ℕ)) → text ≡ line_text line → is_comment text ≡ false →
-    with_line (number, text) rest ≡ with_raw_line number line rest
-raw_line number line text rest is comment = rw (sym is, comment) refl
-
--- one more whole line
-pub one_more_whole :
-    (whole : List WholeLine) (line : WholeLine) (rest : List (ℕ × List ℕ)) →
-    map whole_text (whole ++ line ∷ []) ++ rest ≡ map whole_text whole ++ (whole_text line ∷ rest)
-one_more_whole whole line rest =
-    ap (λ front. front ++ rest) (map-append whole_text whole (line ∷ []))
-    ∙ append_assoc (map whole_text whole) (whole_text line ∷ []) rest
 
 front_is : (b : Bool) (text front : List ℕ) → Some front ≡ cond b (Some text) None → (b ≡ true) × (front ≡ text)
 front_is true text front is = (refl, same_Some _ _ is)

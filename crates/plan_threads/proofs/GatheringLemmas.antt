@@ -11,7 +11,7 @@ use Rattle.plan_collect.specs.declared.note.Note.TheVariants as note
 use Rattle.plan_collect.specs.declared.collector.CollectFault.{CollectFault}
 use Rattle.plan_collect.specs.declared.collector.CollectFault.TheVariants as collect
 use Rattle.plan_collect.specs.declared.plan_fault.PlanFault.{PlanFault}
-use Rattle.plan_collect.specs.Collecting.{Collected, begun, refusal, after, is_complete}
+use Rattle.plan_collect.specs.Collecting.{Collected, begun, fault_of_note, after, is_complete}
 use Rattle.plan_collect.specs.Merging.{answer_to, AcceptsMergings}
 use Rattle.plan_collect.specs.Tiling.{notes_of, IsMerging}
 use Rattle.plan_mailbox.specs.Ends.{NothingKnown, ReceivingEnd, IsTake, inlet_of, taken_at}
@@ -84,27 +84,28 @@ answer_on :
 answer_on c [] sent d is = let same : c ≡ d = ap (or_else c) is in ap (λ x. answer_to x (sent ∷ [])) same
 answer_on c (first ∷ history) sent d is =
     let next = after c first.0 first.1 in
-    on_ok (refusal c first.0 first.1) (answer_to next history) (answer_to next (history ++ sent ∷ [])) (answer_to d (sent ∷ [])) d
+    on_ok (fault_of_note c first.0 first.1) (answer_to next history) (answer_to next (history ++ sent ∷ [])) (answer_to d (sent ∷ [])) d
     (answer_on next history sent d) is
 
-answer_refused :
+answer_rejected :
     (c : Collected) (history : List (ℕ × Note)) (sent : ℕ × Note) (fault : CollectFault) → answer_to c history ≡ Err fault →
     answer_to c (history ++ sent ∷ []) ≡ Err fault
-answer_refused c [] sent fault is = absurd cc
-answer_refused c (first ∷ history) sent fault is =
+answer_rejected c [] sent fault is = absurd cc
+answer_rejected c (first ∷ history) sent fault is =
     let next = after c first.0 first.1 in
-    on_err (refusal c first.0 first.1) (answer_to next history) (answer_to next (history ++ sent ∷ [])) fault
-    (answer_refused next history sent fault) is
+    on_err (fault_of_note c first.0 first.1) (answer_to next history) (answer_to next (history ++ sent ∷ [])) fault
+    (answer_rejected next history sent fault) is
 
-one_ok : (c : Collected) (k : ℕ) (m : Note) → refusal c k m ≡ None → answer_to c ((k, m) ∷ []) ≡ Ok (after c k m)
+one_ok : (c : Collected) (k : ℕ) (m : Note) → fault_of_note c k m ≡ None → answer_to c ((k, m) ∷ []) ≡ Ok (after c k m)
 one_ok c k m is = ap (λ r. pick r (Ok (after c k m))) is
 
-one_err : (c : Collected) (k : ℕ) (m : Note) (fault : CollectFault) → refusal c k m ≡ Some fault → answer_to c ((k, m) ∷ []) ≡ Err fault
+one_err :
+    (c : Collected) (k : ℕ) (m : Note) (fault : CollectFault) → fault_of_note c k m ≡ Some fault → answer_to c ((k, m) ∷ []) ≡ Err fault
 one_err c k m fault is = ap (λ r. pick r (Ok (after c k m))) is
 
 met :
-    (start : Collected) (history : List (ℕ × Note)) (c : Collected) (k : ℕ) (m : Note) (new : Collected) (refused : Option CollectFault) →
-    answer_to start history ≡ Ok c → Meets c k m new refused → Stands (answer_to start (history ++ (k, m) ∷ [])) new refused
+    (start : Collected) (history : List (ℕ × Note)) (c : Collected) (k : ℕ) (m : Note) (new : Collected) (later : Option CollectFault) →
+    answer_to start history ≡ Ok c → Meets c k m new later → Stands (answer_to start (history ++ (k, m) ∷ [])) new later
 met start history c k m new None so_far meets = answer_on start history (k, m) c so_far ∙ one_ok c k m meets.0 ∙ ap Ok (sym meets.1)
 met start history c k m new (Some fault) so_far meets = λ given.
     answer_on start history (k, m) c so_far ∙ one_err c k m fault (meets.1 given)
@@ -112,15 +113,15 @@ met start history c k m new (Some fault) so_far meets = λ given.
 dropped :
     (start : Collected) (history : List (ℕ × Note)) (c : Collected) (sent : ℕ × Note) (new : Collected) (fault : CollectFault) →
     Stands (answer_to start history) c (Some fault) → Stands (answer_to start (history ++ sent ∷ [])) new (Some fault)
-dropped start history c sent new fault so_far given = answer_refused start history sent fault (so_far given)
+dropped start history c sent new fault so_far given = answer_rejected start history sent fault (so_far given)
 
 stepped :
     (start : Collected) (history : List (ℕ × Note)) (c : Collected) (before : Option CollectFault) (k : ℕ) (m : Note)
-    (new : Collected) (refused : Option CollectFault) →
-    Stands (answer_to start history) c before → Steps c before k m new refused →
-    Stands (answer_to start (history ++ (k, m) ∷ [])) new refused
-stepped start history c None k m new refused so_far steps = met start history c k m new refused so_far steps
-stepped start history c (Some fault) k m new refused so_far steps =
+    (new : Collected) (later : Option CollectFault) →
+    Stands (answer_to start history) c before → Steps c before k m new later →
+    Stands (answer_to start (history ++ (k, m) ∷ [])) new later
+stepped start history c None k m new later so_far steps = met start history c k m new later so_far steps
+stepped start history c (Some fault) k m new later so_far steps =
     subst (λ r. Stands (answer_to start (history ++ (k, m) ∷ [])) new r) (sym steps.1) (dropped start history c (k, m) new fault so_far)
 
 -- ---- what a step leaves
@@ -131,35 +132,35 @@ same_after c k (note.Part job piece) = refl
 same_after c k note.Last = ap (λ (n : ℕ). record (task_of c) { planners = n }) (length-set c.ended k true)
 
 same_met :
-    (c : Collected) (k : ℕ) (m : Note) (new : Collected) (refused : Option CollectFault) → Meets c k m new refused →
+    (c : Collected) (k : ℕ) (m : Note) (new : Collected) (later : Option CollectFault) → Meets c k m new later →
     task_of new ≡ task_of c
 same_met c k m new None meets = ap task_of meets.1 ∙ same_after c k m
 same_met c k m new (Some fault) meets = ap task_of meets.0
 
 same_step :
-    (c : Collected) (before : Option CollectFault) (k : ℕ) (m : Note) (new : Collected) (refused : Option CollectFault) →
-    Steps c before k m new refused → task_of new ≡ task_of c
-same_step c None k m new refused steps = same_met c k m new refused steps
-same_step c (Some fault) k m new refused steps = ap task_of steps.0
+    (c : Collected) (before : Option CollectFault) (k : ℕ) (m : Note) (new : Collected) (later : Option CollectFault) →
+    Steps c before k m new later → task_of new ≡ task_of c
+same_step c None k m new later steps = same_met c k m new later steps
+same_step c (Some fault) k m new later steps = ap task_of steps.0
 
 -- TooMany comes only if the agenda has too many entries
 many_met :
-    (c : Collected) (k : ℕ) (m : Note) (new : Collected) (refused : Option CollectFault) → Meets c k m new refused →
-    refused ≡ Some collect.TooMany → HasTooMany (task_of c)
-many_met c k m new refused meets is = grind (arith, nat_tests)
+    (c : Collected) (k : ℕ) (m : Note) (new : Collected) (later : Option CollectFault) → Meets c k m new later →
+    later ≡ Some collect.TooMany → HasTooMany (task_of c)
+many_met c k m new later meets is = grind (arith, nat_tests)
 
 many_step :
     (task : TaskParts) (c : Collected) (before : Option CollectFault) (k : ℕ) (m : Note) (new : Collected)
-    (refused : Option CollectFault) →
-    task_of c ≡ task → (before ≡ Some collect.TooMany → HasTooMany task) → Steps c before k m new refused →
-    refused ≡ Some collect.TooMany → HasTooMany task
-many_step task c before k m new refused same so_far steps is = grind (arith, nat_tests)
+    (later : Option CollectFault) →
+    task_of c ≡ task → (before ≡ Some collect.TooMany → HasTooMany task) → Steps c before k m new later →
+    later ≡ Some collect.TooMany → HasTooMany task
+many_step task c before k m new later same so_far steps is = grind (arith, nat_tests)
 
 -- a message is taken
 pub gathers_more :
     (task : TaskParts) (desk new : Desk) (k : ℕ) (m : Note) →
     IsGathering task desk → IsTake (inlet_of desk.inlet) k m (inlet_of new.inlet) →
-    Steps desk.collector desk.refused k m new.collector new.refused → IsGathering task new
+    Steps desk.collector desk.first_fault k m new.collector new.first_fault → IsGathering task new
 gathers_more task desk new k m so_far take steps =
     let b = inlet_of desk.inlet in
     let b' = inlet_of new.inlet in
@@ -171,10 +172,10 @@ gathers_more task desk new k m so_far take steps =
     record {
       size = so_far.size;
       ordered = so_far.ordered;
-      same = same_step desk.collector desk.refused k m new.collector new.refused steps ∙ so_far.same;
+      same = same_step desk.collector desk.first_fault k m new.collector new.first_fault steps ∙ so_far.same;
       lanes = ap length taken ∙ length-set b.taken k (taken_at b k ++ m ∷ []) ∙ lanes;
       rings = ap length same ∙ wide;
-      too_many = many_step task desk.collector desk.refused k m new.collector new.refused so_far.same so_far.too_many steps;
+      too_many = many_step task desk.collector desk.first_fault k m new.collector new.first_fault so_far.same so_far.too_many steps;
       history = so_far.history ++ (k, m) ∷ [];
       known = are_more task.planners so_far.history (k, m) so_far.known (omega arith);
       each = λ j few. elim (cases_eq k j) [
@@ -188,15 +189,15 @@ gathers_more task desk new k m so_far take steps =
             ∙ sym (get_or-set_other b.taken k j (taken_at b k ++ m ∷ []) [] (λ is. other (sym is)))
             ∙ ap (λ all. slice_index_or all j []) (sym taken)
       ];
-      stands = stepped (begun task.timings task.span task.planners task.limit) so_far.history desk.collector desk.refused k m
-          new.collector new.refused so_far.stands steps;
+      stands = stepped (begun task.timings task.span task.planners task.limit) so_far.history desk.collector desk.first_fault k m
+          new.collector new.first_fault so_far.stands steps;
     }
 
 -- nothing was taken
 pub gathers_same :
     (task : TaskParts) (desk new : Desk) → IsGathering task desk → new.collector ≡ desk.collector →
     (inlet_of new.inlet).taken ≡ (inlet_of desk.inlet).taken → (inlet_of new.inlet).rings ≡ (inlet_of desk.inlet).rings →
-    new.refused ≡ desk.refused → IsGathering task new
+    new.first_fault ≡ desk.first_fault → IsGathering task new
 gathers_same task desk new so_far same taken rings still = record {
   size = so_far.size;
   ordered = so_far.ordered;
@@ -209,16 +210,16 @@ gathers_same task desk new so_far same taken rings still = record {
   each = λ j few. so_far.each j few ∙ ap (λ all. slice_index_or all j []) (sym taken);
   stands = subst (λ r. Stands (answer_to (begun task.timings task.span task.planners task.limit) so_far.history) new.collector r)
       (sym still)
-      (subst (λ c. Stands (answer_to (begun task.timings task.span task.planners task.limit) so_far.history) c desk.refused) (sym same)
+      (subst (λ c. Stands (answer_to (begun task.timings task.span task.planners task.limit) so_far.history) c desk.first_fault) (sym same)
       so_far.stands);
 }
 
 -- ---- at the end
 
 whole_so :
-    (c : Collected) (answer : Result Collected CollectFault) (refused : Option CollectFault) →
-    (refused ≡ Some collect.TooMany → HasTooMany (task_of c)) → Stands answer c refused →
-    MatchResult answer (λ x. is_complete x ≡ true) (λ fault. fault ≡ collect.TooMany) → IsWhole c refused
+    (c : Collected) (answer : Result Collected CollectFault) (later : Option CollectFault) →
+    (later ≡ Some collect.TooMany → HasTooMany (task_of c)) → Stands answer c later →
+    MatchResult answer (λ x. is_complete x ≡ true) (λ fault. fault ≡ collect.TooMany) → IsWhole c later
 whole_so c answer None many stands accepted = subst
     (λ r. MatchResult r (λ x. is_complete x ≡ true) (λ fault. fault ≡ collect.TooMany)) stands accepted
 whole_so c answer (Some fault) many stands accepted = λ given.
@@ -230,13 +231,13 @@ whole_so c answer (Some fault) many stands accepted = λ given.
 pub gathers_all :
     (task : TaskParts) (desk : Desk) → AcceptsMergings → IsGathering task desk →
     ((k : ℕ) → k < task.planners → taken_at (inlet_of desk.inlet) k ≡ all_notes task k) →
-    IsWhole desk.collector desk.refused
+    IsWhole desk.collector desk.first_fault
 gathers_all task desk accepts so_far all =
     let merging : IsMerging task.planners task.limit task.timings task.span so_far.history = record {
       known = of_places task.planners so_far.history so_far.known;
       each = λ k few. so_far.each k few ∙ all k few;
     } in
-    whole_so desk.collector (answer_to (begun task.timings task.span task.planners task.limit) so_far.history) desk.refused
+    whole_so desk.collector (answer_to (begun task.timings task.span task.planners task.limit) so_far.history) desk.first_fault
     (λ is. subst HasTooMany (sym so_far.same) (so_far.too_many is)) so_far.stands
     (accepts task.planners task.limit task.timings task.span so_far.history so_far.size so_far.ordered merging)
 

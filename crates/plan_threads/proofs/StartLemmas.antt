@@ -56,7 +56,8 @@ fresh_all outlets rings are = fresh_from 0 outlets rings rings are
 -- nothing has arrived yet
 pub gathers_none :
     (task : TaskParts) (desk : Desk) (rings : List Ring) →
-    desk.collector ≡ begun task.timings task.span task.planners task.limit → inlet_of desk.inlet ≡ new_inlet rings → desk.refused ≡ None →
+    desk.collector ≡ begun task.timings task.span task.planners task.limit → inlet_of desk.inlet ≡ new_inlet rings →
+    desk.first_fault ≡ None →
     length rings ≡ task.planners → is_size task.planners ≡ true → task.span.since ≤ task.span.upto → IsGathering task desk
 gathers_none task desk rings is new none wide size ordered = record {
   size = size;

@@ -5,7 +5,7 @@ use Rattle.plan_collect.specs.declared.collector.CollectFault.{CollectFault}
 use Rattle.plan_collect.specs.declared.collector.CollectFault.TheVariants.{NoMemory, TooMany}
 use Rattle.plan_collect.specs.declared.plan_fault.PlanFault.{PlanFault}
 use Rattle.plan_collect.specs.declared.plan_fault.PlanFault.TheVariants as plan
-use Rattle.plan_collect.specs.Collecting.{Collected, begun, refusal, after, is_complete}
+use Rattle.plan_collect.specs.Collecting.{Collected, begun, fault_of_note, after, is_complete}
 use Rattle.plan_collect.specs.Limits.{is_size}
 use Rattle.plan_collect.specs.Merging.{answer_to}
 use Rattle.plan_collect.specs.Tiling.{notes_of}
@@ -35,11 +35,11 @@ pub record IsGathering (task : TaskParts) (desk : Desk) : Type 0 where
   pub ordered : task.span.since ≤ task.span.upto
   pub lanes : length (inlet_of desk.inlet).taken ≡ task.planners
   pub rings : length (inlet_of desk.inlet).rings ≡ task.planners
-  pub too_many : desk.refused ≡ Some TooMany → HasTooMany task
+  pub too_many : desk.first_fault ≡ Some TooMany → HasTooMany task
   pub history : List (ℕ × Note)
   pub known : AreOf task.planners history
   pub each : (k : ℕ) → k < task.planners → notes_of k history ≡ taken_at (inlet_of desk.inlet) k
-  pub stands : Stands (answer_to (begun task.timings task.span task.planners task.limit) history) desk.collector desk.refused
+  pub stands : Stands (answer_to (begun task.timings task.span task.planners task.limit) history) desk.collector desk.first_fault
 
 -- the receipt of sender s was settled, and these messages are what it sent
 abbrev pub IsAccounted : ReceivingEnd Note → ℕ → List Note → Type 0
@@ -58,14 +58,14 @@ ArePlanners task rings k (thread ∷ threads) = IsPlanner task rings k thread.pr
 
 -- what a message does to a collector that has rejected none
 abbrev pub Meets : Collected → (planner : ℕ) → Note → Collected → Option CollectFault → Type 0
-Meets c planner note new None = (refusal c planner note ≡ None) × (new ≡ after c planner note)
+Meets c planner note new None = (fault_of_note c planner note ≡ None) × (new ≡ after c planner note)
 Meets c planner note new (Some fault) =
-    (new ≡ c) × (fault ≢ NoMemory → refusal c planner note ≡ Some fault) × (fault ≡ TooMany → HasTooMany (task_of c))
+    (new ≡ c) × (fault ≢ NoMemory → fault_of_note c planner note ≡ Some fault) × (fault ≡ TooMany → HasTooMany (task_of c))
 
 -- a message is accepted or rejected; it is dropped if one was rejected before
 abbrev pub Steps : Collected → Option CollectFault → (planner : ℕ) → Note → Collected → Option CollectFault → Type 0
-Steps c None planner note new refused = Meets c planner note new refused
-Steps c (Some fault) planner note new refused = (new ≡ c) × (refused ≡ Some fault)
+Steps c None planner note new later = Meets c planner note new later
+Steps c (Some fault) planner note new later = (new ≡ c) × (later ≡ Some fault)
 
 -- everything that was sent has arrived: the collector is complete, or there are more starts than its limit, or an allocation failed
 abbrev pub IsWhole : Collected → Option CollectFault → Type 0

@@ -27,7 +27,7 @@ pub(crate) struct Desk {
     pub(crate) collector: Collector,
 
     /// The first error of the collector, if it rejected a message. The messages after that one are dropped.
-    pub(crate) refused: Option<CollectFault>,
+    pub(crate) first_fault: Option<CollectFault>,
 }
 
 impl Desk {
@@ -86,7 +86,7 @@ impl Desk {
     fn settle_all<R: Threads>(&mut self, rt: &R, planners: Vec<Planner>) -> Result<(), PlanFault>
         requires { ArePlanners (task_of self.old.collector) (inlet_of self.old.inlet).rings 0 planners.items }
         ensures collector { self.new.collector ≡ self.old.collector }
-        ensures refused { self.new.refused ≡ self.old.refused }
+        ensures first_fault { self.new.first_fault ≡ self.old.first_fault }
         ensures rings { (inlet_of self.new.inlet).rings ≡ (inlet_of self.old.inlet).rings }
         ensures taken { (inlet_of self.new.inlet).taken ≡ (inlet_of self.old.inlet).taken }
         ensures accounts { OnOk result ((k : ℕ) → k < vec_len planners →
@@ -95,9 +95,9 @@ impl Desk {
     {
         let mut settled = Ok(());
         for planner in planners {
-            let (receipt, refused) = planner.join(rt);
+            let (receipt, is_out_of_memory) = planner.join(rt);
             settled = settled.and(self.settle(receipt));
-            if refused {
+            if is_out_of_memory {
                 settled = Err(PlanFault::NoMemory);
             }
         }
@@ -108,7 +108,7 @@ impl Desk {
     fn settle(&mut self, receipt: Receipt<Note>) -> Result<(), PlanFault>
         requires { slice_get (inlet_of self.old.inlet).rings (receipt_of receipt).sender ≡ Some (receipt_of receipt).ring }
         ensures collector { self.new.collector ≡ self.old.collector }
-        ensures refused { self.new.refused ≡ self.old.refused }
+        ensures first_fault { self.new.first_fault ≡ self.old.first_fault }
         ensures rings { (inlet_of self.new.inlet).rings ≡ (inlet_of self.old.inlet).rings }
         ensures taken { (inlet_of self.new.inlet).taken ≡ (inlet_of self.old.inlet).taken }
         ensures succeeds { IsOk result }
@@ -137,15 +137,15 @@ impl Desk {
     // Returns the agenda, or the first error. `settled` is the result of settling the receipts.
     fn finish(self, settled: Result<(), PlanFault>) -> Result<Agenda, PlanFault>
         requires fault { IfErr settled IsThreadFault }
-        requires whole { OnOk settled (IsWhole self.collector self.refused) }
+        requires whole { OnOk settled (IsWhole self.collector self.first_fault) }
         ensures { Gives result (answer_of (task_of self.collector)) }
     {
-        let refused = self.refused;
-        if refused == Some(CollectFault::NoMemory) {
+        let first_fault = self.first_fault;
+        if first_fault == Some(CollectFault::NoMemory) {
             return Err(PlanFault::NoMemory);
         }
         settled?;
-        match refused {
+        match first_fault {
             Some(fault) => Err(PlanFault::Collect(fault)),
             None => Ok(self.collector.finish()?),
         }
@@ -169,14 +169,14 @@ impl Desk {
 
     // Gives the message to the collector, unless that rejected one before.
     fn accept(&mut self, planner: usize, note: Note)
-        ensures steps { Steps self.old.collector self.old.refused planner note self.new.collector self.new.refused }
+        ensures steps { Steps self.old.collector self.old.first_fault planner note self.new.collector self.new.first_fault }
         ensures inlet { self.new.inlet ≡ self.old.inlet }
     {
-        if self.refused.is_some() {
+        if self.first_fault.is_some() {
             return;
         }
         if let Err(fault) = self.collector.accept(planner, note) {
-            self.refused = Some(fault);
+            self.first_fault = Some(fault);
         }
     }
 }

@@ -46,11 +46,11 @@ pub fn run_planner<R: Wait, G: Gate>(
 {
     gate.arrive(outlet.sender());
     let mut outlet = outlet;
-    let refused = match send_notes(rt, alloc, jobs, task, &mut outlet) {
+    let is_out_of_memory = match send_notes(rt, alloc, jobs, task, &mut outlet) {
         Ok(()) => false,
         Err(NoMemory) => true,
     };
-    (outlet.close(), refused)
+    (outlet.close(), is_out_of_memory)
 }
 
 // Sends all messages of the outlet's planner.

@@ -136,7 +136,7 @@ fn set_up(alloc: Global, jobs: &Jobs, task: &Task) -> Result<(Vec<Outlet<Note>>,
         Desk {
             inlet,
             collector,
-            refused: None,
+            first_fault: None,
         },
     ))
 }

@@ -1,3 +1,4 @@
+pub mod Reports
 pub mod Names
 pub mod Source
 pub mod Links

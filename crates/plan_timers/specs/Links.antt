@@ -1,14 +1,13 @@
 -- The links to units that other units want (systemd.unit(5), on `.wants/` and `.requires/`).
-use Rattle.std.specs.Prelude.{ℕ, Bool, true, false, ◌&&◌, ◌||◌, nat_eq, if◌then◌else◌, List, [], ◌∷◌, ◌++◌, Option, None, Some, codes}
-use Rattle.std.specs.List.{ends_with}
+use Rattle.std.specs.Prelude.{ℕ, Bool, ◌||◌, nat_eq, if◌then◌else◌, List, [], ◌∷◌, ◌++◌, Option, None, Some, codes}
+use Rattle.std.specs.List.{cons_option, ends_with}
 use Rattle.std.specs.Str.{bytes_eq}
 use Rattle.plan_timers.specs.declared.links.LinkDir.{LinkDir}
 use Rattle.plan_tree.specs.declared.tree.Node.{Node}
-use Rattle.plan_tree.specs.declared.tree.Node.TheVariants.{Directory}
 use Rattle.plan_tree.specs.Place.{child}
 use Rattle.plan_tree.specs.Tree.{Held}
 use Rattle.plan_units.specs.declared.paths.UnitDir.{UnitDir}
-use Rattle.plan_units.specs.Entries.{dir_in, names_at}
+use Rattle.plan_units.specs.Entries.{dir_in, names_at, read_dir}
 use Rattle.plan_units.specs.UnitNames.{stem, template_of, wanted_name}
 use Rattle.plan_units.specs.Wants.{is_counted}
 
@@ -16,23 +15,19 @@ use Rattle.plan_units.specs.Wants.{is_counted}
 abbrev pub names_links : List ℕ → Bool
 names_links name = ends_with nat_eq name (codes ".wants") || ends_with nat_eq name (codes ".requires")
 
-abbrev pub is_directory : Node → Bool
-is_directory Directory = true
-is_directory _ = false
-
--- one that is a link isn't read (systemd 252 of Debian)
-abbrev pub is_link_dir : (List ℕ → Node) → UnitDir → List ℕ → Bool
-is_link_dir node dir name = names_links name && is_directory (node (child dir.real name))
-
 -- the name of the unit is that of the directory up to its last `.`
-abbrev pub link_dir : UnitDir → List ℕ → LinkDir
-link_dir dir name = record { unit = stem name; dir = dir_in dir name }
+abbrev pub link_dir_by : List ℕ → Option UnitDir → Option LinkDir
+link_dir_by name None = None
+link_dir_by name (Some dir) = Some (record { unit = stem name; dir = dir })
+
+-- the directory of links that has a name in a directory of units; one that is a link is read where it leads (systemd 252)
+abbrev pub link_dir : (List ℕ → Node) → UnitDir → List ℕ → Option LinkDir
+link_dir node dir name = if names_links name then link_dir_by name (read_dir node (dir_in dir name)) else None
 
 -- the directories of links among the names in a directory of units
 abbrev pub link_dirs_among : (List ℕ → Node) → UnitDir → List (List ℕ) → List LinkDir
 link_dirs_among node dir [] = []
-link_dirs_among node dir (name ∷ more) =
-    if is_link_dir node dir name then link_dir dir name ∷ link_dirs_among node dir more else link_dirs_among node dir more
+link_dirs_among node dir (name ∷ more) = cons_option (link_dir node dir name) (link_dirs_among node dir more)
 
 -- the directories of links in the directories of units, first to last, and in each of them in the order of their names
 abbrev pub link_dirs : Held → List UnitDir → List LinkDir

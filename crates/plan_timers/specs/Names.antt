@@ -4,8 +4,8 @@ use Rattle.std.specs.Char.{is_ascii_alphabetic, is_ascii_digit}
 use Rattle.std.specs.List.{ends_with, list_all, list_any}
 use Rattle.std.specs.Str.{byte}
 use Rattle.plan_texts.specs.Text.{begins_with}
-use Rattle.plan_timers.specs.declared.skipped.Why.{Why}
-use Rattle.plan_timers.specs.declared.skipped.Why.TheVariants.{Escape}
+use Rattle.plan_timers.specs.declared.reports.Why.{Why}
+use Rattle.plan_timers.specs.declared.reports.Why.TheVariants.{Escape}
 use Rattle.plan_tree.specs.Order.{sorted}
 
 -- whether a name has an `@`, as those of templates and instances have (systemd.unit(5))

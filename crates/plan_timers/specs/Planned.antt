@@ -2,10 +2,9 @@
 use Rattle.std.specs.Prelude.{ℕ, if◌then◌else◌, List, [], ◌∷◌, Option, None, Some}
 use Rattle.plan_timers.specs.declared.planned.UnitFault.{UnitFault}
 use Rattle.plan_timers.specs.declared.planned.UnitFault.TheVariants.{Masked, Missing}
-use Rattle.plan_timers.specs.declared.skipped.NotPlanned.{NotPlanned}
-use Rattle.plan_timers.specs.declared.skipped.WhyNot.{WhyNot}
-use Rattle.plan_timers.specs.declared.skipped.WhyNot.TheVariants.{UnitMasked, UnitMissing}
-use Rattle.plan_timers.specs.declared.source.SourceFile.{SourceFile}
+use Rattle.plan_timers.specs.declared.reports.NotPlanned.{NotPlanned}
+use Rattle.plan_timers.specs.declared.reports.Unplanned.{Unplanned}
+use Rattle.plan_timers.specs.declared.reports.Unplanned.TheVariants.{UnitMasked, UnitMissing}
 use Rattle.plan_timers.specs.Source.{TimerParts}
 use Rattle.plan_timers.specs.Started.{started_unit}
 use Rattle.plan_tree.specs.Tree.{Held}
@@ -26,23 +25,19 @@ unit_fault held dirs name = fault_by_unit held (unit_of held.node dirs name)
 
 -- ---- one timer
 
--- a timer is told by the path of its own file
-abbrev pub path_of : List SourceFile → List ℕ
-path_of [] = []
-path_of (file ∷ more) = file.path
-
-abbrev pub why_by : List ℕ → UnitFault → WhyNot
+abbrev pub why_by : List ℕ → UnitFault → Unplanned
 why_by unit Missing = UnitMissing unit
 why_by unit Masked = UnitMasked unit
 
-abbrev pub other_by : List SourceFile → List ℕ → Option UnitFault → Option NotPlanned
-other_by files unit None = None
-other_by files unit (Some fault) = Some (record { path = path_of files; why = why_by unit fault })
+-- a timer is reported by the path of its own file
+abbrev pub other_by : List ℕ → List ℕ → Option UnitFault → Option NotPlanned
+other_by path unit None = None
+other_by path unit (Some fault) = Some (record { path = path; why = why_by unit fault })
 
 -- a timer whose unit can't start isn't planned, since systemd rejects it (systemd 252)
 abbrev pub why_not : Held → List UnitDir → TimerParts → Option NotPlanned
 why_not held dirs timer =
-    other_by timer.files (started_unit held timer) (unit_fault held dirs (started_unit held timer))
+    other_by timer.file.path (started_unit timer) (unit_fault held dirs (started_unit timer))
 
 -- ---- several timers
 

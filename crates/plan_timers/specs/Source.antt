@@ -1,17 +1,27 @@
 -- What contracts say of a timer that is a source.
-use Rattle.std.specs.Prelude.{ℕ, List, refl}
-use Rattle.std.specs.Coded.{Coded, code_by, coded×, coded_list, coded_ℕ}
-use Rattle.plan_timers.specs.contracts.source.SourceFile.{the_row}
-use Rattle.plan_timers.specs.declared.source.SourceFile.{SourceFile}
+use Rattle.std.specs.Prelude.{ℕ, if◌then◌else◌, List, [], ◌∷◌}
+use Rattle.plan_parts.specs.declared.parts.Parts.{Parts}
+use Rattle.plan_parts.specs.declared.parts.Parts.TheVariants.{OfUnit, One}
+use Rattle.plan_parts.specs.Files.{FileBytes}
+use Rattle.plan_timers.specs.Names.{has_at}
 
--- the name of the timer, that of its job, and its files: its own, and then its drop-ins in the order in which they are merged
+-- the name of the timer, that of its job, its file, and its drop-ins in the order in which they are merged
 pub record TimerParts : Type 0 where
   pub unit : List ℕ
   pub name : List ℕ
-  pub files : List SourceFile
+  pub file : FileBytes
+  pub drop_ins : List FileBytes
 
--- a timer is encoded as its names and its files
-abbrev pub timer_code : Coded TimerParts
-timer_code =
-    code_by (List ℕ × (List ℕ × List SourceFile)) (coded× (coded_list coded_ℕ) (coded× (coded_list coded_ℕ) (coded_list the_row.coded)))
-    (λ timer. (timer.unit, (timer.name, timer.files))) (λ p. record { unit = p.0; name = p.1.0; files = p.1.1 }) (λ _. refl)
+-- the files of a timer, in the order in which they are merged
+abbrev pub files_of_timer : TimerParts → List FileBytes
+files_of_timer timer = timer.file ∷ timer.drop_ins
+
+abbrev pub parts_by : (timer : TimerParts) → List FileBytes → Parts
+parts_by timer [] =
+    if has_at timer.unit then OfUnit (record { unit = timer.unit; files = files_of_timer timer }) else One timer.file
+parts_by timer (drop_in ∷ more) = OfUnit (record { unit = timer.unit; files = files_of_timer timer })
+
+-- only a timer that is no instance and has no drop-ins is read as its file is: of the others the files are merged, and the
+-- specifiers of an instance are replaced (systemd.unit(5))
+abbrev pub parts_of_timer : TimerParts → Parts
+parts_of_timer timer = parts_by timer timer.drop_ins

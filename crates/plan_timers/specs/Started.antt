@@ -2,12 +2,11 @@
 use Rattle.std.specs.Prelude.{ℕ, Bool, false, ◌||◌, not, ◌==◌, if◌then◌else◌, List, [], ◌∷◌, ◌++◌, length, Option, None, Some, codes}
 use Rattle.std.specs.Str.{bytes_eq, is_utf8}
 use Rattle.plan_texts.specs.WholeLines.{trimmed}
-use Rattle.plan_timers.specs.declared.source.SourceFile.{SourceFile}
-use Rattle.plan_timers.specs.Source.{TimerParts}
-use Rattle.plan_timers.specs.Texts.{lines_at}
 use Rattle.plan_timers.specs.Links.{or_path}
-use Rattle.plan_tree.specs.Tree.{Held}
+use Rattle.plan_timers.specs.Source.{TimerParts, files_of_timer}
+use Rattle.plan_timers.specs.Texts.{lines_of_text}
 use Rattle.plan_units.specs.Settings.{section_name, setting_of}
+use Rattle.plan_parts.specs.Files.{FileBytes}
 use Rattle.plan_parts.specs.Specifiers.{expanded}
 use Rattle.plan_units.specs.UnitNames.{stem}
 
@@ -43,11 +42,14 @@ named_in_lines unit inside (line ∷ more) =
     or_path (unit_in_line unit inside (trimmed line.1))
     (named_in_lines unit (inside_after inside (section_name (trimmed line.1))) more)
 
--- the first of a timer's files that names a unit counts; each is read from its first section on (agenda)
-abbrev pub named_in_files : Held → List ℕ → List SourceFile → Option (List ℕ)
-named_in_files held unit [] = None
-named_in_files held unit (file ∷ more) =
-    or_path (named_in_lines unit false (lines_at held file.real)) (named_in_files held unit more)
+-- a file is read from its first section on (agenda)
+abbrev pub named_in_file : List ℕ → FileBytes → Option (List ℕ)
+named_in_file unit file = named_in_lines unit false (lines_of_text file.bytes)
+
+-- the first of a timer's files that names a unit counts (systemd 252)
+abbrev pub named_in_files : List ℕ → List FileBytes → Option (List ℕ)
+named_in_files unit [] = None
+named_in_files unit (file ∷ more) = or_path (named_in_file unit file) (named_in_files unit more)
 
 -- the service with a timer's name (systemd.timer(5), `Unit=`)
 abbrev pub service_of : List ℕ → List ℕ
@@ -58,5 +60,5 @@ unit_or_service name None = service_of name
 unit_or_service name (Some unit) = unit
 
 -- the unit that a timer starts (systemd.timer(5), `Unit=`)
-abbrev pub started_unit : Held → TimerParts → List ℕ
-started_unit held timer = unit_or_service timer.unit (named_in_files held timer.unit timer.files)
+abbrev pub started_unit : TimerParts → List ℕ
+started_unit timer = unit_or_service timer.unit (named_in_files timer.unit (files_of_timer timer))

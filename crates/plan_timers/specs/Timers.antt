@@ -2,10 +2,10 @@
 use Rattle.std.specs.Prelude.{◌≡◌, ℕ, Bool, true, false, not, ◌&&◌, if◌then◌else◌, List, [], ◌∷◌, ◌++◌, filter, Option, None, Some, Ok, Err, Result}
 use Rattle.std.specs.List.{list_any}
 use Rattle.std.specs.Str.{bytes_eq}
-use Rattle.plan_timers.specs.declared.skipped.Skipped.{Skipped}
-use Rattle.plan_timers.specs.declared.skipped.Why.{Why}
-use Rattle.plan_timers.specs.declared.skipped.Why.TheVariants.{BadName, NameTaken, NoSuchTimer}
-use Rattle.plan_timers.specs.declared.source.SourceFile.{SourceFile}
+use Rattle.plan_parts.specs.Files.{FileBytes}
+use Rattle.plan_timers.specs.declared.reports.Skipped.{Skipped}
+use Rattle.plan_timers.specs.declared.reports.Why.{Why}
+use Rattle.plan_timers.specs.declared.reports.Why.TheVariants.{BadName, NameTaken, NoSuchTimer}
 use Rattle.plan_timers.specs.declared.timer.Refusal.{Refusal}
 use Rattle.plan_timers.specs.declared.timer.Refusal.TheVariants as refusal
 use Rattle.plan_timers.specs.declared.timers.TimersFound.{TimersFound}
@@ -49,12 +49,12 @@ abbrev pub with_wish : Held → KnownUnits → FoundTimers → List ℕ → Why 
 with_wish held units found name why = with_skipped found (record { path = wish_of held units name; why = why })
 
 -- a timer is a source with its file and those of its drop-ins that can be read; the other drop-ins are skipped
-abbrev pub with_file : Held → KnownUnits → FoundTimers → List ℕ → List ℕ → SourceFile → FoundTimers
+abbrev pub with_file : Held → KnownUnits → FoundTimers → List ℕ → List ℕ → FileBytes → FoundTimers
 with_file held units found name job file =
     let drop_ins = drop_in_entries held units.dirs name in
     record {
-      sources = found.sources ++ record { unit = name; name = job; files = file ∷ files_among held drop_ins } ∷ [];
-      skipped = found.skipped ++ skipped_among held drop_ins;
+      sources = found.sources ++ record { unit = name; name = job; file = file; drop_ins = files_among held units.most drop_ins } ∷ [];
+      skipped = found.skipped ++ skipped_among held units.most drop_ins;
     }
 
 -- ---- one timer
@@ -64,29 +64,29 @@ abbrev pub is_alias : List ℕ → Option Unit → Bool
 is_alias name None = false
 is_alias name (Some unit) = not (bytes_eq unit.name name)
 
-abbrev pub file_or_refusal : Result SourceFile Skipped → Result SourceFile Refusal
+abbrev pub file_or_refusal : Result FileBytes Skipped → Result FileBytes Refusal
 file_or_refusal (Ok file) = Ok file
 file_or_refusal (Err skipped) = Err (refusal.File skipped)
 
 -- the file of a unit
-abbrev pub file_by_unit : Held → Option Unit → Result SourceFile Refusal
-file_by_unit held None = Err (refusal.Wish NoSuchTimer)
-file_by_unit held (Some unit) = file_or_refusal (found_file held unit.file.path unit.file.real)
+abbrev pub file_by_unit : Held → (most : ℕ) → Option Unit → Result FileBytes Refusal
+file_by_unit held most None = Err (refusal.Wish NoSuchTimer)
+file_by_unit held most (Some unit) = file_or_refusal (found_file held most unit.file.path unit.file.real)
 
 -- the file of a timer, unless its name says that it is no source
-abbrev pub file_by_fault : Held → Option Why → Option Unit → Result SourceFile Refusal
-file_by_fault held (Some why) unit = Err (refusal.Wish why)
-file_by_fault held None unit = file_by_unit held unit
+abbrev pub file_by_fault : Held → (most : ℕ) → Option Why → Option Unit → Result FileBytes Refusal
+file_by_fault held most (Some why) unit = Err (refusal.Wish why)
+file_by_fault held most None unit = file_by_unit held most unit
 
-abbrev pub timer_file : Held → List ℕ → Option Unit → Result SourceFile Refusal
-timer_file held name unit = file_by_fault held (name_fault name) unit
+abbrev pub timer_file : Held → (most : ℕ) → List ℕ → Option Unit → Result FileBytes Refusal
+timer_file held most name unit = file_by_fault held most (name_fault name) unit
 
 -- a source has this name
 abbrev pub is_taken : List TimerParts → List ℕ → Bool
 is_taken sources job = list_any (λ source. bytes_eq source.name job) sources
 
 -- a timer whose job has a valid name; of two timers whose jobs have one name the first is a source (agenda)
-abbrev pub with_job : Held → KnownUnits → FoundTimers → List ℕ → List ℕ → Result SourceFile Refusal → FoundTimers
+abbrev pub with_job : Held → KnownUnits → FoundTimers → List ℕ → List ℕ → Result FileBytes Refusal → FoundTimers
 with_job held units found name job (Err (refusal.Wish why)) = with_wish held units found name why
 with_job held units found name job (Err (refusal.File skipped)) = with_skipped found skipped
 with_job held units found name job (Ok file) =
@@ -94,7 +94,7 @@ with_job held units found name job (Ok file) =
 
 abbrev pub with_name : Held → KnownUnits → FoundTimers → List ℕ → Option Unit → Option (List ℕ) → FoundTimers
 with_name held units found name unit None = with_wish held units found name BadName
-with_name held units found name unit (Some job) = with_job held units found name job (timer_file held name unit)
+with_name held units found name unit (Some job) = with_job held units found name job (timer_file held units.most name unit)
 
 -- a timer, unless its name is an alias
 abbrev pub with_unit : Held → KnownUnits → FoundTimers → List ℕ → Option Unit → FoundTimers
@@ -143,11 +143,11 @@ timers_of_units held units all =
     if all then found else with_unwanted found (unwanted_timers held units)
 
 -- what is found of the timers of a machine whose boot reaches these names
-abbrev pub timers_among : Held → List UnitDir → (all : Bool) → List (List ℕ) → FoundTimers
-timers_among held dirs all reached =
-    timers_of_units held (record { dirs = dirs; links = link_dirs held dirs; reached = sorted reached }) all
+abbrev pub timers_among : Held → List UnitDir → (all : Bool) → (most : ℕ) → List (List ℕ) → FoundTimers
+timers_among held dirs all most reached =
+    timers_of_units held (record { dirs = dirs; links = link_dirs held dirs; reached = sorted reached; most = most }) all
 
 -- what is found of the timers of a machine: the boot reaches what is reached from its first unit (systemd.special(7))
-abbrev pub AreMachineTimers : Held → List UnitDir → (all : Bool) → FoundTimers → Type 0
-AreMachineTimers held dirs all found =
-    (reached : List (List ℕ)) × AreReached (wants_of held dirs) first_unit reached × (found ≡ timers_among held dirs all reached)
+abbrev pub AreMachineTimers : Held → List UnitDir → (all : Bool) → (most : ℕ) → FoundTimers → Type 0
+AreMachineTimers held dirs all most found =
+    (reached : List (List ℕ)) × AreReached (wants_of held dirs) first_unit reached × (found ≡ timers_among held dirs all most reached)

@@ -2,8 +2,8 @@
 use Rattle.std.specs.Prelude.{ℕ, Bool, false, not, ◌&&◌, if◌then◌else◌, List, [], ◌∷◌, Option, None, Some}
 use Rattle.std.specs.Str.{bytes_eq}
 use Rattle.plan_timers.specs.declared.links.LinkDir.{LinkDir}
-use Rattle.plan_timers.specs.declared.skipped.Skipped.{Skipped}
-use Rattle.plan_timers.specs.declared.skipped.Why.TheVariants.{WantedBy}
+use Rattle.plan_timers.specs.declared.reports.Skipped.{Skipped}
+use Rattle.plan_timers.specs.declared.reports.Why.TheVariants.{WantedBy}
 use Rattle.plan_timers.specs.Wishes.{KnownUnits}
 use Rattle.plan_tree.specs.declared.tree.Node.{Node}
 use Rattle.plan_tree.specs.Place.{parent}

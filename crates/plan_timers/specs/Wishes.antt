@@ -11,14 +11,16 @@ use Rattle.plan_units.specs.Reach.{is_in}
 use Rattle.plan_units.specs.Unit.{unit_of}
 use Rattle.plan_units.specs.Wants.{set_by_unit}
 
--- what is known of the units: their directories, the directories of links, and the names that the boot reaches
+-- what is known of the units: their directories, the directories of links, and the names that the boot reaches; and how many
+-- bytes of a file are read
 pub record KnownUnits : Type 0 where
   pub dirs : List UnitDir
   pub links : List LinkDir
   pub reached : List (List ℕ)
+  pub most : ℕ
 
 abbrev pub units_view : Units → KnownUnits
-units_view units = record { dirs = units.dirs.now; links = units.links.now; reached = units.reached.now }
+units_view units = record { dirs = units.dirs.now; links = units.links.now; reached = units.reached.now; most = units.most }
 
 -- ---- by a setting
 

@@ -1,11 +1,13 @@
-//! Which of some files can be read.
+//! Which of some files can be read, and their bytes.
 
-ghost use Rattle.std.specs.Prelude.{◌≡◌, true, IfOk, Ok, Err};
-ghost use Rattle.plan_timers.specs.Files.{file_or_skipped, file_state, files_among, found_file, skipped_among, state_by};
+ghost use Rattle.std.specs.Prelude.{◌≡◌, true, IfOk};
+ghost use Rattle.std.specs.Option.{option_map};
+ghost use Rattle.plan_timers.specs.Files.{file_by, files_among, found_file, skipped_among};
 
-use crate::skipped::{Skipped, Why};
-use crate::source::{SourceFile, text_at};
-use plan_tree::{End, Place, Tree, contents, follow};
+use crate::reports::{Skipped, Why, copy_of};
+use plan_parts::Part;
+use plan_texts::Text;
+use plan_tree::{Tree, contents};
 use plan_units::{Entry, is_mask};
 use std::alloc::{AllocError, Global};
 
@@ -13,78 +15,47 @@ use std::alloc::{AllocError, Global};
 #[derive(Debug, Drop)]
 pub struct FoundFiles {
     /// The files that can be read.
-    pub files: Vec<SourceFile>,
+    pub files: Vec<Part>,
     /// What is skipped.
     pub skipped: Vec<Skipped>,
 }
 
-/// Returns where a path leads if that is a regular file that can be read, or why it is skipped: a mask, or something
-/// else. The outer error is a failed allocation.
-///
-/// # Errors
-///
-/// `AllocError` if an allocation fails.
-pub fn file_state<T: Tree>(
-    alloc: Global,
-    tree: &T,
-    path: &str,
-) -> Result<Result<Place, Why>, AllocError>
-    ensures { T.is_known ≡ true → IfOk result (λ state. state ≡ file_state (T.held tree.now) path.now) }
-{
-    if is_mask(alloc, tree, path)? {
-        return Ok(Err(Why::Masked));
-    }
-    let end = follow(alloc, tree, path)?;
-    match contents(alloc, tree, path, 1)? {
-        Some(_) => Ok(state_by(end)),
-        None => Ok(Err(Why::NotReadable)),
-    }
-}
-
-// Returns the path at an end.
-fn state_by(end: End) -> Result<Place, Why>
-    ensures { result ≡ state_by end }
-{
-    match end {
-        End::Found(real) => Ok(real),
-        End::Nothing | End::Unknown => Err(Why::NotReadable),
-    }
-}
-
-// Returns the file that is found at a path and read by another one, or what is skipped. The outer error is a failed
-// allocation.
+// Returns the file that is found at a path and read by another one, with its first `most` bytes, or why it is skipped: it
+// is a mask, or no regular file that can be read. The outer error is a failed allocation.
 pub(crate) fn found_file<T: Tree>(
     alloc: Global,
     tree: &T,
+    most: u64,
     path: &str,
     real: &str,
-) -> Result<Result<SourceFile, Skipped>, AllocError>
+) -> Result<Result<Part, Skipped>, AllocError>
     ensures { T.is_known ≡ true → IfOk result (λ file.
-        file ≡ found_file (T.held tree.now) path.now real.now) }
+        file ≡ found_file (T.held tree.now) most path.now real.now) }
 {
-    let state = file_state(alloc, tree, real)?;
-    file_or_skipped(alloc, path, state)
+    let path = copy_of(alloc, path)?;
+    if is_mask(alloc, tree, real)? {
+        let why = Why::Masked;
+        return Ok(Err(Skipped { path, why }));
+    }
+    let bytes = contents(alloc, tree, real, most)?;
+    Ok(file_by(path, bytes))
 }
 
-// Returns the file with a path by its state.
-fn file_or_skipped(
-    alloc: Global,
-    path: &str,
-    state: Result<Place, Why>,
-) -> Result<Result<SourceFile, Skipped>, AllocError>
-    ensures { IfOk result (λ file. file ≡ file_or_skipped path.now state) }
+// Returns the file with a path by what was read of it, or that it is skipped.
+fn file_by(path: Text, bytes: Option<Vec<u8>>) -> Result<Part, Skipped>
+    ensures { result ≡ file_by path (option_map (λ read. read.items) bytes) }
 {
-    let path = text_at(alloc, path)?;
-    match state {
-        Ok(real) => {
-            let real = text_at(alloc, real.as_str())?;
-            Ok(Ok(SourceFile { path, real }))
-        }
-        Err(why) => Ok(Err(Skipped { path, why })),
+    match bytes {
+        Some(bytes) => Ok(Part::new(path, bytes)),
+        None => Err(Skipped {
+            path,
+            why: Why::NotReadable,
+        }),
     }
 }
 
-/// Returns which of some entries are files that can be read, in their order, and what is skipped of them.
+/// Returns which of some entries are files that can be read, in their order, with their first `most` bytes, and what is
+/// skipped of them.
 ///
 /// # Errors
 ///
@@ -92,17 +63,18 @@ fn file_or_skipped(
 pub fn found_files<T: Tree>(
     alloc: Global,
     tree: &T,
+    most: u64,
     entries: &[Entry],
 ) -> Result<FoundFiles, AllocError>
     ensures files { T.is_known ≡ true → IfOk result (λ found.
-        found.files.items ≡ files_among (T.held tree.now) entries.now) }
+        found.files.items ≡ files_among (T.held tree.now) most entries.now) }
     ensures skipped { T.is_known ≡ true → IfOk result (λ found.
-        found.skipped.items ≡ skipped_among (T.held tree.now) entries.now) }
+        found.skipped.items ≡ skipped_among (T.held tree.now) most entries.now) }
 {
     let mut files = Vec::new(alloc);
     let mut skipped = Vec::new(alloc);
     for entry in entries {
-        match found_file(alloc, tree, entry.path.as_str(), entry.real.as_str())? {
+        match found_file(alloc, tree, most, entry.path.as_str(), entry.real.as_str())? {
             Ok(file) => files.push(file)?,
             Err(other) => skipped.push(other)?,
         }

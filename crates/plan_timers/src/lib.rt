@@ -2,8 +2,9 @@
 //!
 //! Read `timers` first, which goes over the timers one after the other, then `timer` for one of them. `order` says in which
 //! order they come, `names` which names a timer may have, `links` and `wish` what enables it, and `files` which of its files
-//! can be read. `unwanted` finds the timers that only units want that the boot doesn't start, `started` and `planned` the
-//! unit that a timer starts, and `accuracy` the accuracy of timers that set none.
+//! can be read, with their bytes. `unwanted` finds the timers that only units want that the boot doesn't start, `started`
+//! and `planned` the unit that a timer starts, and `accuracy` the accuracy of timers that set none. `reports` has the reasons
+//! why something is skipped or isn't planned, on a whole machine.
 #![tactic(auto)]
 
 mod accuracy;
@@ -12,7 +13,7 @@ mod links;
 mod names;
 mod order;
 mod planned;
-mod skipped;
+mod reports;
 mod source;
 mod started;
 mod texts;
@@ -24,6 +25,6 @@ mod wish;
 
 pub use accuracy::default_accuracy;
 pub use planned::{PlannedTimers, planned_timers};
-pub use skipped::{NotPlanned, Skipped, Why, WhyNot};
-pub use source::{SourceFile, TimerSource};
+pub use reports::{NotPlanned, Skipped, Unplanned, Why, copy_of};
+pub use source::TimerSource;
 pub use timers::{TimersFound, machine_timers};

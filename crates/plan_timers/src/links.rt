@@ -1,10 +1,10 @@
 //! The directories of links, and the links that enable a timer (systemd.unit(5)).
 
 ghost use Rattle.std.specs.Prelude.{◌≡◌, true, IfOk};
-ghost use Rattle.plan_timers.specs.Links.{first_link, is_directory, is_link_dir, link_at, link_dir, link_dirs, link_dirs_among, link_in, names_links};
+ghost use Rattle.plan_timers.specs.Links.{first_link, link_at, link_dir, link_dirs, link_dirs_among, link_in, names_links};
 
-use plan_tree::{Name, Node, Place, Tree};
-use plan_units::{UnitDir, is_counted, names_at, stem, template_of, wanted_name};
+use plan_tree::{Name, Place, Tree};
+use plan_units::{UnitDir, is_counted, names_at, read_dir, stem, template_of, wanted_name};
 use std::alloc::{AllocError, Global};
 
 /// A directory of links to the units that a unit wants.
@@ -17,7 +17,7 @@ pub struct LinkDir {
 }
 
 /// Returns the directories `NAME.wants` and `NAME.requires` in the order of the search path, and in each directory of it in
-/// the order of their names. One that is a link isn't read.
+/// the order of their names. One that is a link is read where it leads.
 ///
 /// # Errors
 ///
@@ -51,39 +51,34 @@ fn link_dirs_among<T: Tree>(
 {
     let mut found = Vec::new(alloc);
     for name in names {
-        if is_link_dir(alloc, tree, dir, name.as_str())? {
-            found.push(link_dir(alloc, dir, name.as_str())?)?;
+        if let Some(links) = link_dir(alloc, tree, dir, name.as_str())? {
+            found.push(links)?;
         }
     }
     Ok(found)
 }
 
-// Returns the directory of links that has this name in a directory.
-fn link_dir(alloc: Global, dir: &UnitDir, name: &str) -> Result<LinkDir, AllocError>
-    ensures { IfOk result (λ found. found ≡ link_dir dir.now name.now) }
-{
-    Ok(LinkDir {
-        unit: Name::at(alloc, stem(name))?,
-        dir: dir.child(alloc, name)?,
-    })
-}
-
-// Returns whether a name in a directory is that of a directory of links.
-fn is_link_dir<T: Tree>(
+// Returns the directory of links that has this name in a directory, if there is one.
+fn link_dir<T: Tree>(
     alloc: Global,
     tree: &T,
     dir: &UnitDir,
     name: &str,
-) -> Result<bool, AllocError>
-    ensures { T.is_known ≡ true → IfOk result (λ is.
-        is ≡ is_link_dir (T.held tree.now).node dir.now name.now) }
+) -> Result<Option<LinkDir>, AllocError>
+    ensures { T.is_known ≡ true → IfOk result (λ found.
+        found ≡ link_dir (T.held tree.now).node dir.now name.now) }
 {
     if !names_links(name) {
-        return Ok(false);
+        return Ok(None);
     }
-    let real = dir.real.child(alloc, name)?;
-    let node = tree.node(alloc, real.as_str())?;
-    Ok(is_directory(&node))
+    let named = dir.child(alloc, name)?;
+    match read_dir(alloc, tree, &named)? {
+        None => Ok(None),
+        Some(dir) => Ok(Some(LinkDir {
+            unit: Name::at(alloc, stem(name))?,
+            dir,
+        })),
+    }
 }
 
 // Returns whether a name is `NAME.wants` or `NAME.requires`.
@@ -91,16 +86,6 @@ fn names_links(name: &str) -> bool
     ensures { result ≡ names_links name.now }
 {
     name.as_bytes().ends_with(b".wants") || name.as_bytes().ends_with(b".requires")
-}
-
-// Returns whether a node is a directory.
-fn is_directory(node: &Node) -> bool
-    ensures { result ≡ is_directory node.now }
-{
-    match node {
-        Node::Directory => true,
-        _ => false,
-    }
 }
 
 /// Returns the path of the first link of a name in directories of links. A mask is none. A link to a template is one of the

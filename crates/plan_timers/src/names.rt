@@ -6,7 +6,7 @@ ghost use Rattle.std.specs.Str.{byte};
 ghost use Rattle.plan_timers.specs.Names.{dashed, is_job_byte, is_job_name, job_of, name_fault};
 
 use crate::order::has_at;
-use crate::skipped::Why;
+use crate::reports::Why;
 use plan_texts::{Text, begins_with};
 use std::alloc::{AllocError, Global};
 

@@ -1,10 +1,10 @@
 //! The timers whose units can start, and why the others aren't planned (systemd.timer(5)).
 
 ghost use Rattle.std.specs.Prelude.{◌≡◌, true, IfOk};
-ghost use Rattle.plan_timers.specs.Planned.{fault_by_unit, not_planned, other_by, path_of, planned, unit_fault, why_not};
+ghost use Rattle.plan_timers.specs.Planned.{fault_by_unit, not_planned, other_by, planned, unit_fault, why_not};
 
-use crate::skipped::{NotPlanned, WhyNot};
-use crate::source::{SourceFile, TimerSource, text_at};
+use crate::reports::{NotPlanned, Unplanned, copy_of};
+use crate::source::TimerSource;
 use crate::started::started_unit;
 use plan_tree::Tree;
 use plan_units::{Unit, UnitDir, is_mask, unit_of};
@@ -65,40 +65,30 @@ fn why_not<T: Tree>(
     ensures { T.is_known ≡ true → IfOk result (λ other.
         other ≡ why_not (T.held tree.now) dirs.now source.now) }
 {
-    let unit = started_unit(alloc, tree, source)?;
+    let unit = started_unit(alloc, source)?;
     let fault = unit_fault(alloc, tree, dirs, unit.as_str())?;
-    other_by(alloc, source.files.as_slice(), unit.as_str(), fault)
+    other_by(alloc, source.file.path(), unit.as_str(), fault)
 }
 
-// Returns why a timer with these files isn't planned, by what is wrong with its unit.
+// Returns why a timer whose file has this path isn't planned, by what is wrong with its unit.
 fn other_by(
     alloc: Global,
-    files: &[SourceFile],
+    path: &str,
     unit: &str,
     fault: Option<UnitFault>,
 ) -> Result<Option<NotPlanned>, AllocError>
-    ensures { IfOk result (λ other. other ≡ other_by files.now unit.now fault) }
+    ensures { IfOk result (λ other. other ≡ other_by path.now unit.now fault) }
 {
     let Some(fault) = fault else {
         return Ok(None);
     };
-    let path = text_at(alloc, path_of(files))?;
-    let unit = text_at(alloc, unit)?;
+    let path = copy_of(alloc, path)?;
+    let unit = copy_of(alloc, unit)?;
     let why = match fault {
-        UnitFault::Missing => WhyNot::UnitMissing(unit),
-        UnitFault::Masked => WhyNot::UnitMasked(unit),
+        UnitFault::Missing => Unplanned::UnitMissing(unit),
+        UnitFault::Masked => Unplanned::UnitMasked(unit),
     };
     Ok(Some(NotPlanned { path, why }))
-}
-
-// Returns the path of the first of some files.
-fn path_of(files: &[SourceFile]) -> &str
-    ensures { result.now ≡ path_of files.now }
-{
-    match files {
-        [file, ..] => file.path.as_str(),
-        [] => "",
-    }
 }
 
 // Returns what is wrong with the unit of a name.

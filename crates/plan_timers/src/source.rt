@@ -1,20 +1,15 @@
 //! A timer that is a source.
 
 ghost use Rattle.std.specs.Prelude.{◌≡◌, IfOk};
+ghost use Rattle.plan_timers.specs.Source.{parts_of_timer};
 
+use crate::order::has_at;
+use crate::reports::copy_of;
+use plan_parts::{Part, Parts, UnitParts};
 use plan_texts::Text;
 use plan_tree::Name;
 use std::alloc::{AllocError, Global};
 use std::marker::Model;
-
-/// A file of a source.
-#[derive(Debug, Drop)]
-pub struct SourceFile {
-    /// The path where it was found.
-    pub path: Text,
-    /// Where that leads. No name in it is a link.
-    pub real: Text,
-}
 
 /// A timer that is a source.
 #[derive(Debug, Drop)]
@@ -23,27 +18,48 @@ pub struct TimerSource {
     pub unit: Name,
     /// The name of its job.
     pub name: Text,
-    /// Its file, and then its drop-ins in the order in which they are merged.
-    pub files: Vec<SourceFile>,
+    /// Its file.
+    pub file: Part,
+    /// Its drop-ins, in the order in which they are merged.
+    pub drop_ins: Vec<Part>,
 }
 
 impl Model for TimerSource {
-    ghost use Rattle.plan_timers.specs.Source.{TimerParts, timer_code};
+    ghost use Rattle.plan_timers.specs.Source.{TimerParts};
 
     ghost Value = { TimerParts };
-
-    ghost coded = { timer_code };
 
     ghost view = { λ source. record {
       unit = source.unit;
       name = source.name;
-      files = source.files.items;
+      file = source.file;
+      drop_ins = source.drop_ins.items;
     } };
 }
 
-// Returns a copy of a text.
-pub(crate) fn text_at(alloc: Global, text: &str) -> Result<Text, AllocError>
-    ensures { IfOk result (λ copy. copy ≡ text.now) }
-{
-    Ok(Text::new(String::from_str(alloc, text)?))
+impl TimerSource {
+    /// Returns the parts of the timer: its file alone, but its file and its drop-ins with its name if it has drop-ins or is
+    /// an instance.
+    ///
+    /// # Errors
+    ///
+    /// `AllocError` if an allocation fails.
+    pub fn into_parts(self, alloc: Global) -> Result<Parts, AllocError>
+        ensures { IfOk result (λ parts. parts ≡ parts_of_timer self) }
+    {
+        let TimerSource {
+            unit,
+            file,
+            mut drop_ins,
+            ..
+        } = self;
+        if drop_ins.is_empty() && !has_at(unit.as_str()) {
+            return Ok(Parts::One(file));
+        }
+        let mut files = Vec::new(alloc);
+        files.push(file)?;
+        files.append(&mut drop_ins)?;
+        let unit = copy_of(alloc, unit.as_str())?;
+        Ok(Parts::OfUnit(UnitParts::new(alloc, unit, files)?))
+    }
 }

@@ -1,15 +1,15 @@
 //! The unit that a timer starts (systemd.timer(5), `Unit=`).
 
-ghost use Rattle.std.specs.Prelude.{◌≡◌, ◌++◌, false, true, IfOk, if◌then◌else◌, None, Some, map};
+ghost use Rattle.std.specs.Prelude.{◌≡◌, false, IfOk, map};
 ghost use Rattle.plan_texts.specs.WholeLines.{whole_text};
-ghost use Rattle.plan_timers.specs.Started.{inside_after, named_in_files, named_in_lines, named_in_setting, service_of, started_unit, unit_in_line};
+ghost use Rattle.plan_timers.specs.Started.{inside_after, named_in_file, named_in_files, named_in_lines, named_in_setting, service_of, started_unit, unit_in_line};
 ghost use Rattle.plan_units.specs.Settings.{section_name};
 
-use crate::source::{SourceFile, TimerSource};
-use crate::texts::lines_at;
-use plan_parts::expanded;
+use crate::source::TimerSource;
+use crate::texts::lines_of_text;
+use plan_parts::{Part, expanded};
 use plan_texts::whole_lines::{WholeLine, trimmed};
-use plan_tree::{Name, Tree};
+use plan_tree::Name;
 use plan_units::{section_name, setting_of, stem};
 use std::alloc::{AllocError, Global};
 
@@ -19,16 +19,14 @@ use std::alloc::{AllocError, Global};
 /// # Errors
 ///
 /// `AllocError` if an allocation fails.
-pub fn started_unit<T: Tree>(
-    alloc: Global,
-    tree: &T,
-    source: &TimerSource,
-) -> Result<Name, AllocError>
-    ensures { T.is_known ≡ true → IfOk result (λ unit.
-        unit ≡ started_unit (T.held tree.now) source.now) }
+pub fn started_unit(alloc: Global, source: &TimerSource) -> Result<Name, AllocError>
+    ensures { IfOk result (λ unit. unit ≡ started_unit source.now) }
 {
     let unit = source.unit.as_str();
-    match named_in_files(alloc, tree, unit, source.files.as_slice())? {
+    if let Some(named) = named_in_file(alloc, unit, &source.file)? {
+        return Ok(named);
+    }
+    match named_in_files(alloc, unit, source.drop_ins.as_slice())? {
         Some(named) => Ok(named),
         None => service_of(alloc, unit),
     }
@@ -44,22 +42,23 @@ fn service_of(alloc: Global, name: &str) -> Result<Name, AllocError>
 }
 
 // Returns the unit that the first of some files of a timer names.
-fn named_in_files<T: Tree>(
-    alloc: Global,
-    tree: &T,
-    unit: &str,
-    files: &[SourceFile],
-) -> Result<Option<Name>, AllocError>
-    ensures { T.is_known ≡ true → IfOk result (λ named.
-        named ≡ named_in_files (T.held tree.now) unit.now files.now) }
+fn named_in_files(alloc: Global, unit: &str, files: &[Part]) -> Result<Option<Name>, AllocError>
+    ensures { IfOk result (λ named. named ≡ named_in_files unit.now files.now) }
 {
     for file in files {
-        let lines = lines_at(alloc, tree, file.real.as_str())?;
-        if let Some(named) = named_in_lines(alloc, unit, lines.as_slice())? {
+        if let Some(named) = named_in_file(alloc, unit, file)? {
             return Ok(Some(named));
         }
     }
     Ok(None)
+}
+
+// Returns the unit that a file of a timer names.
+fn named_in_file(alloc: Global, unit: &str, file: &Part) -> Result<Option<Name>, AllocError>
+    ensures { IfOk result (λ named. named ≡ named_in_file unit.now file.now) }
+{
+    let lines = lines_of_text(alloc, file.bytes())?;
+    named_in_lines(alloc, unit, lines.as_slice())
 }
 
 // Returns the unit that the first of some whole lines of a timer names.

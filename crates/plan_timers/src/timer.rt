@@ -1,16 +1,17 @@
 //! One timer: its files, or why it is no source.
 
-ghost use Rattle.std.specs.Prelude.{◌≡◌, ◌++◌, true, IfOk};
+ghost use Rattle.std.specs.Prelude.{◌≡◌, true, IfOk};
 ghost use Rattle.plan_timers.specs.Timers.{found_view, is_alias, is_taken, timer_file, with_file, with_job, with_skipped, with_timer, with_wish};
 ghost use Rattle.plan_timers.specs.Wishes.{units_view};
 
-use crate::files::{found_file, found_files};
+use crate::files::{FoundFiles, found_file, found_files};
 use crate::names::{job_name, name_fault};
-use crate::skipped::{Skipped, Why};
-use crate::source::{SourceFile, TimerSource, text_at};
+use crate::reports::{Skipped, Why, copy_of};
+use crate::source::TimerSource;
 use crate::timers::TimersFound;
 use crate::units::Units;
 use crate::wish::wish_of;
+use plan_parts::Part;
 use plan_texts::Text;
 use plan_tree::{Name, Tree};
 use plan_units::{Unit, drop_in_entries, unit_of};
@@ -47,7 +48,7 @@ pub fn with_timer<T: Tree>(
     match job_name(alloc, name.as_str())? {
         None => with_wish(alloc, tree, units, found, name.as_str(), Why::BadName),
         Some(job) => {
-            let file = timer_file(alloc, tree, name.as_str(), &unit)?;
+            let file = timer_file(alloc, tree, units.most, name.as_str(), &unit)?;
             with_job(alloc, tree, units, found, name, job, file)
         }
     }
@@ -67,11 +68,12 @@ fn is_alias(name: &Name, unit: &Option<Unit>) -> bool
 fn timer_file<T: Tree>(
     alloc: Global,
     tree: &T,
+    most: u64,
     name: &str,
     unit: &Option<Unit>,
-) -> Result<Result<SourceFile, Refusal>, AllocError>
+) -> Result<Result<Part, Refusal>, AllocError>
     ensures { T.is_known ≡ true → IfOk result (λ file.
-        file ≡ timer_file (T.held tree.now) name.now unit.now) }
+        file ≡ timer_file (T.held tree.now) most name.now unit.now) }
 {
     if let Some(why) = name_fault(name) {
         return Ok(Err(Refusal::Wish(why)));
@@ -82,6 +84,7 @@ fn timer_file<T: Tree>(
     match found_file(
         alloc,
         tree,
+        most,
         unit.file.path.as_str(),
         unit.file.real.as_str(),
     )? {
@@ -98,7 +101,7 @@ fn with_job<T: Tree>(
     found: TimersFound,
     name: Name,
     job: Text,
-    file: Result<SourceFile, Refusal>,
+    file: Result<Part, Refusal>,
 ) -> Result<TimersFound, AllocError>
     ensures { T.is_known ≡ true → IfOk result (λ after. found_view after
         ≡ with_job (T.held tree.now) (units_view units.now) (found_view found) name job file) }
@@ -130,22 +133,27 @@ fn with_file<T: Tree>(
     found: TimersFound,
     unit: Name,
     name: Text,
-    file: SourceFile,
+    file: Part,
 ) -> Result<TimersFound, AllocError>
     ensures { T.is_known ≡ true → IfOk result (λ after. found_view after
         ≡ with_file (T.held tree.now) (units_view units.now) (found_view found) unit name file) }
 {
     let entries = drop_in_entries(alloc, tree, units.dirs, unit.as_str())?;
-    let mut drop_ins = found_files(alloc, tree, entries.as_slice())?;
-    let mut files = Vec::new(alloc);
-    files.push(file)?;
-    files.append(&mut drop_ins.files)?;
+    let FoundFiles {
+        files: drop_ins,
+        skipped: mut more,
+    } = found_files(alloc, tree, units.most, entries.as_slice())?;
     let TimersFound {
         mut sources,
         mut skipped,
     } = found;
-    sources.push(TimerSource { unit, name, files })?;
-    skipped.append(&mut drop_ins.skipped)?;
+    sources.push(TimerSource {
+        unit,
+        name,
+        file,
+        drop_ins,
+    })?;
+    skipped.append(&mut more)?;
     Ok(TimersFound { sources, skipped })
 }
 
@@ -162,7 +170,7 @@ fn with_wish<T: Tree>(
         ≡ with_wish (T.held tree.now) (units_view units.now) (found_view found) name.now why) }
 {
     let wish = wish_of(alloc, tree, units, name)?;
-    let path = text_at(alloc, wish.as_str())?;
+    let path = copy_of(alloc, wish.as_str())?;
     with_skipped(found, Skipped { path, why })
 }
 

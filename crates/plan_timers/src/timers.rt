@@ -10,7 +10,7 @@ ghost use Rattle.plan_timers.specs.Wishes.{units_view};
 
 use crate::links::link_dirs;
 use crate::order::in_timer_order;
-use crate::skipped::Skipped;
+use crate::reports::Skipped;
 use crate::source::TimerSource;
 use crate::timer::with_timer;
 use crate::units::Units;
@@ -31,6 +31,8 @@ pub struct TimersFound {
 /// Returns the timers of a machine that are sources, and what is skipped: those that the boot reaches, and with `all` each
 /// one that has a file. Returns `None` if the boot reaches more than 10,000 units.
 ///
+/// Of each file the first `most` bytes are read, or all if there are fewer.
+///
 /// # Errors
 ///
 /// `AllocError` if an allocation fails.
@@ -39,16 +41,17 @@ pub fn machine_timers<T: Tree>(
     tree: &T,
     dirs: &[UnitDir],
     all: bool,
+    most: u64,
 ) -> Result<Option<TimersFound>, AllocError>
     ensures all { T.is_known ≡ true → IfOk result (λ found.
-        IfSome found (λ timers. AreMachineTimers (T.held tree.now) dirs.now all (found_view timers))) }
+        IfSome found (λ timers. AreMachineTimers (T.held tree.now) dirs.now all most (found_view timers))) }
     ensures too_many { T.is_known ≡ true → IfOk result (λ found.
         IfNone found (AreTooMany (wants_of (T.held tree.now) dirs.now) first_unit)) }
 {
     let first = Name::at(alloc, "default.target")?;
     match reached_units(alloc, tree, dirs, first)? {
         None => Ok(None),
-        Some(reached) => Ok(Some(timers_among(alloc, tree, dirs, reached, all)?)),
+        Some(reached) => Ok(Some(timers_among(alloc, tree, dirs, reached, all, most)?)),
     }
 }
 
@@ -59,9 +62,10 @@ fn timers_among<T: Tree>(
     dirs: &[UnitDir],
     reached: Vec<Name>,
     all: bool,
+    most: u64,
 ) -> Result<TimersFound, AllocError>
     ensures { T.is_known ≡ true → IfOk result (λ found. found_view found
-        ≡ timers_among (T.held tree.now) dirs.now all reached.items) }
+        ≡ timers_among (T.held tree.now) dirs.now all most reached.items) }
 {
     let reached = in_order(reached);
     let names = timer_names(alloc, tree, dirs, reached.as_slice(), all)?;
@@ -71,6 +75,7 @@ fn timers_among<T: Tree>(
         dirs,
         links: links.as_slice(),
         reached: reached.as_slice(),
+        most,
     };
     let found = with_timers(alloc, tree, &units, names)?;
     if all {

@@ -13,4 +13,6 @@ pub struct Units<'a> {
     pub links: &'a [LinkDir],
     /// The names that the boot reaches, in byte order.
     pub reached: &'a [Name],
+    /// How many bytes of a file are read.
+    pub most: u64,
 }

@@ -5,8 +5,7 @@ ghost use Rattle.plan_timers.specs.Unwanted.{has_own_file, is_unwanted, unit_in,
 ghost use Rattle.plan_timers.specs.Wishes.{units_view};
 
 use crate::links::LinkDir;
-use crate::skipped::{Skipped, Why};
-use crate::source::text_at;
+use crate::reports::{Skipped, Why, copy_of};
 use crate::units::Units;
 use crate::wish::is_in;
 use plan_texts::Text;
@@ -111,7 +110,7 @@ fn unwanted_at(alloc: Global, path: &str) -> Result<Skipped, AllocError>
     ensures { IfOk result (λ skipped. skipped ≡ unwanted_at path.now) }
 {
     Ok(Skipped {
-        path: text_at(alloc, path)?,
+        path: copy_of(alloc, path)?,
         why: Why::WantedBy(unit_in(alloc, path)?),
     })
 }
@@ -122,5 +121,5 @@ fn unit_in(alloc: Global, path: &str) -> Result<Text, AllocError>
 {
     let mut dir = Place::at(alloc, path)?;
     dir.leave();
-    text_at(alloc, stem(last_name(dir.as_str())))
+    copy_of(alloc, stem(last_name(dir.as_str())))
 }

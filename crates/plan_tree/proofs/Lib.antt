@@ -1,3 +1,4 @@
+pub mod KeptLemmas
 pub mod LeadsLemmas
 pub mod LinksLemmas
 pub mod OrderLemmas

@@ -6,3 +6,6 @@ pub mod Contents
 pub mod Order
 pub mod Entries
 pub mod Few
+pub mod Complete
+pub mod Kept
+pub mod FewComplete

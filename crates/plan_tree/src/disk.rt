@@ -1,4 +1,4 @@
-//! The tree below a directory of this machine. No contract says what it holds.
+//! The files of the running machine. No contract says what they are.
 
 use crate::name::Name;
 use crate::tree::{Listing, Node, Tree};
@@ -11,33 +11,24 @@ use std::os::unix::fs::{FileTypeExt, MetadataExt};
 // The number of the device /dev/null: 1, 3 (null(4)).
 const NULL_DEVICE: u64 = 0x103;
 
-/// The tree below a directory of this machine.
+/// The files of the running machine. A path is read as the machine reads it: `/etc/crontab`, `./root/etc`. So `root/` is
+/// where the link `root` leads, if it is one. See `Rooted` for the tree below a directory.
 #[derive(Drop)]
 pub struct DiskTree<'a> {
     runtime: &'a HostRuntime,
-    root: &'a str,
 }
 
 impl<'a> DiskTree<'a> {
-    /// Returns the tree below a directory. `root` is empty for that of the machine.
-    pub fn new(runtime: &'a HostRuntime, root: &'a str) -> DiskTree<'a> {
-        DiskTree { runtime, root }
+    /// Returns the files of the running machine.
+    pub fn new(runtime: &'a HostRuntime) -> DiskTree<'a> {
+        DiskTree { runtime }
     }
 
-    // Returns the path on this machine.
-    fn whole(&self, alloc: Global, path: &str) -> Result<String, AllocError> {
-        let mut whole = String::from_str(alloc, self.root)?;
-        whole.push_str("/")?;
-        whole.push_str(path)?;
-        Ok(whole)
-    }
-
-    fn look(&self, alloc: Global, path: &str) -> io::Result<Node> {
-        let whole = self.whole(alloc, path)?;
-        let found = fs::symlink_metadata(self.runtime, whole.as_str())?;
+    fn look(&self, path: &str) -> io::Result<Node> {
+        let found = fs::symlink_metadata(self.runtime, path)?;
         let kind = found.file_type();
         if kind.is_symlink() {
-            let text = fs::read_link(self.runtime, whole.as_str())?;
+            let text = fs::read_link(self.runtime, path)?;
             return Ok(Node::Link(Text::new(text.into_string())));
         }
         if kind.is_dir() {
@@ -55,10 +46,9 @@ impl<'a> DiskTree<'a> {
     }
 
     fn list(&self, alloc: Global, path: &str) -> io::Result<Listing> {
-        let whole = self.whole(alloc, path)?;
         let mut names = Vec::new(alloc);
         let mut is_whole = true;
-        for entry in fs::read_dir(self.runtime, whole.as_str())? {
+        for entry in fs::read_dir(self.runtime, path)? {
             match entry {
                 Ok(entry) => names.push(Name::at(alloc, entry.file_name())?)?,
                 Err(fault) if fault.kind() == ErrorKind::InvalidFilename => is_whole = false,
@@ -69,9 +59,8 @@ impl<'a> DiskTree<'a> {
     }
 
     fn read(&self, alloc: Global, path: &str, most: u64) -> io::Result<Vec<u8>> {
-        let whole = self.whole(alloc, path)?;
         let mut bytes = Vec::new(alloc);
-        File::open(self.runtime, whole.as_str())?
+        File::open(self.runtime, path)?
             .take(most)
             .read_to_end(&mut bytes)?;
         Ok(bytes)
@@ -95,7 +84,7 @@ impl Tree for DiskTree<'_> {
     ghost held = { λ _. unknown };
 
     fn node(&self, alloc: Global, path: &str) -> Result<Node, AllocError> {
-        match self.look(alloc, path) {
+        match self.look(path) {
             Ok(node) => Ok(node),
             Err(fault) => match fault.kind() {
                 ErrorKind::NotFound | ErrorKind::NotADirectory => Ok(Node::Missing),

@@ -1,9 +1,12 @@
 //! A tree that is a list of paths, for tests.
 
 ghost use Rattle.std.specs.Prelude.{◌≡◌, IfOk, map, take};
-ghost use Rattle.plan_tree.specs.Few.{few_at};
+ghost use Rattle.std.specs.List.{list_any};
+ghost use Rattle.std.specs.Str.{bytes_eq};
+ghost use Rattle.plan_tree.specs.Few.{few_at, is_left_out};
 
 use crate::name::Name;
+use crate::place::last_name_len;
 use crate::tree::{Listing, Node, Tree};
 use plan_texts::Text;
 use std::alloc::{AllocError, Global};
@@ -25,21 +28,48 @@ pub enum Few<'a> {
     Other,
 }
 
-/// A tree that is a list of paths, each with what it has.
+/// A tree that is a list of paths, each with what it has. If a directory has names, nothing has another name in it.
 #[derive(Drop)]
 pub struct FewNodes<'a>(pub &'a [(&'a str, Few<'a>)]);
 
 impl FewNodes<'_> {
-    fn find(&self, path: &str) -> Option<Few<'_>>
+    fn find(&self, path: &[u8]) -> Option<Few<'_>>
         ensures { result ≡ few_at self.now.0.now path.now }
     {
         for (given, few) in self.0 {
-            if *given == path {
+            if given.as_bytes() == path {
                 return Some(*few);
             }
         }
         None
     }
+
+    // Returns whether the directory of a path has names, and the last name of the path is not one of them.
+    fn is_left_out(&self, path: &[u8]) -> bool
+        ensures { result ≡ is_left_out self.now.0.now path.now }
+    {
+        let end = path.len().saturating_sub(last_name_len(path));
+        let name = &path[end..];
+        if name.is_empty() {
+            return false;
+        }
+        match self.find(&path[..end.saturating_sub(1)]) {
+            Some(Few::Directory(Some(names))) => !has_name(names, name),
+            _ => false,
+        }
+    }
+}
+
+// Returns whether a name is one of some names.
+fn has_name(names: &[&str], name: &[u8]) -> bool
+    ensures { result ≡ list_any (bytes_eq name.now) (map (λ other. other.now) names.now) }
+{
+    for other in names {
+        if name == other.as_bytes() {
+            return true;
+        }
+    }
+    false
 }
 
 impl Tree for FewNodes<'_> {
@@ -51,7 +81,10 @@ impl Tree for FewNodes<'_> {
     ghost held = { λ tree. held_in tree.0.now };
 
     fn node(&self, alloc: Global, path: &str) -> Result<Node, AllocError> {
-        match self.find(path) {
+        if self.is_left_out(path.as_bytes()) {
+            return Ok(Node::Missing);
+        }
+        match self.find(path.as_bytes()) {
             None => Ok(Node::Missing),
             Some(Few::Unreadable) => Ok(Node::Unreadable),
             Some(Few::File(None)) => Ok(Node::File { is_empty: false }),
@@ -66,7 +99,7 @@ impl Tree for FewNodes<'_> {
     }
 
     fn names(&self, alloc: Global, path: &str) -> Result<Option<Listing>, AllocError> {
-        match self.find(path) {
+        match self.find(path.as_bytes()) {
             Some(Few::Directory(Some(names))) => Ok(Some(Listing {
                 names: texts(alloc, names)?,
                 is_whole: true,
@@ -76,7 +109,7 @@ impl Tree for FewNodes<'_> {
     }
 
     fn front(&self, alloc: Global, path: &str, most: u64) -> Result<Option<Vec<u8>>, AllocError> {
-        match self.find(path) {
+        match self.find(path.as_bytes()) {
             Some(Few::File(Some(bytes))) => Ok(Some(first_bytes(alloc, bytes, most)?)),
             _ => Ok(None),
         }

@@ -1,5 +1,7 @@
 //! What is at each path of a tree.
 
+ghost use Rattle.std.specs.Prelude.{◌≡◌};
+
 use crate::name::Name;
 use plan_texts::Text;
 use std::alloc::{AllocError, Global};
@@ -24,6 +26,20 @@ pub enum Node {
     Null,
     /// A device, a pipe or a socket.
     Other,
+}
+
+impl Node {
+    ghost use Rattle.plan_tree.specs.Tree.{is_directory};
+
+    /// Returns whether it is a directory.
+    pub fn is_directory(&self) -> bool
+        ensures { result ≡ is_directory self.now }
+    {
+        match self {
+            Node::Directory => true,
+            _ => false,
+        }
+    }
 }
 
 /// The names in a directory.

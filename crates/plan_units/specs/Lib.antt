@@ -1,5 +1,6 @@
 pub mod SearchPath
 pub mod UnitNames
+pub mod Validity
 pub mod UnitFile
 pub mod Masks
 pub mod Unit

@@ -8,7 +8,7 @@ use Rattle.plan_texts.specs.WholeLines.{trimmed, whole_lines}
 use Rattle.plan_tree.specs.Contents.{contents_of}
 use Rattle.plan_tree.specs.Tree.{Held}
 use Rattle.plan_parts.specs.Specifiers.{expanded}
-use Rattle.plan_units.specs.UnitNames.{wanted_name}
+use Rattle.plan_units.specs.Validity.{wanted_unit}
 
 -- ---- a whole line, without blanks at its ends
 
@@ -39,11 +39,11 @@ abbrev pub is_wanting : List ℕ → Bool
 is_wanting key =
     bytes_eq key (codes "Wants") || (bytes_eq key (codes "Requires") || (bytes_eq key (codes "BindsTo") || bytes_eq key (codes "Upholds")))
 
--- the name that a word means in a file of a unit; what isn't UTF-8 is no name (agenda)
+-- the name that a word means in a file of a unit; what isn't UTF-8 is no name (systemd.unit(5))
 unfoldable pub name_of_word : List ℕ → List ℕ → Option (List ℕ)
-name_of_word unit word = if is_utf8 (expanded unit word) then Some (wanted_name unit (expanded unit word)) else None
+name_of_word unit word = if is_utf8 (expanded unit word) then wanted_unit unit (expanded unit word) else None
 
--- the names that words mean in a file of a unit
+-- the names that words mean in a file of a unit; those that are invalid are ignored (systemd 252)
 abbrev pub names_of_words : List ℕ → List (List ℕ) → List (List ℕ)
 names_of_words unit [] = []
 names_of_words unit (word ∷ more) = cons_option (name_of_word unit word) (names_of_words unit more)

@@ -1,10 +1,9 @@
 -- The directories of a unit: those of its drop-ins, and those of links to units (systemd.unit(5); systemd 252).
-use Rattle.std.specs.Prelude.{ℕ, zero, suc, ◌+◌, ◌-◌, not, ◌&&◌, ◌==◌, nat_lt, if◌then◌else◌, List, [], ◌∷◌, ◌++◌, length, take, drop, slice_index, Option, None, Some}
-use Rattle.std.specs.List.{suffix_len}
+use Rattle.std.specs.Prelude.{ℕ, zero, suc, ◌+◌, ◌-◌, ◌&&◌, ◌==◌, nat_lt, if◌then◌else◌, List, [], ◌∷◌, ◌++◌, length, take, drop, slice_index, Option, None, Some}
 use Rattle.std.specs.Str.{byte}
 use Rattle.plan_units.specs.declared.paths.UnitDir.{UnitDir}
 use Rattle.plan_units.specs.Entries.{places_of}
-use Rattle.plan_units.specs.UnitNames.{instance_name, template_name}
+use Rattle.plan_units.specs.UnitNames.{instance_name, template_name, type_of}
 use Rattle.plan_parts.specs.NameParts.{parts_of, type_start}
 
 -- ---- the names whose directories are a unit's
@@ -46,10 +45,6 @@ dir_names_by name (Some parts) =
 
 abbrev pub dir_names : List ℕ → List (List ℕ)
 dir_names name = dir_names_by name (parts_of name)
-
--- what follows the last `.` of a name
-abbrev pub type_of : List ℕ → List ℕ
-type_of name = drop (length name - suffix_len (λ b. not (b == byte ".")) name) name
 
 -- ---- the directories
 

@@ -9,7 +9,8 @@ use Rattle.plan_tree.specs.Place.{child, names_of, parent, start}
 use Rattle.plan_units.specs.declared.file.UnitFile.{UnitFile}
 use Rattle.plan_units.specs.declared.paths.UnitDir.{UnitDir}
 use Rattle.plan_units.specs.SearchPath.{unit_paths}
-use Rattle.plan_units.specs.UnitNames.{can_be_alias, is_template, named_for, template_of}
+use Rattle.plan_units.specs.UnitNames.{can_be_alias, named_for, template_of}
+use Rattle.plan_units.specs.Validity.{is_unit_name, is_valid_name}
 
 -- ---- where a link leads by its names alone
 
@@ -40,12 +41,12 @@ is_unit_path path = list_any (λ dir. is_below path dir) unit_paths
 abbrev pub file_at : UnitDir → List ℕ → Option (List ℕ) → UnitFile
 file_at dir name alias = record { path = child dir.path name; real = child dir.real name; alias = alias }
 
--- a link to another name in a directory of units is an alias. One to a name for which it can't be one doesn't count, nor one to
--- the same name, nor one of an instance to its template (systemd.unit(5); systemd 252; (agenda))
+-- a link to another name in a directory of units is an alias. One to an invalid name, or to one for which it can't be an alias,
+-- doesn't count, nor one to the same name, nor one of an instance to its template (systemd.unit(5); systemd 252; (agenda))
 abbrev pub file_by_lead : UnitDir → List ℕ → List ℕ → Option UnitFile
 file_by_lead dir name path =
     if not (is_unit_path path) then Some (file_at dir name None) else
-    if not (can_be_alias name (last_name path)) then None else
+    if not (is_valid_name (last_name path) && can_be_alias name (last_name path)) then None else
     if bytes_eq (named_for name (last_name path)) name then None else
     Some (file_at dir name (Some (last_name path)))
 
@@ -73,8 +74,9 @@ abbrev pub file_of_template : (List ℕ → Node) → List UnitDir → Option (L
 file_of_template node dirs None = None
 file_of_template node dirs (Some template) = file_of_name node dirs template
 
--- a template is no unit itself, so no file counts for its name
+-- for a name that is invalid or that of a template no file counts
 abbrev pub file_of_unit : (List ℕ → Node) → List UnitDir → List ℕ → Option UnitFile
 file_of_unit node dirs name =
-    if is_template name then None else
-    or_next (file_of_name node dirs name) (file_of_template node dirs (template_of name))
+    if is_unit_name name
+    then or_next (file_of_name node dirs name) (file_of_template node dirs (template_of name))
+    else None

@@ -1,5 +1,6 @@
 -- Names of units: PREFIX.TYPE, PREFIX@.TYPE of a template, PREFIX@INSTANCE.TYPE of an instance (systemd.unit(5)).
-use Rattle.std.specs.Prelude.{ℕ, Bool, true, false, ◌&&◌, ◌||◌, ◌==◌, if◌then◌else◌, List, ◌∷◌, ◌++◌, length, take, drop, Option, None, Some}
+use Rattle.std.specs.Prelude.{ℕ, ◌-◌, Bool, true, false, not, ◌&&◌, ◌||◌, ◌==◌, if◌then◌else◌, List, ◌∷◌, ◌++◌, length, take, drop, Option, None, Some}
+use Rattle.std.specs.List.{suffix_len}
 use Rattle.std.specs.Str.{byte, bytes_eq}
 use Rattle.plan_parts.specs.NameParts.{parts_of, type_start}
 
@@ -12,6 +13,10 @@ stem name = take (type_start name) name
 -- the type with its `.`
 abbrev pub ending : List ℕ → List ℕ
 ending name = drop (type_start name) name
+
+-- the type: what follows the last `.`
+abbrev pub type_of : List ℕ → List ℕ
+type_of name = drop (length name - suffix_len (λ b. not (b == byte ".")) name) name
 
 -- whether a name is that of a template, which has no INSTANCE
 abbrev pub is_template_by : Option (List ℕ × List ℕ × List ℕ) → Bool

@@ -1,5 +1,6 @@
 -- Which units a unit wants (systemd.unit(5)).
 use Rattle.std.specs.Prelude.{ℕ, Bool, true, false, not, ◌&&◌, if◌then◌else◌, List, [], ◌∷◌, ◌++◌, Option, None, Some, codes}
+use Rattle.std.specs.List.{cons_option}
 use Rattle.plan_tree.specs.declared.tree.Node.{Node}
 use Rattle.plan_tree.specs.declared.tree.Node.TheVariants.{Link}
 use Rattle.plan_tree.specs.Tree.{Held}
@@ -12,7 +13,7 @@ use Rattle.plan_units.specs.Masks.{is_mask}
 use Rattle.plan_units.specs.Settings.{set_names}
 use Rattle.plan_units.specs.Unit.{unit_of}
 use Rattle.plan_units.specs.UnitDirs.{unit_dirs}
-use Rattle.plan_units.specs.UnitNames.{wanted_name}
+use Rattle.plan_units.specs.Validity.{wanted_unit}
 
 -- ---- by links
 
@@ -24,11 +25,13 @@ is_link _ = false
 abbrev pub is_counted : (List ℕ → Node) → List ℕ → Bool
 is_counted node path = is_link (node path) && not (is_mask node path)
 
--- the names of the entries that count, as they are meant for a unit
+-- the names of the entries that count, as they are meant for a unit; those that are invalid are ignored (systemd 252)
 abbrev pub counted_names : (List ℕ → Node) → List ℕ → List Entry → List (List ℕ)
 counted_names node unit [] = []
 counted_names node unit (entry ∷ more) =
-    if is_counted node entry.real then wanted_name unit entry.name ∷ counted_names node unit more else counted_names node unit more
+    if is_counted node entry.real
+    then cons_option (wanted_unit unit entry.name) (counted_names node unit more)
+    else counted_names node unit more
 
 -- the names in the directories of a name with a suffix, as they are meant for its unit (systemd.unit(5); systemd 252)
 abbrev pub linked_names : Held → List UnitDir → List ℕ → List ℕ → List ℕ → List (List ℕ)

@@ -6,8 +6,9 @@ ghost use Rattle.std.specs.Str.{byte};
 ghost use Rattle.plan_tree.specs.Place.{child, start};
 ghost use Rattle.plan_units.specs.UnitFile.{file_by, file_by_lead, file_of_name, file_of_unit, is_below, is_unit_path, last_name, lead, lead_from};
 
-use crate::names::{can_be_alias, is_template, named_for, template_of};
+use crate::names::{can_be_alias, named_for, template_of};
 use crate::paths::{UnitDir, unit_paths};
+use crate::validity::{is_unit_name, is_valid_name};
 use plan_texts::begins_with;
 use plan_tree::{Name, Node, Place, Tree, is_here, is_up, names_of};
 use std::alloc::{AllocError, Global};
@@ -23,8 +24,8 @@ pub struct UnitFile {
     pub alias: Option<Name>,
 }
 
-/// Returns the file of a unit's name: that of the name itself, or else of its template. The name of a template is not that
-/// of a unit, so it has none.
+/// Returns the file of a unit's name: that of the name itself, or else of its template. A name that is invalid or that of a
+/// template is not that of a unit, so it has none.
 ///
 /// # Errors
 ///
@@ -38,7 +39,7 @@ pub fn file_of_unit<T: Tree>(
     ensures { T.is_known ≡ true → IfOk result (λ file.
         file ≡ file_of_unit (T.held tree.now).node dirs.now name.now) }
 {
-    if is_template(name) {
+    if !is_unit_name(name) {
         return Ok(None);
     }
     if let Some(file) = file_of_name(alloc, tree, dirs, name)? {
@@ -104,7 +105,7 @@ fn file_by_lead(
 {
     let alias = if is_unit_path(alloc, to)? {
         let last = last_name(to);
-        if !can_be_alias(name, last) {
+        if !is_valid_name(last) || !can_be_alias(name, last) {
             return Ok(None);
         }
         if named_for(alloc, name, last)?.as_str() == name {

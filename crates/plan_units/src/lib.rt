@@ -1,6 +1,6 @@
 //! The units of systemd in a tree of files: which file counts for a name, and which units the boot reaches.
 //!
-//! Read `paths` first, then `file` and `unit`, which say what a name means, then `wants` and `reach`.
+//! Read `paths` first, then `validity` for which names are valid, `file` and `unit`, which say what a name means, and then `wants` and `reach`.
 #![tactic(auto)]
 
 mod drop_in_files;
@@ -14,6 +14,7 @@ mod settings;
 mod timers;
 mod unit;
 mod unit_dirs;
+mod validity;
 mod wants;
 
 pub use drop_in_files::{drop_in_entries, drop_ins, drop_ins_among};
@@ -21,9 +22,10 @@ pub use file::{UnitFile, file_of_unit, last_name};
 pub use mask::is_mask;
 pub use merging::{Entry, entries_among, names_at};
 pub use names::{stem, template_of, wanted_name};
-pub use paths::{UnitDir, dir_at, search_path};
+pub use paths::{UnitDir, dir_at, read_dir, search_path};
 pub use reach::{Wants, add_new, reached};
 pub use settings::{section_name, setting_of};
 pub use timers::{boot_timers, is_timer};
 pub use unit::{Unit, unit_of};
+pub use validity::{is_unit_name, is_valid_name};
 pub use wants::{TreeUnits, is_counted, reached_units, set_by_unit, wanted_names};

@@ -6,8 +6,8 @@ ghost use Rattle.std.specs.Str.{bytes_eq};
 ghost use Rattle.plan_tree.specs.Order.{is_before};
 ghost use Rattle.plan_units.specs.Entries.{entries_among, names_at, places_in, places_of, with_entry, with_names};
 
-use crate::paths::UnitDir;
-use plan_tree::{Name, Node, Place, Tree, entries};
+use crate::paths::{UnitDir, read_dir};
+use plan_tree::{Name, Place, Tree, entries};
 use std::alloc::{AllocError, Global};
 
 /// An entry of a directory.
@@ -22,7 +22,7 @@ pub struct Entry {
 }
 
 /// Returns the entries of some directories in the order of their names. Of entries that have the same name, only the
-/// first is one of them. A directory that is a link isn't read.
+/// first is one of them. A directory that is a link is read where it leads.
 ///
 /// # Errors
 ///
@@ -37,13 +37,15 @@ pub fn entries_among<T: Tree>(
 {
     let mut found = Vec::new(alloc);
     for dir in dirs {
-        let names = names_at(alloc, tree, dir.real.as_str())?;
-        add_names(alloc, &mut found, dir, names)?;
+        if let Some(dir) = read_dir(alloc, tree, dir)? {
+            let names = names_at(alloc, tree, dir.real.as_str())?;
+            add_names(alloc, &mut found, &dir, names)?;
+        }
     }
     Ok(found)
 }
 
-/// Returns the names in a directory, in order. One that is a link isn't read.
+/// Returns the names in a directory, in order; none if it can't be listed. There is no link in its path.
 ///
 /// # Errors
 ///
@@ -51,12 +53,9 @@ pub fn entries_among<T: Tree>(
 pub fn names_at<T: Tree>(alloc: Global, tree: &T, dir: &str) -> Result<Vec<Name>, AllocError>
     ensures { T.is_known ≡ true → IfOk result (λ names. names.items ≡ names_at (T.held tree.now) dir.now) }
 {
-    match tree.node(alloc, dir)? {
-        Node::Directory => match entries(alloc, tree, dir)? {
-            Some(listing) => Ok(listing.names),
-            None => Ok(Vec::new(alloc)),
-        },
-        _ => Ok(Vec::new(alloc)),
+    match entries(alloc, tree, dir)? {
+        Some(listing) => Ok(listing.names),
+        None => Ok(Vec::new(alloc)),
     }
 }
 

@@ -1,9 +1,9 @@
 //! Names of units, templates and instances (systemd.unit(5)).
 
 ghost use Rattle.std.specs.Prelude.{◌≡◌, IfOk};
-ghost use Rattle.plan_units.specs.UnitNames.{can_be_alias, ending, filled, instance_name, is_template, named_for, stem, template_name, template_of, wanted_name};
+ghost use Rattle.plan_units.specs.UnitNames.{can_be_alias, ending, filled, instance_name, is_template, named_for, stem, template_name, template_of, type_of, wanted_name};
 
-use plan_parts::{parts_of, type_start};
+use plan_parts::{parts_of, type_len, type_start};
 use plan_tree::Name;
 use std::alloc::{AllocError, Global};
 
@@ -12,6 +12,13 @@ pub fn stem(name: &str) -> &str
     ensures { result.now ≡ stem name.now }
 {
     &name[..type_start(name.as_bytes())]
+}
+
+// Returns the type of a name: what follows its last `.`.
+pub(crate) fn type_of(name: &str) -> &str
+    ensures { result.now ≡ type_of name.now }
+{
+    &name[name.len().saturating_sub(type_len(name.as_bytes()))..]
 }
 
 // Returns whether a name is that of a template, such as `a@.timer`.

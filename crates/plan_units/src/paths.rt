@@ -4,6 +4,7 @@ ghost use Rattle.std.specs.Prelude.{◌≡◌, true, IfOk, OnOk, Some, map};
 ghost use Rattle.std.specs.List.{list_any};
 ghost use Rattle.std.specs.Str.{bytes_eq};
 ghost use Rattle.plan_tree.specs.Links.{end_of};
+ghost use Rattle.plan_units.specs.Entries.{read_dir};
 ghost use Rattle.plan_units.specs.SearchPath.{dir_by, search_path, unit_paths, with_dir};
 
 use plan_tree::{End, Node, Place, Tree, follow};
@@ -14,7 +15,7 @@ use std::alloc::{AllocError, Global};
 pub struct UnitDir {
     /// Its path.
     pub path: Place,
-    /// The path that it is read by: for a directory of the search path, where its path leads.
+    /// The path that it is read by: where its path leads. A directory that was only named may be a link there.
     pub real: Place,
 }
 
@@ -85,7 +86,20 @@ pub fn dir_at<T: Tree>(alloc: Global, tree: &T, path: &str) -> Result<Option<Uni
     ensures { T.is_known ≡ true → IfOk result (λ dir.
         dir ≡ dir_by (T.held tree.now).node path.now (end_of (T.held tree.now).node path.now)) }
 {
-    match follow(alloc, tree, path)? {
+    dir_from(alloc, tree, path, path)
+}
+
+// Returns the directory with a path where another path leads, if it leads to one.
+fn dir_from<T: Tree>(
+    alloc: Global,
+    tree: &T,
+    path: &str,
+    from: &str,
+) -> Result<Option<UnitDir>, AllocError>
+    ensures { T.is_known ≡ true → IfOk result (λ dir.
+        dir ≡ dir_by (T.held tree.now).node path.now (end_of (T.held tree.now).node from.now)) }
+{
+    match follow(alloc, tree, from)? {
         End::Found(real) => match tree.node(alloc, real.as_str())? {
             Node::Directory => Ok(Some(UnitDir {
                 path: Place::at(alloc, path)?,
@@ -94,6 +108,31 @@ pub fn dir_at<T: Tree>(alloc: Global, tree: &T, path: &str) -> Result<Option<Uni
             _ => Ok(None),
         },
         End::Nothing | End::Unknown => Ok(None),
+    }
+}
+
+/// Returns the directory that is read in place of one, if there is one: that where it leads if it is a link, with its path,
+/// or else itself.
+///
+/// # Errors
+///
+/// `AllocError` if an allocation fails.
+pub fn read_dir<T: Tree>(
+    alloc: Global,
+    tree: &T,
+    dir: &UnitDir,
+) -> Result<Option<UnitDir>, AllocError>
+    ensures { T.is_known ≡ true → IfOk result (λ found. found ≡ read_dir (T.held tree.now).node dir.now) }
+{
+    let path = dir.path.as_str();
+    let real = dir.real.as_str();
+    match tree.node(alloc, real)? {
+        Node::Directory => Ok(Some(UnitDir {
+            path: Place::at(alloc, path)?,
+            real: Place::at(alloc, real)?,
+        })),
+        Node::Link(_) => dir_from(alloc, tree, path, real),
+        _ => Ok(None),
     }
 }
 

@@ -1,13 +1,13 @@
 //! The units that the text of a unit's file wants (systemd.unit(5), systemd.syntax(7)).
 
-ghost use Rattle.std.specs.Prelude.{◌≡◌, false, true, IfOk, None, Some, if◌then◌else◌, map};
+ghost use Rattle.std.specs.Prelude.{◌≡◌, false, true, IfOk, None, if◌then◌else◌, map};
 ghost use Rattle.std.specs.Option.{option_map};
 ghost use Rattle.std.specs.Str.{is_utf8};
 ghost use Rattle.plan_texts.specs.WholeLines.{whole_text};
 ghost use Rattle.plan_units.specs.Settings.{inside_after, is_wanting, name_of_word, names_of_found, names_of_lines, names_of_setting, names_of_text, names_of_words, section_name, set_names, setting_of};
-ghost use Rattle.plan_units.specs.UnitNames.{wanted_name};
+ghost use Rattle.plan_units.specs.Validity.{wanted_unit};
 
-use crate::names::wanted_name;
+use crate::validity::wanted_unit;
 use plan_parts::expanded;
 use plan_texts::lines::{MOST_BYTES, is_too_large};
 use plan_texts::whole_lines::{WholeLine, trimmed, whole_lines};
@@ -140,7 +140,7 @@ fn names_of_words(alloc: Global, unit: &str, words: &[&[u8]]) -> Result<Vec<Name
     Ok(names)
 }
 
-// Returns the name that a word means in the file of a unit, if it is UTF-8.
+// Returns the name that a word means in the file of a unit, if it is valid.
 #[tactic(auto, unfolding(crate::specs::Settings::name_of_word))]
 fn name_of_word(alloc: Global, unit: &str, word: &[u8]) -> Result<Option<Name>, AllocError>
     ensures { IfOk result (λ name. name ≡ name_of_word unit.now word.now) }
@@ -149,14 +149,14 @@ fn name_of_word(alloc: Global, unit: &str, word: &[u8]) -> Result<Option<Name>, 
     name_of_text(alloc, unit, text.as_slice())
 }
 
-// Returns the name that a text means in the file of a unit, if it is UTF-8.
+// Returns the name that a text means in the file of a unit, if it is valid.
 #[tactic(auto, using(crate::proofs::TextLemmas::name_of_utf8, crate::proofs::TextLemmas::name_of_other))]
 fn name_of_text(alloc: Global, unit: &str, text: &[u8]) -> Result<Option<Name>, AllocError>
     ensures { IfOk result (λ name. name
-        ≡ (if is_utf8 text.now then Some (wanted_name unit.now text.now) else None)) }
+        ≡ (if is_utf8 text.now then wanted_unit unit.now text.now else None)) }
 {
     match str::from_utf8(text) {
-        Ok(text) => Ok(Some(wanted_name(alloc, unit, text)?)),
+        Ok(text) => wanted_unit(alloc, unit, text),
         Err(_) => Ok(None),
     }
 }

@@ -1,12 +1,12 @@
 //! The directories of a unit: those of its drop-ins, and those of links to units (systemd.unit(5)).
 
 ghost use Rattle.std.specs.Prelude.{◌≡◌, ◌∷◌, ◌++◌, IfOk, OnOk, map};
-ghost use Rattle.plan_units.specs.UnitDirs.{cuts_of, dir_names, names_at, names_of_instance, type_of, unit_dirs, with_end};
+ghost use Rattle.plan_units.specs.UnitDirs.{cuts_of, dir_names, names_at, names_of_instance, unit_dirs, with_end};
 
 use crate::merging::places_of;
-use crate::names::{instance_name, template_name};
+use crate::names::{instance_name, template_name, type_of};
 use crate::paths::UnitDir;
-use plan_parts::{parts_of, type_len, type_start};
+use plan_parts::{parts_of, type_start};
 use plan_tree::Name;
 use std::alloc::{AllocError, Global};
 
@@ -26,13 +26,6 @@ pub(crate) fn unit_dirs(
     let mut more = places_of(alloc, dirs, types.as_slice(), suffix)?;
     places.append(&mut more)?;
     Ok(places)
-}
-
-// Returns what follows the last `.` of a name.
-fn type_of(name: &str) -> &str
-    ensures { result.now ≡ type_of name.now }
-{
-    &name[name.len().saturating_sub(type_len(name.as_bytes()))..]
 }
 
 // Returns the names whose directories are a unit's, first to last.

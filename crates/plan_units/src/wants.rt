@@ -7,12 +7,12 @@ ghost use Rattle.plan_units.specs.Wants.{counted_names, is_counted, linked_names
 use crate::drop_in_files::drop_ins;
 use crate::mask::is_mask;
 use crate::merging::{Entry, entries_among};
-use crate::names::wanted_name;
 use crate::paths::UnitDir;
 use crate::reach::{Wants, reached};
 use crate::settings::set_names;
 use crate::unit::{Unit, unit_of};
 use crate::unit_dirs::unit_dirs;
+use crate::validity::wanted_unit;
 use plan_tree::{Name, Node, Tree};
 use std::alloc::{AllocError, Global};
 
@@ -161,7 +161,8 @@ fn linked_names<T: Tree>(
     counted_names(alloc, tree, unit, found)
 }
 
-// Returns the names of the entries that count, as they are meant for a unit. They are the links that lead to no mask.
+// Returns the names of the entries that count, as they are meant for a unit, but for invalid ones. The entries that count
+// are the links that lead to no mask.
 fn counted_names<T: Tree>(
     alloc: Global,
     tree: &T,
@@ -174,7 +175,9 @@ fn counted_names<T: Tree>(
     let mut names = Vec::new(alloc);
     for entry in found {
         if is_counted(alloc, tree, entry.real.as_str())? {
-            names.push(wanted_name(alloc, unit, entry.name.as_str())?)?;
+            if let Some(name) = wanted_unit(alloc, unit, entry.name.as_str())? {
+                names.push(name)?;
+            }
         }
     }
     Ok(names)

@@ -2,7 +2,8 @@
 use crate::tests::files::FewFiles;
 use crate::tests::rows::{ANSWERS, ERRORS, FILES, KEPT, OPENED, Row};
 use crate::tests::writers::Limited;
-use agenda_answers::answer_arguments;
+use agenda_answers::{Host, answer_arguments};
+use plan_tree::FewNodes;
 use std::alloc::{AllocError, Global};
 use std::process::Abort;
 use std::sync::Wait;
@@ -28,7 +29,11 @@ pub fn run(
 ) -> u8 {
     let alloc = rt.alloc();
     let line = command_line(alloc, words).ok().expect(rt, "memory");
-    answer_arguments(rt, alloc, line.as_slice(), files, out, err)
+    let host = Host {
+        tree: &FewNodes(&[]),
+        time: 0,
+    };
+    answer_arguments(rt, alloc, line.as_slice(), files, &host, out, err)
 }
 
 // Asserts that arguments leave what the row says over these files, if standard output takes some bytes per call.

@@ -14,6 +14,7 @@ Examples:
   agenda upcoming --after 2024-01-01T00:00:00Z --crontab jobs backup.timer
   agenda quiet --since 2024-01-01T00:00:00Z --upto 2024-01-02T00:00:00Z --crontab jobs
   agenda check --crontab jobs backup.timer
+  agenda machine check
   agenda steps script
   agenda explain OutOfRange";
 
@@ -156,6 +157,106 @@ if there is an error, otherwise 0. 'agenda explain CODE' says what to do about e
 
 Example:
   agenda check --crontab jobs backup.timer";
+
+pub(super) const MACHINE: &str = "Answers questions about a machine's crontabs and timers";
+
+pub(super) const MACHINE_USAGE: &str = "agenda machine [COMMAND] [OPTIONS]";
+
+pub(super) const AFTER_MACHINE: &str = "\
+The machine is the one that agenda runs on, or, with --root, one whose disk is mounted at
+DIR. Its crontabs, its timers with their drop-ins, and its time zone are found by the rules
+of cron and systemd. Nothing on it is changed. agenda(1) says which files are read.
+Without a command, the options are those of upcoming.
+
+Examples:
+  agenda machine
+  agenda machine plan --since 2026-12-01T22:00:00Z --until 2026-12-02T05:00:00Z
+  agenda machine check --root /mnt";
+
+pub(super) const ROOT: &str = "Read the machine whose root directory is DIR";
+
+pub(super) const ALL: &str = "Include timers that aren't enabled";
+
+pub(super) const MACHINE_ZONE: &str = "\
+The time zone of the rules, such as Europe/Berlin,
+or the path of a TZif file; that of the machine
+if it isn't given";
+
+pub(super) const UTC: &str = "\
+Read the rules in UTC, like --zone UTC, and print
+times in UTC";
+
+pub(super) const MACHINE_AFTER: &str = "\
+Only starts later than this time, in UTC, such as
+2026-12-01T22:00:00Z; now if it isn't given";
+
+pub(super) const MACHINE_SINCE: &str = "\
+The start of the span, in UTC, such as
+2026-12-01T22:00:00Z; now if it isn't given";
+
+pub(super) const MACHINE_UNTIL: &str = "\
+The end of the span, written in the same way, which
+isn't in it; 24 hours after the start if it isn't given";
+
+pub(super) const NOMINAL: &str = "Don't count the delays of timers";
+
+pub(super) const MACHINE_UPCOMING: &str = "Prints when each job of a machine starts next";
+
+pub(super) const AFTER_MACHINE_UPCOMING: &str = "\
+Prints what 'agenda upcoming' prints, about the files that 'agenda machine sources' lists.
+Times are those of the machine's clocks, with their offset from UTC. Standard error has a
+line for each file that is skipped or isn't planned, and the errors of the files. The exit
+status is 1 if there is such an error or if a file can't be read, otherwise 0.
+
+Example:
+  agenda machine upcoming --root /mnt --delays";
+
+pub(super) const MACHINE_PLAN: &str = "Prints every start of a machine's jobs in a span of time";
+
+pub(super) const AFTER_MACHINE_PLAN: &str = "\
+Prints what 'agenda plan' prints, about the files that 'agenda machine sources' lists.
+Times are those of the machine's clocks, with their offset from UTC. Standard error has a
+line for each file that is skipped or isn't planned, and the errors of the files. The exit
+status is 1 if there is such an error or if a file can't be read, otherwise 0.
+
+Example:
+  agenda machine plan --since 2026-12-01T22:00:00Z --until 2026-12-02T05:00:00Z";
+
+pub(super) const MACHINE_QUIET: &str = "Prints the gaps in which no job of a machine starts";
+
+pub(super) const AFTER_MACHINE_QUIET: &str = "\
+Prints what 'agenda quiet --delays' prints, about the files that 'agenda machine sources'
+lists. Times are those of the machine's clocks, with their offset from UTC. Standard error
+has a line for each file that is skipped or isn't planned, and the errors of the files.
+The exit status is 1 if there is such an error or if a file can't be read, otherwise 0.
+
+Example:
+  agenda machine quiet --least 3600";
+
+pub(super) const MACHINE_SOURCES: &str = "Lists a machine's crontabs and timers";
+
+pub(super) const AFTER_MACHINE_SOURCES: &str = "\
+Prints a line for each crontab and each timer: its kind, its name and its path, separated
+by tabs. The kinds are system-crontab, cron-d, spool and timer. After a timer there is a
+line of the kind drop-in for each of its drop-ins. Standard error has a line for each file
+that is skipped or isn't planned. The exit status is 1 if a file or a directory can't be
+read, otherwise 0.
+
+Example:
+  agenda machine sources --root /mnt --all";
+
+pub(super) const MACHINE_CHECK: &str =
+    "Prints errors and likely mistakes in a machine's crontabs and timers";
+
+pub(super) const AFTER_MACHINE_CHECK: &str = "\
+Prints all errors and warnings about the files that 'agenda machine sources' lists, in the
+form of 'agenda check'. Each names the file and the line that it is about, even if that is
+a line of a drop-in. Standard error has a line for each file that is skipped or isn't
+planned. The exit status is 1 if there is an error, or if a file or a directory can't be
+read, otherwise 0.
+
+Example:
+  agenda machine check --root /mnt --zone Europe/Berlin";
 
 pub(super) const STEPS: &str = "Runs a script of steps on a mailbox, for testing";
 

@@ -38,4 +38,4 @@ returns-clause-made g c =
     (goes _ (settled_answer c.in_ok-format.format c.args.goal.now
     (jobs_or c.in_ok-errors.kept c.in_ok-tried.zones c.in_ok-tried.tried.sources) c.prepare_answer-made.result
     (Ok c.in_ok-answer.answer) c.prepare_answer-made.ensures.answer c.prepare_answer-made.ensures.bad_least c.in_ok-answer.ensures)
-    refl)))
+    (rw (c.skipped_status-status.ensures, c.as_slice.ensures, c.as_slice-2.ensures.value) refl))))

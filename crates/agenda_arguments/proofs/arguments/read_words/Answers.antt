@@ -1,39 +1,18 @@
--- Answers the one clause of `read_words`; `asked_by` is unfolded to clap's errors.
--- If clap accepts, the list of errors is empty. The hard case is that clap rejects. Then its kind of error is
--- out of memory or one of that list, and all kinds of the list are answered in the same way (`agenda_alike`).
-use Rattle.std.proofs.Common.{◌≡◌, ◌∙◌, ◌⊎◌, inl, inr, [], ap, map, sym, subst, string_bytes}
-use Rattle.clap.specs.Faults.{fault_of}
-use Rattle.clap.specs.Kinds.{IsAmong}
-use Rattle.clap.specs.Words.{App, app_of, is_simple, is_simple_and_free, kind_of, subcommand_of, subcommand_rows_of}
-use Rattle.clap.specs.declared.error.kind.ErrorKind.TheVariants as kind
-use Rattle.agenda_arguments.specs.Command.{agenda}
-use Rattle.agenda_arguments.specs.Arguments.{asked_by, asked_by_subcommand, asked_unless}
-use Rattle.agenda_arguments.proofs.FaultLemmas.{agenda_alike, agenda_is_free, agenda_is_simple, answered, listed}
+-- The definition chooses the command line by the same test.
+use Rattle.std.proofs.Common.{◌≡◌, ◌-◌, ◌∙◌, arith, drop, length, length-drop, map, string_bytes, sym, take, take_all, true}
+use Rattle.std.proofs.lemmas.List.{drop-map}
+use Rattle.agenda_arguments.specs.Arguments.{are_of_machine, asked_by}
 use Rattle.agenda_arguments.proofs.arguments.read_words.Goals as goal
 
-pub returns-in-Ok : goal.returns-in-Ok
+pub returns-then-are_of_machine : goal.returns-then-are_of_machine
 unfolding asked_by
-returns-in-Ok c =
-    let words = map string_bytes c.args.words.now in
-    let app_is : app_of c.in_ok-command.command ≡ agenda = c.in_ok-command.ensures in
-    let accepted : fault_of agenda words ≡ [] = ap (λ (a : App). fault_of a words) (sym app_is) ∙
-    c.in-Ok.ensures.kinds (ap is_simple_and_free app_is ∙ agenda_is_free) in
-    let met : subcommand_rows_of c.in-Ok.matches ≡ subcommand_of agenda words =
-    (c.in-Ok.ensures.matches (ap is_simple app_is ∙ agenda_is_simple)).1 ∙ ap (λ (a : App). subcommand_of a words) app_is in
-    rw (accepted, ← met) c.asked_by_subcommand.ensures
+returns-then-are_of_machine c =
+    let given = c.args.words.now in
+    let test : are_of_machine (map string_bytes given) ≡ true = sym c.are_of_machine.ensures ∙ c.if-are_of_machine.true in
+    let rest : take (length given - 1) (drop 1 given) ≡ drop 1 given =
+    take_all (length given - 1) (drop 1 given) (omega (arith, length-drop 1 given)) in
+    rw (test, drop-map string_bytes 1 given, ← rest) c.asked_about_machine.ensures
 
-pub returns-in_ok-usage_fault-in-Err : goal.returns-in_ok-usage_fault-in-Err
+pub returns-else-are_of_machine : goal.returns-else-are_of_machine
 unfolding asked_by
-returns-in_ok-usage_fault-in-Err c =
-    let words = map string_bytes c.args.words.now in
-    let app_is : app_of c.in_ok-command.command ≡ agenda = c.in_ok-command.ensures in
-    let error = c.in-Err.error in
-    let read = asked_by_subcommand (subcommand_of agenda words) in
-    let kinds = subst (λ (a : App). (kind_of error ≡ kind.OutOfMemory) ⊎ IsAmong (kind_of error) (fault_of a words)) app_is
-    (c.in-Err.ensures.kinds (ap is_simple_and_free app_is ∙ agenda_is_free)) in
-    answered (kind_of error) c.in_ok-usage_fault-in-Err.field-0 (asked_unless (fault_of agenda words) read)
-    c.in_ok-usage_fault-in-Err.ensures
-    (elim kinds [
-      | inl memory ↦ inl memory
-      | inr among ↦ inr (listed (fault_of agenda words) (agenda_alike words) (kind_of error) among read)
-    ])
+returns-else-are_of_machine c = rw (← c.are_of_machine.ensures, c.if-are_of_machine.false) c.asked_by_agenda.ensures

@@ -1,5 +1,5 @@
 -- Each call sets one field of the argument.
-use Rattle.std.proofs.Common.{◌≡◌, ◌∙◌, ap}
+use Rattle.std.proofs.Common.{◌∙◌, ap}
 use Rattle.clap.specs.Words.{Rule, rule_of}
 use Rattle.agenda_arguments.proofs.command.argument.Goals as goal
 

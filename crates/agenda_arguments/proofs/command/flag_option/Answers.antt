@@ -1,5 +1,5 @@
 -- Each call sets one field of the argument.
-use Rattle.std.proofs.Common.{◌≡◌, ◌∙◌, ap, Some}
+use Rattle.std.proofs.Common.{◌∙◌, ap, Some}
 use Rattle.clap.specs.Words.{Rule, rule_of}
 use Rattle.clap.specs.declared.builder.action.ArgAction.TheVariants.{SetTrue}
 use Rattle.agenda_arguments.proofs.command.flag_option.Goals as goal

@@ -1,5 +1,5 @@
 -- The texts of the help change neither the arguments nor whether they are global.
-use Rattle.std.proofs.Common.{◌≡◌, ◌∙◌, ap}
+use Rattle.std.proofs.Common.{◌∙◌, ap}
 use Rattle.clap.specs.Simple.{app_of_fields}
 use Rattle.agenda_arguments.proofs.command.new_subcommand.Goals as goal
 

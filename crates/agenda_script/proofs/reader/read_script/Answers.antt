@@ -1,7 +1,7 @@
 use Rattle.std.proofs.Common.{◌≡◌, ◌∙◌, ap, subst, sym, List, ℕ, Bor, false, true≢false}
 use Rattle.plan_texts.specs.Lines.{is_too_large, lines}
 use Rattle.plan_texts.specs.Steps.{GivesUnless}
-use Rattle.agenda_script.specs.Script.{Meaning, ScriptReading, lines_reading, meaning_of, memory_refused}
+use Rattle.agenda_script.specs.Script.{Meaning, ScriptReading, lines_reading, meaning_of, memory_fault}
 use Rattle.agenda_script.proofs.ScriptLemmas.{is_text, no_text_read, text_read, texts}
 use Rattle.agenda_script.proofs.reader.read_script.Goals as goal
 
@@ -13,7 +13,7 @@ returns-in_default-clause-meaning c =
 pub returns-clause-meaning : goal.returns-clause-meaning
 returns-clause-meaning c =
     let few : is_too_large c.args.script.now ≡ false = sym c.is_too_large.ensures ∙ c.if-is_too_large.false in
-    subst (λ (reading : ScriptReading Meaning). GivesUnless memory_refused meaning_of c.read_lines.result reading)
+    subst (λ (reading : ScriptReading Meaning). GivesUnless memory_fault meaning_of c.read_lines.result reading)
     (ap (λ (found : List (Bor (List ℕ))). lines_reading (texts found)) c.as_slice.ensures.value
     ∙ ap lines_reading (c.in_ok-lines.ensures.value ∙ ap lines c.in-Ok.ensures.cases.0)
     ∙ sym (text_read c.args.script.now few c.in-Ok.ensures.cases.1))

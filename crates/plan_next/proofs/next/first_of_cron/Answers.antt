@@ -1,5 +1,4 @@
 use Rattle.std.proofs.Common.{◌≡◌, ◌*◌, ◌<◌, [], Some, sym, ap, ◌∙◌, subst, arith}
-use Rattle.std.proofs.lemmas.Bool.Decides.{nat_tests}
 use Rattle.std.specs.Int.{div_ceil}
 use Rattle.plan_match.specs.declared.rule.Rule.TheVariants as rule
 use Rattle.plan_next.specs.declared.search.Pattern.TheVariants.{Cron}
@@ -9,9 +8,6 @@ use Rattle.plan_next.proofs.FirstLemmas.{IsFirstIn-same}
 use Rattle.plan_next.proofs.MinuteLemmas.{IsLeastIn-first_minute}
 use Rattle.plan_next.proofs.StartsLemmas.{is_start-cron}
 use Rattle.plan_next.proofs.next.first_of_cron.Goals as goal
-
-pub returns : goal.returns
-returns c = grind (arith, nat_tests)
 
 pub returns-then-starts_at_minute : goal.returns-then-starts_at_minute
 returns-then-starts_at_minute c =

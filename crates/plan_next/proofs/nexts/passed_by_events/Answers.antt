@@ -1,12 +1,7 @@
 -- Each event is checked, and none of those that were skipped has a clock.
 use Rattle.std.proofs.Common.{arith}
-use Rattle.std.proofs.lemmas.Bool.Decides.{nat_tests}
 use Rattle.plan_next.proofs.ClockLemmas.{all_none}
 use Rattle.plan_next.proofs.nexts.passed_by_events.Goals as goal
-use Rattle.plan_next.proofs.nexts.passed_by_events.Goals.{in-Some+else-not-is_utc, in_default}
-
-pub loop-i-preserved : goal.loop-i-preserved
-loop-i-preserved c = grind (arith, nat_tests)
 
 pub returns : goal.returns
 returns c = λ same.

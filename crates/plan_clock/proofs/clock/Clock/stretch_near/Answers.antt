@@ -1,9 +1,8 @@
 use Rattle.std.proofs.Common.{◌≡◌, ℕ, ◌<◌, ◌≤◌, length, get_or, min, List, sym, ap, subst, ◌∙◌, arith, inl, inr}
 use Rattle.plan_clock.specs.declared.row.Change.{Change}
-use Rattle.plan_clock.specs.declared.row.Row.{Row}
 use Rattle.plan_clock.specs.Rows.{no_change, row_after, row_at, HavePassed}
 use Rattle.std.proofs.lemmas.Bool.Decides.{leb_tells}
-use Rattle.plan_clock.proofs.RowLemmas.{row_at-passed, HavePassed-later, begins_at, bounded_at, begun_after}
+use Rattle.plan_clock.proofs.RowLemmas.{row_at-passed, HavePassed-later, begins_at, bounded_at}
 use Rattle.plan_clock.proofs.clock.Clock.stretch_near.Goals as goal
 use Rattle.plan_clock.proofs.clock.Clock.stretch_near.Goals.{After-end_after}
 
@@ -16,11 +15,6 @@ row c = c.row_after.ensures ∙ ap (λ (changes : List Change). row_after change
 
 pub returns-clause-row : goal.returns-clause-row
 returns-clause-row c = row c ∙ sym (row_at-passed c.args.self.now c.args.second c.passed_near-passed.result (passed c))
-
-pub returns-clause-begun : goal.returns-clause-begun
-returns-clause-begun c =
-    let begun = begun_after c.args.self.now c.args.second c.passed_near-passed.result (passed c) in
-    subst (λ (row : Row). row.second ≤ c.args.second) (sym (row c)) begun
 
 pub returns-clause-same : goal.returns-clause-same
 returns-clause-same c = λ n from to.
@@ -53,6 +47,3 @@ returns-clause-whole c = λ before.
           let begins = begins_at c.args.self.now passed c.changes-changes.ensures.good some.1 in
           subst (λ (second : ℕ). (row_at c.args.self.now second).second ≡ second) at begins
     ]
-
-pub returns-clause-guess : goal.returns-clause-guess
-returns-clause-guess c = passed c

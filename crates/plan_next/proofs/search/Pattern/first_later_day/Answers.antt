@@ -1,10 +1,6 @@
-use Rattle.std.proofs.Common.{◌+◌, arith}
-use Rattle.std.proofs.lemmas.Bool.Decides.{nat_tests}
+use Rattle.std.proofs.Common.{◌+◌}
 use Rattle.plan_next.proofs.SearchLemmas.{month_reached, no_month_left}
 use Rattle.plan_next.proofs.search.Pattern.first_later_day.Goals as goal
-
-pub loop-found-init : goal.loop-found-init
-loop-found-init c = grind (arith, nat_tests)
 
 pub loop-found-preserved : goal.loop-found-preserved
 loop-found-preserved c =

@@ -25,10 +25,10 @@ finish-requires-clause-whole g c =
     let last = c.take_rest.new.self in
     let so_far = c.take_until.ensures.gathers task c.requires.gathers in
     let settled = gathers_same task first second so_far c.settle_all-settled.ensures.collector c.settle_all-settled.ensures.taken
-    c.settle_all-settled.ensures.rings c.settle_all-settled.ensures.refused in
+    c.settle_all-settled.ensures.rings c.settle_all-settled.ensures.first_fault in
     let sent = all_notes (task_of first.collector) in
     ok_map c.settle_all-settled.result ((k : ℕ) → k < vec_len c.args.threads → IsAccounted (inlet_of second.inlet) k (sent k))
-    (IsWhole last.collector last.refused)
+    (IsWhole last.collector last.first_fault)
     (λ accounted. gathers_all task last c.accepts_every_merging.ensures (c.take_rest.ensures.gathers task settled)
     (λ k few. taken_all (inlet_of last.inlet) k (sent k) c.take_rest.ensures.none
     (c.take_rest.ensures.accounts k (sent k) (accounted k (omega (arith, c.if-started-planners.false, c.len-started.ensures))))
@@ -40,5 +40,5 @@ returns g c =
     let task = task_of c.args.self.collector in
     let so_far = c.take_until.ensures.gathers task c.requires.gathers in
     let settled = gathers_same task c.take_until.new.self c.settle_all-settled.new.self so_far c.settle_all-settled.ensures.collector
-    c.settle_all-settled.ensures.taken c.settle_all-settled.ensures.rings c.settle_all-settled.ensures.refused in
+    c.settle_all-settled.ensures.taken c.settle_all-settled.ensures.rings c.settle_all-settled.ensures.first_fault in
     subst (λ task. Gives c.finish.result (answer_of task)) (c.take_rest.ensures.gathers task settled).same c.finish.ensures

@@ -24,15 +24,15 @@ settle-requires g c =
     ∙ planner_ring (task_of before.collector) (inlet_of before.inlet).rings done c.in-Some.planner.promise c.join-receipt.result are.0
     c.join-receipt.ensures
 
-pub loop-planner-preserved-then-refused : goal.loop-planner-preserved-then-refused
-loop-planner-preserved-then-refused g c =
+pub loop-planner-preserved-then-is_out_of_memory : goal.loop-planner-preserved-then-is_out_of_memory
+loop-planner-preserved-then-is_out_of_memory g c =
     let before = c.args.self.now in
     let so_far = c.loop-planner.invariant in
     let one_less : into_iter_len c.loop-planner.planner-iterator ≡ into_iter_len c.next.new.self + 1 =
     omega (arith, c.loop-planner.planner-iterator.rest.ok, c.next.new.self.rest.ok, ap length c.in-Some.ensures.steps.0) in
     let some = so_far.6 in (
       c.settle.ensures.collector ∙ so_far.0,
-      c.settle.ensures.refused ∙ so_far.1,
+      c.settle.ensures.first_fault ∙ so_far.1,
       c.settle.ensures.rings ∙ so_far.2,
       c.settle.ensures.taken ∙ so_far.3,
       (λ done are. (
@@ -58,7 +58,7 @@ loop-planner-preserved g c =
     let some = so_far.6 in
     let receipt = receipt_of c.join-receipt.result.0 in (
       c.settle.ensures.collector ∙ so_far.0,
-      c.settle.ensures.refused ∙ so_far.1,
+      c.settle.ensures.first_fault ∙ so_far.1,
       c.settle.ensures.rings ∙ so_far.2,
       c.settle.ensures.taken ∙ so_far.3,
       (λ done are.
@@ -70,7 +70,7 @@ loop-planner-preserved g c =
           let own : receipt.sender ≡ done - 1 = c.join-receipt.ensures.0 ∙ all.0.sender in
           let sent : receipt.sent ≡ all_notes (task_of before.collector) (done - 1) = planner_sent (task_of before.collector)
           (inlet_of before.inlet).rings (done - 1) c.in-Some.planner.promise c.join-receipt.result all.0 c.join-receipt.ensures
-          c.if-refused.false in (
+          c.if-is_out_of_memory.false in (
             subst (λ n. ArePlanners (task_of before.collector) (inlet_of before.inlet).rings n (into_iter_items c.next.new.self)) earlier
                 all.1,
             subst (λ r. OnOk r ((k : ℕ) → k < done → IsAccounted (inlet_of c.settle.new.self.inlet) k

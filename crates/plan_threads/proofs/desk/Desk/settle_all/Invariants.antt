@@ -10,7 +10,7 @@ abbrev pub invariant-loop-planner : goal.invariant-loop-planner
 invariant-loop-planner g l =
     let before = l.fn.self in
     (l.self.collector ≡ before.collector)
-    × (l.self.refused ≡ before.refused)
+    × (l.self.first_fault ≡ before.first_fault)
     × ((inlet_of l.self.inlet).rings ≡ (inlet_of before.inlet).rings)
     × ((inlet_of l.self.inlet).taken ≡ (inlet_of before.inlet).taken)
     × ((done : ℕ) → done + into_iter_len l.planner-iterator ≡ vec_len l.fn.planners →

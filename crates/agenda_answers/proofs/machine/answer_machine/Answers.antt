@@ -1,0 +1,10 @@
+use Rattle.std.proofs.Common.{Err, refl}
+use Rattle.std.proofs.KnownBytes.{Keeps-refl}
+use Rattle.agenda_answers.proofs.machine.answer_machine.Goals as goal
+
+pub returns-in-Err-clause-answers : goal.returns-in-Err-clause-answers
+returns-in-Err-clause-answers g c = (
+  Err c.in-Err.failure,
+  c.in-Err.ensures,
+  (Err c.in-Err.failure, (refl, Keeps-refl _), c.end.ensures.exits),
+)

@@ -1,0 +1,24 @@
+use Rattle.agenda_answers.specs.Steps.{goes}
+use Rattle.agenda_answers.proofs.StepLemmas.{failed}
+use Rattle.agenda_answers.proofs.machine.make_answer.Goals as goal
+
+pub returns-in_err-machine : goal.returns-in_err-machine
+returns-in_err-machine g c =
+    failed _ _ (rw (c.dir_of-dir.ensures, c.as_str.ensures) at c.in_err-machine.ensures) c.from_residual.ensures.1
+
+pub returns-in-Jobs : goal.returns-in-Jobs
+returns-in-Jobs g c =
+    goes _ (rw (c.dir_of-dir.ensures, c.as_str.ensures) at c.in_ok-machine.ensures)
+    (rw c.in-Jobs.is
+    (rw (c.new-below.ensures, c.root_of.ensures, c.dir_of-dir.ensures, c.as_str.ensures) at c.jobs_answer.ensures))
+
+pub returns-in-Sources : goal.returns-in-Sources
+returns-in-Sources g c =
+    goes _ (rw (c.dir_of-dir.ensures, c.as_str.ensures) at c.in_ok-machine.ensures)
+    (rw c.in-Sources.is (rw (c.dir_of-dir.ensures, c.as_str.ensures) at c.sources_answer.ensures))
+
+pub returns-in-Check : goal.returns-in-Check
+returns-in-Check g c =
+    goes _ (rw (c.dir_of-dir.ensures, c.as_str.ensures) at c.in_ok-machine.ensures)
+    (rw c.in-Check.is
+    (rw (c.new-below.ensures, c.root_of.ensures, c.dir_of-dir.ensures, c.as_str.ensures) at c.check_answer.ensures))

@@ -1,0 +1,10 @@
+use Rattle.std.proofs.Common.{refl}
+use Rattle.agenda_answers.specs.Steps.{goes}
+use Rattle.agenda_answers.proofs.StepLemmas.{failed}
+use Rattle.agenda_answers.proofs.machine_goal.planning_at.Goals as goal
+
+pub returns-in_err-span : goal.returns-in_err-span
+returns-in_err-span c = failed _ _ c.in_err-span.ensures c.from_residual.ensures.1
+
+pub returns : goal.returns
+returns c = goes c.in_ok-span.span c.in_ok-span.ensures refl

@@ -1,0 +1,13 @@
+-- The machine that the program runs on. All of it is our choice (agenda).
+use Rattle.std.specs.Prelude.{ℕ, Bool}
+use Rattle.plan_tree.specs.Tree.{Held}
+use Rattle.agenda_answers.specs.MachineZone.{KnownTree}
+
+-- what contracts know of it: its files and directories, and the time of its clock, in seconds since 1970
+pub record KnownHost : Type 0 where
+  pub tree : KnownTree
+  pub time : ℕ
+
+-- the same, by its parts
+abbrev pub host_of : (is_known : Bool) → Held → (time : ℕ) → KnownHost
+host_of is_known held time = record { tree = record { is_known = is_known; held = held }; time = time }

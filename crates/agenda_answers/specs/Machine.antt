@@ -1,0 +1,221 @@
+-- The answer to a question about a machine. All of it is our choice (agenda).
+use Rattle.std.specs.Prelude.{◌≡◌, ◌⊎◌, ℕ, Bool, true, false, not, ◌&&◌, ◌==◌, if◌then◌else◌, List, [], length, ◌∷◌, Option, None, Some, Result, Ok, Err}
+use Rattle.std.specs.Io.KnownBytes.{Appends, Keeps}
+use Rattle.plan_streams.specs.Stream.{BreaksOff}
+use Rattle.plan_tree.specs.Tree.{Held as TreeHeld, below, is_directory, path_below}
+use Rattle.plan_machine.specs.Machine.{AreTooManyUnits, IsMachine}
+use Rattle.plan_machine.specs.declared.machine.Machine.{Machine}
+use Rattle.agenda_arguments.specs.declared.MachineRequest.{MachineRequest}
+use Rattle.agenda_arguments.specs.declared.FormatRequest.{FormatRequest}
+use Rattle.agenda_arguments.specs.declared.MachineJobs.{MachineJobs}
+use Rattle.agenda_arguments.specs.declared.MachineQuestion.{MachineQuestion}
+use Rattle.agenda_arguments.specs.declared.MachineQuestion.TheVariants as question
+use Rattle.agenda_faults.specs.declared.faults.Failure.{Failure}
+use Rattle.agenda_faults.specs.declared.faults.Failure.TheVariants.{NotDirectory, TooManyUnits}
+use Rattle.agenda_faults.specs.declared.faults.RunFault.{RunFault}
+use Rattle.agenda_commands.specs.declared.Goal.{Goal}
+use Rattle.agenda_faults.specs.Status.{done_status, failed_status, rejected_status}
+use Rattle.agenda_findings.specs.Findings.{check_text}
+use Rattle.agenda_machine.specs.Listing.{sources_text}
+use Rattle.agenda_machine.specs.Places.{located, paths_of, sources_of}
+use Rattle.agenda_machine.specs.Reports.{is_incomplete, is_reported, lines_of}
+use Rattle.agenda_sources.specs.Findings.{is_all_clean, kept_jobs, sources_errors, sources_findings}
+use Rattle.agenda_sources.specs.ZoneNames.{zone_names}
+use Rattle.agenda_sources.specs.declared.Found.{Found}
+use Rattle.agenda_sources.specs.declared.Source.{Source}
+use Rattle.agenda_sources.specs.declared.SourcePath.{SourcePath}
+use Rattle.agenda_sources.specs.declared.TimeZones.{TimeZones}
+use Rattle.agenda_answers.specs.declared.machine_zone.ZoneClock.{ZoneClock}
+use Rattle.agenda_answers.specs.declared.machine.Printout.{Printout}
+use Rattle.agenda_answers.specs.declared.machine.Printout.TheVariants as printout
+use Rattle.agenda_answers.specs.Answer.{Printed, StreamChange}
+use Rattle.agenda_answers.specs.EventZones.{time_zones}
+use Rattle.agenda_answers.specs.Files.{Held, most_read}
+use Rattle.agenda_answers.specs.Formats.{format_made, unnamed_zone}
+use Rattle.agenda_answers.specs.Host.{KnownHost}
+use Rattle.agenda_answers.specs.MachineGoal.{goal_at}
+use Rattle.agenda_answers.specs.MachineZone.{KnownTree, fails_with, looks, machine_clock}
+use Rattle.agenda_answers.specs.Outcome.{ExitsWith, Outcome, Reports, answer_of}
+use Rattle.agenda_answers.specs.Root.{dir_of, root_of}
+use Rattle.agenda_answers.specs.Steps.{Step, computes, gives, ◌>>=◌}
+
+-- ---- the root
+
+-- the tree below a root
+abbrev pub tree_below : KnownTree → (root : List ℕ) → KnownTree
+tree_below tree root = record { is_known = tree.is_known; held = below root tree.held }
+
+-- a root has a path, which is that of a directory (agenda)
+abbrev pub is_root : TreeHeld → (dir : List ℕ) → Bool
+is_root held dir = not (length dir == 0) && is_directory (held.node (path_below (root_of dir) []))
+
+-- a root has to be a directory
+abbrev pub directory_if : (is : Bool) → (dir : List ℕ) → Step (Unit {0})
+directory_if true dir = gives tt
+directory_if false dir = fails_with (NotDirectory dir)
+
+-- ---- what is found
+
+-- a machine whose boot reaches too many units is rejected
+abbrev pub machine_if : Option Machine → (dir : List ℕ) → Step Machine
+machine_if None dir = fails_with (TooManyUnits dir)
+machine_if (Some machine) dir = gives machine
+
+-- what is found below a root
+abbrev pub found_below : KnownTree → (all : Bool) → Option Machine → Type 0
+found_below tree all None = AreTooManyUnits tree.held
+found_below tree all (Some machine) = IsMachine tree.held all most_read machine
+
+-- what is found on a machine whose root is a directory
+abbrev pub machine_below : KnownTree → (all : Bool) → (dir : List ℕ) → Step Machine
+machine_below tree all dir = do
+  found ← looks (tree_below tree (root_of dir)) (found_below (tree_below tree (root_of dir)) all)
+  machine_if found dir
+
+-- what is found on the machine whose root has this path
+abbrev pub machine_of : KnownTree → (all : Bool) → (dir : List ℕ) → Step Machine
+machine_of tree all dir = do
+  is ← looks tree (λ is. is ≡ is_root tree.held dir)
+  done ← directory_if is dir
+  machine_below tree all dir
+
+-- ---- the questions
+
+-- what follows what is reported: a text with its exit status, or the answer for jobs
+pub data Rest : Type 0 where
+  prints : Printed → Rest
+  plans : Outcome → Rest
+
+-- what is reported of a machine, and whether that is anything; and what follows
+pub record Shown : Type 0 where
+  pub reports : List ℕ
+  pub has_reports : Bool
+  pub rest : Rest
+
+-- the lines of what is reported of a machine
+abbrev pub machine_reports : (dir : List ℕ) → Machine → (is_zone_unknown : Bool) → List ℕ
+machine_reports dir machine is_zone_unknown =
+    lines_of (root_of dir) dir machine.skipped.items machine.unplanned.items machine.lacks_cron_daemon is_zone_unknown
+
+-- whether there are any
+abbrev pub has_reports : Machine → (is_zone_unknown : Bool) → Bool
+has_reports machine is_zone_unknown =
+    is_reported machine.skipped.items machine.unplanned.items machine.lacks_cron_daemon is_zone_unknown
+
+-- the exit status: that of an error if one is found, or if something can't be read
+abbrev pub machine_status : Machine → (is_clean : Bool) → ℕ
+machine_status machine is_clean = if is_clean && not (is_incomplete machine.skipped.items) then done_status else rejected_status
+
+-- a machine's sources
+abbrev pub sources_rest : (dir : List ℕ) → (json : Bool) → Machine → Rest
+sources_rest dir json machine =
+    prints (record { text = sources_text json (root_of dir) machine.sources.items; status = machine_status machine true })
+
+-- what is wrong with them, by the paths of their files
+abbrev pub checked_rest : (json : Bool) → Machine → (paths : List SourcePath) → List Found → Rest
+checked_rest json machine paths found =
+    prints (record { text = check_text json paths found; status = machine_status machine (is_all_clean found) })
+
+-- the same
+abbrev pub findings_rest : (dir : List ℕ) → (json : Bool) → Machine → List Found → Rest
+findings_rest dir json machine found = checked_rest json machine (paths_of json (root_of dir) machine.sources.items) found
+
+-- what is printed
+abbrev pub rest_of : (dir : List ℕ) → Machine → Printout → Rest
+rest_of dir machine (printout.Sources json) = sources_rest dir json machine
+rest_of dir machine (printout.Findings paths found json) = checked_rest json machine paths found.items
+rest_of dir machine (printout.Jobs outcome) = plans outcome
+
+-- what is shown of a machine
+abbrev pub shown_of : (dir : List ℕ) → Machine → (is_zone_unknown : Bool) → Rest → Shown
+shown_of dir machine is_zone_unknown rest = record {
+  reports = machine_reports dir machine is_zone_unknown;
+  has_reports = has_reports machine is_zone_unknown;
+  rest = rest;
+}
+
+-- `sources`: the zone isn't read
+abbrev pub shows_sources : (dir : List ℕ) → (json : Bool) → Machine → Step Shown
+shows_sources dir json machine = gives (shown_of dir machine false (sources_rest dir json machine))
+
+-- the findings in the sources of a machine, each with the path and the line of the file that it is in
+abbrev pub found_in : Machine → TimeZones → List Source → List Found
+found_in machine zones sources = located machine.sources.items (sources_findings zones sources)
+
+-- the errors in the sources of a machine, likewise
+abbrev pub errors_in : Machine → TimeZones → List Source → List Found
+errors_in machine zones sources = located machine.sources.items (sources_errors zones sources)
+
+-- the time zones of the rules of a machine, by the clock of its zone
+abbrev pub machine_zones : Held → Machine → ZoneClock → Step TimeZones
+machine_zones held machine clock = time_zones held (record { zone = clock.name; event_zones = true }) clock.clock
+    (zone_names (sources_of machine.sources.items))
+
+-- `check`: the zone is read first, and then the zones of events
+abbrev pub shows_findings : Held → KnownTree → (dir : List ℕ) → (zone : Option (List ℕ)) → (json : Bool) → Machine → Step Shown
+shows_findings held tree dir zone json machine = do
+  clock ← machine_clock held tree (root_of dir) zone
+  zones ← machine_zones held machine clock
+  computes (shown_of dir machine clock.is_unknown
+      (findings_rest dir json machine (found_in machine zones (sources_of machine.sources.items))))
+
+-- the answer for jobs, without the errors that are skipped
+abbrev pub jobs_rest : (dir : List ℕ) → Machine → List Found → Result (List ℕ) RunFault → Rest
+jobs_rest dir machine errors answer = plans (record {
+  unread = [];
+  paths = paths_of false (root_of dir) machine.sources.items;
+  errors = errors;
+  answer = answer;
+  status = machine_status machine (is_all_clean errors);
+})
+
+-- the answer for the jobs of a machine, in these time zones
+abbrev pub shows_jobs_in : (dir : List ℕ) → FormatRequest → Goal → Machine → ZoneClock → TimeZones → Step Shown
+shows_jobs_in dir request goal machine clock zones = do
+  format ← format_made request clock.name (unnamed_zone clock.is_of_file) zones.clock
+  errors ← computes (errors_in machine zones (sources_of machine.sources.items))
+  answer ← answer_of format goal (Ok (kept_jobs zones (sources_of machine.sources.items)))
+  gives (shown_of dir machine clock.is_unknown (jobs_rest dir machine errors answer))
+
+-- `upcoming`, `plan` and `quiet`: the zone is read first, then the times, and then the zones of events
+abbrev pub shows_jobs : Held → KnownHost → (dir : List ℕ) → MachineJobs → Machine → Step Shown
+shows_jobs held host dir jobs machine = do
+  clock ← machine_clock held host.tree (root_of dir) jobs.zone
+  goal ← goal_at host.time jobs
+  zones ← machine_zones held machine clock
+  shows_jobs_in dir jobs.format goal machine clock zones
+
+-- the machine that the program runs on, below a root
+abbrev pub host_below : KnownHost → (root : List ℕ) → KnownHost
+host_below host root = record { tree = tree_below host.tree root; time = host.time }
+
+-- the answer to a question
+abbrev pub shows : Held → KnownHost → (dir : List ℕ) → MachineQuestion → Machine → Step Shown
+shows held host dir (question.Jobs jobs) machine = shows_jobs held (host_below host (root_of dir)) dir jobs machine
+shows held host dir (question.Sources json) machine = shows_sources dir json machine
+shows held host dir (question.Check zone json) machine = shows_findings held (tree_below host.tree (root_of dir)) dir zone json machine
+
+-- the same, once the machine's sources are found
+abbrev pub machine_ends : Held → KnownHost → MachineRequest → Step Shown
+machine_ends held host request = do
+  machine ← machine_of host.tree request.all (dir_of request.root)
+  shows held host (dir_of request.root) request.question machine
+
+-- ---- the streams
+
+-- what follows what is reported
+abbrev pub ShowsRest : Rest → ℕ → (out err : StreamChange) → Type 0
+ShowsRest (prints printed) status out err = ExitsWith [] (Ok printed) status out err
+ShowsRest (plans outcome) status out err = Reports [] outcome status out err
+
+-- standard error breaks off in what is reported, and nothing is printed; or it takes that, and the answer follows
+abbrev pub Shows : Result Shown Failure → ℕ → (out err : StreamChange) → Type 0
+Shows (Ok shown) status out err =
+    ((shown.has_reports ≡ true) × BreaksOff err.takes_all err.old err.new shown.reports × (status ≡ failed_status) × Keeps out.old out.new)
+    ⊎ ((mid : Option (List ℕ)) × Appends err.old mid shown.reports × ShowsRest shown.rest status out (record err { old = mid }))
+Shows (Err failure) status out err = ExitsWith [] (Err failure) status out err
+
+-- the answer to a request
+abbrev pub AnswersMachine : Held → KnownHost → MachineRequest → ℕ → (out err : StreamChange) → Type 0
+AnswersMachine held host request status out err =
+    (end : Result Shown Failure) × machine_ends held host request end × Shows end status out err

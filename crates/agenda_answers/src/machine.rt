@@ -1,0 +1,438 @@
+//! Answers a question about a machine.
+//!
+//! The answer is made before a byte is written. What is reported goes to standard error, then the answer to standard output.
+
+ghost use Rattle.std.specs.Prelude.{◌≡◌, false, IfOk, IsTrue, Ok, OnOk, Some, true};
+ghost use Rattle.agenda_answers.specs.Answer.{HoldsAfter};
+ghost use Rattle.agenda_answers.specs.Host.{host_of};
+ghost use Rattle.agenda_answers.specs.Machine.{AnswersMachine, Shows, ShowsRest, directory_if, found_in, has_reports};
+ghost use Rattle.agenda_answers.specs.Machine.{errors_in, findings_rest, is_root, machine_below, machine_ends, machine_if, machine_of};
+ghost use Rattle.agenda_answers.specs.Machine.{machine_reports, machine_status, rest_of, shows_findings, shows_jobs, shows_sources};
+ghost use Rattle.agenda_findings.specs.Findings.{check_text};
+ghost use Rattle.agenda_machine.specs.Listing.{sources_text};
+ghost use Rattle.agenda_machine.specs.Places.{paths_of};
+ghost use Rattle.agenda_sources.specs.Findings.{is_all_clean, kept_jobs};
+ghost use Rattle.agenda_answers.specs.Root.{root_of};
+ghost use Rattle.plan_streams.specs.Stream.{Puts};
+
+use crate::answers::end;
+use crate::event_zones::zones_of_sources;
+use crate::files::{Files, MOST_READ};
+use crate::formats::{make_format, unnamed_zone};
+use crate::host::Host;
+use crate::jobs::{Outcome, report, settled};
+use crate::machine_goal::goal_at;
+use crate::machine_zone::machine_clock;
+use crate::root::{dir_of, root_of};
+use agenda_arguments::{MachineJobs, MachineQuestion, MachineRequest, ZonesRequest};
+use agenda_commands::{are_warnings, kept_if, prepare_answer};
+use agenda_faults::status::{DONE, FAILED, REFUSED};
+use agenda_faults::{Failure, RunFault};
+use agenda_findings::write_findings;
+use agenda_machine::{
+    Reports, is_incomplete, located, paths_of, sources_of, write_reports, write_sources,
+};
+use agenda_sources::{Found, SourcePath, SourcePaths, Sources, TimeZones, findings_of_sources};
+use plan_machine::{Machine, find_machine};
+use plan_rules::{Jobs, Text};
+use plan_streams::{Stream, WriteFault};
+use plan_tree::{Complete, Rooted, Tree, is_directory};
+use std::alloc::{AllocError, Global};
+use std::marker::Model;
+use std::sync::Wait;
+use std::thread::Threads;
+
+// What is printed about a machine.
+#[derive(Drop)]
+enum Printout {
+    // Its sources.
+    Sources {
+        // Whether each line is a JSON object.
+        json: bool,
+    },
+    // What is wrong with them.
+    Findings {
+        // The paths of their files.
+        paths: SourcePaths,
+        // The findings, with their places in these paths.
+        found: Vec<Found>,
+        // Whether each line is a JSON object.
+        json: bool,
+    },
+    // What is made of their jobs.
+    Jobs(Outcome),
+}
+
+// What is found on a machine.
+#[derive(Drop)]
+struct Site<'a> {
+    // The path of its root, as it is shown: without the slashes at its end.
+    dir: &'a str,
+    machine: Machine,
+    is_zone_unknown: bool,
+}
+
+// What is found on a machine, and what is printed about it.
+#[derive(Drop)]
+struct MachineAnswer<'a> {
+    site: Site<'a>,
+    printout: Printout,
+}
+
+impl<'a> Model for MachineAnswer<'a> {
+    ghost use Rattle.agenda_answers.specs.Machine.{Shown, has_reports, machine_reports, rest_of};
+
+    ghost Value = { Shown };
+
+    ghost view = { λ answer. record {
+      reports = machine_reports answer.site.dir.now answer.site.machine answer.site.is_zone_unknown;
+      has_reports = has_reports answer.site.machine answer.site.is_zone_unknown;
+      rest = rest_of answer.site.dir.now answer.site.machine answer.printout;
+    } };
+}
+
+/// Answers a question about a machine, and returns the exit status.
+///
+/// The status is 1 if an error is found or if something can't be read, and 0 otherwise. If there is no answer, it is
+/// that of the error. If standard error fails, it is 3, and nothing is written to standard output.
+pub(crate) fn answer_machine<R: Threads + Wait + Sync, F: Files, T: Complete, O: Stream, E: Stream>(
+    rt: &R,
+    alloc: Global,
+    request: &MachineRequest,
+    files: &mut F,
+    host: &Host<'_, T>,
+    out: &mut O,
+    err: &mut E,
+) -> u8
+    ensures answers { AnswersMachine (F.held files.old) (host_of T.is_known (T.held host.now.tree.now) host.now.time) request.now result
+        (record { takes_all = O.takes_all; old = O.holds out.old; new = O.holds out.new })
+        (record { takes_all = E.takes_all; old = E.holds err.old; new = E.holds err.new }) }
+    ensures out_flushed { result ≡ 0 → IsTrue (O.is_flushed out.new) }
+    ensures err_flushed { E.takes_all ≡ true → IsTrue (E.is_flushed err.old) → IsTrue (E.is_flushed err.new) }
+{
+    match make_answer(rt, alloc, request, files, host) {
+        Ok(answer) => show(answer, out, err),
+        Err(failure) => end(Err(failure), &[], err),
+    }
+}
+
+// Finds what is on a machine, and makes the answer to the question about it.
+fn make_answer<'a, R: Threads + Wait + Sync, F: Files, T: Complete>(
+    rt: &R,
+    alloc: Global,
+    request: &'a MachineRequest,
+    files: &mut F,
+    host: &Host<'_, T>,
+) -> Result<MachineAnswer<'a>, Failure>
+    ensures { machine_ends (F.held files.old) (host_of T.is_known (T.held host.now.tree.now) host.now.time) request.now result }
+{
+    let dir = dir_of(request.root.as_str());
+    let machine = machine_of(alloc, host.tree, request.all, dir)?;
+    let below = Rooted::new(host.tree, root_of(dir));
+    match &request.question {
+        MachineQuestion::Jobs(jobs) => {
+            let host = Host {
+                tree: &below,
+                time: host.time,
+            };
+            jobs_answer(rt, alloc, files, &host, dir, jobs, machine)
+        }
+        MachineQuestion::Sources { json } => Ok(sources_answer(dir, *json, machine)),
+        MachineQuestion::Check { zone, json } => {
+            check_answer(alloc, files, &below, dir, zone, *json, machine)
+        }
+    }
+}
+
+// Finds what is on the machine whose root has this path, if that is a directory.
+fn machine_of<T: Complete>(
+    alloc: Global,
+    tree: &T,
+    all: bool,
+    dir: &str,
+) -> Result<Machine, Failure>
+    ensures { machine_of (record { is_known = T.is_known; held = T.held tree.now }) all dir.now result }
+{
+    let is = is_root(alloc, tree, dir)?;
+    directory_if(alloc, is, dir)?;
+    machine_below(alloc, tree, all, dir)
+}
+
+// Returns whether a path is that of a directory.
+fn is_root<T: Tree>(alloc: Global, tree: &T, dir: &str) -> Result<bool, AllocError>
+    ensures { T.is_known ≡ true → IfOk result (λ is. is ≡ is_root (T.held tree.now) dir.now) }
+{
+    let is = is_directory(alloc, tree, root_of(dir))?;
+    Ok(!dir.is_empty() && is)
+}
+
+// Finds what is on the machine whose root has this path.
+fn machine_below<T: Complete>(
+    alloc: Global,
+    tree: &T,
+    all: bool,
+    dir: &str,
+) -> Result<Machine, Failure>
+    ensures { machine_below (record { is_known = T.is_known; held = T.held tree.now }) all dir.now result }
+{
+    let below = Rooted::new(tree, root_of(dir));
+    let found = find_machine(alloc, &below, all, MOST_READ)?;
+    machine_if(alloc, found, dir)
+}
+
+// Rejects a root that is no directory.
+fn directory_if(alloc: Global, is: bool, dir: &str) -> Result<(), Failure>
+    ensures { directory_if is dir.now result }
+{
+    if is {
+        Ok(())
+    } else {
+        Err(Failure::NotDirectory(copy_of(alloc, dir)?))
+    }
+}
+
+// Rejects a machine whose boot reaches too many units.
+fn machine_if(alloc: Global, found: Option<Machine>, dir: &str) -> Result<Machine, Failure>
+    ensures { machine_if found dir.now result }
+{
+    match found {
+        Some(machine) => Ok(machine),
+        None => Err(Failure::TooManyUnits(copy_of(alloc, dir)?)),
+    }
+}
+
+// Makes the answer to `sources`.
+fn sources_answer(dir: &str, json: bool, machine: Machine) -> MachineAnswer<'_>
+    ensures { shows_sources dir.now json machine (Ok result) }
+{
+    MachineAnswer {
+        site: Site {
+            dir,
+            machine,
+            is_zone_unknown: false,
+        },
+        printout: Printout::Sources { json },
+    }
+}
+
+// Makes the answer to `check` for a machine with this tree.
+fn check_answer<'a, F: Files, T: Tree>(
+    alloc: Global,
+    files: &mut F,
+    tree: &T,
+    dir: &'a str,
+    zone: &Option<Text>,
+    json: bool,
+    machine: Machine,
+) -> Result<MachineAnswer<'a>, Failure>
+    ensures { shows_findings (F.held files.old) (record { is_known = T.is_known; held = T.held tree.now }) dir.now zone.now json machine result }
+{
+    let clock = machine_clock(alloc, files, tree, root_of(dir), zone)?;
+    let sources = sources_of(alloc, machine.sources.as_slice())?;
+    let request = ZonesRequest {
+        zone: clock.name,
+        event_zones: true,
+    };
+    let zones = zones_of_sources(alloc, files, &request, clock.clock, &sources)?;
+    let printout = findings_of(alloc, dir, &machine, &sources, &zones, json)?;
+    Ok(MachineAnswer {
+        site: Site {
+            dir,
+            machine,
+            is_zone_unknown: clock.is_unknown,
+        },
+        printout,
+    })
+}
+
+// Finds what is wrong with the sources of a machine.
+fn findings_of(
+    alloc: Global,
+    dir: &str,
+    machine: &Machine,
+    sources: &Sources,
+    zones: &TimeZones,
+    json: bool,
+) -> Result<Printout, AllocError>
+    ensures { IfOk result (λ printout. rest_of dir.now machine.now printout
+        ≡ findings_rest dir.now json machine.now (found_in machine.now zones.now sources.now)) }
+{
+    let found = findings_of_sources(alloc, sources, zones)?;
+    let found = located(machine.sources.as_slice(), found)?;
+    let paths = paths_of(alloc, root_of(dir), machine.sources.as_slice(), json)?;
+    Ok(Printout::Findings { paths, found, json })
+}
+
+// Makes the answer about the jobs of a machine with this tree.
+fn jobs_answer<'a, R: Threads + Wait + Sync, F: Files, T: Tree>(
+    rt: &R,
+    alloc: Global,
+    files: &mut F,
+    host: &Host<'_, T>,
+    dir: &'a str,
+    jobs: &MachineJobs,
+    machine: Machine,
+) -> Result<MachineAnswer<'a>, Failure>
+    ensures { shows_jobs (F.held files.old) (host_of T.is_known (T.held host.now.tree.now) host.now.time) dir.now jobs.now machine result }
+{
+    let clock = machine_clock(alloc, files, host.tree, root_of(dir), &jobs.zone)?;
+    let goal = goal_at(host.time, jobs)?;
+    let sources = sources_of(alloc, machine.sources.as_slice())?;
+    let request = ZonesRequest {
+        zone: clock.name,
+        event_zones: true,
+    };
+    let zones = zones_of_sources(alloc, files, &request, clock.clock, &sources)?;
+    let unnamed = unnamed_zone(clock.is_of_file);
+    let format = make_format(alloc, jobs.format, &request.zone, unnamed, &zones.clock)?;
+    let (skipped, kept) = kept_of(alloc, dir, &machine, &sources, &zones)?;
+    let made = prepare_answer(rt, alloc, kept, &sources, &zones, &goal, format);
+    let answer = settled(made)?;
+    let status = status_of(&machine, are_warnings(skipped.errors.as_slice()));
+    Ok(MachineAnswer {
+        site: Site {
+            dir,
+            machine,
+            is_zone_unknown: clock.is_unknown,
+        },
+        printout: Printout::Jobs(Outcome {
+            unread: SourcePaths::new(alloc),
+            paths: skipped.paths,
+            errors: skipped.errors,
+            answer,
+            status,
+        }),
+    })
+}
+
+// The errors of a machine's sources, with their places in these paths.
+#[derive(Drop)]
+struct Skipped {
+    paths: SourcePaths,
+    errors: Vec<Found>,
+}
+
+// Finds the errors of a machine's sources, and the jobs that are left without them.
+fn kept_of(
+    alloc: Global,
+    dir: &str,
+    machine: &Machine,
+    sources: &Sources,
+    zones: &TimeZones,
+) -> Result<(Skipped, Option<Jobs>), AllocError>
+    ensures paths { IfOk result (λ kept. kept.0.paths ≡ paths_of false (root_of dir.now) machine.now.sources.items) }
+    ensures errors { IfOk result (λ kept. kept.0.errors.items ≡ errors_in machine.now zones.now sources.now) }
+    ensures jobs { IfOk result (λ kept. kept.1 ≡ Some (kept_jobs zones.now sources.now)) }
+{
+    let (errors, kept) = kept_if(alloc, true, sources, zones)?;
+    let errors = located(machine.sources.as_slice(), errors)?;
+    let paths = paths_of(alloc, root_of(dir), machine.sources.as_slice(), false)?;
+    Ok((Skipped { paths, errors }, kept))
+}
+
+// Reports what is skipped and the like, then prints the answer, and returns the exit status.
+fn show<O: Stream, E: Stream>(answer: MachineAnswer<'_>, out: &mut O, err: &mut E) -> u8
+    ensures answers { Shows (Ok answer.entry) result
+        (record { takes_all = O.takes_all; old = O.holds out.old; new = O.holds out.new })
+        (record { takes_all = E.takes_all; old = E.holds err.old; new = E.holds err.new }) }
+    ensures out_flushed { result ≡ 0 → IsTrue (O.is_flushed out.new) }
+    ensures err_flushed { E.takes_all ≡ true → IsTrue (E.is_flushed err.old) → IsTrue (E.is_flushed err.new) }
+{
+    if report_site(&answer.site, err).is_err() {
+        return FAILED;
+    }
+    let MachineAnswer { site, printout } = answer;
+    show_rest(&site, printout, out, err)
+}
+
+// Writes what is reported.
+fn report_site<S: Stream>(site: &Site<'_>, err: &mut S) -> Result<(), WriteFault>
+    ensures text { Puts S.takes_all result (S.holds err.old) (S.holds err.new) (machine_reports site.now.dir.now site.now.machine site.now.is_zone_unknown) }
+    ensures spared { has_reports site.now.machine site.now.is_zone_unknown ≡ false → result ≡ Ok tt }
+    ensures flushed { OnOk result (IsTrue (S.is_flushed err.old) → IsTrue (S.is_flushed err.new)) }
+{
+    let machine = &site.machine;
+    let reports = Reports {
+        root: root_of(site.dir),
+        dir: site.dir,
+        skipped: machine.skipped.as_slice(),
+        unplanned: machine.unplanned.as_slice(),
+        lacks_cron_daemon: machine.lacks_cron_daemon,
+        is_zone_unknown: site.is_zone_unknown,
+    };
+    write_reports(&reports, err)
+}
+
+// Prints the answer after what is reported, and returns the exit status.
+fn show_rest<O: Stream, E: Stream>(
+    site: &Site<'_>,
+    printout: Printout,
+    out: &mut O,
+    err: &mut E,
+) -> u8
+    ensures answers { ShowsRest (rest_of site.now.dir.now site.now.machine printout) result
+        (record { takes_all = O.takes_all; old = O.holds out.old; new = O.holds out.new })
+        (record { takes_all = E.takes_all; old = E.holds err.old; new = E.holds err.new }) }
+    ensures out_flushed { result ≡ 0 → IsTrue (O.is_flushed out.new) }
+    ensures err_flushed { E.takes_all ≡ true → IsTrue (E.is_flushed err.old) → IsTrue (E.is_flushed err.new) }
+{
+    match printout {
+        Printout::Sources { json } => end(print_sources(site, json, out), &[], err),
+        Printout::Findings { paths, found, json } => {
+            let done = print_findings(site, paths.as_slice(), found.as_slice(), json, out);
+            end(done, &[], err)
+        }
+        Printout::Jobs(outcome) => report(outcome, &[], out, err),
+    }
+}
+
+// Prints the sources of a machine, and returns the exit status.
+fn print_sources<S: Stream>(site: &Site<'_>, json: bool, out: &mut S) -> Result<u8, Failure>
+    ensures ends { HoldsAfter S.takes_all
+        (Ok (record { text = sources_text json (root_of site.now.dir.now) site.now.machine.sources.items; status = machine_status site.now.machine true }))
+        result (S.holds out.old) (S.holds out.new) }
+    ensures flushed { OnOk result (IsTrue (S.is_flushed out.new)) }
+{
+    let sources = site.machine.sources.as_slice();
+    match write_sources(root_of(site.dir), sources, json, out) {
+        Ok(()) => Ok(status_of(&site.machine, true)),
+        Err(fault) => Err(Failure::Run(RunFault::Device(fault))),
+    }
+}
+
+// Prints what is wrong with the sources of a machine, and returns the exit status.
+fn print_findings<S: Stream>(
+    site: &Site<'_>,
+    paths: &[SourcePath],
+    found: &[Found],
+    json: bool,
+    out: &mut S,
+) -> Result<u8, Failure>
+    ensures ends { HoldsAfter S.takes_all
+        (Ok (record { text = check_text json paths.now found.now; status = machine_status site.now.machine (is_all_clean found.now) }))
+        result (S.holds out.old) (S.holds out.new) }
+    ensures flushed { OnOk result (IsTrue (S.is_flushed out.new)) }
+{
+    match write_findings(paths, found, json, out) {
+        Ok(()) => Ok(status_of(&site.machine, are_warnings(found))),
+        Err(fault) => Err(Failure::Run(RunFault::Device(fault))),
+    }
+}
+
+// Returns the exit status of an answer.
+fn status_of(machine: &Machine, is_clean: bool) -> u8
+    ensures { result ≡ machine_status machine.now is_clean }
+{
+    if is_clean && !is_incomplete(machine.skipped.as_slice()) {
+        DONE
+    } else {
+        REFUSED
+    }
+}
+
+// Returns a copy of a text.
+fn copy_of(alloc: Global, text: &str) -> Result<Text, AllocError>
+    ensures { IfOk result (λ copy. copy ≡ text.now) }
+{
+    Ok(Text::new(String::from_str(alloc, text)?))
+}

@@ -1,0 +1,232 @@
+//! What the arguments of `agenda machine` request.
+ghost use Rattle.std.specs.Prelude.{◌≡◌, ◌++◌, ◌∷◌, IfOk, OnOk, Some, codes, drop, map, string_bytes};
+ghost use Rattle.clap.specs.Words.{first_of, found_of, rows_of, subcommand_rows_of};
+ghost use Rattle.agenda_arguments.specs.Arguments.{Gives, asked_by_machine, asked_by_machine_check, asked_by_machine_plan};
+ghost use Rattle.agenda_arguments.specs.Arguments.{asked_by_machine_quiet, asked_by_machine_sources, asked_by_machine_upcoming};
+ghost use Rattle.agenda_arguments.specs.Arguments.{asked_by_question, asked_of_jobs, asked_of_machine, is_given, is_option};
+ghost use Rattle.agenda_arguments.specs.Arguments.{lacks_question, machine_format_in, machine_zone, span_in, with_question, zone_in};
+
+use crate::arguments::{no_subcommand, sizes_of, usage_fault};
+use crate::ask::{
+    Ask, FormatRequest, MachineGoal, MachineJobs, MachineQuestion, MachineRequest, SpanRequest,
+    UsageFault,
+};
+use crate::command::machine_command;
+use crate::values::{is_given, number_argument, text, text_if_given, text_of, value_of};
+use clap::ArgMatches;
+use plan_texts::Text;
+use std::alloc::{AllocError, Global};
+
+const ONE_ZONE: &str =
+    "error: the argument '--zone <ZONE>' cannot be used with '--utc'\n\nFor more information, try '--help'.\n";
+
+/// Returns what the arguments of `agenda machine` request. The first of `words` is `machine`. If no question follows, they
+/// request `upcoming`.
+///
+/// # Errors
+///
+/// `Help` with the text of help, if that is requested; `Usage` with the text of usage, if the arguments are
+/// invalid; `NoMemory` if an allocation failed.
+pub(crate) fn asked_about_machine(alloc: Global, words: &[String]) -> Result<Ask, UsageFault>
+    ensures { Gives result (asked_by_machine (with_question (map string_bytes words.now))) }
+{
+    if !lacks_question(words) {
+        return asked_by_machine(alloc, words);
+    }
+    let asked = with_upcoming(alloc, words)?;
+    asked_by_machine(alloc, asked.as_slice())
+}
+
+// Returns whether no question follows the first of the words.
+fn lacks_question(words: &[String]) -> bool
+    ensures { result ≡ lacks_question (map string_bytes words.now) }
+{
+    match words.get(1) {
+        Some(word) => is_option(word.as_str()),
+        None => true,
+    }
+}
+
+// Returns whether a word is an option other than help.
+fn is_option(word: &str) -> bool
+    ensures { result ≡ is_option word.now }
+{
+    let begins = match word.as_bytes().first() {
+        Some(byte) => *byte == b'-',
+        None => false,
+    };
+    begins && !(word == "-h" || word == "--help")
+}
+
+// Returns the words with the question `upcoming` after the first one.
+fn with_upcoming(alloc: Global, words: &[String]) -> Result<Vec<String>, AllocError>
+    ensures { IfOk result (λ asked. map string_bytes asked.items
+        ≡ codes "machine" ∷ codes "upcoming" ∷ drop 1 (map string_bytes words.now)) }
+{
+    let mut asked = Vec::new(alloc);
+    asked.push(String::from_str(alloc, "machine")?)?;
+    asked.push(String::from_str(alloc, "upcoming")?)?;
+    if !words.is_empty() {
+        push_copies(alloc, &words[1..], &mut asked)?;
+    }
+    Ok(asked)
+}
+
+// Appends copies of words, in order.
+fn push_copies(alloc: Global, words: &[String], copies: &mut Vec<String>) -> Result<(), AllocError>
+    ensures { OnOk result (map string_bytes copies.new.items ≡ map string_bytes copies.old.items ++ map string_bytes words.now) }
+{
+    for word in words {
+        copies.push(String::from_str(alloc, word.as_str())?)?;
+    }
+    Ok(())
+}
+
+// Returns what the arguments of `agenda machine` request, which have a question.
+fn asked_by_machine(alloc: Global, words: &[String]) -> Result<Ask, UsageFault>
+    ensures { Gives result (asked_by_machine (map string_bytes words.now)) }
+{
+    let command = machine_command(alloc)?;
+    match command.try_get_matches_from(words) {
+        Ok(matches) => asked_by_question(alloc, &matches),
+        Err(error) => Err(usage_fault(alloc, &error)?),
+    }
+}
+
+// Returns what the given question requests.
+fn asked_by_question(alloc: Global, matches: &ArgMatches<'_>) -> Result<Ask, UsageFault>
+    ensures { Gives result (asked_by_question (subcommand_rows_of matches.now)) }
+{
+    match matches.subcommand() {
+        Some((name, given)) => asked_by_name(alloc, name, given),
+        None => no_subcommand(alloc),
+    }
+}
+
+// Returns what the question with this name requests.
+fn asked_by_name(alloc: Global, name: &str, given: &ArgMatches<'_>) -> Result<Ask, UsageFault>
+    ensures { Gives result (asked_by_question (Some (name.now, rows_of (found_of given.now)))) }
+{
+    match name {
+        "upcoming" => asked_by_machine_upcoming(alloc, given),
+        "plan" => asked_by_machine_plan(alloc, given),
+        "quiet" => asked_by_machine_quiet(alloc, given),
+        "check" => asked_by_machine_check(alloc, given),
+        "sources" => asked_by_machine_sources(alloc, given),
+        _ => no_subcommand(alloc),
+    }
+}
+
+fn asked_by_machine_sources(alloc: Global, given: &ArgMatches<'_>) -> Result<Ask, UsageFault>
+    ensures { Gives result (asked_by_machine_sources (rows_of (found_of given.now))) }
+{
+    let json = is_given(given, "json");
+    asked_of_machine(alloc, given, MachineQuestion::Sources { json })
+}
+
+fn asked_by_machine_check(alloc: Global, given: &ArgMatches<'_>) -> Result<Ask, UsageFault>
+    ensures { Gives result (asked_by_machine_check (rows_of (found_of given.now))) }
+{
+    let zone = machine_zone(alloc, given)?;
+    let json = is_given(given, "json");
+    asked_of_machine(alloc, given, MachineQuestion::Check { zone, json })
+}
+
+fn asked_by_machine_upcoming(alloc: Global, given: &ArgMatches<'_>) -> Result<Ask, UsageFault>
+    ensures { Gives result (asked_by_machine_upcoming (rows_of (found_of given.now))) }
+{
+    let after = text_if_given(alloc, given, "after")?;
+    let delays = is_given(given, "delays");
+    asked_of_jobs(alloc, given, delays, MachineGoal::Upcoming { after })
+}
+
+fn asked_by_machine_plan(alloc: Global, given: &ArgMatches<'_>) -> Result<Ask, UsageFault>
+    ensures { Gives result (asked_by_machine_plan (rows_of (found_of given.now))) }
+{
+    let span = span_of(alloc, given)?;
+    let sizes = sizes_of(alloc, given)?;
+    let delays = is_given(given, "delays");
+    asked_of_jobs(alloc, given, delays, MachineGoal::Plan { span, sizes })
+}
+
+fn asked_by_machine_quiet(alloc: Global, given: &ArgMatches<'_>) -> Result<Ask, UsageFault>
+    ensures { Gives result (asked_by_machine_quiet (rows_of (found_of given.now))) }
+{
+    let span = span_of(alloc, given)?;
+    let sizes = sizes_of(alloc, given)?;
+    let least = number_argument(alloc, given, "least")?;
+    let delays = !is_given(given, "nominal");
+    asked_of_jobs(
+        alloc,
+        given,
+        delays,
+        MachineGoal::Quiet { span, sizes, least },
+    )
+}
+
+// Returns the span of a plan.
+fn span_of(alloc: Global, given: &ArgMatches<'_>) -> Result<SpanRequest, AllocError>
+    ensures { IfOk result (λ span. span ≡ span_in (rows_of (found_of given.now))) }
+{
+    let since = text_if_given(alloc, given, "since")?;
+    let until = text_if_given(alloc, given, "until")?;
+    Ok(SpanRequest { since, until })
+}
+
+// Returns the request that makes this of the jobs of a machine.
+fn asked_of_jobs(
+    alloc: Global,
+    given: &ArgMatches<'_>,
+    delays: bool,
+    goal: MachineGoal,
+) -> Result<Ask, UsageFault>
+    ensures { Gives result (asked_of_jobs (rows_of (found_of given.now)) delays goal) }
+{
+    let zone = machine_zone(alloc, given)?;
+    let format = format_of(given);
+    let jobs = MachineJobs {
+        goal,
+        zone,
+        delays,
+        format,
+    };
+    asked_of_machine(alloc, given, MachineQuestion::Jobs(jobs))
+}
+
+// Returns how the answer is written.
+fn format_of(given: &ArgMatches<'_>) -> FormatRequest
+    ensures { result ≡ machine_format_in (rows_of (found_of given.now)) }
+{
+    let json = is_given(given, "json");
+    let local = !is_given(given, "utc");
+    FormatRequest { json, local }
+}
+
+// Returns the request with this question.
+fn asked_of_machine(
+    alloc: Global,
+    given: &ArgMatches<'_>,
+    question: MachineQuestion,
+) -> Result<Ask, UsageFault>
+    ensures { Gives result (asked_of_machine (rows_of (found_of given.now)) question) }
+{
+    let root = text_of(alloc, given, "root")?;
+    let all = is_given(given, "all");
+    Ok(Ask::Machine(MachineRequest {
+        root,
+        all,
+        question,
+    }))
+}
+
+// Returns the time zone of the question, if `--zone` or `--utc` is given.
+fn machine_zone(alloc: Global, given: &ArgMatches<'_>) -> Result<Option<Text>, UsageFault>
+    ensures { Gives result (machine_zone (zone_in (rows_of (found_of given.now))) (is_given (codes "utc") (rows_of (found_of given.now)))) }
+{
+    match (value_of(given, "zone"), is_given(given, "utc")) {
+        (Some(_), true) => Err(UsageFault::Usage(text(alloc, ONE_ZONE)?)),
+        (Some(zone), false) => Ok(Some(text(alloc, zone)?)),
+        (None, true) => Ok(Some(text(alloc, "UTC")?)),
+        (None, false) => Ok(None),
+    }
+}

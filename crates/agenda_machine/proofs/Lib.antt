@@ -1,0 +1,4 @@
+pub mod LineLemmas
+pub mod PlaceLaws
+pub mod PlaceLemmas
+pub mod ShownLemmas

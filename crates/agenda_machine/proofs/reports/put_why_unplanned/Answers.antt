@@ -1,0 +1,13 @@
+use Rattle.agenda_machine.proofs.reports.put_why_unplanned.Goals as goal
+
+pub returns-in-UnitMissing : goal.returns-in-UnitMissing
+returns-in-UnitMissing g c = rw c.in-UnitMissing.is (rw c.as_str.ensures at c.put_around.ensures)
+
+pub returns-in-UnitMasked : goal.returns-in-UnitMasked
+returns-in-UnitMasked g c = rw c.in-UnitMasked.is (rw c.as_str-in-UnitMasked.ensures at c.put_around-in-UnitMasked.ensures)
+
+pub returns-in-Monotonic : goal.returns-in-Monotonic
+returns-in-Monotonic g c = rw c.in-Monotonic.is c.put_shown-in-Monotonic.ensures
+
+pub returns-in-Anacron : goal.returns-in-Anacron
+returns-in-Anacron g c = rw c.in-Anacron.is c.put_shown.ensures

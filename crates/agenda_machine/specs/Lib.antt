@@ -1,0 +1,4 @@
+pub mod Shown
+pub mod Listing
+pub mod Reports
+pub mod Places

@@ -1,0 +1,64 @@
+-- The text of what is skipped and what isn't planned on a machine (agenda).
+use Rattle.std.specs.Prelude.{ℕ, ◌==◌, Bool, true, false, not, ◌||◌, if◌then◌else◌, List, [], ◌++◌, length, codes}
+use Rattle.std.specs.List.{flat_map, list_any}
+use Rattle.plan_machine.specs.declared.NotPlanned.{NotPlanned}
+use Rattle.plan_machine.specs.declared.Skipped.{Skipped}
+use Rattle.plan_machine.specs.declared.Why.{Why}
+use Rattle.plan_machine.specs.declared.Why.TheVariants.{NotReadable, NotUtf8}
+use Rattle.plan_timers.specs.Reports.{unplanned_text, why_text}
+use Rattle.agenda_machine.specs.declared.reports.Reports.{Reports}
+use Rattle.agenda_machine.specs.Shown.{below, shown}
+
+-- ---- the lines
+
+-- the line of something that is skipped
+unfoldable pub skipped_line : (root : List ℕ) → Skipped → List ℕ
+skipped_line root one =
+    codes "agenda: skipped " ++ (shown (below root one.path) ++ (codes ": " ++ (shown (why_text one.why) ++ codes "\n")))
+
+-- the line of something that isn't planned
+unfoldable pub unplanned_line : (root : List ℕ) → NotPlanned → List ℕ
+unplanned_line root one =
+    codes "agenda: not planned: " ++ (shown (below root one.path) ++ (codes ": " ++ (shown (unplanned_text one.why) ++ codes "\n")))
+
+-- the line that there is no cron daemon
+abbrev pub no_daemon : (is_lacking : Bool) → (dir : List ℕ) → List ℕ
+no_daemon is_lacking dir =
+    if is_lacking then codes "agenda: no cron daemon below " ++ (shown dir ++ codes ": crontabs start nothing\n") else []
+
+-- the line that the zone is unknown
+abbrev pub no_zone : (is_unknown : Bool) → (dir : List ℕ) → List ℕ
+no_zone is_unknown dir =
+    if is_unknown then codes "agenda: the zone of " ++ (shown dir ++ codes " is unknown: rules are read as UTC\n") else []
+
+-- all lines, below a root and for a directory
+abbrev pub lines_of : (root dir : List ℕ) → List Skipped → List NotPlanned → (lacks_cron_daemon is_zone_unknown : Bool) → List ℕ
+lines_of root dir skipped unplanned lacks_cron_daemon is_zone_unknown =
+    flat_map (skipped_line root) skipped
+    ++ (flat_map (unplanned_line root) unplanned ++ (no_daemon lacks_cron_daemon dir ++ no_zone is_zone_unknown dir))
+
+abbrev pub reports_text : Reports → List ℕ
+reports_text reports =
+    lines_of reports.root.now reports.dir.now reports.skipped.now reports.unplanned.now reports.lacks_cron_daemon
+    reports.is_zone_unknown
+
+-- whether there is a line
+abbrev pub is_reported : List Skipped → List NotPlanned → (lacks_cron_daemon is_zone_unknown : Bool) → Bool
+is_reported skipped unplanned lacks_cron_daemon is_zone_unknown =
+    not (length skipped == 0) || (not (length unplanned == 0) || (lacks_cron_daemon || is_zone_unknown))
+
+abbrev pub has_line : Reports → Bool
+has_line reports =
+    is_reported reports.skipped.now reports.unplanned.now reports.lacks_cron_daemon reports.is_zone_unknown
+
+-- ---- the status
+
+-- whether something is skipped since it can't be read
+abbrev pub is_unreadable : Why → Bool
+is_unreadable NotReadable = true
+is_unreadable NotUtf8 = true
+is_unreadable other = false
+
+-- whether anything is
+abbrev pub is_incomplete : List Skipped → Bool
+is_incomplete skipped = list_any (λ one. is_unreadable one.why) skipped

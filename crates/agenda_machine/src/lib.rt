@@ -1,0 +1,15 @@
+//! The texts of what is found on a machine: its sources, what is skipped or isn't planned there, and where the findings
+//! of `check` are.
+//!
+//! The machine comes from plan_machine. `shown` says how people are shown paths and names. Read `listing` first, then
+//! `reports`. `places` passes the sources on to `check`, and finds the file of each finding.
+#![tactic(auto)]
+
+mod listing;
+mod places;
+mod reports;
+mod shown;
+
+pub use listing::write_sources;
+pub use places::{located, paths_of, places_have_paths, sources_of};
+pub use reports::{Reports, is_incomplete, write_reports};

@@ -1,0 +1,5 @@
+pub mod RoomLemmas
+pub mod WidthLemmas
+pub mod LineLemmas
+pub mod TimeLemmas
+pub mod TableLemmas

@@ -1,0 +1,208 @@
+//! All that is found on a machine: its sources, what is skipped, and what isn't planned.
+
+ghost use Rattle.std.specs.Prelude.{◌≡◌, true, IfOk, IfNone, IfSome, map};
+ghost use Rattle.plan_timers.specs.Timers.{found_view};
+ghost use Rattle.plan_machine.specs.Machine.{AreTooManyUnits, IsMachine, distinct, is_same, is_told, machine_of, machine_view, option_list, timer_source, unplanned_of};
+
+use crate::cron::crontabs;
+use crate::daemon::lacks_cron_daemon;
+use crate::others::{anacron_jobs, at_jobs, user_timers};
+use crate::source::MachineSource;
+use plan_rules::SourceKind;
+use plan_timers::{
+    NotPlanned, PlannedTimers, Skipped, TimerSource, TimersFound, copy_of, machine_timers,
+    planned_timers,
+};
+use plan_tree::{Complete, Listed, Tree};
+use plan_units::{UnitDir, search_path};
+use std::alloc::{AllocError, Global};
+
+/// What is found on a machine.
+#[derive(Debug, Drop)]
+pub struct Machine {
+    /// The sources: crontabs, then the timers that are planned.
+    pub sources: Vec<MachineSource>,
+    /// What is skipped: of crontabs, then of timers.
+    pub skipped: Vec<Skipped>,
+    /// What starts jobs but isn't planned: anacron, timers whose unit is missing or masked, at, timers of users.
+    pub unplanned: Vec<NotPlanned>,
+    /// Whether crontabs are among the sources, but no program that reads crontabs is there.
+    pub lacks_cron_daemon: bool,
+}
+
+/// Returns what is found on a machine: its crontabs, and those of its timers that the boot reaches, or with `all` each one that
+/// has a file. Returns `None` if the boot reaches more than 10,000 units.
+///
+/// Of each file the first `most` bytes are read, or all if there are fewer. Read at least 1,048,577, one more than a text may
+/// have: the unit that a timer starts is found in the bytes that were read.
+///
+/// # Errors
+///
+/// `AllocError` if an allocation fails.
+pub fn find_machine<T: Complete>(
+    alloc: Global,
+    tree: &T,
+    all: bool,
+    most: u64,
+) -> Result<Option<Machine>, AllocError>
+    ensures found { T.is_known ≡ true → IfOk result (λ found.
+        IfSome found (λ machine. IsMachine (T.held tree.now) all most machine)) }
+    ensures too_many { T.is_known ≡ true → IfOk result (λ found.
+        IfNone found (AreTooManyUnits (T.held tree.now))) }
+{
+    let listed = listed(alloc, tree)?;
+    find_in_tree(alloc, &listed, all, most)
+}
+
+// Returns a tree that holds what `tree` does, and knows what is in the directories of units.
+fn listed<'a, T: Complete>(alloc: Global, tree: &'a T) -> Result<Listed<'a, T>, AllocError>
+    ensures { IfOk result (λ listed. ⟦<Listed<'a, T> as Tree>⟧.held listed ≡ T.held tree.now) }
+{
+    let dirs = search_path(alloc, tree)?;
+    let mut paths = Vec::new(alloc);
+    for dir in dirs.as_slice() {
+        paths.push(dir.path.as_str())?;
+        paths.push(dir.real.as_str())?;
+    }
+    Listed::new(alloc, tree, paths.as_slice())
+}
+
+// Does the same for a tree that is read at each path.
+fn find_in_tree<T: Tree>(
+    alloc: Global,
+    tree: &T,
+    all: bool,
+    most: u64,
+) -> Result<Option<Machine>, AllocError>
+    ensures found { T.is_known ≡ true → IfOk result (λ found.
+        IfSome found (λ machine. IsMachine (T.held tree.now) all most machine)) }
+    ensures too_many { T.is_known ≡ true → IfOk result (λ found.
+        IfNone found (AreTooManyUnits (T.held tree.now))) }
+{
+    let dirs = search_path(alloc, tree)?;
+    match machine_timers(alloc, tree, dirs.as_slice(), all, most)? {
+        None => Ok(None),
+        Some(timers) => {
+            let machine = machine_of(alloc, tree, dirs.as_slice(), most, timers)?;
+            Ok(Some(machine))
+        }
+    }
+}
+
+// Returns what is found on a machine with these timers.
+fn machine_of<T: Tree>(
+    alloc: Global,
+    tree: &T,
+    dirs: &[UnitDir],
+    most: u64,
+    timers: TimersFound,
+) -> Result<Machine, AllocError>
+    ensures { T.is_known ≡ true → IfOk result (λ machine.
+        machine_view machine ≡ machine_of (T.held tree.now) dirs.now most (found_view timers)) }
+{
+    let crontabs = crontabs(alloc, tree, most)?;
+    let lacks_cron_daemon = lacks_cron_daemon(alloc, tree, crontabs.found())?;
+    let (mut sources, mut skipped) = crontabs.into_lists();
+    let TimersFound {
+        sources: timers,
+        skipped: mut more,
+    } = timers;
+    skipped.append(&mut more)?;
+    let skipped = distinct(alloc, skipped)?;
+    let PlannedTimers { planned, others } = planned_timers(alloc, tree, dirs, timers)?;
+    let mut timers = timer_sources(alloc, planned)?;
+    sources.append(&mut timers)?;
+    let unplanned = unplanned_of(alloc, tree, others)?;
+    Ok(Machine {
+        sources,
+        skipped,
+        unplanned,
+        lacks_cron_daemon,
+    })
+}
+
+// Returns the sources that some timers are.
+fn timer_sources(alloc: Global, timers: Vec<TimerSource>) -> Result<Vec<MachineSource>, AllocError>
+    ensures { IfOk result (λ sources. sources.items ≡ map timer_source timers.items) }
+{
+    let mut sources = Vec::new(alloc);
+    for timer in timers {
+        sources.push(timer_source(alloc, timer)?)?;
+    }
+    Ok(sources)
+}
+
+// Returns the source that a timer is.
+fn timer_source(alloc: Global, timer: TimerSource) -> Result<MachineSource, AllocError>
+    ensures { IfOk result (λ source. source ≡ timer_source timer) }
+{
+    let name = copy_of(alloc, timer.name.as_str())?;
+    let parts = timer.into_parts(alloc)?;
+    Ok(MachineSource::new(SourceKind::Timer, name, parts))
+}
+
+// Returns what isn't planned on a machine, with these timers.
+fn unplanned_of<T: Tree>(
+    alloc: Global,
+    tree: &T,
+    timers: Vec<NotPlanned>,
+) -> Result<Vec<NotPlanned>, AllocError>
+    ensures { T.is_known ≡ true → IfOk result (λ unplanned.
+        unplanned.items ≡ unplanned_of (T.held tree.now) timers.items) }
+{
+    let mut timers = timers;
+    let mut unplanned = list_of(alloc, anacron_jobs(alloc, tree)?)?;
+    unplanned.append(&mut timers)?;
+    let mut at = at_jobs(alloc, tree)?;
+    unplanned.append(&mut at)?;
+    let mut users = user_timers(alloc, tree)?;
+    unplanned.append(&mut users)?;
+    Ok(unplanned)
+}
+
+// Returns a list of what there is, if there is anything.
+fn list_of(alloc: Global, found: Option<NotPlanned>) -> Result<Vec<NotPlanned>, AllocError>
+    ensures { IfOk result (λ list. list.items ≡ option_list found) }
+{
+    let mut list = Vec::new(alloc);
+    if let Some(found) = found {
+        list.push(found)?;
+    }
+    Ok(list)
+}
+
+// Returns what is skipped, each once.
+fn distinct(alloc: Global, skipped: Vec<Skipped>) -> Result<Vec<Skipped>, AllocError>
+    ensures { IfOk result (λ once. once.items ≡ distinct skipped.items) }
+{
+    let mut once = Vec::new(alloc);
+    for one in skipped {
+        if !is_told(alloc, once.as_slice(), &one)? {
+            once.push(one)?;
+        }
+    }
+    Ok(once)
+}
+
+// Returns whether the same is among what is skipped.
+fn is_told(alloc: Global, told: &[Skipped], one: &Skipped) -> Result<bool, AllocError>
+    ensures { IfOk result (λ is. is ≡ is_told told.now one.now) }
+{
+    for other in told {
+        if is_same(alloc, other, one)? {
+            return Ok(true);
+        }
+    }
+    Ok(false)
+}
+
+// Returns whether two things that are skipped have one path and one reason.
+fn is_same(alloc: Global, other: &Skipped, one: &Skipped) -> Result<bool, AllocError>
+    ensures { IfOk result (λ is. is ≡ is_same other.now one.now) }
+{
+    if other.path.as_str() != one.path.as_str() {
+        return Ok(false);
+    }
+    let (first, second) = (other.why.text(alloc)?, one.why.text(alloc)?);
+    Ok(first.as_str() == second.as_str())
+}

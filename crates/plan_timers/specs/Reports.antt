@@ -1,0 +1,26 @@
+-- Why something is skipped or isn't planned, as it is printed (agenda).
+use Rattle.std.specs.Prelude.{ℕ, List, ◌++◌, codes}
+use Rattle.plan_timers.specs.declared.reports.Why.{Why}
+use Rattle.plan_timers.specs.declared.reports.Why.TheVariants.{BadName, Escape, NoSuchTimer, Masked, NotReadable, NameTaken, NotUtf8, WantedBy}
+use Rattle.plan_timers.specs.declared.reports.Unplanned.{Unplanned}
+use Rattle.plan_timers.specs.declared.reports.Unplanned.TheVariants.{Anacron, Monotonic, AtJobs, UserTimers, UnitMissing, UnitMasked}
+
+-- why something is skipped
+abbrev pub why_text : Why → List ℕ
+why_text BadName = codes "bad name"
+why_text Escape = codes "escape"
+why_text NoSuchTimer = codes "no such timer"
+why_text Masked = codes "masked"
+why_text NotReadable = codes "not readable"
+why_text NameTaken = codes "name taken"
+why_text NotUtf8 = codes "a name that isn't UTF-8"
+why_text (WantedBy unit) = codes "wanted by " ++ unit ++ codes " alone, which the boot does not start"
+
+-- why something that starts jobs isn't planned
+abbrev pub unplanned_text : Unplanned → List ℕ
+unplanned_text Anacron = codes "anacron starts jobs by days since they ran"
+unplanned_text Monotonic = codes "starts by OnBootSec= or the like"
+unplanned_text AtJobs = codes "jobs of at"
+unplanned_text UserTimers = codes "user timers"
+unplanned_text (UnitMissing unit) = codes "its unit " ++ unit ++ codes " is missing"
+unplanned_text (UnitMasked unit) = codes "its unit " ++ unit ++ codes " is masked"

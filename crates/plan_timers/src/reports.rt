@@ -1,0 +1,133 @@
+//! What is skipped on a machine, what starts jobs there but isn't planned, and why.
+
+ghost use Rattle.std.specs.Prelude.{◌≡◌, ◌++◌, IfOk};
+ghost use Rattle.plan_timers.specs.Reports.{unplanned_text, why_text};
+
+use plan_texts::Text;
+use std::alloc::{AllocError, Global};
+
+/// Why something is skipped.
+#[derive(Debug, Drop)]
+pub enum Why {
+    /// A source can't have the name.
+    BadName,
+    /// The name of an instance has a `\`.
+    Escape,
+    /// The timer has no file.
+    NoSuchTimer,
+    /// It is a mask.
+    Masked,
+    /// It leads to no regular file that can be read, or to no directory that can be listed and searched.
+    NotReadable,
+    /// An earlier source has the name.
+    NameTaken,
+    /// The directory has a name that isn't UTF-8. Its other names are read.
+    NotUtf8,
+    /// The timer is wanted by this unit alone, which the boot does not start.
+    WantedBy(Text),
+}
+
+impl Why {
+    /// Returns the reason as it is printed.
+    ///
+    /// # Errors
+    ///
+    /// `AllocError` if an allocation fails.
+    pub fn text(&self, alloc: Global) -> Result<Text, AllocError>
+        ensures { IfOk result (λ text. text ≡ why_text self.now) }
+    {
+        match self {
+            Why::BadName => copy_of(alloc, "bad name"),
+            Why::Escape => copy_of(alloc, "escape"),
+            Why::NoSuchTimer => copy_of(alloc, "no such timer"),
+            Why::Masked => copy_of(alloc, "masked"),
+            Why::NotReadable => copy_of(alloc, "not readable"),
+            Why::NameTaken => copy_of(alloc, "name taken"),
+            Why::NotUtf8 => copy_of(alloc, "a name that isn't UTF-8"),
+            Why::WantedBy(unit) => around(
+                alloc,
+                "wanted by ",
+                unit.as_str(),
+                " alone, which the boot does not start",
+            ),
+        }
+    }
+}
+
+/// Something that is skipped.
+#[derive(Debug, Drop)]
+pub struct Skipped {
+    /// Its path.
+    pub path: Text,
+    /// Why it is skipped.
+    pub why: Why,
+}
+
+/// Why something that starts jobs isn't planned.
+#[derive(Debug, Drop)]
+pub enum Unplanned {
+    /// It is the table of anacron.
+    Anacron,
+    /// The timer has a monotonic setting and no calendar event.
+    Monotonic,
+    /// The directory has jobs of at.
+    AtJobs,
+    /// The directory has timers of a user.
+    UserTimers,
+    /// The unit that the timer starts has no file.
+    UnitMissing(Text),
+    /// The unit that the timer starts is masked.
+    UnitMasked(Text),
+}
+
+impl Unplanned {
+    /// Returns the reason as it is printed.
+    ///
+    /// # Errors
+    ///
+    /// `AllocError` if an allocation fails.
+    pub fn text(&self, alloc: Global) -> Result<Text, AllocError>
+        ensures { IfOk result (λ text. text ≡ unplanned_text self.now) }
+    {
+        match self {
+            Unplanned::Anacron => copy_of(alloc, "anacron starts jobs by days since they ran"),
+            Unplanned::Monotonic => copy_of(alloc, "starts by OnBootSec= or the like"),
+            Unplanned::AtJobs => copy_of(alloc, "jobs of at"),
+            Unplanned::UserTimers => copy_of(alloc, "user timers"),
+            Unplanned::UnitMissing(unit) => {
+                around(alloc, "its unit ", unit.as_str(), " is missing")
+            }
+            Unplanned::UnitMasked(unit) => around(alloc, "its unit ", unit.as_str(), " is masked"),
+        }
+    }
+}
+
+/// Something that starts jobs but isn't planned.
+#[derive(Debug, Drop)]
+pub struct NotPlanned {
+    /// Its path.
+    pub path: Text,
+    /// Why it isn't planned.
+    pub why: Unplanned,
+}
+
+/// Returns a copy of a text.
+///
+/// # Errors
+///
+/// `AllocError` if an allocation fails.
+pub fn copy_of(alloc: Global, text: &str) -> Result<Text, AllocError>
+    ensures { IfOk result (λ copy. copy ≡ text.now) }
+{
+    Ok(Text::new(String::from_str(alloc, text)?))
+}
+
+// Returns a name with a text before and a text after it.
+fn around(alloc: Global, front: &str, name: &str, back: &str) -> Result<Text, AllocError>
+    ensures { IfOk result (λ whole. whole ≡ front.now ++ name.now ++ back.now) }
+{
+    let mut whole = String::from_str(alloc, front)?;
+    whole.push_str(name)?;
+    whole.push_str(back)?;
+    Ok(Text::new(whole))
+}

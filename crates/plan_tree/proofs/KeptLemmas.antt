@@ -1,0 +1,174 @@
+-- What is kept of a tree stays so.
+use Rattle.std.proofs.Common.{◌≡◌, ℕ, Bool, true, false, ◌||◌, List, [], ◌∷◌, ◌++◌, Option, None, Some, MatchOption, IfSome, Bor, ◌+◌, take, drop, take-append-drop, lit<, arith, cond, is_some, string_bytes, length, ◌<◌, refl, ap, sym, ◌∙◌, subst, inl, inr, ◌⊎◌}
+use Rattle.std.proofs.lemmas.List.{drop_more}
+use Rattle.std.proofs.lemmas.List.Folds.{list_any-append}
+use Rattle.std.proofs.lemmas.Slice.Eq.{bytes_eq-Decides}
+use Rattle.std.specs.HashMap.{IsEmpty, get_by_text}
+use Rattle.std.proofs.lemmas.Str.{len_utf8_ascii}
+use Rattle.std.proofs.lemmas.Str.Pattern.{NoCharPasses-char}
+use Rattle.std.specs.List.{list_any}
+use Rattle.std.specs.Str.Pattern.{RFindsChar, SplitsAroundMatch}
+use Rattle.std.specs.Map.{lookup, update}
+use Rattle.std.specs.Str.{bytes_eq}
+use Rattle.plan_tree.specs.declared.kept.Kept.{Kept}
+use Rattle.plan_tree.specs.declared.kept.KeptDir.{KeptDir}
+use Rattle.plan_tree.specs.declared.tree.Listing.{Listing}
+use Rattle.plan_tree.specs.declared.tree.Node.{Node}
+use Rattle.plan_tree.specs.declared.tree.Node.TheVariants.{Missing}
+use Rattle.plan_tree.specs.Complete.{IsComplete, IsName, LacksSlash, is_searchable}
+use Rattle.plan_tree.specs.Kept.{HasNames, IsKept, IsListing, Keeps, dir_at, has_node, node_at}
+use Rattle.plan_tree.specs.Links.{is_here, is_up}
+use Rattle.plan_tree.specs.Tree.{Held, listed, path_below}
+
+true_or_false : (b : Bool) → (b ≡ true) ⊎ (b ≡ false)
+true_or_false true = inl refl
+true_or_false false = inr refl
+
+-- a path that is split before and after its last slash
+pub split_last :
+    (text : List ℕ) (r : Option (Bor (List ℕ) × Bor (List ℕ))) →
+    MatchOption r (RFindsChar 47 text None)
+    (λ x. SplitsAroundMatch (RFindsChar 47) text x.0.now x.1.now) →
+    IfSome r (λ x. (text ≡ path_below x.0.now x.1.now) × LacksSlash x.1.now)
+split_last text None found = tt
+split_last text (Some x) found =
+    let i = found.0 in
+    let j = found.1 in
+    let next : j ≡ i + 1 = omega (arith, found.2.1.ends, len_utf8_ascii 47 (lit< tt)) in
+    let back : x.1.now ≡ drop (i + 1) text = found.4 ∙ ap (λ n. drop n text) next in
+    let inside : i < length text = omega (arith, found.7) in (
+      sym (take-append-drop i text)
+          ∙ ap (λ l. take i text ++ l) (drop_more text i 0 inside ∙ ap (λ b. b ∷ drop (i + 1) text) (found.2.1.byte (lit< tt)))
+          ∙ ap (λ f. f ++ 47 ∷ drop (i + 1) text) (sym found.3) ∙ ap (λ b. x.0.now ++ 47 ∷ b) (sym back),
+      subst LacksSlash (sym found.4) (λ k within. NoCharPasses-char 47 (drop j text) k found.2.0 (lit< tt) within),
+    )
+
+-- a path that isn't kept, in a directory that is kept as complete, is missing
+pub left_out :
+    (held : Held) (kept : Kept) (path dir name : List ℕ) (found : KeptDir) → IsKept held kept →
+    (path ≡ path_below dir name) × LacksSlash name → dir_at kept dir ≡ Some found → found.is_complete ≡ true →
+    is_here name ≡ false → is_up name ≡ false → node_at kept path ≡ None → held.node path ≡ Missing
+left_out held kept path dir name found is split has complete here up none =
+    subst (λ p. held.node p ≡ Missing) (sym split.0)
+    (is.2 dir found name has complete (split.1, here, up) (ap (node_at kept) (sym split.0) ∙ none))
+
+-- ---- one more node
+
+same_by :
+    {X : Type 0} (path q : List ℕ) (more found : X) (old : Option X) (b : Bool) → bytes_eq path q ≡ b →
+    cond b (Some more) old ≡ Some found → ((path ≡ q) × (more ≡ found)) ⊎ (old ≡ Some found)
+same_by path q more found old true is has = inl ((bytes_eq-Decides path q).0 is, (cc))
+same_by path q more found old false is has = inr has
+
+none_by : (w : Node) (old : Option Node) (b : Bool) → cond b (Some w) old ≡ None → old ≡ None
+none_by w old true none = absurd (cc)
+none_by w old false none = none
+
+some_by : (w : Node) (old : Option Node) (b : Bool) → is_some old ≡ true → is_some (cond b (Some w) old) ≡ true
+some_by w old true some = refl
+some_by w old false some = some
+
+pub keeps_with_node :
+    (held : Held) (old new : Kept) (path : List ℕ) (node : Node) → new.dirs ≡ old.dirs →
+    ((q : List ℕ) → node_at new q ≡ update bytes_eq (node_at old) path (Some node) q) → node ≡ held.node path → Keeps held old new
+keeps_with_node held old new path node dirs nodes is = (
+  λ kept. (
+    λ q other found.
+        elim (same_by path q node other (node_at old q) (bytes_eq path q) refl (sym (nodes q) ∙ found)) as (λ _. held.node q ≡ other) [
+          | inl both ↦ ap held.node (sym both.0) ∙ sym is ∙ both.1
+          | inr before ↦ kept.0 q other before
+        ],
+    λ q dir found. kept.1 q dir (ap (λ d. get_by_text d q) (sym dirs) ∙ found),
+    λ q dir name found complete ordinary none.
+        kept.2 q dir name (ap (λ d. get_by_text d q) (sym dirs) ∙ found) complete ordinary
+        (none_by node (node_at old (path_below q name)) (bytes_eq path (path_below q name)) (sym (nodes (path_below q name)) ∙ none)),
+  ),
+  λ q some. ap is_some (nodes q) ∙ some_by node (node_at old q) (bytes_eq path q) some,
+)
+
+-- ---- one after the other
+
+pub nothing_kept : (held : Held) (kept : Kept) → IsEmpty kept.nodes → IsEmpty kept.dirs → IsKept held kept
+nothing_kept held kept nodes dirs = (
+  λ path node found. absurd (no_node (sym (ap (lookup (λ k. bytes_eq path (string_bytes k))) nodes) ∙ found)),
+  λ path dir found. absurd (no_dir (sym (ap (lookup (λ k. bytes_eq path (string_bytes k))) dirs) ∙ found)),
+  λ path dir name found complete ordinary none.
+      absurd (no_dir (sym (ap (lookup (λ k. bytes_eq path (string_bytes k))) dirs) ∙ found)),
+)
+  where
+    no_node : {node : Node} → None ≡ Some node → ⊥
+    no_node is = cc
+
+    no_dir : {dir : KeptDir} → None ≡ Some dir → ⊥
+    no_dir is = cc
+
+pub keeps_none : (held : Held) (kept : Kept) → Keeps held kept kept
+keeps_none held kept = (λ is. is, λ path some. some)
+
+pub keeps_both : (held : Held) (first next last : Kept) → Keeps held first next → Keeps held next last → Keeps held first last
+keeps_both held first next last one other = (λ is. other.0 (one.0 is), λ path some. other.1 path (one.1 path some))
+
+either : (a b : Bool) → (a || b) ≡ true → (a ≡ true) ⊎ (b ≡ true)
+either true b is = inl refl
+either false b is = inr is
+
+-- one more name has something that is kept
+pub has_one_more :
+    (old new : Kept) (dir : List ℕ) (names : List (List ℕ)) (name : List ℕ) → HasNames old dir names →
+    ((path : List ℕ) → has_node old path ≡ true → has_node new path ≡ true) → has_node new (path_below dir name) ≡ true →
+    HasNames new dir (names ++ name ∷ [])
+has_one_more old new dir names name has stays more = λ q is.
+    let parts = sym (list_any-append (bytes_eq q) names (name ∷ [])) ∙ is in
+    elim (either (list_any (bytes_eq q) names) (list_any (bytes_eq q) (name ∷ [])) parts) as (λ _. has_node new (path_below dir q) ≡ true) [
+      | inl before ↦ stays (path_below dir q) (has q before)
+      | inr here ↦
+          elim (either (bytes_eq q name) false here) as (λ _. has_node new (path_below dir q) ≡ true) [
+            | inl same ↦ ap (λ n. has_node new (path_below dir n)) ((bytes_eq-Decides q name).0 same) ∙ more
+            | inr other ↦ absurd (cc)
+          ]
+    ]
+
+-- ---- one more listing
+
+absent_by : (any : Bool) (node : Option Node) → (any ≡ true → is_some node ≡ true) → node ≡ None → any ≡ false
+absent_by true kept some none = let is : is_some kept ≡ true = some refl in absurd (cc)
+absent_by false kept some none = refl
+
+-- in a directory whose listing is whole, and which can be searched, what isn't kept is missing
+complete_in :
+    (held : Held) (kept : Kept) (dir : List ℕ) (listing : Listing) (name : List ℕ) → IsComplete held → IsListing held kept dir listing →
+    listing.is_whole ≡ true → is_searchable held dir ≡ true → IsName name → node_at kept (path_below dir name) ≡ None →
+    held.node (path_below dir name) ≡ Missing
+complete_in held kept dir listing name complete is whole searchable ordinary none =
+    complete dir listing.names.items name (is.0 ∙ ap (λ b. Some (listing.names.items, b)) whole) searchable ordinary
+    (absent_by (list_any (bytes_eq name) listing.names.items) (node_at kept (path_below dir name)) (is.1 name) none)
+
+pub keeps_with_listing :
+    (held : Held) (old new : Kept) (path : List ℕ) (found : KeptDir) → new.nodes ≡ old.nodes →
+    ((q : List ℕ) → dir_at new q ≡ update bytes_eq (dir_at old) path (Some found) q) → IsComplete held →
+    IsListing held old path found.listing →
+    (found.is_complete ≡ true → (found.listing.is_whole ≡ true) × (is_searchable held path ≡ true)) →
+    Keeps held old new
+keeps_with_listing held old new path found nodes dirs complete is whole = (
+  λ kept. (
+    λ q node has. kept.0 q node (ap (λ n. get_by_text n q) (sym nodes) ∙ has),
+    λ q dir has.
+        elim (same_by path q found dir (dir_at old q) (bytes_eq path q) refl (sym (dirs q) ∙ has))
+        as (λ _. held.names q ≡ Some (listed dir.listing)) [
+          | inl both ↦ ap held.names (sym both.0) ∙ is.0 ∙ ap (λ d. Some (listed d.listing)) both.1
+          | inr before ↦ kept.1 q dir before
+        ],
+    λ q dir name has ends ordinary none.
+        let none_old : node_at old (path_below q name) ≡ None = ap (λ n. get_by_text n (path_below q name)) (sym nodes) ∙ none in
+        elim (same_by path q found dir (dir_at old q) (bytes_eq path q) refl (sym (dirs q) ∙ has))
+        as (λ _. held.node (path_below q name) ≡ Missing) [
+          | inl both ↦
+              let both_hold = whole (ap (λ d. d.is_complete) both.1 ∙ ends) in
+              ap (λ p. held.node (path_below p name)) (sym both.0)
+              ∙ complete_in held old path found.listing name complete is both_hold.0 both_hold.1 ordinary
+              (ap (λ p. node_at old (path_below p name)) both.0 ∙ none_old)
+          | inr before ↦ kept.2 q dir name before ends ordinary none_old
+        ],
+  ),
+  λ q some. ap (λ n. is_some (get_by_text n q)) nodes ∙ some,
+)

@@ -1,0 +1,9 @@
+use Rattle.std.proofs.Common.{◌≡◌, drop, map}
+use Rattle.std.specs.List.{list_any}
+use Rattle.std.specs.Str.{bytes_eq}
+use Rattle.plan_tree.proofs.few.has_name.Given as goal
+
+abbrev pub invariant-loop-other : goal.invariant-loop-other
+invariant-loop-other l =
+    list_any (bytes_eq l.name) (map (λ other. other.now) l.names)
+    ≡ list_any (bytes_eq l.name) (map (λ other. other.now) (drop l.other-index l.names))

@@ -1,0 +1,7 @@
+use Rattle.std.proofs.Common.{◌≡◌, true, take}
+use Rattle.plan_tree.specs.Kept.{HasNames, Keeps}
+use Rattle.plan_tree.proofs.kept.keep_names.Given as goal
+
+abbrev pub invariant-loop-name : goal.invariant-loop-name
+invariant-loop-name g l =
+    g.T.Tree.is_known ≡ true → Keeps (g.T.Tree.held l.tree) l.fn.kept l.kept × HasNames l.kept l.dir (take l.name-index l.names)

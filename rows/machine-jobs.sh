@@ -1,0 +1,118 @@
+# shellcheck shell=bash disable=SC2154,SC2034
+# Rows of `agenda machine upcoming`, `plan` and `quiet`: the starts of a machine's jobs, the times and the zone in which they are
+# shown, the errors that are skipped, and the question that is answered if none is given. Expected lines are worked out by
+# hand: CET is the zone of Berlin, where clocks are put forward on 31 March 2024 at 01:00 UTC; cron's @daily starts at midnight.
+
+# shellcheck source=/dev/null
+. "$top/rows/lib/program.sh"
+
+# Compares what the present root answers to the arguments $1 with the lines $2, in which `;` is a newline and `>` a tab, the
+# errors $3, with `;` between them, and the lines $4 as in program_lines. The root has the name $5.
+jobs_are() {
+  local wanted errors words
+  local text=${2//;/$'\n'}
+  text=${text//>/$tab}
+  printf '%s' "${text:+$text$'\n'}" >"$work/out.wanted"
+  program_lines "$4"
+  errors=${3//;/$'\n'}
+  printf '%s' "${errors:+$errors$'\n'}" >>"$work/err.wanted"
+  [ -z "$errors" ] || wanted=1
+  IFS=' ' read -r -a words <<<"$1"
+  program_run "${words[@]}" --root root
+  program_compare "$1 of '$5'" "$work/out.wanted" "$work/err.wanted" "$wanted"
+}
+
+# Rows from standard input: a root, arguments, and the fields of jobs_are.
+jobs_rows() {
+  local root words lines errors reports
+  while IFS='|' read -r root words lines errors reports; do
+    program_make "$root"
+    jobs_are "$words" "$lines" "$errors" "$reports" "$root"
+  done
+}
+
+# ---- the forms of an answer
+
+jobs_rows <<'ROWS'
+x/|plan --since 2024-03-31T00:00:00Z --until 2024-04-01T00:00:00Z|agenda 2 UTC>2024-03-31T00:00:00+00:00>2024-04-01T00:00:00+00:00>0||
+x/|plan --utc --since 2024-03-31T00:00:00Z --until 2024-04-01T00:00:00Z|agenda 2>2024-03-31T00:00:00Z>2024-04-01T00:00:00Z>0||
+x/|upcoming --after 2024-03-31T00:00:00Z|||
+x/|quiet --since 2024-03-31T00:00:00Z --until 2024-03-31T00:30:00Z|2024-03-31T00:00:00+00:00>2024-03-31T00:30:00+00:00>1800||
+x/|quiet --since 2024-03-31T00:00:00Z --until 2024-03-31T00:29:59Z|||
+S/u=@daily\x20a\n|upcoming --after 2024-03-31T00:00:00Z|2024-04-01T00:00:00+00:00>u:1>a||
+S/u=@daily\x20a\n|upcoming --utc --after 2024-03-31T00:00:00Z|2024-04-01T00:00:00Z>u:1>a||
+S/u=@daily\x20a\n|upcoming --json --utc --after 2024-03-31T00:00:00Z|{"start":"2024-04-01T00:00:00Z","job":"u:1","run":"a"}||
+S/u=@daily\x20a\n|upcoming --json --after 2024-03-31T00:00:00Z|{"start":"2024-04-01T00:00:00Z","local":"2024-04-01T00:00:00+00:00","job":"u:1","run":"a"}||
+S/u=@daily\x20a\n|quiet --utc --least 43200 --since 2024-03-31T06:00:00Z --until 2024-04-01T12:00:00Z|2024-03-31T06:00:00Z>2024-04-01T00:00:00Z>64800;2024-04-01T00:00:00Z>2024-04-01T12:00:00Z>43200||
+ROWS
+
+# The default question is `upcoming`, whatever option comes first.
+jobs_rows <<'ROWS'
+S/u=@daily\x20a\n|--after 2024-03-31T00:00:00Z|2024-04-01T00:00:00+00:00>u:1>a||
+S/u=@daily\x20a\n|--utc --after 2024-03-31T00:00:00Z|2024-04-01T00:00:00Z>u:1>a||
+S/u=0\x200\x2030\x202\x20*\x20a\n||none>u:1>a||
+ROWS
+
+# ---- zones
+
+jobs_rows <<'ROWS'
+etc/localtime>/usr/share/zoneinfo/CET usr/share/zoneinfo/CET=CET S/u=30\x203\x20*\x20*\x20*\x20a\n|upcoming --after 2024-03-30T12:00:00Z|2024-03-31T03:30:00+02:00>u:1>a||
+etc/localtime=CET S/u=30\x203\x20*\x20*\x20*\x20a\n|upcoming --after 2024-03-31T12:00:00Z|2024-04-01T03:30:00+02:00>u:1>a||
+etc/localtime=CET S/u=30\x203\x20*\x20*\x20*\x20a\n|upcoming --utc --after 2024-03-31T12:00:00Z|2024-04-01T03:30:00Z>u:1>a||
+etc/localtime/ S/u=@daily\x20a\n|upcoming --after 2024-03-31T00:00:00Z|2024-04-01T00:00:00+00:00>u:1>a||zone
+etc/localtime/ S/u=@daily\x20a\n|upcoming --zone UTC --after 2024-03-31T00:00:00Z|2024-04-01T00:00:00+00:00>u:1>a||
+ROWS
+
+# ---- timers, and their delays
+
+jobs_rows <<'ROWS'
+*a.timer U/a.timer=DAILY|upcoming --utc --after 2024-03-31T00:00:00Z|2024-04-01T00:00:00Z>a.timer>a.service||
+*a.timer U/a.timer=[Timer]\nOnCalendar=daily\nRandomizedDelaySec=1h\nAccuracySec=1s\n|upcoming --utc --after 2024-03-31T00:00:00Z|2024-04-01T00:00:00Z>a.timer>a.service||
+*a.timer U/a.timer=[Timer]\nOnCalendar=daily\nRandomizedDelaySec=1h\nAccuracySec=1s\n|upcoming --utc --delays --after 2024-03-31T00:00:00Z|2024-04-01T00:00:00Z>2024-04-01T01:00:01Z>a.timer>a.service||
+*a.timer U/a.timer=[Timer]\nOnCalendar=daily\nRandomizedDelaySec=1h\nAccuracySec=1s\n|quiet --utc --since 2024-04-01T00:00:00Z --until 2024-04-01T02:00:00Z|2024-04-01T01:00:01Z>2024-04-01T02:00:00Z>3599||
+*a.timer U/a.timer=[Timer]\nOnCalendar=daily\nRandomizedDelaySec=1h\nAccuracySec=1s\n|quiet --utc --nominal --since 2024-04-01T00:00:00Z --until 2024-04-01T02:00:00Z|2024-04-01T00:00:00Z>2024-04-01T02:00:00Z>7200||
+U/a.timer=DAILY|plan --utc --since 2024-04-01T00:00:00Z --upto 2024-04-02T00:00:00Z|agenda 2>2024-04-01T00:00:00Z>2024-04-02T00:00:00Z>0||
+U/a.timer=DAILY|plan --utc --all --since 2024-04-01T00:00:00Z --upto 2024-04-02T00:00:00Z|agenda 2>2024-04-01T00:00:00Z>2024-04-02T00:00:00Z>1;2024-04-01T00:00:00Z>a.timer>a.service||
+ROWS
+
+# ---- what is skipped
+
+# An error has the path and the line of the file that it is in, and the other jobs are planned.
+jobs_rows <<'ROWS'
+S/u=x\n@daily\x20a\n|upcoming --utc --after 2024-03-31T00:00:00Z|2024-04-01T00:00:00Z>u:2>a|root/var/spool/cron/crontabs/u:1: error: expected NAME=VALUE, or five fields and a command [BadSetting]|
+*a.timer U/a.timer=DAILY E/a.timer.d/x.conf=\n[Timer]\nOnCalendar=24:00\n S/u=@daily\x20a\n|upcoming --utc --after 2024-03-31T00:00:00Z|2024-04-01T00:00:00Z>u:1>a;2024-04-01T00:00:00Z>a.timer>a.service|root/etc/systemd/system/a.timer.d/x.conf:3: error: hour in '24:00': out of range 0-23 [OutOfRange]|
+C/a/ S/u=@daily\x20a\n|upcoming --utc --after 2024-03-31T00:00:00Z|2024-04-01T00:00:00Z>u:1>a||C/a not readable
+*a.timer E/a.timer= U/a.timer|upcoming --after 2024-03-31T00:00:00Z|||E/a.timer masked
+ROWS
+machine_has_cron=no
+jobs_rows <<'ROWS'
+S/u=@daily\x20a\n|upcoming --utc --after 2024-03-31T00:00:00Z|2024-04-01T00:00:00Z>u:1>a||cron
+S/u=x\n|upcoming --utc --after 2024-03-31T00:00:00Z||root/var/spool/cron/crontabs/u:1: error: expected NAME=VALUE, or five fields and a command [BadSetting]|cron
+ROWS
+machine_has_cron=yes
+
+# ---- errors
+
+# Rows from standard input: arguments, and the line on standard error. Nothing is printed.
+jobs_errors() {
+  local words line
+  program_make 'S/u=*\x20*\x20*\x20*\x20*\x20a\n'
+  while IFS='|' read -r words line; do
+    echo "$line" >"$work/err.wanted"
+    read -r -a words <<<"$words"
+    program_run "${words[@]}" --root root
+    program_compare "${words[*]}" /dev/null "$work/err.wanted" 1
+  done
+}
+jobs_errors <<'ROWS'
+upcoming --after yesterday|agenda: after: BadForm
+plan --since 2024-01-01|agenda: since: BadForm
+plan --since 2024-01-01T00:00:00Z --until 2024-02-30T00:00:00Z|agenda: upto: NoSuchDate
+plan --since 2024-01-02T00:00:00Z --until 2024-01-01T00:00:00Z|agenda: span: Backwards
+plan --limit 59 --since 2024-01-01T00:00:00Z --until 2024-01-01T01:00:00Z|agenda: plan: TooMany
+plan --limit 0 --since 2024-01-01T00:00:00Z --until 2024-01-01T01:00:00Z|agenda: plan: BadLimit
+plan --planners 9 --since 2024-01-01T00:00:00Z --until 2024-01-01T01:00:00Z|agenda: plan: BadSize
+quiet --least 0 --since 2024-01-01T00:00:00Z --until 2024-01-01T01:00:00Z|agenda: quiet: BadLeast
+upcoming --zone Nowhere/At_all|agenda: zone: NoSuchZone
+upcoming --zone Nowhere/At_all --after x|agenda: zone: NoSuchZone
+ROWS

@@ -1,0 +1,239 @@
+# shellcheck shell=bash disable=SC2154
+# What the words of the commands of `agenda machine` ask for: the texts of help, and of usage. In the rows the words have `|` between
+# them; `machine` and the name of the program aren't among them. rows/words.sh has the help of `machine` itself.
+
+machine_words_folder=$work/machine-words
+
+# Runs `agenda machine` with the words $1.
+machine_words_run() {
+  local words
+  IFS='|' read -ra words <<<"$1"
+  run_in "$machine_words_folder" agenda machine "${words[@]}"
+}
+
+machine_words_make_help() {
+  cat >"$machine_words_folder/sources.text" <<'END'
+Lists a machine's crontabs and timers
+
+Usage: agenda machine sources [OPTIONS]
+
+Options:
+      --root <DIR>  Read the machine whose root directory is DIR [default: /]
+      --all         Include timers that aren't enabled
+      --json        Print each line as a JSON object; agenda(1)
+                    describes the keys
+  -h, --help        Print help
+
+Prints a line for each crontab and each timer: its kind, its name and its path, separated
+by tabs. The kinds are system-crontab, cron-d, spool and timer. After a timer there is a
+line of the kind drop-in for each of its drop-ins. Standard error has a line for each file
+that is skipped or isn't planned. The exit status is 1 if a file or a directory can't be
+read, otherwise 0.
+
+Example:
+  agenda machine sources --root /mnt --all
+END
+  cat >"$machine_words_folder/check.text" <<'END'
+Prints errors and likely mistakes in a machine's crontabs and timers
+
+Usage: agenda machine check [OPTIONS]
+
+Options:
+      --root <DIR>   Read the machine whose root directory is DIR [default: /]
+      --all          Include timers that aren't enabled
+      --zone <ZONE>  The time zone of the rules, such as Europe/Berlin,
+                     or the path of a TZif file; that of the machine
+                     if it isn't given
+      --utc          Read the rules in UTC, like --zone UTC, and print
+                     times in UTC
+      --json         Print each line as a JSON object; agenda(1)
+                     describes the keys
+  -h, --help         Print help
+
+Prints all errors and warnings about the files that 'agenda machine sources' lists, in the
+form of 'agenda check'. Each names the file and the line that it is about, even if that is
+a line of a drop-in. Standard error has a line for each file that is skipped or isn't
+planned. The exit status is 1 if there is an error, or if a file or a directory can't be
+read, otherwise 0.
+
+Example:
+  agenda machine check --root /mnt --zone Europe/Berlin
+END
+}
+
+machine_words_make_answers_help() {
+  cat >"$machine_words_folder/upcoming.text" <<'END'
+Prints when each job of a machine starts next
+
+Usage: agenda machine upcoming [OPTIONS]
+
+Options:
+      --root <DIR>   Read the machine whose root directory is DIR [default: /]
+      --all          Include timers that aren't enabled
+      --after <T>    Only starts later than this time, in UTC, such as
+                     2026-12-01T22:00:00Z; now if it isn't given
+      --zone <ZONE>  The time zone of the rules, such as Europe/Berlin,
+                     or the path of a TZif file; that of the machine
+                     if it isn't given
+      --utc          Read the rules in UTC, like --zone UTC, and print
+                     times in UTC
+      --delays       Show each start with the latest time at which it may
+                     happen (RandomizedDelaySec= and AccuracySec=)
+      --json         Print each line as a JSON object; agenda(1)
+                     describes the keys
+  -h, --help         Print help
+
+Prints what 'agenda upcoming' prints, about the files that 'agenda machine sources' lists.
+Times are those of the machine's clocks, with their offset from UTC. Standard error has a
+line for each file that is skipped or isn't planned, and the errors of the files. The exit
+status is 1 if there is such an error or if a file can't be read, otherwise 0.
+
+Example:
+  agenda machine upcoming --root /mnt --delays
+END
+}
+
+# Each row has a text and words that ask for it.
+machine_words_tell_help() {
+  local text words
+  while IFS=' ' read -r text words; do
+    machine_words_run "$words"
+    compare "words: machine|$words" "$machine_words_folder/$text.text" /dev/null 0
+  done <<'END'
+sources sources|--help
+sources sources|-h
+sources sources|--root|none|--all|--json|-h
+upcoming upcoming|--help
+upcoming --after|x|-h
+upcoming --all|--help
+check check|--help
+check check|-h
+check check|--root|none|--utc|--zone|UTC|-h
+END
+}
+
+# The words $1 are no use of the program, and standard input has the text that says so.
+machine_words_tell_usage() {
+  cat >"$machine_words_folder/usage"
+  machine_words_run "$1"
+  compare "words: machine|$1" /dev/null "$machine_words_folder/usage" 2
+}
+
+machine_words_tell_usages() {
+  local words
+  machine_words_tell_usage 'source' <<'END'
+error: unrecognized subcommand 'source'
+
+  tip: a similar subcommand exists: 'sources'
+
+Usage: agenda machine [COMMAND] [OPTIONS]
+
+For more information, try '--help'.
+END
+  machine_words_tell_usage 'check|--local' <<'END'
+error: unexpected argument '--local' found
+
+Usage: agenda machine check [OPTIONS]
+
+For more information, try '--help'.
+END
+  for words in 'check|--zone|Europe/Berlin|--utc' 'check|--utc|--root=none|--zone=UTC' 'check|--utc|--zone=' '--utc|--zone=UTC' \
+    'upcoming|--utc|--zone=UTC' 'plan|--utc|--zone=UTC' 'quiet|--utc|--zone=UTC'; do
+    machine_words_tell_usage "$words" <<'END'
+error: the argument '--zone <ZONE>' cannot be used with '--utc'
+
+For more information, try '--help'.
+END
+  done
+}
+
+# Each row has words that are no use of the program, ` => ` and the first line of the text that says so.
+machine_words_begin_usage() {
+  local row words
+  while IFS= read -r row; do
+    words=${row%% => *}
+    printf '%s\n' "${row#* => }" >"$machine_words_folder/usage"
+    machine_words_run "$words"
+    head -n 1 "$work/err" >"$machine_words_folder/begin"
+    mv -- "$machine_words_folder/begin" "$work/err"
+    compare "words: machine|$words" /dev/null "$machine_words_folder/usage" 2
+  done <<'END'
+next => error: unrecognized subcommand 'next'
+machine => error: unrecognized subcommand 'machine'
+help => error: unrecognized subcommand 'help'
+Check => error: unrecognized subcommand 'Check'
+--version => error: unexpected argument '--version' found
+--all|sources => error: unexpected argument 'sources' found
+--root|.|sources => error: unexpected argument 'sources' found
+--since=x => error: unexpected argument '--since' found
+--|sources => error: unexpected argument 'sources' found
+sources|check => error: unexpected argument 'check' found
+sources|a.timer => error: unexpected argument 'a.timer' found
+sources|--root => error: a value is required for '--root <DIR>' but none was supplied
+sources|--root=a|--root=a => error: the argument '--root <DIR>' cannot be used multiple times
+sources|--all|--all => error: the argument '--all' cannot be used multiple times
+sources|--all=yes => error: unexpected value 'yes' for '--all' found; no more were expected
+sources|--json|--json => error: the argument '--json' cannot be used multiple times
+sources|--zone=UTC => error: unexpected argument '--zone' found
+sources|--utc => error: unexpected argument '--utc' found
+sources|--crontab=a => error: unexpected argument '--crontab' found
+sources|--keep-going => error: unexpected argument '--keep-going' found
+sources|--version => error: unexpected argument '--version' found
+sources|-x => error: unexpected argument '-x' found
+check|a.timer => error: unexpected argument 'a.timer' found
+check|--root => error: a value is required for '--root <DIR>' but none was supplied
+check|--root=a|--root=b => error: the argument '--root <DIR>' cannot be used multiple times
+check|--all|--all => error: the argument '--all' cannot be used multiple times
+check|--zone => error: a value is required for '--zone <ZONE>' but none was supplied
+check|--zone=UTC|--zone=UTC => error: the argument '--zone <ZONE>' cannot be used multiple times
+check|--utc|--utc => error: the argument '--utc' cannot be used multiple times
+check|--utc=yes => error: unexpected value 'yes' for '--utc' found; no more were expected
+check|--json=yes => error: unexpected value 'yes' for '--json' found; no more were expected
+check|--crontab=a => error: unexpected argument '--crontab' found
+check|--event-zones => error: unexpected argument '--event-zones' found
+check|--keep-going => error: unexpected argument '--keep-going' found
+check|--since=x => error: unexpected argument '--since' found
+check|--version => error: unexpected argument '--version' found
+upcoming|tomorrow => error: unexpected argument 'tomorrow' found
+upcoming|--since=x => error: unexpected argument '--since' found
+upcoming|--after=x|--after=x => error: the argument '--after <T>' cannot be used multiple times
+upcoming|--nominal => error: unexpected argument '--nominal' found
+upcoming|--limit=1 => error: unexpected argument '--limit' found
+plan|--after=x => error: unexpected argument '--after' found
+plan|--since => error: a value is required for '--since <T>' but none was supplied
+plan|--until=x|--upto=x => error: the argument '--until <T>' cannot be used multiple times
+plan|--least=1 => error: unexpected argument '--least' found
+plan|--local => error: unexpected argument '--local' found
+plan|--limit=x => error: invalid value 'x' for '--limit <N>': invalid digit found in string
+quiet|--delays => error: unexpected argument '--delays' found
+END
+}
+
+# Only the first word after the name of the program is `machine`: these words aren't those of `agenda machine`. Each row has words, ` => `
+# and the first line of the text that says that they are no use of the program.
+machine_words_elsewhere() {
+  local row words
+  while IFS= read -r row; do
+    words=${row%% => *}
+    printf '%s\n' "${row#* => }" >"$machine_words_folder/usage"
+    IFS='|' read -ra words <<<"$words"
+    run_in "$machine_words_folder" agenda "${words[@]}"
+    head -n 1 "$work/err" >"$machine_words_folder/begin"
+    mv -- "$machine_words_folder/begin" "$work/err"
+    compare "words: ${row%% => *}" /dev/null "$machine_words_folder/usage" 2
+  done <<'END'
+--|machine|sources => error: unexpected argument 'machine' found
+Machine|sources => error: unrecognized subcommand 'Machine'
+machin|sources => error: unrecognized subcommand 'machin'
+help|machine => error: unrecognized subcommand 'help'
+explain|machine => error: invalid value 'machine' for '[CODE]'
+END
+}
+
+mkdir -p "$machine_words_folder"
+machine_words_make_help
+machine_words_make_answers_help
+machine_words_tell_help
+machine_words_tell_usages
+machine_words_begin_usage
+machine_words_elsewhere
