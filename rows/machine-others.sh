@@ -316,12 +316,14 @@ no|[Timer]\nOnBootSec=5\nOnCalendar=\0
 yes|[Timer]\nOnBootSec=\0
 ROWS
 
-# A timer of agenda's largest size, and one of a byte more, which agenda skips.
+# A timer of agenda's largest size, and one of a byte more, which agenda skips. Their lines are long: the script takes
+# most of a minute for a million short ones.
+printf -v comment '#%.0s' {1..999}
 machine_make '*a.timer *b.timer *c.timer U/a.timer=[Timer]\nOnBootSec=5 U/b.timer=[Timer]\nOnBootSec=5 U/c.timer=[Timer]\nOnBootSec=5\n E/c.timer.d/x.conf=x\n'
 for path in a 1048557 b 1048558 c 1048546; do
   case $path in
     [abc]) name=$machine_folder/root/usr/lib/systemd/system/$path.timer ;;
-    *) head -c "$path" /dev/zero | tr '\0' '\n' >>"$name" ;;
+    *) { yes "$comment" | head -c "$((path - 1))" && echo; } >>"$name" ;;
   esac
 done
 others_lines "timer U/a.timer,timer U/c.timer" timers >"$work/err.wanted"

@@ -41,9 +41,9 @@ machine_locked() {
 # The script ends by a signal, $1, with the option of timeout in $2, while agenda runs: agenda ends first, what it has
 # reported is printed, and the temporary directory is removed.
 machine_signalled() {
-  local machine_by=(timeout ${2:+"$2"} -s "$1" 0.4)
+  local machine_by=(timeout ${2:+"$2"} -s "$1" 1)
   rm -f "$MACHINE_LOG.ended"
-  MACHINE_COMPLAINS='a\nb\n' MACHINE_SLEEPS=1.5 machine_run --root root plan
+  MACHINE_COMPLAINS='a\nb\n' MACHINE_SLEEPS=4 machine_run --root root plan
   printf '%s\n' a b >"$work/err.wanted"
   diff -u --label "standard error wanted" --label "standard error" "$work/err.wanted" "$work/err" >>"$work/told"
   [ -e "$MACHINE_LOG.words" ] || tell "agenda wasn't run"

@@ -397,8 +397,8 @@ table_streams
 table_signals() {
   local signal machine_by
   for signal in HUP INT QUIT TERM; do
-    table_at 2025-03-29T11:00:00Z timeout -s "$signal" 0.6
-    MACHINE_SAYS='2025-03-29T12:00:00+00:00\ta\tb\n' MACHINE_COMPLAINS='c\n' MACHINE_SLEEPS=2 machine_run --root root --table upcoming
+    table_at 2025-03-29T11:00:00Z timeout -s "$signal" 1.2
+    MACHINE_SAYS='2025-03-29T12:00:00+00:00\ta\tb\n' MACHINE_COMPLAINS='c\n' MACHINE_SLEEPS=5 machine_run --root root --table upcoming
     echo c >"$work/err.wanted"
     diff -u "$work/err.wanted" "$work/err" >>"$work/told"
     [ ! -s "$work/out" ] || tell "something on standard output"
