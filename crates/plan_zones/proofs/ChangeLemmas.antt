@@ -1,6 +1,6 @@
 -- The changes of a zone up to a second, and what one more change does.
 -- For `changes_of` and `add_year`.
-use Rattle.std.proofs.Common.{◌≡◌, ◌≢◌, ℕ, zero, suc, ◌+◌, ◌-◌, ◌≤◌, ◌<◌, ℤ, pos, neg_ℤ, true, false, cond, ◌==◌, not, nat_le, List, [], ◌∷◌, ◌++◌, length, refl, sym, ap, subst, ◌∙◌, arith, inl, inr, FitsSigned, to_z, of_z, to_z-of_z, w32}
+use Rattle.std.proofs.Common.{◌≡◌, ◌≢◌, ℕ, ◌+◌, ◌-◌, ◌≤◌, ◌<◌, ℤ, true, false, cond, ◌==◌, not, nat_le, List, [], ◌∷◌, ◌++◌, length, refl, sym, ap, subst, ◌∙◌, arith, inl, inr, FitsSigned, to_z, of_z, to_z-of_z, w32}
 use Rattle.std.specs.List.{prefix_len}
 use Rattle.std.specs.Ordering.{int_eq}
 use Rattle.std.proofs.lemmas.Bool.{and_parts}
@@ -13,9 +13,8 @@ use Rattle.std.proofs.Math.Seq.{get_or-append_seam}
 use Rattle.jiff_core.specs.Timestamp.{IsOffsetSeconds}
 use Rattle.jiff_core.proofs.SignedLemmas.{signed_arith}
 use Rattle.jiff_tz.specs.declared.tzif.Tzif.{Tzif}
-use Rattle.jiff_tz.proofs.TzifLemmas.{le_yes}
 use Rattle.plan_clock.specs.declared.row.Change.{Change}
-use Rattle.plan_clock.specs.Rows.{is_near, most_offset, no_change, offset_of, row_after, row_at}
+use Rattle.plan_clock.specs.Rows.{is_near, no_change, offset_of, row_at}
 use Rattle.plan_zones.specs.Changes.{added, change_at, ends_with_offset, zone_offset, Covers}
 
 -- how many changes are at or before a second
@@ -24,14 +23,10 @@ passed_at changes n = prefix_len (λ (change : Change). nat_le change.second n) 
 
 -- a change that has passed, and the first that has not
 passed_passes : (changes : List Change) (n k : ℕ) → k < passed_at changes n → (change_at changes k).second ≤ n
-passed_passes changes n k l =
-    let pass = prefix_len_passes (λ (change : Change). nat_le change.second n) changes k no_change l in
-    grind (arith, nat_tests)
+passed_passes changes n k l = grind (arith, nat_tests, prefix_len_passes)
 
 passed_stops : (changes : List Change) (n : ℕ) → passed_at changes n < length changes → n < (change_at changes (passed_at changes n)).second
-passed_stops changes n l =
-    let stop = prefix_len_stops (λ (change : Change). nat_le change.second n) changes no_change l in
-    grind (arith, nat_tests)
+passed_stops changes n l = grind (arith, nat_tests, prefix_len_stops)
 
 passed_bound : (changes : List Change) (n : ℕ) → passed_at changes n ≤ length changes
 passed_bound changes n = prefix_len-le-length _ changes
@@ -66,14 +61,7 @@ push_all :
     (P : Change → Type 0) (changes : List Change) (change : Change) →
     ((k : ℕ) → k < length changes → P (change_at changes k)) → P change →
     (k : ℕ) → k < length (changes ++ change ∷ []) → P (change_at (changes ++ change ∷ []) k)
-push_all P changes change each last k l =
-    let len = length-push changes change in
-    elim (leb_tells (k + 1) (length changes)) [
-      | inl before ↦ let lt : k < length changes = omega arith in subst P (sym (at_left changes change k lt)) (each k lt)
-      | inr at_last ↦
-          let same : length changes ≡ k = omega arith in
-          subst (λ j. P (change_at (changes ++ change ∷ []) j)) same (subst P (sym (at_end changes change)) last)
-    ]
+push_all P changes change each last k l = grind (arith, nat_tests, common_steps, length-push, leb_tells, at_left, at_end)
 
 -- the same for a property of each change and the next
 push_pairs :
@@ -82,22 +70,7 @@ push_pairs :
     (0 < length changes → P (change_at changes (length changes - 1)) change) →
     (k : ℕ) → k + 1 < length (changes ++ change ∷ []) →
     P (change_at (changes ++ change ∷ []) k) (change_at (changes ++ change ∷ []) (k + 1))
-push_pairs P changes change each last k l =
-    let more : List Change = changes ++ change ∷ [] in
-    let len = length-push changes change in
-    let lt : k < length changes = omega arith in
-    let left = at_left changes change k lt in
-    elim (leb_tells (k + 2) (length changes)) [
-      | inl before ↦
-          let right = at_left changes change (k + 1) (omega arith) in
-          subst (λ a. P a (change_at more (k + 1))) (sym left) (subst (P (change_at changes k)) (sym right) (each k (omega arith)))
-      | inr at_last ↦
-          let same : length changes ≡ k + 1 = omega arith in
-          let back : length changes - 1 ≡ k = omega arith in
-          let right : change_at more (k + 1) ≡ change = subst (λ j. change_at more j ≡ change) same (at_end changes change) in
-          let pair : P (change_at changes k) change = subst (λ j. P (change_at changes j) change) back (last (omega arith)) in
-          subst (λ a. P a (change_at more (k + 1))) (sym left) (subst (P (change_at changes k)) (sym right) pair)
-    ]
+push_pairs P changes change each last k l = grind (arith, nat_tests, length-push, at_left, leb_tells, at_end)
 
 -- an offset of jiff is less than 26 hours from UTC
 near : (offset : ℤ) → IsOffsetSeconds offset → is_near offset ≡ true
@@ -106,10 +79,7 @@ near offset h = grind (arith, nat_tests)
 push_near :
     (changes : List Change) (change : Change) → ((k : ℕ) → is_near (change_at changes k).offset ≡ true) →
     is_near change.offset ≡ true → (k : ℕ) → is_near (change_at (changes ++ change ∷ []) k).offset ≡ true
-push_near changes change each last k = elim (leb_tells (k + 1) (length (changes ++ change ∷ []))) [
-  | inl inside ↦ push_all (λ c. is_near c.offset ≡ true) changes change (λ j l. each j) last k (omega arith)
-  | inr past ↦ ap (λ c. is_near c.offset) (get_or_past (changes ++ change ∷ []) k no_change (omega arith))
-]
+push_near changes change each last k = grind (arith, nat_tests, common_steps, leb_tells, push_all, get_or_past)
 
 -- the offset before the new change, and from it on
 offset_before :
@@ -150,20 +120,11 @@ offset_from changes change n each h =
 offset_last :
     (changes : List Change) (n : ℕ) → 0 < length changes → ((k : ℕ) → k < length changes → (change_at changes k).second ≤ n) →
     offset_of changes n ≡ (change_at changes (length changes - 1)).offset
-offset_last changes n some each =
-    offset_of-passed changes n (length changes) (passed_by changes n (length changes) (omega arith) each (λ l. absurd (omega arith))) some
+offset_last changes n some each = grind (arith, nat_tests, offset_of-passed, passed_by)
 
 -- at each second some change has passed, if there is one at second 0
 passed_some : (changes : List Change) (n : ℕ) → 0 < length changes → (change_at changes 0).second ≡ 0 → 0 < passed_at changes n
-passed_some changes n some first = elim (leb_tells 1 (passed_at changes n)) [
-  | inl found ↦ omega arith
-  | inr none_found ↦
-      let none : passed_at changes n ≡ 0 = omega arith in
-      let stop = passed_stops changes n (omega arith) in
-      let at : (change_at changes (passed_at changes n)).second ≡ (change_at changes 0).second =
-      ap (λ k. (change_at changes k).second) none in
-      absurd (omega arith)
-]
+passed_some changes n some first = grind (arith, nat_tests, common_steps, leb_tells, passed_stops)
 
 -- the changes of a zone up to a second are extended up to a later one, if the offset is the same in between
 pub Covers-added :

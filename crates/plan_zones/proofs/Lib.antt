@@ -1,5 +1,4 @@
 pub mod RuleLemmas
 pub mod YearLemmas
 pub mod ChangeLemmas
-pub mod RefusalLemmas
-pub mod InstantLemmas
+pub mod ReadsLemmas

@@ -1,8 +1,8 @@
 -- Up to the next transition after an instant, and in the same year, the offset of a zone doesn't change.
-use Rattle.std.proofs.Common.{◌≡◌, ℕ, ◌-◌, ◌≤◌, ◌<◌, ℤ, pos, neg_ℤ, ◌≤ℤ◌, ◌<ℤ◌, true, false, cond, ◌==◌, ◌&&◌, int_le, int_lt, length, Option, None, Some, refl, sym, ap, subst, ◌∙◌, arith, vec_len}
+use Rattle.std.proofs.Common.{◌≡◌, ℕ, ◌-◌, ◌≤◌, ◌<◌, ℤ, pos, neg_ℤ, ◌≤ℤ◌, ◌<ℤ◌, true, false, cond, ◌==◌, int_le, int_lt, length, Option, None, Some, refl, sym, ap, subst, ◌∙◌, arith, vec_len}
 use Rattle.std.proofs.lemmas.Bool.Decides.{nat_tests}
 use Rattle.std.proofs.lemmas.List.Sums.{prefix_len_passes, prefix_len-le-length}
-use borrow.Author.Differences.{lt-true, lt-false, le-true, le-false}
+use borrow.Author.Differences.{lt-true, le-true}
 use Rattle.jiff_core.specs.declared.Offset.{Offset}
 use Rattle.jiff_core.specs.Timestamp.{nanos_of_seconds}
 use Rattle.jiff_core.proofs.SignedLemmas.{signed_arith}
@@ -15,7 +15,6 @@ use Rattle.jiff_tz.specs.PosixRule as Posix
 use Rattle.jiff_tz.specs.Tzif.{transition_at, transition_view, no_transition, count_at, floor_second, rule_after, type_after}
 use Rattle.jiff_tz.specs.Tzif as Table
 use Rattle.jiff_tz.specs.Year.{year_of_nanos}
-use Rattle.jiff_tz.proofs.TzifLemmas.{le_yes, le_no}
 use Rattle.jiff_tz.proofs.ZoneTheorems.{count_is}
 use Rattle.plan_zones.specs.Changes.{zone_offset, year_at}
 use Rattle.plan_sets.specs.Limits.{end_second}
@@ -103,17 +102,7 @@ offset_after z c n = match_some (rule_after z c) (type_after z c).offset (λ tz.
 after_steady : (z : Tzif) (c : ℕ) (n m : ℤ) → n ≤ℤ m → first_instant ≤ℤ n → m ≤ℤ last_instant → year_of_nanos m ≡ year_of_nanos n
     → (c == vec_len z.transitions ≡ true → IsBefore m (match_some z.posix_tz None (λ tz. Posix.next_at tz n))) →
     offset_after z c m ≡ offset_after z c n
-after_steady z c n m up low high year before = elim (c == vec_len z.transitions) as
-    (λ b. c == vec_len z.transitions ≡ b → match_some (cond b z.posix_tz None) (type_after z c).offset
-    (λ tz. Posix.offset_at tz m) ≡ match_some (cond b z.posix_tz None) (type_after z c).offset (λ tz. Posix.offset_at tz n)) [
-      | true ↦ λ e. (elim z.posix_tz as (λ o. IsBefore m (match_some o None (λ tz. Posix.next_at tz n)) →
-          match_some o (type_after z c).offset (λ tz. Posix.offset_at tz m) ≡ match_some o (type_after z c).offset
-          (λ tz. Posix.offset_at tz n)) [
-            | None ↦ λ h. refl
-            | Some tz ↦ λ h. rule_steady tz n m up low high year h
-          ]) (before e)
-      | false ↦ λ e. refl
-    ] refl
+after_steady z c n m up low high year before = grind (arith, nat_tests, rule_steady)
 
 -- a zone's offset up to its next transition, in one year
 pub zone_steady :

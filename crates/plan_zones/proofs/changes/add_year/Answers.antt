@@ -5,9 +5,6 @@ use Rattle.plan_zones.proofs.ChangeLemmas.{offset-back, Covers-added}
 use Rattle.plan_zones.specs.Changes.{Covers, zone_offset}
 use Rattle.plan_zones.proofs.changes.add_year.Goals as goal
 
-pub loop-second-init : goal.loop-second-init
-loop-second-init c = record { from = omega arith; upto = c.requires.forward; covered = c.requires.covered }
-
 pub loop-second-preserved : goal.loop-second-preserved
 loop-second-preserved c =
     let z = c.args.zone.now in

@@ -1,21 +1,20 @@
 -- Bytes that are read as a zone are not rejected: what a rule gives depends only on its text.
-use Rattle.std.proofs.Common.{◌≡◌, ℕ, ◌-◌, ℤ, Bool, true, false, cond, List, get_or, length, map, Option, None, Some, Ok, refl, sym, ap, subst, ◌∙◌, inl, inr}
+use Rattle.std.proofs.Common.{◌≡◌, ℕ, ℤ, List, Option, None, Some, refl, ap, inl, inr}
 use Rattle.std.specs.Prelude.{option_map, IfSome}
 use Rattle.jiff_core.specs.declared.Offset.{Offset}
-use Rattle.jiff_core.specs.Timestamp.{nanos_of_seconds}
 use Rattle.jiff_tz.specs.Abbreviation.{abbreviation_text}
 use Rattle.jiff_tz.specs.declared.info.OffsetInfo.{OffsetInfo}
 use Rattle.jiff_tz.specs.declared.posix.DayTime.{DayTime}
 use Rattle.jiff_tz.specs.declared.posix.Dst.{Dst}
 use Rattle.jiff_tz.specs.declared.posix.TimeZone.{TimeZone}
 use Rattle.jiff_tz.specs.declared.tzif.Tzif.{Tzif}
-use Rattle.jiff_tz.specs.PosixRule.{dst_at_by, dst_info, in_window, info_at, match_some, rule_nanos, std_info, utc_window}
+use Rattle.jiff_tz.specs.PosixRule.{dst_at_by, dst_info, info_at, match_some, rule_nanos, std_info, utc_window}
 use Rattle.jiff_tz.specs.PosixText.{dst_view, tz_view}
-use Rattle.jiff_tz.specs.Tzif.{tzif_view}
 use Rattle.jiff_tz.specs.TzifAgree.{FooterAgrees}
-use Rattle.jiff_tz.specs.TzifText.{transition_text, TransitionText, no_row}
-use Rattle.jiff_tz.specs.Year.{year_of_nanos}
+use Rattle.jiff_tz.specs.TzifText.{TransitionText}
 use Rattle.plan_zones.specs.Zones.{IsBadZone, Reads}
+use Rattle.std.proofs.Common.{arith}
+use Rattle.std.proofs.lemmas.Bool.Decides.{nat_tests}
 
 -- a rule's time depends on its day, its time of day and its offset
 same_nanos : (y : ℤ) (a b : DayTime) (s t : ℤ) → a.date ≡ b.date → a.time ≡ b.time → s ≡ t → rule_nanos y a s ≡ rule_nanos y b t
@@ -25,12 +24,7 @@ same_nanos y a b s t date time seconds = rw (date, time, seconds) refl
 -- a window depends on its two ends
 same_window : (y : ℤ) (d e : Dst) (a b : Offset) → dst_view d ≡ dst_view e → a.seconds ≡ b.seconds → utc_window d y a ≡ utc_window e y b
 unfolding utc_window
-same_window y d e a b views std =
-    let dst : d.offset.seconds ≡ e.offset.seconds = ap (λ v. v.seconds) views in
-    let start = same_nanos y d.rule.start e.rule.start a.seconds b.seconds (ap (λ v. v.start.0) views) (ap (λ v. v.start.1) views) std in
-    let end = same_nanos y d.rule.end e.rule.end d.offset.seconds e.offset.seconds (ap (λ v. v.finish.0) views)
-    (ap (λ v. v.finish.1) views) dst in
-    rw (start, end, std) refl
+same_window y d e a b views std = grind (arith, nat_tests, same_nanos)
 
 -- what is known of an instant: the offset, whether it is daylight saving time, and the abbreviation
 abbrev said : OffsetInfo → ℤ × Rattle.jiff_tz.specs.declared.info.Dst.Dst × List ℕ
@@ -45,19 +39,7 @@ same_info_by :
 same_info_by a b n None None e std name = rw (std, name) refl
 same_info_by a b n None (Some d) e std name = absurd (cc)
 same_info_by a b n (Some d) None e std name = absurd (cc)
-same_info_by a b n (Some d) (Some f) e std name =
-    let views : dst_view d ≡ dst_view f = cc in
-    let seconds : d.offset.seconds ≡ f.offset.seconds = ap (λ v. v.seconds) views in
-    let text : abbreviation_text d.abbrev ≡ abbreviation_text f.abbrev = ap (λ v. v.name) views in
-    let window : in_window (utc_window d (year_of_nanos n) a.std_offset) n ≡ in_window (utc_window f (year_of_nanos n) b.std_offset) n =
-    ap (λ w. in_window w n) (same_window (year_of_nanos n) d f a.std_offset b.std_offset views std) in
-    let here : Bool = in_window (utc_window f (year_of_nanos n) b.std_offset) n in
-    ap (λ v. said (match_some (cond v (Some d) None) (std_info a) dst_info)) window
-    ∙ (elim here as (λ v. said (match_some (cond v (Some d) None) (std_info a) dst_info) ≡ said
-    (match_some (cond v (Some f) None) (std_info b) dst_info)) [
-      | true ↦ rw (seconds, text) refl
-      | false ↦ rw (std, name) refl
-    ])
+same_info_by a b n (Some d) (Some f) e std name = grind (arith, nat_tests, same_window, said)
 
 same_info : (a b : TimeZone) (n : ℤ) → tz_view a ≡ tz_view b → said (info_at a n) ≡ said (info_at b n)
 same_info a b n views = same_info_by a b n a.dst b.dst (ap (λ v. v.dst) views) (ap (λ v. v.std_seconds) views) (ap (λ v. v.std_name) views)
@@ -67,17 +49,9 @@ agrees_with :
     (rows : List TransitionText) (o : Option TimeZone) (rule : TimeZone) → option_map tz_view o ≡ Some (tz_view rule) →
     IfSome o (λ tz. FooterAgrees rows tz) → FooterAgrees rows rule
 agrees_with rows None rule e h = absurd (cc)
-agrees_with rows (Some tz) rule e h = λ l.
-    let views : tz_view tz ≡ tz_view rule = cc in
-    let info = same_info tz rule (nanos_of_seconds (get_or rows (length rows - 1) no_row).second) views in
-    let row = h l in
-    (sym (ap (λ t. t.0) info) ∙ row.0, sym (ap (λ t. t.1) info) ∙ row.1, sym (ap (λ t. t.2) info) ∙ row.2)
+agrees_with rows (Some tz) rule e h = grind (arith, nat_tests, same_info)
 
 -- bytes that are read as a zone are not a bad zone
 pub Reads-good : (bytes : List ℕ) (z : Tzif) → Reads bytes z → IsBadZone bytes → ⊥
-Reads-good bytes z reads (inl refused) = let ok = reads.read in let err = refused.1 in absurd (cc)
-Reads-good bytes z reads (inr bad) =
-    let same : Ok bad.text ≡ Ok (tzif_view z) = sym bad.read ∙ reads.read in
-    let text : bad.text ≡ tzif_view z = cc in
-    bad.disagrees (subst (λ rows. FooterAgrees rows bad.rule) (sym (ap (λ t. t.transitions) text))
-    (agrees_with (map transition_text z.transitions.items) z.posix_tz bad.rule (sym (ap (λ t. t.rule) text) ∙ bad.is_rule) reads.agrees))
+Reads-good bytes z reads (inl rejected) = let ok = reads.read in let err = rejected.1 in absurd (cc)
+Reads-good bytes z reads (inr bad) = grind (arith, nat_tests, agrees_with)
