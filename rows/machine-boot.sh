@@ -37,7 +37,7 @@ E/default.target>default.target U/default.target>x.target U/x.target *a.timer U/
 default.target>x.target etc/default.target U/x.target *a.timer U/a.timer||wanted D/a.timer x.target
 U/default.target>graphical.target U/graphical.target=[Unit]\nRequires=multi-user.target\nWants=display-manager.service\n U/multi-user.target=[Unit]\nRequires=basic.target\n U/basic.target U/basic.target.wants/timers.target>../timers.target U/timers.target E/timers.target.wants/a.timer>y U/a.timer|U/a.timer|
 U/default.target>x-y.target U/x-y.target U/x-y.target.wants/a.timer>y U/x-.target.wants/b.timer>y U/a.timer U/b.timer|U/a.timer U/b.timer|
-U/default.target>x-y.target U/x-y.target E/x-.target.wants/a.timer>/dev/null U/x-y.target.wants/a.timer>y U/a.timer||
+U/default.target>x-y.target U/x-y.target E/x-.target.wants/a.timer>/dev/null U/x-y.target.wants/a.timer>y U/a.timer||E/x-.target.wants/a.timer masked
 ROWS
 program_has_boot=yes
 

@@ -162,8 +162,8 @@ home/a\nb/.config/systemd/user/a.timer||user home/a\nb/.config/systemd/user
 C/a>x\ny etc/cron.d/x\ny|C/a|C/x\ny bad name
 ROWS
 
-# Names that aren't UTF-8 are ignored; of a directory of crontabs that is reported, before its names. So is a link whose
-# text isn't UTF-8, which leads nowhere.
+# Names that aren't UTF-8 are ignored. That is reported, of directories of crontabs before their names, and of directories of
+# units, of links that are read, and of drop-ins of timers that are sources. A link whose text isn't UTF-8 leads nowhere.
 program_sources <<'ROWS'
 C/\xff||etc/cron.d a name that isn't UTF-8
 C/\xff C/a C/a.b C/\xc3 C/\xed\xa0\x80|C/a|etc/cron.d a name that isn't UTF-8,C/a.b bad name
@@ -175,13 +175,14 @@ C/\xff/ S/\xff!||etc/cron.d a name that isn't UTF-8,var/spool/cron/crontabs a na
 C/a>\xff C/b|C/b|C/a not readable
 C/a>b\xff C/b\xff||etc/cron.d a name that isn't UTF-8,C/a not readable
 etc/\xff var/spool/\xff etc/crontab|etc/crontab|
-*\xff.timer *a.timer U/\xff.timer U/a.timer U/timer.d/\xff.conf U/\xff.timer.d/x.conf|U/a.timer|
-%a U/x.target.wants/b\xff.timer>y E/\xff.wants/a.timer>y|U/a.timer|
+*\xff.timer *a.timer U/\xff.timer U/a.timer U/timer.d/\xff.conf U/\xff.timer.d/x.conf|U/a.timer|usr/lib/systemd/system a name that isn't UTF-8,run/systemd/generator.late a name that isn't UTF-8,etc/systemd/system/x.target.wants a name that isn't UTF-8,usr/lib/systemd/system/timer.d a name that isn't UTF-8
+%a U/x.target.wants/b\xff.timer>y E/\xff.wants/a.timer>y|U/a.timer|etc/systemd/system a name that isn't UTF-8,run/systemd/generator.late a name that isn't UTF-8,usr/lib/systemd/system/x.target.wants a name that isn't UTF-8
+%a E/y.target.wants/\xff>y E/b.timer.d/\xff E/x.target.d/\xff.conf|U/a.timer|
 E/x.target=[Unit]\nWants=\xff.timer\x20a.timer\n U/a.timer||
-home/\xff/.config/systemd/user/a.timer home/a/.config/systemd/user/\xff.timer||
+home/\xff/.config/systemd/user/a.timer home/a/.config/systemd/user/\xff.timer||run/systemd/generator.late a name that isn't UTF-8
 ROWS
 program_sources --all <<'ROWS'
-U/\xff.timer U/a.timer|U/a.timer|
+U/\xff.timer U/a.timer|U/a.timer|usr/lib/systemd/system a name that isn't UTF-8,run/systemd/generator.late a name that isn't UTF-8
 ROWS
 
 # ---- sizes
@@ -304,10 +305,14 @@ F/a|var/spool/cron||var/spool/cron not readable
 %a|U/a.timer||U/a.timer not readable
 %a E/a.timer|E/a.timer||E/a.timer not readable
 %a U/a.timer.d/x.conf|U/a.timer.d/x.conf|U/a.timer|U/a.timer.d/x.conf not readable
-%a U/a.timer.d/x.conf|U/a.timer.d|U/a.timer|
+%a U/a.timer.d/x.conf|U/a.timer.d|U/a.timer|U/a.timer.d not readable
+%a *b.timer U/timer.d/x.conf U/b.timer|U/timer.d|U/a.timer U/b.timer|U/timer.d not readable
+%a E/b.timer.d/x.conf E/a.service.d/x.conf|E/b.timer.d E/a.service.d|U/a.timer|
 E/x.target=[Unit]\nWants=a.timer\n U/a.timer|E/x.target||
-%a|etc/systemd/system/x.target.wants||
-%a|etc/systemd/system||
+%a|etc/systemd/system/x.target.wants||etc/systemd/system/x.target.wants not readable
+%a E/y.target.wants/b.timer>y|E/y.target.wants|U/a.timer|
+%a E/target.requires/b.timer|E/target.requires|U/a.timer|E/target.requires not readable
+%a|etc/systemd/system||etc/systemd/system not readable
 %a *b.timer L/b.timer|usr/lib|L/b.timer|D/a.timer no such timer
 C/a>/opt/x opt/x|opt||C/a not readable
 C/a>/opt/d/x opt/d/x|opt||C/a not readable
@@ -320,6 +325,9 @@ ROWS
 C/a C/b.c|etc/cron.d||etc/cron.d not readable
 S/a|var/spool/cron/crontabs||var/spool/cron/crontabs not readable
 F/a|var/spool/cron||var/spool/cron not readable
+%a|etc/systemd/system||etc/systemd/system not readable
+%a D/b.timer|etc/systemd/system/x.target.wants||etc/systemd/system/x.target.wants not readable
+%a U/a.timer.d/x.conf|U/a.timer.d|U/a.timer|U/a.timer.d/x.conf not readable,U/a.timer.d not readable
 F/atjobs/a home/ann/.config/systemd/user/a.timer|F/atjobs home/ann/.config/systemd/user||
 ROWS
   hostile_mode=000

@@ -166,7 +166,7 @@ program_sources <<'ROWS'
 *a.timer L/a.timer= B/a.timer U/a.timer||L/a.timer masked
 *a.timer H/a.timer= E/a.timer||H/a.timer masked
 D/a.timer>y B/a.timer= U/a.timer||B/a.timer masked
-*a.timer B/a.timer= U/a.timer||
+*a.timer B/a.timer= U/a.timer||D/a.timer masked
 *a.timer E/a.timer U/a.timer= |E/a.timer|
 *a.timer E/a.timer R/a.timer>/dev/null|E/a.timer|
 *a.timer *b.timer E/a.timer>/dev/null U/b.timer|U/b.timer|E/a.timer masked
@@ -179,25 +179,25 @@ D/a.timer>/nowhere U/a.timer|U/a.timer|
 D/a.timer>../b.timer E/b.timer U/a.timer|U/a.timer|
 D/a.timer>a.timer U/a.timer|U/a.timer|
 D/a.timer>/opt opt/x U/a.timer|U/a.timer|
-D/a.timer U/a.timer||
-D/a.timer/ U/a.timer||
-D/a.timer! U/a.timer||
-D/a.timer= U/a.timer||
-D/a.timer>/dev/null U/a.timer||
-D/a.timer>../../../../../../../dev/null U/a.timer||
-D/a.timer>/opt/e opt/e= U/a.timer||
+D/a.timer U/a.timer||D/a.timer no link
+D/a.timer/ U/a.timer||D/a.timer no link
+D/a.timer! U/a.timer||D/a.timer no link
+D/a.timer= U/a.timer||D/a.timer masked
+D/a.timer>/dev/null U/a.timer||D/a.timer masked
+D/a.timer>../../../../../../../dev/null U/a.timer||D/a.timer masked
+D/a.timer>/opt/e opt/e= U/a.timer||D/a.timer masked
 D/.a.timer>y D/.timer>y D/a.timer.x>y U/a.timer||
 E/x.target.wants/a.timer>y E/x.target.requires/b.timer>y U/x.target.wants/c.timer>y U/a.timer U/b.timer U/c.timer|U/a.timer U/b.timer U/c.timer|
 E/x.target.want/a.timer>y E/x.target.upholds/a.timer>y E/x.target.wants.d/a.timer>y E/x.targets/a.timer>y U/a.timer||
-D/a.timer>/dev/null U/x.target.wants/a.timer>y U/a.timer||
-D/a.timer= B/x.target.wants/a.timer>y U/a.timer||
-D/a.timer U/x.target.wants/a.timer>y U/a.timer||
-D/a.timer/ U/x.target.wants/a.timer>y U/a.timer||
-A/x.target.wants/a.timer>/dev/null D/a.timer>y U/a.timer||
+D/a.timer>/dev/null U/x.target.wants/a.timer>y U/a.timer||D/a.timer masked
+D/a.timer= B/x.target.wants/a.timer>y U/a.timer||D/a.timer masked
+D/a.timer U/x.target.wants/a.timer>y U/a.timer||D/a.timer no link
+D/a.timer/ U/x.target.wants/a.timer>y U/a.timer||D/a.timer no link
+A/x.target.wants/a.timer>/dev/null D/a.timer>y U/a.timer||A/x.target.wants/a.timer masked
 D/a.timer>y U/x.target.wants/a.timer>/dev/null U/a.timer|U/a.timer|
 D/a.timer>y U/x.target.wants/a.timer U/a.timer|U/a.timer|
-D/a.timer>/dev/null E/x.target.requires/a.timer>y U/a.timer|U/a.timer|
-D/a.timer>y E/target.wants/a.timer>/dev/null U/a.timer|U/a.timer|
+D/a.timer>/dev/null E/x.target.requires/a.timer>y U/a.timer|U/a.timer|D/a.timer masked
+D/a.timer>y E/target.wants/a.timer>/dev/null U/a.timer|U/a.timer|E/target.wants/a.timer masked
 ROWS
 
 # Directories of links that are links are read where they lead, and what is found keeps the path in the directory of units.
@@ -206,15 +206,48 @@ E/x.target.wants>/opt/w opt/w/a.timer>y U/a.timer|U/a.timer|
 E/x.target.requires>../../../opt/w opt/w/a.timer>y U/a.timer|U/a.timer|
 E/x.target.wants>/opt/v opt/v>w opt/w/a.timer>y U/a.timer|U/a.timer|
 E/x.target.wants>/opt/w opt/w/a.timer>y||E/x.target.wants/a.timer no such timer
-E/x.target.wants>/opt/w opt/w/a.timer>/dev/null U/x.target.wants/a.timer>y U/a.timer||
-E/x.target.wants>/opt/w opt/w/a.timer U/a.timer||
+E/x.target.wants>/opt/w opt/w/a.timer>/dev/null U/x.target.wants/a.timer>y U/a.timer||E/x.target.wants/a.timer masked
+E/x.target.wants>/opt/w opt/w/a.timer U/a.timer||E/x.target.wants/a.timer no link
 E/x.target.requires>y.target.requires E/y.target.requires/a.timer>y U/a.timer|U/a.timer|
 E/x.target.wants>y.target.wants E/y.target.wants>x.target.wants U/a.timer||
-E/x.target.wants>/usr/lib/systemd/system U/a.timer||
+E/x.target.wants>/usr/lib/systemd/system U/a.timer||E/x.target.wants/a.timer no link
 E/target.wants>/opt/w opt/w/a.timer>y U/a.timer|U/a.timer|
 E/s.service.wants>/opt/w opt/w/a.timer>y D/s.service>y U/s.service U/a.timer|U/a.timer|
 E/x.target.wants>/opt/w opt/w U/a.timer||
 U/x.target.wants>nowhere||
+ROWS
+
+# Entries that enable nothing, of the directories that are read: those of units that are reached, have a file and aren't
+# masked, of their templates, of shorter names and of their types. Of entries of one name in directories of one name only
+# the first is looked at. The lines come in the order of the directories, before those of timers.
+program_sources <<'ROWS'
+D/a.timer D/b.service D/c.timer= D/d.conf U/a.timer||D/a.timer no link,D/c.timer masked
+D/a.timer U/x.target.wants/a.timer= ||D/a.timer no link
+U/x.target.wants/a.timer= N/x.target.wants/a.timer||U/x.target.wants/a.timer masked
+D/a\x20b.timer D/c@.timer||D/a\x20b.timer no link,D/c@.timer no link
+E/x.target.requires/b.timer>/dev/null E/target.wants/a.timer U/x.target.wants/a.timer/||E/target.wants/a.timer no link,E/x.target.requires/b.timer masked,U/x.target.wants/a.timer no link
+E/default.target.wants/a.timer||E/default.target.wants/a.timer no link
+E/y.target.wants/a.timer E/y.target.wants/b.timer= E/service.wants/c.timer||
+D/s.service>y U/s.service E/s.service.wants/a.timer E/service.wants/b.timer||E/s.service.wants/a.timer no link,E/service.wants/b.timer no link
+D/s.service>y E/s.service.wants/a.timer||
+D/s.service>y U/s.service= E/s.service.wants/a.timer||
+D/s@i.service>y U/s@.service E/s@i.service.wants/a.timer E/s@.service.wants/b.timer E/s@j.service.wants/c.timer||E/s@.service.wants/b.timer no link,E/s@i.service.wants/a.timer no link
+D/s-t.service>y U/s-t.service E/s-.service.wants/a.timer E/s.service.wants/b.timer E/-t.service.wants/c.timer||E/s-.service.wants/a.timer no link
+D/s-t@i.service>y U/s-t@.service E/s-@i.service.wants/a.timer E/s-@.service.wants/b.timer E/s-.service.wants/c.timer E/s-@j.service.wants/d.timer||E/s-.service.wants/c.timer no link,E/s-@.service.wants/b.timer no link,E/s-@i.service.wants/a.timer no link
+%a D/c.timer E/x.target.wants/b.timer>y|U/a.timer|D/c.timer no link,D/b.timer no such timer
+ROWS
+
+# Timers that only units want that aren't reached: a mask hides a link of its name only in a directory of the same name. What
+# is read for all units of a type is wanted by no unit.
+program_sources <<'ROWS'
+E/o.target.wants/a.timer>/dev/null E/p.target.wants/a.timer>y U/a.timer||wanted E/p.target.wants/a.timer p.target
+E/o.target.wants/a.timer E/p.target.wants/a.timer>y U/a.timer||wanted E/p.target.wants/a.timer p.target
+A/p.target.wants/a.timer>/dev/null E/p.target.wants/a.timer>y U/a.timer||
+A/p.target.wants/a.timer E/p.target.wants/a.timer>y U/a.timer||
+A/p.target.wants/a.timer>/dev/null E/p.target.requires/a.timer>y U/a.timer||wanted E/p.target.requires/a.timer p.target
+E/socket.wants/a.timer>y E/timer.requires/b.timer>y U/a.timer U/b.timer||
+E/socket.wants/a.timer>y U/p.target.wants/a.timer>y U/a.timer||wanted U/p.target.wants/a.timer p.target
+E/p.target.wants/b.timer>y A/o.target.wants/c.timer>y U/b.timer U/c.timer||wanted A/o.target.wants/c.timer o.target,wanted E/p.target.wants/b.timer p.target
 ROWS
 
 # Which link is reported: the first of the timer's name, in the order of the directories of units and then of names; without
@@ -224,7 +257,7 @@ program_sources <<'ROWS'
 E/x.target.wants/a.timer>y E/x.target.requires/a.timer>y||E/x.target.requires/a.timer no such timer
 U/x.target.wants/a.timer>y E/target.wants/a.timer>y||E/target.wants/a.timer no such timer
 D/s.service>y U/s.service E/s.service.wants/a.timer>y U/x.target.wants/a.timer>y||E/s.service.wants/a.timer no such timer
-E/x.target.wants/a.timer>/dev/null E/x.target.requires/a.timer>y||E/x.target.requires/a.timer no such timer
+E/x.target.wants/a.timer>/dev/null E/x.target.requires/a.timer>y||E/x.target.wants/a.timer masked,E/x.target.requires/a.timer no such timer
 E/x.target.d/w.conf=[Unit]\nWants=a.timer\n E/x.target=[Unit]\n||E/x.target no such timer
 E/x.target=[Unit]\nWants=a\\b.timer\x20@a.timer\n U/@a.timer||E/x.target no such timer
 ROWS
@@ -314,8 +347,8 @@ E/a.timer>/usr/lib/systemd/system/a.timer U/a.timer|U/a.timer|
 E/a.timer>/usr/lib/systemd/system/a.timer||
 U/a.timer>/nowhere||U/a.timer not readable
 U/a.timer! ||U/a.timer not readable
-D/a.timer>/dev/null U/a.timer|U/a.timer|
-D/a.timer U/a.timer|U/a.timer|
+D/a.timer>/dev/null U/a.timer|U/a.timer|D/a.timer masked
+D/a.timer U/a.timer|U/a.timer|D/a.timer no link
 E/y.target.wants/a.timer>y U/a.timer U/b.timer|U/a.timer U/b.timer|
 U/a-b.timer U/a@b.timer|U/a-b.timer|U/a@b.timer name taken
 *a.timer||D/a.timer no such timer

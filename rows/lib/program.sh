@@ -154,7 +154,7 @@ program_lines() {
         why="$path${why:+ $why}" path=$line line=skipped
         case $why in
           'not readable' | "a name that isn't UTF-8") wanted=1 ;;
-          'bad name' | escape | 'no such timer' | masked | 'name taken') ;;
+          'no link' | 'bad name' | escape | 'no such timer' | masked | 'name taken') ;;
           *) refuse "no such reason: $entry" ;;
         esac
         ;;

@@ -105,6 +105,7 @@ fn put_why<S: Stream>(why: &Why, lines: &mut TextWriter<'_, S>)
     ensures { Takes S.holds S.takes_all lines.old lines.new (shown (why_text why.now)) }
 {
     match why {
+        Why::NoLink => put_shown("no link", lines),
         Why::BadName => put_shown("bad name", lines),
         Why::Escape => put_shown("escape", lines),
         Why::NoSuchTimer => put_shown("no such timer", lines),

@@ -86,17 +86,121 @@ fn push_paths(text: &mut String, files: &[Part]) -> Result<(), AllocError> {
     Ok(())
 }
 
+// What is found on a machine, or an empty text if the boot reaches too many units.
+fn found_on(alloc: Global, machine: &str) -> Result<String, AllocError> {
+    let tree = TextTree(machine);
+    let dirs = search_path(alloc, &tree)?;
+    match machine_timers(alloc, &tree, dirs.as_slice(), false, MOST)? {
+        Some(found) => shown(alloc, &found),
+        None => Ok(String::new(alloc)),
+    }
+}
+
 #[test]
 fn timers_that_the_boot_reaches_are_sources(rt: HostRuntime) -> Result<(), Fail> {
-    let alloc = rt.alloc();
-    let tree = TextTree(MACHINE);
-    let dirs = search_path(alloc, &tree)?;
-    let found = machine_timers(alloc, &tree, dirs.as_slice(), false, MOST)?;
-    let text = match &found {
-        Some(found) => shown(alloc, found)?,
-        None => String::new(alloc),
-    };
+    let text = found_on(rt.alloc(), MACHINE)?;
     assert_eq!(&rt; text.as_str(), FOUND);
+    Ok(())
+}
+
+// The boot reaches x.target alone. No socket is reached, but sockets are no unit.
+const UNREACHED: &str = "\
+d etc
+d etc/systemd
+d etc/systemd/system
+l etc/systemd/system/default.target x.target
+f etc/systemd/system/x.target [Unit]|
+d etc/systemd/system/o.target.wants
+l etc/systemd/system/o.target.wants/a.timer /dev/null
+l etc/systemd/system/o.target.wants/b.timer y
+d etc/systemd/system/p.target.wants
+l etc/systemd/system/p.target.wants/a.timer y
+f etc/systemd/system/p.target.wants/c.timer x
+l etc/systemd/system/p.target.wants/d.timer y
+d etc/systemd/system/socket.wants
+l etc/systemd/system/socket.wants/e.timer y
+f etc/systemd/system/a.timer [Timer]|
+f etc/systemd/system/b.timer [Timer]|
+f etc/systemd/system/c.timer [Timer]|
+f etc/systemd/system/d.timer [Timer]|
+f etc/systemd/system/e.timer [Timer]|
+d usr
+d usr/lib
+d usr/lib/systemd
+d usr/lib/systemd/system
+d usr/lib/systemd/system/p.target.wants
+l usr/lib/systemd/system/p.target.wants/b.timer y
+l usr/lib/systemd/system/p.target.wants/c.timer y
+";
+
+// c.timer of the later directory is hidden by what has its name in the earlier one.
+const UNWANTED: &str = "\
+skipped etc/systemd/system/o.target.wants/b.timer: wanted by o.target alone, which the boot does not start
+skipped etc/systemd/system/p.target.wants/a.timer: wanted by p.target alone, which the boot does not start
+skipped etc/systemd/system/p.target.wants/d.timer: wanted by p.target alone, which the boot does not start
+";
+
+#[test]
+fn each_timer_that_no_reached_unit_wants_is_told_once(rt: HostRuntime) -> Result<(), Fail> {
+    let text = found_on(rt.alloc(), UNREACHED)?;
+    assert_eq!(&rt; text.as_str(), UNWANTED);
+    Ok(())
+}
+
+// The boot reaches x-y.target alone.
+const DIRECTORIES: &str = "\
+d etc
+d etc/systemd
+d etc/systemd/system
+l etc/systemd/system/default.target x-y.target
+f etc/systemd/system/x-y.target [Unit]|
+d etc/systemd/system/x-y.target.wants
+l etc/systemd/system/x-y.target.wants/a.timer y
+f etc/systemd/system/x-y.target.wants/b.timer x
+l etc/systemd/system/x-y.target.wants/c.timer /dev/null
+f etc/systemd/system/x-y.target.wants/d.timer
+f etc/systemd/system/x-y.target.wants/e.service x
+d etc/systemd/system/x-y.target.wants/f.timer
+p etc/systemd/system/x-.target.requires
+b etc/systemd/system/target.wants
+p etc/systemd/system/y.target.wants
+d etc/systemd/system/z.target.wants
+f etc/systemd/system/z.target.wants/b.timer x
+f etc/systemd/system/a.timer [Timer]|
+p etc/systemd/system/a.timer.d
+p etc/systemd/system/b.timer.d
+b etc/systemd/system/timer.d
+d usr
+d usr/lib
+d usr/lib/systemd
+d usr/lib/systemd/system
+d usr/lib/systemd/system/x-y.target.wants
+f usr/lib/systemd/system/x-y.target.wants/a.timer x
+f usr/lib/systemd/system/x-y.target.wants/g.timer x
+d usr/local
+d usr/local/lib
+d usr/local/lib/systemd
+p usr/local/lib/systemd/system
+";
+
+const SKIPPED: &str = "\
+a.timer: etc/systemd/system/a.timer
+skipped usr/local/lib/systemd/system: not readable
+skipped etc/systemd/system/target.wants: a name that isn't UTF-8
+skipped etc/systemd/system/x-.target.requires: not readable
+skipped etc/systemd/system/x-y.target.wants/b.timer: no link
+skipped etc/systemd/system/x-y.target.wants/c.timer: masked
+skipped etc/systemd/system/x-y.target.wants/d.timer: masked
+skipped etc/systemd/system/x-y.target.wants/f.timer: no link
+skipped usr/lib/systemd/system/x-y.target.wants/g.timer: no link
+skipped etc/systemd/system/a.timer.d: not readable
+skipped etc/systemd/system/timer.d: a name that isn't UTF-8
+";
+
+#[test]
+fn directories_that_are_read_are_told_of(rt: HostRuntime) -> Result<(), Fail> {
+    let text = found_on(rt.alloc(), DIRECTORIES)?;
+    assert_eq!(&rt; text.as_str(), SKIPPED);
     Ok(())
 }
 

@@ -6,7 +6,7 @@ use std::alloc::{AllocError, Global};
 
 /// A tree that is a text. A line is a letter, a path and, after a blank, what is there: `d PATH` is a directory;
 /// `f PATH TEXT` is a file, in whose text `|` is a newline; `l PATH TEXT` is a link; `x PATH` is a file that can't be
-/// read.
+/// read; `p PATH` is a directory that can't be listed; `b PATH` is one that has a name that isn't UTF-8 too.
 #[derive(Drop)]
 pub(crate) struct TextTree<'a>(pub(crate) &'a str);
 
@@ -35,7 +35,7 @@ impl Tree for TextTree<'_> {
 
     fn node(&self, alloc: Global, path: &str) -> Result<Node, AllocError> {
         match self.find(path) {
-            Some(("d", _)) => Ok(Node::Directory),
+            Some(("d" | "p" | "b", _)) => Ok(Node::Directory),
             Some(("f", text)) => Ok(Node::File {
                 is_empty: text.is_empty(),
             }),
@@ -46,7 +46,7 @@ impl Tree for TextTree<'_> {
     }
 
     fn names(&self, alloc: Global, path: &str) -> Result<Option<Listing>, AllocError> {
-        let Some(("d", _)) = self.find(path) else {
+        let Some((letter @ ("d" | "b"), _)) = self.find(path) else {
             return Ok(None);
         };
         let mut names = Vec::new(alloc);
@@ -58,7 +58,7 @@ impl Tree for TextTree<'_> {
                 names.push(Name::at(alloc, name)?)?;
             }
         }
-        let is_whole = true;
+        let is_whole = letter == "d";
         Ok(Some(Listing { names, is_whole }))
     }
 

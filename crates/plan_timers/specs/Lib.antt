@@ -2,6 +2,10 @@ pub mod Reports
 pub mod Names
 pub mod Source
 pub mod Links
+pub mod Counted
+pub mod Relatives
+pub mod Dirs
+pub mod ReadDirs
 pub mod Wishes
 pub mod Unwanted
 pub mod Files

@@ -1,12 +1,13 @@
 -- Why something is skipped or isn't planned, as it is printed (agenda).
 use Rattle.std.specs.Prelude.{ℕ, List, ◌++◌, codes}
 use Rattle.plan_timers.specs.declared.reports.Why.{Why}
-use Rattle.plan_timers.specs.declared.reports.Why.TheVariants.{BadName, Escape, NoSuchTimer, Masked, NotReadable, NameTaken, NotUtf8, WantedBy}
+use Rattle.plan_timers.specs.declared.reports.Why.TheVariants.{NoLink, BadName, Escape, NoSuchTimer, Masked, NotReadable, NameTaken, NotUtf8, WantedBy}
 use Rattle.plan_timers.specs.declared.reports.Unplanned.{Unplanned}
 use Rattle.plan_timers.specs.declared.reports.Unplanned.TheVariants.{Anacron, Monotonic, AtJobs, UserTimers, UnitMissing, UnitMasked}
 
 -- why something is skipped
 abbrev pub why_text : Why → List ℕ
+why_text NoLink = codes "no link"
 why_text BadName = codes "bad name"
 why_text Escape = codes "escape"
 why_text NoSuchTimer = codes "no such timer"

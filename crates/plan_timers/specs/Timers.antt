@@ -9,9 +9,11 @@ use Rattle.plan_timers.specs.declared.reports.Why.TheVariants.{BadName, NameTake
 use Rattle.plan_timers.specs.declared.timer.Refusal.{Refusal}
 use Rattle.plan_timers.specs.declared.timer.Refusal.TheVariants as refusal
 use Rattle.plan_timers.specs.declared.timers.TimersFound.{TimersFound}
+use Rattle.plan_timers.specs.Dirs.{skipped_dirs, skipped_drop_in_dirs}
 use Rattle.plan_timers.specs.Files.{files_among, found_file, skipped_among}
 use Rattle.plan_timers.specs.Links.{link_dirs}
 use Rattle.plan_timers.specs.Names.{in_timer_order, job_of, name_fault}
+use Rattle.plan_timers.specs.ReadDirs.{skipped_links}
 use Rattle.plan_timers.specs.Source.{TimerParts}
 use Rattle.plan_timers.specs.Unwanted.{unwanted_timers}
 use Rattle.plan_timers.specs.Wishes.{KnownUnits, wish_of}
@@ -38,8 +40,8 @@ pub record FoundTimers : Type 0 where
 abbrev pub found_view : TimersFound → FoundTimers
 found_view found = record { sources = found.sources.items; skipped = found.skipped.items }
 
-abbrev pub nothing_found : FoundTimers
-nothing_found = record { sources = []; skipped = [] }
+abbrev pub only_skipped : List Skipped → FoundTimers
+only_skipped skipped = record { sources = []; skipped = skipped }
 
 abbrev pub with_skipped : FoundTimers → Skipped → FoundTimers
 with_skipped found more = record { sources = found.sources; skipped = found.skipped ++ more ∷ [] }
@@ -133,14 +135,26 @@ abbrev pub timer_names : Held → List UnitDir → (all : Bool) → List (List �
 timer_names held dirs false reached = filter is_timer reached
 timer_names held dirs true reached = with_new (filter is_timer reached) (file_timers held dirs)
 
-abbrev pub with_unwanted : FoundTimers → List Skipped → FoundTimers
-with_unwanted found more = record { sources = found.sources; skipped = found.skipped ++ more }
+-- ---- all that is found
 
--- what is found of the timers of these units; without `all`, those that only other units want come last
+-- what is skipped of the directories of units, and of those of links
+abbrev pub skipped_of_dirs : Held → KnownUnits → List Skipped
+skipped_of_dirs held units = skipped_dirs held units.dirs ++ skipped_links held units.dirs units.reached units.links
+
+abbrev pub with_more : FoundTimers → List Skipped → FoundTimers
+with_more found more = record { sources = found.sources; skipped = found.skipped ++ more }
+
+-- what is found of timers, and then what is skipped of the directories of their drop-ins
+abbrev pub with_drop_in_dirs : Held → KnownUnits → FoundTimers → FoundTimers
+with_drop_in_dirs held units found = with_more found (skipped_drop_in_dirs held found.sources units.dirs)
+
+-- what is found of the timers of these units, after what is skipped of directories; without `all`, those that only other units
+-- want come last
 abbrev pub timers_of_units : Held → KnownUnits → (all : Bool) → FoundTimers
 timers_of_units held units all =
-    let found = with_timers held units nothing_found (in_timer_order (timer_names held units.dirs all units.reached)) in
-    if all then found else with_unwanted found (unwanted_timers held units)
+    let names = in_timer_order (timer_names held units.dirs all units.reached) in
+    let found = with_drop_in_dirs held units (with_timers held units (only_skipped (skipped_of_dirs held units)) names) in
+    if all then found else with_more found (unwanted_timers held units)
 
 -- what is found of the timers of a machine whose boot reaches these names
 abbrev pub timers_among : Held → List UnitDir → (all : Bool) → (most : ℕ) → List (List ℕ) → FoundTimers

@@ -9,6 +9,8 @@ use std::alloc::{AllocError, Global};
 /// Why something is skipped.
 #[derive(Debug, Drop)]
 pub enum Why {
+    /// The entry of a directory of links is neither a mask nor a link.
+    NoLink,
     /// A source can't have the name.
     BadName,
     /// The name of an instance has a `\`.
@@ -37,6 +39,7 @@ impl Why {
         ensures { IfOk result (λ text. text ≡ why_text self.now) }
     {
         match self {
+            Why::NoLink => copy_of(alloc, "no link"),
             Why::BadName => copy_of(alloc, "bad name"),
             Why::Escape => copy_of(alloc, "escape"),
             Why::NoSuchTimer => copy_of(alloc, "no such timer"),

@@ -4,12 +4,14 @@ ghost use Rattle.std.specs.Prelude.{◌≡◌, true, IfOk, IfNone, IfSome, filte
 ghost use Rattle.plan_units.specs.Reach.{AreTooMany};
 ghost use Rattle.plan_units.specs.Timers.{first_unit, is_timer};
 ghost use Rattle.plan_units.specs.Wants.{wants_of};
-ghost use Rattle.plan_timers.specs.Timers.{AreMachineTimers, file_timers, found_view, has_file, nothing_found, timer_names, timers_among, with_timers, with_unwanted};
+ghost use Rattle.plan_timers.specs.Timers.{AreMachineTimers, file_timers, found_view, has_file, skipped_of_dirs, timer_names, timers_among, with_more, with_timers};
 ghost use Rattle.plan_timers.specs.Unwanted.{unwanted_timers};
 ghost use Rattle.plan_timers.specs.Wishes.{units_view};
 
+use crate::dirs::{skipped_dirs, skipped_drop_in_dirs};
 use crate::links::link_dirs;
 use crate::order::in_timer_order;
+use crate::read_dirs::skipped_links;
 use crate::reports::Skipped;
 use crate::source::TimerSource;
 use crate::timer::with_timer;
@@ -77,17 +79,38 @@ fn timers_among<T: Tree>(
         reached: reached.as_slice(),
         most,
     };
-    let found = with_timers(alloc, tree, &units, names)?;
+    let found = TimersFound {
+        sources: Vec::new(alloc),
+        skipped: skipped_of_dirs(alloc, tree, &units)?,
+    };
+    let found = with_timers(alloc, tree, &units, found, names)?;
+    let more = skipped_drop_in_dirs(alloc, tree, dirs, found.sources.as_slice())?;
+    let found = with_more(found, more)?;
     if all {
         return Ok(found);
     }
     let more = unwanted_timers(alloc, tree, &units)?;
-    with_unwanted(found, more)
+    with_more(found, more)
 }
 
-// Returns what was found, and timers that only units want that the boot doesn't reach.
-fn with_unwanted(found: TimersFound, more: Vec<Skipped>) -> Result<TimersFound, AllocError>
-    ensures { IfOk result (λ after. found_view after ≡ with_unwanted (found_view found) more.items) }
+// Returns what is skipped of the directories of units, and of those of links.
+fn skipped_of_dirs<T: Tree>(
+    alloc: Global,
+    tree: &T,
+    units: &Units<'_>,
+) -> Result<Vec<Skipped>, AllocError>
+    ensures { T.is_known ≡ true → IfOk result (λ skipped.
+        skipped.items ≡ skipped_of_dirs (T.held tree.now) (units_view units.now)) }
+{
+    let mut skipped = skipped_dirs(alloc, tree, units.dirs)?;
+    let mut more = skipped_links(alloc, tree, units.dirs, units.reached, units.links)?;
+    skipped.append(&mut more)?;
+    Ok(skipped)
+}
+
+// Returns what was found, and what else is skipped.
+fn with_more(found: TimersFound, more: Vec<Skipped>) -> Result<TimersFound, AllocError>
+    ensures { IfOk result (λ after. found_view after ≡ with_more (found_view found) more.items) }
 {
     let mut more = more;
     let TimersFound {
@@ -98,20 +121,18 @@ fn with_unwanted(found: TimersFound, more: Vec<Skipped>) -> Result<TimersFound, 
     Ok(TimersFound { sources, skipped })
 }
 
-// Returns what is found of some timers, first to last.
+// Returns what was found, and what is found of some timers, first to last.
 fn with_timers<T: Tree>(
     alloc: Global,
     tree: &T,
     units: &Units<'_>,
+    found: TimersFound,
     names: Vec<Name>,
 ) -> Result<TimersFound, AllocError>
-    ensures { T.is_known ≡ true → IfOk result (λ found. found_view found
-        ≡ with_timers (T.held tree.now) (units_view units.now) nothing_found names.items) }
+    ensures { T.is_known ≡ true → IfOk result (λ after. found_view after
+        ≡ with_timers (T.held tree.now) (units_view units.now) (found_view found) names.items) }
 {
-    let mut found = TimersFound {
-        sources: Vec::new(alloc),
-        skipped: Vec::new(alloc),
-    };
+    let mut found = found;
     for name in names {
         found = with_timer(alloc, tree, units, found, name)?;
     }

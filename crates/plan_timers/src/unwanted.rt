@@ -1,22 +1,26 @@
 //! Timers that only units want that the boot doesn't start.
 
-ghost use Rattle.std.specs.Prelude.{◌≡◌, true, IfOk};
-ghost use Rattle.plan_timers.specs.Unwanted.{has_own_file, is_unwanted, unit_in, unreached_dirs, unwanted_among, unwanted_at, unwanted_timers};
+ghost use Rattle.std.specs.Prelude.{◌≡◌, ◌==◌, true, [], IfOk, map};
+ghost use Rattle.std.specs.List.{list_any};
+ghost use Rattle.std.specs.Str.{byte, bytes_eq};
+ghost use Rattle.plan_timers.specs.Unwanted.{has_own_file, is_named, is_unreached, is_unwanted, names_unit, unit_in, unwanted_at, unwanted_timers, with_entries, with_link, with_links};
 ghost use Rattle.plan_timers.specs.Wishes.{units_view};
 
+use crate::counted::counted_in;
 use crate::links::LinkDir;
 use crate::reports::{Skipped, Why, copy_of};
 use crate::units::Units;
 use crate::wish::is_in;
 use plan_texts::Text;
 use plan_tree::{Name, Place, Tree};
-use plan_units::{
-    Entry, Unit, UnitDir, entries_among, is_counted, is_timer, last_name, stem, unit_of,
-};
+use plan_units::{Entry, Unit, is_counted, is_timer, last_name, stem, unit_of};
 use std::alloc::{AllocError, Global};
 
 /// Returns the timers that have a file and aren't reached, but that are linked in a directory of a unit that isn't reached
-/// either, by the first such link of each, in the order of their names.
+/// either. Each is told once, by the first such link in the order of the directories.
+///
+/// Of links that have the same name in directories of the same name, only the first is one. A directory of all units of a
+/// type, such as `service.wants`, is none of a unit.
 ///
 /// # Errors
 ///
@@ -29,69 +33,102 @@ pub fn unwanted_timers<T: Tree>(
     ensures { T.is_known ≡ true → IfOk result (λ found.
         found.items ≡ unwanted_timers (T.held tree.now) (units_view units.now)) }
 {
-    let dirs = unreached_dirs(alloc, units.links, units.reached)?;
-    let entries = entries_among(alloc, tree, dirs.as_slice())?;
-    unwanted_among(alloc, tree, units.dirs, units.reached, entries.as_slice())
-}
-
-// Returns those directories of links whose units aren't reached.
-fn unreached_dirs(
-    alloc: Global,
-    links: &[LinkDir],
-    reached: &[Name],
-) -> Result<Vec<UnitDir>, AllocError>
-    ensures { IfOk result (λ dirs. dirs.items ≡ unreached_dirs reached.now links.now) }
-{
-    let mut dirs = Vec::new(alloc);
-    for link in links {
-        if !is_in(link.unit.as_str(), reached) {
-            dirs.push(UnitDir {
-                path: Place::at(alloc, link.dir.path.as_str())?,
-                real: Place::at(alloc, link.dir.real.as_str())?,
-            })?;
-        }
+    let entries = with_links(alloc, tree, units)?;
+    let mut skipped = Vec::new(alloc);
+    for entry in entries {
+        skipped.push(unwanted_at(alloc, entry.path.as_str())?)?;
     }
-    Ok(dirs)
+    Ok(skipped)
 }
 
-// Returns the timers among some entries that aren't reached.
-fn unwanted_among<T: Tree>(
-    alloc: Global,
-    tree: &T,
-    dirs: &[UnitDir],
-    reached: &[Name],
-    entries: &[Entry],
-) -> Result<Vec<Skipped>, AllocError>
+// Returns the first link of each timer that is wanted by units alone that aren't reached.
+fn with_links<T: Tree>(alloc: Global, tree: &T, units: &Units<'_>) -> Result<Vec<Entry>, AllocError>
     ensures { T.is_known ≡ true → IfOk result (λ found.
-        found.items ≡ unwanted_among (T.held tree.now).node dirs.now reached.now entries.now) }
+        found.items ≡ with_links (T.held tree.now) (units_view units.now) [] units.now.links.now) }
 {
     let mut found = Vec::new(alloc);
+    for link in units.links {
+        found = with_link(alloc, tree, units, found, link)?;
+    }
+    Ok(found)
+}
+
+// Returns these links, and those in a directory of links, if its unit isn't reached.
+fn with_link<T: Tree>(
+    alloc: Global,
+    tree: &T,
+    units: &Units<'_>,
+    found: Vec<Entry>,
+    link: &LinkDir,
+) -> Result<Vec<Entry>, AllocError>
+    ensures { T.is_known ≡ true → IfOk result (λ after.
+        after.items ≡ with_link (T.held tree.now) (units_view units.now) found.items link.now) }
+{
+    if !is_unreached(link.unit.as_str(), units.reached) {
+        return Ok(found);
+    }
+    let entries = counted_in(alloc, tree, units.dirs, &link.dir)?;
+    with_entries(alloc, tree, units, found, entries)
+}
+
+// Returns whether a name is that of a unit that isn't reached.
+fn is_unreached(unit: &str, reached: &[Name]) -> bool
+    ensures { result ≡ is_unreached unit.now reached.now }
+{
+    names_unit(unit) && !is_in(unit, reached)
+}
+
+// Returns whether a name is that of a unit: it has a type.
+fn names_unit(name: &str) -> bool
+    ensures { result ≡ names_unit name.now }
+{
+    name.as_bytes().iter().any(|byte| *byte == b'.')
+}
+
+// Returns these links, and those entries that are links to further timers that aren't reached.
+fn with_entries<T: Tree>(
+    alloc: Global,
+    tree: &T,
+    units: &Units<'_>,
+    found: Vec<Entry>,
+    entries: Vec<Entry>,
+) -> Result<Vec<Entry>, AllocError>
+    ensures { T.is_known ≡ true → IfOk result (λ after. after.items
+        ≡ with_entries (T.held tree.now).node (units_view units.now) found.items entries.items) }
+{
+    let mut found = found;
     for entry in entries {
-        if is_unwanted(alloc, tree, dirs, reached, entry)? {
-            found.push(unwanted_at(alloc, entry.path.as_str())?)?;
+        if !is_named(found.as_slice(), &entry.name) && is_unwanted(alloc, tree, units, &entry)? {
+            found.push(entry)?;
         }
     }
     Ok(found)
+}
+
+// Returns whether one of some links has this name.
+fn is_named(found: &[Entry], name: &Name) -> bool
+    ensures { result ≡ is_named found.now name.now }
+{
+    found.iter().any(|other| other.name == *name)
 }
 
 // Returns whether an entry is a link to a timer that has a file and isn't reached.
 fn is_unwanted<T: Tree>(
     alloc: Global,
     tree: &T,
-    dirs: &[UnitDir],
-    reached: &[Name],
+    units: &Units<'_>,
     entry: &Entry,
 ) -> Result<bool, AllocError>
     ensures { T.is_known ≡ true → IfOk result (λ is.
-        is ≡ is_unwanted (T.held tree.now).node dirs.now reached.now entry.now) }
+        is ≡ is_unwanted (T.held tree.now).node (units_view units.now) entry.now) }
 {
-    if !is_timer(&entry.name) || is_in(entry.name.as_str(), reached) {
+    if !is_timer(&entry.name) || is_in(entry.name.as_str(), units.reached) {
         return Ok(false);
     }
     if !is_counted(alloc, tree, entry.real.as_str())? {
         return Ok(false);
     }
-    let unit = unit_of(alloc, tree, dirs, entry.name.as_str())?;
+    let unit = unit_of(alloc, tree, units.dirs, entry.name.as_str())?;
     Ok(has_own_file(&entry.name, &unit))
 }
 
