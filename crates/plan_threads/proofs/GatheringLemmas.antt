@@ -13,11 +13,12 @@ use Rattle.plan_collect.specs.declared.collector.CollectFault.TheVariants as col
 use Rattle.plan_collect.specs.declared.plan_fault.PlanFault.{PlanFault}
 use Rattle.plan_collect.specs.Collecting.{Collected, begun, fault_of_note, after, is_complete}
 use Rattle.plan_collect.specs.Merging.{answer_to, AcceptsMergings}
-use Rattle.plan_collect.specs.Tiling.{notes_of, IsMerging}
+use Rattle.plan_collect.specs.Tiling.{notes_of}
 use Rattle.plan_mailbox.specs.Ends.{NothingKnown, ReceivingEnd, IsTake, inlet_of, taken_at}
 use Rattle.plan_threads.specs.declared.desk.Desk.{Desk}
 use Rattle.plan_threads.specs.Gathering.{AreOf, Stands, IsAccounted, IsGathering, Meets, Steps, IsWhole}
 use Rattle.plan_threads.specs.Task.{TaskParts, HasTooMany, all_notes, task_of}
+use Rattle.std.proofs.lemmas.Grind.{common_steps}
 
 -- ---- one more message
 
@@ -31,29 +32,19 @@ of_places :
     (planners : ℕ) (history : List (ℕ × Note)) → AreOf planners history → (place planner : ℕ) (note : Note) →
     slice_get history place ≡ Some (planner, note) → planner < planners
 of_places planners [] all place planner note is = absurd cc
-of_places planners (sent ∷ history) all zero planner note is =
-    (let own : sent ≡ (planner, note) = cc in subst (λ n. n < planners) (ap (λ (s : ℕ × Note). s.0) own) all.0)
+of_places planners (sent ∷ history) all zero planner note is = grind (arith, nat_tests, common_steps)
 of_places planners (sent ∷ history) all (suc place) planner note is = of_places planners history all.1 place planner note is
 
 notes_own :
     (k : ℕ) (history : List (ℕ × Note)) (s : ℕ) (m : Note) → s ≡ k →
     notes_of k (history ++ (s, m) ∷ []) ≡ notes_of k history ++ m ∷ []
 notes_own k [] s m own = let is : (s == k) ≡ true = eq-eqb _ _ own in rw is refl
-notes_own k (first ∷ history) s m own =
-    elim (cases_eq first.0 k) [
-      | inl mine ↦ (let is : (first.0 == k) ≡ true = eq-eqb _ _ mine in rw is (ap (λ notes. first.1 ∷ notes) (notes_own k history s m own)))
-      | inr other ↦ (let is : (first.0 == k) ≡ false = ne_eqb _ _ other in rw is (notes_own k history s m own))
-    ]
+notes_own k (first ∷ history) s m own = grind (arith, nat_tests, cases_eq, eq-eqb, ne_eqb, notes_own k history s m own)
 
 notes_other :
     (k : ℕ) (history : List (ℕ × Note)) (s : ℕ) (m : Note) → (s ≡ k → ⊥) → notes_of k (history ++ (s, m) ∷ []) ≡ notes_of k history
 notes_other k [] s m not = let is : (s == k) ≡ false = ne_eqb _ _ not in rw is refl
-notes_other k (first ∷ history) s m not =
-    elim (cases_eq first.0 k) [
-      | inl mine ↦ (let is : (first.0 == k) ≡ true = eq-eqb _ _ mine in rw is
-          (ap (λ notes. first.1 ∷ notes) (notes_other k history s m not)))
-      | inr other ↦ (let is : (first.0 == k) ≡ false = ne_eqb _ _ other in rw is (notes_other k history s m not))
-    ]
+notes_other k (first ∷ history) s m not = grind (arith, nat_tests, cases_eq, eq-eqb, ne_eqb, notes_other k history s m not)
 
 -- ---- answers to one more message
 
@@ -144,11 +135,6 @@ same_step c None k m new later steps = same_met c k m new later steps
 same_step c (Some fault) k m new later steps = ap task_of steps.0
 
 -- TooMany comes only if the agenda has too many entries
-many_met :
-    (c : Collected) (k : ℕ) (m : Note) (new : Collected) (later : Option CollectFault) → Meets c k m new later →
-    later ≡ Some collect.TooMany → HasTooMany (task_of c)
-many_met c k m new later meets is = grind (arith, nat_tests)
-
 many_step :
     (task : TaskParts) (c : Collected) (before : Option CollectFault) (k : ℕ) (m : Note) (new : Collected)
     (later : Option CollectFault) →
@@ -198,21 +184,7 @@ pub gathers_same :
     (task : TaskParts) (desk new : Desk) → IsGathering task desk → new.collector ≡ desk.collector →
     (inlet_of new.inlet).taken ≡ (inlet_of desk.inlet).taken → (inlet_of new.inlet).rings ≡ (inlet_of desk.inlet).rings →
     new.first_fault ≡ desk.first_fault → IsGathering task new
-gathers_same task desk new so_far same taken rings still = record {
-  size = so_far.size;
-  ordered = so_far.ordered;
-  same = ap task_of same ∙ so_far.same;
-  lanes = ap length taken ∙ so_far.lanes;
-  rings = ap length rings ∙ so_far.rings;
-  too_many = λ is. so_far.too_many (sym still ∙ is);
-  history = so_far.history;
-  known = so_far.known;
-  each = λ j few. so_far.each j few ∙ ap (λ all. slice_index_or all j []) (sym taken);
-  stands = subst (λ r. Stands (answer_to (begun task.timings task.span task.planners task.limit) so_far.history) new.collector r)
-      (sym still)
-      (subst (λ c. Stands (answer_to (begun task.timings task.span task.planners task.limit) so_far.history) c desk.first_fault) (sym same)
-      so_far.stands);
-}
+gathers_same task desk new so_far same taken rings still = grind (arith, nat_tests, common_steps)
 
 -- ---- at the end
 
@@ -220,26 +192,15 @@ whole_so :
     (c : Collected) (answer : Result Collected CollectFault) (later : Option CollectFault) →
     (later ≡ Some collect.TooMany → HasTooMany (task_of c)) → Stands answer c later →
     MatchResult answer (λ x. is_complete x ≡ true) (λ fault. fault ≡ collect.TooMany) → IsWhole c later
-whole_so c answer None many stands accepted = subst
-    (λ r. MatchResult r (λ x. is_complete x ≡ true) (λ fault. fault ≡ collect.TooMany)) stands accepted
-whole_so c answer (Some fault) many stands accepted = λ given.
-    let is : fault ≡ collect.TooMany = subst
-    (λ r. MatchResult r (λ x. is_complete x ≡ true) (λ fault. fault ≡ collect.TooMany)) (stands given) accepted in
-    (is, many (ap Some is))
+whole_so c answer None many stands accepted = grind (arith, nat_tests, common_steps)
+whole_so c answer (Some fault) many stands accepted = grind (arith, nat_tests, common_steps)
 
 -- if everything that the planners send was taken, everything has arrived
 pub gathers_all :
     (task : TaskParts) (desk : Desk) → AcceptsMergings → IsGathering task desk →
     ((k : ℕ) → k < task.planners → taken_at (inlet_of desk.inlet) k ≡ all_notes task k) →
     IsWhole desk.collector desk.first_fault
-gathers_all task desk accepts so_far all =
-    let merging : IsMerging task.planners task.limit task.timings task.span so_far.history = record {
-      known = of_places task.planners so_far.history so_far.known;
-      each = λ k few. so_far.each k few ∙ all k few;
-    } in
-    whole_so desk.collector (answer_to (begun task.timings task.span task.planners task.limit) so_far.history) desk.first_fault
-    (λ is. subst HasTooMany (sym so_far.same) (so_far.too_many is)) so_far.stands
-    (accepts task.planners task.limit task.timings task.span so_far.history so_far.size so_far.ordered merging)
+gathers_all task desk accepts so_far all = grind (arith, nat_tests, of_places, whole_so)
 
 pub ok_map : (r : Result (Unit {0}) PlanFault) (A B : Type 0) → (A → B) → OnOk r A → OnOk r B
 ok_map r A B go a = grind (arith, nat_tests)

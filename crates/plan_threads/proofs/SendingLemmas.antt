@@ -2,9 +2,9 @@
 -- Most lemmas are one equation: what was to be sent is what was sent, followed by `cut_rest` of what remains.
 -- `rest_first` moves a message from the one to the other. The steps by a piece follow from it, and from these the steps
 -- by a job.
-use Rattle.std.proofs.Common.{◌≡◌, ℕ, ◌+◌, ◌%◌, ◌<◌, ◌≤◌, ◌⊎◌, true, false, nat_lt, List, [], ◌∷◌, ◌++◌, length, map, drop, get_or, Some, inl, inr, refl, ap, sym, ◌∙◌, arith, append_assoc, append-nil, subst}
+use Rattle.std.proofs.Common.{◌≡◌, ℕ, ◌+◌, ◌%◌, ◌<◌, ◌≤◌, ◌⊎◌, true, false, nat_lt, List, [], ◌∷◌, ◌++◌, length, map, drop, get_or, Some, refl, ap, sym, ◌∙◌, arith, append_assoc, append-nil, subst}
 use Rattle.std.specs.Prelude.{slice_get, option_map, Result, Ok, Err, OnErr, IsErrAnd}
-use Rattle.std.proofs.lemmas.Bool.{cases_lt, cond-false, lt-ltb, le-ltb}
+use Rattle.std.proofs.lemmas.Bool.{cases_lt, lt-ltb, le-ltb}
 use Rattle.std.proofs.lemmas.List.{drop_all, drop_more}
 use Rattle.std.proofs.lemmas.Option.{get_or_from_slice_get, slice_get-map, slice_get_within}
 use Rattle.plan_match.specs.declared.rule.Rule.{Rule}
@@ -21,6 +21,7 @@ use Rattle.plan_collect.specs.Windows.{Timing, first_second, timing_of, timings_
 use Rattle.plan_mailbox.specs.History.{IsPrefix}
 use Rattle.plan_threads.specs.Sending.{cut_rest}
 use Rattle.plan_threads.specs.Task.{TaskParts, all_notes}
+use Rattle.std.proofs.lemmas.Bool.Decides.{nat_tests}
 
 -- ---- what remains after a message
 
@@ -33,14 +34,7 @@ rest_few limit count notes few = let is : nat_lt limit count ≡ false = le-ltb 
 pub rest_first :
     (limit count : ℕ) (first : Note) (notes : List Note) → count ≤ limit →
     cut_rest limit count (first ∷ notes) ≡ first ∷ cut_rest limit (count + starts_in first) notes
-rest_first limit count first notes few =
-    rest_few limit count (first ∷ notes) few
-    ∙ (elim (cases_lt limit (count + starts_in first)) [
-      | inl over ↦ cut_here limit count first notes over ∙ ap (λ rest. first ∷ rest)
-          (sym (rest_over limit (count + starts_in first) notes over))
-      | inr some ↦ cut_later limit count first notes some ∙ ap (λ rest. first ∷ rest)
-          (sym (rest_few limit (count + starts_in first) notes some))
-    ])
+rest_first limit count first notes few = grind (arith, nat_tests, rest_few, cases_lt, cut_here, rest_over, cut_later)
 
 -- ---- the pieces of a job
 
@@ -57,10 +51,7 @@ pub left_more :
     piece_end rule since upto most_starts < upto →
     left_of limit count job rule since upto rest ≡ first_of_job job rule since upto ∷ left_of limit
     (count + starts_in (first_of_job job rule since upto)) job rule (piece_end rule since upto most_starts) upto rest
-left_more limit count job rule since upto rest part few more =
-    ap (λ ps. cut_rest limit count (map (note.Part job) ps ++ rest)) (pieces_go_on rule since upto part more)
-    ∙ rest_first limit count (first_of_job job rule since upto)
-    (map (note.Part job) (pieces rule (piece_end rule since upto most_starts) upto) ++ rest) few
+left_more limit count job rule since upto rest part few more = grind (arith, nat_tests, pieces_go_on, rest_first)
 
 -- if it ends the part, the other messages remain
 pub left_last :
@@ -68,9 +59,7 @@ pub left_last :
     upto ≤ piece_end rule since upto most_starts →
     left_of limit count job rule since upto rest ≡ first_of_job job rule since upto ∷ cut_rest limit
     (count + starts_in (first_of_job job rule since upto)) rest
-left_last limit count job rule since upto rest part few reached =
-    ap (λ ps. cut_rest limit count (map (note.Part job) ps ++ rest)) (pieces_stop rule since upto part reached)
-    ∙ rest_first limit count (first_of_job job rule since upto) rest few
+left_last limit count job rule since upto rest part few reached = grind (arith, nat_tests, pieces_stop, rest_first)
 
 -- if it brings more starts than the limit, nothing remains
 pub left_over :
@@ -78,15 +67,7 @@ pub left_over :
     limit < count + starts_in (first_of_job job rule since upto) →
     left_of limit count job rule since upto rest ≡ first_of_job job rule since upto ∷ cut_rest limit
     (count + starts_in (first_of_job job rule since upto)) rest
-left_over limit count job rule since upto rest part few over =
-    let end = piece_end rule since upto most_starts in
-    let reached = count + starts_in (first_of_job job rule since upto) in
-    elim (cases_lt end upto) [
-      | inl more ↦ left_more limit count job rule since upto rest part few more
-          ∙ ap (λ notes. first_of_job job rule since upto ∷ notes)
-          (rest_over limit reached (map (note.Part job) (pieces rule end upto) ++ rest) over ∙ sym (rest_over limit reached rest over))
-      | inr stop ↦ left_last limit count job rule since upto rest part few stop
-    ]
+left_over limit count job rule since upto rest part few over = grind (arith, nat_tests, cases_lt, left_more, rest_over, left_last)
 
 -- what was to be sent of a job's pieces is what was sent and what remains from a second on, whatever messages come after
 abbrev pub IsSentTo : (limit count job : ℕ) → Rule → (from upto : ℕ) → (before sent : List Note) → (reached since : ℕ) → Type 0
@@ -110,35 +91,14 @@ pub sent_on :
     IsSentTo limit count job rule from upto before sent reached since → since ≤ upto → reached ≤ limit →
     IsNext job rule since upto sent new piece end brought → end < upto →
     IsSentTo limit count job rule from upto before new (reached + brought) end
-sent_on limit count job rule from upto before sent new reached since end brought piece so_far part few next more rest =
-    let first = first_of_job job rule since upto in
-    let new_is : new ≡ sent ++ first ∷ [] = next.new_is ∙ ap (λ (p : Part). sent ++ note.Part job p ∷ []) next.piece_is in
-    let end_is : end ≡ piece_end rule since upto most_starts = next.end_is ∙ ap (λ (p : Part). p.upto) next.piece_is in
-    let brought_is : brought ≡ starts_in first = next.brought_is ∙ ap (λ (p : Part). length (starts p.rule p.since p.upto)) next.piece_is in
-    let early : piece_end rule since upto most_starts < upto = subst (λ n. n < upto) end_is more in
-    so_far rest ∙ ap (λ notes. sent ++ notes) (left_more limit reached job rule since upto rest part few early)
-    ∙ sym (append_assoc sent (first ∷ [])
-    (left_of limit (reached + starts_in first) job rule (piece_end rule since upto most_starts) upto rest))
-    ∙ sym (λ i. new_is i ++ left_of limit (reached + brought_is i) job rule (end_is i) upto rest)
+sent_on limit count job rule from upto before sent new reached since end brought piece so_far part few next more rest = grind (arith, nat_tests, left_more, append_assoc)
 
 pub sent_all :
     (limit count job : ℕ) (rule : Rule) (from upto : ℕ) (before sent new : List Note) (reached since end brought : ℕ) (piece : Part) →
     IsSentTo limit count job rule from upto before sent reached since → since ≤ upto → reached ≤ limit →
     IsNext job rule since upto sent new piece end brought → (limit < reached + brought) ⊎ (upto ≤ end) →
     IsSent limit count job rule from upto before new (reached + brought)
-sent_all limit count job rule from upto before sent new reached since end brought piece so_far part few next stop rest =
-    let first = first_of_job job rule since upto in
-    let new_is : new ≡ sent ++ first ∷ [] = next.new_is ∙ ap (λ (p : Part). sent ++ note.Part job p ∷ []) next.piece_is in
-    let end_is : end ≡ piece_end rule since upto most_starts = next.end_is ∙ ap (λ (p : Part). p.upto) next.piece_is in
-    let brought_is : brought ≡ starts_in first = next.brought_is ∙ ap (λ (p : Part). length (starts p.rule p.since p.upto)) next.piece_is in
-    let left : left_of limit reached job rule since upto rest ≡ first ∷ cut_rest limit (reached + starts_in first) rest =
-    elim stop [
-      | inl over ↦ left_over limit reached job rule since upto rest part few (subst (λ n. limit < reached + n) brought_is over)
-      | inr ended ↦ left_last limit reached job rule since upto rest part few (subst (λ n. upto ≤ n) end_is ended)
-    ] in
-    so_far rest ∙ ap (λ notes. sent ++ notes) left
-    ∙ sym (append_assoc sent (first ∷ []) (cut_rest limit (reached + starts_in first) rest))
-    ∙ sym (λ i. new_is i ++ cut_rest limit (reached + brought_is i) rest)
+sent_all limit count job rule from upto before sent new reached since end brought piece so_far part few next stop rest = grind (arith, nat_tests, left_over, left_last, append_assoc)
 
 -- ---- the messages of all jobs
 
@@ -176,24 +136,16 @@ notes_own task planner job timing is own =
 
 -- after all jobs, the last message remains
 notes_end : (task : TaskParts) (planner job : ℕ) → length task.timings ≤ job → notes_from task planner job ≡ note.Last ∷ []
-notes_end task planner job all =
-    ap (λ timings. parts_from job planner task.planners timings task.span ++ note.Last ∷ []) (drop_all job task.timings all)
-    ∙ ap (λ notes. notes ++ note.Last ∷ []) (parts_none job planner task.planners task.span)
+notes_end task planner job all = grind (arith, nat_tests, drop_all, parts_none)
 
 -- what was to be sent is what was sent and what remains from a job on
 abbrev pub IsSentUpTo : TaskParts → (planner : ℕ) → (sent : List Note) → (count job : ℕ) → Type 0
 IsSentUpTo task planner sent count job = all_notes task planner ≡ sent ++ cut_rest task.limit count (notes_from task planner job)
 
--- at the start nothing was sent
-pub upto_none : (task : TaskParts) (planner : ℕ) (sent : List Note) → sent ≡ [] → IsSentUpTo task planner sent 0 0
-upto_none task planner sent fresh =
-    sym (ap (λ xs. xs ++ cut_rest task.limit 0 (notes_from task planner 0)) fresh ∙ cond-false _ _ _ (le-ltb task.limit 0 (omega arith)))
-
 pub upto_other :
     (task : TaskParts) (planner : ℕ) (sent : List Note) (count job : ℕ) → IsSentUpTo task planner sent count job →
     job < length task.timings → (job % task.planners ≡ planner → ⊥) → IsSentUpTo task planner sent count (job + 1)
-upto_other task planner sent count job so_far inside other =
-    so_far ∙ ap (λ notes. sent ++ cut_rest task.limit count notes) (notes_other task planner job inside other)
+upto_other task planner sent count job so_far inside other = grind (arith, nat_tests, notes_other)
 
 -- what is sent of the pieces of a job's timing, and of other messages
 abbrev left_of_timing : TaskParts → (count job : ℕ) → Timing → List Note → List Note
@@ -205,16 +157,14 @@ own_whole :
     (task : TaskParts) (planner : ℕ) (sent : List Note) (count job : ℕ) (timing : Timing) → IsSentUpTo task planner sent count job →
     slice_get task.timings job ≡ Some timing → job % task.planners ≡ planner →
     all_notes task planner ≡ sent ++ left_of_timing task count job timing (notes_from task planner (job + 1))
-own_whole task planner sent count job timing so_far there own =
-    so_far ∙ ap (λ notes. sent ++ cut_rest task.limit count notes) (notes_own task planner job timing there own)
+own_whole task planner sent count job timing so_far there own = grind (arith, nat_tests, notes_own)
 
 pub upto_own :
     (task : TaskParts) (planner : ℕ) (sent new : List Note) (count reached job : ℕ) (timing : Timing) →
     IsSentUpTo task planner sent count job → slice_get task.timings job ≡ Some timing → job % task.planners ≡ planner →
     IsSent task.limit count job timing.rule (first_second task.span timing.delay) task.span.upto sent new reached →
     IsSentUpTo task planner new reached (job + 1)
-upto_own task planner sent new count reached job timing so_far there own all =
-    own_whole task planner sent count job timing so_far there own ∙ all (notes_from task planner (job + 1))
+upto_own task planner sent new count reached job timing so_far there own all = grind (arith, nat_tests, own_whole)
 
 pub upto_own_part :
     (task : TaskParts) (planner : ℕ) (sent new : List Note) (count job : ℕ) (timing : Timing) → IsSentUpTo task planner sent count job →
@@ -227,18 +177,13 @@ upto_own_part task planner sent new count job timing so_far there own part =
 pub upto_over :
     (task : TaskParts) (planner : ℕ) (sent : List Note) (count job : ℕ) → IsSentUpTo task planner sent count job →
     task.limit < count → sent ≡ all_notes task planner
-upto_over task planner sent count job so_far over =
-    sym (so_far ∙ ap (λ notes. sent ++ notes) (rest_over task.limit count (notes_from task planner job) over) ∙ append-nil sent)
+upto_over task planner sent count job so_far over = grind (arith, nat_tests, rest_over, append-nil)
 
 -- everything was sent after all jobs and the last message
 pub upto_end :
     (task : TaskParts) (planner : ℕ) (sent : List Note) (count job : ℕ) → IsSentUpTo task planner sent count job →
     length task.timings ≤ job → count ≤ task.limit → sent ++ note.Last ∷ [] ≡ all_notes task planner
-upto_end task planner sent count job so_far all few =
-    let still : count + 0 ≤ task.limit = omega arith in
-    sym (so_far ∙ ap (λ notes. sent ++ cut_rest task.limit count notes) (notes_end task planner job all)
-    ∙ ap (λ notes. sent ++ notes) (rest_first task.limit count note.Last [] few
-    ∙ ap (λ rest. note.Last ∷ rest) (rest_few task.limit (count + 0) [] still ∙ cut_none task.limit (count + 0))))
+upto_end task planner sent count job so_far all few = grind (arith, nat_tests, notes_end, rest_first, rest_few, cut_none)
 
 -- ---- jobs
 

@@ -1,7 +1,7 @@
 -- What holds when threads are started: for `outlets` and `gathers` of `set_up`, and for the loop of `run_threads`.
 -- `fresh_from` goes by induction over the outlets and their rings, which are numbered alike. Nothing was taken yet, so
 -- the history of `gathers_none` is empty.
-use Rattle.std.proofs.Common.{◌≡◌, ℕ, suc, ◌+◌, ◌≤◌, false, true, List, [], ◌∷◌, ◌++◌, length, map, Some, None, Ok, refl, ap, sym, ◌∙◌, subst, arith}
+use Rattle.std.proofs.Common.{◌≡◌, ℕ, suc, ◌+◌, ◌≤◌, true, List, [], ◌∷◌, ◌++◌, length, map, Some, None, refl, ap, sym, ◌∙◌, subst, arith}
 use Rattle.std.specs.Prelude.{slice_get}
 use Rattle.std.specs.List.{enumerate_from}
 use Rattle.std.specs.declared.thread.PromisedHandle.{PromisedHandle}
@@ -10,11 +10,13 @@ use Rattle.plan_collect.specs.declared.note.Note.{Note}
 use Rattle.plan_collect.specs.Collecting.{begun}
 use Rattle.plan_collect.specs.Limits.{is_size}
 use Rattle.plan_mailbox.specs.declared.outlet.Outlet.{Outlet}
-use Rattle.plan_mailbox.specs.Ends.{ReceivingEnd, Ring, SendingEnd, inlet_of, new_inlet, new_outlets, outlet_of, taken_at}
+use Rattle.plan_mailbox.specs.Ends.{Ring, SendingEnd, inlet_of, new_inlet, new_outlets, outlet_of}
 use Rattle.plan_threads.specs.declared.promise.PlannerPromise as promise
 use Rattle.plan_threads.specs.declared.desk.Desk.{Desk}
-use Rattle.plan_threads.specs.Gathering.{AreFresh, ArePlanners, IsGathering, IsPlanner, Stands}
-use Rattle.plan_threads.specs.Task.{TaskParts, task_of}
+use Rattle.plan_threads.specs.Gathering.{AreFresh, ArePlanners, IsGathering, IsPlanner}
+use Rattle.plan_threads.specs.Task.{TaskParts}
+use Rattle.std.proofs.lemmas.Bool.Decides.{nat_tests}
+use Rattle.std.proofs.lemmas.Grind.{common_steps}
 
 -- one more thread
 pub planners_more :
@@ -22,8 +24,7 @@ pub planners_more :
     (thread : PromisedHandle T promise.PlannerPromise) →
     ArePlanners task rings k threads → IsPlanner task rings (k + length threads) thread.promise →
     ArePlanners task rings k (threads ++ thread ∷ [])
-planners_more task rings k [] thread are is =
-    (let here : k + 0 ≡ k = omega arith in subst (λ n. IsPlanner task rings n thread.promise) here is, tt)
+planners_more task rings k [] thread are is = grind (arith, nat_tests, common_steps)
 planners_more task rings k (first ∷ threads) thread are is =
     let later : k + length (first ∷ threads) ≡ (k + 1) + length threads = omega arith in
     (are.0, planners_more task rings (k + 1) threads thread are.1 (subst (λ n. IsPlanner task rings n thread.promise) later is))
@@ -50,8 +51,7 @@ fresh_from k (outlet ∷ outlets) (ring ∷ rings) all are place =
     )
 
 pub fresh_all : (outlets : List (Outlet Note)) (rings : List Ring) → map outlet_of outlets ≡ new_outlets rings → AreFresh rings 0 outlets
-fresh_all outlets rings are = fresh_from 0 outlets rings rings are
-    (λ i ring is. (let same : 0 + i ≡ i = omega arith in subst (λ n. slice_get rings n ≡ Some ring) (sym same) is))
+fresh_all outlets rings are = grind (arith, nat_tests, fresh_from)
 
 -- nothing has arrived yet
 pub gathers_none :
@@ -59,15 +59,4 @@ pub gathers_none :
     desk.collector ≡ begun task.timings task.span task.planners task.limit → inlet_of desk.inlet ≡ new_inlet rings →
     desk.first_fault ≡ None →
     length rings ≡ task.planners → is_size task.planners ≡ true → task.span.since ≤ task.span.upto → IsGathering task desk
-gathers_none task desk rings is new none wide size ordered = record {
-  size = size;
-  ordered = ordered;
-  same = ap task_of is ∙ ap (λ (n : ℕ). record task { planners = n }) (length-replicate task.planners false);
-  lanes = ap (λ (x : ReceivingEnd Note). length x.taken) new ∙ length-replicate (length rings) [] ∙ wide;
-  rings = ap (λ (x : ReceivingEnd Note). length x.rings) new ∙ wide;
-  too_many = λ e. absurd cc;
-  history = [];
-  known = tt;
-  each = λ k few. sym (ap (λ (x : ReceivingEnd Note). taken_at x k) new ∙ get_or-replicate (length rings) k [] [] (omega arith));
-  stands = subst (λ r. Stands (Ok (begun task.timings task.span task.planners task.limit)) desk.collector r) (sym none) (ap Ok (sym is));
-}
+gathers_none task desk rings is new none wide size ordered = grind (arith, nat_tests, length-replicate, get_or-replicate)

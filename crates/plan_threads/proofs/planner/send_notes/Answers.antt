@@ -2,7 +2,7 @@
 -- messages. A job of another planner changes nothing (`upto_other`). A job of this planner moves its pieces over
 -- (`upto_own`), or a part of them if an allocation failed. Past the limit nothing remains (`upto_over`), and after all
 -- jobs only the last message.
-use Rattle.std.proofs.Common.{◌<◌, ◌+◌, ◌++◌, length, refl, sym, ap, subst, ◌∙◌, arith}
+use Rattle.std.proofs.Common.{◌<◌, ◌+◌, ◌++◌, length, sym, ap, subst, ◌∙◌, arith}
 use Rattle.plan_collect.specs.declared.note.Note.{Note}
 use Rattle.plan_collect.specs.AgendaLaws.{job_there, length-timings_of}
 use Rattle.plan_collect.specs.Windows.{timing_of}
@@ -10,14 +10,9 @@ use Rattle.plan_mailbox.specs.Ends.{SendingEnd, outlet_of}
 use Rattle.plan_mailbox.specs.History.{IsPrefix}
 use Rattle.plan_threads.specs.Sending.{cut_rest}
 use Rattle.plan_threads.specs.Task.{all_notes, parts_of}
-use Rattle.plan_threads.proofs.SendingLemmas.{notes_from, upto_none, upto_other, upto_own, upto_own_part, upto_over, upto_end, timing_at, on_err}
+use Rattle.plan_threads.proofs.SendingLemmas.{notes_from, upto_other, upto_own, upto_own_part, upto_over, upto_end, timing_at, on_err}
 use Rattle.plan_threads.proofs.planner.send_notes.Goals as goal
 use Rattle.plan_threads.proofs.planner.send_notes.Goals.{in-Some+in_ok-count, in_default}
-
-pub loop-number-init : goal.loop-number-init
-loop-number-init g c =
-    let task = parts_of c.args.jobs.now c.args.task.now in
-    (omega arith, refl, refl, upto_none task c.sender-planner.result (outlet_of c.args.outlet.now).sent c.requires.fresh)
 
 pub loop-number-preserved-then-number-task : goal.loop-number-preserved-then-number-task
 loop-number-preserved-then-number-task g c =
