@@ -1,5 +1,5 @@
 -- A string is read back as the text that it was made of: byte by byte (`reads`), and then by induction.
-use Rattle.std.proofs.Common.{◌≡◌, ℕ, zero, suc, ◌<◌, ◌≤◌, inl, inr, List, [], ◌∷◌, ◌++◌, Some, refl, sym, ap, subst, ◌∙◌, arith, append_assoc}
+use Rattle.std.proofs.Common.{◌≡◌, ℕ, zero, suc, ◌<◌, ◌≤◌, inl, inr, List, [], ◌∷◌, ◌++◌, Some, refl, sym, ap, subst, ◌∙◌, arith, append_assoc, rules}
 use Rattle.std.specs.Prelude.{⊤}
 use Rattle.std.specs.Char.{encode_utf8}
 use Rattle.std.proofs.lemmas.Bool.{cases_eq, cases_lt, ne_eqb, le-ltb}
@@ -24,97 +24,7 @@ at_below P (suc n) all b lt = elim (cases_eq b n) as (λ _. P b) [
 
 control_characters : Below IsRead 32
 unfolding json_byte read_string encode_utf8
-control_characters = (
-  λ r. refl,
-  (
-    λ r. refl,
-    (
-      λ r. refl,
-      (
-        λ r. refl,
-        (
-          λ r. refl,
-          (
-            λ r. refl,
-            (
-              λ r. refl,
-              (
-                λ r. refl,
-                (
-                  λ r.
-                      refl,
-                  (
-                    λ r. refl,
-                    (
-                      λ r. refl,
-                      (
-                        λ r. refl,
-                        (
-                          λ r. refl,
-                          (
-                            λ r. refl,
-                            (
-                              λ r. refl,
-                              (
-                                λ r. refl,
-                                (
-                                  λ r. refl,
-                                  (
-                                    λ r. refl,
-                                    (
-                                      λ r.
-                                          refl,
-                                      (
-                                        λ r. refl,
-                                        (
-                                          λ r. refl,
-                                          (
-                                            λ r. refl,
-                                            (
-                                              λ r. refl,
-                                              (
-                                                λ r. refl,
-                                                (
-                                                  λ r. refl,
-                                                  (
-                                                    λ r. refl,
-                                                    (
-                                                      λ r. refl,
-                                                      (
-                                                        λ r. refl,
-                                                        (
-                                                          λ r.
-                                                              refl,
-                                                          (λ r. refl, (λ r. refl, (λ r. refl, tt))),
-                                                        ),
-                                                      ),
-                                                    ),
-                                                  ),
-                                                ),
-                                              ),
-                                            ),
-                                          ),
-                                        ),
-                                      ),
-                                    ),
-                                  ),
-                                ),
-                              ),
-                            ),
-                          ),
-                        ),
-                      ),
-                    ),
-                  ),
-                ),
-              ),
-            ),
-          ),
-        ),
-      ),
-    ),
-  ),
-)
+control_characters = search rules depth 40
 
 quote : IsRead 34
 unfolding json_byte read_string

@@ -1,7 +1,7 @@
 -- Bytes of strings in JSON, for `json_strings`.
-use Rattle.std.proofs.Common.{◌≡◌, ℕ, ◌||◌, ◌≤◌, Bool, true, false, List, [], ◌∷◌, ◌++◌, refl, arith}
+use Rattle.std.proofs.Common.{◌≡◌, ℕ, ◌≤◌, false, List, [], ◌∷◌, ◌++◌, refl, arith}
 use Rattle.std.specs.List.{list_any}
-use Rattle.std.proofs.lemmas.Bool.{ne_eqb, le-ltb}
+use Rattle.std.proofs.lemmas.Bool.{ne_eqb, le-ltb, or_parts}
 use Rattle.std.proofs.lemmas.Bool.Decides.{nat_tests}
 use Rattle.plan_write.specs.Json.{is_escaped, json_byte, json_bytes}
 
@@ -29,13 +29,9 @@ plain_byte b plain =
     let backslash : (b ≡ 92 → ⊥) = grind (arith, nat_tests, plain) in
     let printed : 32 ≤ b = grind (arith, nat_tests, plain) in printed_byte b quote backslash delete printed
 
-neither : (a b : Bool) → (a || b) ≡ false → (a ≡ false) × (b ≡ false)
-neither true b is = absurd (let no : true ≡ false = is in cc)
-neither false b is = (refl, is)
-
 -- a text without an escape
 pub plain_text : (text : List ℕ) → list_any is_escaped text ≡ false → json_bytes text ≡ text
 plain_text [] plain = refl
 plain_text (b ∷ text) plain =
-    let (first, others) = neither (is_escaped b) (list_any is_escaped text) plain in
+    let (first, others) = or_parts (is_escaped b) (list_any is_escaped text) plain in
     (λ i. plain_byte b first i ++ plain_text text others i)

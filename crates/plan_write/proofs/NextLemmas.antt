@@ -1,31 +1,13 @@
 -- Starts that are written one after another: for the loop of `write_next`. The starts of its rule after a time are a
 -- list, of which each turn of the loop writes one more (`listed_more`). At the end, the first `count` of them are
 -- written (`lists_all`), or all, and the line `none` (`lists_fewer`).
-use Rattle.std.proofs.Common.{◌≡◌, ℕ, zero, suc, ◌+◌, ◌<◌, ◌≤◌, true, false, List, [], ◌∷◌, ◌++◌, length, take, drop, nat_lt, refl, ap, sym, ◌∙◌, arith, append_assoc, append-nil, take_all, length-drop}
+use Rattle.std.proofs.Common.{◌≡◌, ℕ, ◌+◌, ◌<◌, ◌≤◌, true, false, List, [], ◌∷◌, ◌++◌, length, take, drop, nat_lt, refl, ap, sym, ◌∙◌, arith, append-nil, take_all, get_or, length-drop}
 use Rattle.std.specs.List.{flat_map}
 use Rattle.std.proofs.lemmas.Bool.{lt-ltb, le-ltb}
-use Rattle.std.proofs.lemmas.List.{length-take}
+use Rattle.std.proofs.lemmas.List.{drop_more, length-take}
 use Rattle.plan_write.specs.Next.{moment_line, none_line, starts_text}
 use Rattle.plan_write.specs.declared.formats.Format.{Format}
-
-one_more :
-    (format : Format) (all later : List ℕ) (k n : ℕ) → drop k all ≡ n ∷ later →
-    (flat_map (moment_line format) (take k all) ++ moment_line format n ≡ flat_map (moment_line format) (take (suc k) all))
-    × (later ≡ drop (suc k) all)
-    × (suc k ≤ length all)
-one_more format [] later zero n is = cc
-one_more format [] later (suc k) n is = cc
-one_more format (first ∷ all) later zero n is =
-    let same : n ≡ first = cc in
-    let rest : later ≡ all = cc in
-    (ap (moment_line format) same ∙ sym (append-nil (moment_line format first)), rest, omega arith)
-one_more format (first ∷ all) later (suc k) n is =
-    let (line, rest, many) = one_more format all later k n is in (
-      append_assoc (moment_line format first) (flat_map (moment_line format) (take k all)) (moment_line format n)
-          ∙ ap (λ lines. moment_line format first ++ lines) line,
-      rest,
-      omega (arith, many),
-    )
+use Rattle.plan_write.proofs.TakesLemmas.{texts_more}
 
 -- one more line
 pub listed_more :
@@ -34,9 +16,11 @@ pub listed_more :
     × (later ≡ drop (k + 1) all)
     × (k + 1 ≤ length all)
 listed_more format all later k n is =
-    let one : suc k ≡ k + 1 = omega arith in
-    let (line, rest, many) = one_more format all later k n is in
-    (line ∙ ap (λ m. flat_map (moment_line format) (take m all)) one, rest ∙ ap (λ m. drop m all) one, omega (arith, many))
+    let inside : k < length all = omega (arith, length-drop k all, ap length is) in
+    let left : n ∷ later ≡ get_or all k n ∷ drop (k + 1) all = sym is ∙ drop_more all k n inside in
+    let first : n ≡ get_or all k n = cc in
+    let rest : later ≡ drop (k + 1) all = cc in
+    (texts_more (moment_line format) all k n n inside first, rest, omega arith)
 
 -- as many starts as requested
 pub lists_all :

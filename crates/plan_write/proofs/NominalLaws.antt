@@ -1,8 +1,9 @@
 -- Without delays, what is between the windows of an agenda is between its neighbouring marks, since the agenda ascends: by
 -- induction over the seconds of the span, and in each row over the rules.
-use Rattle.std.proofs.Common.{◌≡◌, ℕ, zero, suc, ◌+◌, ◌-◌, ◌≤◌, ◌&&◌, Bool, true, false, max, List, [], ◌∷◌, ◌++◌, map, filter, refl, inl, inr, ap, ◌∙◌, arith, lt-ltb}
+use Rattle.std.proofs.Common.{◌≡◌, ℕ, zero, suc, ◌+◌, ◌-◌, ◌≤◌, true, max, List, [], ◌∷◌, ◌++◌, map, filter, refl, inl, inr, ap, ◌∙◌, arith, lt-ltb}
 use Rattle.std.specs.Prelude.{nat_le, nat_lt, slice_get}
 use Rattle.std.specs.List.{range_with_len, flat_map}
+use Rattle.std.proofs.Math.Bool.{and-false}
 use Rattle.std.proofs.lemmas.Bool.{cases_Bool}
 use Rattle.std.proofs.lemmas.Bool.Decides.{nat_tests}
 use Rattle.plan_match.specs.declared.rule.Rule.{Rule}
@@ -57,12 +58,8 @@ same_test least pair some = elim (cases_Bool (nat_le least (pair.1 - pair.0))) [
       let wide : least ≤ pair.1 - pair.0 = grind (arith, nat_tests, is) in
       let apart : nat_lt pair.0 pair.1 ≡ true = lt-ltb pair.0 pair.1 (omega (arith, wide, some)) in
       rw apart refl
-  | inr not ↦ rw not (none_of (nat_lt pair.0 pair.1))
+  | inr not ↦ rw not (and-false (nat_lt pair.0 pair.1))
 ]
-  where
-    none_of : (apart : Bool) → (apart && false) ≡ false
-    none_of true = refl
-    none_of false = refl
 
 pub of_marks : NominalGapsAreOfMarks
 unfolding agenda

@@ -2,13 +2,14 @@
 -- earlier entry, or of the window's own, ends before it, and where a later one starts the window was reached. By induction
 -- over the seconds before the span's end, and in each row over the timings.
 use Rattle.std.proofs.Common.{◌≡◌, ℕ, zero, suc, ◌+◌, ◌<◌, ◌≤◌, ◌⊎◌, ◌&&◌, Bool, true, max, List, [], ◌∷◌, ◌++◌, map, filter, Some, inl, inr, ap, sym, subst, ◌∙◌, arith, lt-ltb, le-leb}
-use Rattle.std.specs.Prelude.{slice_get}
+use Rattle.std.specs.Prelude.{slice_get, option_map}
 use Rattle.std.specs.List.{range_with_len, flat_map}
 use Rattle.std.proofs.lemmas.Bool.{and_from, cases_Bool, cases_lt}
+use Rattle.std.proofs.lemmas.Option.{slice_get-map}
 use Rattle.plan_next.specs.Starts.{is_start}
 use Rattle.plan_rules.specs.Job.{JobParts}
 use Rattle.plan_collect.specs.Span.{Bounds}
-use Rattle.plan_collect.specs.Windows.{Timing, agenda_of_windows, meets, timings_of, windows_from}
+use Rattle.plan_collect.specs.Windows.{Timing, agenda_of_windows, meets, timing_of, timings_of, windows_from}
 use Rattle.plan_write.specs.Quiet.{between, delay_of, is_gap, window_of, NothingStartsInGaps}
 
 -- the second isn't strictly between the two numbers of a pair
@@ -104,15 +105,6 @@ seconds_reached jobs timings span second upto n number timing there own opens lo
           (row_reached jobs span second upto n 0 number timings later timing there own opens low high reach)
     ]
 
-timing_there :
-    (jobs : List JobParts) (number : ℕ) (job : JobParts) → slice_get jobs number ≡ Some job →
-    slice_get (timings_of jobs) number ≡ Some (record { rule = job.rule; delay = job.delay })
-timing_there [] number job is = cc
-timing_there (first ∷ jobs) zero job is =
-    let same : first ≡ job = cc in
-    ap (λ (j : JobParts). Some (record { rule = j.rule; delay = j.delay })) same
-timing_there (first ∷ jobs) (suc number) job is = timing_there jobs number job is
-
 -- a second of a window is outside of what is between the windows of the agenda
 outside :
     (jobs : List JobParts) (span : Bounds) (number start second : ℕ) (job : JobParts) → slice_get jobs number ≡ Some job →
@@ -132,8 +124,8 @@ outside jobs span number start second job own is low high =
             (and_from _ _ (lt-ltb start span.upto (omega (arith, inside, low)))
             (le-leb span.since (start + job.delay) (omega (arith, later, high))))) in
             let here : 0 + number ≡ number = omega arith in
-            seconds_reached jobs timings span second span.upto start number (record { rule = job.rule; delay = job.delay })
-            (timing_there jobs number job own) (ap (λ k. delay_of (slice_get jobs k)) here ∙ ap delay_of own) opens low high span.upto 0
+            seconds_reached jobs timings span second span.upto start number (timing_of job)
+            (slice_get-map timing_of jobs number ∙ ap (option_map timing_of) own) (ap (λ k. delay_of (slice_get jobs k)) here ∙ ap delay_of own) opens low high span.upto 0
             (omega arith) (omega (arith, inside, low)) span.since
       ]
     ]

@@ -4,6 +4,7 @@ use Rattle.std.proofs.Common.{◌≡◌, ℕ, zero, suc, ◌+◌, ◌<◌, ◌�
 use Rattle.std.specs.Prelude.{filter, nat_lt, slice_get}
 use Rattle.std.specs.List.{flat_map, list_all}
 use Rattle.std.proofs.lemmas.Bool.{cases_Bool, cases_lt, and_parts, ltb-true}
+use Rattle.std.proofs.lemmas.List.{drop_more}
 use Rattle.plan_sets.specs.Limits.{end_second}
 use Rattle.plan_rules.specs.Job.{JobParts}
 use Rattle.plan_collect.specs.Agenda.{IsInYears}
@@ -66,11 +67,6 @@ same_left format least jobs reach other upto (entry ∷ entries) same end years 
     entries same_next end later)
     ∙ sym (first_pair format least (other, entry.0) (between other_next upto (map (window_of jobs) entries)))
 
-rest_from : (entries : List (ℕ × ℕ)) (i : ℕ) (d : ℕ × ℕ) → i < length entries → drop i entries ≡ get_or entries i d ∷ drop (suc i) entries
-rest_from [] i d lt = absurd (omega arith)
-rest_from (entry ∷ entries) zero d lt = refl
-rest_from (entry ∷ entries) (suc i) d lt = rest_from entries i d (omega arith)
-
 years_from : (entries : List (ℕ × ℕ)) (i : ℕ) → IsInYears entries → IsInYears (drop i entries)
 years_from [] zero all = all
 years_from [] (suc i) all = all
@@ -85,10 +81,8 @@ pub text_at :
     text_left format least jobs reach upto (drop i entries)
     ≡ line_of_gap format least (reach, entry.0) ++ text_left format least jobs (max reach latest) upto (drop (i + 1) entries)
 text_at format least jobs reach upto entries i entry latest lt here late end years =
-    let one : suc i ≡ i + 1 = omega arith in
     let later = drop (i + 1) entries in
-    let rest : drop i entries ≡ entry ∷ later =
-    rest_from entries i entry lt ∙ ap (λ k. get_or entries i entry ∷ drop k entries) one ∙ ap (λ e. e ∷ later) (sym here) in
+    let rest : drop i entries ≡ entry ∷ later = drop_more entries i entry lt ∙ ap (λ e. e ∷ later) (sym here) in
     let next = max reach (window_of jobs entry).1 in
     let same : min next end_second ≡ min (max reach latest) end_second = omega (arith, late) in
     ap (text_left format least jobs reach upto) rest ∙ first_pair format least (reach, entry.0) (between next upto (map

@@ -8,7 +8,7 @@ use Rattle.std.proofs.lemmas.Grind.{flat_map-append}
 use Rattle.plan_sets.specs.Limits.{end_second}
 use Rattle.plan_collect.specs.Agenda.{IsInYears}
 use Rattle.plan_streams.proofs.StreamLemmas.{takes_both}
-use Rattle.plan_streams.specs.Writer.{HasTaken, Takes}
+use Rattle.plan_streams.specs.Writer.{Takes}
 use Rattle.plan_streams.specs.declared.writer.TextWriter.{TextWriter}
 use Rattle.plan_write.specs.Texts.{EndParts, line_of, lines_of}
 use Rattle.plan_write.specs.Upcoming.{upcoming_text}
@@ -22,11 +22,6 @@ pub texts_more :
 texts_more f xs i x d lt is =
     ap (λ text. flat_map f (take i xs) ++ text) (sym (append-nil (f x))) ∙ sym (flat_map-append f (take i xs) (x ∷ []))
     ∙ ap (λ y. flat_map f (take i xs ++ y ∷ [])) is ∙ sym (ap (flat_map f) (take_more xs i d lt))
-
--- before the loop nothing was taken
-pub takes_none :
-    {S : Type 0} (holds : S → Option (List ℕ)) (takes_all : Bool) (a : TextWriter S) → Takes holds takes_all a a []
-takes_none holds takes_all a = (refl, λ start before taken. subst (HasTaken holds takes_all start a) (sym (append-nil before)) taken)
 
 -- a turn of the loop
 pub takes_more :

@@ -1,6 +1,7 @@
 use Rattle.std.specs.Prelude.{slice_get}
 use Rattle.agenda_sources.specs.declared.Found.{Found}
-use Rattle.plan_write.proofs.TakesLemmas.{takes_more, takes_none, takes_whole}
+use Rattle.plan_streams.proofs.StreamLemmas.{takes_none}
+use Rattle.plan_write.proofs.TakesLemmas.{takes_more, takes_whole}
 use Rattle.std.proofs.Common.{refl}
 use Rattle.agenda_findings.specs.Findings.{found_line}
 use Rattle.agenda_findings.proofs.findings.put_all_found.Goals as goal

@@ -1,8 +1,9 @@
 use Rattle.std.proofs.Common.{get_or, take, refl, subst, sym}
 use Rattle.std.specs.List.{flat_map}
+use Rattle.plan_streams.proofs.StreamLemmas.{takes_none}
 use Rattle.plan_streams.specs.Writer.{Takes}
 use Rattle.plan_write.specs.Json.{text_in}
-use Rattle.plan_write.proofs.TakesLemmas.{takes_none, texts_more}
+use Rattle.plan_write.proofs.TakesLemmas.{texts_more}
 use Rattle.agenda_findings.specs.Messages.{escaped}
 use Rattle.agenda_findings.proofs.TextLemmas.{takes_texts, text_in_none}
 use Rattle.agenda_findings.proofs.messages.put_escaped.Goals as goal

@@ -1,8 +1,9 @@
 use Rattle.std.proofs.Common.{ℕ}
 use Rattle.std.specs.Prelude.{slice_get}
+use Rattle.plan_streams.proofs.StreamLemmas.{takes_none}
 use Rattle.plan_write.specs.Texts.{line_of}
 use Rattle.plan_write.specs.Upcoming.{start_or_none}
-use Rattle.plan_write.proofs.TakesLemmas.{takes_more, takes_none}
+use Rattle.plan_write.proofs.TakesLemmas.{takes_more}
 use Rattle.plan_write.proofs.job_lines.put_lines.Goals as goal
 
 pub loop-start-init : goal.loop-start-init

@@ -1,8 +1,7 @@
 -- The gaps are taken one after the other, with those after a reach as what is left.
-use Rattle.std.proofs.Common.{[], ◌++◌, sym, subst, arith, append-nil, refl}
+use Rattle.std.proofs.Common.{[], ◌++◌, sym, subst, arith, refl}
 use Rattle.plan_collect.specs.Agenda.{IsInYears}
-use Rattle.plan_streams.proofs.StreamLemmas.{takes_both}
-use Rattle.plan_streams.specs.Writer.{HasTaken}
+use Rattle.plan_streams.proofs.StreamLemmas.{takes_both, takes_none}
 use Rattle.plan_write.specs.Quiet.{line_of_gap, quiet_text}
 use Rattle.plan_write.proofs.QuietLemmas.{line_taken}
 use Rattle.plan_write.proofs.quiet.write_quiet.Goals as goal
@@ -11,10 +10,7 @@ pub loop-entry-init : goal.loop-entry-init
 loop-entry-init g c = (
   (
     [],
-    (
-      refl,
-      λ start before taken. subst (HasTaken g.S.Stream.holds g.S.Stream.takes_all start c.new-lines.result) (sym (append-nil before)) taken,
-    ),
+    takes_none g.S.Stream.holds g.S.Stream.takes_all c.new-lines.result,
     rw (c.since-reach.ensures.value, c.upto-upto.ensures.value, c.entries-entries.ensures.entries) refl,
   ),
   omega (arith, c.since-reach.ensures.ordered, c.upto-upto.ensures.years, c.upto-upto.ensures.value),

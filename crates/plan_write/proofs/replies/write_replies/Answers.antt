@@ -1,5 +1,6 @@
+use Rattle.plan_streams.proofs.StreamLemmas.{takes_none}
 use Rattle.plan_write.specs.Replies.{reply_line}
-use Rattle.plan_write.proofs.TakesLemmas.{takes_more, takes_none}
+use Rattle.plan_write.proofs.TakesLemmas.{takes_more}
 use Rattle.plan_write.proofs.replies.write_replies.Goals as goal
 
 pub loop-reply-init : goal.loop-reply-init
