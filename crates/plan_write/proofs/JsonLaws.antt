@@ -1,10 +1,11 @@
 -- A string is read back as the text that it was made of: byte by byte (`reads`), and then by induction.
-use Rattle.std.proofs.Common.{◌≡◌, ℕ, zero, suc, ◌<◌, ◌≤◌, inl, inr, List, [], ◌∷◌, ◌++◌, Some, refl, sym, ap, subst, ◌∙◌, arith, append_assoc, rules}
+use Rattle.std.proofs.Common.{◌≡◌, ℕ, zero, suc, ◌<◌, ◌≤◌, inl, inr, List, [], ◌∷◌, ◌++◌, Some, refl, sym, subst, arith, append_assoc, rules}
 use Rattle.std.specs.Prelude.{⊤}
 use Rattle.std.specs.Char.{encode_utf8}
 use Rattle.std.proofs.lemmas.Bool.{cases_eq, cases_lt, ne_eqb, le-ltb}
 use Rattle.plan_write.proofs.JsonLemmas.{printed_byte}
 use Rattle.plan_write.specs.Json.{before_rest, between, json_byte, json_bytes, read_string}
+use Rattle.std.proofs.lemmas.Bool.Decides.{nat_tests}
 
 -- a byte is read back, whatever follows it
 abbrev IsRead : ℕ → Type 0
@@ -40,13 +41,7 @@ delete = λ r. refl
 
 other : (b : ℕ) → (b ≡ 34 → ⊥) → (b ≡ 92 → ⊥) → (b ≡ 127 → ⊥) → 32 ≤ b → IsRead b
 unfolding read_string
-other b no_quote no_backslash no_delete printed rest =
-    rw (
-      printed_byte b no_quote no_backslash no_delete printed,
-      ne_eqb b 34 no_quote,
-      ne_eqb b 92 no_backslash,
-      le-ltb b 32 printed,
-    ) refl
+other b no_quote no_backslash no_delete printed rest = grind (arith, nat_tests, printed_byte, ne_eqb, le-ltb)
 
 reads : (b : ℕ) → IsRead b
 reads b = elim (cases_eq b 34) as (λ _. IsRead b) [
@@ -66,6 +61,4 @@ reads b = elim (cases_eq b 34) as (λ _. IsRead b) [
 pub read_back : (text rest : List ℕ) → read_string between (json_bytes text ++ 34 ∷ rest) ≡ Some text
 unfolding read_string
 read_back [] rest = refl
-read_back (b ∷ text) rest =
-    ap (read_string between) (append_assoc (json_byte b) (json_bytes text) (34 ∷ rest)) ∙ reads b (json_bytes text ++ 34 ∷ rest)
-    ∙ ap (before_rest (b ∷ [])) (read_back text rest)
+read_back (b ∷ text) rest = grind (arith, nat_tests, append_assoc, reads, read_back text rest)

@@ -8,26 +8,11 @@ use Rattle.plan_write.specs.Json.{is_escaped, json_byte, json_bytes}
 -- a printed byte that isn't a quote or a backslash stands for itself
 pub printed_byte : (b : ℕ) → (b ≡ 34 → ⊥) → (b ≡ 92 → ⊥) → (b ≡ 127 → ⊥) → 32 ≤ b → json_byte b ≡ b ∷ []
 unfolding json_byte
-printed_byte b no_quote no_backslash no_delete printed =
-    rw (
-      ne_eqb b 34 no_quote,
-      ne_eqb b 92 no_backslash,
-      ne_eqb b 8 (λ is. omega arith),
-      ne_eqb b 9 (λ is. omega arith),
-      ne_eqb b 10 (λ is. omega arith),
-      ne_eqb b 12 (λ is. omega arith),
-      ne_eqb b 13 (λ is. omega arith),
-      le-ltb b 32 printed,
-      ne_eqb b 127 no_delete,
-    ) refl
+printed_byte b no_quote no_backslash no_delete printed = grind (arith, nat_tests, ne_eqb, le-ltb)
 
 -- a byte without an escape
 pub plain_byte : (b : ℕ) → is_escaped b ≡ false → json_byte b ≡ b ∷ []
-plain_byte b plain =
-    let delete : (b ≡ 127 → ⊥) = grind (arith, nat_tests, plain) in
-    let quote : (b ≡ 34 → ⊥) = grind (arith, nat_tests, plain) in
-    let backslash : (b ≡ 92 → ⊥) = grind (arith, nat_tests, plain) in
-    let printed : 32 ≤ b = grind (arith, nat_tests, plain) in printed_byte b quote backslash delete printed
+plain_byte b plain = grind (arith, nat_tests, printed_byte)
 
 -- a text without an escape
 pub plain_text : (text : List ℕ) → list_any is_escaped text ≡ false → json_bytes text ≡ text

@@ -1,13 +1,14 @@
 -- Starts that are written one after another: for the loop of `write_next`. The starts of its rule after a time are a
 -- list, of which each turn of the loop writes one more (`listed_more`). At the end, the first `count` of them are
 -- written (`lists_all`), or all, and the line `none` (`lists_fewer`).
-use Rattle.std.proofs.Common.{◌≡◌, ℕ, ◌+◌, ◌<◌, ◌≤◌, true, false, List, [], ◌∷◌, ◌++◌, length, take, drop, nat_lt, refl, ap, sym, ◌∙◌, arith, append-nil, take_all, get_or, length-drop}
+use Rattle.std.proofs.Common.{◌≡◌, ℕ, ◌+◌, ◌<◌, ◌≤◌, true, List, [], ◌∷◌, ◌++◌, length, take, drop, nat_lt, refl, ap, sym, ◌∙◌, arith, append-nil, take_all, get_or, length-drop}
 use Rattle.std.specs.List.{flat_map}
 use Rattle.std.proofs.lemmas.Bool.{lt-ltb, le-ltb}
 use Rattle.std.proofs.lemmas.List.{drop_more, length-take}
 use Rattle.plan_write.specs.Next.{moment_line, none_line, starts_text}
 use Rattle.plan_write.specs.declared.formats.Format.{Format}
 use Rattle.plan_write.proofs.TakesLemmas.{texts_more}
+use Rattle.std.proofs.lemmas.Bool.Decides.{nat_tests}
 
 -- one more line
 pub listed_more :
@@ -27,9 +28,7 @@ pub lists_all :
     (format : Format) (all : List ℕ) (count : ℕ) → count ≤ length all → flat_map (moment_line format) (take count all)
     ≡ starts_text format count (take count all)
 unfolding starts_text
-lists_all format all count many =
-    let full : nat_lt (length (take count all)) count ≡ false = le-ltb _ _ (omega (arith, length-take count all)) in
-    sym (rw full (append-nil (flat_map (moment_line format) (take count all))))
+lists_all format all count many = grind (arith, nat_tests, le-ltb, length-take, append-nil)
 
 -- fewer starts, with the line `none`
 pub lists_fewer :

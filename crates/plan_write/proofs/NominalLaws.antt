@@ -1,7 +1,7 @@
 -- Without delays, what is between the windows of an agenda is between its neighbouring marks, since the agenda ascends: by
 -- induction over the seconds of the span, and in each row over the rules.
-use Rattle.std.proofs.Common.{◌≡◌, ℕ, zero, suc, ◌+◌, ◌-◌, ◌≤◌, true, max, List, [], ◌∷◌, ◌++◌, map, filter, refl, inl, inr, ap, ◌∙◌, arith, lt-ltb}
-use Rattle.std.specs.Prelude.{nat_le, nat_lt, slice_get}
+use Rattle.std.proofs.Common.{◌≡◌, ℕ, zero, suc, ◌+◌, ◌-◌, ◌≤◌, List, [], ◌∷◌, ◌++◌, map, refl, inl, inr, arith, lt-ltb}
+use Rattle.std.specs.Prelude.{nat_le, slice_get}
 use Rattle.std.specs.List.{range_with_len, flat_map}
 use Rattle.std.proofs.Math.Bool.{and-false}
 use Rattle.std.proofs.lemmas.Bool.{cases_Bool}
@@ -10,7 +10,7 @@ use Rattle.plan_match.specs.declared.rule.Rule.{Rule}
 use Rattle.plan_next.specs.Starts.{is_start}
 use Rattle.plan_rules.specs.Delays.{nominal}
 use Rattle.plan_rules.specs.Job.{JobParts}
-use Rattle.plan_collect.specs.Agenda.{agenda, row_from, rules_of}
+use Rattle.plan_collect.specs.Agenda.{agenda, row_from}
 use Rattle.plan_write.specs.Quiet.{between, delay_of, is_gap, marks, pairs_from, window_of, NominalGapsAreOfMarks}
 
 -- each entry is at this second or later, and at or after the one before it
@@ -45,27 +45,12 @@ pairs_of_marks :
     (jobs : List JobParts) (upto mark : ℕ) (entries : List (ℕ × ℕ)) → AscendsFrom mark entries →
     between mark upto (map (window_of (map nominal jobs)) entries) ≡ pairs_from mark (marks entries upto)
 pairs_of_marks jobs upto mark [] up = refl
-pairs_of_marks jobs upto mark (entry ∷ entries) (low, up) =
-    let none = no_delay jobs entry.1 in
-    let next : max mark (entry.0 + delay_of (slice_get (map nominal jobs) entry.1)) ≡ entry.0 = omega (arith, low, none) in
-    ap (λ reach. (mark, entry.0) ∷ between reach upto (map (window_of (map nominal jobs)) entries)) next
-    ∙ ap (λ later. (mark, entry.0) ∷ later) (pairs_of_marks jobs upto entry.0 entries up)
+pairs_of_marks jobs upto mark (entry ∷ entries) (low, up) = grind (arith, nat_tests, no_delay, pairs_of_marks jobs upto entry.0 entries up)
 
 -- a pair that is long enough is a gap
 same_test : (least : ℕ) (pair : ℕ × ℕ) → 1 ≤ least → is_gap least pair ≡ nat_le least (pair.1 - pair.0)
-same_test least pair some = elim (cases_Bool (nat_le least (pair.1 - pair.0))) [
-  | inl is ↦
-      let wide : least ≤ pair.1 - pair.0 = grind (arith, nat_tests, is) in
-      let apart : nat_lt pair.0 pair.1 ≡ true = lt-ltb pair.0 pair.1 (omega (arith, wide, some)) in
-      rw apart refl
-  | inr not ↦ rw not (and-false (nat_lt pair.0 pair.1))
-]
+same_test least pair some = grind (arith, nat_tests, cases_Bool, lt-ltb, and-false)
 
 pub of_marks : NominalGapsAreOfMarks
 unfolding agenda
-of_marks jobs span least some =
-    let all = pairs_of_marks jobs span.upto span.since (agenda (rules_of jobs) span)
-    (rows_ascend (rules_of jobs) (span.upto - span.since) span.since span.since (omega arith)) in
-    ap (filter (is_gap least)) all
-    ∙ ap (λ test. filter test (pairs_from span.since (marks (agenda (rules_of jobs) span) span.upto)))
-    (λ i pair. same_test least pair some i)
+of_marks jobs span least some = grind (arith, nat_tests, pairs_of_marks, rows_ascend, same_test)

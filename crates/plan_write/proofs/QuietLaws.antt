@@ -3,6 +3,8 @@
 -- over the seconds before the span's end, and in each row over the timings.
 use Rattle.std.proofs.Common.{◌≡◌, ℕ, zero, suc, ◌+◌, ◌<◌, ◌≤◌, ◌⊎◌, ◌&&◌, Bool, true, max, List, [], ◌∷◌, ◌++◌, map, filter, Some, inl, inr, ap, sym, subst, ◌∙◌, arith, lt-ltb, le-leb}
 use Rattle.std.specs.Prelude.{slice_get, option_map}
+use Rattle.std.proofs.lemmas.Bool.Decides.{nat_tests}
+use Rattle.std.proofs.lemmas.Grind.{common_steps}
 use Rattle.std.specs.List.{range_with_len, flat_map}
 use Rattle.std.proofs.lemmas.Bool.{and_from, cases_Bool, cases_lt}
 use Rattle.std.proofs.lemmas.Option.{slice_get-map}
@@ -80,9 +82,7 @@ seconds_before :
     upto ≤ second → (reach : ℕ) →
     OutsideAll second (pairs jobs reach upto (flat_map (windows_from 0 timings span) (range_with_len from seconds)))
 seconds_before jobs timings span second upto zero from few past reach = (inr past, tt)
-seconds_before jobs timings span second upto (suc seconds) from few past reach =
-    row_outside jobs span second upto from 0 timings (flat_map (windows_from 0 timings span) (range_with_len (from + 1) seconds))
-    (omega arith) (seconds_before jobs timings span second upto seconds (from + 1) (omega arith) past) reach
+seconds_before jobs timings span second upto (suc seconds) from few past reach = grind (arith, nat_tests, row_outside, seconds_before jobs timings span second upto seconds (from + 1) (omega arith) past)
 
 -- the second is one of a window that opens at `n`, not yet passed
 seconds_reached :
@@ -91,8 +91,7 @@ seconds_reached :
     (is_start timing.rule n && meets span timing.delay n) ≡ true → n ≤ second → second ≤ n + timing.delay →
     (seconds from : ℕ) → from ≤ n → n < from + seconds → (reach : ℕ) →
     OutsideAll second (pairs jobs reach upto (flat_map (windows_from 0 timings span) (range_with_len from seconds)))
-seconds_reached jobs timings span second upto n number timing there own opens low high zero from not_yet in_time reach =
-    absurd (omega arith)
+seconds_reached jobs timings span second upto n number timing there own opens low high zero from not_yet in_time reach = grind (arith, nat_tests, common_steps)
 seconds_reached jobs timings span second upto n number timing there own opens low high (suc seconds) from not_yet in_time reach =
     let later = flat_map (windows_from 0 timings span) (range_with_len (from + 1) seconds) in
     elim (cases_lt from n) [
@@ -134,18 +133,13 @@ outside jobs span number start second job own is low high =
 outside_gaps :
     (second : ℕ) (test : ℕ × ℕ → Bool) (all : List (ℕ × ℕ)) → OutsideAll second all → OutsideAll second (filter test all)
 outside_gaps second test [] out = tt
-outside_gaps second test (pair ∷ all) (here, later) = elim (cases_Bool (test pair)) [
-  | inl is ↦ rw is (here, outside_gaps second test all later)
-  | inr not ↦ rw not (outside_gaps second test all later)
-]
+outside_gaps second test (pair ∷ all) (here, later) = grind (arith, nat_tests, cases_Bool, outside_gaps second test all later)
 
 outside_at :
     (second : ℕ) (all : List (ℕ × ℕ)) (place : ℕ) (gap : ℕ × ℕ) → OutsideAll second all → slice_get all place ≡ Some gap →
     Outside second gap
 outside_at second [] place gap out is = cc
-outside_at second (pair ∷ all) zero gap (here, later) is =
-    let same : pair ≡ gap = cc in
-    subst (Outside second) same here
+outside_at second (pair ∷ all) zero gap (here, later) is = grind (arith, nat_tests, common_steps)
 outside_at second (pair ∷ all) (suc place) gap (here, later) is = outside_at second all place gap later is
 
 pub nothing_starts : NothingStartsInGaps

@@ -1,8 +1,8 @@
 -- The text of gaps, pair by pair: for the loop of `write_quiet`. The loop's reach is at most the end of the planner's years,
 -- which changes no line: no pair ends later.
-use Rattle.std.proofs.Common.{◌≡◌, ℕ, zero, suc, ◌+◌, ◌<◌, ◌≤◌, min, max, false, List, [], ◌∷◌, ◌++◌, length, drop, get_or, map, inl, inr, refl, ap, sym, ◌∙◌, arith, append_assoc, le-ltb}
-use Rattle.std.specs.Prelude.{filter, nat_lt, slice_get}
-use Rattle.std.specs.List.{flat_map, list_all}
+use Rattle.std.proofs.Common.{◌≡◌, ℕ, zero, suc, ◌+◌, ◌<◌, ◌≤◌, min, max, List, [], ◌∷◌, ◌++◌, length, drop, get_or, map, ap, sym, ◌∙◌, arith, append_assoc, le-ltb}
+use Rattle.std.specs.Prelude.{filter, slice_get}
+use Rattle.std.specs.List.{flat_map}
 use Rattle.std.proofs.lemmas.Bool.{cases_Bool, cases_lt, and_parts, ltb-true}
 use Rattle.std.proofs.lemmas.List.{drop_more}
 use Rattle.plan_sets.specs.Limits.{end_second}
@@ -11,6 +11,7 @@ use Rattle.plan_collect.specs.Agenda.{IsInYears}
 use Rattle.plan_collect.specs.Windows.{latest_start}
 use Rattle.plan_write.specs.declared.formats.Format.{Format}
 use Rattle.plan_write.specs.Quiet.{between, delay_of, is_gap, gap_line, line_of_gap, window_of}
+use Rattle.std.proofs.lemmas.Bool.Decides.{nat_tests}
 
 -- the text of the gaps that are left, of entries after a reach
 abbrev pub text_left : (format : Format) (least : ℕ) → List JobParts → (reach upto : ℕ) → List (ℕ × ℕ) → List ℕ
@@ -21,39 +22,24 @@ first_pair :
     (format : Format) (least : ℕ) (pair : ℕ × ℕ) (later : List (ℕ × ℕ)) →
     flat_map (gap_line format) (filter (is_gap least) (pair ∷ later)) ≡ line_of_gap format least pair
     ++ flat_map (gap_line format) (filter (is_gap least) later)
-first_pair format least pair later = elim (cases_Bool (is_gap least pair)) [
-  | inl is ↦ rw is refl
-  | inr not ↦ rw not refl
-]
+first_pair format least pair later = grind (arith, nat_tests, cases_Bool)
 
 -- two reaches that are the same in the planner's years
 same_line :
     (format : Format) (least reach other to : ℕ) → min reach end_second ≡ min other end_second → to ≤ end_second →
     line_of_gap format least (reach, to) ≡ line_of_gap format least (other, to)
-same_line format least reach other to same years = elim (cases_lt reach to) [
-  | inl lt ↦
-      let one : reach ≡ other = omega (arith, same, years, lt) in
-      ap (λ n. line_of_gap format least (n, to)) one
-  | inr ge ↦
-      let none : nat_lt reach to ≡ false = le-ltb reach to ge in
-      let no_other : nat_lt other to ≡ false = le-ltb other to (omega (arith, same, years, ge)) in
-      rw (none, no_other) refl
-]
+same_line format least reach other to same years = grind (arith, nat_tests, cases_lt, le-ltb)
 
 -- the first entry is in the planner's years, and so are the others
 pub first_in_years :
     (entry : ℕ × ℕ) (entries : List (ℕ × ℕ)) → IsInYears (entry ∷ entries) → (entry.0 < end_second) × IsInYears entries
-first_in_years entry entries all =
-    let both = and_parts (nat_lt entry.0 end_second) (list_all (λ other. nat_lt other.0 end_second) entries) all in
-    (ltb-true entry.0 end_second both.0, both.1)
+first_in_years entry entries all = grind (arith, nat_tests, and_parts, ltb-true)
 
 same_left :
     (format : Format) (least : ℕ) (jobs : List JobParts) (reach other upto : ℕ) (entries : List (ℕ × ℕ)) →
     min reach end_second ≡ min other end_second →
     upto ≤ end_second → IsInYears entries → text_left format least jobs reach upto entries ≡ text_left format least jobs other upto entries
-same_left format least jobs reach other upto [] same end years =
-    first_pair format least (reach, upto) [] ∙ ap (λ line. line ++ []) (same_line format least reach other upto same end)
-    ∙ sym (first_pair format least (other, upto) [])
+same_left format least jobs reach other upto [] same end years = grind (arith, nat_tests, first_pair, same_line)
 same_left format least jobs reach other upto (entry ∷ entries) same end years =
     let (before, later) = first_in_years entry entries years in
     let window = window_of jobs entry in
@@ -80,15 +66,7 @@ pub text_at :
     upto ≤ end_second → IsInYears entries →
     text_left format least jobs reach upto (drop i entries)
     ≡ line_of_gap format least (reach, entry.0) ++ text_left format least jobs (max reach latest) upto (drop (i + 1) entries)
-text_at format least jobs reach upto entries i entry latest lt here late end years =
-    let later = drop (i + 1) entries in
-    let rest : drop i entries ≡ entry ∷ later = drop_more entries i entry lt ∙ ap (λ e. e ∷ later) (sym here) in
-    let next = max reach (window_of jobs entry).1 in
-    let same : min next end_second ≡ min (max reach latest) end_second = omega (arith, late) in
-    ap (text_left format least jobs reach upto) rest ∙ first_pair format least (reach, entry.0) (between next upto (map
-    (window_of jobs) later))
-    ∙ ap (λ text. line_of_gap format least (reach, entry.0) ++ text)
-    (same_left format least jobs next (max reach latest) upto later same end (years_from entries (i + 1) years))
+text_at format least jobs reach upto entries i entry latest lt here late end years = grind (arith, nat_tests, drop_more, first_pair, same_left, years_from)
 
 -- a turn of the loop: what it takes and what is left after it are what was left before it
 pub line_taken :
@@ -98,7 +76,4 @@ pub line_taken :
     upto ≤ end_second → IsInYears entries → second ≡ entry.0 → next ≡ max reach latest →
     taken ++ text_left format least jobs reach upto (drop i entries) ≡ whole →
     (taken ++ line_of_gap format least (reach, second)) ++ text_left format least jobs next upto (drop (i + 1) entries) ≡ whole
-line_taken format least jobs reach upto entries i entry latest second next taken whole lt here late end years start reached left =
-    append_assoc taken (line_of_gap format least (reach, second)) (text_left format least jobs next upto (drop (i + 1) entries))
-    ∙ (λ k. taken ++ (line_of_gap format least (reach, start k) ++ text_left format least jobs (reached k) upto (drop (i + 1) entries)))
-    ∙ ap (λ text. taken ++ text) (sym (text_at format least jobs reach upto entries i entry latest lt here late end years)) ∙ left
+line_taken format least jobs reach upto entries i entry latest second next taken whole lt here late end years start reached left = grind (arith, nat_tests, append_assoc, text_at)

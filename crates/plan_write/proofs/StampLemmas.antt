@@ -1,10 +1,11 @@
 -- The text of a time becomes that of another one of the same day, if the digits of its hour, minute and second are replaced; and
 -- of the same minute, if those of its second are. For `change` of `Stamp`.
-use Rattle.std.proofs.Common.{◌≡◌, ℕ, ◌+◌, ◌*◌, ◌/◌, ◌%◌, ◌<◌, List, ◌++◌, take, drop, pos, refl, ap, ◌∙◌, sym, arith, codes}
+use Rattle.std.proofs.Common.{◌≡◌, ℕ, ◌+◌, ◌*◌, ◌/◌, ◌%◌, ◌<◌, List, ◌++◌, take, drop, pos, refl, arith, codes}
 use Rattle.plan_sets.specs.Limits.{first_year, seconds_a_day}
 use Rattle.plan_sets.specs.Civil.{civil_fields, year_and_day, month_and_day}
 use Rattle.plan_sets.specs.Moment.{moment_text_of, two_digits, written_text}
 use Rattle.plan_write.specs.Stamp.{stamp_text}
+use Rattle.std.proofs.lemmas.Bool.Decides.{nat_tests}
 
 -- a text whose digits of two places from this one on are replaced
 abbrev pub replaced : (place : ℕ) → (digits : ℕ) → List ℕ → List ℕ
@@ -34,22 +35,13 @@ in_parts n = refl
 pub other_second :
     (n m place : ℕ) (text : List ℕ) → text ≡ stamp_text n → n / 60 * 60 + place ≡ m → place < 60 →
     replaced 17 place text ≡ stamp_text m
-other_second n m place text is here before =
-    let day : n / seconds_a_day ≡ m / seconds_a_day = omega (arith, here, before) in
-    let hour : n % seconds_a_day / 3600 ≡ m % seconds_a_day / 3600 = omega (arith, here, before) in
-    let minute : n % seconds_a_day / 60 % 60 ≡ m % seconds_a_day / 60 % 60 = omega (arith, here, before) in
-    let second : place ≡ m % seconds_a_day % 60 = omega (arith, here, before) in
-    ap (replaced 17 place) (is ∙ in_parts n) ∙ (λ i. text_of (day i) (hour i) (minute i) (second i)) ∙ sym (in_parts m)
+other_second n m place text is here before = grind (arith, nat_tests, in_parts)
 
 -- the text of a time becomes that of another one of the same day, if its hour, its minute and its second are replaced
 pub other_time :
     (n m time : ℕ) (text : List ℕ) → text ≡ stamp_text n → n / seconds_a_day * seconds_a_day + time ≡ m → time < seconds_a_day →
     replaced 17 (time % 60) (replaced 14 (time / 60 % 60) (replaced 11 (time / 3600) text)) ≡ stamp_text m
-other_time n m time text is here before =
-    let day : n / seconds_a_day ≡ m / seconds_a_day = omega (arith, here, before) in
-    let of_day : time ≡ m % seconds_a_day = omega (arith, here, before) in
-    ap (λ old. replaced 17 (time % 60) (replaced 14 (time / 60 % 60) (replaced 11 (time / 3600) old))) (is ∙ in_parts n)
-    ∙ (λ i. text_of (day i) (of_day i / 3600) (of_day i / 60 % 60) (of_day i % 60)) ∙ sym (in_parts m)
+other_time n m time text is here before = grind (arith, nat_tests, in_parts)
 
 -- the text of a time without its tab
 pub moment_front : (n : ℕ) → take 20 (stamp_text n) ≡ moment_text_of n

@@ -1,5 +1,5 @@
 -- What a writer takes in a loop that puts a text for each element of a list.
-use Rattle.std.proofs.Common.{◌≡◌, ℕ, ◌+◌, ◌<◌, ◌≤◌, Bool, List, [], ◌∷◌, ◌++◌, length, take, get_or, Option, Some, ap, sym, subst, refl, ◌∙◌, take_all, append-nil}
+use Rattle.std.proofs.Common.{◌≡◌, ℕ, ◌+◌, ◌<◌, ◌≤◌, Bool, List, [], ◌∷◌, ◌++◌, length, take, get_or, Option, Some, ap, refl, take_all, append-nil}
 use Rattle.std.specs.List.{flat_map}
 use Rattle.std.specs.Prelude.{slice_get}
 use Rattle.std.proofs.lemmas.Bool.{lt-ltb}
@@ -14,38 +14,35 @@ use Rattle.plan_write.specs.Texts.{EndParts, line_of, lines_of}
 use Rattle.plan_write.specs.Upcoming.{upcoming_text}
 use Rattle.plan_write.specs.declared.formats.Format.{Format}
 use Rattle.plan_write.proofs.QuietLemmas.{first_in_years}
+use Rattle.std.proofs.Common.{arith}
+use Rattle.std.proofs.lemmas.Bool.Decides.{nat_tests}
+use Rattle.std.proofs.lemmas.Grind.{common_steps}
 
 -- the texts of the elements so far, and then that of the next one
 pub texts_more :
     {X : Type 0} (f : X → List ℕ) (xs : List X) (i : ℕ) (x d : X) → i < length xs → x ≡ get_or xs i d →
     flat_map f (take i xs) ++ f x ≡ flat_map f (take (i + 1) xs)
-texts_more f xs i x d lt is =
-    ap (λ text. flat_map f (take i xs) ++ text) (sym (append-nil (f x))) ∙ sym (flat_map-append f (take i xs) (x ∷ []))
-    ∙ ap (λ y. flat_map f (take i xs ++ y ∷ [])) is ∙ sym (ap (flat_map f) (take_more xs i d lt))
+texts_more f xs i x d lt is = grind (arith, nat_tests, common_steps, append-nil, flat_map-append, take_more)
 
 -- a turn of the loop
 pub takes_more :
     {S X : Type 0} (holds : S → Option (List ℕ)) (takes_all : Bool) (a b c : TextWriter S) (f : X → List ℕ) (xs : List X) (i : ℕ) (x : X) →
     i < length xs → x ≡ get_or xs i x → Takes holds takes_all a b (flat_map f (take i xs)) → Takes holds takes_all b c (f x) →
     Takes holds takes_all a c (flat_map f (take (i + 1) xs))
-takes_more holds takes_all a b c f xs i x lt is so_far next =
-    takes_both holds takes_all a b c (flat_map f (take i xs)) (f x) (flat_map f (take (i + 1) xs)) so_far next (texts_more f xs i x x lt is)
+takes_more holds takes_all a b c f xs i x lt is so_far next = grind (arith, nat_tests, common_steps, takes_both, texts_more)
 
 -- after the loop the texts of all elements were taken
 pub takes_whole :
     {S X : Type 0} (holds : S → Option (List ℕ)) (takes_all : Bool) (a b : TextWriter S) (f : X → List ℕ) (xs ys : List X) (i : ℕ) →
     length xs ≤ i → xs ≡ ys → Takes holds takes_all a b (flat_map f (take i xs)) → Takes holds takes_all a b (flat_map f ys)
-takes_whole holds takes_all a b f xs ys i all same taken =
-    subst (λ zs. Takes holds takes_all a b (flat_map f zs)) (take_all i xs all ∙ same) taken
+takes_whole holds takes_all a b f xs ys i all same taken = grind (arith, nat_tests, take_all)
 
 -- three texts that a writer took one after the other are one text
 pub takes_three :
     {S : Type 0} (holds : S → Option (List ℕ)) (takes_all : Bool) (a b c d : TextWriter S) (first second third whole : List ℕ) →
     Takes holds takes_all a b first → Takes holds takes_all b c second → Takes holds takes_all c d third →
     first ++ (second ++ third) ≡ whole → Takes holds takes_all a d whole
-takes_three holds takes_all a b c d first second third whole one two three is =
-    takes_both holds takes_all a b d first (second ++ third) whole one
-    (takes_both holds takes_all b c d second third (second ++ third) two three refl) is
+takes_three holds takes_all a b c d first second third whole one two three is = grind (arith, nat_tests, common_steps, takes_both)
 
 -- the lines of an agenda are those of next starts, since all of them are in the planner's years
 pub lines_in_years :
