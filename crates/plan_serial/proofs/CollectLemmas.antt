@@ -18,6 +18,8 @@ use Rattle.plan_collect.specs.declared.plan_fault.PlanFault.{PlanFault}
 use Rattle.plan_collect.specs.declared.plan_fault.PlanFault.TheVariants as plan
 use Rattle.plan_collect.specs.PlanFault.{of_collect}
 use Rattle.plan_collect.specs.Windows.{Timing, agenda_of_windows}
+use Rattle.std.proofs.lemmas.Bool.Decides.{nat_tests}
+use Rattle.std.proofs.lemmas.Grind.{common_steps}
 
 -- the pieces of one job up to this second were collected
 pub record IsAt (old now : Collected) (job since : ℕ) : Type 0 where
@@ -37,14 +39,7 @@ get_set (x ∷ xs) (suc i) a b is = get_set xs i a b is
 pub IsAt-more :
     (old now new : Collected) (job since end : ℕ) → IsAt old now job since →
     new ≡ record now { covered = slice_set now.covered job end } → IsAt old new job end
-IsAt-more old now new job since end so_far is = record {
-  timings = ap (λ (c : Collected). c.timings) is ∙ so_far.timings;
-  span = ap (λ (c : Collected). c.span) is ∙ so_far.span;
-  limit = ap (λ (c : Collected). c.limit) is ∙ so_far.limit;
-  ended = ap (λ (c : Collected). c.ended) is ∙ so_far.ended;
-  others = λ last. ap (λ (c : Collected). slice_set c.covered job last) is ∙ set_again now.covered job end last ∙ so_far.others last;
-  here = ap (λ (c : Collected). slice_get c.covered job) is ∙ get_set now.covered job since end so_far.here;
-}
+IsAt-more old now new job since end so_far is = grind (arith, nat_tests, set_again, get_set)
 
 -- an error that comes after three tests passed
 last_fault :
@@ -64,11 +59,7 @@ only_room belonging ended adjoining room b e a = rw (b, e, a) refl
 more_than :
     (old now : Collected) {job since : ℕ} → IsAt old now job since → now.limit < length (agenda_of_windows now.timings now.span) →
     old.limit < length (agenda_of_windows old.timings old.span)
-more_than old now so_far many =
-    let all : length (agenda_of_windows now.timings now.span) ≡ length (agenda_of_windows old.timings old.span) =
-    (λ i. length (agenda_of_windows (so_far.timings i) (so_far.span i))) in
-    let limit = so_far.limit in
-    omega arith
+more_than old now so_far many = grind (arith, nat_tests, common_steps)
 
 -- a plan stops with this error
 abbrev pub Fails : Collected → PlanFault → Type 0

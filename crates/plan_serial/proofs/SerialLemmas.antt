@@ -12,6 +12,8 @@ use Rattle.plan_collect.specs.Span.{Bounds}
 use Rattle.plan_collect.specs.Agenda.{Planned}
 use Rattle.plan_collect.specs.Collecting.{Collected, begun, firsts_of, after, is_complete, finished}
 use Rattle.plan_collect.specs.Windows.{Timing, first_second, planned_windows}
+use Rattle.std.proofs.lemmas.Bool.Decides.{nat_tests}
+use Rattle.std.proofs.lemmas.Grind.{common_steps}
 
 -- to where jobs are covered if the first `done` of them are covered to the end of the span
 abbrev pub covered_to : (done : ℕ) → Bounds → List Timing → List ℕ
@@ -30,22 +32,14 @@ pub record IsUpTo (timings : List Timing) (span : Bounds) (limit done : ℕ) (c 
 -- at the start no pieces were collected
 pub IsUpTo-begun :
     (timings : List Timing) (span : Bounds) (limit : ℕ) (c : Collected) → c ≡ begun timings span 1 limit → IsUpTo timings span limit 0 c
-IsUpTo-begun timings span limit c is = record {
-  timings_are = ap (λ (x : Collected). x.timings) is;
-  span_is = ap (λ (x : Collected). x.span) is;
-  limit_is = ap (λ (x : Collected). x.limit) is;
-  none_ended = ap (λ (x : Collected). x.ended) is;
-  covered = ap (λ (x : Collected). x.covered) is;
-}
+IsUpTo-begun timings span limit c is = grind (arith, nat_tests, common_steps)
 
 -- the next job is covered to its first second
 pub next_at :
     (done : ℕ) (span : Bounds) (timings : List Timing) (timing : Timing) → slice_get timings done ≡ Some timing →
     slice_get (covered_to done span timings) done ≡ Some (first_second span timing.delay)
 next_at zero span [] timing is = cc
-next_at zero span (own ∷ timings) timing is =
-    let same : own ≡ timing = cc in
-    ap (λ (t : Timing). Some (first_second span t.delay)) same
+next_at zero span (own ∷ timings) timing is = grind (arith, nat_tests, common_steps)
 next_at (suc done) span [] timing is = cc
 next_at (suc done) span (own ∷ timings) timing is = next_at done span timings timing is
 
@@ -61,17 +55,7 @@ pub IsUpTo-more :
     (timings : List Timing) (span : Bounds) (limit done : ℕ) (c new : Collected) → IsUpTo timings span limit done c →
     done < length timings → new ≡ record c { covered = slice_set c.covered done span.upto } →
     IsUpTo timings span limit (done + 1) new
-IsUpTo-more timings span limit done c new so_far lt is =
-    let next : suc done ≡ done + 1 = omega arith in
-    record {
-      timings_are = ap (λ (x : Collected). x.timings) is ∙ so_far.timings_are;
-      span_is = ap (λ (x : Collected). x.span) is ∙ so_far.span_is;
-      limit_is = ap (λ (x : Collected). x.limit) is ∙ so_far.limit_is;
-      none_ended = ap (λ (x : Collected). x.ended) is ∙ so_far.none_ended;
-      covered =
-          ap (λ (x : Collected). x.covered) is ∙ ap (λ xs. slice_set xs done span.upto) so_far.covered
-          ∙ next_covered done span timings lt ∙ ap (λ n. covered_to n span timings) next;
-    }
+IsUpTo-more timings span limit done c new so_far lt is = grind (arith, nat_tests, next_covered)
 
 all_covered :
     (done : ℕ) (span : Bounds) (timings : List Timing) → done ≡ length timings →
@@ -79,9 +63,7 @@ all_covered :
 all_covered zero span [] all = refl
 all_covered zero span (timing ∷ timings) all = absurd (omega arith)
 all_covered (suc done) span [] all = refl
-all_covered (suc done) span (timing ∷ timings) all =
-    and_from (span.upto == span.upto) (list_all (λ upto. upto == span.upto) (covered_to done span timings))
-    (eq-eqb span.upto span.upto refl) (all_covered done span timings (omega arith))
+all_covered (suc done) span (timing ∷ timings) all = grind (arith, nat_tests, and_from, eq-eqb, all_covered done span timings (omega arith))
 
 complete_finished : (complete : Bool) (made : Planned) → complete ≡ true → cond complete (Ok made) (Err collect.Missing) ≡ Ok made
 complete_finished complete made is = rw is refl

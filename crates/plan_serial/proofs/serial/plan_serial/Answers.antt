@@ -3,13 +3,9 @@ use Rattle.std.specs.Prelude.{option_map, slice_get}
 use Rattle.std.proofs.lemmas.Option.{slice_get-map}
 use Rattle.plan_collect.specs.AgendaLaws.{job_there, length-timings_of}
 use Rattle.plan_collect.specs.Windows.{timing_of, timings_of}
-use Rattle.plan_serial.proofs.SerialLemmas.{IsUpTo-begun, IsUpTo-more, next_at, finished-all, err_not_ok}
+use Rattle.plan_serial.proofs.SerialLemmas.{IsUpTo-more, next_at, finished-all, err_not_ok}
 use Rattle.plan_serial.proofs.serial.plan_serial.Goals as goal
 use Rattle.plan_serial.proofs.serial.plan_serial.Goals.{in-Some+in_ok-collect_job, in_default}
-
-pub loop-number-init : goal.loop-number-init
-loop-number-init c =
-    IsUpTo-begun (timings_of c.args.jobs.now) c.args.span c.args.limit c.in_ok-collector.collector c.in_ok-collector.ensures.new
 
 pub collect_job-requires-clause-open : goal.collect_job-requires-clause-open
 collect_job-requires-clause-open c =
