@@ -3,3 +3,9 @@ pub mod WidthLemmas
 pub mod LineLemmas
 pub mod TimeLemmas
 pub mod TableLemmas
+pub mod DateLemmas
+pub mod KeyLemmas
+pub mod RowLemmas
+pub mod GapLemmas
+pub mod YearLemmas
+pub mod FallLemmas

@@ -3,3 +3,8 @@ pub mod Layout
 pub mod Widths
 pub mod Times
 pub mod Lines
+pub mod Rows
+pub mod Last
+pub mod Dates
+pub mod Keys
+pub mod Gaps

@@ -1,8 +1,10 @@
 //! Cells of a table.
 
-ghost use Rattle.std.specs.Prelude.{◌≡◌, chars};
+ghost use Rattle.std.specs.Prelude.{◌≡◌, chars, option_map};
 ghost use Rattle.agenda_table.specs.Layout.{width};
+ghost use Rattle.agenda_table.specs.Rows.{text_of};
 
+use crate::short::Short;
 use std::marker::Model;
 use unicode_width::UnicodeWidthStr;
 
@@ -47,5 +49,15 @@ impl<'a> Cell<'a> {
         ensures { result ≡ width self.now }
     {
         self.columns
+    }
+}
+
+/// Returns the cell of a text, if there is a text.
+pub(crate) fn cell_if(text: &Option<Short>) -> Option<Cell<'_>>
+    ensures { result ≡ option_map chars (text_of text.now) }
+{
+    match text {
+        Some(text) => Some(Cell::new(text.as_str())),
+        None => None,
     }
 }

@@ -1,13 +1,20 @@
 //! The table that `agenda machine` prints of an answer: lines of cells, with blanks between them.
 //!
-//! `table` reads the rows of an answer twice: for the widths of the columns, and for the lines. `line` makes a line of
-//! a row, and `room` cuts it. `time` and `short` have the texts of cells: times, with what a clock shows then (`face`),
-//! and lengths. The crate knows neither agendas nor jobs. Read `table` first, then `line`.
+//! `table` reads the rows of an answer twice: for the widths of the columns, and for the lines. `jobs` has the rows of an
+//! agenda and those of next starts, and `gaps` those of gaps. `last` makes the last line. `line` makes a line of a row, and
+//! `room` cuts it. `time` and `short` have the texts of cells: times, with what a clock shows then (`face`), and lengths.
+//! `look` says how the times of a table are shown, and `dates` on which dates they have their offset. Read `table` first,
+//! then `jobs`.
 #![tactic(auto)]
 
 mod cell;
+mod dates;
 mod face;
+mod gaps;
+mod jobs;
+mod last;
 mod line;
+mod look;
 mod room;
 mod short;
 mod table;
@@ -15,5 +22,10 @@ mod time;
 mod widths;
 
 pub use cell::Cell;
+pub use dates::{dates_of_gaps, dates_of_jobs};
+pub use gaps::{GapRows, Gaps};
+pub use jobs::{JobCells, JobRows};
+pub use last::{after_text, span_text};
 pub use line::Frame;
+pub use look::Look;
 pub use table::{RowSink, Rows, write_table};

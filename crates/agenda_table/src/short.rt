@@ -11,6 +11,16 @@ use itoa::Buffer as Digits;
 /// A short text.
 pub(crate) type Short = ArrayString<160>;
 
+/// Returns a word of a head, or `none`.
+pub(crate) fn word(text: &str) -> Short
+    requires { length text.now ≤ 160 }
+    ensures { result.bytes ≡ text.now }
+{
+    let mut short = Short::new();
+    short.push_str(text);
+    short
+}
+
 /// Appends a number, and a unit.
 fn push_number(text: &mut Short, number: u64, unit: &str)
     requires room { array_string_len text.old + length unit.now + 20 ≤ 160 }
