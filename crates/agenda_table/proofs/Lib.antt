@@ -9,3 +9,4 @@ pub mod RowLemmas
 pub mod GapLemmas
 pub mod YearLemmas
 pub mod FallLemmas
+pub mod ShortLemmas

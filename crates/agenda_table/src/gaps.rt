@@ -1,19 +1,23 @@
 //! The gaps of an agenda, and their table.
 
-ghost use Rattle.std.specs.Prelude.{◌≡◌, ◌≤◌, ◌∷◌, ◌++◌, [], IfOk, IfSome, OnOk, None, Some, codes, if◌then◌else◌, slice_get};
+ghost use Rattle.std.specs.Prelude.{◌≡◌, ◌≤◌, ◌∷◌, ◌++◌, [], IfOk, IfSome, IsTrue, OnOk, None, Some, chars, codes, if◌then◌else◌, slice_get};
 ghost use Rattle.plan_collect.specs.Windows.{latest_start};
 ghost use Rattle.plan_sets.specs.Limits.{end_second};
+ghost use Rattle.plan_streams.specs.Stream.{Puts};
 ghost use Rattle.plan_write.specs.Quiet.{delay_of, gaps, is_gap};
 ghost use Rattle.agenda_table.specs.Gaps.{AreGaps};
-ghost use Rattle.agenda_table.specs.Rows.{distance_head, distance_if, gap_cells, gap_row, text_of};
+ghost use Rattle.agenda_table.specs.Layout.{table_text};
+ghost use Rattle.agenda_table.specs.Rows.{distance_head, distance_if, gap_cells, gap_row, gap_rows, text_of};
 
 use crate::cell::{Cell, cell_if};
 use crate::jobs::latest_start;
+use crate::line::Frame;
 use crate::look::Look;
 use crate::short::{Short, length_of};
-use crate::table::{RowSink, Rows};
+use crate::table::{RowSink, Rows, write_table};
 use plan_collect::{Agenda, Start};
 use plan_rules::Jobs;
+use plan_streams::{Stream, WriteFault};
 use std::alloc::{AllocError, Global};
 use std::marker::Model;
 
@@ -137,4 +141,23 @@ impl<'a> Rows for GapRows<'a> {
             self.put_gap(*from, *to, &mut passed, sink);
         }
     }
+}
+
+/// Writes the table of gaps, and a last line, which isn't cut. This requests no memory. The stream is flushed once, at the
+/// end.
+///
+/// # Errors
+///
+/// `Device` or `Closed` if the stream fails. Then only the first bytes of the text were written.
+pub fn write_gap_table<S: Stream>(
+    table: &GapRows<'_>,
+    last: &str,
+    frame: Frame,
+    out: &mut S,
+) -> Result<(), WriteFault>
+    ensures text { Puts S.takes_all result (S.holds out.old) (S.holds out.new) (table_text frame.columns frame.terminal
+        (gap_rows table.now.look.now table.now.gaps.now) (chars last.now)) }
+    ensures flushed { OnOk result (IsTrue (S.is_flushed out.new)) }
+{
+    write_table(table, last, frame, out)
 }

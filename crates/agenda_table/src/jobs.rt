@@ -1,19 +1,23 @@
 //! The table of starts of jobs: those of an agenda, or the next ones.
 
-ghost use Rattle.std.specs.Prelude.{◌≡◌, ◌≤◌, ◌∷◌, [], IfOk, IfSome, IsOk, None, Some, chars, map, option_copied, option_map, slice_get};
+ghost use Rattle.std.specs.Prelude.{◌≡◌, ◌≤◌, ◌∷◌, [], IfOk, IfSome, IsOk, IsTrue, OnOk, None, Some, chars, map, option_copied, option_map, slice_get};
 ghost use Rattle.plan_collect.specs.Windows.{latest_start};
 ghost use Rattle.plan_sets.specs.Limits.{end_second};
+ghost use Rattle.plan_streams.specs.Stream.{Puts};
 ghost use Rattle.plan_write.specs.Texts.{run_text};
 ghost use Rattle.plan_write.specs.Upcoming.{start_or_none};
-ghost use Rattle.agenda_table.specs.Rows.{JobTexts, job_cells, job_head, job_row, job_texts, latest_or_word, rows_of_job, start_or_word, text_if, text_of};
+ghost use Rattle.agenda_table.specs.Layout.{table_text};
+ghost use Rattle.agenda_table.specs.Rows.{JobTexts, job_cells, job_head, job_row, job_rows, job_texts, latest_or_word, rows_of_job, start_or_word, text_if, text_of};
 
 use crate::cell::{Cell, cell_if};
+use crate::line::Frame;
 use crate::look::Look;
 use crate::short::{Short, word};
-use crate::table::{RowSink, Rows};
+use crate::table::{RowSink, Rows, write_table};
 use plan_collect::Start;
 use plan_rules::{Job, Jobs, Text};
 use plan_sets::END_SECOND;
+use plan_streams::{Stream, WriteFault};
 use std::alloc::{AllocError, Global};
 use std::marker::Model;
 
@@ -264,4 +268,23 @@ impl<'a> Rows for JobRows<'a> {
             self.put_start(*start, &mut passed, sink);
         }
     }
+}
+
+/// Writes the table of starts of jobs, and a last line, which isn't cut. This requests no memory. The stream is flushed
+/// once, at the end.
+///
+/// # Errors
+///
+/// `Device` or `Closed` if the stream fails. Then only the first bytes of the text were written.
+pub fn write_job_table<S: Stream>(
+    table: &JobRows<'_>,
+    last: &str,
+    frame: Frame,
+    out: &mut S,
+) -> Result<(), WriteFault>
+    ensures text { Puts S.takes_all result (S.holds out.old) (S.holds out.new) (table_text frame.columns frame.terminal
+        (job_rows table.now.look.now table.now.delays table.now.starts.now table.now.jobs.now) (chars last.now)) }
+    ensures flushed { OnOk result (IsTrue (S.is_flushed out.new)) }
+{
+    write_table(table, last, frame, out)
 }

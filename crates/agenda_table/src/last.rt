@@ -5,7 +5,6 @@ ghost use Rattle.plan_sets.specs.Limits.{end_second};
 ghost use Rattle.agenda_table.specs.Last.{after_text, plural, span_text};
 
 use crate::look::Look;
-use plan_collect::Span;
 use std::alloc::{AllocError, Global};
 
 /// Returns the last line of a table of a span: how many there are of something, the span, and the zone.
@@ -18,15 +17,18 @@ pub fn span_text(
     look: &Look<'_>,
     count: usize,
     what: &str,
-    span: Span,
+    since: u64,
+    upto: u64,
     zone: &str,
 ) -> Result<String, AllocError>
-    ensures { IfOk result (λ text. string_bytes text ≡ span_text look.now count what.now span.since span.upto zone.now) }
+    requires since { since ≤ end_second }
+    requires upto { upto ≤ end_second }
+    ensures { IfOk result (λ text. string_bytes text ≡ span_text look.now count what.now since upto zone.now) }
 {
     let s = plural(count);
     let mut passed = 0;
-    let from = look.start_text(span.since(), &mut passed);
-    let to = look.start_text(span.upto(), &mut passed);
+    let from = look.start_text(since, &mut passed);
+    let to = look.start_text(upto, &mut passed);
     let (from, to) = (from.as_str(), to.as_str());
     format!(in alloc; "{count} {what}{s} from {from} to {to}, {zone}")
 }

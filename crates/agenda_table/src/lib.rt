@@ -23,8 +23,8 @@ mod widths;
 
 pub use cell::Cell;
 pub use dates::{dates_of_gaps, dates_of_jobs};
-pub use gaps::{GapRows, Gaps};
-pub use jobs::{JobCells, JobRows};
+pub use gaps::{GapRows, Gaps, write_gap_table};
+pub use jobs::{JobCells, JobRows, write_job_table};
 pub use last::{after_text, span_text};
 pub use line::Frame;
 pub use look::Look;
