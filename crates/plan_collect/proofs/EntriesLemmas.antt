@@ -2,15 +2,15 @@
 -- nothing any other. In its own row it is there once if the job starts then (`row_here`), and in the other rows it isn't
 -- (`row_other`).
 use Rattle.std.proofs.Common.{◌≡◌, ◌≢◌, ℕ, zero, suc, ◌+◌, ◌<◌, ◌≤◌, Bool, true, false, cond, ◌&&◌, ◌==◌, List, [], ◌∷◌, Some, inl, inr, refl, ap, sym, ◌∙◌, arith}
-use Rattle.std.specs.Prelude.{nat_lt, slice_get}
+use Rattle.std.specs.Prelude.{slice_get}
 use Rattle.std.specs.List.{range_with_len, flat_map}
 use Rattle.std.proofs.lemmas.Bool.{cases_Bool, cases_eq, cases_lt, eq-eqb, ne_eqb, le-ltb}
 use Rattle.plan_next.specs.Span.{Bounds}
-use Rattle.plan_next.specs.Starts.{is_start}
 use Rattle.plan_rules.specs.Job.{JobParts}
 use Rattle.plan_collect.specs.Collecting.{weigh}
-use Rattle.plan_collect.specs.Windows.{timings_of, meets, windows_from, agenda_of_windows, has_window, HasEachWindowOnce}
+use Rattle.plan_collect.specs.Windows.{timings_of, windows_from, agenda_of_windows, has_window, HasEachWindowOnce}
 use Rattle.plan_collect.proofs.StartsLemmas.{weigh-append, weigh-sum_by}
+use Rattle.std.proofs.lemmas.Bool.Decides.{nat_tests}
 
 -- one if this is the entry of the second and the job
 abbrev one : (second number : ℕ) → ℕ × ℕ → ℕ
@@ -33,10 +33,7 @@ not_then : (second number n job : ℕ) → n ≢ second → one second number (n
 not_then second number n job not = rw (ne_eqb n second not) refl
 
 not_its : (second number n job : ℕ) → job ≢ number → one second number (n, job) ≡ 0
-not_its second number n job not = elim (cases_Bool (n == second)) [
-  | inl is ↦ rw (is, ne_eqb job number not) refl
-  | inr other ↦ rw other refl
-]
+not_its second number n job not = grind (arith, nat_tests, cases_Bool, ne_eqb)
 
 its_own : (second number : ℕ) → one second number (second, number) ≡ 1
 its_own second number = rw (eq-eqb second second refl, eq-eqb number number refl) refl
@@ -46,18 +43,14 @@ row_other :
     (second number job : ℕ) (jobs : List JobParts) (span : Bounds) (n : ℕ) → n ≢ second →
     weigh (one second number) (windows_from job (timings_of jobs) span n) ≡ 0
 row_other second number job [] span n not = refl
-row_other second number job (first ∷ jobs) span n not =
-    add_other second number (is_start first.rule n && meets span first.delay n) (n, job) (windows_from (job + 1) (timings_of jobs) span n)
-    0 (not_then second number n job not) (row_other second number (job + 1) jobs span n not)
+row_other second number job (first ∷ jobs) span n not = grind (arith, nat_tests, add_other, not_then, row_other second number (job + 1) jobs span n not)
 
 -- a row of later jobs
 row_later :
     (second number job : ℕ) (jobs : List JobParts) (span : Bounds) (n : ℕ) → number < job →
     weigh (one second number) (windows_from job (timings_of jobs) span n) ≡ 0
 row_later second number job [] span n later = refl
-row_later second number job (first ∷ jobs) span n later =
-    add_other second number (is_start first.rule n && meets span first.delay n) (n, job) (windows_from (job + 1) (timings_of jobs) span n)
-    0 (not_its second number n job (omega arith)) (row_later second number (job + 1) jobs span n (omega arith))
+row_later second number job (first ∷ jobs) span n later = grind (arith, nat_tests, add_other, not_its, row_later second number (job + 1) jobs span n (omega arith))
 
 -- the row of the second has the entry once, if the window of the job meets the span
 row_here :
@@ -65,16 +58,8 @@ row_here :
     weigh (one second (job + place)) (windows_from job (timings_of jobs) span second) ≡ cond
     (has_window (slice_get jobs place) span second) 1 0
 row_here second job place [] span = refl
-row_here second job zero (first ∷ jobs) span =
-    let number : job + 0 ≡ job = omega arith in
-    rw number (add_own second job (is_start first.rule second && meets span first.delay second) (second, job)
-    (windows_from (job + 1) (timings_of jobs) span second) (its_own second job)
-    (row_later second job (job + 1) jobs span second (omega arith)))
-row_here second job (suc place) (first ∷ jobs) span =
-    let number : job + 1 + place ≡ job + suc place = omega arith in
-    add_other second (job + suc place) (is_start first.rule second && meets span first.delay second) (second, job)
-    (windows_from (job + 1) (timings_of jobs) span second) _ (not_its second (job + suc place) second job (omega arith))
-    (rw number at (row_here second (job + 1) place jobs span))
+row_here second job zero (first ∷ jobs) span = grind (arith, nat_tests, add_own, its_own, row_later)
+row_here second job (suc place) (first ∷ jobs) span = grind (arith, nat_tests, add_other, not_its, row_here second (job + 1) place jobs span)
 
 -- rows that don't weigh anything
 rows_other :
@@ -106,14 +91,7 @@ rows_own weight row second a (suc n) none low high =
 
 -- no window opens at the span's end or later
 late_window : (job : JobParts) (span : Bounds) (second : ℕ) → span.upto ≤ second → has_window (Some job) span second ≡ false
-late_window job span second late =
-    let closed : nat_lt second span.upto ≡ false = le-ltb _ _ late in
-    rw closed (never (is_start job.rule second) (nat_lt span.since span.upto))
-  where
-    never : (a b : Bool) → (a && (b && false)) ≡ false
-    never true true = refl
-    never true false = refl
-    never false b = refl
+late_window job span second late = grind (arith, nat_tests, le-ltb)
 
 none_late : (jobs : List JobParts) (place : ℕ) (span : Bounds) (second : ℕ) → span.upto ≤ second →
     has_window (slice_get jobs place) span second ≡ false

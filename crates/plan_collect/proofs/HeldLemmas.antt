@@ -14,6 +14,7 @@ use Rattle.plan_collect.specs.Collecting.{held_from, weigh}
 use Rattle.plan_collect.specs.Windows.{Timing, first_second, windows_from}
 use Rattle.plan_collect.proofs.StartsLemmas.{weigh-append}
 use Rattle.plan_collect.proofs.WindowsLemmas.{is_planned, planned_starts}
+use Rattle.std.proofs.lemmas.Bool.Decides.{nat_tests}
 
 -- the entries of one job
 abbrev pub entries_of : (job : ℕ) → List ℕ → List (ℕ × ℕ)
@@ -54,10 +55,7 @@ weigh-rows :
     (entries_of job (filter (is_planned timing span) seconds)) + weigh weight
     (flat_map (windows_from (job + 1) timings span) seconds)
 weigh-rows weight job timing timings span [] = refl
-weigh-rows weight job timing timings span (n ∷ seconds) =
-    one_row weight (is_planned timing span n) n job (windows_from (job + 1) timings span n)
-    (flat_map (windows_from job (timing ∷ timings) span) seconds) (filter (is_planned timing span) seconds)
-    (flat_map (windows_from (job + 1) timings span) seconds) (weigh-rows weight job timing timings span seconds)
+weigh-rows weight job timing timings span (n ∷ seconds) = grind (arith, nat_tests, one_row, is_planned, weigh-rows weight job timing timings span seconds)
 
 -- the seconds at which windows may open that meet the span
 abbrev pub seconds_of : Bounds → List ℕ
@@ -69,11 +67,7 @@ weigh-span :
     weigh weight (flat_map (windows_from job (timing ∷ timings) span) (seconds_of span)) ≡ weigh weight
     (entries_of job (starts timing.rule (first_second span timing.delay) span.upto)) + weigh weight
     (flat_map (windows_from (job + 1) timings span) (seconds_of span))
-weigh-span weight job timing timings span ordered =
-    weigh-rows weight job timing timings span (seconds_of span)
-    ∙ ap (λ seconds. weigh weight (entries_of job seconds) + weigh weight
-    (flat_map (windows_from (job + 1) timings span) (seconds_of span)))
-    (planned_starts timing span ordered)
+weigh-span weight job timing timings span ordered = grind (arith, nat_tests, weigh-rows, planned_starts)
 
 -- each of the jobs is covered to a second from its first one to the end of the span
 abbrev pub AreWithin : Bounds → List Timing → List ℕ → Type 0

@@ -2,8 +2,8 @@
 -- `Collector::new` and `keep`, and for `has_room` and `finish`. With any weights, what is held with a piece is what was
 -- held and the piece's starts (`with_piece`), within the agenda. So the agenda exceeds the limit if a piece doesn't fit
 -- in it.
-use Rattle.std.proofs.Common.{◌≡◌, ℕ, ◌+◌, ◌-◌, ◌<◌, ◌≤◌, ◌%◌, Bool, true, false, ◌&&◌, ◌==◌, List, [], ◌∷◌, ◌++◌, length, Option, None, Some, inl, inr, refl, ap, sym, subst, ◌∙◌, arith, length-append, length-set, get_or-set_same, get_or-set_other}
-use Rattle.std.specs.Prelude.{slice_get, slice_index, slice_set, replicate, nat_lt, nat_le, IsPermutation}
+use Rattle.std.proofs.Common.{◌≡◌, ℕ, ◌+◌, ◌-◌, ◌<◌, ◌≤◌, Bool, true, false, ◌==◌, List, [], ◌∷◌, ◌++◌, length, Option, None, Some, inl, inr, refl, ap, sym, subst, ◌∙◌, arith, length-append, length-set, get_or-set_same, get_or-set_other}
+use Rattle.std.specs.Prelude.{slice_get, slice_index, slice_set, replicate, nat_le, IsPermutation}
 use Rattle.std.specs.List.{list_all}
 use Rattle.std.specs.List.Sorted.{IsSorted}
 use Rattle.std.specs.Ordering.{nat_cmp, ordering_then}
@@ -24,19 +24,16 @@ use Rattle.plan_collect.proofs.StartsLemmas.{weigh-append, weigh-length, SameSta
 use Rattle.plan_collect.proofs.HeldLemmas.{entries_of, length-entries_of, AreWithin, AreWithin-each, held-le, held-complete, held-more}
 use Rattle.plan_collect.proofs.AgendaOrder.{Ascends-agenda}
 use Rattle.plan_collect.proofs.WindowsLemmas.{first_of, first-since, timing_at}
+use Rattle.std.proofs.lemmas.Bool.Decides.{nat_tests}
+use Rattle.std.proofs.lemmas.Grind.{common_steps}
 
 pub no_starts : (rule : Rule) (a b : ℕ) → b ≤ a → starts rule a b ≡ []
 unfolding passing
-no_starts rule a b none =
-    let empty : b - a ≡ 0 = omega arith in
-    rw empty refl
+no_starts rule a b none = grind (arith, nat_tests, common_steps)
 
 pub nothing_held : (job : ℕ) (span : Bounds) (timings : List Timing) → held_from job span timings (firsts_of span timings) ≡ []
 nothing_held job span [] = refl
-nothing_held job span (timing ∷ timings) =
-    let first = first_second span timing.delay in
-    let none : starts timing.rule first first ≡ [] = no_starts timing.rule first first (omega arith) in
-    rw none (nothing_held (job + 1) span timings)
+nothing_held job span (timing ∷ timings) = grind (arith, nat_tests, no_starts, nothing_held (job + 1) span timings)
 
 -- a new collector holds nothing
 pub Holds-begun :
@@ -80,12 +77,7 @@ rule_of_some (Some timing) rule h = record { timing = timing; there = refl; same
 pub job_covered :
     (view c : Collected) (entries : List (ℕ × ℕ)) (job : ℕ) (rule : Rule) → view ≡ c → Holds view entries →
     is_rule_of (slice_get c.timings job) rule ≡ true → job < length view.covered
-job_covered view c entries job rule e holds is =
-    let own = rule_of_some (slice_get c.timings job) rule is in
-    let there : job < length c.timings = slice_get_within c.timings job own.timing own.there in
-    let many : length view.timings ≡ length c.timings = ap (λ (v : Collected). length v.timings) e in
-    let as_many : length view.covered ≡ length view.timings = holds.jobs in
-    omega arith
+job_covered view c entries job rule e holds is = grind (arith, nat_tests, rule_of_some, slice_get_within)
 
 -- what a piece that adjoins adds
 record Fits (c : Collected) (job : ℕ) (piece : Part) : Type 0 where
@@ -119,13 +111,7 @@ with_piece :
     piece.since ≤ piece.upto →
     weigh weight (held_from 0 c.span c.timings (slice_set c.covered job piece.upto)) ≡ weigh weight (held c) + weigh weight
     (entries_of job (starts piece.rule piece.since piece.upto))
-with_piece weight c entries job piece holds fit forward =
-    let begins = fit.begins in
-    let own = fit.own in
-    let from = holds.since job fit.timing fit.known in
-    let number : 0 + job ≡ job = omega arith in
-    let more = held-more weight 0 job c.span c.timings c.covered fit.timing piece.upto fit.known fit.there from (omega arith) in
-    rw (number, begins, own) at more
+with_piece weight c entries job piece holds fit forward = grind (arith, nat_tests, common_steps, held-more)
 
 -- a collector holds what it held and the starts of an accepted piece
 pub Holds-more :
@@ -134,43 +120,7 @@ pub Holds-more :
     has_room c (note.Part job piece) ≡ true → piece.since ≤ piece.upto →
     new ≡ entries ++ entries_of job (starts piece.rule piece.since piece.upto) →
     Holds (record c { covered = slice_set c.covered job piece.upto }) new
-Holds-more c entries new job piece holds belongs adjoins room forward is =
-    let fit = fits c entries job piece holds belongs adjoins in
-    let added = starts piece.rule piece.since piece.upto in
-    let long : length (slice_set c.covered job piece.upto) ≡ length c.covered = length-set c.covered job piece.upto in
-    let begins = fit.begins in
-    let ends = fit.ends in
-    let there = fit.there in
-    let as_many = holds.jobs in
-    record {
-      same = λ weight. ap (weigh weight) is ∙ weigh-append weight entries (entries_of job added) ∙ ap
-          (λ n. n + weigh weight (entries_of job added)) (holds.same weight) ∙ sym
-          (with_piece weight c entries job piece holds fit forward);
-      few = (
-          let fewer : length (held c) + length added ≤ c.limit = leb-true (length (held c) + length added) c.limit room in
-          let same : length entries ≡ length (held c) = SameStarts-length entries (held c) holds.same in
-          let all : length new ≡ length (entries ++ entries_of job added) = ap length is in
-          omega (arith, all, length-append entries (entries_of job added), length-entries_of job added));
-      limit = holds.limit;
-      size = holds.size;
-      few_jobs = holds.few_jobs;
-      jobs = omega arith;
-      since = λ k timing known. elim (cases_eq k job) [
-        | inl here ↦ (let is : slice_index (slice_set c.covered job piece.upto) k ≡ piece.upto = ap
-            (slice_index (slice_set c.covered job piece.upto)) here ∙ get_or-set_same c.covered job piece.upto 0 fit.there in
-            let was : slice_index c.covered k ≡ slice_index c.covered job = ap (slice_index c.covered) here in
-            let low = holds.since k timing known in omega arith)
-        | inr other ↦ (let is : slice_index (slice_set c.covered job piece.upto) k ≡ slice_index c.covered k =
-            get_or-set_other c.covered job k piece.upto 0 other in let low = holds.since k timing known in omega arith)
-      ];
-      upto = λ k lt. elim (cases_eq k job) [
-        | inl here ↦ (let is : slice_index (slice_set c.covered job piece.upto) k ≡ piece.upto = ap
-            (slice_index (slice_set c.covered job piece.upto)) here ∙ get_or-set_same c.covered job piece.upto 0 fit.there in omega arith)
-        | inr other ↦ (let is : slice_index (slice_set c.covered job piece.upto) k ≡ slice_index c.covered k =
-            get_or-set_other c.covered job k piece.upto 0 other in let high = holds.upto k (omega arith) in omega arith)
-      ];
-      ordered = holds.ordered;
-    }
+Holds-more c entries new job piece holds belongs adjoins room forward is = grind (arith, nat_tests, common_steps, fits, weigh-append, entries_of, with_piece, leb-true, SameStarts-length, length-append, length-entries_of, cases_eq)
 
 -- no more is held than the agenda has
 held_within :
@@ -263,29 +213,14 @@ pub room_is :
     (view c : Collected) (entries : List (ℕ × ℕ)) (job : ℕ) (piece : Part) (found : List ℕ) (many : ℕ) → view ≡ c →
     Holds view entries → found ≡ starts piece.rule piece.since piece.upto → many ≡ length entries →
     nat_le (length found) (view.limit - many) ≡ has_room c (note.Part job piece)
-room_is view c entries job piece found many e holds all is =
-    let same : length entries ≡ length (held view) = SameStarts-length entries (held view) holds.same in
-    let few = holds.few in
-    let long : length found ≡ length (starts piece.rule piece.since piece.upto) = ap length all in
-    let by_view : nat_le (length found) (view.limit - many) ≡ has_room view (note.Part job piece) =
-    elim (cases_lt view.limit (length (held view) + length (starts piece.rule piece.since piece.upto))) [
-      | inl more ↦ lt-leb (length found) (view.limit - many) (omega arith) ∙ sym
-          (lt-leb (length (held view) + length (starts piece.rule piece.since piece.upto)) view.limit more)
-      | inr room ↦ le-leb (length found) (view.limit - many) (omega arith) ∙ sym
-          (le-leb (length (held view) + length (starts piece.rule piece.since piece.upto)) view.limit room)
-    ] in
-    by_view ∙ ap (λ v. has_room v (note.Part job piece)) e
+room_is view c entries job piece found many e holds all is = grind (arith, nat_tests, SameStarts-length, cases_lt, lt-leb, le-leb)
 
 -- if a piece that belongs and adjoins doesn't fit in the limit, the agenda has more entries than the limit
 pub no_room :
     (view c : Collected) (entries : List (ℕ × ℕ)) (planner job : ℕ) (piece : Part) → view ≡ c → Holds view entries →
     belongs c planner (note.Part job piece) ≡ true → adjoins c (note.Part job piece) ≡ true →
     has_room c (note.Part job piece) ≡ false → c.limit < length (agenda_of_windows c.timings c.span)
-no_room view c entries planner job piece e holds belonging adjoining room =
-    let there = and_parts (nat_lt planner (length c.ended))
-    (job % length c.ended == planner && is_rule_of (slice_get c.timings job) piece.rule) belonging in
-    let own = and_parts (job % length c.ended == planner) (is_rule_of (slice_get c.timings job) piece.rule) there.1 in
-    too_many c entries job piece (subst (λ v. Holds v entries) e holds) own.1 adjoining room
+no_room view c entries planner job piece e holds belonging adjoining room = grind (arith, nat_tests, and_parts, too_many)
 
 -- what a complete collector has sorted is the agenda
 pub agenda_sorted :

@@ -1,7 +1,7 @@
 -- A collector's answer doesn't depend on the order in which the messages of different planners arrive. For
 -- `accepts_every_merging`, by TilingLemmas.antt. `merged` goes by induction over the arrivals: what each planner still
 -- sends fits, or brings too many starts (`Sends`), and a message changes nothing for other planners (`alike_other`).
-use Rattle.std.proofs.Common.{◌≡◌, ◌≢◌, ℕ, suc, ◌+◌, ◌%◌, ◌<◌, ◌≤◌, ◌⊎◌, Bool, true, false, ◌&&◌, ◌==◌, nat_lt, nat_le, List, [], ◌∷◌, length, get_or, Some, None, Result, Err, inl, inr, refl, ap, ap₂, sym, ◌∙◌, subst, arith}
+use Rattle.std.proofs.Common.{◌≡◌, ◌≢◌, ℕ, suc, ◌+◌, ◌%◌, ◌<◌, ◌≤◌, ◌⊎◌, Bool, true, false, ◌&&◌, ◌==◌, nat_lt, List, [], ◌∷◌, length, get_or, Some, None, Result, Err, inl, inr, refl, ap, ap₂, sym, ◌∙◌, subst, arith}
 use Rattle.std.specs.Prelude.{slice_get, slice_index, if◌then◌else◌, unwrap_or, MatchResult}
 use Rattle.std.specs.List.{list_all}
 use Rattle.std.proofs.Math.ListN.{set}
@@ -13,7 +13,6 @@ use Rattle.plan_collect.specs.declared.note.Note.{Note}
 use Rattle.plan_collect.specs.declared.note.Note.TheVariants.{Part, Last}
 use Rattle.plan_collect.specs.declared.collector.CollectFault.{CollectFault}
 use Rattle.plan_collect.specs.declared.collector.CollectFault.TheVariants.{TooMany}
-use Rattle.plan_next.specs.Span.{Bounds}
 use Rattle.plan_collect.specs.Collecting.{Collected, held, belongs, is_rule_of, has_ended, adjoins, has_room, fault_of_note, after, is_complete}
 use Rattle.plan_collect.specs.Tiling.{starts_in, notes_of}
 use Rattle.plan_collect.specs.Merging.{answer_to}
@@ -21,6 +20,8 @@ use Rattle.plan_collect.specs.Windows.{Timing, first_second}
 use Rattle.plan_collect.proofs.HoldsLemmas.{HasRule, rule_of_some}
 use Rattle.plan_collect.proofs.HeldLemmas.{entries_of, held-more, length-entries_of}
 use Rattle.plan_collect.proofs.StartsLemmas.{weigh-length}
+use Rattle.std.proofs.lemmas.Bool.Decides.{nat_tests}
+use Rattle.std.proofs.lemmas.Grind.{common_steps}
 
 -- ---- messages that fit
 
@@ -69,99 +70,30 @@ own_job :
 own_job c k job fits is = eqb-true _ _ (and_parts _ _ (and_parts _ _ is).1).0
 
 alike_fits : (k : ℕ) (c d : Collected) (note : Note) → IsAlike k c d → Fits k c note → Fits k d note
-alike_fits k c d (Part job piece) alike fits =
-    let own : job % length c.ended ≡ k = own_job c k job _ fits.own in
-    record {
-      own = sym (ap₂ (λ n timings. nat_lt k n && (job % n == k && is_rule_of (slice_get timings job) piece.rule)) alike.size
-          alike.timings) ∙ fits.own;
-      early = sym alike.ended ∙ fits.early;
-      next = sym (ap₂ (λ reached span. reached == piece.since && nat_le piece.upto (Bounds.upto span))
-          (alike.covered job own) alike.span) ∙ fits.next;
-      ordered = fits.ordered;
-    }
-alike_fits k c d Last alike fits = record {
-  own = sym (ap (λ n. nat_lt k n) alike.size) ∙ fits.own;
-  early = sym alike.ended ∙ fits.early;
-  next = refl;
-  ordered = tt;
-}
+alike_fits k c d (Part job piece) alike fits = grind (arith, nat_tests, own_job)
+alike_fits k c d Last alike fits = grind (arith, nat_tests, common_steps)
 
 -- the same write to two lists that are alike at a place
 set_alike :
     (xs ys : List ℕ) (i j v : ℕ) → length xs ≡ length ys → get_or xs j 0 ≡ get_or ys j 0 →
     get_or (set xs i v) j 0 ≡ get_or (set ys i v) j 0
-set_alike xs ys i j v size same =
-    elim (cases_eq j i) [
-      | inl is ↦ (elim (cases_lt j (length xs)) [
-        | inl inside ↦ (
-            let left : get_or (set xs j v) j 0 ≡ v = get_or-set_same xs j v 0 inside in
-            let right : get_or (set ys j v) j 0 ≡ v = get_or-set_same ys j v 0 (omega arith) in
-            ap (λ place. get_or (set xs place v) j 0) (sym is) ∙ left ∙ sym right ∙ ap (λ place. get_or (set ys place v) j 0) is)
-        | inr past ↦ (
-            let wide = length-set xs i v in
-            let wide' = length-set ys i v in
-            get_or_past (set xs i v) j 0 (omega arith) ∙ sym (get_or_past (set ys i v) j 0 (omega arith)))
-      ])
-      | inr not ↦ get_or-set_other xs i j v 0 not ∙ same ∙ sym (get_or-set_other ys i j v 0 not)
-    ]
+set_alike xs ys i j v size same = grind (arith, nat_tests, cases_eq, cases_lt, set, get_or-set_same, length-set, get_or_past, get_or-set_other)
 
 -- after its last message, a planner has ended
 ends_now : (k : ℕ) (ended : List Bool) → k < length ended → unwrap_or (slice_get (set ended k true) k) false ≡ true
 ends_now k ended inside = unwrap_or-slice_get (set ended k true) k false ∙ get_or-set_same ended k true false inside
 
 alike_after : (k : ℕ) (c d : Collected) (note : Note) → IsAlike k c d → Fits k c note → IsAlike k (after c k note) (after d k note)
-alike_after k c d (Part job piece) alike fits = record {
-  timings = alike.timings;
-  span = alike.span;
-  size = alike.size;
-  jobs = length-set c.covered job piece.upto ∙ alike.jobs ∙ sym (length-set d.covered job piece.upto);
-  covered = λ j own. set_alike c.covered d.covered job j piece.upto alike.jobs (alike.covered j own);
-  ended = alike.ended;
-}
-alike_after k c d Last alike fits =
-    let inside : k < length c.ended = ltb-true _ _ fits.own in
-    let size = alike.size in
-    record {
-      timings = alike.timings;
-      span = alike.span;
-      size = length-set c.ended k true ∙ alike.size ∙ sym (length-set d.ended k true);
-      jobs = alike.jobs;
-      covered = λ j own. alike.covered j (ap (λ n. j % n) (sym (length-set c.ended k true)) ∙ own);
-      ended = ends_now k c.ended inside ∙ sym (ends_now k d.ended (omega arith));
-    }
+alike_after k c d (Part job piece) alike fits = grind (arith, nat_tests, length-set, set_alike)
+alike_after k c d Last alike fits = grind (arith, nat_tests, ltb-true, length-set, ends_now)
 
 -- a message changes nothing for another planner
 alike_other : (k other : ℕ) (c : Collected) (note : Note) → other ≢ k → Fits k c note → IsAlike other c (after c k note)
-alike_other k other c (Part job piece) not fits =
-    let own : job % length c.ended ≡ k = own_job c k job _ fits.own in
-    record {
-      timings = refl;
-      span = refl;
-      size = refl;
-      jobs = sym (length-set c.covered job piece.upto);
-      covered = λ j is. sym (get_or-set_other c.covered job j piece.upto 0
-          (λ same. not (sym is ∙ ap (λ n. n % length c.ended) same ∙ own)));
-      ended = refl;
-    }
-alike_other k other c Last not fits = record {
-  timings = refl;
-  span = refl;
-  size = sym (length-set c.ended k true);
-  jobs = refl;
-  covered = λ j is. refl;
-  ended = unwrap_or-slice_get c.ended other false ∙ sym (get_or-set_other c.ended k other true false not) ∙ sym
-      (unwrap_or-slice_get (set c.ended k true) other false);
-}
+alike_other k other c (Part job piece) not fits = grind (arith, nat_tests, own_job, length-set, get_or-set_other)
+alike_other k other c Last not fits = grind (arith, nat_tests, length-set, unwrap_or-slice_get, get_or-set_other, set)
 
 alike_ready : (k : ℕ) (notes : List Note) (c d : Collected) → IsAlike k c d → Ready k c notes → Ready k d notes
-alike_ready k [] c d alike done = record {
-  covered = λ j inside own.
-      let size = alike.size in
-      let jobs = alike.jobs in
-      let here : j % length c.ended ≡ k = ap (λ n. j % n) alike.size ∙ own in
-      sym (alike.covered j here) ∙ done.covered j (omega arith) here ∙ ap (λ (span : Bounds). span.upto) alike.span;
-  ended = sym alike.ended ∙ done.ended;
-}
+alike_ready k [] c d alike done = grind (arith, nat_tests, common_steps)
 alike_ready k (note ∷ notes) c d alike (fits, rest) =
     (alike_fits k c d note alike fits, alike_ready k notes (after c k note) (after d k note) (alike_after k c d note alike fits) rest)
 

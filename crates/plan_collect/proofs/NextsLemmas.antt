@@ -3,15 +3,15 @@ use Rattle.std.proofs.Common.{◌≡◌, ℕ, ◌+◌, List, [], ◌∷◌, ◌+
 use Rattle.std.specs.Prelude.{slice_get}
 use Rattle.plan_rules.specs.Job.{JobParts}
 use Rattle.plan_collect.specs.Upcoming.{next_or_end, nexts_from}
+use Rattle.std.proofs.lemmas.Bool.Decides.{nat_tests}
+use Rattle.std.proofs.lemmas.Grind.{common_steps}
 
 -- the jobs that are left start with the one at this place
 left_from :
     (jobs : List JobParts) (n after : ℕ) (job : JobParts) → Some job ≡ slice_get jobs n → (number : ℕ) →
     nexts_from number after (drop n jobs) ≡ (next_or_end job.rule after, number) ∷ nexts_from (number + 1) after (drop (suc n) jobs)
 left_from [] n after job is number = cc
-left_from (first ∷ jobs) zero after job is number =
-    let same : first ≡ job = cc in
-    ap (λ (own : JobParts). (next_or_end own.rule after, number) ∷ nexts_from (number + 1) after jobs) same
+left_from (first ∷ jobs) zero after job is number = grind (arith, nat_tests, common_steps)
 left_from (first ∷ jobs) (suc n) after job is number = left_from jobs n after job is number
 
 -- one more next start, and the others that are left

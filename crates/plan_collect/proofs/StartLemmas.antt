@@ -5,7 +5,9 @@ use Rattle.std.specs.List.{list_all, range_with_len}
 use Rattle.std.proofs.lemmas.Bool.{and_from}
 use Rattle.plan_sets.specs.Limits.{end_second}
 use Rattle.plan_match.specs.declared.rule.Rule.{Rule}
-use Rattle.plan_next.specs.Starts.{is_start, passing, rule_starts, starts}
+use Rattle.plan_next.specs.Starts.{is_start, passing, starts}
+use Rattle.std.proofs.Common.{arith}
+use Rattle.std.proofs.lemmas.Bool.Decides.{nat_tests}
 
 -- seconds in the years that can be planned
 abbrev pub AreInYears : List ℕ → Type 0
@@ -20,9 +22,7 @@ one_in_years false passes n rest is all = all
 
 all_in_years : (rule : Rule) (seconds : List ℕ) → AreInYears (filter (is_start rule) seconds)
 all_in_years rule [] = refl
-all_in_years rule (n ∷ seconds) =
-    one_in_years (nat_lt n end_second) (rule_starts rule n) n (filter (is_start rule) seconds) refl
-    (all_in_years rule seconds)
+all_in_years rule (n ∷ seconds) = grind (arith, nat_tests, one_in_years, all_in_years rule seconds)
 
 -- the starts of a rule
 pub starts-in_years : (rule : Rule) (a b : ℕ) → AreInYears (starts rule a b)

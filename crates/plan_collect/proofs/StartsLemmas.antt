@@ -11,6 +11,7 @@ use Rattle.std.proofs.lemmas.Bool.Decides.{nat_tests}
 use Rattle.std.proofs.lemmas.List.Sums.{sum_by-cons}
 use Rattle.std.proofs.lemmas.List.Sorted.{sum_by-IsPermutation}
 use Rattle.plan_collect.specs.Collecting.{weigh, SameStarts}
+use Rattle.std.proofs.lemmas.Grind.{common_steps}
 
 pub weigh-append : (weight : ℕ × ℕ → ℕ) (xs ys : List (ℕ × ℕ)) → weigh weight (xs ++ ys) ≡ weigh weight xs + weigh weight ys
 weigh-append weight [] ys = omega arith
@@ -27,8 +28,7 @@ weigh-sum_by weight (x ∷ xs) = ap (λ n. weight x + n) (weigh-sum_by weight xs
 
 -- a sort keeps the entries
 pub SameStarts-permutation : (xs ys zs : List (ℕ × ℕ)) → IsPermutation xs ys → SameStarts xs zs → SameStarts ys zs
-SameStarts-permutation xs ys zs moved same = λ weight.
-    weigh-sum_by weight ys ∙ sum_by-IsPermutation weight xs ys moved ∙ sym (weigh-sum_by weight xs) ∙ same weight
+SameStarts-permutation xs ys zs moved same = grind (arith, nat_tests, weigh-sum_by, sum_by-IsPermutation)
 
 -- lists with the same entries have the same length
 pub SameStarts-length : (xs ys : List (ℕ × ℕ)) → SameStarts xs ys → length xs ≡ length ys
@@ -77,10 +77,7 @@ first_not_before x y xs ys same (none, later) =
     grind arith
 
 neither_before : (x y : ℕ × ℕ) → is_before x y ≡ false → is_before y x ≡ false → x ≡ y
-neither_before (a, j) (b, k) p q =
-    let seconds : a ≡ b = grind (arith, nat_tests) in
-    let jobs : j ≡ k = grind (arith, nat_tests) in
-    λ i. (seconds i, jobs i)
+neither_before (a, j) (b, k) p q = grind (arith, nat_tests, common_steps)
 
 -- the same entries ascend in only one order
 pub Ascends-unique : (xs ys : List (ℕ × ℕ)) → SameStarts xs ys → Ascends xs → Ascends ys → xs ≡ ys

@@ -1,7 +1,7 @@
 -- What a planner sends fits, message by message: for `accepts_every_merging`, whose clause is `accepts`. `ready_parts`
 -- goes by induction over the jobs, with `IsAt` for how far the planner is, and `ready_pieces` by the seconds of a job
 -- that remain. `cut_ready` cuts that after the limit, and `merged` of MergingLemmas.antt ends it.
-use Rattle.std.proofs.Common.{◌≡◌, ℕ, zero, suc, ◌+◌, ◌-◌, ◌%◌, ◌<◌, ◌≤◌, ◌⊎◌, true, false, nat_lt, nat_le, List, [], ◌∷◌, ◌++◌, length, map, replicate, get_or, Some, inl, inr, refl, ap, sym, ◌∙◌, subst, arith, append_assoc}
+use Rattle.std.proofs.Common.{◌≡◌, ℕ, zero, suc, ◌+◌, ◌-◌, ◌%◌, ◌<◌, ◌≤◌, ◌⊎◌, true, false, nat_lt, nat_le, List, [], ◌∷◌, ◌++◌, length, map, get_or, Some, inl, inr, refl, ap, sym, ◌∙◌, subst, arith, append_assoc}
 use Rattle.std.specs.Prelude.{slice_get, slice_index}
 use Rattle.std.proofs.Math.ListN.{set}
 use Rattle.std.proofs.lemmas.Bool.{cases_lt, cases_eq, and_from, and_parts, eq-eqb, lt-ltb, le-ltb, le-leb, leb-true}
@@ -13,7 +13,7 @@ use Rattle.plan_collect.specs.declared.note.Note.{Note}
 use Rattle.plan_collect.specs.declared.note.Note.TheVariants as note
 use Rattle.plan_next.specs.Span.{Bounds}
 use Rattle.plan_collect.specs.Limits.{most_planners, most_starts}
-use Rattle.plan_collect.specs.Collecting.{Collected, firsts_of, begun, held, has_ended, after}
+use Rattle.plan_collect.specs.Collecting.{Collected, begun, has_ended, after}
 use Rattle.plan_collect.specs.Tiling.{pieces_within, pieces, parts_from, tiling, starts_in, cut_after, sent_by}
 use Rattle.plan_collect.specs.TilingLaws.{set_again, EndsPiece, piece_ends, piece_of_nothing, pieces_last, pieces_more, pieces_one, parts_none, parts_own, parts_other, cut_here, cut_later, cut_none}
 use Rattle.plan_collect.specs.Merging.{AcceptsMergings}
@@ -21,6 +21,7 @@ use Rattle.plan_collect.specs.Windows.{Timing, first_second}
 use Rattle.plan_collect.proofs.HoldsLemmas.{nothing_held}
 use Rattle.plan_collect.proofs.MergingLemmas.{Fits, Ready, Over, Sends, IsSound, AllOf, merged}
 use Rattle.plan_collect.proofs.WindowsLemmas.{first-since, first_of}
+use Rattle.std.proofs.lemmas.Bool.Decides.{nat_tests}
 
 -- the planner is at this job, which has this timing
 record IsAtJob (k job : ℕ) (timing : Timing) (c : Collected) : Type 0 where
@@ -46,10 +47,7 @@ fits_next k job timing c from upto here reached low high = record {
 
 at_job_covering : (k job : ℕ) (timing : Timing) (c : Collected) (upto : ℕ) → IsAtJob k job timing c →
     IsAtJob k job timing (covering c job upto)
-at_job_covering k job timing c upto here =
-    let size = length-set c.covered job upto in
-    let inside = here.inside in
-    record { planner = here.planner; own = here.own; known = here.known; early = here.early; inside = omega arith }
+at_job_covering k job timing c upto here = grind (arith, nat_tests, length-set)
 
 -- the pieces of a job fit, one after another, and cover it
 ready_pieces :
@@ -57,15 +55,7 @@ ready_pieces :
     slice_index c.covered job ≡ from → from ≤ c.span.upto → c.span.upto - from ≤ seconds →
     Ready k (covering c job c.span.upto) rest →
     Ready k c (map (note.Part job) (pieces_within seconds timing.rule from c.span.upto) ++ rest)
-ready_pieces zero k job timing c from rest here reached part few ready =
-    let rule = timing.rule in
-    let whole : from ≡ c.span.upto = omega arith in
-    let end : piece_end rule from c.span.upto most_starts ≡ c.span.upto = ap
-    (λ since. piece_end rule since c.span.upto most_starts) whole ∙ piece_of_nothing rule c.span.upto most_starts in
-    let all : Ready k c (note.Part job (record { rule = rule; since = from; upto = c.span.upto }) ∷ rest) =
-    (fits_next k job timing c from c.span.upto here reached part (omega arith), ready) in
-    subst (λ ps. Ready k c (map (note.Part job) ps ++ rest)) (sym (pieces_one rule from c.span.upto))
-    (subst (λ upto. Ready k c (note.Part job (record { rule = rule; since = from; upto = upto }) ∷ rest)) (sym end) all)
+ready_pieces zero k job timing c from rest here reached part few ready = grind (arith, nat_tests, piece_of_nothing, Ready, fits_next, pieces_one)
 ready_pieces (suc seconds) k job timing c from rest here reached part few ready =
     let rule = timing.rule in
     let end = piece_end rule from c.span.upto most_starts in
@@ -108,16 +98,7 @@ record IsAt (k job : ℕ) (timings : List Timing) (c : Collected) : Type 0 where
 
 -- the last message fits if all jobs are covered
 ready_last : (k job : ℕ) (c : Collected) → IsAt k job [] c → Ready k c (note.Last ∷ [])
-ready_last k job c here =
-    let size = length-set c.ended k true in
-    let jobs = here.jobs in
-    let last : Fits k c note.Last = record { own = lt-ltb _ _ here.planner; early = here.early; next = refl; ordered = tt } in (
-      last,
-      record {
-        covered = λ j inside own. here.done j (omega arith) (ap (λ n. j % n) (sym size) ∙ own);
-        ended = unwrap_or-slice_get (set c.ended k true) k false ∙ get_or-set_same c.ended k true false here.planner;
-      },
-    )
+ready_last k job c here = grind (arith, nat_tests, length-set, Fits, lt-ltb, unwrap_or-slice_get, set, get_or-set_same)
 
 -- after a job of the planner, the next
 at_next_own :
@@ -214,17 +195,7 @@ cut_ready limit count k (first ∷ notes) c (fits, rest) =
 at_begin :
     (k planners limit : ℕ) (timings : List Timing) (span : Bounds) → k < planners → span.since ≤ span.upto →
     IsAt k 0 timings (begun timings span planners limit)
-at_begin k planners limit timings span few part =
-    let size = length-replicate planners false in
-    record {
-      planner = omega arith;
-      early = unwrap_or-slice_get (replicate planners false) k false ∙ get_or-replicate planners k false false few;
-      known = λ i timing is. (let place : 0 + i ≡ i = omega arith in rw place is);
-      jobs = (let jobs : length (firsts_of span timings) ≡ length timings = length-map timings _ in omega arith);
-      part = part;
-      coming = λ i timing is. (let place : 0 + i ≡ i = omega arith in rw place (first_of span timings i timing is));
-      done = λ j low own. absurd (omega arith);
-    }
+at_begin k planners limit timings span few part = grind (arith, nat_tests, length-replicate, unwrap_or-slice_get, get_or-replicate, length-map, first_of)
 
 sends_at_begin :
     (k planners limit : ℕ) (timings : List Timing) (span : Bounds) → k < planners → span.since ≤ span.upto →
@@ -241,11 +212,7 @@ sends_at_begin k planners limit timings span few part =
     ]
 
 sound_at_begin : (planners limit : ℕ) (timings : List Timing) (span : Bounds) → IsSound (begun timings span planners limit)
-sound_at_begin planners limit timings span = record {
-  jobs = length-map timings _;
-  since = λ j timing is. (let first = first_of span timings j timing is in omega arith);
-  few = (let none : length (held (begun timings span planners limit)) ≡ 0 = ap length (nothing_held 0 span timings) in omega arith);
-}
+sound_at_begin planners limit timings span = grind (arith, nat_tests, length-map, first_of, nothing_held)
 
 all_of_places :
     (planners : ℕ) (history : List (ℕ × Note)) →

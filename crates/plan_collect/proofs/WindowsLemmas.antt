@@ -1,8 +1,8 @@
 -- Which starts of a job belong to a span: those from `first_second` on, before the span's end (`planned_starts`). For what a
 -- collector holds, by HeldLemmas.antt. Before `first_second` no window meets the span, and from it on each does. For jobs
 -- without delays that is the span's start, so the agenda of windows is the agenda (`nominal_agenda`).
-use Rattle.std.proofs.Common.{◌≡◌, ℕ, zero, suc, ◌+◌, ◌-◌, ◌<◌, ◌≤◌, Bool, true, false, cond, ◌&&◌, List, [], ◌∷◌, ◌++◌, length, map, filter, Some, inl, inr, refl, ap, sym, ◌∙◌, arith}
-use Rattle.std.specs.Prelude.{nat_lt, nat_le, slice_get, slice_index}
+use Rattle.std.proofs.Common.{◌≡◌, ℕ, zero, suc, ◌+◌, ◌-◌, ◌<◌, ◌≤◌, Bool, true, false, cond, ◌&&◌, List, [], ◌∷◌, ◌++◌, length, map, filter, Some, refl, ap, sym, ◌∙◌, arith}
+use Rattle.std.specs.Prelude.{nat_lt, slice_get, slice_index}
 use Rattle.std.specs.List.{range_with_len, flat_map}
 use Rattle.std.proofs.lemmas.Bool.{cases_lt, lt-ltb, le-ltb, le-leb, lt-leb}
 use Rattle.plan_next.specs.Span.{Bounds}
@@ -13,6 +13,8 @@ use Rattle.plan_rules.specs.Job.{JobParts}
 use Rattle.plan_collect.specs.Agenda.{row_from, agenda, rules_of}
 use Rattle.plan_collect.specs.Collecting.{firsts_of}
 use Rattle.plan_collect.specs.Windows.{Timing, timings_of, meets, first_second, windows_from, agenda_of_windows, WithoutDelaysIsAgenda}
+use Rattle.std.proofs.lemmas.Bool.Decides.{nat_tests}
+use Rattle.std.proofs.lemmas.Grind.{common_steps}
 
 -- ---- where windows meet the span
 
@@ -24,34 +26,15 @@ first-empty span delay none = let is : nat_lt span.since span.upto ≡ false = l
 
 -- it is not after the span's start
 pub first-since : (span : Bounds) (delay : ℕ) → first_second span delay ≤ span.since
-first-since span delay = elim (cases_lt span.since span.upto) [
-  | inl some ↦ (let is = first-full span delay some in omega arith)
-  | inr none ↦ (let is = first-empty span delay none in omega arith)
-]
+first-since span delay = grind (arith, nat_tests, cases_lt, first-full, first-empty)
 
 meets_not : (span : Bounds) (delay second : ℕ) → span.since ≤ span.upto → second < first_second span delay → meets span delay second ≡ false
-meets_not span delay second ordered before = elim (cases_lt span.since span.upto) [
-  | inl some ↦ (
-      let first = first-full span delay some in
-      let here : nat_lt span.since span.upto ≡ true = lt-ltb _ _ some in
-      let opens : nat_lt second span.upto ≡ true = lt-ltb _ _ (omega arith) in
-      let closed : nat_le span.since (second + delay) ≡ false = lt-leb _ _ (omega arith) in
-      rw (here, opens, closed) refl)
-  | inr none ↦ (let here : nat_lt span.since span.upto ≡ false = le-ltb _ _ none in rw here refl)
-]
+meets_not span delay second ordered before = grind (arith, nat_tests, cases_lt, first-full, lt-ltb, lt-leb, le-ltb)
 
 meets_from :
     (span : Bounds) (delay second : ℕ) → span.since ≤ span.upto → first_second span delay ≤ second → second < span.upto →
     meets span delay second ≡ true
-meets_from span delay second ordered from before = elim (cases_lt span.since span.upto) [
-  | inl some ↦ (
-      let first = first-full span delay some in
-      let here : nat_lt span.since span.upto ≡ true = lt-ltb _ _ some in
-      let opens : nat_lt second span.upto ≡ true = lt-ltb _ _ before in
-      let open_still : nat_le span.since (second + delay) ≡ true = le-leb _ _ (omega arith) in
-      rw (here, opens, open_still) refl)
-  | inr none ↦ (let first = first-empty span delay none in absurd (omega arith))
-]
+meets_from span delay second ordered from before = grind (arith, nat_tests, cases_lt, first-full, lt-ltb, le-leb, first-empty)
 
 -- ---- the starts of one job
 
@@ -105,9 +88,7 @@ pub first_of :
     (span : Bounds) (timings : List Timing) (job : ℕ) (timing : Timing) → slice_get timings job ≡ Some timing →
     slice_index (firsts_of span timings) job ≡ first_second span timing.delay
 first_of span [] job timing is = cc
-first_of span (own ∷ timings) zero timing is =
-    let same : own ≡ timing = cc in
-    ap (λ (t : Timing). first_second span t.delay) same
+first_of span (own ∷ timings) zero timing is = grind (arith, nat_tests, common_steps)
 first_of span (own ∷ timings) (suc job) timing is = first_of span timings job timing is
 
 -- the timing of each job
@@ -128,10 +109,7 @@ timing_at (timing ∷ timings) (suc job) lt =
 skip_rows :
     (row : ℕ → List (ℕ × ℕ)) (a m n : ℕ) → ((k : ℕ) → k < a + m → row k ≡ []) →
     flat_map row (range_with_len a (m + n)) ≡ flat_map row (range_with_len (a + m) n)
-skip_rows row a zero n none =
-    let here : a + 0 ≡ a = omega arith in
-    let all : 0 + n ≡ n = omega arith in
-    rw (here, all) refl
+skip_rows row a zero n none = grind (arith, nat_tests, common_steps)
 skip_rows row a (suc m) n none =
     let more : suc m + n ≡ suc (m + n) = omega arith in
     let place : a + suc m ≡ a + 1 + m = omega arith in
@@ -151,16 +129,7 @@ no_windows :
     (job : ℕ) (jobs : List JobParts) (span : Bounds) (second : ℕ) → span.since ≤ span.upto → second < span.since →
     windows_from job (timings_of (map nominal jobs)) span second ≡ []
 no_windows job [] span second ordered before = refl
-no_windows job (first ∷ jobs) span second ordered before =
-    let never : meets span 0 second ≡ false = meets_not span 0 second ordered (let is = first_of_nominal span in omega arith) in
-    let not : (is_start first.rule second && meets span 0 second) ≡ false = and_false (is_start first.rule second) _ never in
-    rw not (no_windows (job + 1) jobs span second ordered before)
-  where
-    first_of_nominal : (s : Bounds) → first_second s 0 ≡ s.since
-    first_of_nominal s = elim (cases_lt s.since s.upto) [
-      | inl some ↦ (let is = first-full s 0 some in omega arith)
-      | inr none ↦ first-empty s 0 none
-    ]
+no_windows job (first ∷ jobs) span second ordered before = grind (arith, nat_tests, meets_not, and_false, cases_lt, first-full, first-empty, no_windows (job + 1) jobs span second ordered before)
 
 windows_are_starts :
     (job : ℕ) (jobs : List JobParts) (span : Bounds) (second : ℕ) → span.since ≤ second → second < span.upto →

@@ -1,8 +1,7 @@
-use Rattle.std.proofs.Common.{◌-◌}
 use Rattle.std.proofs.lemmas.List.Sorted.{IsPermutation-put_mid}
 use Rattle.plan_collect.proofs.sorting.sort_bucket.Goals as goal
+use Rattle.std.proofs.Common.{arith}
+use Rattle.std.proofs.lemmas.Bool.Decides.{nat_tests}
 
 pub returns-then-end-starts : goal.returns-then-end-starts
-returns-then-end-starts c =
-    IsPermutation-put_mid c.args.begin (c.args.end - c.args.begin) c.args.starts.now c.sort_unstable.new.self
-    c.sort_unstable.ensures.permutation
+returns-then-end-starts c = grind (arith, nat_tests, IsPermutation-put_mid)

@@ -3,6 +3,7 @@ use Rattle.plan_collect.specs.contracts.collector.Collector.{the_view}
 use Rattle.plan_collect.proofs.StartLemmas.{starts-in_years}
 use Rattle.plan_collect.proofs.HoldsLemmas.{Holds-kept, job_covered}
 use Rattle.plan_collect.proofs.collector.Collector.keep.Goals as goal
+use Rattle.std.proofs.lemmas.Bool.Decides.{nat_tests}
 
 pub invariant_of-self-2 : goal.invariant_of-self-2
 invariant_of-self-2 c =
@@ -12,11 +13,7 @@ invariant_of-self-2 c =
     c.upto.ensures.ordered c.in_ok-append.ensures.all
 
 pub append-requires-clause-years : goal.append-requires-clause-years
-append-requires-clause-years c =
-    rw c.starts.ensures (starts-in_years c.args.piece.now.rule c.args.piece.now.since c.args.piece.now.upto)
+append-requires-clause-years c = grind (arith, nat_tests, starts-in_years)
 
 pub index_mut-requires : goal.index_mut-requires
-index_mut-requires c =
-    let there = job_covered (the_view c.self.inside) c.args.self.now c.self.inside.entries.items c.args.job c.args.piece.now.rule
-    c.self.view_is c.self.invariant c.requires.known in
-    omega (arith, there, c.self.inside.covered.ok.0)
+index_mut-requires c = grind (arith, nat_tests, job_covered)
