@@ -13,8 +13,8 @@ Writes IsText old new = (text : List ℕ) × IsText text × Appends old new text
 -- what was written after an error: a first part of a text if the stream failed, and otherwise nothing
 abbrev pub Fails :
     Bool → (List ℕ → Type 0) → (RunFault → Type 0) → RunFault → (old new : Option (List ℕ)) → Type 0
-Fails takes_all IsText IsRefused (Device stream) old new = (text : List ℕ) × IsText text × BreaksOff takes_all old new text
-Fails takes_all IsText IsRefused fault old new = IsRefused fault × Keeps old new
+Fails takes_all IsText IsError (Device stream) old new = (text : List ℕ) × IsText text × BreaksOff takes_all old new text
+Fails takes_all IsText IsError fault old new = IsError fault × Keeps old new
 
 -- a step of a command, with an error that is one of the command's
 abbrev pub step : {A E : Type 0} → (E → RunFault) → Result A E → Result A RunFault

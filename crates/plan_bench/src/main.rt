@@ -42,11 +42,11 @@ fn main(rt: HostRuntime) -> io::Result<()> {
             break;
         }
         let [work, count, size, source, more @ ..] = rest else {
-            return Err(refused());
+            return Err(bad_arguments());
         };
         let numbers = (number(count.as_str())?, number(size.as_str())?);
         let Some(found) = found(&rt, work.as_str(), numbers, source.as_str())? else {
-            return Err(refused());
+            return Err(bad_arguments());
         };
         println!(rt; "{work} {source}: {found}")?;
         rest = more;
@@ -55,13 +55,13 @@ fn main(rt: HostRuntime) -> io::Result<()> {
 }
 
 // Returns the error for arguments that request no work.
-fn refused() -> io::Error {
+fn bad_arguments() -> io::Error {
     io::Error::from(ErrorKind::InvalidInput)
 }
 
 // Returns the number that an argument gives.
 fn number(word: &str) -> io::Result<u64> {
-    word.parse().or(Err(refused()))
+    word.parse().or(Err(bad_arguments()))
 }
 
 // Returns what a piece of work finds, or `None` if there is no such work or it can't be done.

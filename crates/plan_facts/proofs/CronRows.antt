@@ -11,7 +11,7 @@ use Rattle.plan_grammar.specs.declared.fault.RuleCause.TheVariants.{WrongParts, 
 use Rattle.plan_match.specs.declared.rule.Rule.{Rule}
 use Rattle.plan_match.specs.declared.rule.Rule.TheVariants.{Cron, Never}
 use Rattle.plan_texts.specs.Lines.{cut_word}
-use Rattle.plan_grammar.specs.Readings.{Reading, refused}
+use Rattle.plan_grammar.specs.Readings.{Reading, rejected}
 use Rattle.plan_grammar.specs.Cron.{cron_reading, rule_reading, at_reading, fields_in_front, week_days_of}
 use Rattle.plan_match.specs.Match.{rule_matches}
 use Rattle.plan_facts.specs.Rows.{RowsHold, at_minute}
@@ -91,35 +91,35 @@ unfolding on_cron
 wildcards = refl
 
 -- invalid texts, each with its error
-refusals : RowsHold cron_reading
-    ((codes "60 * * * *", refused 1 (Values OutOfRange))
-    ∷ (codes "5/15 * * * *", refused 1 WrongParts)
-    ∷ (codes "0 0 * * x", refused 5 BadName)
-    ∷ (codes "0 0 * foo *", refused 4 BadName)
-    ∷ (codes "1,,2 * * * *", refused 1 WrongParts)
-    ∷ (codes "12345 * * * *", refused 1 BadNumber)
-    ∷ (codes "0 5/ * * *", refused 2 WrongParts)
-    ∷ (codes "* * * * 6-0", refused 5 (Values Backwards))
-    ∷ (codes "*/0 * * * *", refused 1 (Values ZeroStep))
-    ∷ (codes " @dayly", refused 0 UnknownWord)
-    ∷ (codes "0 0 * x", refused 0 WrongParts)
-    ∷ (codes "99 0 1 1 * x", refused 0 WrongParts)
-    ∷ (codes " ", refused 0 WrongParts)
+rejections : RowsHold cron_reading
+    ((codes "60 * * * *", rejected 1 (Values OutOfRange))
+    ∷ (codes "5/15 * * * *", rejected 1 WrongParts)
+    ∷ (codes "0 0 * * x", rejected 5 BadName)
+    ∷ (codes "0 0 * foo *", rejected 4 BadName)
+    ∷ (codes "1,,2 * * * *", rejected 1 WrongParts)
+    ∷ (codes "12345 * * * *", rejected 1 BadNumber)
+    ∷ (codes "0 5/ * * *", rejected 2 WrongParts)
+    ∷ (codes "* * * * 6-0", rejected 5 (Values Backwards))
+    ∷ (codes "*/0 * * * *", rejected 1 (Values ZeroStep))
+    ∷ (codes " @dayly", rejected 0 UnknownWord)
+    ∷ (codes "0 0 * x", rejected 0 WrongParts)
+    ∷ (codes "99 0 1 1 * x", rejected 0 WrongParts)
+    ∷ (codes " ", rejected 0 WrongParts)
     ∷ [])
 unfolding on_cron
-refusals = refl
+rejections = refl
 
 -- the order of the checks within an element: the first value, the second, the step, then whether a step is
 -- allowed there. The forms of all elements are checked before the values
 first_faults : RowsHold cron_reading
-    ((codes "a-b/c * * * *", refused 1 BadName)
-    ∷ (codes "1-b/c * * * *", refused 1 BadName)
-    ∷ (codes "1-2/c * * * *", refused 1 BadNumber)
-    ∷ (codes "x/ * * * *", refused 1 BadName)
-    ∷ (codes "1/x * * * *", refused 1 BadNumber)
-    ∷ (codes "1/2 * * * *", refused 1 WrongParts)
-    ∷ (codes "99,x * * * *", refused 1 BadName)
-    ∷ (codes "99 x * * *", refused 1 (Values OutOfRange))
+    ((codes "a-b/c * * * *", rejected 1 BadName)
+    ∷ (codes "1-b/c * * * *", rejected 1 BadName)
+    ∷ (codes "1-2/c * * * *", rejected 1 BadNumber)
+    ∷ (codes "x/ * * * *", rejected 1 BadName)
+    ∷ (codes "1/x * * * *", rejected 1 BadNumber)
+    ∷ (codes "1/2 * * * *", rejected 1 WrongParts)
+    ∷ (codes "99,x * * * *", rejected 1 BadName)
+    ∷ (codes "99 x * * *", rejected 1 (Values OutOfRange))
     ∷ [])
 unfolding on_cron
 first_faults = refl
@@ -164,18 +164,18 @@ unfolding on_cron week_days_of at_minute
 named_months_and_days = simp has_value-values_where
 
 -- names are allowed only in fields 4 and 5, never as a step, and a range of names may be backwards
-refused_names : RowsHold cron_reading
-    ((codes "jan * * * *", refused 1 BadName)
-    ∷ (codes "* * mon * *", refused 3 BadName)
-    ∷ (codes "* * * mon *", refused 4 BadName)
-    ∷ (codes "* * * */jan *", refused 4 BadNumber)
-    ∷ (codes "0 0 * * sat-sun", refused 5 (Values Backwards))
-    ∷ (codes "* * * * sunday", refused 5 BadName)
-    ∷ (codes "@Daily", refused 0 UnknownWord)
-    ∷ (codes "@daily x", refused 0 UnknownWord)
+rejected_names : RowsHold cron_reading
+    ((codes "jan * * * *", rejected 1 BadName)
+    ∷ (codes "* * mon * *", rejected 3 BadName)
+    ∷ (codes "* * * mon *", rejected 4 BadName)
+    ∷ (codes "* * * */jan *", rejected 4 BadNumber)
+    ∷ (codes "0 0 * * sat-sun", rejected 5 (Values Backwards))
+    ∷ (codes "* * * * sunday", rejected 5 BadName)
+    ∷ (codes "@Daily", rejected 0 UnknownWord)
+    ∷ (codes "@daily x", rejected 0 UnknownWord)
     ∷ [])
 unfolding on_cron
-refused_names = refl
+rejected_names = refl
 
 -- each word of the table is its five fields, and `@reboot` never starts a job
 at_words_are_fields : map cron_reading

@@ -83,7 +83,7 @@ unfolding on_crontabs
 kept_as_written = refl
 
 -- invalid texts of a user, each with its error
-user_refusals : RowsHold (crontab_reading (codes "cron") User)
+user_rejections : RowsHold (crontab_reading (codes "cron") User)
     ((codes "MAILTO x", on 1 BadSetting)
     ∷ (codes "* * * * *", on 1 NoCommand)
     ∷ (codes "@daily", on 1 NoCommand)
@@ -99,7 +99,7 @@ user_refusals : RowsHold (crontab_reading (codes "cron") User)
     ∷ ((255 ∷ []), on 0 NotUtf8)
     ∷ [])
 unfolding on_crontabs on part
-user_refusals = refl
+user_rejections = refl
 
 -- a user without a command
 user_alone :

@@ -15,7 +15,7 @@ use Rattle.plan_match.specs.declared.event.DayCount.TheVariants.{FromStart, From
 use Rattle.plan_match.specs.declared.event.Calendar.{Calendar}
 use Rattle.plan_match.specs.declared.rule.Rule.TheVariants.{Events}
 use Rattle.plan_texts.specs.Text.{words}
-use Rattle.plan_grammar.specs.Readings.{Reading, refused}
+use Rattle.plan_grammar.specs.Readings.{Reading, rejected}
 use Rattle.plan_grammar.specs.EventZones.{Zones}
 use Rattle.plan_grammar.specs.Event.{is_listed_place, zone_cut, zone_name, event_reading, event_rule_reading}
 use Rattle.plan_match.specs.EventMatch.{event_matches}
@@ -107,7 +107,7 @@ zones_of_texts = refl
 -- with a list, a zone that isn't in it is unknown; names are compared exactly, and a first word is no zone
 unknown_zones : map (event_reading one_zone)
     (codes "daily Europe/Berlin" ∷ codes "daily europe/oslo" ∷ codes "daily Europe/Oslo/" ∷ codes "Europe/Oslo" ∷ [])
-    ≡ refused 8 UnknownZone ∷ refused 8 UnknownZone ∷ refused 8 UnknownZone ∷ refused 1 BadName ∷ []
+    ≡ rejected 8 UnknownZone ∷ rejected 8 UnknownZone ∷ rejected 8 UnknownZone ∷ rejected 1 BadName ∷ []
 unfolding on_events
 unknown_zones = refl
 
@@ -120,47 +120,47 @@ unfolding words zone_cut
 names_to_look_up = refl
 
 -- invalid texts, each with its error
-refusals : RowsHold (event_reading None)
-    ((codes "Mon 12:00:00.5", refused 7 Fraction)
-    ∷ (codes "daily Europe/Oslo", refused 8 Zone)
-    ∷ (codes "*-*-9..3", refused 4 (Values Backwards))
-    ∷ (codes "fortnightly", refused 0 UnknownWord)
-    ∷ (codes "*-*-%i", refused 0 Specifier)
-    ∷ (codes " ", refused 0 WrongParts)
-    ∷ (codes "UTC", refused 0 UnknownWord)
-    ∷ (codes "Sat..Mon", refused 1 (Values Backwards))
-    ∷ (codes "Mon,,", refused 1 WrongParts)
-    ∷ (codes "Mond 12:00", refused 1 BadName)
-    ∷ (codes "*-*~*/2", refused 4 WrongParts)
-    ∷ (codes "*-*~0", refused 4 (Values OutOfRange))
-    ∷ (codes "*-*~32/0", refused 4 (Values OutOfRange))
-    ∷ (codes "*-*~3..5/0", refused 4 (Values ZeroStep))
-    ∷ (codes "~3", refused 3 WrongParts)
-    ∷ (codes "1969-1-1", refused 2 (Values OutOfRange))
-    ∷ (codes "12024-1-1", refused 2 BadNumber)
-    ∷ (codes "12:00:00:00", refused 0 WrongParts)
-    ∷ (codes "12:00 1-1", refused 0 WrongParts)
-    ∷ (codes "2024-1", refused 3 (Values OutOfRange))
+rejections : RowsHold (event_reading None)
+    ((codes "Mon 12:00:00.5", rejected 7 Fraction)
+    ∷ (codes "daily Europe/Oslo", rejected 8 Zone)
+    ∷ (codes "*-*-9..3", rejected 4 (Values Backwards))
+    ∷ (codes "fortnightly", rejected 0 UnknownWord)
+    ∷ (codes "*-*-%i", rejected 0 Specifier)
+    ∷ (codes " ", rejected 0 WrongParts)
+    ∷ (codes "UTC", rejected 0 UnknownWord)
+    ∷ (codes "Sat..Mon", rejected 1 (Values Backwards))
+    ∷ (codes "Mon,,", rejected 1 WrongParts)
+    ∷ (codes "Mond 12:00", rejected 1 BadName)
+    ∷ (codes "*-*~*/2", rejected 4 WrongParts)
+    ∷ (codes "*-*~0", rejected 4 (Values OutOfRange))
+    ∷ (codes "*-*~32/0", rejected 4 (Values OutOfRange))
+    ∷ (codes "*-*~3..5/0", rejected 4 (Values ZeroStep))
+    ∷ (codes "~3", rejected 3 WrongParts)
+    ∷ (codes "1969-1-1", rejected 2 (Values OutOfRange))
+    ∷ (codes "12024-1-1", rejected 2 BadNumber)
+    ∷ (codes "12:00:00:00", rejected 0 WrongParts)
+    ∷ (codes "12:00 1-1", rejected 0 WrongParts)
+    ∷ (codes "2024-1", rejected 3 (Values OutOfRange))
     ∷ [])
 unfolding on_events
-refusals = refl
+rejections = refl
 
 -- the order in which a text is read: specifier, zone, shape, weekdays, and then the components from the year on
 first_faults : RowsHold (event_reading None)
-    ((codes "Foo 1 2 3 Oslo %", refused 0 Specifier)
-    ∷ (codes "Foo 1 2 3 Oslo", refused 8 Zone)
-    ∷ (codes "Foo 1 2 3", refused 0 WrongParts)
-    ∷ (codes "Tue..Mon,Foo +-1-1", refused 1 BadName)
-    ∷ (codes "Tue..Mon +-1-1", refused 1 (Values Backwards))
-    ∷ (codes "+-x-z +:b:c", refused 2 BadNumber)
-    ∷ (codes "1-x-z +:b:c", refused 3 BadNumber)
-    ∷ (codes "1-1-z +:b:c", refused 4 BadNumber)
-    ∷ (codes "1-1-1 +:b:c", refused 5 BadNumber)
-    ∷ (codes "1-1-1 9:b:.5", refused 6 BadNumber)
-    ∷ (codes "1-1-1 9:9:.5", refused 7 Fraction)
-    ∷ (codes "*-*-32,x", refused 4 BadNumber)
-    ∷ (codes "*-*~x../+", refused 4 BadNumber)
-    ∷ (codes "*-*~*/+", refused 4 BadNumber)
+    ((codes "Foo 1 2 3 Oslo %", rejected 0 Specifier)
+    ∷ (codes "Foo 1 2 3 Oslo", rejected 8 Zone)
+    ∷ (codes "Foo 1 2 3", rejected 0 WrongParts)
+    ∷ (codes "Tue..Mon,Foo +-1-1", rejected 1 BadName)
+    ∷ (codes "Tue..Mon +-1-1", rejected 1 (Values Backwards))
+    ∷ (codes "+-x-z +:b:c", rejected 2 BadNumber)
+    ∷ (codes "1-x-z +:b:c", rejected 3 BadNumber)
+    ∷ (codes "1-1-z +:b:c", rejected 4 BadNumber)
+    ∷ (codes "1-1-1 +:b:c", rejected 5 BadNumber)
+    ∷ (codes "1-1-1 9:b:.5", rejected 6 BadNumber)
+    ∷ (codes "1-1-1 9:9:.5", rejected 7 Fraction)
+    ∷ (codes "*-*-32,x", rejected 4 BadNumber)
+    ∷ (codes "*-*~x../+", rejected 4 BadNumber)
+    ∷ (codes "*-*~*/+", rejected 4 BadNumber)
     ∷ [])
 unfolding on_events
 first_faults = refl

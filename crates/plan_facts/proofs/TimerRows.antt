@@ -99,7 +99,7 @@ part place cause = Rule (record { part = place; cause = cause })
 
 -- invalid files, each with its error: a bad name, no section, and errors of events, also if a later line
 -- empties the list
-refusals : RowsHold (λ (file : List ℕ × List ℕ). timer_reading None file.0 file.1)
+rejections : RowsHold (λ (file : List ℕ × List ℕ). timer_reading None file.0 file.1)
     (((codes "x.service", codes "[Timer]"), on 0 BadTimerName)
     ∷ ((codes ".timer", codes "[Timer]"), on 0 BadTimerName)
     ∷ ((codes "a b.timer", codes "[Timer]"), on 0 BadTimerName)
@@ -111,7 +111,7 @@ refusals : RowsHold (λ (file : List ℕ × List ℕ). timer_reading None file.0
     ∷ ((codes "x.timer", codes "[Timer]\nOnCalendar=Mon \\\n#\n25:00"), on 2 (part 5 (Values OutOfRange)))
     ∷ [])
 unfolding on_timers
-refusals = refl
+rejections = refl
 
 abbrev daily : List ℕ
 daily = codes "OnCalendar=daily"

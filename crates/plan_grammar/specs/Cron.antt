@@ -18,7 +18,7 @@ use Rattle.plan_texts.specs.Text.{pieces, begins_with, cut_at, decimal_number}
 use Rattle.plan_texts.specs.Lines.{cut_word}
 use Rattle.plan_texts.specs.WholeLines.{trimmed}
 use Rattle.plan_texts.specs.Steps.{◌>>=◌, each}
-use Rattle.plan_grammar.specs.Readings.{Reading, refused}
+use Rattle.plan_grammar.specs.Readings.{Reading, rejected}
 use Rattle.plan_grammar.specs.Elements.{number_reading, side_by, cut_item_by, values_by}
 
 -- the place of a field in the text, from 1 (crontab(5), fields)
@@ -62,7 +62,7 @@ named_value field name =
 -- a value: a name if it begins with a letter, else a number (crontab(5), names; which error it is: (agenda))
 unfoldable pub value_reading : Field → List ℕ → Reading ℕ
 value_reading field text =
-    if length text == 0 then refused (part_of field) WrongParts
+    if length text == 0 then rejected (part_of field) WrongParts
     else (if begins_with is_ascii_alphabetic text
     then ok_or (named_value field text) (record { part = part_of field; cause = BadName })
     else ok_or (decimal_number text) (record { part = part_of field; cause = BadNumber }))
@@ -81,7 +81,7 @@ abbrev pub item_of : Field → Side → Option ℕ → Reading Item
 item_of field Star None = Ok (Range (lowest field) (highest field) 1)
 item_of field Star (Some step) = Ok (Range (lowest field) (highest field) step)
 item_of field (Value value) None = Ok (One value)
-item_of field (Value value) (Some step) = refused (part_of field) WrongParts
+item_of field (Value value) (Some step) = rejected (part_of field) WrongParts
 item_of field (Between first last) None = Ok (Range first last 1)
 item_of field (Between first last) (Some step) = Ok (Range first last step)
 
@@ -132,7 +132,7 @@ five_fields (minute ∷ hour ∷ month_day ∷ month ∷ week_day ∷ []) = do
         is_wildcard = not (is_restricted minute && is_restricted hour);
         clock = [];
       }))
-five_fields other = refused 0 WrongParts
+five_fields other = rejected 0 WrongParts
 
 -- the next word of a text and what follows it; if there is none, the text has too few fields (crontab(5), fields)
 abbrev pub next_field : List ℕ → Reading (List ℕ × List ℕ)
@@ -152,7 +152,7 @@ fields_in_front text = do
 abbrev pub fields_alone : List ℕ → Reading Rule
 fields_alone text = do
   front ← fields_in_front text
-  if length (front.1) == 0 then five_fields (front.0) else refused 0 WrongParts
+  if length (front.1) == 0 then five_fields (front.0) else rejected 0 WrongParts
 
 -- the words that begin with `@`, each with the five fields that it abbreviates (crontab(5), extensions); `@reboot` has no fields
 abbrev pub at_words : List (List ℕ × Option (List ℕ))
@@ -173,7 +173,7 @@ at_word word = option_map (λ known. known.1) (find (λ known. bytes_eq known.0 
 
 -- the rule of a word that was looked up; if it has no fields, its rule never starts a job (agenda)
 abbrev pub found_reading : Option (Option (List ℕ)) → Reading Rule
-found_reading None = refused 0 UnknownWord
+found_reading None = rejected 0 UnknownWord
 found_reading (Some None) = Ok Never
 found_reading (Some (Some fields)) = fields_alone fields
 

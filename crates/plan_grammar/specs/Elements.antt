@@ -10,12 +10,12 @@ use Rattle.plan_grammar.specs.declared.element.Side.{Side}
 use Rattle.plan_grammar.specs.declared.element.Side.TheVariants.{Star, Value, Between}
 use Rattle.plan_texts.specs.Text.{cut_at, decimal_number}
 use Rattle.plan_texts.specs.Steps.{◌>>=◌}
-use Rattle.plan_grammar.specs.Readings.{Reading, refused}
+use Rattle.plan_grammar.specs.Readings.{Reading, rejected}
 
 -- a number in a part of the text: an empty text is WrongParts, and any other text that isn't a number is BadNumber (agenda)
 abbrev pub number_reading : ℕ → List ℕ → Reading ℕ
 number_reading part text =
-    if length text == 0 then refused part WrongParts
+    if length text == 0 then rejected part WrongParts
     else ok_or (decimal_number text) (record { part = part; cause = BadNumber })
 
 -- one value, or the two values around the range mark: an error in the first comes before one in the second (agenda)
@@ -49,7 +49,7 @@ cut_item_by side step meaning text (Some cut) = do
 -- a set of values; an error of the set is the error of the part
 abbrev pub set_in_part : ℕ → Result SetOfValues SetFault → Reading SetOfValues
 set_in_part part (Ok values) = Ok values
-set_in_part part (Err fault) = refused part (Values fault)
+set_in_part part (Err fault) = rejected part (Values fault)
 
 -- the values of a list of elements: the forms of all elements are checked before the values (agenda)
 abbrev pub values_by : ℕ → (List Item → Result SetOfValues SetFault) → Reading (List Item) → Reading SetOfValues

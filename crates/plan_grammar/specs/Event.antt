@@ -24,7 +24,7 @@ use Rattle.plan_match.specs.declared.rule.Rule.{Rule}
 use Rattle.plan_match.specs.declared.rule.Rule.TheVariants.{Events}
 use Rattle.plan_texts.specs.Text.{words, pieces, begins_with, cut_at}
 use Rattle.plan_texts.specs.Steps.{◌>>=◌, each}
-use Rattle.plan_grammar.specs.Readings.{Reading, refused}
+use Rattle.plan_grammar.specs.Readings.{Reading, rejected}
 use Rattle.plan_grammar.specs.EventZones.{Zones, name_in_database, zone_clock}
 use Rattle.plan_grammar.specs.Elements.{number_reading, side_by, cut_item_by, values_by}
 use Rattle.plan_grammar.specs.Shape.{ShapeText, shape_reading}
@@ -65,7 +65,7 @@ greatest_of Second = 59
 
 -- a number of a component; a fraction of a second is rejected before the number is read (agenda)
 unfoldable pub component_number : Component → List ℕ → Reading ℕ
-component_number Second text = if holds_byte (byte ".") text then refused 7 Fraction else number_reading 7 text
+component_number Second text = if holds_byte (byte ".") text then rejected 7 Fraction else number_reading 7 text
 component_number Year text = number_reading 2 text
 component_number Month text = number_reading 3 text
 component_number Day text = number_reading 4 text
@@ -105,7 +105,7 @@ spread_item component (Between first last) (Some step) = Range first last step
 
 -- the item of an element, as in `spread_item`; in days from the month's end a step after `*` is rejected (agenda)
 abbrev pub component_item_of : Component → Side → Option ℕ → Reading Item
-component_item_of Place Star (Some step) = refused 4 WrongParts
+component_item_of Place Star (Some step) = rejected 4 WrongParts
 component_item_of component side step = Ok (spread_item component side step)
 
 -- an element of a component: what comes before its first `/`, and the step after it (systemd.time(7))
@@ -173,7 +173,7 @@ weekday_of name = position (names_weekday name) weekday_names
 -- a name in the weekday part; which error it is: (agenda)
 unfoldable pub weekday_reading : List ℕ → Reading ℕ
 weekday_reading name =
-    if length name == 0 then refused 1 WrongParts else ok_or (weekday_of name) (record { part = 1; cause = BadName })
+    if length name == 0 then rejected 1 WrongParts else ok_or (weekday_of name) (record { part = 1; cause = BadName })
 
 -- one weekday, or the weekdays from one to another (systemd.time(7))
 abbrev pub weekday_span : List ℕ → Option (List ℕ × List ℕ) → Reading Item
@@ -289,7 +289,7 @@ is_unknown_word word = list_all is_ascii_alphabetic word && not (is_some (weekda
 -- a single word: the expression that it abbreviates, or else an event that it spells out
 abbrev pub lone_word : List ℕ → Option (List ℕ) → Reading Calendar
 lone_word word (Some expression) = spelled_out (words expression)
-lone_word word None = if is_unknown_word word then refused 0 UnknownWord else spelled_out (word ∷ [])
+lone_word word None = if is_unknown_word word then rejected 0 UnknownWord else spelled_out (word ∷ [])
 
 -- the event of words without a zone
 unfoldable pub zoneless : List (List ℕ) → Reading Calendar
@@ -319,7 +319,7 @@ has_specifier text = holds_byte (byte "%") text
 
 -- the meaning of a text, which may name these zones; a specifier anywhere is rejected, since none is known (agenda)
 abbrev pub event_reading : Zones → List ℕ → Reading Calendar
-event_reading zones text = if has_specifier text then refused 0 Specifier else words_reading zones (words text)
+event_reading zones text = if has_specifier text then rejected 0 Specifier else words_reading zones (words text)
 
 -- the rule of this one event
 abbrev pub event_rule_reading : Zones → List ℕ → Reading Rule

@@ -7,7 +7,7 @@ use Rattle.std.specs.Str.{bytes_eq, str_eq_ignore_ascii_case}
 use Rattle.plan_clock.specs.declared.row.Change.{Change}
 use Rattle.plan_grammar.specs.declared.event_zones.NamedZone.{NamedZone}
 use Rattle.plan_grammar.specs.declared.fault.RuleCause.TheVariants.{UnknownZone, Zone}
-use Rattle.plan_grammar.specs.Readings.{Reading, refused}
+use Rattle.plan_grammar.specs.Readings.{Reading, rejected}
 
 -- the zones that events may name besides UTC: these, or none if there is no list (agenda)
 abbrev pub Zones : Type 0
@@ -23,7 +23,7 @@ clock_named name known = option_map (λ zone. zone.clock) (find (λ zone. bytes_
 
 -- the clock of a zone other than UTC; without a list no such zone may be named, and otherwise it must be in the list (agenda)
 abbrev pub other_clock : Zones → (name : List ℕ) → Reading (List Change)
-other_clock None name = refused 8 Zone
+other_clock None name = rejected 8 Zone
 other_clock (Some known) name = ok_or (clock_named name known) (record { part = 8; cause = UnknownZone })
 
 -- the clock of the zone with this name, which an event ends with (systemd.time(7)); that of UTC has no changes

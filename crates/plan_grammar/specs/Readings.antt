@@ -10,16 +10,16 @@ abbrev pub Reading : Type 0 → Type 0
 Reading A = Result A RuleFault
 
 -- the error of a part of a rule's text (agenda)
-abbrev pub refused : {A : Type 0} → ℕ → RuleCause → Reading A
-refused part cause = Err (record { part = part; cause = cause })
+abbrev pub rejected : {A : Type 0} → ℕ → RuleCause → Reading A
+rejected part cause = Err (record { part = part; cause = cause })
 
 -- an allocation failed: an error with part 0 (agenda)
-abbrev pub memory_refused : RuleFault
-memory_refused = record { part = 0; cause = NoMemory }
+abbrev pub out_of_memory : RuleFault
+out_of_memory = record { part = 0; cause = NoMemory }
 
 -- the result of a call, as `view` shows it, is this reading, unless an allocation failed (agenda)
 abbrev pub GivesBy : {A B : Type 0} → (A → B) → Result A RuleFault → Reading B → Type 0
-GivesBy view answer reading = GivesUnless memory_refused view answer reading
+GivesBy view answer reading = GivesUnless out_of_memory view answer reading
 
 -- the result of a call is this reading, unless an allocation failed
 abbrev pub Gives : {A : Type 0} → Result A RuleFault → Reading A → Type 0

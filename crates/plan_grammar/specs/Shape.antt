@@ -12,7 +12,7 @@ use Rattle.plan_grammar.specs.declared.shape.Time.{Time}
 use Rattle.plan_grammar.specs.declared.shape.Shape.{Shape}
 use Rattle.plan_texts.specs.Text.{pieces, begins_with, cut_at}
 use Rattle.plan_texts.specs.Steps.{◌>>=◌}
-use Rattle.plan_grammar.specs.Readings.{Reading, refused}
+use Rattle.plan_grammar.specs.Readings.{Reading, rejected}
 
 -- the components of a date, as they are written
 pub record DateText : Type 0 where
@@ -55,13 +55,13 @@ date_from_start (month ∷ day ∷ []) =
     Ok (record { year = codes "*"; month = month; day = day; count = FromStart })
 date_from_start (year ∷ month ∷ day ∷ []) =
     Ok (record { year = year; month = month; day = day; count = FromStart })
-date_from_start other = refused 0 WrongParts
+date_from_start other = rejected 0 WrongParts
 
 -- before `~` comes a month, or a year and a month (systemd.time(7), `~`)
 abbrev pub date_from_end : List (List ℕ) → List ℕ → Reading DateText
 date_from_end (month ∷ []) day = Ok (record { year = codes "*"; month = month; day = day; count = FromEnd })
 date_from_end (year ∷ month ∷ []) day = Ok (record { year = year; month = month; day = day; count = FromEnd })
-date_from_end other day = refused 0 WrongParts
+date_from_end other day = rejected 0 WrongParts
 
 -- a date, which is cut at its first `~` if it has one (systemd.time(7), `~`)
 abbrev pub cut_date : List ℕ → Option (List ℕ × List ℕ) → Reading DateText
@@ -76,7 +76,7 @@ date_reading text = cut_date text (cut_at (codes "~") text)
 abbrev pub time_of_pieces : List (List ℕ) → Reading TimeText
 time_of_pieces (hour ∷ minute ∷ []) = Ok (record { hour = hour; minute = minute; second = codes "00" })
 time_of_pieces (hour ∷ minute ∷ second ∷ []) = Ok (record { hour = hour; minute = minute; second = second })
-time_of_pieces other = refused 0 WrongParts
+time_of_pieces other = rejected 0 WrongParts
 
 -- a time of day, with `:` between its pieces (systemd.time(7))
 unfoldable pub time_reading : List ℕ → Reading TimeText
@@ -105,7 +105,7 @@ one_word weekdays word =
 abbrev pub two_words : Option (List ℕ) → List ℕ → List ℕ → Reading ShapeText
 two_words weekdays first second =
     if is_time first || not (is_time second)
-    then refused 0 WrongParts
+    then rejected 0 WrongParts
     else (date_reading first >>= λ date. time_reading second >>= λ time. Ok (record { weekdays = weekdays; date = date; time = time }))
 
 -- the words after the weekday part: at most two (systemd.time(7))
@@ -113,10 +113,10 @@ unfoldable pub dated : Option (List ℕ) → List (List ℕ) → Reading ShapeTe
 dated weekdays [] = Ok (record { weekdays = weekdays; date = every_day; time = midnight })
 dated weekdays (word ∷ []) = one_word weekdays word
 dated weekdays (first ∷ second ∷ []) = two_words weekdays first second
-dated weekdays other = refused 0 WrongParts
+dated weekdays other = rejected 0 WrongParts
 
 -- a first word that begins with a letter is the weekday part; no words at all are rejected (agenda)
 unfoldable pub shape_reading : List (List ℕ) → Reading ShapeText
-shape_reading [] = refused 0 WrongParts
+shape_reading [] = rejected 0 WrongParts
 shape_reading (first ∷ others) =
     if begins_with is_ascii_alphabetic first then dated (Some first) others else dated None (first ∷ others)

@@ -89,11 +89,11 @@ impl Error for RuleFault {}
 
 impl From<AllocError> for RuleFault {
     ghost use Rattle.std.specs.Prelude.{◌≡◌};
-    ghost use Rattle.plan_grammar.specs.Readings.{memory_refused};
+    ghost use Rattle.plan_grammar.specs.Readings.{out_of_memory};
 
-    ghost from_gives = { λ _ fault. fault ≡ memory_refused };
+    ghost from_gives = { λ _ fault. fault ≡ out_of_memory };
 
-    fn from(_refused: AllocError) -> RuleFault {
+    fn from(_error: AllocError) -> RuleFault {
         RuleFault {
             part: 0,
             cause: RuleCause::NoMemory,
@@ -103,11 +103,11 @@ impl From<AllocError> for RuleFault {
 
 impl<T: Drop> From<AllocFailed<T>> for RuleFault {
     ghost use Rattle.std.specs.Prelude.{◌≡◌};
-    ghost use Rattle.plan_grammar.specs.Readings.{memory_refused};
+    ghost use Rattle.plan_grammar.specs.Readings.{out_of_memory};
 
-    ghost from_gives = { λ _ fault. fault ≡ memory_refused };
+    ghost from_gives = { λ _ fault. fault ≡ out_of_memory };
 
-    fn from(_refused: AllocFailed<T>) -> RuleFault {
+    fn from(_error: AllocFailed<T>) -> RuleFault {
         RuleFault {
             part: 0,
             cause: RuleCause::NoMemory,

@@ -20,7 +20,7 @@ pub enum NewFault {
 impl From<AllocError> for NewFault {
     ghost from_gives = { λ _ fault. fault ≡ NoMemory };
 
-    fn from(_refused: AllocError) -> Self {
+    fn from(_error: AllocError) -> Self {
         NewFault::NoMemory
     }
 }

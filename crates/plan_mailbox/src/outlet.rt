@@ -50,7 +50,7 @@ impl<M> Outlet<M> {
     pub fn try_send(&mut self, message: M) -> Result<(), M>
         ensures sent { let before = outlet_of self.old in OnOk result
             (outlet_of self.new ≡ record before { sent = before.sent ++ message ∷ [] }) }
-        ensures refused { OnErr result (outlet_of self.new ≡ outlet_of self.old) }
+        ensures unsent { OnErr result (outlet_of self.new ≡ outlet_of self.old) }
         ensures back { IfErr result (λ back. back ≡ message) }
         ensures succeeds { 0 < free_of self.old → IsOk result }
         ensures one_place { OnOk result (free_of self.old ≤ free_of self.new + 1) }

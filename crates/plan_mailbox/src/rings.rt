@@ -85,7 +85,7 @@ impl<M: Drop> Lanes<M, RingLane<M>> {
     /// If an allocation fails, the mailbox comes back unchanged.
     pub fn split(self, alloc: Global) -> Result<(Vec<Outlet<M>>, Inlet<M>), Self>
         requires { IsNew (mailbox_of self) }
-        ensures refused { IfErr result (λ back. back ≡ self) }
+        ensures returned { IfErr result (λ back. back ≡ self) }
         ensures as_many { IfOk result (λ ends. vec_len ends.0 ≡ senders_of (mailbox_of self)) }
         ensures outlets { IfOk result (λ ends. map outlet_of ends.0.items ≡ new_outlets (rings_of self)) }
         ensures room { IfOk result (λ ends. All (λ outlet. free_of outlet ≡ (mailbox_of self).room) ends.0.items) }

@@ -22,7 +22,7 @@ pub fn run_steps<M: Drop, P: Post<M>>(
     steps: Vec<Step<M>>,
 ) -> Result<Vec<Reply<M>>, Vec<Step<M>>>
     requires { IsNew (P.seen post.old) }
-    ensures refused { IfErr result (λ back. back.items ≡ steps.items) }
+    ensures returned { IfErr result (λ back. back.items ≡ steps.items) }
     ensures unchanged { OnErr result (post.new ≡ post.old) }
     ensures as_many { IfOk result (λ replies. vec_len replies ≡ vec_len steps) }
 

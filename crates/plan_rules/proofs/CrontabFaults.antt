@@ -97,11 +97,11 @@ on number (Ok x) own = tt
 on number (Err c) own = fault_of number c own
 
 -- the first of these errors that there is
-pub refused_first :
+pub rejected_first :
     {A B : Type 0} (number : ℕ) (read : LineReading A) (more : List LineFault) (x : B) → IfErr read IsLineCause →
     IfErr (unless_faulty more x) IsOwnFault → IfErr (unless_faulty (cons_option (fault_on number read) more) x) IsOwnFault
-refused_first number (Ok y) more x own later = later
-refused_first number (Err c) more x own later = fault_of number c own
+rejected_first number (Ok y) more x own later = later
+rejected_first number (Err c) more x own later = fault_of number c own
 
 entry_first :
     {A B : Type 0} (number : ℕ) (read : LineReading (Option A)) (more : List (Entry A)) (x : B) → IfErr read IsLineCause →

@@ -24,7 +24,7 @@ use Rattle.plan_rules.specs.TimerDelays.{delay_of}
 use Rattle.plan_rules.specs.TimerEntries.{EventCount, after_event_text, count_after, Has, Idle, entries_from, entry_of, lines_draft, no_events, timer_of_lines, timer_reading}
 use Rattle.plan_texts.specs.EachLaws.{err_steps}
 use Rattle.plan_texts.specs.Steps.{GivesUnless}
-use Rattle.plan_rules.proofs.CrontabFaults.{IsLineCause, IsOwnFault, answered, rule_in, on, refused_first}
+use Rattle.plan_rules.proofs.CrontabFaults.{IsLineCause, IsOwnFault, answered, rule_in, on, rejected_first}
 
 -- ---- the name
 
@@ -54,9 +54,9 @@ event_fault :
     IfErr read IsLineCause → IfErr (unless_faulty (faults_of more) x) IsOwnFault →
     IfErr (unless_faulty (faults_of (cons_option (entry_of (cond room (Has (entry_at number read))
     (cond told Idle (Has (entry_at number (Err TooManyLines)))))) more)) x) IsOwnFault
-event_fault true told number read more x own later = refused_first number read (faults_of more) x own later
+event_fault true told number read more x own later = rejected_first number read (faults_of more) x own later
 event_fault false true number read more x own later = later
-event_fault false false number read more x own later = refused_first {A = Calendar} number (Err TooManyLines) (faults_of more) x tt later
+event_fault false false number read more x own later = rejected_first {A = Calendar} number (Err TooManyLines) (faults_of more) x tt later
 
 entries_fault :
     {A : Type 0} (zones : Zones) (count : EventCount) (effects : List (ℕ × Effect)) (x : A) →

@@ -12,7 +12,7 @@ use Rattle.plan_grammar.specs.declared.NamedZone.{NamedZone}
 use Rattle.plan_grammar.specs.declared.RuleCause.TheVariants.{Specifier, UnknownZone}
 use Rattle.plan_grammar.specs.Event.{cut_reading, event_reading, has_specifier, in_own_zone, words_reading, zone_cut, zone_name, zoneless}
 use Rattle.plan_grammar.specs.EventZones.{clock_named, is_utc, name_in_database, zone_clock}
-use Rattle.plan_grammar.specs.Readings.{Reading, refused}
+use Rattle.plan_grammar.specs.Readings.{Reading, rejected}
 use Rattle.plan_texts.specs.Steps.{◌>>=◌}
 use Rattle.plan_texts.specs.Text.{words}
 use Rattle.plan_rules.specs.declared.line_fault.LineCause.TheVariants.{BadTimerName, TooManyLines}
@@ -91,7 +91,7 @@ same_event :
 unfolding words_reading
 same_event zones others text first second same =
     let cut = zone_cut (words text) in
-    ap (cond (has_specifier text) (refused 0 Specifier)) (same_cut zones others cut.0 cut.1 first second same)
+    ap (cond (has_specifier text) (rejected 0 Specifier)) (same_cut zones others cut.0 cut.1 first second same)
 
 -- ---- the lines
 

@@ -76,7 +76,7 @@ fn a_planner_arrives_before_it_sends_pieces_and_its_last_note(rt: HostRuntime) -
     let jobs = user_jobs(rt.alloc(), "@daily a\n@daily b\n").expect(&rt, "jobs");
     let (outlet, mut inlet) = ends_of_one(rt.alloc(), 1)?;
     let (gate, rt) = (&Arrival(AtomicBool::new(false)), &rt);
-    let ((_, refused), ()) = thread::join(
+    let ((_, is_out_of_memory), ()) = thread::join(
         rt,
         || -> (Receipt<Note>, bool)
             requires planner { (outlet_of outlet).sender < task.sizes.planners }
@@ -84,6 +84,6 @@ fn a_planner_arrives_before_it_sends_pieces_and_its_last_note(rt: HostRuntime) -
         { run_planner(rt, rt.alloc(), &jobs, &task, gate, outlet) },
         || take_three(rt, gate, &mut inlet),
     );
-    assert!(rt; !refused && inlet.try_take().is_none());
+    assert!(rt; !is_out_of_memory && inlet.try_take().is_none());
     Ok(())
 }

@@ -72,7 +72,7 @@ fn assert_planned(
 // If a message has one start too many, the plan fails, but planners whose rings are full are still heard until
 // they end.
 #[test]
-fn planners_run_at_the_same_time_and_a_refusal_ends_the_plan(rt: HostRuntime) -> Result<(), Fail> {
+fn planners_run_at_the_same_time_and_an_error_ends_the_plan(rt: HostRuntime) -> Result<(), Fail> {
     let too_many = Err(PlanFault::Collect(CollectFault::TooMany));
     for all in [0x1, 0x11, 0x1111_1111] {
         for (limit, wanted) in [(10, Ok(10)), (9, too_many), (1, too_many)] {

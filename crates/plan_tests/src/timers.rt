@@ -5,7 +5,7 @@ use std::process::Abort;
 
 // No file can have these names, except the one of 255 bytes.
 #[test]
-fn refused_names(rt: HostRuntime) {
+fn names_of_no_file(rt: HostRuntime) {
     let mut long = [b'n'; 256];
     long[250..].copy_from_slice(b".timer");
     assert!(rt; !is_timer_name(b""));

@@ -4,7 +4,7 @@ use Rattle.plan_match.specs.declared.event.Calendar.{Calendar}
 use Rattle.plan_match.specs.WithinLimits.{EventIsWithinLimits}
 use Rattle.plan_texts.specs.Text.{words}
 use Rattle.plan_grammar.specs.declared.fault.RuleCause.TheVariants.{Specifier}
-use Rattle.plan_grammar.specs.Readings.{Gives, Reading, refused}
+use Rattle.plan_grammar.specs.Readings.{Gives, Reading, rejected}
 use Rattle.plan_grammar.specs.Event.{has_specifier, event_reading, words_reading}
 use Rattle.plan_grammar.specs.EventZones.{Zones}
 use Rattle.plan_grammar.proofs.LimitsLemmas as limits
@@ -13,7 +13,7 @@ use Rattle.plan_grammar.proofs.EventFaults.{all_words}
 use Rattle.plan_grammar.proofs.event.calendar_event.Goals as goal
 use Rattle.plan_grammar.proofs.event.calendar_event.Goals.{After-drop-words}
 
-rejected : (zones : Zones) (text : List ℕ) → has_specifier text ≡ true → event_reading zones text ≡ refused 0 Specifier
+rejected : (zones : Zones) (text : List ℕ) → has_specifier text ≡ true → event_reading zones text ≡ rejected 0 Specifier
 rejected zones text has = rw has refl
 
 plain :

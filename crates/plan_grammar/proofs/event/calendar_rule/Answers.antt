@@ -8,7 +8,7 @@ use Rattle.plan_match.specs.WithinLimits.{EventIsWithinLimits}
 use Rattle.plan_texts.specs.Steps.{◌>>=◌}
 use Rattle.plan_grammar.specs.declared.fault.RuleFault.{RuleFault}
 use Rattle.plan_grammar.specs.declared.fault.RuleCause.TheVariants.{Specifier}
-use Rattle.plan_grammar.specs.Readings.{memory_refused}
+use Rattle.plan_grammar.specs.Readings.{out_of_memory}
 use Rattle.plan_grammar.proofs.event.calendar_rule.Goals as goal
 
 -- the error of a call, or another value where it succeeded
@@ -27,7 +27,7 @@ no_error : {A : Type 0} (a : Result A RuleFault) (x : A) (fault : RuleFault) →
 no_error a x fault a_is = grind (arith, nat_tests)
 
 no_specifier :
-    {A : Type 0} (a : Result A RuleFault) (fault : RuleFault) → a ≡ Err memory_refused → fault.cause ≡ Specifier → a ≢ Err fault
+    {A : Type 0} (a : Result A RuleFault) (fault : RuleFault) → a ≡ Err out_of_memory → fault.cause ≡ Specifier → a ≢ Err fault
 no_specifier a fault a_is cause_is = grind (arith, nat_tests)
 
 pub returns-in_err-event-clause-meaning : goal.returns-in_err-event-clause-meaning
