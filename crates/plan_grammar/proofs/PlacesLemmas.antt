@@ -64,6 +64,4 @@ place_passed b test n v fails is = grind (arith, nat_tests)
 pub places_collected :
     (test : ℕ → Bool) (n : ℕ) (places : Values) → places.base ≡ 1 → ((v : ℕ) → has_value places v ≡ (is_among 1 n v && test v)) →
     places ≡ values_where 1 n test
-places_collected test n places base members =
-    same_values places (values_where 1 n test) (base ∙ sym (base-values_where 1 n test))
-    (λ v. members v ∙ sym (has_value-values_where 1 n test v))
+places_collected test n places base members = grind (arith, nat_tests, same_values, base-values_where, has_value-values_where)

@@ -1,9 +1,9 @@
 -- The days of a week, collected day by day.
 -- For the loop of `week_days` (`day_added`, `day_passed`) and its end (`collected`). A turn is a case split on whether
 -- a value is the day of the turn. At the end `week_days_of` is unfolded: two sets with the same members are equal.
-use Rattle.std.proofs.Common.{◌≡◌, ℕ, ◌+◌, Bool, true, false, ◌&&◌, ◌||◌, nat_eq, nat_lt, ap, sym, ◌∙◌, arith}
+use Rattle.std.proofs.Common.{◌≡◌, ℕ, ◌+◌, Bool, true, false, ◌&&◌, ◌||◌, nat_eq, nat_lt, arith}
 use Rattle.std.proofs.lemmas.Bool.Decides.{nat_tests}
-use Rattle.plan_sets.specs.Values.{Values, has_value, values_where, is_among}
+use Rattle.plan_sets.specs.Values.{Values, has_value, is_among}
 use Rattle.plan_sets.specs.ValuesLaws.{same_values, has_value-values_where, base-values_where}
 use Rattle.plan_grammar.specs.Cron.{has_week_day, week_days_of}
 
@@ -15,12 +15,7 @@ pub collected :
     (written days : Values) → days.base ≡ 0 → ((v : ℕ) → has_value days v ≡ (nat_lt v 7 && has_week_day written v)) →
     days ≡ week_days_of written
 unfolding week_days_of
-collected written days base members =
-    same_values days (values_where 0 7 (has_week_day written)) (base ∙ sym (base-values_where 0 7 (has_week_day written)))
-    (λ v. members v ∙ among v ∙ sym (has_value-values_where 0 7 (has_week_day written) v))
-  where
-    among : (v : ℕ) → (nat_lt v 7 && has_week_day written v) ≡ (is_among 0 7 v && has_week_day written v)
-    among v = ap (λ b. b && has_week_day written v) (below v)
+collected written days base members = grind (arith, nat_tests, same_values, base-values_where, has_value-values_where, below)
 
 -- one more day, which was written
 pub day_added :

@@ -1,10 +1,9 @@
 -- A text with a specifier is rejected (`rejected`); any other means what its words mean (`plain`).
-use Rattle.std.proofs.Common.{◌≡◌, ℕ, true, false, List, map, refl, ap, sym, ◌∙◌, subst, true≢false}
+use Rattle.std.proofs.Common.{◌≡◌, ℕ, false, List, map, refl, ap, sym, ◌∙◌, subst, true≢false}
 use Rattle.plan_match.specs.declared.event.Calendar.{Calendar}
 use Rattle.plan_match.specs.WithinLimits.{EventIsWithinLimits}
 use Rattle.plan_texts.specs.Text.{words}
-use Rattle.plan_grammar.specs.declared.fault.RuleCause.TheVariants.{Specifier}
-use Rattle.plan_grammar.specs.Readings.{Gives, Reading, rejected}
+use Rattle.plan_grammar.specs.Readings.{Gives, Reading}
 use Rattle.plan_grammar.specs.Event.{has_specifier, event_reading, words_reading}
 use Rattle.plan_grammar.specs.EventZones.{Zones}
 use Rattle.plan_grammar.proofs.LimitsLemmas as limits
@@ -13,22 +12,9 @@ use Rattle.plan_grammar.proofs.EventFaults.{all_words}
 use Rattle.plan_grammar.proofs.event.calendar_event.Goals as goal
 use Rattle.plan_grammar.proofs.event.calendar_event.Goals.{After-drop-words}
 
-rejected : (zones : Zones) (text : List ℕ) → has_specifier text ≡ true → event_reading zones text ≡ rejected 0 Specifier
-rejected zones text has = rw has refl
-
 plain :
     (zones : Zones) (text : List ℕ) → has_specifier text ≡ false → event_reading zones text ≡ words_reading zones (words text)
 plain zones text none = rw none refl
-
-pub returns-then-contains-clause-meaning : goal.returns-then-contains-clause-meaning
-returns-then-contains-clause-meaning c =
-    let has = ap has_specifier (sym c.as_bytes.ensures.value) ∙ sym c.contains.ensures.value ∙ c.if-contains.true in
-    λ kept. rejected c.args.zones.now c.args.text.now has
-
-pub returns-then-contains-clause-specifier : goal.returns-then-contains-clause-specifier
-returns-then-contains-clause-specifier c =
-    let has = ap has_specifier (sym c.as_bytes.ensures.value) ∙ sym c.contains.ensures.value ∙ c.if-contains.true in
-    (λ is. has, λ _. refl)
 
 none : (c : After-drop-words) → has_specifier c.args.text.now ≡ false
 none c = ap has_specifier (sym c.as_bytes.ensures.value) ∙ sym c.contains.ensures.value ∙ c.if-contains.false
@@ -38,9 +24,6 @@ meaning c =
     let found = ap (map (λ word. word.now)) c.as_slice.ensures.value ∙ c.in_ok-words.ensures ∙ ap words c.as_bytes-2.ensures.value in
     let P : Reading Calendar → Type 0 = Gives c.event_of_words.result in
     subst P (ap (words_reading c.args.zones.now) found ∙ sym (plain c.args.zones.now c.args.text.now (none c))) c.event_of_words.ensures
-
-pub returns-clause-meaning : goal.returns-clause-meaning
-returns-clause-meaning c = meaning c
 
 pub returns-clause-within : goal.returns-clause-within
 returns-clause-within c =

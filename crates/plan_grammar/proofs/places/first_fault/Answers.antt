@@ -1,4 +1,4 @@
-use Rattle.std.proofs.Common.{◌≡◌, ◌∙◌, ap, sym, take, take_all, arith}
+use Rattle.std.proofs.Common.{◌∙◌, ap, sym, take}
 use Rattle.std.proofs.lemmas.List.{take_more}
 use Rattle.plan_sets.specs.declared.item.Item.TheVariants.{One}
 use Rattle.plan_grammar.specs.Event.{first_place_fault}
@@ -18,9 +18,3 @@ loop-item-preserved c =
     let k = c.loop-item.item-index in
     ap first_place_fault (take_more items k (One 0) c.loop-item-test.true)
     ∙ first_place_fault-push (take k items) _ c.loop-item.invariant ∙ sym c.fault_of.ensures ∙ c.in_default.is
-
-pub returns : goal.returns
-returns c =
-    let items = c.args.items.now in
-    let whole : take c.loop-item.item-index items ≡ items = take_all c.loop-item.item-index items (omega arith) in
-    sym (ap first_place_fault (sym whole) ∙ c.loop-item.invariant)

@@ -1,7 +1,7 @@
 -- Answers the one clause of `weekday_items`, on the text that `without_comma` leaves.
 -- The loop's invariant: the pieces so far, read by `weekday_item`, are the items so far. The split yields the pieces
 -- between commas; `each-step` adds an item, `each-turn` ends at an error, and `each-end` at the last piece.
-use Rattle.std.proofs.Common.{rules, tests, ◌==◌, Ok, ap, sym, ◌∙◌}
+use Rattle.std.proofs.Common.{rules, tests, ◌==◌, ap, sym, ◌∙◌}
 use Rattle.std.proofs.lemmas.Result.{err_from_is_err_and}
 use Rattle.std.proofs.lemmas.Iterator.Consumers.{YieldsList-at}
 use Rattle.std.proofs.lemmas.Iterator.Splits.{YieldsList-from_slice_split}
@@ -10,15 +10,11 @@ use Rattle.plan_texts.specs.Steps.{each}
 use Rattle.plan_grammar.specs.Event.{weekday_item, weekday_items}
 use Rattle.plan_texts.specs.EachLaws.{each-step, each-turn, each-end}
 use Rattle.plan_grammar.proofs.weekdays.weekday_items.Goals as goal
+use Rattle.std.proofs.Common.{arith}
+use Rattle.std.proofs.lemmas.Bool.Decides.{nat_tests}
 
 pub loop-element-preserved : goal.loop-element-preserved
-loop-element-preserved c = (
-  search rules,
-  search rules,
-  each-step weekday_item (λ element. element.now) c.loop-element.yielded c.in-Some.element c.loop-element.items.items _
-      c.loop-element.invariant.2 (sym c.weekday_item.ensures ∙ c.in_ok-weekday_item.was)
-      ∙ ap Ok (sym (c.in_ok-push.ensures.items)),
-)
+loop-element-preserved c = grind (arith, nat_tests, each-step)
 
 pub returns-in_err-weekday_item : goal.returns-in_err-weekday_item
 unfolding weekday_items

@@ -1,22 +1,19 @@
 -- Answers the one clause of `Component::items`: the items are `component_items` of the text.
 -- The loop's invariant: the pieces so far, read by `component_item`, are the items so far. The split yields the pieces
 -- between commas; `each-step` adds an item, `each-turn` ends at an error, and `each-end` at the last piece.
-use Rattle.std.proofs.Common.{rules, tests, ◌==◌, Ok, ap, sym, ◌∙◌}
+use Rattle.std.proofs.Common.{rules, tests, ◌==◌, sym, ◌∙◌}
 use Rattle.std.proofs.lemmas.Result.{err_from_is_err_and}
 use Rattle.std.proofs.lemmas.Iterator.Consumers.{YieldsList-at}
 use Rattle.std.proofs.lemmas.Iterator.Splits.{YieldsList-from_slice_split}
 use Rattle.plan_grammar.specs.Event.{component_item, component_items}
 use Rattle.plan_texts.specs.EachLaws.{each-step, each-turn, each-end}
 use Rattle.plan_grammar.proofs.component.Component.items.Goals as goal
+use Rattle.std.proofs.Common.{arith}
+use Rattle.std.proofs.lemmas.Bool.Decides.{nat_tests}
+use Rattle.std.proofs.lemmas.Grind.{common_steps}
 
 pub loop-element-preserved : goal.loop-element-preserved
-loop-element-preserved c = (
-  search rules,
-  search rules,
-  each-step (component_item c.args.self) (λ element. element.now) c.loop-element.yielded c.in-Some.element
-      c.loop-element.items.items _ c.loop-element.invariant.2 (sym c.item.ensures ∙ c.in_ok-item.was)
-      ∙ ap Ok (sym (c.in_ok-push.ensures.items)),
-)
+loop-element-preserved c = grind (arith, nat_tests, common_steps, each-step)
 
 pub returns-in_err-item : goal.returns-in_err-item
 unfolding component_items
