@@ -45,10 +45,7 @@ next-found-in waiting lanes seen turn s m rest same waits e =
 pub next-none-in : {M L : Type 0} (waiting : L → List M) (lanes seen : List L) (turn : ℕ) → seen ≡ lanes
     → None ≡ find (λ t. ltb 0 (length (waiting_in waiting seen t))) (in_turn (length seen) turn)
     → slice_get (line_of (waiting_in waiting lanes) (in_turn (length (map waiting lanes)) turn)) 0 ≡ None
-next-none-in waiting lanes seen turn same e =
-    next-none (waiting_in waiting lanes) (in_turn (length (map waiting lanes)) turn)
-    (sym (e ∙ ap (λ ls. find (λ t. ltb 0 (length (waiting_in waiting ls t))) (in_turn (length ls) turn)) same
-    ∙ ap (λ n. find (λ t. ltb 0 (length (waiting_in waiting lanes t))) (in_turn n turn)) (sym (length-map lanes waiting))))
+next-none-in waiting lanes seen turn same e = grind (arith, nat_tests, next-none, length-map)
 
 -- if no message waits, the reply depends on whether all senders are closed
 pub take_reply-none :

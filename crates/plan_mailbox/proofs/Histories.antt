@@ -2,10 +2,10 @@
 -- longer history at any time is the shorter one at that time, or the whole. So `IsLawful-push` needs only what
 -- `IsAllowed` says of the whole. For the waiting messages, `Leaves-push` cuts what was sent after what was taken.
 use Rattle.std.proofs.Math.Bool.{or-false}
-use Rattle.std.proofs.Common.{◌≡◌, ℕ, ◌+◌, ◌%◌, ◌<◌, ◌≤◌, true, false, cond, ◌||◌, eqb, List, [], ◌∷◌, ◌++◌, length, take, drop, None, refl, sym, ap, ◌∙◌, inl, inr, ⊎_elim, subst, arith, add-zero, zero-add}
+use Rattle.std.proofs.Common.{◌≡◌, ℕ, ◌+◌, ◌%◌, ◌<◌, ◌≤◌, true, false, cond, ◌||◌, eqb, List, [], ◌∷◌, ◌++◌, length, take, drop, refl, sym, ap, ◌∙◌, inl, inr, ⊎_elim, subst, arith, add-zero, zero-add}
 use Rattle.std.proofs.lemmas.Bool.Decides.{nat_tests}
 use Rattle.std.specs.Prelude.{flat_map, count_by}
-use Rattle.std.specs.List.{list_any, last_or}
+use Rattle.std.specs.List.{list_any}
 use Rattle.std.proofs.lemmas.List.{append-nil, append_assoc, take_all, take-append-le, drop-append-le, drop_all, length-append, take-append-drop}
 use Rattle.std.proofs.lemmas.List.Concat.{flat_map-append}
 use Rattle.std.proofs.lemmas.List.Folds.{list_any-append}
@@ -13,8 +13,9 @@ use Rattle.std.proofs.lemmas.List.Sums.{sum_by-append, sum_by-cons}
 use Rattle.std.proofs.lemmas.List.Elements.{All-append, All-cons, All-nil}
 use Rattle.std.proofs.lemmas.List.Prefix.{front_rest}
 use Rattle.std.proofs.lemmas.Bool.{cases_lt, cases_Bool, or_left, or_parts, eq-eqb, cond_both}
-use Rattle.plan_mailbox.specs.History.{Event, Sends, Takes, Closes, sent_by, taken_by, closes, is_send, giver_of, sender_of, sent_of, taken_of, waiting_of, was_closed, turn_of, turn_after, IsPrefix, IsLawful}
+use Rattle.plan_mailbox.specs.History.{Event, Sends, Takes, Closes, sent_by, taken_by, closes, is_send, giver_of, sender_of, sent_of, taken_of, waiting_of, was_closed, turn_of, IsPrefix, IsLawful}
 use Rattle.plan_mailbox.proofs.Places.{last_or_push}
+use Rattle.std.proofs.lemmas.Grind.{common_steps}
 
 -- a list that is mapped and flattened, with one more element
 flat_map_push : {X A : Type 0} (f : X → List A) (xs : List X) (x : X) → flat_map f (xs ++ x ∷ []) ≡ flat_map f xs ++ f x
@@ -57,16 +58,12 @@ Leaves-push h e s zs eq = Leaves-from (h ++ e ∷ []) s zs (sent_of-push h e s �
 pub Leaves-sends :
     {M : Type 0} (h : List (Event M)) (t : ℕ) (m : M) (s : ℕ) → IsPrefix (taken_of h s) (sent_of h s) →
     Leaves (h ++ Sends t m ∷ []) s (waiting_of h s ++ sent_by s (Sends t m))
-Leaves-sends h t m s p = Leaves-push h (Sends t m) s _
-    (ap (λ r. r ++ sent_by s (Sends t m)) p ∙ append_assoc (taken_of h s) (waiting_of h s) (sent_by s (Sends t m))
-    ∙ ap (λ r. r ++ (waiting_of h s ++ sent_by s (Sends t m))) (sym (append-nil (taken_of h s))))
+Leaves-sends h t m s p = grind (arith, nat_tests, common_steps, Leaves-push, append_assoc, append-nil)
 
 pub Leaves-takes_other :
     {M : Type 0} (h : List (Event M)) (t : ℕ) (m : M) (s : ℕ) → eqb t s ≡ false → IsPrefix (taken_of h s) (sent_of h s) →
     Leaves (h ++ Takes t m ∷ []) s (waiting_of h s)
-Leaves-takes_other h t m s ne p = Leaves-push h (Takes t m) s _
-    (append-nil (sent_of h s) ∙ p ∙ ap (λ r. r ++ waiting_of h s)
-    (sym (ap (λ b. taken_of h s ++ cond b (m ∷ []) []) ne ∙ append-nil (taken_of h s))))
+Leaves-takes_other h t m s ne p = grind (arith, nat_tests, common_steps, Leaves-push, append-nil)
 
 pub Leaves-takes :
     {M : Type 0} (h : List (Event M)) (s : ℕ) (m : M) (rest : List M) → waiting_of h s ≡ m ∷ rest →
@@ -78,8 +75,7 @@ Leaves-takes h s m rest w p = Leaves-push h (Takes s m) s _
 pub Leaves-closes :
     {M : Type 0} (h : List (Event M)) (t s : ℕ) → IsPrefix (taken_of h s) (sent_of h s) →
     Leaves (h ++ Closes t ∷ []) s (waiting_of h s)
-Leaves-closes h t s p = Leaves-push h (Closes t) s _
-    (append-nil (sent_of h s) ∙ p ∙ ap (λ r. r ++ waiting_of h s) (sym (append-nil (taken_of h s))))
+Leaves-closes h t s p = grind (arith, nat_tests, common_steps, Leaves-push, append-nil)
 
 -- a sender that was not closed was closed zero times
 count_of_none : {M : Type 0} (h : List (Event M)) (s : ℕ) → was_closed h s ≡ false → count_by (closes s) h ≡ 0
@@ -92,17 +88,13 @@ count_of_none (e ∷ h) s none =
 count_by-push :
     {M : Type 0} (h : List (Event M)) (e : Event M) (s : ℕ) →
     count_by (closes s) (h ++ e ∷ []) ≡ count_by (closes s) h + cond (closes s e) 1 0
-count_by-push h e s = sum_by-append (λ x. cond (closes s x) 1 0) h (e ∷ []) ∙ ap (λ n. count_by (closes s) h + n)
-    (sum_by-cons (λ x. cond (closes s x) 1 0) e [] ∙ add-zero (cond (closes s e) 1 0))
+count_by-push h e s = grind (arith, nat_tests, sum_by-append, sum_by-cons, add-zero)
 
 -- the history with one more event, at any time, is the history without it at that time, or the whole
 moment_before :
     {M : Type 0} (h : List (Event M)) (e : Event M) (P : List (Event M) → Type 0) → ((k : ℕ) → P (take k h)) → P (h ++ e ∷ []) →
     (k : ℕ) → P (take k (h ++ e ∷ []))
-moment_before h e P before whole k =
-    ⊎_elim (λ (lt : k < length h + 1). let le : k ≤ length h = omega arith in subst P (sym (take-append-le k h (e ∷ []) le)) (before k))
-    (λ (ge : length h + 1 ≤ k). subst P (sym (take_all k (h ++ e ∷ []) (omega (arith, length-append h (e ∷ []))))) whole)
-    (cases_lt k (length h + 1))
+moment_before h e P before whole k = grind (arith, nat_tests, take-append-le, take_all, length-append, cases_lt)
 
 -- the conditions for one more event
 pub record IsAllowed {M : Type 0} (senders room : ℕ) (h : List (Event M)) (e : Event M) : Type 0 where
@@ -157,12 +149,9 @@ roomy-whole senders room h l s = subst (λ p. length (waiting_of p s) ≤ room) 
 -- the turn after one more event
 pub turn_of-takes :
     {M : Type 0} (senders : ℕ) (h : List (Event M)) (s : ℕ) (m : M) → turn_of senders (h ++ Takes s m ∷ []) ≡ (s + 1) % senders
-turn_of-takes senders h s m = ap (turn_after senders)
-    (ap (last_or None) (flat_map_push giver_of h (Takes s m)) ∙ last_or_push None (flat_map giver_of h) s)
+turn_of-takes senders h s m = grind (arith, nat_tests, flat_map_push, last_or_push)
 
 pub turn_of-other :
     {M : Type 0} (senders : ℕ) (h : List (Event M)) (e : Event M) → giver_of e ≡ [] →
     turn_of senders (h ++ e ∷ []) ≡ turn_of senders h
-turn_of-other senders h e none =
-    ap (λ xs. turn_after senders (last_or None xs))
-    (flat_map_push giver_of h e ∙ ap (λ r. flat_map giver_of h ++ r) none ∙ append-nil (flat_map giver_of h))
+turn_of-other senders h e none = grind (arith, nat_tests, flat_map_push, append-nil)

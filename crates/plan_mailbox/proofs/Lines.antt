@@ -7,6 +7,7 @@ use Rattle.std.specs.List.{slice_get}
 use Rattle.std.proofs.lemmas.Option.{same_Some, none-some}
 use Rattle.std.proofs.lemmas.Bool.{lt-ltb}
 use Rattle.plan_mailbox.specs.Turn.{line_of}
+use Rattle.std.proofs.lemmas.Grind.{common_steps}
 
 -- the same messages make the same line
 pub line_of-same : {M : Type 0} (f g : ℕ → List M) → ((s : ℕ) → f s ≡ g s) → (order : List ℕ) → line_of f order ≡ line_of g order
@@ -34,25 +35,20 @@ found_among :
     → (found ≡ Some s → slice_get others 0 ≡ Some (s, m)) → cond (ltb 0 (length ms)) (Some x) found ≡ Some s → slice_get
     (map (λ m. (x, m)) ms ++ others) 0 ≡ Some (s, m)
 found_among f x [] others found s m rest here there later e = later e
-found_among f x (y ∷ ys) others found s m rest here there later e =
-    let same : x ≡ s = same_Some x s (ap (λ b. cond b (Some x) found) (sym (lt-ltb 0 (length (y ∷ ys)) (omega arith))) ∙ e) in
-    let first : y ∷ ys ≡ m ∷ rest = sym here ∙ ap f same ∙ there in
-    cc
+found_among f x (y ∷ ys) others found s m rest here there later e = grind (arith, nat_tests, same_Some, lt-ltb)
 
 pub next-found :
     {M : Type 0} (f : ℕ → List M) (order : List ℕ) (s : ℕ) (m : M) (rest : List M) → f s ≡ m ∷ rest →
     find (λ t. ltb 0 (length (f t))) order ≡ Some s → slice_get (line_of f order) 0 ≡ Some (s, m)
 next-found f [] s m rest there e = absurd (none-some s e)
-next-found f (x ∷ order) s m rest there e = found_among f x (f x) (line_of f order)
-    (find (λ t. ltb 0 (length (f t))) order) s m rest refl there (next-found f order s m rest there) e
+next-found f (x ∷ order) s m rest there e = grind (arith, nat_tests, common_steps, found_among, next-found f order s m rest there)
 
 -- if no sender has a waiting message, the line is empty
 none_among :
     {M : Type 0} (x : ℕ) (ms : List M) (others : List (ℕ × M)) (found : Option ℕ) → (found ≡ None → slice_get others 0 ≡ None) →
     cond (ltb 0 (length ms)) (Some x) found ≡ None → slice_get (map (λ m. (x, m)) ms ++ others) 0 ≡ None
 none_among x [] others found later e = later e
-none_among x (y ∷ ys) others found later e = absurd
-    (none-some x (sym e ∙ ap (λ b. cond b (Some x) found) (lt-ltb 0 (length (y ∷ ys)) (omega arith))))
+none_among x (y ∷ ys) others found later e = grind (arith, nat_tests, none-some, lt-ltb)
 
 pub next-none :
     {M : Type 0} (f : ℕ → List M) (order : List ℕ) → find (λ t. ltb 0 (length (f t))) order ≡ None →

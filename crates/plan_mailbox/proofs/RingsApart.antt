@@ -1,7 +1,7 @@
 -- A mailbox of rings that is split: for `outlets`, `room` and `inlet` of `Rings::split`, and for its loop. By induction
 -- over the lanes. Nothing was sent on an unused lane. So by its `fifo` nothing was received and nothing is known to wait,
 -- and by its `all_free` all its places are known to be free.
-use Rattle.std.proofs.Common.{◌≡◌, ℕ, suc, ◌+◌, All, List, [], ◌∷◌, ◌++◌, length, map, replicate, false, refl, sym, ap, ◌∙◌, add-zero, arith}
+use Rattle.std.proofs.Common.{◌≡◌, ℕ, ◌+◌, All, List, [], ◌∷◌, ◌++◌, length, map, replicate, false, refl, sym, ap, ◌∙◌, add-zero, arith}
 use Rattle.std.specs.List.{enumerate_from}
 use Rattle.std.proofs.lemmas.List.{length-append, length-map, nil_from_length}
 use Rattle.std.proofs.lemmas.List.Elements.{All-nil, All-cons, All-head, All-tail, All-same}
@@ -10,14 +10,14 @@ use Rattle.plan_mailbox.specs.declared.rings.RingLane.{RingLane}
 use Rattle.plan_mailbox.specs.declared.outlet.Outlet.{Outlet}
 use Rattle.plan_mailbox.specs.declared.ring_end.RingEnd.{RingEnd}
 use Rattle.plan_mailbox.specs.Ends.{Ring, SendingEnd, consumer_ring, free_of, producer_ring, receiving, new_inlet, new_outlets}
+use Rattle.std.proofs.lemmas.Bool.Decides.{nat_tests}
+use Rattle.std.proofs.lemmas.Grind.{common_steps}
 
 -- the numbers of a list with one more element
 pub enumerate_from-push :
     {A : Type 0} (n : ℕ) (xs : List A) (x : A) → enumerate_from n (xs ++ x ∷ []) ≡ enumerate_from n xs ++ (n + length xs, x) ∷ []
 enumerate_from-push n [] x = ap (λ k. (k, x) ∷ []) (sym (add-zero n))
-enumerate_from-push n (y ∷ xs) x =
-    ap (λ ps. (n, y) ∷ ps) (enumerate_from-push (n + 1) xs x) ∙
-    (let e : n + 1 + length xs ≡ n + suc (length xs) = omega arith in ap (λ k. (n, y) ∷ (enumerate_from (n + 1) xs ++ (k, x) ∷ [])) e)
+enumerate_from-push n (y ∷ xs) x = grind (arith, nat_tests, common_steps, enumerate_from-push (n + 1) xs x)
 
 module _ {M : Type 0} where
   -- the ring of a lane

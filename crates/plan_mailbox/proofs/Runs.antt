@@ -1,7 +1,7 @@
 -- A run of steps, and one more step: `IsRun` is in the invariant of the loop of `run_steps`, and gives its clauses at
 -- `Ok`. In `IsRun-push` an earlier reply stays, since its history does. The last reply is the one after the whole
 -- history, because that history left the mailbox (`reply_of-left`).
-use Rattle.std.proofs.Common.{◌≡◌, ℕ, ◌+◌, ◌<◌, ◌≤◌, List, [], ◌∷◌, ◌++◌, length, take, Some, refl, sym, ap, ◌∙◌, inl, inr, subst, arith}
+use Rattle.std.proofs.Common.{◌≡◌, ℕ, ◌+◌, ◌<◌, ◌≤◌, List, [], ◌∷◌, ◌++◌, length, take, Some, sym, ap, ◌∙◌, inl, inr, subst, arith}
 use Rattle.std.proofs.lemmas.List.{append-nil, append_assoc, length-append, take-append-le, take_at}
 use Rattle.std.proofs.lemmas.Option.{same_Some, none-some, slice_get_within}
 use Rattle.std.proofs.lemmas.Bool.{cases_lt}
@@ -12,6 +12,8 @@ use Rattle.plan_mailbox.specs.Reply.{reply_after, RepliesInTurn}
 use Rattle.plan_mailbox.specs.Mailbox.{Mailbox, senders_of, reply_of, after, IsNew}
 use Rattle.plan_mailbox.proofs.Places.{all_yielded, slice_get_before, slice_get_last}
 use Rattle.plan_mailbox.proofs.Steps.{Keeps, Keeps-step, Keeps-new, reply_of-left}
+use Rattle.std.proofs.lemmas.Bool.Decides.{nat_tests}
+use Rattle.std.proofs.lemmas.Grind.{common_steps}
 
 -- what one more step records
 record_of-push :
@@ -31,11 +33,7 @@ pub record IsRun {M : Type 0} (senders room : ℕ) (steps : List (Step M)) (repl
 
 -- no step was performed yet
 pub IsRun-nil : {M : Type 0} (b : Mailbox M) → IsNew b → IsRun (senders_of b) b.room [] [] b
-IsRun-nil {M} b new = record {
-  as_many = refl;
-  in_turn = λ i step e. absurd (none-some step e);
-  keeps = subst (λ x. Keeps (senders_of b) b.room [] x) (sym new) (Keeps-new (senders_of b) b.room);
-}
+IsRun-nil {M} b new = grind (arith, nat_tests, common_steps, none-some, Keeps, Keeps-new)
 
 -- one more step was performed
 pub IsRun-push :

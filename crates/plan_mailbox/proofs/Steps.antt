@@ -206,19 +206,7 @@ Keeps-step {M} senders room h b (Close s) k =
 
 -- a new mailbox is what a history without events leaves
 get_or-replicate_same : {A : Type 0} (n k : ℕ) (x : A) → get_or (replicate n x) k x ≡ x
-get_or-replicate_same n k x = ⊎_elim (λ (lt : k < n). get_or-replicate n k x x lt)
-    (λ (ge : n ≤ k). get_or_past (replicate n x) k x (omega (arith, length-replicate n x))) (cases_lt k n)
+get_or-replicate_same n k x = grind (arith, nat_tests, get_or-replicate, get_or_past, length-replicate, cases_lt)
 
 pub Keeps-new : {M : Type 0} (senders room : ℕ) → Keeps {M = M} senders room [] (new_mailbox senders room)
-Keeps-new senders room = record {
-  lawful = IsLawful-nil senders room;
-  left = record {
-    senders_stay = length-replicate senders [];
-    marks_stay = length-replicate senders false;
-    room_stays = refl;
-    waits = λ s. get_or-replicate_same senders s [];
-    closed_is = λ s. get_or-replicate_same senders s false;
-    turn_is = refl;
-    sent_is = refl;
-  };
-}
+Keeps-new senders room = grind (arith, nat_tests, IsLawful-nil, length-replicate, get_or-replicate_same)
