@@ -78,11 +78,8 @@ pub is_start-event :
     (events : List Calendar) (k n : ℕ) (event : Calendar) → slice_get events k ≡ Some event → event_starts event n ≡ true →
     matched_by events n ≡ true
 is_start-event [] k n event is h = absurd (cc)
-is_start-event (first ∷ events) zero n event is h =
-    let same : first ≡ event = cc in
-    or_left (event_starts first n) (matched_by events n) (ap (λ e. event_starts e n) same ∙ h)
-is_start-event (first ∷ events) (suc k) n event is h =
-    or_right (event_starts first n) (matched_by events n) (is_start-event events k n event is h)
+is_start-event (first ∷ events) zero n event is h = grind (arith, nat_tests, or_left)
+is_start-event (first ∷ events) (suc k) n event is h = grind (arith, nat_tests, or_right, is_start-event events k n event is h)
 
 pub none_past : (events : List Calendar) (i : ℕ) → slice_get events i ≡ None → length events ≤ i
 none_past [] i is = omega arith

@@ -2,6 +2,7 @@
 use Rattle.std.proofs.Common.{◌≡◌, ℕ, ◌<◌, ◌≤◌, min, Bool, Option, None, Some, arith}
 use Rattle.std.proofs.lemmas.Bool.Decides.{nat_tests}
 use Rattle.plan_next.specs.Starts.{NoneIn, IsFirstIn}
+use Rattle.std.proofs.lemmas.Grind.{common_steps}
 
 -- if two tests pass the same numbers, they have the same first one
 pub IsFirstIn-same :
@@ -20,5 +21,4 @@ pub IsFirstIn-saturated :
     (test : ℕ → Bool) (a limit since b : ℕ) (answer : Option ℕ) → b ≤ limit → since ≡ min a limit → IsFirstIn test since b answer →
     IsFirstIn test a b answer
 IsFirstIn-saturated test a limit since b None fits e none = λ n low high. none n (omega arith) high
-IsFirstIn-saturated test a limit since b (Some n) fits e (low, high, is, none) =
-    (omega arith, high, is, λ k from below. none k (omega arith) below)
+IsFirstIn-saturated test a limit since b (Some n) fits e (low, high, is, none) = grind (arith, nat_tests, common_steps)

@@ -29,8 +29,7 @@ pub next-kept :
     (cron : Bor CronRule) (kept : List ℕ) (n minute : ℕ) → AreNextMinutes cron.now.minutes kept →
     admits_moment (Cron cron) n ≡ true → minute ≡ n / 60 % 60 →
     IsFirstOrEnd (has_value cron.now.minutes) (minute + 1) 60 (slice_index kept minute)
-next-kept cron kept n minute keeps admitted is =
-    keeps minute (omega arith) (rw is (minute-admitted cron n admitted))
+next-kept cron kept n minute keeps admitted is = grind (arith, nat_tests, minute-admitted)
 
 -- it is the first match at or after a second if no minute begins between them
 pub IsLeastIn-first_minute :

@@ -1,7 +1,7 @@
 -- Starts that are found one after another.
 -- For the loop of `first_starts`, whose invariant is `AreFound`, and for `next_piece` (`piece_ordered`). The starts of
 -- a part are those before a second, then those at or after it. `full_piece` is hard: there a start remains.
-use Rattle.std.proofs.Common.{◌≡◌, ℕ, ◌+◌, ◌-◌, ◌<◌, ◌≤◌, true, false, List, [], ◌∷◌, ◌++◌, length, take, get_or, nat_le, inl, inr, refl, ap, sym, ◌∙◌, arith, append-nil, take_all}
+use Rattle.std.proofs.Common.{◌≡◌, ℕ, ◌+◌, ◌-◌, ◌<◌, ◌≤◌, true, false, List, [], ◌∷◌, ◌++◌, length, take, get_or, nat_le, refl, ap, sym, ◌∙◌, arith, append-nil, take_all}
 use Rattle.std.proofs.lemmas.Bool.{cases_lt, le-leb, lt-leb}
 use Rattle.std.proofs.lemmas.List.{length_push, get_or_append_left, take-append-le}
 use Rattle.std.proofs.Math.Seq.{get_or-append_seam}
@@ -10,19 +10,14 @@ use Rattle.plan_match.specs.declared.rule.Rule.{Rule}
 use Rattle.plan_next.specs.Starts.{NoneIn, IsLeastIn, is_start, starts}
 use Rattle.plan_next.specs.Piece.{piece_end, AreFound}
 use Rattle.plan_next.specs.StartsLaws.{passing-append, passing-none, passing-least}
+use Rattle.std.proofs.lemmas.Bool.Decides.{nat_tests}
 
 no_start_within : (rule : Rule) (second : ℕ) → starts rule second second ≡ []
 no_start_within rule second = passing-none (is_start rule) second second (λ n low high. absurd (omega arith))
 
 pub found_none :
     (rule : Rule) (since upto most : ℕ) (found : List ℕ) → found ≡ [] → since ≤ upto → AreFound rule since upto most found since
-found_none rule since upto most found is le = rw is (record {
-  from = omega arith;
-  to = le;
-  few = omega arith;
-  all = sym (no_start_within rule since);
-  last = λ some. absurd (omega arith);
-})
+found_none rule since upto most found is le = grind (arith, nat_tests, no_start_within)
 
 -- one more start, the first after those that were found
 pub found_more :
@@ -98,12 +93,4 @@ full_piece rule since upto most reached n found so_far full some least =
 pub piece_ordered :
     (rule : Rule) (since upto most end : ℕ) → since ≤ upto → end ≡ piece_end rule since upto most → (since < upto → since < end) →
     since ≤ end
-piece_ordered rule since upto most end part is moves =
-    elim (cases_lt since upto) [
-      | inl before ↦ (let after = moves before in omega arith)
-      | inr none ↦ (
-          let empty : starts rule since upto ≡ [] = passing-none (is_start rule) since upto (λ n low high. absurd (omega arith)) in
-          let few : nat_le 0 most ≡ true = le-leb 0 most (omega arith) in
-          let whole : end ≡ upto = is ∙ (rw (empty, few) refl) in
-          omega arith)
-    ]
+piece_ordered rule since upto most end part is moves = grind (arith, nat_tests, cases_lt, passing-none, le-leb)

@@ -56,11 +56,7 @@ natural-le z m given = grind (arith, nat_tests)
 some_between-no :
     (test : ℕ → Bool) (a b : ℤ) → ((m : ℕ) → a ≤ℤ pos m → pos m ≤ℤ b → test m ≡ false) → some_between test a b ≡ false
 unfolding some_between
-some_between-no test a b none =
-    let above = natural-above a in
-    let some = natural-some (b +ℤ pos 1) in
-    range_no test (natural a) (natural (b +ℤ pos 1) - natural a)
-    (λ m low high. none m (omega (arith, ints)) (omega (arith, ints)))
+some_between-no test a b none = grind (arith, nat_tests, natural-above, natural-some, range_no, ints)
 
 some_between-holds :
     (test : ℕ → Bool) (a b : ℤ) (m : ℕ) → a ≤ℤ pos m → pos m ≤ℤ b → test m ≡ true → some_between test a b ≡ true
@@ -88,24 +84,8 @@ pub reach-none :
     (row : Row) (heeds : Bool) (test : ℕ → Bool) (from n low : ℕ) → row.second ≤ from → from ≤ n → low ≡ first_counted row heeds from →
     ((m : ℕ) → low ≤ m → pos m ≤ℤ shown row n → test m ≡ false) → starts_in row heeds test n ≡ false
 unfolding starts_in
-reach-none row false test from n low begun after is none =
-    passes-no test (shown row n)
-    (λ m here.
-    let le = natural-le (shown row from) m (omega (arith, ints)) in
-    none m (omega arith) (omega (arith, ints)))
-reach-none row true test from n low begun after is none =
-    unless_no (is_repeated row n) _
-    (λ fresh.
-    let late = lt_not (shown row n) (due row) fresh in
-    choose (n == row.second) _ _ false
-    (λ here.
-    let same = eqb-true n row.second here in
-    let begin : from ≡ row.second = omega arith in
-    let low_is = counted_here row from begin in
-    some_between-no test (due row) (shown row n)
-    (λ m over under. let le = natural-le (due row) m over in none m (omega arith) under))
-    (λ away. passes-no test (shown row n)
-    (λ m here. let le = counted_le row from m (omega (arith, ints)) (omega (arith, ints)) in none m (omega arith) (omega (arith, ints)))))
+reach-none row false test from n low begun after is none = grind (arith, nat_tests, passes-no, natural-le, ints)
+reach-none row true test from n low begun after is none = grind (arith, nat_tests, unless_no, lt_not, choose, eqb-true, counted_here, some_between-no, natural-le, passes-no, counted_le, ints)
 
 -- a second is a start if what it shows matches
 shown_starts :
@@ -199,22 +179,8 @@ pub far-none :
     (row : Row) (heeds : Bool) (test : ℕ → Bool) (n : ℕ) → is_bounded row ≡ true →
     ((m : ℕ) → n ≤ m + most_offset → m ≤ n + most_offset → test m ≡ false) → starts_in row heeds test n ≡ false
 unfolding starts_in
-far-none row false test n bounded none =
-    let is = near row bounded in
-    let from = is.offset_from in
-    let to = is.offset_to in
-    passes-no test (shown row n) (λ m here. none m (omega (arith, ints)) (omega (arith, ints)))
-far-none row true test n bounded none =
-    let is = near row bounded in
-    let from = is.offset_from in
-    let to = is.offset_to in
-    let due_from = is.before_from in
-    unless_no (is_repeated row n) _
-    (λ fresh. choose (n == row.second) _ _ false
-    (λ here.
-    let same = eqb-true n row.second here in
-    some_between-no test (due row) (shown row n) (λ m low high. none m (omega (arith, ints)) (omega (arith, ints))))
-    (λ away. passes-no test (shown row n) (λ m here. none m (omega (arith, ints)) (omega (arith, ints)))))
+far-none row false test n bounded none = grind (arith, nat_tests, near, passes-no, ints)
+far-none row true test n bounded none = grind (arith, nat_tests, near, unless_no, choose, eqb-true, some_between-no, ints, passes-no)
 
 -- if the row's change is heeded, a start in it isn't repeated
 fresh_start : (row : Row) (heeds : Bool) (test : ℕ → Bool) (n : ℕ) → starts_in row heeds test n ≡ true → heeds ≡ true →
@@ -237,10 +203,4 @@ passes-is test z given = grind (arith, nat_tests)
 pub plain_from :
     (row : Row) (heeds : Bool) (test : ℕ → Bool) (start k : ℕ) → row.second < start → starts_in row heeds test start ≡ true →
     starts_in row heeds test (start + k) ≡ test (natural (shown row start) + k)
-plain_from row heeds test start k after starts =
-    let fresh = fresh_start row heeds test start starts in
-    let first = plain_in_row row heeds test start after fresh in
-    let shows = passes-is test (shown row start) (sym first ∙ starts) in
-    let later : shown row (start + k) ≡ pos (natural (shown row start) + k) = omega (arith, ints) in
-    let fresh_later : (heeds ≡ true → due row ≤ℤ shown row (start + k)) = λ heeded. (let le = fresh heeded in omega (arith, ints)) in
-    plain_in_row row heeds test (start + k) (omega arith) fresh_later ∙ ap (passes test) later
+plain_from row heeds test start k after starts = grind (arith, nat_tests, fresh_start, plain_in_row, passes-is, ints)

@@ -65,9 +65,7 @@ ComesBefore-day month first day known is h =
 
 -- the end of a month is the first day of the next
 pub IsFirstDay-end_of : (month : Month) → IsMonth month → IsFirstDay (month.number + 1) month.end
-IsFirstDay-end_of month is =
-    let low = is.to in
-    rw is.end_is (IsFirstDay-next month.number month.first (omega arith) is.first_day)
+IsFirstDay-end_of month is = grind (arith, nat_tests, IsFirstDay-next)
 
 pub ends_in_years : (month : Month) → IsMonth month → month.end ≤ end_day
 ends_in_years month is =

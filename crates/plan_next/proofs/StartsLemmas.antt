@@ -1,13 +1,12 @@
 -- The seconds that a pattern of a rule matches are the starts of the rule.
 -- For `first_of_cron`, `next_of_cron`, `first_of_event`, `next_of_event`, KeptLemmas and EventsLemmas. The pattern
 -- reads the day and the second of the day, the rule reads the civil fields: both see the same (`admits_moment-fields`).
-use Rattle.std.proofs.Common.{◌≡◌, ℕ, ◌*◌, ◌/◌, ◌%◌, ◌<◌, Bool, true, ◌&&◌, nat_lt, Bor, [], refl, sym, ◌∙◌, arith}
+use Rattle.std.proofs.Common.{◌≡◌, ℕ, ◌<◌, Bool, true, ◌&&◌, nat_lt, Bor, [], sym, ◌∙◌, arith}
 use Rattle.std.proofs.lemmas.Bool.Decides.{nat_tests}
 use Rattle.std.proofs.lemmas.Bool.{lt-ltb}
-use Rattle.plan_sets.specs.Civil.{civil_fields}
+use Rattle.plan_sets.specs.Civil.{civil_fields, SameDate}
 use Rattle.plan_sets.specs.declared.civil.Civil.{Civil}
-use Rattle.plan_sets.specs.Limits.{end_second, seconds_a_day}
-use Rattle.plan_sets.specs.Civil.{SameDate}
+use Rattle.plan_sets.specs.Limits.{end_second}
 use Rattle.plan_sets.specs.CivilLaws.{SameDate-day, IsTime-civil_fields}
 use Rattle.plan_match.specs.declared.cron.CronRule.{CronRule}
 use Rattle.plan_match.specs.declared.rule.Rule.TheVariants as rule
@@ -15,7 +14,7 @@ use Rattle.plan_next.specs.declared.search.Pattern.{Pattern}
 use Rattle.plan_next.specs.declared.search.Pattern.TheVariants.{Cron, Event}
 use Rattle.plan_next.specs.Starts.{is_start}
 use Rattle.plan_next.specs.UtcLaws.{cron_starts-utc, event_starts-utc}
-use Rattle.plan_next.specs.Search.{admits_date, admits_day, admits_hour, admits_minute, admits_moment, admits_second, clock_of, matches_shown, starts_by}
+use Rattle.plan_next.specs.Search.{admits_date, admits_hour, admits_minute, admits_moment, admits_second, clock_of, matches_shown, starts_by}
 
 -- the pattern matches the date and each field of the time of day
 abbrev pub admits_fields : Pattern → Civil → Bool
@@ -27,17 +26,7 @@ admits_date-same : (pattern : Pattern) (a b : Civil) → SameDate a b → admits
 admits_date-same pattern a b given = grind (arith, nat_tests)
 
 pub admits_moment-fields : (pattern : Pattern) (n : ℕ) → admits_moment pattern n ≡ admits_fields pattern (civil_fields n)
-admits_moment-fields pattern n =
-    let c = civil_fields n in
-    let time = n % seconds_a_day in
-    let is = IsTime-civil_fields n in
-    let midnight : n / seconds_a_day * seconds_a_day / seconds_a_day ≡ n / seconds_a_day = omega arith in
-    let date : admits_day pattern (n / seconds_a_day) ≡ admits_date pattern c = admits_date-same pattern _ _
-    (SameDate-day (n / seconds_a_day * seconds_a_day) n midnight) in
-    let minute : time % 3600 / 60 ≡ c.minute = omega arith in
-    let second : time % 3600 % 60 ≡ c.second = omega arith in
-    let hour : time / 3600 ≡ c.hour = omega arith in
-    rw (date, hour, minute, second) refl
+admits_moment-fields pattern n = grind (arith, nat_tests, IsTime-civil_fields, admits_date-same, SameDate-day)
 
 -- a cron rule checks them in reverse order
 turned : (date hour minute second : Bool) → (date && (hour && (minute && second))) ≡ (second && (minute && (hour && date)))

@@ -1,11 +1,8 @@
-use Rattle.plan_sets.specs.Limits.{end_second}
-use Rattle.plan_next.specs.Starts.{is_start}
 use Rattle.plan_next.specs.StartsLaws.{passing-first}
 use Rattle.plan_next.proofs.next.next_from.Goals as goal
-
-pub returns-clause-least : goal.returns-clause-least
-returns-clause-least c = c.first_start.ensures
+use Rattle.std.proofs.Common.{arith}
+use Rattle.std.proofs.lemmas.Bool.Decides.{nat_tests}
+use Rattle.std.proofs.lemmas.Grind.{common_steps}
 
 pub returns-clause-first : goal.returns-clause-first
-returns-clause-first c =
-    passing-first (is_start c.args.rule.now) c.args.since end_second c.first_start.result (returns-clause-least c)
+returns-clause-first c = grind (arith, nat_tests, common_steps, passing-first)

@@ -10,6 +10,7 @@ use Rattle.plan_next.proofs.EventsLemmas.{more_nexts, none_past}
 use Rattle.plan_next.proofs.KeptLemmas.{AreNexts-start, AreKept-more, AreLeft-more}
 use Rattle.plan_next.proofs.nexts.next_of_each.Goals as goal
 use Rattle.plan_next.proofs.nexts.next_of_each.Goals.{in-Some, in_default}
+use Rattle.std.proofs.lemmas.Bool.Decides.{nat_tests}
 
 pub loop-i-preserved : goal.loop-i-preserved
 loop-i-preserved c =
@@ -32,8 +33,7 @@ loop-i-preserved c =
     ]
 
 pub next_of_event-next-requires-clause-utc : goal.next_of_event-next-requires-clause-utc
-next_of_event-next-requires-clause-utc c = λ none.
-    none_at c.args.events.now c.loop-i.i c.in-Some.event.now (c.requires.utc none) (sym c.get.ensures ∙ ap option_copied c.in-Some.is)
+next_of_event-next-requires-clause-utc c = grind (arith, nat_tests, common_steps, none_at)
 
 pub loop-i-init : goal.loop-i-init
 loop-i-init c = record {
