@@ -1,5 +1,4 @@
 pub mod LinesLemmas
-pub mod NameLemmas
 pub mod OriginLemmas
 pub mod PartsLemmas
 mod PartsRows

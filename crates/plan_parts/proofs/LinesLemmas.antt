@@ -5,10 +5,10 @@ use Rattle.std.proofs.lemmas.List.{append-nil}
 use Rattle.std.proofs.lemmas.List.Elements.{All-nil, All-cons, All-head, All-tail}
 use Rattle.std.proofs.lemmas.List.Splits.{slice_split_at}
 use Rattle.std.proofs.lemmas.List.Sums.{sum_by-append}
-use Rattle.std.specs.List.{All, count_by, onto_first, slice_get, slice_split}
+use Rattle.std.specs.List.{All, count_by, slice_get, slice_split}
 use Rattle.std.specs.Option.{option_map_or}
 use Rattle.plan_texts.specs.Lines.{HasNoNewline, lines, with_newline, without_empty_end, written}
-use Rattle.plan_texts.proofs.LinesLemmas.{none_in_lines, written-lines}
+use Rattle.plan_texts.proofs.LinesLemmas.{IsPiece, none_in_lines, piece_of_split, written-lines}
 use Rattle.plan_parts.specs.Merging.{added, between, ends_line, merged}
 
 -- ---- a text and what follows it
@@ -19,21 +19,6 @@ none_of (b ∷ more) none =
     let here : (b == 10) ≡ false = grind (arith, nat_tests) in
     let there : HasNoNewline more = grind (arith, nat_tests) in
     All-cons (λ b. (b == 10) ≡ false) b more here (none_of more there)
-
--- there is at least one piece
-abbrev IsPiece : List (List ℕ) → Type 0
-IsPiece [] = ⊥
-IsPiece (piece ∷ more) = Unit {0}
-
-piece_onto : (x : ℕ) (pieces : List (List ℕ)) → IsPiece (onto_first x pieces)
-piece_onto x [] = tt
-piece_onto x (piece ∷ more) = tt
-
-piece_of_split : (p : ℕ → Bool) (text : List ℕ) → IsPiece (slice_split p text)
-piece_of_split p [] = tt
-piece_of_split p (x ∷ xs) =
-    elim (p x) as (λ b. IsPiece (cond b ([] ∷ slice_split p xs) (onto_first x (slice_split p xs))))
-    [ true ↦ tt | false ↦ piece_onto x (slice_split p xs) ]
 
 end_after : (line : List ℕ) (pieces : List (List ℕ)) → IsPiece pieces → without_empty_end (line ∷ pieces) ≡ line ∷ without_empty_end pieces
 end_after line [] none = absurd none

@@ -1,4 +1,5 @@
 pub mod TextLemmas
+pub mod CutLemmas
 pub mod NumberLemmas
 pub mod LinesLemmas
 pub mod WholeLinesLemmas

@@ -137,14 +137,14 @@ AreSome ((b ∷ bs) ∷ []) = Unit {0}
 AreSome (piece ∷ next ∷ more) = Unit {0}
 
 -- there is at least one piece
-abbrev IsPiece : List (List ℕ) → Type 0
+abbrev pub IsPiece : List (List ℕ) → Type 0
 IsPiece [] = ⊥
 IsPiece (piece ∷ more) = Unit {0}
 
 piece_onto : (x : ℕ) (pieces : List (List ℕ)) → IsPiece (onto_first x pieces)
 piece_onto x pieces = grind (arith, nat_tests)
 
-piece_of_split : (p : ℕ → Bool) (text : List ℕ) → IsPiece (slice_split p text)
+pub piece_of_split : (p : ℕ → Bool) (text : List ℕ) → IsPiece (slice_split p text)
 piece_of_split p [] = tt
 piece_of_split p (x ∷ xs) =
     elim (p x) as (λ b. IsPiece (cond b ([] ∷ slice_split p xs) (onto_first x (slice_split p xs))))

@@ -1,5 +1,6 @@
 -- What is kept of a tree stays so.
-use Rattle.std.proofs.Common.{◌≡◌, ℕ, Bool, true, false, ◌||◌, List, [], ◌∷◌, ◌++◌, Option, None, Some, MatchOption, IfSome, Bor, ◌+◌, take, drop, take-append-drop, lit<, arith, cond, is_some, string_bytes, length, ◌<◌, refl, ap, sym, ◌∙◌, subst, inl, inr, ◌⊎◌}
+use Rattle.std.proofs.Common.{◌≡◌, ℕ, Bool, true, false, List, [], ◌∷◌, ◌++◌, Option, None, Some, MatchOption, IfSome, Bor, ◌+◌, take, drop, take-append-drop, lit<, arith, cond, is_some, string_bytes, length, ◌<◌, refl, ap, sym, ◌∙◌, subst, inl, inr, ◌⊎◌}
+use Rattle.std.proofs.lemmas.Bool.{or_cases}
 use Rattle.std.proofs.lemmas.List.{drop_more}
 use Rattle.std.proofs.lemmas.List.Folds.{list_any-append}
 use Rattle.std.proofs.lemmas.Slice.Eq.{bytes_eq-Decides}
@@ -19,10 +20,6 @@ use Rattle.plan_tree.specs.Complete.{IsComplete, IsName, LacksSlash, is_searchab
 use Rattle.plan_tree.specs.Kept.{HasNames, IsKept, IsListing, Keeps, dir_at, has_node, node_at}
 use Rattle.plan_tree.specs.Links.{is_here, is_up}
 use Rattle.plan_tree.specs.Tree.{Held, listed, path_below}
-
-true_or_false : (b : Bool) → (b ≡ true) ⊎ (b ≡ false)
-true_or_false true = inl refl
-true_or_false false = inr refl
 
 -- a path that is split before and after its last slash
 pub split_last :
@@ -102,15 +99,8 @@ nothing_kept held kept nodes dirs = (
     no_dir : {dir : KeptDir} → None ≡ Some dir → ⊥
     no_dir is = cc
 
-pub keeps_none : (held : Held) (kept : Kept) → Keeps held kept kept
-keeps_none held kept = (λ is. is, λ path some. some)
-
 pub keeps_both : (held : Held) (first next last : Kept) → Keeps held first next → Keeps held next last → Keeps held first last
 keeps_both held first next last one other = (λ is. other.0 (one.0 is), λ path some. other.1 path (one.1 path some))
-
-either : (a b : Bool) → (a || b) ≡ true → (a ≡ true) ⊎ (b ≡ true)
-either true b is = inl refl
-either false b is = inr is
 
 -- one more name has something that is kept
 pub has_one_more :
@@ -119,10 +109,10 @@ pub has_one_more :
     HasNames new dir (names ++ name ∷ [])
 has_one_more old new dir names name has stays more = λ q is.
     let parts = sym (list_any-append (bytes_eq q) names (name ∷ [])) ∙ is in
-    elim (either (list_any (bytes_eq q) names) (list_any (bytes_eq q) (name ∷ [])) parts) as (λ _. has_node new (path_below dir q) ≡ true) [
+    elim (or_cases (list_any (bytes_eq q) names) (list_any (bytes_eq q) (name ∷ [])) parts) as (λ _. has_node new (path_below dir q) ≡ true) [
       | inl before ↦ stays (path_below dir q) (has q before)
       | inr here ↦
-          elim (either (bytes_eq q name) false here) as (λ _. has_node new (path_below dir q) ≡ true) [
+          elim (or_cases (bytes_eq q name) false here) as (λ _. has_node new (path_below dir q) ≡ true) [
             | inl same ↦ ap (λ n. has_node new (path_below dir n)) ((bytes_eq-Decides q name).0 same) ∙ more
             | inr other ↦ absurd (cc)
           ]

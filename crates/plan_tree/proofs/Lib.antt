@@ -2,4 +2,3 @@ pub mod KeptLemmas
 pub mod LeadsLemmas
 pub mod LinksLemmas
 pub mod OrderLemmas
-pub mod PlaceLemmas

@@ -1,7 +1,7 @@
 -- A name is cut before and after its first `@`, and before its last `.`.
 use Rattle.std.proofs.Common.{◌≡◌, ◌<◌, ◌==◌, not, length, ap, ◌∙◌, lit<, arith}
 use Rattle.std.specs.List.{prefix_len}
-use Rattle.plan_parts.proofs.NameLemmas.{boundary_after_first, boundary_before_first, boundary_before_last}
+use Rattle.plan_texts.proofs.CutLemmas.{boundary_after_first, boundary_before_first, boundary_before_last}
 use Rattle.plan_parts.proofs.name_parts.parts_of.Goals as goal
 
 pub range-requires-clause-end_boundary : goal.range-requires-clause-end_boundary

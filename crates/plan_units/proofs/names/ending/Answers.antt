@@ -1,6 +1,6 @@
 -- A name is cut before its last `.`.
 use Rattle.std.proofs.Common.{lit<}
-use Rattle.plan_parts.proofs.NameLemmas.{boundary_before_last}
+use Rattle.plan_texts.proofs.CutLemmas.{boundary_before_last}
 use Rattle.plan_units.proofs.names.ending.Goals as goal
 
 pub range_from-requires : goal.range_from-requires

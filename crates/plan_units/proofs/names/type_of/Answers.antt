@@ -1,5 +1,5 @@
 use Rattle.std.proofs.Common.{lit<}
-use Rattle.plan_parts.proofs.NameLemmas.{boundary_after_last}
+use Rattle.plan_texts.proofs.CutLemmas.{boundary_after_last}
 use Rattle.plan_units.proofs.names.type_of.Goals as goal
 
 pub range_from-requires : goal.range_from-requires
