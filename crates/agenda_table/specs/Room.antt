@@ -1,7 +1,7 @@
 -- How much of a line is put, and how its characters are shown (agenda).
-use Rattle.std.specs.Prelude.{ℕ, ◌-◌, ◌&&◌, nat_le, Bool, false, if◌then◌else◌, List, [], ◌∷◌, ◌++◌, is_none, unwrap_or}
+use Rattle.std.specs.Prelude.{ℕ, ◌-◌, ◌&&◌, nat_le, Bool, false, if◌then◌else◌, List, [], ◌∷◌, ◌++◌, is_none, is_some, unwrap_or}
 use Rattle.std.specs.Char.{encode_utf8}
-use Rattle.std.specs.List.{flat_map, fold}
+use Rattle.std.specs.List.{flat_map, fold, list_all}
 use Rattle.unicode_width.specs.Width.{char_width}
 use Rattle.agenda_table.specs.declared.room.Room.{Room}
 use Rattle.agenda_table.specs.declared.room.Room.TheVariants.{All, Left, Full}
@@ -13,6 +13,10 @@ columns_of c = unwrap_or (char_width false c) 1
 -- a character as it is shown: a terminal gets `?` for a control character
 abbrev pub shown_char : (terminal : Bool) → ℕ → ℕ
 shown_char terminal c = if terminal && is_none (char_width false c) then 63 else c
+
+-- a text has no control characters
+abbrev pub is_printable : List ℕ → Bool
+is_printable text = list_all (λ c. is_some (char_width false c)) text
 
 -- the bytes of a text as it is shown
 unfoldable pub shown_bytes : (terminal : Bool) → List ℕ → List ℕ

@@ -1,9 +1,10 @@
 //! The room that a line has: one that is too long for a terminal is cut.
 
-ghost use Rattle.std.specs.Prelude.{◌≡◌, chars};
+ghost use Rattle.std.specs.Prelude.{◌≡◌, IsTrue, chars};
 ghost use Rattle.std.specs.Char.{encode_utf8};
 ghost use Rattle.plan_streams.specs.Writer.{Takes};
-ghost use Rattle.agenda_table.specs.Room.{columns_of, kept, kept_char, room_after, room_behind, shown_bytes, shown_char};
+ghost use Rattle.agenda_table.specs.declared.room.Room.TheVariants.{All};
+ghost use Rattle.agenda_table.specs.Room.{columns_of, is_printable, kept, kept_char, room_after, room_behind, shown_bytes, shown_char};
 
 use plan_streams::{Stream, TextWriter};
 use unicode_width::UnicodeWidthChar;
@@ -42,6 +43,55 @@ fn shown_char(terminal: bool, c: char) -> char
 
 /// Puts a text as far as there is room for it, and returns the room after it.
 pub(crate) fn put_text<S: Stream>(
+    text: &str,
+    terminal: bool,
+    room: Room,
+    lines: &mut TextWriter<'_, S>,
+) -> Room
+    ensures text { Takes S.holds S.takes_all lines.old lines.new (shown_bytes terminal (kept room (chars text.now))) }
+    ensures room { result ≡ room_behind room (chars text.now) }
+{
+    match room {
+        Room::All => {
+            put_uncut(text, terminal, lines);
+            Room::All
+        }
+        other => put_chars(text, terminal, other, lines),
+    }
+}
+
+// Puts a whole text. One without control characters is put at once.
+fn put_uncut<S: Stream>(text: &str, terminal: bool, lines: &mut TextWriter<'_, S>)
+    ensures { Takes S.holds S.takes_all lines.old lines.new (shown_bytes terminal (kept All (chars text.now))) }
+{
+    if is_plain(text, terminal) {
+        lines.put(text.as_bytes());
+    } else {
+        put_chars(text, terminal, Room::All, lines);
+    }
+}
+
+// Returns whether a text is shown as it is.
+fn is_plain(text: &str, terminal: bool) -> bool
+    ensures { IsTrue result → IsTrue terminal → IsTrue (is_printable (chars text.now)) }
+{
+    !terminal || is_printable(text)
+}
+
+// Returns whether a text has no control characters.
+fn is_printable(text: &str) -> bool
+    ensures { IsTrue result → IsTrue (is_printable (chars text.now)) }
+{
+    for c in text.chars() {
+        if c.width().is_none() {
+            return false;
+        }
+    }
+    true
+}
+
+// Puts the characters of a text as far as there is room for them, and returns the room after them.
+fn put_chars<S: Stream>(
     text: &str,
     terminal: bool,
     room: Room,

@@ -1,7 +1,7 @@
 use Rattle.std.proofs.Common.{◌≡◌}
 use Rattle.plan_streams.specs.Writer.{Takes}
 use Rattle.agenda_table.specs.Room.{kept, room_behind, shown_bytes}
-use Rattle.agenda_table.proofs.room.put_text.Given as goal
+use Rattle.agenda_table.proofs.room.put_chars.Given as goal
 
 -- the writer took what there is room for of the characters so far
 abbrev pub invariant-loop-c : goal.invariant-loop-c
