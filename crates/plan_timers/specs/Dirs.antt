@@ -1,10 +1,9 @@
 -- Directories of units and of drop-ins that can't be read whole.
 use Rattle.std.specs.Prelude.{ℕ, Bool, true, false, not, ◌&&◌, nat_eq, if◌then◌else◌, List, [], ◌∷◌, ◌++◌, Option, None, Some, codes, option_and_then}
-use Rattle.std.specs.List.{cons_option, ends_with, list_any}
+use Rattle.std.specs.List.{cons_option, ends_with}
 use Rattle.plan_timers.specs.declared.reports.Skipped.{Skipped}
 use Rattle.plan_timers.specs.declared.reports.Why.{Why}
 use Rattle.plan_timers.specs.declared.reports.Why.TheVariants.{NotReadable, NotUtf8}
-use Rattle.plan_timers.specs.Relatives.{is_dir_of}
 use Rattle.plan_timers.specs.Source.{TimerParts}
 use Rattle.plan_tree.specs.declared.tree.Node.{Node}
 use Rattle.plan_tree.specs.declared.tree.Node.TheVariants.{Unreadable}
@@ -12,6 +11,8 @@ use Rattle.plan_tree.specs.Place.{child}
 use Rattle.plan_tree.specs.Tree.{Held}
 use Rattle.plan_units.specs.declared.paths.UnitDir.{UnitDir}
 use Rattle.plan_units.specs.Entries.{dir_in, names_at, read_dir}
+use Rattle.plan_units.specs.Reach.{is_in}
+use Rattle.plan_units.specs.UnitDirs.{names_of_dirs}
 use Rattle.plan_units.specs.UnitNames.{stem}
 
 -- ---- one directory
@@ -51,24 +52,29 @@ skipped_dirs held (dir ∷ more) = cons_option (skipped_dir held dir) (skipped_d
 abbrev pub names_drop_ins : List ℕ → Bool
 names_drop_ins name = ends_with nat_eq name (codes ".d")
 
-abbrev pub is_dir_of_source : List TimerParts → List ℕ → Bool
-is_dir_of_source sources name = list_any (λ source. is_dir_of source.unit name) sources
+-- the names whose directories of drop-ins some timers read
+abbrev pub names_of_sources : List TimerParts → List (List ℕ)
+names_of_sources [] = []
+names_of_sources (source ∷ more) = names_of_dirs source.unit ++ names_of_sources more
 
--- a name is that of a directory of drop-ins of some timers
-abbrev pub is_drop_in_dir : List TimerParts → List ℕ → Bool
-is_drop_in_dir sources name = names_drop_ins name && is_dir_of_source sources (stem name)
+-- a name is that of a directory of drop-ins of one of these names
+abbrev pub is_drop_in_dir : List (List ℕ) → List ℕ → Bool
+is_drop_in_dir read name = names_drop_ins name && is_in (stem name) read
 
-abbrev pub skipped_drop_in : Held → List TimerParts → UnitDir → List ℕ → Option Skipped
-skipped_drop_in held sources dir name =
-    if is_drop_in_dir sources name then option_and_then (skipped_dir held) (read_dir held.node (dir_in dir name)) else None
+abbrev pub skipped_drop_in : Held → List (List ℕ) → UnitDir → List ℕ → Option Skipped
+skipped_drop_in held read dir name =
+    if is_drop_in_dir read name then option_and_then (skipped_dir held) (read_dir held.node (dir_in dir name)) else None
 
-abbrev pub skipped_drop_ins : Held → List TimerParts → UnitDir → List (List ℕ) → List Skipped
-skipped_drop_ins held sources dir [] = []
-skipped_drop_ins held sources dir (name ∷ more) =
-    cons_option (skipped_drop_in held sources dir name) (skipped_drop_ins held sources dir more)
+abbrev pub skipped_drop_ins : Held → List (List ℕ) → UnitDir → List (List ℕ) → List Skipped
+skipped_drop_ins held read dir [] = []
+skipped_drop_ins held read dir (name ∷ more) =
+    cons_option (skipped_drop_in held read dir name) (skipped_drop_ins held read dir more)
+
+abbrev pub skipped_in_dirs : Held → List (List ℕ) → List UnitDir → List Skipped
+skipped_in_dirs held read [] = []
+skipped_in_dirs held read (dir ∷ more) =
+    skipped_drop_ins held read dir (names_at held dir.real) ++ skipped_in_dirs held read more
 
 -- those directories of drop-ins of some timers that can't be read whole, in the order of the directories of units
 abbrev pub skipped_drop_in_dirs : Held → List TimerParts → List UnitDir → List Skipped
-skipped_drop_in_dirs held sources [] = []
-skipped_drop_in_dirs held sources (dir ∷ more) =
-    skipped_drop_ins held sources dir (names_at held dir.real) ++ skipped_drop_in_dirs held sources more
+skipped_drop_in_dirs held sources dirs = skipped_in_dirs held (names_of_sources sources) dirs

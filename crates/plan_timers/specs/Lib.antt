@@ -3,7 +3,6 @@ pub mod Names
 pub mod Source
 pub mod Links
 pub mod Counted
-pub mod Relatives
 pub mod Dirs
 pub mod ReadDirs
 pub mod Wishes

@@ -7,7 +7,6 @@ use Rattle.plan_timers.specs.declared.reports.Why.{Why}
 use Rattle.plan_timers.specs.declared.reports.Why.TheVariants.{Masked, NoLink}
 use Rattle.plan_timers.specs.Counted.{counted_in}
 use Rattle.plan_timers.specs.Dirs.{skipped_by, skipped_dir}
-use Rattle.plan_timers.specs.Relatives.{is_dir_of_any}
 use Rattle.plan_tree.specs.declared.tree.Node.{Node}
 use Rattle.plan_tree.specs.declared.tree.Node.TheVariants.{Directory, File, Link, Missing, Null, Other, Unreadable}
 use Rattle.plan_tree.specs.Tree.{Held}
@@ -15,8 +14,10 @@ use Rattle.plan_units.specs.declared.merging.Entry.{Entry}
 use Rattle.plan_units.specs.declared.paths.UnitDir.{UnitDir}
 use Rattle.plan_units.specs.declared.unit.Unit.{Unit}
 use Rattle.plan_units.specs.Masks.{is_mask}
+use Rattle.plan_units.specs.Reach.{is_in}
 use Rattle.plan_units.specs.Timers.{is_timer}
 use Rattle.plan_units.specs.Unit.{unit_of}
+use Rattle.plan_units.specs.UnitDirs.{names_of_dirs}
 
 -- ---- which are read
 
@@ -28,10 +29,11 @@ is_reader_by node (Some unit) = not (is_mask node unit.file.real)
 abbrev pub is_reader : (List ℕ → Node) → List UnitDir → List ℕ → Bool
 is_reader node dirs name = is_reader_by node (unit_of node dirs name)
 
--- those of some names whose directories are read
-abbrev pub readers : Held → List UnitDir → List (List ℕ) → List (List ℕ)
-readers held dirs [] = []
-readers held dirs (name ∷ more) = if is_reader held.node dirs name then name ∷ readers held dirs more else readers held dirs more
+-- the names whose directories are read: those of the units among these that read theirs
+abbrev pub read_names : (List ℕ → Node) → List UnitDir → List (List ℕ) → List (List ℕ)
+read_names node dirs [] = []
+read_names node dirs (unit ∷ more) =
+    if is_reader node dirs unit then names_of_dirs unit ++ read_names node dirs more else read_names node dirs more
 
 -- ---- one entry
 
@@ -60,7 +62,7 @@ skipped_entries node (entry ∷ more) = cons_option (skipped_by entry.path (entr
 -- what is skipped of a directory, if it is one of these names
 abbrev pub skipped_of_link : Held → List UnitDir → List (List ℕ) → LinkDir → List Skipped
 skipped_of_link held dirs names link =
-    if is_dir_of_any names link.unit
+    if is_in link.unit names
     then cons_option (skipped_dir held link.dir) [] ++ skipped_entries held.node (counted_in held dirs link.dir)
     else []
 
@@ -70,4 +72,4 @@ skipped_of_links held dirs names (link ∷ more) = skipped_of_link held dirs nam
 
 -- what is skipped of the directories of links that are read, in their order (agenda)
 abbrev pub skipped_links : Held → List UnitDir → List (List ℕ) → List LinkDir → List Skipped
-skipped_links held dirs reached links = skipped_of_links held dirs (readers held dirs reached) links
+skipped_links held dirs reached links = skipped_of_links held dirs (read_names held.node dirs reached) links

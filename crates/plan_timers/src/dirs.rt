@@ -1,17 +1,15 @@
 //! Directories of units and of drop-ins that can't be read whole.
 
 ghost use Rattle.std.specs.Prelude.{◌≡◌, true, IfOk};
-ghost use Rattle.std.specs.List.{list_any};
 ghost use Rattle.std.specs.Option.{option_map};
-ghost use Rattle.plan_timers.specs.Dirs.{can_search, dir_fault, fault_of_listing, is_dir_of_source, is_drop_in_dir, is_unreadable, names_drop_ins, skipped_by, skipped_dir, skipped_dirs, skipped_drop_in, skipped_drop_in_dirs, skipped_drop_ins};
-ghost use Rattle.plan_timers.specs.Relatives.{is_dir_of};
+ghost use Rattle.plan_timers.specs.Dirs.{can_search, dir_fault, fault_of_listing, is_drop_in_dir, is_unreadable, names_drop_ins, names_of_sources, skipped_by, skipped_dir, skipped_dirs, skipped_drop_in, skipped_drop_in_dirs, skipped_drop_ins, skipped_in_dirs};
 ghost use Rattle.plan_tree.specs.Tree.{listed};
 
-use crate::relatives::is_dir_of;
 use crate::reports::{Skipped, Why, copy_of};
 use crate::source::TimerSource;
+use crate::wish::is_in;
 use plan_tree::{Listing, Name, Node, Place, Tree};
-use plan_units::{UnitDir, names_at, read_dir, stem};
+use plan_units::{UnitDir, names_at, names_of_dirs, read_dir, stem};
 use std::alloc::{AllocError, Global};
 
 /// Returns those of some directories that can't be listed or searched, or that have a name that isn't UTF-8.
@@ -118,47 +116,73 @@ pub fn skipped_drop_in_dirs<T: Tree>(
     ensures { T.is_known ≡ true → IfOk result (λ skipped.
         skipped.items ≡ skipped_drop_in_dirs (T.held tree.now) sources.now dirs.now) }
 {
+    let read = names_of_sources(alloc, sources)?;
+    skipped_in_dirs(alloc, tree, dirs, read.as_slice())
+}
+
+// Returns the names whose directories of drop-ins some timers read.
+fn names_of_sources(alloc: Global, sources: &[TimerSource]) -> Result<Vec<Name>, AllocError>
+    ensures { IfOk result (λ read. read.items ≡ names_of_sources sources.now) }
+{
+    let mut read = Vec::new(alloc);
+    for source in sources {
+        let mut more = names_of_dirs(alloc, source.unit.as_str())?;
+        read.append(&mut more)?;
+    }
+    Ok(read)
+}
+
+// Returns those directories of drop-ins of some names that can't be read whole.
+fn skipped_in_dirs<T: Tree>(
+    alloc: Global,
+    tree: &T,
+    dirs: &[UnitDir],
+    read: &[Name],
+) -> Result<Vec<Skipped>, AllocError>
+    ensures { T.is_known ≡ true → IfOk result (λ skipped.
+        skipped.items ≡ skipped_in_dirs (T.held tree.now) read.now dirs.now) }
+{
     let mut skipped = Vec::new(alloc);
     for dir in dirs {
         let names = names_at(alloc, tree, dir.real.as_str())?;
-        let mut more = skipped_drop_ins(alloc, tree, sources, dir, names)?;
+        let mut more = skipped_drop_ins(alloc, tree, read, dir, names)?;
         skipped.append(&mut more)?;
     }
     Ok(skipped)
 }
 
-// Returns those directories of drop-ins of some timers that have these names in a directory and can't be read whole.
+// Returns those directories of drop-ins of some names that have these names in a directory and can't be read whole.
 fn skipped_drop_ins<T: Tree>(
     alloc: Global,
     tree: &T,
-    sources: &[TimerSource],
+    read: &[Name],
     dir: &UnitDir,
     names: Vec<Name>,
 ) -> Result<Vec<Skipped>, AllocError>
     ensures { T.is_known ≡ true → IfOk result (λ skipped.
-        skipped.items ≡ skipped_drop_ins (T.held tree.now) sources.now dir.now names.items) }
+        skipped.items ≡ skipped_drop_ins (T.held tree.now) read.now dir.now names.items) }
 {
     let mut skipped = Vec::new(alloc);
     for name in names {
-        if let Some(one) = skipped_drop_in(alloc, tree, sources, dir, name.as_str())? {
+        if let Some(one) = skipped_drop_in(alloc, tree, read, dir, name.as_str())? {
             skipped.push(one)?;
         }
     }
     Ok(skipped)
 }
 
-// Returns the directory of drop-ins of some timers that has this name as skipped, if it can't be read whole.
+// Returns the directory of drop-ins of some names that has this name as skipped, if it can't be read whole.
 fn skipped_drop_in<T: Tree>(
     alloc: Global,
     tree: &T,
-    sources: &[TimerSource],
+    read: &[Name],
     dir: &UnitDir,
     name: &str,
 ) -> Result<Option<Skipped>, AllocError>
     ensures { T.is_known ≡ true → IfOk result (λ skipped.
-        skipped ≡ skipped_drop_in (T.held tree.now) sources.now dir.now name.now) }
+        skipped ≡ skipped_drop_in (T.held tree.now) read.now dir.now name.now) }
 {
-    if !names_drop_ins(name) || !is_dir_of_source(sources, stem(name)) {
+    if !is_drop_in_dir(read, name) {
         return Ok(None);
     }
     let named = dir.child(alloc, name)?;
@@ -168,18 +192,16 @@ fn skipped_drop_in<T: Tree>(
     }
 }
 
+// Returns whether a name is that of a directory of drop-ins of one of these names.
+fn is_drop_in_dir(read: &[Name], name: &str) -> bool
+    ensures { result ≡ is_drop_in_dir read.now name.now }
+{
+    names_drop_ins(name) && is_in(stem(name), read)
+}
+
 // Returns whether a name is `NAME.d`.
 fn names_drop_ins(name: &str) -> bool
     ensures { result ≡ names_drop_ins name.now }
 {
     name.as_bytes().ends_with(b".d")
-}
-
-// Returns whether a directory `NAME.d` is one of some timers.
-fn is_dir_of_source(sources: &[TimerSource], name: &str) -> bool
-    ensures { result ≡ is_dir_of_source sources.now name.now }
-{
-    sources
-        .iter()
-        .any(|source| is_dir_of(source.unit.as_str(), name))
 }

@@ -2,15 +2,15 @@
 
 ghost use Rattle.std.specs.Prelude.{◌≡◌, true, [], IfOk};
 ghost use Rattle.std.specs.List.{cons_option};
-ghost use Rattle.plan_timers.specs.ReadDirs.{entry_fault, fault_by, is_reader, readers, skipped_entries, skipped_links, skipped_of_link, skipped_of_links};
+ghost use Rattle.plan_timers.specs.ReadDirs.{entry_fault, fault_by, is_reader, read_names, skipped_entries, skipped_links, skipped_of_link, skipped_of_links};
 
 use crate::counted::counted_in;
 use crate::dirs::skipped_dir;
 use crate::links::LinkDir;
-use crate::relatives::is_dir_of_any;
 use crate::reports::{Skipped, Why, copy_of};
+use crate::wish::is_in;
 use plan_tree::{Name, Node, Tree};
-use plan_units::{Entry, UnitDir, is_mask, is_timer, unit_of};
+use plan_units::{Entry, UnitDir, is_mask, is_timer, names_of_dirs, unit_of};
 use std::alloc::{AllocError, Global};
 
 /// Returns what is skipped of the directories of links that are read: those of reached units that have a file and aren't
@@ -29,11 +29,11 @@ pub fn skipped_links<T: Tree>(
     ensures { T.is_known ≡ true → IfOk result (λ skipped.
         skipped.items ≡ skipped_links (T.held tree.now) dirs.now reached.now links.now) }
 {
-    let names = readers(alloc, tree, dirs, reached)?;
+    let names = read_names(alloc, tree, dirs, reached)?;
     skipped_of_links(alloc, tree, dirs, names.as_slice(), links)
 }
 
-// Returns what is skipped of those directories of links that are ones of these names.
+// Returns what is skipped of those directories of links that have these names.
 fn skipped_of_links<T: Tree>(
     alloc: Global,
     tree: &T,
@@ -52,20 +52,21 @@ fn skipped_of_links<T: Tree>(
     Ok(skipped)
 }
 
-// Returns those of some names whose directories of links are read.
-fn readers<T: Tree>(
+// Returns the names whose directories of links are read: those of the units among these that have a file and aren't masked.
+fn read_names<T: Tree>(
     alloc: Global,
     tree: &T,
     dirs: &[UnitDir],
     reached: &[Name],
 ) -> Result<Vec<Name>, AllocError>
     ensures { T.is_known ≡ true → IfOk result (λ names.
-        names.items ≡ readers (T.held tree.now) dirs.now reached.now) }
+        names.items ≡ read_names (T.held tree.now).node dirs.now reached.now) }
 {
     let mut names = Vec::new(alloc);
     for name in reached {
         if is_reader(alloc, tree, dirs, name.as_str())? {
-            names.push(Name::at(alloc, name.as_str())?)?;
+            let mut more = names_of_dirs(alloc, name.as_str())?;
+            names.append(&mut more)?;
         }
     }
     Ok(names)
@@ -86,7 +87,7 @@ fn is_reader<T: Tree>(
     }
 }
 
-// Returns what is skipped of a directory of links, if it is one of these names.
+// Returns what is skipped of a directory of links, if it has one of these names.
 fn skipped_of_link<T: Tree>(
     alloc: Global,
     tree: &T,
@@ -97,7 +98,7 @@ fn skipped_of_link<T: Tree>(
     ensures { T.is_known ≡ true → IfOk result (λ skipped.
         skipped.items ≡ skipped_of_link (T.held tree.now) dirs.now names.now link.now) }
 {
-    if !is_dir_of_any(names, link.unit.as_str()) {
+    if !is_in(link.unit.as_str(), names) {
         return Ok(Vec::new(alloc));
     }
     let mut skipped = list_of(alloc, skipped_dir(alloc, tree, &link.dir)?)?;

@@ -46,6 +46,10 @@ dir_names_by name (Some parts) =
 abbrev pub dir_names : List ℕ → List (List ℕ)
 dir_names name = dir_names_by name (parts_of name)
 
+-- the names NAME whose directories NAME.d, NAME.wants and NAME.requires are a unit's: these, and its type (systemd.unit(5))
+abbrev pub names_of_dirs : List ℕ → List (List ℕ)
+names_of_dirs name = dir_names name ++ type_of name ∷ []
+
 -- ---- the directories
 
 -- the directories of a unit with a suffix such as `.d` or `.wants`: NAME.d by these names, and then TYPE.d, in the directories

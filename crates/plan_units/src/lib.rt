@@ -27,5 +27,6 @@ pub use reach::{Wants, add_new, reached};
 pub use settings::{section_name, setting_of};
 pub use timers::{boot_timers, is_timer};
 pub use unit::{Unit, unit_of};
+pub use unit_dirs::names_of_dirs;
 pub use validity::{is_unit_name, is_valid_name};
 pub use wants::{TreeUnits, is_counted, reached_units, set_by_unit, wanted_names};

@@ -1,7 +1,7 @@
 //! The directories of a unit: those of its drop-ins, and those of links to units (systemd.unit(5)).
 
 ghost use Rattle.std.specs.Prelude.{◌≡◌, ◌∷◌, ◌++◌, IfOk, OnOk, map};
-ghost use Rattle.plan_units.specs.UnitDirs.{cuts_of, dir_names, names_at, names_of_instance, unit_dirs, with_end};
+ghost use Rattle.plan_units.specs.UnitDirs.{cuts_of, dir_names, names_at, names_of_dirs, names_of_instance, unit_dirs, with_end};
 
 use crate::merging::places_of;
 use crate::names::{instance_name, template_name, type_of};
@@ -28,7 +28,21 @@ pub(crate) fn unit_dirs(
     Ok(places)
 }
 
-// Returns the names whose directories are a unit's, first to last.
+/// Returns the names NAME whose directories `NAME.d`, `NAME.wants` and `NAME.requires` are a unit's: its own name and that of
+/// its template, shorter ones, and its type.
+///
+/// # Errors
+///
+/// `AllocError` if an allocation fails.
+pub fn names_of_dirs(alloc: Global, name: &str) -> Result<Vec<Name>, AllocError>
+    ensures { IfOk result (λ names. names.items ≡ names_of_dirs name.now) }
+{
+    let mut names = dir_names(alloc, name)?;
+    names.push(Name::at(alloc, type_of(name))?)?;
+    Ok(names)
+}
+
+// Returns the names whose directories are a unit's, but for its type, first to last.
 fn dir_names(alloc: Global, name: &str) -> Result<Vec<Name>, AllocError>
     ensures { IfOk result (λ names. names.items ≡ dir_names name.now) }
 {
