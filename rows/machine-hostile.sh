@@ -151,7 +151,7 @@ S/a\nagenda:\x20x||S/a\nagenda:\x20x bad name
 C/a\\nb C/a\\\\||C/a\\\\ bad name,C/a\\nb bad name
 C/a"b C/a'b C/$a C/`a` C/\xc2\x80||C/$a bad name,C/`a` bad name,C/a"b bad name,C/a'b bad name,C/\xc2\x80 bad name
 C/a\xc2\x9fb C/a\xc2\xa0 C/a\xe2\x82\xac||C/a\xc2\x9fb bad name,C/a\xc2\xa0 bad name,C/a\xe2\x82\xac bad name
-*a\nb.timer U/a\nb.timer||
+*a\nb.timer U/a\nb.timer||D/a\nb.timer bad name
 *a\\x2db.timer U/a\\x2db.timer|U/a\\x2db.timer|
 *a.timer U/a.timer U/timer.d/a\nb\x01\x7f.conf U/timer.d/a"b\\.conf U/a.timer.d/x\ty.conf|U/a.timer +U/timer.d/a\nb\x01\x7f.conf +U/timer.d/a"b\\.conf +U/a.timer.d/x\ty.conf|
 *a.timer U/a.timer U/timer.d/\x08\x0c\x0d\x1f\xc3\xa0.conf|U/a.timer +U/timer.d/\x08\x0c\x0d\x1f\xc3\xa0.conf|

@@ -225,6 +225,8 @@ D/a.timer D/b.service D/c.timer= D/d.conf U/a.timer||D/a.timer no link,D/c.timer
 D/a.timer U/x.target.wants/a.timer= ||D/a.timer no link
 U/x.target.wants/a.timer= N/x.target.wants/a.timer||U/x.target.wants/a.timer masked
 D/a\x20b.timer D/c@.timer||D/a\x20b.timer no link,D/c@.timer no link
+D/a\x20b.timer>y D/@c.timer>y D/.d.timer>y D/e@f.timer>y||D/@c.timer bad name,D/a\x20b.timer bad name,D/e@f.timer no such timer
+D/a\x20b.timer>/dev/null D/c\x20d.service>y D/a\x20b.conf>y D/e@.timer>y||D/a\x20b.timer masked,D/e@.timer no such timer
 E/x.target.requires/b.timer>/dev/null E/target.wants/a.timer U/x.target.wants/a.timer/||E/target.wants/a.timer no link,E/x.target.requires/b.timer masked,U/x.target.wants/a.timer no link
 E/default.target.wants/a.timer||E/default.target.wants/a.timer no link
 E/y.target.wants/a.timer E/y.target.wants/b.timer= E/service.wants/c.timer||
@@ -262,21 +264,22 @@ E/x.target.d/w.conf=[Unit]\nWants=a.timer\n E/x.target=[Unit]\n||E/x.target no s
 E/x.target=[Unit]\nWants=a\\b.timer\x20@a.timer\n U/@a.timer||E/x.target no such timer
 ROWS
 
-# Names that are skipped, and the order of the reasons. A name that is invalid for a unit is ignored.
+# Names that are skipped, and the order of the reasons. A name that is invalid for a unit is reported only where a link that is
+# read has it.
 program_sources <<'ROWS'
-*a\x20b.timer U/a\x20b.timer||
-*\xc3\xa0.timer *a~.timer *a,.timer *a%.timer *a+b.timer||
+*a\x20b.timer U/a\x20b.timer||D/a\x20b.timer bad name
+*\xc3\xa0.timer *a~.timer *a,.timer *a%.timer *a+b.timer||D/a%.timer bad name,D/a+b.timer bad name,D/a\x2c.timer bad name,D/a~.timer bad name,D/\xc3\xa0.timer bad name
 *a:b.timer *a_b.timer *a.b.timer *A-0.timer U/a:b.timer U/a_b.timer U/a.b.timer U/A-0.timer|U/A-0.timer U/a.b.timer U/a:b.timer U/a_b.timer|
 *a\\b.timer U/a\\b.timer|U/a\\b.timer|
-*a@b\x20c.timer||
-*@b.timer *@b@c.timer U/@.timer U/@b.timer||
-*@.timer U/@.timer||
+*a@b\x20c.timer||D/a@b\x20c.timer bad name
+*@b.timer *@b@c.timer U/@.timer U/@b.timer||D/@b.timer bad name,D/@b@c.timer bad name
+*@.timer U/@.timer||D/@.timer bad name
 *a@b\\c.timer U/a@.timer||D/a@b\\c.timer escape
 *a@b\\x2dc.timer||D/a@b\\x2dc.timer escape
 *a@b\\c.timer E/a@b\\c.timer>/dev/null||D/a@b\\c.timer escape
 *a\\b@c.timer U/a\\b@.timer||D/a\\b@c.timer escape
 *a@b.timer U/a.timer U/a@c.timer||D/a@b.timer no such timer
-E/x.target.wants/a\x20b.timer>y U/target.wants/a\x20b.timer>y||
+E/x.target.wants/a\x20b.timer>y U/target.wants/a\x20b.timer>y||E/x.target.wants/a\x20b.timer bad name,U/target.wants/a\x20b.timer bad name
 ROWS
 
 # The longest name that a file can have. Its service's name would be longer, so it names another one.
@@ -337,7 +340,7 @@ U/a@b.timer U/a@.timer|U/a@b.timer=a-b.timer|
 *a@b.timer U/a@.timer U/c.timer|U/c.timer U/a@.timer=a-b.timer|
 U/a\x20b.timer||
 E/a\x20b.timer U/a\x20b.timer||
-*a\x20b.timer E/a\x20b.timer||
+*a\x20b.timer E/a\x20b.timer||D/a\x20b.timer bad name
 E/@b.timer||
 E/a@b\\c.timer||E/a@b\\c.timer escape
 E/a.timer>b.timer U/b.timer|U/b.timer|
@@ -381,7 +384,15 @@ program_sources <<'ROWS'
 *a.timer U/a.timer=[Timer]\n\x20Unit\x20=\x20b.service\x20\n U/b.service|U/a.timer|
 *a.timer U/a.timer=Unit=b.service\n[Unit]\nUnit=b.service\n[timer]\nUnit=b.service\n U/a.service|U/a.timer|
 *a.timer U/a.timer=[Timer]\nunit=b.service\n U/a.service|U/a.timer|
-*a.timer U/a.timer=[Timer]\nUnit=%n\n U/a.service||missing U/a.timer %n
+*a.timer U/a.timer=[Timer]\nUnit=%n\n U/a.service|U/a.timer|
+*a.timer U/a.timer=[Timer]\nUnit=b\x20c\n U/a.service|U/a.timer|
+*a.timer U/a.timer=[Timer]\nUnit=b.service\x20c.service\n U/b.service||missing U/a.timer a.service
+*a.timer U/a.timer=[Timer]\nUnit=b\nUnit=b.x\nUnit=@.service\nUnit=b.service\nUnit=c.service\n U/b.service|U/a.timer|
+*a.timer U/a.timer=[Timer]\nUnit=a.timer\n U/a.service|U/a.timer|
+*a.timer U/a.timer=[Timer]\nUnit=a.timer\nUnit=b.timer\n U/b.timer|U/a.timer|
+*a.timer U/a.timer=[Timer]\nUnit=b@.service\n U/b@.service|U/a.timer|
+*a.timer U/a.timer=[Timer]\nUnit=b@.service\n U/a.service||missing U/a.timer b@a.service
+*a.timer U/a.timer=[Timer]\nUnit=\xff.service\n U/a.service|U/a.timer|
 *a.timer U/a.timer=[Timer]\n U/a.timer.d/x.conf=[Timer]\nUnit=b.service\n U/b.service|U/a.timer +U/a.timer.d/x.conf|
 *a.timer U/a.timer=[Timer]\nUnit=b.service\n U/a.timer.d/x.conf=[Timer]\nUnit=c.service\n U/b.service|U/a.timer +U/a.timer.d/x.conf|
 *a.timer U/a.timer=[Timer]\nUnit=b.service\n U/a.timer.d/x.conf=[Timer]\nUnit=c.service\n U/c.service||missing U/a.timer b.service
@@ -396,6 +407,9 @@ program_sources <<'ROWS'
 *a@i.timer *a@j.timer U/a@.timer U/a@j.service|U/a@.timer=a-j.timer|missing U/a@.timer a@i.service
 *a@i.timer U/a@.timer=[Timer]\nUnit=b@%i.service\n U/b@.service|U/a@.timer=a-i.timer|
 *a@i.timer U/a@.timer=[Timer]\nUnit=b-%i.service\n||missing U/a@.timer b-i.service
+*a@i.timer U/a@.timer=[Timer]\nUnit=%n\nUnit=a@.timer\n U/a@.service|U/a@.timer=a-i.timer|
+*a@i.timer U/a@.timer=[Timer]\nUnit=b@.service\n||missing U/a@.timer b@i.service
+*a@i.timer U/a@.timer=[Timer]\nUnit=%i\nUnit=b.service\n U/b.service|U/a@.timer=a-i.timer|
 *c.timer *b.timer *a.timer U/a.timer U/b.timer U/c.timer E/b.service= U/c.service|U/c.timer|missing U/a.timer a.service,mask U/b.timer b.service
 *a.timer U/a.timer= ||U/a.timer masked
 *a.timer||D/a.timer no such timer

@@ -1,32 +1,46 @@
--- The name of a timer's job is ASCII, so it is a text.
-use Rattle.std.proofs.Common.{◌≡◌, ℕ, zero, suc, ◌<◌, Bool, true, false, List, [], ◌∷◌, refl, arith}
-use Rattle.std.proofs.lemmas.Bool.{and_parts}
+-- The bytes of a text with `-` for each `@`, character by character.
+use Rattle.std.proofs.Common.{◌≡◌, ℕ, zero, suc, ◌<◌, ◌≤◌, inl, inr, List, [], ◌∷◌, ◌++◌, length, get_or, map, refl, ap, sym, ◌∙◌, append-nil, arith}
+use Rattle.std.proofs.lemmas.Bool.{cases_lt}
 use Rattle.std.proofs.lemmas.Bool.Decides.{nat_tests}
-use Rattle.std.proofs.lemmas.Str.{IsUtf8-from_ascii}
-use Rattle.std.specs.List.{ends_with, list_all}
-use Rattle.std.specs.Prelude.{codes, length, nat_eq, nat_le}
-use Rattle.std.specs.Str.{IsAscii, IsUtf8}
-use Rattle.plan_timers.specs.Names.{is_job_byte, is_job_name}
+use Rattle.std.proofs.lemmas.List.{map-append}
+use Rattle.std.proofs.lemmas.Str.{encode_ascii, inside_one}
+use Rattle.std.specs.Char.{encode_utf8}
+use Rattle.plan_timers.specs.Names.{dashed, job_of}
 
-below : (b : ℕ) → is_job_byte b ≡ true → b < 128
-below b is = grind (arith, nat_tests)
+kept : (b : ℕ) → 128 ≤ b → dashed b ≡ b
+kept b high = grind (arith, nat_tests)
 
-each_below : (name : List ℕ) → list_all is_job_byte name ≡ true → IsAscii name
-each_below [] all k = omega arith
-each_below (b ∷ more) all zero = below b (and_parts (is_job_byte b) (list_all is_job_byte more) all).0
-each_below (b ∷ more) all (suc k) = each_below more (and_parts (is_job_byte b) (list_all is_job_byte more) all).1 k
+low : (c : ℕ) → c < 128 → dashed c < 128
+low c less = grind (arith, nat_tests)
 
-all_bytes : (name : List ℕ) → is_job_name name ≡ true → list_all is_job_byte name ≡ true
-unfolding is_job_name
-all_bytes name is =
-    let not_short = (and_parts (nat_le 7 (length name)) _ is).1 in
-    let not_long = (and_parts (nat_le (length name) 255) _ not_short).1 in
-    (and_parts (ends_with nat_eq name (codes ".timer")) _ not_long).1
+each_kept : (bytes : List ℕ) → ((k : ℕ) → k < length bytes → 128 ≤ get_or bytes k 0) → map dashed bytes ≡ bytes
+each_kept [] high = refl
+each_kept (b ∷ more) high =
+    let first : 128 ≤ b = high zero (omega arith) in
+    let others : map dashed more ≡ more = each_kept more (λ k inside. high (suc k) (omega (arith, inside))) in
+    ap (λ x. x ∷ map dashed more) (kept b first) ∙ ap (λ xs. b ∷ xs) others
 
--- what is no text is no name of a job
-pub job_name_is_text : (name : List ℕ) → (IsUtf8 name → ⊥) → is_job_name name ≡ false
-job_name_is_text name other = by_test (is_job_name name) refl
-  where
-    by_test : (b : Bool) → is_job_name name ≡ b → b ≡ false
-    by_test false is = refl
-    by_test true is = absurd (other (IsUtf8-from_ascii name (each_below name (all_bytes name is))))
+-- the bytes of a character that isn't ASCII aren't either
+all_high : (c : ℕ) → 128 ≤ c → (k : ℕ) → k < length (encode_utf8 c) → 128 ≤ get_or (encode_utf8 c) k 0
+all_high c high k inside =
+    elim (cases_lt (get_or (encode_utf8 c) k 0) 128) as (λ _. 128 ≤ get_or (encode_utf8 c) k 0) [
+      | inl less ↦
+          let same : c ≡ get_or (encode_utf8 c) k 0 = inside_one c [] (encode_utf8 c) k (sym (append-nil (encode_utf8 c))) inside less in
+          absurd (omega (arith, same, less, high))
+      | inr more ↦ more
+    ]
+
+of_one : (c : ℕ) → map dashed (encode_utf8 c) ≡ encode_utf8 (dashed c)
+of_one c =
+    elim (cases_lt c 128) as (λ _. map dashed (encode_utf8 c) ≡ encode_utf8 (dashed c)) [
+      | inl less ↦ ap (map dashed) (encode_ascii c less) ∙ sym (encode_ascii (dashed c) (low c less))
+      | inr high ↦ each_kept (encode_utf8 c) (all_high c high) ∙ ap encode_utf8 (sym (kept c high))
+    ]
+
+-- a text that begins with a character
+pub job_of_next : (c : ℕ) (rest : List ℕ) → job_of (encode_utf8 c ++ rest) ≡ encode_utf8 (dashed c) ++ job_of rest
+job_of_next c rest = map-append dashed (encode_utf8 c) rest ∙ ap (λ bytes. bytes ++ job_of rest) (of_one c)
+
+pub job_of_empty : (text : List ℕ) → length text ≡ 0 → job_of text ≡ []
+job_of_empty [] none = refl
+job_of_empty (b ∷ more) none = absurd (omega (arith, none))

@@ -4,7 +4,7 @@ use Rattle.std.specs.List.{cons_option}
 use Rattle.plan_timers.specs.declared.links.LinkDir.{LinkDir}
 use Rattle.plan_timers.specs.declared.reports.Skipped.{Skipped}
 use Rattle.plan_timers.specs.declared.reports.Why.{Why}
-use Rattle.plan_timers.specs.declared.reports.Why.TheVariants.{Masked, NoLink}
+use Rattle.plan_timers.specs.declared.reports.Why.TheVariants.{BadName, Masked, NoLink}
 use Rattle.plan_timers.specs.Counted.{counted_in}
 use Rattle.plan_timers.specs.Dirs.{skipped_by, skipped_dir}
 use Rattle.plan_tree.specs.declared.tree.Node.{Node}
@@ -18,6 +18,7 @@ use Rattle.plan_units.specs.Reach.{is_in}
 use Rattle.plan_units.specs.Timers.{is_timer}
 use Rattle.plan_units.specs.Unit.{unit_of}
 use Rattle.plan_units.specs.UnitDirs.{names_of_dirs}
+use Rattle.plan_units.specs.Validity.{is_valid_name}
 
 -- ---- which are read
 
@@ -37,21 +38,22 @@ read_names node dirs (unit ∷ more) =
 
 -- ---- one entry
 
--- what is no mask enables a timer if it is a link (systemd.unit(5), on `.wants/`); of what can't be looked at nothing is said
-abbrev pub fault_by : Node → Option Why
-fault_by (File is_empty) = Some NoLink
-fault_by Directory = Some NoLink
-fault_by Null = Some NoLink
-fault_by Other = Some NoLink
-fault_by (Link text) = None
-fault_by Missing = None
-fault_by Unreadable = None
+-- what is no mask enables a timer if it is a link (systemd.unit(5), on `.wants/`) with the name of a unit or of a template
+-- (systemd 252); of what can't be looked at nothing is said
+abbrev pub fault_by : List ℕ → Node → Option Why
+fault_by name (File is_empty) = Some NoLink
+fault_by name Directory = Some NoLink
+fault_by name Null = Some NoLink
+fault_by name Other = Some NoLink
+fault_by name (Link text) = if is_valid_name name then None else Some BadName
+fault_by name Missing = None
+fault_by name Unreadable = None
 
 -- why an entry with the name of a timer enables none
 abbrev pub entry_fault : (List ℕ → Node) → Entry → Option Why
 entry_fault node entry =
     if not (is_timer entry.name) then None else
-    if is_mask node entry.real then Some Masked else fault_by (node entry.real)
+    if is_mask node entry.real then Some Masked else fault_by entry.name (node entry.real)
 
 abbrev pub skipped_entries : (List ℕ → Node) → List Entry → List Skipped
 skipped_entries node [] = []

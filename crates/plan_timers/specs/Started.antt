@@ -1,13 +1,12 @@
 -- The unit that a timer starts (systemd.timer(5), `Unit=`), and what is wrong with it.
-use Rattle.std.specs.Prelude.{ℕ, Bool, false, ◌||◌, not, ◌==◌, if◌then◌else◌, List, [], ◌∷◌, ◌++◌, length, Option, None, Some, codes}
-use Rattle.std.specs.Str.{bytes_eq, is_utf8}
+use Rattle.std.specs.Prelude.{ℕ, Bool, false, if◌then◌else◌, List, [], ◌∷◌, ◌++◌, Option, None, Some, codes}
+use Rattle.std.specs.Str.{bytes_eq}
 use Rattle.plan_texts.specs.WholeLines.{trimmed}
 use Rattle.plan_timers.specs.Links.{or_path}
 use Rattle.plan_timers.specs.Source.{TimerParts, files_of_timer}
 use Rattle.plan_timers.specs.Texts.{lines_of_text}
-use Rattle.plan_units.specs.Settings.{section_name, setting_of}
+use Rattle.plan_units.specs.Settings.{name_of_word, section_name, setting_of}
 use Rattle.plan_parts.specs.Files.{FileBytes}
-use Rattle.plan_parts.specs.Specifiers.{expanded}
 use Rattle.plan_units.specs.UnitNames.{stem}
 
 -- ---- one line
@@ -17,13 +16,15 @@ abbrev pub inside_after : Bool → Option (List ℕ) → Bool
 inside_after inside None = inside
 inside_after inside (Some section) = bytes_eq section (codes "Timer")
 
--- the unit that a setting names, with its specifiers replaced; an empty one names none (systemd.timer(5)), nor does one that isn't
--- UTF-8 (agenda)
+-- a timer can't start itself (systemd 252)
+abbrev pub other_than : List ℕ → Option (List ℕ) → Option (List ℕ)
+other_than unit None = None
+other_than unit (Some named) = if bytes_eq named unit then None else Some named
+
+-- the unit that a setting names, as in a setting that wants it: an invalid name is ignored, such as an empty one (systemd 252)
 abbrev pub named_in_setting : List ℕ → List ℕ × List ℕ → Option (List ℕ)
 named_in_setting unit setting =
-    if not (bytes_eq setting.0 (codes "Unit")) || (length setting.1 == 0) then None else
-    if is_utf8 (expanded unit setting.1) then Some (expanded unit setting.1) else
-    None
+    if bytes_eq setting.0 (codes "Unit") then other_than unit (name_of_word unit setting.1) else None
 
 abbrev pub named_by : List ℕ → Option (List ℕ × List ℕ) → Option (List ℕ)
 named_by unit None = None

@@ -5,7 +5,7 @@ use Rattle.std.specs.Str.{bytes_eq}
 use Rattle.plan_parts.specs.Files.{FileBytes}
 use Rattle.plan_timers.specs.declared.reports.Skipped.{Skipped}
 use Rattle.plan_timers.specs.declared.reports.Why.{Why}
-use Rattle.plan_timers.specs.declared.reports.Why.TheVariants.{BadName, NameTaken, NoSuchTimer}
+use Rattle.plan_timers.specs.declared.reports.Why.TheVariants.{NameTaken, NoSuchTimer}
 use Rattle.plan_timers.specs.declared.timer.Refusal.{Refusal}
 use Rattle.plan_timers.specs.declared.timer.Refusal.TheVariants as refusal
 use Rattle.plan_timers.specs.declared.timers.TimersFound.{TimersFound}
@@ -87,21 +87,17 @@ timer_file held most name unit = file_by_fault held most (name_fault name) unit
 abbrev pub is_taken : List TimerParts → List ℕ → Bool
 is_taken sources job = list_any (λ source. bytes_eq source.name job) sources
 
--- a timer whose job has a valid name; of two timers whose jobs have one name the first is a source (agenda)
+-- a timer by the name of its job; of two timers whose jobs have one name the first is a source (agenda)
 abbrev pub with_job : Held → KnownUnits → FoundTimers → List ℕ → List ℕ → Result FileBytes Refusal → FoundTimers
 with_job held units found name job (Err (refusal.Wish why)) = with_wish held units found name why
 with_job held units found name job (Err (refusal.File skipped)) = with_skipped found skipped
 with_job held units found name job (Ok file) =
     if is_taken found.sources job then with_wish held units found name NameTaken else with_file held units found name job file
 
-abbrev pub with_name : Held → KnownUnits → FoundTimers → List ℕ → Option Unit → Option (List ℕ) → FoundTimers
-with_name held units found name unit None = with_wish held units found name BadName
-with_name held units found name unit (Some job) = with_job held units found name job (timer_file held units.most name unit)
-
 -- a timer, unless its name is an alias
 abbrev pub with_unit : Held → KnownUnits → FoundTimers → List ℕ → Option Unit → FoundTimers
 with_unit held units found name unit =
-    if is_alias name unit then found else with_name held units found name unit (job_of name)
+    if is_alias name unit then found else with_job held units found name (job_of name) (timer_file held units.most name unit)
 
 -- what is found, and one more timer
 abbrev pub with_timer : Held → KnownUnits → FoundTimers → List ℕ → FoundTimers

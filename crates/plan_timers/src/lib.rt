@@ -1,7 +1,7 @@
 //! The timers of a machine: which of them are sources, and why the others aren't (systemd.timer(5)).
 //!
 //! Read `timers` first, which goes over the timers one after the other, then `timer` for one of them. `order` says in which
-//! order they come, `names` which names a timer may have, `links` and `wish` what enables it, and `files` which of its files
+//! order they come, `names` which name its job has, `links` and `wish` what enables it, and `files` which of its files
 //! can be read, with their bytes. `dirs` and `read_dirs` say what is skipped of directories, and `counted` which of
 //! their entries count. `unwanted` finds the timers that only units want that the boot doesn't start, `started` and `planned` the
 //! unit that a timer starts, and `accuracy` the accuracy of timers that set none. `reports` has the reasons why something is

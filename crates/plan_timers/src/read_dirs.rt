@@ -10,7 +10,7 @@ use crate::links::LinkDir;
 use crate::reports::{Skipped, Why, copy_of};
 use crate::wish::is_in;
 use plan_tree::{Name, Node, Tree};
-use plan_units::{Entry, UnitDir, is_mask, is_timer, names_of_dirs, unit_of};
+use plan_units::{Entry, UnitDir, is_mask, is_timer, is_valid_name, names_of_dirs, unit_of};
 use std::alloc::{AllocError, Global};
 
 /// Returns what is skipped of the directories of links that are read: those of reached units that have a file and aren't
@@ -149,15 +149,17 @@ fn entry_fault<T: Tree>(alloc: Global, tree: &T, entry: &Entry) -> Result<Option
     if is_mask(alloc, tree, entry.real.as_str())? {
         return Ok(Some(Why::Masked));
     }
-    Ok(fault_by(&tree.node(alloc, entry.real.as_str())?))
+    let node = tree.node(alloc, entry.real.as_str())?;
+    Ok(fault_by(entry.name.as_str(), &node))
 }
 
-// Returns why what isn't a mask enables no timer.
-fn fault_by(node: &Node) -> Option<Why>
-    ensures { result ≡ fault_by node.now }
+// Returns why what isn't a mask enables no timer, by its name.
+fn fault_by(name: &str, node: &Node) -> Option<Why>
+    ensures { result ≡ fault_by name.now node.now }
 {
     match node {
-        Node::File { .. } | Node::Directory | Node::Null | Node::Other => Some(Why::NoLink),
+        Node::Link(_) if !is_valid_name(name) => Some(Why::BadName),
         Node::Link(_) | Node::Missing | Node::Unreadable => None,
+        Node::File { .. } | Node::Directory | Node::Null | Node::Other => Some(Why::NoLink),
     }
 }

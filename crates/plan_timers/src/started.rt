@@ -2,19 +2,19 @@
 
 ghost use Rattle.std.specs.Prelude.{◌≡◌, false, IfOk, map};
 ghost use Rattle.plan_texts.specs.WholeLines.{whole_text};
-ghost use Rattle.plan_timers.specs.Started.{inside_after, named_in_file, named_in_files, named_in_lines, named_in_setting, service_of, started_unit, unit_in_line};
+ghost use Rattle.plan_timers.specs.Started.{inside_after, named_in_file, named_in_files, named_in_lines, named_in_setting, other_than, service_of, started_unit, unit_in_line};
 ghost use Rattle.plan_units.specs.Settings.{section_name};
 
 use crate::source::TimerSource;
 use crate::texts::lines_of_text;
-use plan_parts::{Part, expanded};
+use plan_parts::Part;
 use plan_texts::whole_lines::{WholeLine, trimmed};
 use plan_tree::Name;
-use plan_units::{section_name, setting_of, stem};
+use plan_units::{name_of_word, section_name, setting_of, stem};
 use std::alloc::{AllocError, Global};
 
-/// Returns the name of the unit that a timer starts: that of the first `Unit=` in its files, or else its own name with
-/// `.service`.
+/// Returns the name of the unit that a timer starts: that of the first `Unit=` in its files that names a unit other than the
+/// timer, or else its own name with `.service`.
 ///
 /// # Errors
 ///
@@ -109,7 +109,6 @@ fn unit_in_line(
 }
 
 // Returns the unit that a setting in a section `[Timer]` names.
-#[tactic(auto, using(crate::proofs::TextLemmas::text_of_utf8, crate::proofs::TextLemmas::no_text_of_other))]
 fn named_in_setting(
     alloc: Global,
     unit: &str,
@@ -118,12 +117,19 @@ fn named_in_setting(
 ) -> Result<Option<Name>, AllocError>
     ensures { IfOk result (λ named. named ≡ named_in_setting unit.now (key.now, value.now)) }
 {
-    if key != "Unit" || value.is_empty() {
+    if key != "Unit" {
         return Ok(None);
     }
-    let named = expanded(alloc, unit, value.as_bytes())?;
-    match str::from_utf8(named.as_slice()) {
-        Ok(named) => Ok(Some(Name::at(alloc, named)?)),
-        Err(_) => Ok(None),
+    let named = name_of_word(alloc, unit, value.as_bytes())?;
+    Ok(other_than(unit, named))
+}
+
+// Returns the unit that is named, if that isn't the timer.
+fn other_than(unit: &str, named: Option<Name>) -> Option<Name>
+    ensures { result ≡ other_than unit.now named }
+{
+    match named {
+        Some(named) if named.as_str() != unit => Some(named),
+        _ => None,
     }
 }

@@ -45,13 +45,9 @@ pub fn with_timer<T: Tree>(
     if is_alias(&name, &unit) {
         return Ok(found);
     }
-    match job_name(alloc, name.as_str())? {
-        None => with_wish(alloc, tree, units, found, name.as_str(), Why::BadName),
-        Some(job) => {
-            let file = timer_file(alloc, tree, units.most, name.as_str(), &unit)?;
-            with_job(alloc, tree, units, found, name, job, file)
-        }
-    }
+    let job = job_name(alloc, name.as_str())?;
+    let file = timer_file(alloc, tree, units.most, name.as_str(), &unit)?;
+    with_job(alloc, tree, units, found, name, job, file)
 }
 
 // Returns whether a name is an alias of its unit.

@@ -140,9 +140,14 @@ fn names_of_words(alloc: Global, unit: &str, words: &[&[u8]]) -> Result<Vec<Name
     Ok(names)
 }
 
-// Returns the name that a word means in the file of a unit, if it is valid.
+/// Returns the name of the unit that a word means in the file of a unit, with the specifiers of an instance replaced, and
+/// for a template its instance, as where the unit wants it. Returns `None` if the name is invalid.
+///
+/// # Errors
+///
+/// `AllocError` if an allocation fails.
 #[tactic(auto, unfolding(crate::specs::Settings::name_of_word))]
-fn name_of_word(alloc: Global, unit: &str, word: &[u8]) -> Result<Option<Name>, AllocError>
+pub fn name_of_word(alloc: Global, unit: &str, word: &[u8]) -> Result<Option<Name>, AllocError>
     ensures { IfOk result (λ name. name ≡ name_of_word unit.now word.now) }
 {
     let text = expanded(alloc, unit, word)?;
