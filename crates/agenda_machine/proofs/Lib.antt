@@ -2,3 +2,4 @@ pub mod LineLemmas
 pub mod PlaceLaws
 pub mod PlaceLemmas
 pub mod ShownLemmas
+pub mod CountLemmas

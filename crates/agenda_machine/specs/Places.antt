@@ -1,5 +1,5 @@
 -- The sources of a machine for `check`, and the files that its findings come from (agenda).
-use Rattle.std.specs.Prelude.{◌≡◌, ℕ, ◌+◌, ◌<◌, Bool, true, false, List, length, map, sum, take, Option, None, Some, slice_get}
+use Rattle.std.specs.Prelude.{◌≡◌, ℕ, ◌+◌, ◌<◌, Bool, true, false, List, [], ◌∷◌, length, map, sum, take, Option, None, Some, slice_get}
 use Rattle.std.specs.List.{flat_map}
 use Rattle.agenda_sources.specs.declared.Found.{Found}
 use Rattle.agenda_sources.specs.declared.Source.{Source}
@@ -44,6 +44,11 @@ paths_of json root sources = flat_map (source_paths json root) sources
 -- how many files sources have
 abbrev pub part_count : List SourceParts → ℕ
 part_count sources = sum (map (λ source. length (files_of source.parts)) sources)
+
+-- how many files come before each source, after so many others
+abbrev pub counts_before : (before : ℕ) → List SourceParts → List ℕ
+counts_before before [] = []
+counts_before before (source ∷ more) = before ∷ counts_before (before + length (files_of source.parts)) more
 
 -- a finding at an origin in the files of a source, before which there are so many files of other sources
 abbrev pub found_from : (before : ℕ) → Origin → Found → Found

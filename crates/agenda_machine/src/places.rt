@@ -1,7 +1,7 @@
 //! The sources of a machine for `check`, and the files that its findings come from.
 
-ghost use Rattle.std.specs.Prelude.{◌≡◌, ◌++◌, IfOk, OnOk, map};
-ghost use Rattle.agenda_machine.specs.Places.{PlacesHavePaths, located_at, part_count, path_in, paths_of, source_of, source_paths};
+ghost use Rattle.std.specs.Prelude.{◌≡◌, ◌++◌, IfOk, OnOk, get_or, map, slice_get};
+ghost use Rattle.agenda_machine.specs.Places.{PlacesHavePaths, counts_before, found_in, located_at, path_in, paths_of, source_of, source_paths};
 ghost use Rattle.agenda_machine.specs.Shown.{below};
 
 use crate::shown::push_path;
@@ -103,13 +103,14 @@ fn path_in(alloc: Global, root: &str, path: &str, json: bool) -> Result<Text, Al
 ///
 /// # Errors
 ///
-/// `AllocError` if there are more parts than a list can have.
+/// `AllocError` if an allocation fails, or if there are more parts than a list can have.
 pub fn located(sources: &[MachineSource], found: Vec<Found>) -> Result<Vec<Found>, AllocError>
     ensures { IfOk result (λ moved. moved.items ≡ map (located_at sources.now) found.items) }
 {
+    let counts = counts_before(*found.allocator(), sources)?;
     let mut moved = found;
     for one in moved.iter_mut() {
-        locate(sources, one)?;
+        locate(sources, counts.as_slice(), one)?;
     }
     Ok(moved)
 }
@@ -122,28 +123,38 @@ pub fn places_have_paths()
     ensures { PlacesHavePaths }
 {}
 
-// Moves a finding to the file that it comes from.
-fn locate(sources: &[MachineSource], one: &mut Found) -> Result<(), AllocError>
-    ensures { OnOk result (one.new ≡ located_at sources.now one.old) }
+// Moves a finding to the file that it comes from, by how many parts come before each source.
+fn locate(sources: &[MachineSource], counts: &[usize], one: &mut Found) -> Result<(), AllocError>
+    ensures { OnOk result (one.new
+        ≡ found_in (get_or counts.now one.old.place 0) (slice_get sources.now one.old.place) one.old) }
 {
     let Some(source) = sources.get(one.place) else {
         return Ok(());
     };
-    let before = part_count(&sources[..one.place])?;
+    let before = count_at(counts, one.place);
     let origin = source.parts().origin(one.finding.line);
     one.place = before.checked_add(origin.part).ok_or(AllocError)?;
     one.finding.line = origin.line;
     Ok(())
 }
 
-// Returns how many parts sources have.
-fn part_count(sources: &[MachineSource]) -> Result<usize, AllocError>
-    ensures { IfOk result (λ count. count ≡ part_count sources.now) }
+// Returns the count at a place, or 0 if there is none.
+fn count_at(counts: &[usize], place: usize) -> usize
+    ensures { result ≡ get_or counts.now place 0 }
 {
+    counts.get(place).copied().unwrap_or(0)
+}
+
+// Returns how many parts come before each source.
+fn counts_before(alloc: Global, sources: &[MachineSource]) -> Result<Vec<usize>, AllocError>
+    ensures { IfOk result (λ counts. counts.items ≡ counts_before 0 sources.now) }
+{
+    let mut counts = Vec::with_capacity(alloc, sources.len())?;
     let mut count = 0usize;
     for source in sources {
+        counts.push(count)?;
         let parts = source.parts().files();
         count = count.checked_add(parts.len()).ok_or(AllocError)?;
     }
-    Ok(count)
+    Ok(counts)
 }

@@ -1,5 +1,6 @@
 -- What is found on a machine.
-use Rattle.std.specs.Prelude.{◌≡◌, ℕ, Bool, true, false, ◌&&◌, if◌then◌else◌, List, [], ◌∷◌, ◌++◌, map, Option, None, Some}
+use Rattle.std.specs.Prelude.{◌≡◌, ℕ, Bool, if◌then◌else◌, List, [], ◌∷◌, ◌++◌, map, Option, None, Some, codes}
+use Rattle.std.specs.List.{list_any}
 use Rattle.std.specs.Str.{bytes_eq}
 use Rattle.plan_rules.specs.declared.source_kind.SourceKind.TheVariants.{Timer}
 use Rattle.plan_timers.specs.declared.reports.NotPlanned.{NotPlanned}
@@ -48,22 +49,27 @@ option_list (Some other) = other ∷ []
 abbrev pub unplanned_of : Held → List NotPlanned → List NotPlanned
 unplanned_of held timers = option_list (anacron_jobs held.node) ++ timers ++ at_jobs held ++ user_timers held
 
--- the same path, skipped for the same reason
-abbrev pub is_same : Skipped → Skipped → Bool
-is_same other one = bytes_eq other.path one.path && bytes_eq (why_text other.why) (why_text one.why)
+-- what is said of something that is skipped (agenda)
+abbrev pub said : Skipped → List ℕ
+said one = one.path ++ codes ": " ++ why_text one.why
 
-abbrev pub is_told : List Skipped → Skipped → Bool
-is_told [] one = false
-is_told (other ∷ more) one = if is_same other one then true else is_told more one
+-- a text is said of one of these
+abbrev pub is_said : List Skipped → List ℕ → Bool
+is_said skipped text = list_any (λ other. bytes_eq text (said other)) skipped
 
--- these, then those of others that aren't among them, each once
-abbrev pub with_others : List Skipped → List Skipped → List Skipped
-with_others told [] = told
-with_others told (one ∷ more) = with_others (if is_told told one then told else told ++ one ∷ []) more
+-- those of which nothing is said that is said of one before it; these come before all of them
+abbrev pub new_after : (before : List Skipped) → List Skipped → List Skipped
+new_after before [] = []
+new_after before (one ∷ more) =
+    if is_said before (said one) then new_after (before ++ one ∷ []) more else one ∷ new_after (before ++ one ∷ []) more
 
--- what is skipped is told once (agenda)
+-- nothing is said twice (agenda)
 abbrev pub distinct : List Skipped → List Skipped
-distinct skipped = with_others [] skipped
+distinct skipped = new_after [] skipped
+
+-- a list, and one thing more if it is new
+abbrev pub with_new : List Skipped → Skipped → (is_new : Bool) → List Skipped
+with_new once one is_new = if is_new then once ++ one ∷ [] else once
 
 -- what is found on a machine with these timers: its crontabs come first (agenda)
 abbrev pub machine_of : Held → List UnitDir → (most : ℕ) → FoundTimers → FoundMachine

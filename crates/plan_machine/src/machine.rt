@@ -1,14 +1,14 @@
 //! All that is found on a machine: its sources, what is skipped, and what isn't planned.
 
-ghost use Rattle.std.specs.Prelude.{◌≡◌, true, IfOk, IfNone, IfSome, map};
+ghost use Rattle.std.specs.Prelude.{◌≡◌, true, IfOk, IfNone, IfSome, map, string_bytes};
 ghost use Rattle.plan_timers.specs.Timers.{found_view};
-ghost use Rattle.plan_machine.specs.Machine.{AreTooManyUnits, IsMachine, distinct, is_same, is_told, machine_of, machine_view, option_list, timer_source, unplanned_of};
+ghost use Rattle.plan_machine.specs.Machine.{AreTooManyUnits, IsMachine, distinct, machine_of, machine_view, option_list, said, timer_source, unplanned_of, with_new};
 
 use crate::cron::crontabs;
 use crate::daemon::lacks_cron_daemon;
 use crate::others::{anacron_jobs, at_jobs, user_timers};
 use crate::source::MachineSource;
-use plan_rules::SourceKind;
+use plan_rules::{Names, SourceKind};
 use plan_timers::{
     NotPlanned, PlannedTimers, Skipped, TimerSource, TimersFound, copy_of, machine_timers,
     planned_timers,
@@ -171,38 +171,39 @@ fn list_of(alloc: Global, found: Option<NotPlanned>) -> Result<Vec<NotPlanned>, 
     Ok(list)
 }
 
-// Returns what is skipped, each once.
+// Returns what is skipped, without what is said twice.
 fn distinct(alloc: Global, skipped: Vec<Skipped>) -> Result<Vec<Skipped>, AllocError>
     ensures { IfOk result (λ once. once.items ≡ distinct skipped.items) }
 {
     let mut once = Vec::new(alloc);
+    let mut told = Names::new(alloc);
     for one in skipped {
-        if !is_told(alloc, once.as_slice(), &one)? {
-            once.push(one)?;
-        }
+        let text = said(alloc, &one)?;
+        let is_new = !told.contains(text.as_str());
+        told.add(alloc, text.as_str())?;
+        once = with_new(once, one, is_new)?;
     }
     Ok(once)
 }
 
-// Returns whether the same is among what is skipped.
-fn is_told(alloc: Global, told: &[Skipped], one: &Skipped) -> Result<bool, AllocError>
-    ensures { IfOk result (λ is. is ≡ is_told told.now one.now) }
+// Returns what is skipped, and one thing more if it is new.
+fn with_new(once: Vec<Skipped>, one: Skipped, is_new: bool) -> Result<Vec<Skipped>, AllocError>
+    ensures { IfOk result (λ after. after.items ≡ with_new once.items one is_new) }
 {
-    for other in told {
-        if is_same(alloc, other, one)? {
-            return Ok(true);
-        }
+    let mut once = once;
+    if is_new {
+        once.push(one)?;
     }
-    Ok(false)
+    Ok(once)
 }
 
-// Returns whether two things that are skipped have one path and one reason.
-fn is_same(alloc: Global, other: &Skipped, one: &Skipped) -> Result<bool, AllocError>
-    ensures { IfOk result (λ is. is ≡ is_same other.now one.now) }
+// Returns what is said of something that is skipped.
+fn said(alloc: Global, one: &Skipped) -> Result<String, AllocError>
+    ensures { IfOk result (λ text. string_bytes text ≡ said one.now) }
 {
-    if other.path.as_str() != one.path.as_str() {
-        return Ok(false);
-    }
-    let (first, second) = (other.why.text(alloc)?, one.why.text(alloc)?);
-    Ok(first.as_str() == second.as_str())
+    let why = one.why.text(alloc)?;
+    let mut text = String::from_str(alloc, one.path.as_str())?;
+    text.push_str(": ")?;
+    text.push_str(why.as_str())?;
+    Ok(text)
 }
