@@ -2,16 +2,15 @@
 -- For `after_blanks`, `cut_word`, `word_len` and the clauses of `lines`. A blank is ASCII, so a text may be cut before
 -- or after it. The proofs about lines are by induction over the bytes; the hard part is the empty last piece that
 -- `without_empty_end` drops.
-use Rattle.std.proofs.Common.{◌≡◌, ℕ, zero, suc, ◌+◌, ◌-◌, ◌<◌, ◌≤◌, Bool, true, false, not, cond, ◌==◌, eqb, List, [], ◌∷◌, length, take, get_or, map, Option, Some, None, unwrap_or, refl, ap, sym, ◌∙◌, arith, inl, inr, position}
+use Rattle.std.proofs.Common.{◌≡◌, ℕ, zero, suc, ◌+◌, ◌-◌, ◌<◌, ◌≤◌, Bool, true, false, cond, ◌==◌, eqb, List, [], ◌∷◌, length, take, get_or, map, Option, Some, None, unwrap_or, refl, ap, sym, ◌∙◌, arith, inl, inr, position}
 use Rattle.std.proofs.lemmas.Bool.{cases_lt, lt-ltb, le-ltb}
 use Rattle.std.proofs.lemmas.Bool.Decides.{nat_tests, Decides-eqb}
 use Rattle.std.proofs.lemmas.List.Sums.{prefix_len-le-length, prefix_len_passes, passes_at_first}
 use Rattle.std.proofs.lemmas.Str.{IsCharBoundary-start, IsCharBoundary-end, IsCharBoundary-before_ascii, IsCharBoundary-after_ascii}
-use Rattle.std.specs.List.{prefix_len, position_or_len, slice_split, onto_first}
+use Rattle.std.specs.List.{prefix_len, position_or_len, slice_split, onto_first, All, slice_get}
 use Rattle.std.proofs.lemmas.List.{length-map, get_or-map, take-map}
 use Rattle.std.proofs.lemmas.Option.{slice_get-get_or, same_Some, none-some}
 use Rattle.std.proofs.lemmas.List.Elements.{All-nil, All-cons, All-head, All-tail}
-use Rattle.std.specs.List.{All, slice_get}
 use Rattle.std.specs.Option.{option_map, MatchOption}
 use Rattle.std.specs.Str.{IsUtf8, IsCharBoundary}
 use Rattle.plan_texts.specs.Text.{is_blank}
@@ -41,26 +40,11 @@ boundary_after_blanks text utf8 =
 
 -- a text may be cut before its first blank
 pub boundary_before_blank : (text : List ℕ) → IsUtf8 text → IsCharBoundary text (position_or_len is_blank text)
-boundary_before_blank text utf8 =
-    elim (cases_lt (position_or_len is_blank text) (length text)) as (λ _. IsCharBoundary text (position_or_len is_blank text)) [
-      | inl inside ↦ IsCharBoundary-before_ascii text (position_or_len is_blank text) inside
-          (blank_ascii _ (passes_at_first is_blank text 0 inside))
-      | inr past ↦
-          let whole : position_or_len is_blank text ≤ length text = prefix_len-le-length (λ b. not (is_blank b)) text in
-          let all : position_or_len is_blank text ≡ length text = omega arith in
-          rw all (IsCharBoundary-end text)
-    ]
+boundary_before_blank text utf8 = grind (arith, nat_tests, cases_lt, IsCharBoundary-before_ascii, blank_ascii, passes_at_first, prefix_len-le-length, IsCharBoundary-end)
 
 -- the place of the first element that passes the test, or the end
 pub unwrap_or-position : (p : ℕ → Bool) (xs : List ℕ) → unwrap_or (position p xs) (length xs) ≡ position_or_len p xs
-unwrap_or-position p xs =
-    elim (cases_lt (position_or_len p xs) (length xs)) as (λ _. unwrap_or (position p xs) (length xs) ≡ position_or_len p xs) [
-      | inl inside ↦ rw (lt-ltb _ _ inside) refl
-      | inr past ↦
-          let whole : position_or_len p xs ≤ length xs = prefix_len-le-length (λ b. not (p b)) xs in
-          let all : length xs ≡ position_or_len p xs = omega arith in
-          rw (le-ltb _ _ past) all
-    ]
+unwrap_or-position p xs = grind (arith, nat_tests, cases_lt, lt-ltb, prefix_len-le-length, le-ltb)
 
 -- ---- lines
 
@@ -75,9 +59,7 @@ without_empty_end-last [] n d long = absurd (omega arith)
 without_empty_end-last (y ∷ []) zero d long = refl
 without_empty_end-last (y ∷ []) (suc n) d long = absurd (omega arith)
 without_empty_end-last (y ∷ z ∷ more) zero d long = absurd (omega arith)
-without_empty_end-last (y ∷ z ∷ more) (suc n) d long =
-    ap (λ zs. y ∷ zs) (without_empty_end-last (z ∷ more) n d (omega arith)) ∙ ahead (eqb (length (get_or (z ∷ more) n d)) 0) y
-    (take n (z ∷ more)) (z ∷ more)
+without_empty_end-last (y ∷ z ∷ more) (suc n) d long = grind (arith, nat_tests, ahead, without_empty_end-last (z ∷ more) n d (omega arith))
 
 map-cond : {A : Type 0} (v : A → List ℕ) (b : Bool) (xs ys : List A) → map v (cond b xs ys) ≡ cond b (map v xs) (map v ys)
 map-cond v b xs ys = grind (arith, nat_tests)
@@ -117,11 +99,7 @@ length-onto x ys n given = grind (arith, nat_tests)
 -- there are at most as many lines as bytes
 length-split : (p : ℕ → Bool) (text : List ℕ) → length (without_empty_end (slice_split p text)) ≤ length text
 length-split p [] = omega arith
-length-split p (x ∷ xs) =
-    elim (p x) as (λ b. length (without_empty_end (cond b ([] ∷ slice_split p xs) (onto_first x (slice_split p xs)))) ≤ suc (length xs)) [
-      | true ↦ length-ahead (slice_split p xs) (length xs) (length-split p xs)
-      | false ↦ length-onto x (slice_split p xs) (length xs) (length-split p xs)
-    ]
+length-split p (x ∷ xs) = grind (arith, nat_tests, length-ahead, length-onto, length-split p xs)
 
 pub length-lines : (text : List ℕ) → length (lines text) ≤ length text
 unfolding lines
@@ -146,9 +124,7 @@ piece_onto x pieces = grind (arith, nat_tests)
 
 pub piece_of_split : (p : ℕ → Bool) (text : List ℕ) → IsPiece (slice_split p text)
 piece_of_split p [] = tt
-piece_of_split p (x ∷ xs) =
-    elim (p x) as (λ b. IsPiece (cond b ([] ∷ slice_split p xs) (onto_first x (slice_split p xs))))
-    [ true ↦ tt | false ↦ piece_onto x (slice_split p xs) ]
+piece_of_split p (x ∷ xs) = grind (arith, nat_tests, piece_onto)
 
 some_onto : (x : ℕ) (pieces : List (List ℕ)) → AreSome (onto_first x pieces)
 some_onto x pieces = grind (arith, nat_tests)
@@ -157,11 +133,7 @@ some_behind : (pieces : List (List ℕ)) → IsPiece pieces → AreSome ([] ∷ 
 some_behind pieces given = grind (arith, nat_tests)
 
 some_of_split : (p : ℕ → Bool) (x : ℕ) (xs : List ℕ) → AreSome (slice_split p (x ∷ xs))
-some_of_split p x xs =
-    elim (p x) as (λ b. AreSome (cond b ([] ∷ slice_split p xs) (onto_first x (slice_split p xs)))) [
-      | true ↦ some_behind (slice_split p xs) (piece_of_split p xs)
-      | false ↦ some_onto x (slice_split p xs)
-    ]
+some_of_split p x xs = grind (arith, nat_tests, some_behind, piece_of_split, some_onto)
 
 one_byte :
     (x : ℕ) (b : Bool) → (b ≡ true → x ≡ 10) →
@@ -202,8 +174,7 @@ none_in_split (x ∷ xs) = none_in_cut x (x == 10) (slice_split (λ b. b == 10) 
 
 none_without_end : (pieces : List (List ℕ)) → All HasNoNewline pieces → All HasNoNewline (without_empty_end pieces)
 none_without_end [] none = none
-none_without_end (last ∷ []) none =
-    elim (length last == 0) as (λ b. All HasNoNewline (cond b [] (last ∷ []))) [ true ↦ All-nil HasNoNewline | false ↦ none ]
+none_without_end (last ∷ []) none = grind (arith, nat_tests, All-nil)
 none_without_end (line ∷ next ∷ more) none =
     All-cons HasNoNewline line (without_empty_end (next ∷ more)) (All-head HasNoNewline line (next ∷ more) none)
     (none_without_end (next ∷ more) (All-tail HasNoNewline line (next ∷ more) none))

@@ -7,6 +7,8 @@ use Rattle.std.proofs.lemmas.List.{take_more, drop_more, drop_all}
 use Rattle.std.proofs.lemmas.Slice.Eq.{starts_is}
 use Rattle.std.specs.List.{starts_with}
 use Rattle.plan_texts.specs.Text.{cut_at, after_text, stands_at}
+use Rattle.std.proofs.Common.{arith}
+use Rattle.std.proofs.lemmas.Bool.Decides.{nat_tests}
 
 after_text-after_text :
     (front more : List ℕ) (cut : Option (List ℕ × List ℕ)) → after_text front (after_text more cut) ≡ after_text (front ++ more) cut
@@ -63,14 +65,10 @@ cut_found mark text at inside here so_far =
 pub cut_all :
     (mark text : List ℕ) (at : ℕ) → length text ≤ at → cut_at mark text ≡ after_text (take at text) (cut_at mark (drop at text)) →
     cut_at mark text ≡ None
-cut_all mark text at past so_far =
-    so_far ∙ ap (λ tail. after_text (take at text) (cut_at mark tail)) (drop_all at text past)
-    ∙ ap (after_text (take at text)) (cut_at-empty mark)
+cut_all mark text at past so_far = grind (arith, nat_tests, drop_all, cut_at-empty)
 
 -- a text with a mark at a place: what comes before it, the mark, and what follows
 pub again :
     (mark text : List ℕ) (at : ℕ) → stands_at mark text at ≡ true →
     text ≡ take at text ++ (mark ++ drop (length mark) (drop at text))
-again mark text at here =
-    sym (take-append-drop at text)
-    ∙ ap (λ rest. take at text ++ rest) ((starts_is Decides-eqb (drop at text) mark (starts_with nat_eq (drop at text) mark) refl).0 here)
+again mark text at here = grind (arith, nat_tests, take-append-drop, starts_is, Decides-eqb)

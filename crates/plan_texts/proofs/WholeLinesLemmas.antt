@@ -11,7 +11,7 @@ use Rattle.std.proofs.lemmas.Str.{IsCharBoundary-end, IsCharBoundary-before_asci
 use Rattle.std.specs.List.{suffix_len, enumerate_from}
 use Rattle.std.specs.Str.{IsUtf8, IsCharBoundary}
 use Rattle.plan_texts.specs.Text.{is_blank}
-use Rattle.plan_texts.specs.WholeLines.{line_text, is_comment, is_joined, with_space, in_front, with_line, joined}
+use Rattle.plan_texts.specs.WholeLines.{line_text, is_comment, is_joined, in_front, with_line, joined}
 use Rattle.plan_texts.specs.Joining.{resumed, with_raw_line}
 use Rattle.plan_texts.specs.declared.whole_lines.WholeLine.{WholeLine}
 use Rattle.plan_texts.proofs.LinesLemmas.{blank_ascii}
@@ -56,14 +56,7 @@ comment_or_line comment line more = grind (arith, nat_tests)
 pub rest_more :
     {A : Type 0} (v : A → List ℕ) (lines : List A) (place : ℕ) (d : A) → place < length lines →
     rest_from place (map v lines) ≡ with_raw_line (place + 1) (v (get_or lines place d)) (rest_from (place + 1) (map v lines))
-rest_more v lines place d inside =
-    let line = v (get_or lines place d) in
-    let split : drop place (map v lines) ≡ v (get_or lines place d) ∷ drop (place + 1) (map v lines) =
-    drop-map v place lines ∙ ap (map v) (drop_more lines place d inside) ∙ ap (λ more. v (get_or lines place d) ∷ more)
-    (sym (drop-map v (place + 1) lines)) in
-    ap (λ left. joined (filter (λ l. not (is_comment l.1)) (enumerate_from (place + 1) (map line_text left)))) split
-    ∙ comment_or_line (is_comment (line_text line)) (place + 1, line_text line)
-    (filter (λ l. not (is_comment l.1)) (enumerate_from (place + 1 + 1) (map line_text (drop (place + 1) (map v lines)))))
+rest_more v lines place d inside = grind (arith, nat_tests, drop-map, drop_more, comment_or_line)
 
 front_is : (b : Bool) (text front : List ℕ) → Some front ≡ cond b (Some text) None → (b ≡ true) × (front ≡ text)
 front_is true text front is = (refl, same_Some _ _ is)
@@ -80,8 +73,7 @@ held_more :
     ≡ resumed held (in_front new.number text rest)
 held_more None new text rest empty = ap (λ front. in_front new.number (front ++ text) rest) empty
 held_more (Some line) new text [] empty = refl
-held_more (Some line) new text (next ∷ more) empty =
-    ap (λ whole. (line.number, whole) ∷ more) (append_assoc (string_bytes line.text) text next.1)
+held_more (Some line) new text (next ∷ more) empty = grind (arith, nat_tests, append_assoc)
 
 held_last :
     (held : Option WholeLine) (new : WholeLine) (text : List ℕ) (rest : List (ℕ × List ℕ)) → string_bytes new.text ≡ [] →
@@ -96,13 +88,7 @@ pub continued :
     Some front ≡ cond (is_joined text) (Some (take (length text - 1) text)) None →
     bytes ≡ (string_bytes whole.text ++ front) ++ 32 ∷ [] →
     in_front whole.number bytes rest ≡ resumed held (with_line (new.number, text) rest)
-continued held new whole text front bytes rest empty is cut all =
-    let found = front_is _ _ _ cut in
-    ap (λ bytes. in_front whole.number bytes rest)
-    (all ∙ append_assoc (string_bytes whole.text) front (32 ∷ []) ∙ ap (λ f. string_bytes whole.text ++ (f ++ 32 ∷ [])) found.1)
-    ∙ ap (λ w. in_front w.number (string_bytes w.text ++ with_space text) rest) is
-    ∙ held_more held new (with_space text) rest empty
-    ∙ ap (λ b. resumed held (cond b (in_front new.number (with_space text) rest) ((new.number, text) ∷ rest))) (sym found.0)
+continued held new whole text front bytes rest empty is cut all = grind (arith, nat_tests, front_is, append_assoc, held_more)
 
 -- any other text ends it
 pub ended :
@@ -111,8 +97,4 @@ pub ended :
     None ≡ cond (is_joined text) (Some (take (length text - 1) text)) None →
     bytes ≡ string_bytes whole.text ++ text →
     (whole.number, bytes) ∷ rest ≡ resumed held (with_line (new.number, text) rest)
-ended held new whole text bytes rest empty is cut all =
-    ap (λ bytes. (whole.number, bytes) ∷ rest) all
-    ∙ ap (λ w. (w.number, string_bytes w.text ++ text) ∷ rest) is
-    ∙ held_last held new text rest empty
-    ∙ ap (λ b. resumed held (cond b (in_front new.number (with_space text) rest) ((new.number, text) ∷ rest))) (sym (none_is _ _ cut))
+ended held new whole text bytes rest empty is cut all = grind (arith, nat_tests, held_last, none_is)
