@@ -63,6 +63,30 @@ etc/localtime/ S/u=@daily\x20a\n|upcoming --after 2024-03-31T00:00:00Z|2024-04-0
 etc/localtime/ S/u=@daily\x20a\n|upcoming --zone UTC --after 2024-03-31T00:00:00Z|2024-04-01T00:00:00+00:00>u:1>a||
 ROWS
 
+# The zones of events: their files are below the root, or else on this machine. EAST is UTC+5, which no zone of these names is.
+jobs_rows <<'ROWS'
+*a.timer U/a.timer=[Timer]\nOnCalendar=02:30\x20No/Where\n usr/share/zoneinfo/No/Where=EAST|upcoming --utc --after 2024-03-31T00:00:00Z|2024-03-31T21:30:00Z>a.timer>a.service||
+*a.timer U/a.timer=[Timer]\nOnCalendar=02:30\x20No/Where\n usr/share/zoneinfo/No/Where=EAST|plan --utc --since 2024-03-31T00:00:00Z --until 2024-04-01T00:00:00Z|agenda 2>2024-03-31T00:00:00Z>2024-04-01T00:00:00Z>1;2024-03-31T21:30:00Z>a.timer>a.service||
+*a.timer U/a.timer=[Timer]\nOnCalendar=02:30\x20No/Where\n usr/share/zoneinfo/No/Where=EAST|quiet --utc --nominal --since 2024-03-31T00:00:00Z --until 2024-03-31T22:00:00Z|2024-03-31T00:00:00Z>2024-03-31T21:30:00Z>77400;2024-03-31T21:30:00Z>2024-03-31T22:00:00Z>1800||
+*a.timer U/a.timer=[Timer]\nOnCalendar=02:30\x20No/Where\n usr/share/zoneinfo/No/Where=EAST|check|||
+*a.timer U/a.timer=[Timer]\nOnCalendar=02:30\x20Europe/Oslo\n usr/share/zoneinfo/Europe/Oslo=EAST|upcoming --utc --after 2024-03-31T00:00:00Z|2024-03-31T21:30:00Z>a.timer>a.service||
+*a.timer U/a.timer=[Timer]\nOnCalendar=02:30\x20No/Where\n usr/share/zoneinfo/No/Where>/opt/x opt/x=EAST|upcoming --utc --after 2024-03-31T00:00:00Z|2024-03-31T21:30:00Z>a.timer>a.service||
+etc/localtime>/usr/share/zoneinfo/No/Where *a.timer U/a.timer=[Timer]\nOnCalendar=02:30\x20No/Where\n *b.timer U/b.timer=[Timer]\nOnCalendar=02:30\n usr/share/zoneinfo/No/Where=EAST|upcoming --after 2024-03-31T00:00:00Z|2024-04-01T02:30:00+05:00>a.timer>a.service;2024-04-01T02:30:00+05:00>b.timer>b.service||
+etc/localtime=CET *a.timer U/a.timer=[Timer]\nOnCalendar=02:30\x20No/Where\nOnCalendar=20:00\n usr/share/zoneinfo/No/Where=EAST|upcoming --after 2024-03-31T00:00:00Z|2024-03-31T20:00:00+02:00>a.timer>a.service||
+etc/localtime=CET *a.timer U/a.timer=[Timer]\nOnCalendar=02:30\x20No/Where\nOnCalendar=20:00\n usr/share/zoneinfo/No/Where=EAST|upcoming --after 2024-03-31T18:00:00Z|2024-03-31T23:30:00+02:00>a.timer>a.service||
+*a.timer U/a.timer=[Timer]\nOnCalendar=02:30\x20Asia/Tokyo\n usr/share/zoneinfo/Asia/Tokyo=x|upcoming --utc --after 2024-03-31T00:00:00Z|none>a.timer>a.service|root/usr/lib/systemd/system/a.timer:2: error: time zone in '02:30 Asia/Tokyo': unknown [Zone]|
+*a.timer U/a.timer=[Timer]\nOnCalendar=02:30\x20No/Where\n usr/share/zoneinfo/No/Where/|upcoming --utc --after 2024-03-31T00:00:00Z|none>a.timer>a.service|root/usr/lib/systemd/system/a.timer:2: error: time zone in '02:30 No/Where': unknown [Zone]|
+ROWS
+if [ -r /usr/share/zoneinfo/Asia/Tokyo ]; then
+  jobs_rows <<'ROWS'
+*a.timer U/a.timer=[Timer]\nOnCalendar=02:30\x20Asia/Tokyo\n|upcoming --utc --after 2024-03-31T00:00:00Z|2024-03-31T17:30:00Z>a.timer>a.service||
+*a.timer U/a.timer=[Timer]\nOnCalendar=02:30\x20Asia/Tokyo\n usr/share/zoneinfo/Asia/Tokyo/|upcoming --utc --after 2024-03-31T00:00:00Z|2024-03-31T17:30:00Z>a.timer>a.service||
+*a.timer U/a.timer=[Timer]\nOnCalendar=02:30\x20Asia/Tokyo\n usr/share/zoneinfo/Asia/Tokyo=EAST|upcoming --zone Asia/Tokyo --after 2024-03-31T00:00:00Z|2024-04-01T06:30:00+09:00>a.timer>a.service||
+ROWS
+else
+  echo "agenda machine: skipped the zones of events, since this machine has no tz database"
+fi
+
 # ---- timers, and their delays
 
 jobs_rows <<'ROWS'
@@ -73,6 +97,21 @@ jobs_rows <<'ROWS'
 *a.timer U/a.timer=[Timer]\nOnCalendar=daily\nRandomizedDelaySec=1h\nAccuracySec=1s\n|quiet --utc --nominal --since 2024-04-01T00:00:00Z --until 2024-04-01T02:00:00Z|2024-04-01T00:00:00Z>2024-04-01T02:00:00Z>7200||
 U/a.timer=DAILY|plan --utc --since 2024-04-01T00:00:00Z --upto 2024-04-02T00:00:00Z|agenda 2>2024-04-01T00:00:00Z>2024-04-02T00:00:00Z>0||
 U/a.timer=DAILY|plan --utc --all --since 2024-04-01T00:00:00Z --upto 2024-04-02T00:00:00Z|agenda 2>2024-04-01T00:00:00Z>2024-04-02T00:00:00Z>1;2024-04-01T00:00:00Z>a.timer>a.service||
+ROWS
+
+# The accuracy of timers that set none is one minute, unless systemd's configuration has another (systemd-system.conf(5)).
+jobs_rows <<'ROWS'
+*a.timer U/a.timer=DAILY|upcoming --utc --delays --after 2024-03-31T00:00:00Z|2024-04-01T00:00:00Z>2024-04-01T00:01:00Z>a.timer>a.service||
+*a.timer U/a.timer=DAILY etc/systemd/system.conf=[Manager]\nDefaultTimerAccuracySec=1h\n|upcoming --utc --delays --after 2024-03-31T00:00:00Z|2024-04-01T00:00:00Z>2024-04-01T01:00:00Z>a.timer>a.service||
+*a.timer U/a.timer=DAILY etc/systemd/system.conf=[Manager]\nDefaultTimerAccuracySec=1h\n|plan --utc --delays --since 2024-04-01T00:00:00Z --until 2024-04-02T00:00:00Z|agenda 3>2024-04-01T00:00:00Z>2024-04-02T00:00:00Z>1;2024-04-01T00:00:00Z>2024-04-01T01:00:00Z>a.timer>a.service||
+*a.timer U/a.timer=DAILY etc/systemd/system.conf=[Manager]\nDefaultTimerAccuracySec=1h\n|quiet --utc --since 2024-04-01T00:00:00Z --until 2024-04-01T02:00:00Z|2024-04-01T01:00:00Z>2024-04-01T02:00:00Z>3600||
+*a.timer U/a.timer=DAILY etc/systemd/system.conf=[Manager]\nDefaultTimerAccuracySec=1h\n|upcoming --utc --after 2024-03-31T00:00:00Z|2024-04-01T00:00:00Z>a.timer>a.service||
+*a.timer U/a.timer=[Timer]\nOnCalendar=daily\nAccuracySec=1s\n etc/systemd/system.conf=[Manager]\nDefaultTimerAccuracySec=1h\n|upcoming --utc --delays --after 2024-03-31T00:00:00Z|2024-04-01T00:00:00Z>2024-04-01T00:00:01Z>a.timer>a.service||
+*a.timer U/a.timer=[Timer]\nOnCalendar=daily\nRandomizedDelaySec=1s\n etc/systemd/system.conf=[Manager]\nDefaultTimerAccuracySec=1h\n|upcoming --utc --delays --after 2024-03-31T00:00:00Z|2024-04-01T00:00:00Z>2024-04-01T01:00:01Z>a.timer>a.service||
+*a.timer U/a.timer=DAILY etc/systemd/system.conf=[Manager]\nDefaultTimerAccuracySec=1h\n usr/lib/systemd/system.conf.d/x.conf=[Manager]\nDefaultTimerAccuracySec=2h\n|upcoming --utc --delays --after 2024-03-31T00:00:00Z|2024-04-01T00:00:00Z>2024-04-01T02:00:00Z>a.timer>a.service||
+*a.timer U/a.timer=DAILY usr/lib/systemd/system.conf.d/x.conf=[Manager]\nDefaultTimerAccuracySec=2h\n run/systemd/system.conf.d/x.conf=[Manager]\nDefaultTimerAccuracySec=3h\n|upcoming --utc --delays --after 2024-03-31T00:00:00Z|2024-04-01T00:00:00Z>2024-04-01T03:00:00Z>a.timer>a.service||
+*a.timer U/a.timer=DAILY etc/systemd/system.conf=DefaultTimerAccuracySec=1h\n[Other]\nDefaultTimerAccuracySec=1h\n[Manager]\nDefaultTimerAccuracySec=soon\n|upcoming --utc --delays --after 2024-03-31T00:00:00Z|2024-04-01T00:00:00Z>2024-04-01T00:01:00Z>a.timer>a.service||
+S/u=@daily\x20a\n etc/systemd/system.conf=[Manager]\nDefaultTimerAccuracySec=1h\n|upcoming --utc --delays --after 2024-03-31T00:00:00Z|2024-04-01T00:00:00Z>2024-04-01T00:00:00Z>u:1>a||
 ROWS
 
 # ---- what is skipped

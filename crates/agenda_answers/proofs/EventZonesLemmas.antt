@@ -2,6 +2,7 @@
 use Rattle.std.proofs.Common.{◌≡◌, ℕ, ◌+◌, ◌<◌, Bool, true, false, List, [], ◌∷◌, ◌++◌, length, take, drop, get_or, suc, Option, None, Some, Result, Ok, Err, ap, refl, sym, subst, ◌∙◌, drop-cons}
 use Rattle.std.proofs.lemmas.List.{take_more, take-append-drop}
 use Rattle.std.specs.List.{cons_option}
+use Rattle.plan_check.specs.Context.{context_of}
 use Rattle.plan_clock.specs.declared.row.Change.{Change}
 use Rattle.plan_rules.specs.declared.NamedZone.{NamedZone}
 use Rattle.agenda_faults.specs.declared.faults.Failure.{Failure}
@@ -82,7 +83,7 @@ found_fail_at held given clock names zones i failure are within is =
 -- events may name none
 pub no_names :
     (held : Held) (request : ZonesRequest) (clock : List Change) (names : List (List ℕ)) → request.event_zones ≡ false →
-    time_zones held request clock names (Ok (record { clock = clock; named = None }))
+    time_zones held request clock names (Ok (record { clock = clock; timers = context_of None }))
 no_names held request clock names is = goes None (rw is refl) refl
 
 -- an allocation for their names failed

@@ -2,6 +2,7 @@
 use Rattle.std.specs.Prelude.{◌≡◌, ◌≢◌, ℕ, Bool, true, false, ◌||◌, if◌then◌else◌, List, [], ◌∷◌, Option, None, Some, Ok, Err}
 use Rattle.std.specs.List.{cons_option}
 use Rattle.std.specs.Str.{bytes_eq}
+use Rattle.plan_check.specs.Context.{context_of}
 use Rattle.plan_clock.specs.declared.row.Change.{Change}
 use Rattle.plan_zones.specs.ZoneTexts.{source_of, zone_path}
 use Rattle.plan_rules.specs.declared.NamedZone.{NamedZone}
@@ -52,10 +53,10 @@ zones_found held given clock names = do
 
 -- the time zones of rules: with names, events may name the zones that are found; without, they may name none
 abbrev pub zones_by : Held → (given : Option (List ℕ)) → (clock : List Change) → (names : Option (List (List ℕ))) → Step TimeZones
-zones_by held given clock None = gives (record { clock = clock; named = None })
+zones_by held given clock None = gives (record { clock = clock; timers = context_of None })
 zones_by held given clock (Some names) = do
   named ← zones_found held given clock names
-  gives (record { clock = clock; named = named })
+  gives (record { clock = clock; timers = context_of named })
 
 -- the names of the zones that are read: none unless that is requested
 abbrev pub names_if : (event_zones : Bool) → (names : List (List ℕ)) → Option (List (List ℕ))

@@ -4,6 +4,7 @@ pub mod Files
 pub mod Formats
 pub mod Host
 pub mod Machine
+pub mod MachineFiles
 pub mod MachineGoal
 pub mod MachineZone
 pub mod Opened

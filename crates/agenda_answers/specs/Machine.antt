@@ -1,7 +1,9 @@
 -- The answer to a question about a machine. All of it is our choice (agenda).
 use Rattle.std.specs.Prelude.{◌≡◌, ◌⊎◌, ℕ, Bool, true, false, not, ◌&&◌, ◌==◌, if◌then◌else◌, List, [], length, ◌∷◌, Option, None, Some, Result, Ok, Err}
 use Rattle.std.specs.Io.KnownBytes.{Appends, Keeps}
+use Rattle.plan_clock.specs.declared.row.Change.{Change}
 use Rattle.plan_streams.specs.Stream.{BreaksOff}
+use Rattle.plan_timers.specs.Accuracy.{default_accuracy}
 use Rattle.plan_tree.specs.Tree.{Held as TreeHeld, below, is_directory, path_below}
 use Rattle.plan_machine.specs.Machine.{AreTooManyUnits, IsMachine}
 use Rattle.plan_machine.specs.declared.machine.Machine.{Machine}
@@ -29,10 +31,11 @@ use Rattle.agenda_answers.specs.declared.machine_zone.ZoneClock.{ZoneClock}
 use Rattle.agenda_answers.specs.declared.machine.Printout.{Printout}
 use Rattle.agenda_answers.specs.declared.machine.Printout.TheVariants as printout
 use Rattle.agenda_answers.specs.Answer.{Printed, StreamChange}
-use Rattle.agenda_answers.specs.EventZones.{time_zones}
+use Rattle.agenda_answers.specs.EventZones.{zones_by}
 use Rattle.agenda_answers.specs.Files.{Held, most_read}
 use Rattle.agenda_answers.specs.Formats.{format_made, unnamed_zone}
 use Rattle.agenda_answers.specs.Host.{KnownHost}
+use Rattle.agenda_answers.specs.MachineFiles.{machine_files}
 use Rattle.agenda_answers.specs.MachineGoal.{goal_at}
 use Rattle.agenda_answers.specs.MachineZone.{KnownTree, fails_with, looks, machine_clock}
 use Rattle.agenda_answers.specs.Outcome.{ExitsWith, Outcome, Reports, answer_of}
@@ -146,16 +149,24 @@ found_in machine zones sources = located machine.sources.items (sources_findings
 abbrev pub errors_in : Machine → TimeZones → List Source → List Found
 errors_in machine zones sources = located machine.sources.items (sources_errors zones sources)
 
--- the time zones of the rules of a machine, by the clock of its zone
-abbrev pub machine_zones : Held → Machine → ZoneClock → Step TimeZones
-machine_zones held machine clock = time_zones held (record { zone = clock.name; event_zones = true }) clock.clock
-    (zone_names (sources_of machine.sources.items))
+-- the same zones, if timers that set no accuracy have this one
+abbrev pub with_accuracy : (accuracy : ℕ) → TimeZones → TimeZones
+with_accuracy accuracy zones = record zones { timers = record zones.timers { accuracy = accuracy } }
+
+-- the time zones of the rules of a machine, by the clock of its zone, and the accuracy of its timers. The zones of events are read from
+-- its files
+unfoldable pub machine_zones : Held → KnownTree → (clock : List Change) → List Source → Step TimeZones
+machine_zones held tree clock sources = do
+  accuracy ← looks tree (λ accuracy. accuracy ≡ default_accuracy tree.held)
+  names ← computes (zone_names sources)
+  zones ← zones_by (machine_files held tree) None clock (Some names)
+  gives (with_accuracy accuracy zones)
 
 -- `check`: the zone is read first, and then the zones of events
 abbrev pub shows_findings : Held → KnownTree → (dir : List ℕ) → (zone : Option (List ℕ)) → (json : Bool) → Machine → Step Shown
 shows_findings held tree dir zone json machine = do
   clock ← machine_clock held tree (root_of dir) zone
-  zones ← machine_zones held machine clock
+  zones ← machine_zones held tree clock.clock (sources_of machine.sources.items)
   computes (shown_of dir machine clock.is_unknown
       (findings_rest dir json machine (found_in machine zones (sources_of machine.sources.items))))
 
@@ -182,7 +193,7 @@ abbrev pub shows_jobs : Held → KnownHost → (dir : List ℕ) → MachineJobs 
 shows_jobs held host dir jobs machine = do
   clock ← machine_clock held host.tree (root_of dir) jobs.zone
   goal ← goal_at host.time jobs
-  zones ← machine_zones held machine clock
+  zones ← machine_zones held host.tree clock.clock (sources_of machine.sources.items)
   shows_jobs_in dir jobs.format goal machine clock zones
 
 -- the machine that the program runs on, below a root

@@ -7,6 +7,7 @@ ghost use Rattle.agenda_answers.specs.Opened.{OpensFirst, event_files, files_of_
 ghost use Rattle.agenda_faults.specs.declared.faults.Failure.TheVariants.{Run};
 ghost use Rattle.agenda_faults.specs.declared.faults.RunFault.TheVariants.{NoMemory};
 ghost use Rattle.agenda_sources.specs.ZoneNames.{asked_zones, zone_names};
+ghost use Rattle.plan_check.specs.Context.{context_of};
 ghost use Rattle.plan_zones.specs.ZoneTexts.{source_of};
 
 use crate::files::Files;
@@ -14,6 +15,7 @@ use crate::zone::{clock_of_text, named_zone};
 use agenda_arguments::ZonesRequest;
 use agenda_faults::{Failure, RunFault};
 use agenda_sources::{Asked, Sources, TimeZones, asked_zones, zone_names};
+use plan_check::TimerContext;
 use plan_clock::Clock;
 use plan_rules::{EventZones, NamedZone, Names, Text};
 use plan_zones::zone_path;
@@ -68,17 +70,21 @@ pub(crate) fn zones_of_rule<F: Files>(
 
 // Returns the time zones of rules with this clock whose events may only name UTC.
 fn in_utc(clock: Clock) -> TimeZones
-    ensures { result ≡ record { clock = clock; named = None } }
+    ensures { result ≡ record { clock = clock; timers = context_of None } }
 {
     TimeZones {
         clock,
-        named: EventZones::utc_alone(),
+        timers: TimerContext::new(EventZones::utc_alone()),
     }
 }
 
-// Reads the zones with these names, each once. The zone of the rules, `given`, is not read again: its clock is given
-// too. A zone that can't be read is left out, and so is a file that isn't a zone's.
-fn read_zones<F: Files>(
+/// Reads the zones with these names, each once. The zone of the rules, `given`, is not read again: its clock is given
+/// too. A zone that can't be read is left out, and so is a file that isn't a zone's.
+///
+/// # Errors
+///
+/// `Run(NoMemory)` if an allocation failed.
+pub(crate) fn read_zones<F: Files>(
     alloc: Global,
     files: &mut F,
     given: &Option<Text>,
@@ -89,8 +95,11 @@ fn read_zones<F: Files>(
     ensures opens { OnOk result (F.opened files.new ≡ followed_by (F.opened files.old) (files_of_names given.now names.now)) }
     ensures first { OpensFirst (files_of_names given.now names.now) (F.opened files.old) (F.opened files.new) }
 {
-    let named = find_zones(alloc, files, given, &clock, names)?;
-    Ok(TimeZones { clock, named })
+    let zones = find_zones(alloc, files, given, &clock, names)?;
+    Ok(TimeZones {
+        clock,
+        timers: TimerContext::new(zones),
+    })
 }
 
 // Reads the zones with these names, in order.

@@ -11,6 +11,7 @@ mod formats;
 mod host;
 mod jobs;
 mod machine;
+mod machine_files;
 mod machine_goal;
 mod machine_zone;
 mod requests;

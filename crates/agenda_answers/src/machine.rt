@@ -7,7 +7,7 @@ ghost use Rattle.agenda_answers.specs.Answer.{HoldsAfter};
 ghost use Rattle.agenda_answers.specs.Host.{host_of};
 ghost use Rattle.agenda_answers.specs.Machine.{AnswersMachine, Shows, ShowsRest, directory_if, found_in, has_reports};
 ghost use Rattle.agenda_answers.specs.Machine.{errors_in, findings_rest, is_root, machine_below, machine_ends, machine_if, machine_of};
-ghost use Rattle.agenda_answers.specs.Machine.{machine_reports, machine_status, rest_of, shows_findings, shows_jobs, shows_sources};
+ghost use Rattle.agenda_answers.specs.Machine.{machine_reports, machine_status, machine_zones, rest_of, shows_findings, shows_jobs, shows_sources};
 ghost use Rattle.agenda_findings.specs.Findings.{check_text};
 ghost use Rattle.agenda_machine.specs.Listing.{sources_text};
 ghost use Rattle.agenda_machine.specs.Places.{paths_of};
@@ -16,15 +16,16 @@ ghost use Rattle.agenda_answers.specs.Root.{root_of};
 ghost use Rattle.plan_streams.specs.Stream.{Puts};
 
 use crate::answers::end;
-use crate::event_zones::zones_of_sources;
+use crate::event_zones::read_zones;
 use crate::files::{Files, MOST_READ};
 use crate::formats::{make_format, unnamed_zone};
 use crate::host::Host;
 use crate::jobs::{Outcome, report, settled};
+use crate::machine_files::MachineFiles;
 use crate::machine_goal::goal_at;
-use crate::machine_zone::machine_clock;
+use crate::machine_zone::{copy_of, machine_clock};
 use crate::root::{dir_of, root_of};
-use agenda_arguments::{MachineJobs, MachineQuestion, MachineRequest, ZonesRequest};
+use agenda_arguments::{MachineJobs, MachineQuestion, MachineRequest};
 use agenda_commands::{are_warnings, kept_if, prepare_answer};
 use agenda_faults::status::{DONE, FAILED, REFUSED};
 use agenda_faults::{Failure, RunFault};
@@ -32,10 +33,14 @@ use agenda_findings::write_findings;
 use agenda_machine::{
     Reports, is_incomplete, located, paths_of, sources_of, write_reports, write_sources,
 };
-use agenda_sources::{Found, SourcePath, SourcePaths, Sources, TimeZones, findings_of_sources};
+use agenda_sources::{
+    Found, SourcePath, SourcePaths, Sources, TimeZones, findings_of_sources, zone_names,
+};
+use plan_clock::Clock;
 use plan_machine::{Machine, find_machine};
 use plan_rules::{Jobs, Text};
 use plan_streams::{Stream, WriteFault};
+use plan_timers::default_accuracy;
 use plan_tree::{Complete, Rooted, Tree, is_directory};
 use std::alloc::{AllocError, Global};
 use std::marker::Model;
@@ -229,11 +234,7 @@ fn check_answer<'a, F: Files, T: Tree>(
 {
     let clock = machine_clock(alloc, files, tree, root_of(dir), zone)?;
     let sources = sources_of(alloc, machine.sources.as_slice())?;
-    let request = ZonesRequest {
-        zone: clock.name,
-        event_zones: true,
-    };
-    let zones = zones_of_sources(alloc, files, &request, clock.clock, &sources)?;
+    let zones = machine_zones(alloc, files, tree, clock.clock, &sources)?;
     let printout = findings_of(alloc, dir, &machine, &sources, &zones, json)?;
     Ok(MachineAnswer {
         site: Site {
@@ -243,6 +244,27 @@ fn check_answer<'a, F: Files, T: Tree>(
         },
         printout,
     })
+}
+
+// Reads the time zones that the events of a machine's sources end with, and the accuracy of its timers.
+fn machine_zones<F: Files, T: Tree>(
+    alloc: Global,
+    files: &mut F,
+    tree: &T,
+    clock: Clock,
+    sources: &Sources,
+) -> Result<TimeZones, Failure>
+    ensures { machine_zones (F.held files.old) (record { is_known = T.is_known; held = T.held tree.now }) clock sources.now result }
+{
+    let accuracy = default_accuracy(alloc, tree)?;
+    let names = zone_names(alloc, sources)?;
+    let mut files = MachineFiles {
+        tree,
+        running: files,
+    };
+    let mut zones = read_zones(alloc, &mut files, &None, clock, &names)?;
+    zones.timers.accuracy = accuracy;
+    Ok(zones)
 }
 
 // Finds what is wrong with the sources of a machine.
@@ -278,13 +300,9 @@ fn jobs_answer<'a, R: Threads + Wait + Sync, F: Files, T: Tree>(
     let clock = machine_clock(alloc, files, host.tree, root_of(dir), &jobs.zone)?;
     let goal = goal_at(host.time, jobs)?;
     let sources = sources_of(alloc, machine.sources.as_slice())?;
-    let request = ZonesRequest {
-        zone: clock.name,
-        event_zones: true,
-    };
-    let zones = zones_of_sources(alloc, files, &request, clock.clock, &sources)?;
+    let zones = machine_zones(alloc, files, host.tree, clock.clock, &sources)?;
     let unnamed = unnamed_zone(clock.is_of_file);
-    let format = make_format(alloc, jobs.format, &request.zone, unnamed, &zones.clock)?;
+    let format = make_format(alloc, jobs.format, &clock.name, unnamed, &zones.clock)?;
     let (skipped, kept) = kept_of(alloc, dir, &machine, &sources, &zones)?;
     let made = prepare_answer(rt, alloc, kept, &sources, &zones, &goal, format);
     let answer = settled(made)?;
@@ -347,7 +365,8 @@ fn show<O: Stream, E: Stream>(answer: MachineAnswer<'_>, out: &mut O, err: &mut 
 
 // Writes what is reported.
 fn report_site<S: Stream>(site: &Site<'_>, err: &mut S) -> Result<(), WriteFault>
-    ensures text { Puts S.takes_all result (S.holds err.old) (S.holds err.new) (machine_reports site.now.dir.now site.now.machine site.now.is_zone_unknown) }
+    ensures text { Puts S.takes_all result (S.holds err.old) (S.holds err.new)
+        (machine_reports site.now.dir.now site.now.machine site.now.is_zone_unknown) }
     ensures spared { has_reports site.now.machine site.now.is_zone_unknown ≡ false → result ≡ Ok tt }
     ensures flushed { OnOk result (IsTrue (S.is_flushed err.old) → IsTrue (S.is_flushed err.new)) }
 {
@@ -428,11 +447,4 @@ fn status_of(machine: &Machine, is_clean: bool) -> u8
     } else {
         REFUSED
     }
-}
-
-// Returns a copy of a text.
-fn copy_of(alloc: Global, text: &str) -> Result<Text, AllocError>
-    ensures { IfOk result (λ copy. copy ≡ text.now) }
-{
-    Ok(Text::new(String::from_str(alloc, text)?))
 }

@@ -168,8 +168,12 @@ fn clock_of_file(alloc: Global, name: Option<Text>, bytes: &[u8]) -> Result<Zone
     })
 }
 
-// Returns a copy of a text.
-fn copy_of(alloc: Global, text: &str) -> Result<Text, AllocError>
+/// Returns a copy of a text.
+///
+/// # Errors
+///
+/// `AllocError` if an allocation failed.
+pub(crate) fn copy_of(alloc: Global, text: &str) -> Result<Text, AllocError>
     ensures { IfOk result (λ copy. copy ≡ text.now) }
 {
     Ok(Text::new(String::from_str(alloc, text)?))

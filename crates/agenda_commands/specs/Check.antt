@@ -17,7 +17,7 @@ checked_of false = checked.WithErrors
 
 -- what a check of sources found: there is an error exactly if they make no list of jobs
 abbrev pub sources_checked : TimeZones → List Source → Checked
-sources_checked zones sources = checked_of (is_ok (sources_reading zones.named sources))
+sources_checked zones sources = checked_of (is_ok (sources_reading zones.timers sources))
 
 -- what `check` writes for sources: all findings
 abbrev pub check_output : TimeZones → List SourcePath → List Source → (json : Bool) → Result (List ℕ) RunFault

@@ -25,7 +25,7 @@ asked_rule zones (Event text) = event_rule_reading zones text
 -- the same, in these time zones (agenda)
 abbrev pub asked_reading : TimeZones → Asked → Reading Rule
 asked_reading zones asked = do
-  rule ← asked_rule zones.named asked
+  rule ← asked_rule zones.timers.zones asked
   Ok (rule_in zones.clock rule)
 
 -- the maximum number of starts that can be requested (agenda)

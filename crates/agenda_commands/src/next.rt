@@ -51,7 +51,7 @@ pub fn run_next<S: Stream>(
 fn zoned_rule(alloc: Global, asked: &Asked, zones: &TimeZones) -> Result<Rule, RuleFault>
     ensures { Gives result (asked_reading zones.now asked.now) }
 {
-    let rule = asked_rule(alloc, asked, &zones.named)?;
+    let rule = asked_rule(alloc, asked, &zones.timers.zones)?;
     Ok(rule.in_zone(alloc, &zones.clock)?)
 }
 

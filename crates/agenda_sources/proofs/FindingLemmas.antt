@@ -7,7 +7,7 @@ use Rattle.std.specs.Prelude.{is_ok}
 use Rattle.std.proofs.lemmas.List.Elements.{filter-append}
 use Rattle.plan_clock.specs.declared.row.Change.{Change}
 use Rattle.plan_texts.specs.Steps.{◌>>=◌}
-use Rattle.plan_grammar.specs.EventZones.{Zones}
+use Rattle.plan_check.specs.declared.TimerContext.{TimerContext}
 use Rattle.plan_rules.specs.declared.line_fault.LineFault.{LineFault}
 use Rattle.plan_rules.specs.Job.{JobParts}
 use Rattle.plan_check.specs.declared.deciding.FileFault.{FileFault}
@@ -29,12 +29,12 @@ use Rattle.agenda_sources.proofs.FoldLemmas.{FileLaw}
 
 -- the law of plan_check
 abbrev ErrorLaw : Type 0
-ErrorLaw = (zones : Zones) (known : KnownJobs) (file : File) → file_findings zones (without_warnings known) file
-    ≡ errors_of (file_findings zones known file)
+ErrorLaw = (context : TimerContext) (known : KnownJobs) (file : File) → file_findings context (without_warnings known) file
+    ≡ errors_of (file_findings context known file)
 
 abbrev KnownLaw : Type 0
-KnownLaw = (zones : Zones) (known : KnownJobs) (file : File) → after_file zones (without_warnings known) file
-    ≡ without_warnings (after_file zones known file)
+KnownLaw = (context : TimerContext) (known : KnownJobs) (file : File) → after_file context (without_warnings known) file
+    ≡ without_warnings (after_file context known file)
 
 abbrev all_errors : List Found → List Found
 all_errors found = filter (λ one. not (is_warning one.finding.kind)) found
@@ -54,25 +54,25 @@ errors_at place (finding ∷ more) =
     (errors_at place more)
 
 pub errors_from :
-    (zones : Zones) → ErrorLaw → KnownLaw → (place : ℕ) (known : KnownJobs) (sources : List Source) →
-    found_from zones place (without_warnings known) sources ≡ all_errors (found_from zones place known sources)
-errors_from zones errors known_law place known [] = refl
-errors_from zones errors known_law place known (source ∷ more) =
+    (context : TimerContext) → ErrorLaw → KnownLaw → (place : ℕ) (known : KnownJobs) (sources : List Source) →
+    found_from context place (without_warnings known) sources ≡ all_errors (found_from context place known sources)
+errors_from context errors known_law place known [] = refl
+errors_from context errors known_law place known (source ∷ more) =
     let file = source_file source in
-    let after = after_file zones known file in
-    (λ i. map (found_at place) (errors zones known file i) ++ found_from zones (place + 1) (known_law zones known file i) more)
-    ∙ (λ i. errors_at place (file_findings zones known file) i ++ errors_from zones errors known_law (place + 1) after more i)
+    let after = after_file context known file in
+    (λ i. map (found_at place) (errors context known file i) ++ found_from context (place + 1) (known_law context known file i) more)
+    ∙ (λ i. errors_at place (file_findings context known file) i ++ errors_from context errors known_law (place + 1) after more i)
     ∙ sym (filter-append (λ (one : Found). not (is_warning one.finding.kind))
-    (map (found_at place) (file_findings zones known file))
-    (found_from zones (place + 1) after more))
+    (map (found_at place) (file_findings context known file))
+    (found_from context (place + 1) after more))
 
 pub known_from :
-    (zones : Zones) → KnownLaw → (known : KnownJobs) (sources : List Source) →
-    after_sources zones (without_warnings known) sources ≡ without_warnings (after_sources zones known sources)
-known_from zones law known [] = refl
-known_from zones law known (source ∷ more) =
-    ap (λ (next : KnownJobs). after_sources zones next more) (law zones known (source_file source))
-    ∙ known_from zones law (after_file zones known (source_file source)) more
+    (context : TimerContext) → KnownLaw → (known : KnownJobs) (sources : List Source) →
+    after_sources context (without_warnings known) sources ≡ without_warnings (after_sources context known sources)
+known_from context law known [] = refl
+known_from context law known (source ∷ more) =
+    ap (λ (next : KnownJobs). after_sources context next more) (law context known (source_file source))
+    ∙ known_from context law (after_file context known (source_file source)) more
 
 -- ---- the jobs of sources without errors
 
@@ -93,31 +93,31 @@ never_ok (Some fault) late after next is = cc
 
 source_agrees :
     (place : ℕ) (found : List Finding) (after : KnownJobs) (made : Result (List JobParts) FileFault)
-    (more : List Source) (zones : Zones) →
+    (more : List Source) (context : TimerContext) →
     unless_fault (deciding found) after ≡ (made >>= λ next. Ok (known_jobs next)) →
-    ((next : List JobParts) → Agrees (sources_from zones (place + 1) next more) (found_from zones (place + 1) (known_jobs next) more)
-    (after_sources zones (known_jobs next) more)) →
-    Agrees (in_source place made >>= λ next. sources_from zones (place + 1) next more)
-    (map (found_at place) found ++ found_from zones (place + 1) after more) (after_sources zones after more)
-source_agrees place [] after (Ok next) more zones is later =
+    ((next : List JobParts) → Agrees (sources_from context (place + 1) next more) (found_from context (place + 1) (known_jobs next) more)
+    (after_sources context (known_jobs next) more)) →
+    Agrees (in_source place made >>= λ next. sources_from context (place + 1) next more)
+    (map (found_at place) found ++ found_from context (place + 1) after more) (after_sources context after more)
+source_agrees place [] after (Ok next) more context is later =
     let same : after ≡ known_jobs next = cc in
-    subst (λ (known : KnownJobs). Agrees (sources_from zones (place + 1) next more) (found_from zones (place + 1) known more)
-    (after_sources zones known more)) (sym same) (later next)
-source_agrees place [] after (Err fault) more zones is later = absurd cc
-source_agrees place (finding ∷ found) after (Ok next) more zones is later =
+    subst (λ (known : KnownJobs). Agrees (sources_from context (place + 1) next more) (found_from context (place + 1) known more)
+    (after_sources context known more)) (sym same) (later next)
+source_agrees place [] after (Err fault) more context is later = absurd cc
+source_agrees place (finding ∷ found) after (Ok next) more context is later =
     absurd (never_ok (first_early (finding ∷ found)) (late_fault finding.line finding.kind finding.quote) after (known_jobs next) is)
-source_agrees place (finding ∷ found) after (Err fault) more zones is later = refl
+source_agrees place (finding ∷ found) after (Err fault) more context is later = refl
 
 sources_agree :
-    FileLaw → (zones : Zones) (place : ℕ) (jobs : List JobParts) (sources : List Source) →
-    Agrees (sources_from zones place jobs sources) (found_from zones place (known_jobs jobs) sources)
-    (after_sources zones (known_jobs jobs) sources)
-sources_agree law zones place jobs [] = (refl, refl)
-sources_agree law zones place jobs (source ∷ more) =
+    FileLaw → (context : TimerContext) (place : ℕ) (jobs : List JobParts) (sources : List Source) →
+    Agrees (sources_from context place jobs sources) (found_from context place (known_jobs jobs) sources)
+    (after_sources context (known_jobs jobs) sources)
+sources_agree law context place jobs [] = (refl, refl)
+sources_agree law context place jobs (source ∷ more) =
     let file = source_file source in
-    source_agrees place (file_findings zones (known_jobs jobs) file) (after_file zones (known_jobs jobs) file)
-    (with_reading jobs (file_reading zones file.kind file.name file.bytes)) more zones (law zones jobs file)
-    (λ next. sources_agree law zones (place + 1) next more)
+    source_agrees place (file_findings context (known_jobs jobs) file) (after_file context (known_jobs jobs) file)
+    (with_reading jobs (file_reading context file.kind file.name file.bytes)) more context (law context jobs file)
+    (λ next. sources_agree law context (place + 1) next more)
 
 -- ---- no error is found exactly if jobs are made
 
@@ -139,11 +139,11 @@ empty_where_ok (Err fault) found after agrees = agrees
 
 pub clean_sources :
     FileLaw → ErrorLaw → KnownLaw → (zones : TimeZones) (sources : List Source) (found : List Found) →
-    found ≡ sources_findings zones sources → is_all_clean found ≡ is_ok (sources_reading zones.named sources)
+    found ≡ sources_findings zones sources → is_all_clean found ≡ is_ok (sources_reading zones.timers sources)
 clean_sources law errors known zones sources found is =
     ap is_all_clean is ∙ clean_where_empty (sources_findings zones sources)
-    ∙ ap is_empty (sym (errors_from zones.named errors known 0 (no_jobs (Some zones.clock)) sources))
-    ∙ empty_where_ok (sources_reading zones.named sources) _ _ (sources_agree law zones.named 0 [] sources)
+    ∙ ap is_empty (sym (errors_from zones.timers errors known 0 (no_jobs (Some zones.clock)) sources))
+    ∙ empty_where_ok (sources_reading zones.timers sources) _ _ (sources_agree law zones.timers 0 [] sources)
 
 -- ---- the jobs that are kept
 
@@ -159,7 +159,7 @@ pub all_kept :
     jobs_reading zones sources ≡ Ok (kept_jobs zones sources)
 all_kept law errors known zones sources none =
     let state = no_jobs (Some zones.clock) in
-    kept_by zones.clock (sources_reading zones.named sources) (found_from zones.named 0 (known_jobs []) sources)
-    (after_sources zones.named (known_jobs []) sources) (sources_agree law zones.named 0 [] sources)
-    (errors_from zones.named errors known 0 state sources ∙ none)
-    ∙ ap (λ (last : KnownJobs). Ok (zoned zones.clock last.jobs)) (known_from zones.named known state sources)
+    kept_by zones.clock (sources_reading zones.timers sources) (found_from zones.timers 0 (known_jobs []) sources)
+    (after_sources zones.timers (known_jobs []) sources) (sources_agree law zones.timers 0 [] sources)
+    (errors_from zones.timers errors known 0 state sources ∙ none)
+    ∙ ap (λ (last : KnownJobs). Ok (zoned zones.clock last.jobs)) (known_from zones.timers known state sources)

@@ -4,7 +4,7 @@
 use Rattle.std.proofs.Common.{◌≡◌, ℕ, ◌+◌, ◌<◌, List, [], ◌∷◌, ◌++◌, length, get_or, drop, map, Result, Ok, Err, refl, ap, sym, append_assoc, ◌∙◌}
 use Rattle.std.proofs.lemmas.List.{drop_more}
 use Rattle.plan_texts.specs.Steps.{◌>>=◌}
-use Rattle.plan_grammar.specs.EventZones.{Zones}
+use Rattle.plan_check.specs.declared.TimerContext.{TimerContext}
 use Rattle.plan_rules.specs.Job.{JobParts}
 use Rattle.plan_check.specs.declared.deciding.FileFault.{FileFault}
 use Rattle.plan_check.specs.Deciding.{known_jobs, known_with, strictly, with_reading}
@@ -18,14 +18,14 @@ use Rattle.agenda_sources.specs.Findings.{after_sources, found_at, found_from, s
 use Rattle.agenda_sources.specs.Sources.{sources_from, sources_reading}
 
 -- what is known after sources, or the error that decides in the first that has an error
-abbrev pub strictly_from : Zones → ℕ → KnownJobs → List Source → SourceReading KnownJobs
-strictly_from zones place known [] = Ok known
-strictly_from zones place known (source ∷ more) =
-    in_source place (strictly zones known (source_file source)) >>= λ next. strictly_from zones (place + 1) next more
+abbrev pub strictly_from : TimerContext → ℕ → KnownJobs → List Source → SourceReading KnownJobs
+strictly_from context place known [] = Ok known
+strictly_from context place known (source ∷ more) =
+    in_source place (strictly context known (source_file source)) >>= λ next. strictly_from context (place + 1) next more
 
 -- the rest, from a source on
-abbrev pub left : Zones → List Source → ℕ → KnownJobs → SourceReading KnownJobs
-left zones sources index known = strictly_from zones index known (drop index sources)
+abbrev pub left : TimerContext → List Source → ℕ → KnownJobs → SourceReading KnownJobs
+left context sources index known = strictly_from context index known (drop index sources)
 
 -- the rest of the sources, from a source on
 sources_left :
@@ -35,38 +35,39 @@ sources_left sources index source within is =
     drop_more sources index source within ∙ ap (λ (s : Source). s ∷ drop (index + 1) sources) (sym is)
 
 next_source :
-    (zones : Zones) (sources : List Source) (index : ℕ) (source : Source) (known : KnownJobs) → index < length sources →
+    (context : TimerContext) (sources : List Source) (index : ℕ) (source : Source) (known : KnownJobs) → index < length sources →
     source ≡ get_or sources index source →
-    left zones sources index known
-    ≡ (in_source index (strictly zones known (source_file source)) >>= λ next. left zones sources (index + 1) next)
-next_source zones sources index source known within is =
+    left context sources index known
+    ≡ (in_source index (strictly context known (source_file source)) >>= λ next. left context sources (index + 1) next)
+next_source context sources index source known within is =
     rw (sources_left sources index source within is) refl
 
 -- the source was read
 pub read_on :
-    (zones : Zones) (sources : List Source) (index : ℕ) (source : Source) (known next : KnownJobs) (whole : SourceReading KnownJobs) →
-    index < length sources → source ≡ get_or sources index source → left zones sources index known ≡ whole →
-    in_source index (strictly zones known (source_file source)) ≡ Ok next → left zones sources (index + 1) next ≡ whole
-read_on zones sources index source known next whole within is so_far read =
-    sym (ap (λ (r : SourceReading KnownJobs). r >>= λ next. left zones sources (index + 1) next) read) ∙
-    sym (next_source zones sources index source known within is) ∙ so_far
+    (context : TimerContext) (sources : List Source) (index : ℕ) (source : Source) (known next : KnownJobs)
+    (whole : SourceReading KnownJobs) →
+    index < length sources → source ≡ get_or sources index source → left context sources index known ≡ whole →
+    in_source index (strictly context known (source_file source)) ≡ Ok next → left context sources (index + 1) next ≡ whole
+read_on context sources index source known next whole within is so_far read =
+    sym (ap (λ (r : SourceReading KnownJobs). r >>= λ next. left context sources (index + 1) next) read) ∙
+    sym (next_source context sources index source known within is) ∙ so_far
 
 -- the source has an error
 pub read_fault :
-    (zones : Zones) (sources : List Source) (index : ℕ) (source : Source) (known : KnownJobs) (fault : SourceFault)
+    (context : TimerContext) (sources : List Source) (index : ℕ) (source : Source) (known : KnownJobs) (fault : SourceFault)
     (whole : SourceReading KnownJobs) →
-    index < length sources → source ≡ get_or sources index source → left zones sources index known ≡ whole →
-    in_source index (strictly zones known (source_file source)) ≡ Err fault → whole ≡ Err fault
-read_fault zones sources index source known fault whole within is so_far read =
-    sym so_far ∙ next_source zones sources index source known within is ∙
-    ap (λ (r : SourceReading KnownJobs). r >>= λ next. left zones sources (index + 1) next) read
+    index < length sources → source ≡ get_or sources index source → left context sources index known ≡ whole →
+    in_source index (strictly context known (source_file source)) ≡ Err fault → whole ≡ Err fault
+read_fault context sources index source known fault whole within is so_far read =
+    sym so_far ∙ next_source context sources index source known within is ∙
+    ap (λ (r : SourceReading KnownJobs). r >>= λ next. left context sources (index + 1) next) read
 
 -- ---- the jobs of sources
 
 -- the law of plan_check
 abbrev pub FileLaw : Type 0
-FileLaw = (zones : Zones) (jobs : List JobParts) (file : File) →
-    strictly zones (known_jobs jobs) file ≡ known_with jobs (file_reading zones file.kind file.name file.bytes)
+FileLaw = (context : TimerContext) (jobs : List JobParts) (file : File) →
+    strictly context (known_jobs jobs) file ≡ known_with jobs (file_reading context file.kind file.name file.bytes)
 
 known_then :
     (place : ℕ) (made : Result (List JobParts) FileFault) (known : KnownJobs → SourceReading KnownJobs)
@@ -78,49 +79,50 @@ known_then place (Err fault) known jobs later = refl
 
 -- the jobs that are known after sources are those of the sources
 pub jobs_known :
-    FileLaw → (zones : Zones) (place : ℕ) (jobs : List JobParts) (sources : List Source) →
-    (strictly_from zones place (known_jobs jobs) sources >>= λ last. Ok last.jobs) ≡ sources_from zones place jobs sources
-jobs_known law zones place jobs [] = refl
-jobs_known law zones place jobs (source ∷ more) =
+    FileLaw → (context : TimerContext) (place : ℕ) (jobs : List JobParts) (sources : List Source) →
+    (strictly_from context place (known_jobs jobs) sources >>= λ last. Ok last.jobs) ≡ sources_from context place jobs sources
+jobs_known law context place jobs [] = refl
+jobs_known law context place jobs (source ∷ more) =
     let file = source_file source in
     ap (λ (r : Result KnownJobs FileFault).
-    (in_source place r >>= λ next. strictly_from zones (place + 1) next more) >>= λ last. Ok last.jobs) (law zones jobs file)
-    ∙ known_then place (with_reading jobs (file_reading zones file.kind file.name file.bytes))
-    (λ next. strictly_from zones (place + 1) next more) (λ next. sources_from zones (place + 1) next more)
-    (λ next. jobs_known law zones (place + 1) next more)
+    (in_source place r >>= λ next. strictly_from context (place + 1) next more) >>= λ last. Ok last.jobs) (law context jobs file)
+    ∙ known_then place (with_reading jobs (file_reading context file.kind file.name file.bytes))
+    (λ next. strictly_from context (place + 1) next more) (λ next. sources_from context (place + 1) next more)
+    (λ next. jobs_known law context (place + 1) next more)
 
 -- after the last source, and after one with an error
 pub all_read :
-    FileLaw → (zones : Zones) (sources : List Source) (read : SourceReading KnownJobs) →
-    strictly_from zones 0 (known_jobs []) sources ≡ read → sources_reading zones sources ≡ (read >>= λ last. Ok last.jobs)
-all_read law zones sources read is =
-    sym (jobs_known law zones 0 [] sources) ∙ ap (λ (r : SourceReading KnownJobs). r >>= λ last. Ok last.jobs) is
+    FileLaw → (context : TimerContext) (sources : List Source) (read : SourceReading KnownJobs) →
+    strictly_from context 0 (known_jobs []) sources ≡ read → sources_reading context sources ≡ (read >>= λ last. Ok last.jobs)
+all_read law context sources read is =
+    sym (jobs_known law context 0 [] sources) ∙ ap (λ (r : SourceReading KnownJobs). r >>= λ last. Ok last.jobs) is
 
 -- ---- findings
 
 -- the findings of the source were added
 pub found_on :
-    (zones : Zones) (sources : List Source) (index : ℕ) (source : Source) (known next : KnownJobs) (before after whole : List Found) →
+    (context : TimerContext) (sources : List Source) (index : ℕ) (source : Source) (known next : KnownJobs)
+    (before after whole : List Found) →
     index < length sources → source ≡ get_or sources index source →
-    before ++ found_from zones index known (drop index sources) ≡ whole →
-    after ≡ before ++ map (found_at index) (file_findings zones known (source_file source)) →
-    next ≡ after_file zones known (source_file source) →
-    after ++ found_from zones (index + 1) next (drop (index + 1) sources) ≡ whole
-found_on zones sources index source known next before after whole within is so_far added kept =
+    before ++ found_from context index known (drop index sources) ≡ whole →
+    after ≡ before ++ map (found_at index) (file_findings context known (source_file source)) →
+    next ≡ after_file context known (source_file source) →
+    after ++ found_from context (index + 1) next (drop (index + 1) sources) ≡ whole
+found_on context sources index source known next before after whole within is so_far added kept =
     let more = drop (index + 1) sources in
-    let here = map (found_at index) (file_findings zones known (source_file source)) in
-    (λ i. added i ++ found_from zones (index + 1) (kept i) more)
-    ∙ append_assoc before here (found_from zones (index + 1) (after_file zones known (source_file source)) more)
-    ∙ sym (ap (λ left. before ++ found_from zones index known left) (sources_left sources index source within is))
+    let here = map (found_at index) (file_findings context known (source_file source)) in
+    (λ i. added i ++ found_from context (index + 1) (kept i) more)
+    ∙ append_assoc before here (found_from context (index + 1) (after_file context known (source_file source)) more)
+    ∙ sym (ap (λ left. before ++ found_from context index known left) (sources_left sources index source within is))
     ∙ so_far
 
 -- what the source leaves is known
 pub known_on :
-    (zones : Zones) (sources : List Source) (index : ℕ) (source : Source) (known next whole : KnownJobs) →
+    (context : TimerContext) (sources : List Source) (index : ℕ) (source : Source) (known next whole : KnownJobs) →
     index < length sources → source ≡ get_or sources index source →
-    after_sources zones known (drop index sources) ≡ whole → next ≡ after_file zones known (source_file source) →
-    after_sources zones next (drop (index + 1) sources) ≡ whole
-known_on zones sources index source known next whole within is so_far kept =
-    ap (λ known. after_sources zones known (drop (index + 1) sources)) kept
-    ∙ sym (ap (after_sources zones known) (sources_left sources index source within is))
+    after_sources context known (drop index sources) ≡ whole → next ≡ after_file context known (source_file source) →
+    after_sources context next (drop (index + 1) sources) ≡ whole
+known_on context sources index source known next whole within is so_far kept =
+    ap (λ known. after_sources context known (drop (index + 1) sources)) kept
+    ∙ sym (ap (after_sources context known) (sources_left sources index source within is))
     ∙ so_far

@@ -2,7 +2,7 @@
 use Rattle.std.specs.Prelude.{ℕ, ◌+◌, List, [], ◌∷◌, Ok}
 use Rattle.plan_clock.specs.declared.row.Change.{Change}
 use Rattle.plan_texts.specs.Steps.{◌>>=◌}
-use Rattle.plan_grammar.specs.EventZones.{Zones}
+use Rattle.plan_check.specs.declared.TimerContext.{TimerContext}
 use Rattle.plan_rules.specs.Job.{JobParts}
 use Rattle.plan_rules.specs.Zone.{jobs_in}
 use Rattle.agenda_sources.specs.declared.time_zones.TimeZones.{TimeZones}
@@ -13,24 +13,24 @@ use Rattle.plan_check.specs.Files.{file_reading}
 
 -- ---- one more source
 
--- these jobs, then those of the source at a place, from 0. Calendar events may name these zones
-abbrev pub with_source : Zones → ℕ → List JobParts → Source → SourceReading (List JobParts)
-with_source zones place jobs source =
-    in_source place (with_reading jobs (file_reading zones source.kind source.name source.bytes))
+-- these jobs, then those of the source at a place, from 0. Timers are read in this context
+abbrev pub with_source : TimerContext → ℕ → List JobParts → Source → SourceReading (List JobParts)
+with_source context place jobs source =
+    in_source place (with_reading jobs (file_reading context source.kind source.name source.bytes))
 
 -- ---- all sources
 
 -- these jobs, then those of sources in order, the first of which is at this place. A source's jobs are added
 -- before the next is read
-abbrev pub sources_from : Zones → ℕ → List JobParts → List Source → SourceReading (List JobParts)
-sources_from zones place jobs [] = Ok jobs
-sources_from zones place jobs (source ∷ more) = do
-  next ← with_source zones place jobs source
-  sources_from zones (place + 1) next more
+abbrev pub sources_from : TimerContext → ℕ → List JobParts → List Source → SourceReading (List JobParts)
+sources_from context place jobs [] = Ok jobs
+sources_from context place jobs (source ∷ more) = do
+  next ← with_source context place jobs source
+  sources_from context (place + 1) next more
 
 -- the jobs of all sources, in UTC
-abbrev pub sources_reading : Zones → List Source → SourceReading (List JobParts)
-sources_reading zones sources = sources_from zones 0 [] sources
+abbrev pub sources_reading : TimerContext → List Source → SourceReading (List JobParts)
+sources_reading context sources = sources_from context 0 [] sources
 
 -- jobs in the zone of a clock; in UTC they are unchanged
 abbrev pub zoned : List Change → List JobParts → List JobParts
@@ -40,5 +40,5 @@ zoned (first ∷ more) jobs = jobs_in (first ∷ more) jobs
 -- the jobs of all sources, in these time zones
 abbrev pub jobs_reading : TimeZones → List Source → SourceReading (List JobParts)
 jobs_reading zones sources = do
-  jobs ← sources_reading zones.named sources
+  jobs ← sources_reading zones.timers sources
   Ok (zoned zones.clock jobs)

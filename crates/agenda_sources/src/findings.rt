@@ -11,9 +11,11 @@ ghost use Rattle.agenda_sources.specs.Sources.{jobs_reading, sources_reading};
 use crate::reading::in_zone;
 use crate::sources::{Source, Sources};
 use crate::time_zones::TimeZones;
-use plan_check::{Finding, Known, a_file_means_its_reading, errors_need_no_clock, file_findings};
+use plan_check::{
+    Finding, Known, TimerContext, a_file_means_its_reading, errors_need_no_clock, file_findings,
+};
 use plan_clock::Clock;
-use plan_rules::{EventZones, Jobs};
+use plan_rules::Jobs;
 use std::alloc::{AllocError, Global};
 
 /// A finding in one of several sources.
@@ -48,12 +50,12 @@ pub fn findings_of_sources(
 ) -> Result<Vec<Found>, AllocError>
     ensures found { IfOk result (λ found. found.items ≡ sources_findings zones.now sources.now) }
     // There is no error among the findings exactly if `jobs_of_sources` makes a list of jobs of the sources.
-    ensures clean { IfOk result (λ found. is_all_clean found.items ≡ is_ok (sources_reading zones.now.named sources.now)) }
+    ensures clean { IfOk result (λ found. is_all_clean found.items ≡ is_ok (sources_reading zones.now.timers sources.now)) }
 {
     a_file_means_its_reading();
     errors_need_no_clock();
     let clock = zones.clock.try_clone()?;
-    let (found, _) = read_sources(alloc, sources, Some(clock), &zones.named)?;
+    let (found, _) = read_sources(alloc, sources, Some(clock), &zones.timers)?;
     Ok(found)
 }
 
@@ -80,7 +82,7 @@ pub fn kept_of_sources(
 {
     errors_need_no_clock();
     without_errors_all_is_kept();
-    let (errors, known) = read_sources(alloc, sources, None, &zones.named)?;
+    let (errors, known) = read_sources(alloc, sources, None, &zones.timers)?;
     let jobs = in_zone(alloc, known.into_jobs(), &zones.clock)?;
     Ok(Kept { errors, jobs })
 }
@@ -96,22 +98,22 @@ pub fn without_errors_all_is_kept()
     errors_need_no_clock();
 }
 
-// Returns the findings of the sources, and what is known after the last one. Events may name these zones. Without a clock
+// Returns the findings of the sources, and what is known after the last one. Timers are read in this context. Without a clock
 // there are no warnings.
 fn read_sources(
     alloc: Global,
     sources: &Sources,
     clock: Option<Clock>,
-    zones: &EventZones,
+    context: &TimerContext,
 ) -> Result<(Vec<Found>, Known), AllocError>
-    ensures found { IfOk result (λ read. read.0.items ≡ found_from zones.now 0 (no_jobs clock) sources.now) }
-    ensures known { IfOk result (λ read. read.1 ≡ after_sources zones.now (no_jobs clock) sources.now) }
+    ensures found { IfOk result (λ read. read.0.items ≡ found_from context.now 0 (no_jobs clock) sources.now) }
+    ensures known { IfOk result (λ read. read.1 ≡ after_sources context.now (no_jobs clock) sources.now) }
 {
     let mut known = Known::new(alloc, clock);
     let mut found = Vec::new(alloc);
     let sources = sources.as_slice();
     for (place, source) in sources.iter().enumerate() {
-        add_source(alloc, &mut known, &mut found, place, source, zones)?;
+        add_source(alloc, &mut known, &mut found, place, source, context)?;
     }
     Ok((found, known))
 }
@@ -123,14 +125,14 @@ fn add_source(
     found: &mut Vec<Found>,
     place: usize,
     source: &Source,
-    zones: &EventZones,
+    context: &TimerContext,
 ) -> Result<(), AllocError>
     ensures found { OnOk result (found.new.items ≡ found.old.items
-        ++ map (found_at place) (file_findings zones.now known.old (source_file source.now))) }
-    ensures known { OnOk result (known.new ≡ after_file zones.now known.old (source_file source.now)) }
+        ++ map (found_at place) (file_findings context.now known.old (source_file source.now))) }
+    ensures known { OnOk result (known.new ≡ after_file context.now known.old (source_file source.now)) }
 {
     let (name, bytes) = (source.name.as_str(), source.bytes.as_slice());
-    let more = file_findings(alloc, known, source.kind, name, bytes, zones)?;
+    let more = file_findings(alloc, known, source.kind, name, bytes, context)?;
     add_all(found, place, more)
 }
 

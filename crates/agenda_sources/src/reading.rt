@@ -11,9 +11,11 @@ ghost use Rattle.agenda_sources.specs.Sources.{jobs_reading, sources_reading, zo
 use crate::fault::SourceFault;
 use crate::sources::{Source, Sources};
 use crate::time_zones::TimeZones;
-use plan_check::{Known, a_file_means_its_reading, cause_at_once, deciding_fault, file_findings};
+use plan_check::{
+    Known, TimerContext, a_file_means_its_reading, cause_at_once, deciding_fault, file_findings,
+};
 use plan_clock::Clock;
-use plan_rules::{EventZones, Jobs, LineFault};
+use plan_rules::{Jobs, LineFault};
 use std::alloc::{AllocError, Global};
 
 /// Returns the jobs of the sources, in the order of the sources: one for each command line of a crontab, and
@@ -46,7 +48,7 @@ pub fn jobs_of_sources(
     if let Some(fault) = fault_at_once(sources) {
         return Err(fault);
     }
-    let jobs = read_jobs(alloc, sources, &zones.named)?;
+    let jobs = read_jobs(alloc, sources, &zones.timers)?;
     match in_zone(alloc, jobs, &zones.clock) {
         Ok(jobs) => Ok(jobs),
         Err(_) => Err(SourceFault::NoMemory),
@@ -64,9 +66,9 @@ pub(crate) fn in_zone(alloc: Global, jobs: Jobs, clock: &Clock) -> Result<Jobs, 
     jobs.in_zone(alloc, clock)
 }
 
-// Returns the same jobs, all in UTC but for events that name one of these zones.
-fn read_jobs(alloc: Global, sources: &Sources, zones: &EventZones) -> Result<Jobs, SourceFault>
-    ensures meaning { GivesUnless SourceFault.NoMemory (λ jobs. jobs) result (sources_reading zones.now sources.now) }
+// Returns the same jobs, all in UTC but for events that name a zone. Timers are read in this context.
+fn read_jobs(alloc: Global, sources: &Sources, context: &TimerContext) -> Result<Jobs, SourceFault>
+    ensures meaning { GivesUnless SourceFault.NoMemory (λ jobs. jobs) result (sources_reading context.now sources.now) }
     ensures own_fault { IfErr result IsOwnFault }
     ensures no_source { sources.now ≡ [] → result ≡ Ok [] }
 {
@@ -74,7 +76,7 @@ fn read_jobs(alloc: Global, sources: &Sources, zones: &EventZones) -> Result<Job
     let mut known = Known::new(alloc, None);
     let sources = sources.as_slice();
     for (place, source) in sources.iter().enumerate() {
-        add_jobs(alloc, &mut known, place, source, zones)?;
+        add_jobs(alloc, &mut known, place, source, context)?;
     }
     Ok(known.into_jobs())
 }
@@ -85,10 +87,10 @@ fn add_jobs(
     known: &mut Known,
     place: usize,
     source: &Source,
-    zones: &EventZones,
+    context: &TimerContext,
 ) -> Result<(), SourceFault>
     ensures meaning { GivesUnless SourceFault.NoMemory (λ _. known.new) result
-        (in_source place (strictly zones.now known.old (source_file source.now))) }
+        (in_source place (strictly context.now known.old (source_file source.now))) }
     ensures own_fault { IfErr result IsOwnFault }
 
     // These errors are found before any memory is requested.
@@ -98,7 +100,7 @@ fn add_jobs(
         return Err(fault);
     }
     let (name, bytes) = (source.name.as_str(), source.bytes.as_slice());
-    let Ok(found) = file_findings(alloc, known, source.kind, name, bytes, zones) else {
+    let Ok(found) = file_findings(alloc, known, source.kind, name, bytes, context) else {
         return Err(SourceFault::NoMemory);
     };
     match deciding_fault(alloc, found) {

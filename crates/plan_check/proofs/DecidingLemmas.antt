@@ -35,10 +35,12 @@ use Rattle.plan_rules.specs.SourceKind.{is_package_name, is_user_name, name_caus
 use Rattle.plan_rules.specs.Timer.{Effect, Reset, Event, Starts, Nothing, effects_from, has_timer, is_timer_name, job_with, settings_from, timer_job, timer_setting}
 use Rattle.plan_rules.specs.TimerDelays.{Setting, delay_of}
 use Rattle.plan_rules.specs.TimerEntries.{EventCount, effect_in, LineStep, Idle, Empties, Has, Names, TimerState, Draft, entries_from, entry_of, line_by, line_in, lines_draft, no_events, no_lines, state_after, timer_lines, timer_of_lines}
+use Rattle.plan_check.specs.declared.context.TimerContext.{TimerContext}
 use Rattle.plan_check.specs.declared.deciding.FileFault.{FileFault}
 use Rattle.plan_check.specs.declared.deciding.FileFault.TheVariants as fault
 use Rattle.plan_check.specs.declared.finding.Finding.{Finding}
 use Rattle.plan_check.specs.declared.finding.FindingKind.TheVariants.{Rejected, SameName, Full}
+use Rattle.plan_check.specs.Context.{delay_in}
 use Rattle.plan_check.specs.Crontabs.{after_crontab, after_line, after_lines, crontab_findings, field_quote, line_findings, lines_findings}
 use Rattle.plan_check.specs.Deciding.{deciding, early_cause, early_fault, known_jobs, known_with, late_fault, strictly, unless_fault, with_each}
 use Rattle.plan_check.specs.Finding.{finding_at, first_of, found_if, rejected_at}
@@ -373,64 +375,74 @@ timer_means (rejected ∷ others) good has jobs n job found few is early none =
     (after_other (known_jobs jobs) job.name)) rejected others
     (early_timer has (is_some (number_of job.name jobs)) (nat_lt n most_jobs) job.name found ∙ early)
 
--- the job is made at the end
+-- the job is made at the end, and has its delay then
 made_last :
-    (faults : List LineFault) (has : Bool) (name : List ℕ) (draft : Draft) (delay : ℕ) →
+    (faults : List LineFault) (has : Bool) (name : List ℕ) (draft : Draft) (first delay : ℕ) →
     (unless_faulty faults (timer_job name draft.unit draft.events delay) >>= λ job. cond has (Ok job) (on_line 0 (Err NoTimerSection)))
-    ≡ (unless_faulty faults draft >>= λ draft. job_with has name draft.unit draft.events delay)
-made_last [] has name draft delay = refl
-made_last (rejected ∷ others) has name draft delay = refl
+    ≡ ((unless_faulty faults draft >>= λ draft. job_with has name draft.unit draft.events first)
+    >>= λ job. Ok (record job { delay = delay }))
+made_last [] true name draft first delay = refl
+made_last [] false name draft first delay = refl
+made_last (rejected ∷ others) has name draft first delay = refl
+
+-- a job with the delay that settings give in a context
+abbrev delayed : TimerContext → List (ℕ × List ℕ) → JobParts → JobParts
+delayed context lines job = record job { delay = delay_in context (settings_from false lines) }
 
 lines_of_timer :
-    (zones : Zones) (jobs : List JobParts) (name : List ℕ) (lines : List (ℕ × List ℕ)) → is_timer_name name ≡ true →
-    strict (timer_findings zones (known_jobs jobs) name (Ok lines)) (after_timer zones (known_jobs jobs) name (Ok lines))
-    ≡ known_with jobs (alone (timer_of_lines zones name lines))
-lines_of_timer zones jobs name lines good =
-    let faults = faults_of (entries_from zones no_events (effects_from false lines)) in
-    let are = events_rejected (no_lines zones) lines in
-    timer_means faults (is_timer_name name) (has_timer lines) jobs (0 + length jobs) (right_job zones name lines)
-    (timers.lines_findings None (no_lines zones) lines) (omega arith) good are.0 are.1
+    (context : TimerContext) (jobs : List JobParts) (name : List ℕ) (lines : List (ℕ × List ℕ)) → is_timer_name name ≡ true →
+    strict (timer_findings context (known_jobs jobs) name (Ok lines)) (after_timer context (known_jobs jobs) name (Ok lines))
+    ≡ known_with jobs (alone (timer_of_lines context.zones name lines >>= λ job. Ok (delayed context lines job)))
+lines_of_timer context jobs name lines good =
+    let faults = faults_of (entries_from context.zones no_events (effects_from false lines)) in
+    let are = events_rejected (no_lines context.zones) lines in
+    timer_means faults (is_timer_name name) (has_timer lines) jobs (0 + length jobs) (right_job context name lines)
+    (timers.lines_findings None (no_lines context.zones) lines) (omega arith) good are.0 are.1
     ∙ ap (λ reading. known_with jobs (alone reading))
-    (made_last faults (has_timer lines) name (lines_draft zones lines) (delay_of (settings_from false lines)))
+    (made_last faults (has_timer lines) name (lines_draft context.zones lines) (delay_of (settings_from false lines))
+    (delay_in context (settings_from false lines)))
 
 timer_text_means :
-    (large utf8 : Bool) (zones : Zones) (jobs : List JobParts) (name bytes : List ℕ) (f : List ℕ → List (ℕ × List ℕ)) →
+    (large utf8 : Bool) (context : TimerContext) (jobs : List JobParts) (name bytes : List ℕ) (f : List ℕ → List (ℕ × List ℕ)) →
     is_timer_name name ≡ true →
     let text = on_line 0 (cond large (Err TooLarge) (cond utf8 (Ok bytes) (Err NotUtf8))) in
-    strict (timer_findings zones (known_jobs jobs) name (text >>= λ text. Ok (f text)))
-    (after_timer zones (known_jobs jobs) name (text >>= λ text. Ok (f text)))
-    ≡ known_with jobs (alone ((text >>= λ text. Ok (f text)) >>= λ lines. timer_of_lines zones name lines))
-timer_text_means true utf8 zones jobs name bytes f good = refl
-timer_text_means false true zones jobs name bytes f good = lines_of_timer zones jobs name (f bytes) good
-timer_text_means false false zones jobs name bytes f good = refl
+    strict (timer_findings context (known_jobs jobs) name (text >>= λ text. Ok (f text)))
+    (after_timer context (known_jobs jobs) name (text >>= λ text. Ok (f text)))
+    ≡ known_with jobs (alone (((text >>= λ text. Ok (f text)) >>= λ lines. timer_of_lines context.zones name lines)
+    >>= λ job. (text >>= λ text. Ok (f text)) >>= λ lines. Ok (delayed context lines job)))
+timer_text_means true utf8 context jobs name bytes f good = refl
+timer_text_means false true context jobs name bytes f good = lines_of_timer context jobs name (f bytes) good
+timer_text_means false false context jobs name bytes f good = refl
 
 -- a timer whose name is good
 timer_named :
-    (good : Bool) (zones : Zones) (jobs : List JobParts) (name bytes : List ℕ) → is_timer_name name ≡ good →
+    (good : Bool) (context : TimerContext) (jobs : List JobParts) (name bytes : List ℕ) → is_timer_name name ≡ good →
     cond good None (Some BadTimerName) ≡ None →
-    strict (timer_findings zones (known_jobs jobs) name (timer_lines bytes)) (after_timer zones (known_jobs jobs) name (timer_lines bytes))
-    ≡ known_with jobs (alone (cond good (timer_lines bytes >>= λ lines. timer_of_lines zones name lines) (on_line 0 (Err BadTimerName))))
-timer_named true zones jobs name bytes good named =
-    timer_text_means (is_too_large bytes) (is_utf8 bytes) zones jobs name bytes
+    strict (timer_findings context (known_jobs jobs) name (timer_lines bytes))
+    (after_timer context (known_jobs jobs) name (timer_lines bytes))
+    ≡ known_with jobs (alone (cond good (timer_lines bytes >>= λ lines. timer_of_lines context.zones name lines)
+    (on_line 0 (Err BadTimerName)) >>= λ job. timer_lines bytes >>= λ lines. Ok (delayed context lines job)))
+timer_named true context jobs name bytes good named =
+    timer_text_means (is_too_large bytes) (is_utf8 bytes) context jobs name bytes
     (λ text. map (λ line. (line.0, trimmed line.1)) (whole_lines text)) good
-timer_named false zones jobs name bytes good named = absurd cc
+timer_named false context jobs name bytes good named = absurd cc
 
 -- ---- a file
 
 text_jobs :
-    (zones : Zones) (jobs : List JobParts) (kind : SourceKind) (name bytes : List ℕ) → name_cause kind name ≡ None →
-    strict (text_findings zones (known_jobs jobs) kind name bytes) (after_text zones (known_jobs jobs) kind name bytes)
-    ≡ known_with jobs (jobs_of_text zones kind name bytes)
-text_jobs zones jobs Crontab name bytes named = crontab_means jobs (codes "cron") whose.User bytes
-text_jobs zones jobs System name bytes named = crontab_means jobs (codes "system") whose.System bytes
-text_jobs zones jobs CronD name bytes named = crontab_means jobs name whose.System bytes
-text_jobs zones jobs Spool name bytes named = crontab_means jobs name whose.User bytes
-text_jobs zones jobs Timer name bytes named = timer_named (is_timer_name name) zones jobs name bytes refl named
+    (context : TimerContext) (jobs : List JobParts) (kind : SourceKind) (name bytes : List ℕ) → name_cause kind name ≡ None →
+    strict (text_findings context (known_jobs jobs) kind name bytes) (after_text context (known_jobs jobs) kind name bytes)
+    ≡ known_with jobs (jobs_of_text context kind name bytes)
+text_jobs context jobs Crontab name bytes named = crontab_means jobs (codes "cron") whose.User bytes
+text_jobs context jobs System name bytes named = crontab_means jobs (codes "system") whose.System bytes
+text_jobs context jobs CronD name bytes named = crontab_means jobs name whose.System bytes
+text_jobs context jobs Spool name bytes named = crontab_means jobs name whose.User bytes
+text_jobs context jobs Timer name bytes named = timer_named (is_timer_name name) context jobs name bytes refl named
 
 pub law_of_readings :
-    (zones : Zones) (jobs : List JobParts) (file : File) →
-    strictly zones (known_jobs jobs) file ≡ known_with jobs (file_reading zones file.kind file.name file.bytes)
-law_of_readings zones jobs file =
-    named_means (name_cause file.kind file.name) jobs (jobs_of_text zones file.kind file.name file.bytes)
-    (λ known. text_findings zones known file.kind file.name file.bytes) (λ known. after_text zones known file.kind file.name file.bytes)
-    (of_name file.kind file.name) (text_jobs zones jobs file.kind file.name file.bytes)
+    (context : TimerContext) (jobs : List JobParts) (file : File) →
+    strictly context (known_jobs jobs) file ≡ known_with jobs (file_reading context file.kind file.name file.bytes)
+law_of_readings context jobs file =
+    named_means (name_cause file.kind file.name) jobs (jobs_of_text context file.kind file.name file.bytes)
+    (λ known. text_findings context known file.kind file.name file.bytes) (λ known. after_text context known file.kind file.name file.bytes)
+    (of_name file.kind file.name) (text_jobs context jobs file.kind file.name file.bytes)

@@ -6,7 +6,6 @@ use Rattle.std.specs.List.{cons_option, enumerate_from}
 use Rattle.std.specs.Prelude.{codes}
 use Rattle.plan_clock.specs.declared.row.Change.{Change}
 use Rattle.plan_match.specs.declared.event.Calendar.{Calendar}
-use Rattle.plan_grammar.specs.EventZones.{Zones}
 use Rattle.plan_rules.specs.declared.crontabs.Kind.{Kind}
 use Rattle.plan_rules.specs.declared.crontabs.Kind.TheVariants as whose
 use Rattle.plan_rules.specs.declared.line_fault.LineCause.{LineCause}
@@ -22,6 +21,7 @@ use Rattle.plan_rules.specs.SourceKind.{name_cause}
 use Rattle.plan_rules.specs.Timer.{has_timer, is_timer_name, timer_setting}
 use Rattle.plan_rules.specs.TimerDelays.{Setting}
 use Rattle.plan_rules.specs.TimerEntries.{LineStep, Idle, Empties, Has, Names, TimerState, line_in, no_lines, state_after, timer_lines}
+use Rattle.plan_check.specs.declared.context.TimerContext.{TimerContext}
 use Rattle.plan_check.specs.declared.finding.Finding.{Finding}
 use Rattle.plan_check.specs.declared.finding.Warning.TheVariants.{ZoneSetting}
 use Rattle.plan_check.specs.declared.finding.FindingKind.TheVariants.{Rejected, SameName, Full, Warned}
@@ -198,16 +198,16 @@ missing_errors true = refl
 missing_errors false = refl
 
 timer_errors :
-    (zones : Zones) (known : KnownJobs) (name : List ℕ) (text : TextReading (List (ℕ × List ℕ))) →
-    timer_findings zones (without_warnings known) name text ≡ errors_of (timer_findings zones known name text)
-timer_errors zones known name (Err fault) = ap (λ found. rejected_at fault.line fault.cause ∷ found) (sym (error_of_name known 0 name))
-timer_errors zones known name (Ok lines) =
+    (context : TimerContext) (known : KnownJobs) (name : List ℕ) (text : TextReading (List (ℕ × List ℕ))) →
+    timer_findings context (without_warnings known) name text ≡ errors_of (timer_findings context known name text)
+timer_errors context known name (Err fault) = ap (λ found. rejected_at fault.line fault.cause ∷ found) (sym (error_of_name known 0 name))
+timer_errors context known name (Ok lines) =
     let missing = found_if (not (has_timer lines)) 0 (Rejected NoTimerSection) None in
     let named = job_findings known 0 name in
     let warned = timer_warnings known.clock lines in
-    let later = timers.lines_findings known.clock (no_lines zones) lines in
+    let later = timers.lines_findings known.clock (no_lines context.zones) lines in
     (λ i. missing_errors (not (has_timer lines)) i ++ (sym (error_of_name known 0 name) i
-    ++ (sym (none_of_clean warned (whole_clean known.clock lines)) i ++ timer_lines_errors known.clock (no_lines zones) lines i)))
+    ++ (sym (none_of_clean warned (whole_clean known.clock lines)) i ++ timer_lines_errors known.clock (no_lines context.zones) lines i)))
     ∙ sym (errors_append missing (named ++ (warned ++ later))
     ∙ ap (λ found. errors_of missing ++ found) (errors_append named (warned ++ later)
     ∙ ap (λ found. errors_of named ++ found) (errors_append warned later)))
@@ -219,33 +219,33 @@ timer_by true job other = refl
 timer_by false job other = refl
 
 timer_without :
-    (zones : Zones) (known : KnownJobs) (name : List ℕ) (text : TextReading (List (ℕ × List ℕ))) →
-    after_timer zones (without_warnings known) name text ≡ without_warnings (after_timer zones known name text)
-timer_without zones known name (Err fault) = other_without known name
-timer_without zones known name (Ok lines) =
+    (context : TimerContext) (known : KnownJobs) (name : List ℕ) (text : TextReading (List (ℕ × List ℕ))) →
+    after_timer context (without_warnings known) name text ≡ without_warnings (after_timer context known name text)
+timer_without context known name (Err fault) = other_without known name
+timer_without context known name (Ok lines) =
     let made = is_timer_name name && has_timer lines in
-    (λ i. cond made (job_without known (right_job zones name lines) i) (other_without known name i))
-    ∙ timer_by made (after_job known (right_job zones name lines)) (after_other known name)
+    (λ i. cond made (job_without known (right_job context name lines) i) (other_without known name i))
+    ∙ timer_by made (after_job known (right_job context name lines)) (after_other known name)
 
 -- ---- a file
 
 text_errors :
-    (zones : Zones) (known : KnownJobs) (kind : SourceKind) (name bytes : List ℕ) →
-    text_findings zones (without_warnings known) kind name bytes ≡ errors_of (text_findings zones known kind name bytes)
-text_errors zones known Crontab name bytes = crontab_errors known (codes "cron") whose.User (text_reading bytes)
-text_errors zones known System name bytes = crontab_errors known (codes "system") whose.System (text_reading bytes)
-text_errors zones known CronD name bytes = crontab_errors known name whose.System (text_reading bytes)
-text_errors zones known Spool name bytes = crontab_errors known name whose.User (text_reading bytes)
-text_errors zones known Timer name bytes = timer_errors zones known name (timer_lines bytes)
+    (context : TimerContext) (known : KnownJobs) (kind : SourceKind) (name bytes : List ℕ) →
+    text_findings context (without_warnings known) kind name bytes ≡ errors_of (text_findings context known kind name bytes)
+text_errors context known Crontab name bytes = crontab_errors known (codes "cron") whose.User (text_reading bytes)
+text_errors context known System name bytes = crontab_errors known (codes "system") whose.System (text_reading bytes)
+text_errors context known CronD name bytes = crontab_errors known name whose.System (text_reading bytes)
+text_errors context known Spool name bytes = crontab_errors known name whose.User (text_reading bytes)
+text_errors context known Timer name bytes = timer_errors context known name (timer_lines bytes)
 
 text_without :
-    (zones : Zones) (known : KnownJobs) (kind : SourceKind) (name bytes : List ℕ) →
-    after_text zones (without_warnings known) kind name bytes ≡ without_warnings (after_text zones known kind name bytes)
-text_without zones known Crontab name bytes = crontab_without known (codes "cron") whose.User (text_reading bytes)
-text_without zones known System name bytes = crontab_without known (codes "system") whose.System (text_reading bytes)
-text_without zones known CronD name bytes = crontab_without known name whose.System (text_reading bytes)
-text_without zones known Spool name bytes = crontab_without known name whose.User (text_reading bytes)
-text_without zones known Timer name bytes = timer_without zones known name (timer_lines bytes)
+    (context : TimerContext) (known : KnownJobs) (kind : SourceKind) (name bytes : List ℕ) →
+    after_text context (without_warnings known) kind name bytes ≡ without_warnings (after_text context known kind name bytes)
+text_without context known Crontab name bytes = crontab_without known (codes "cron") whose.User (text_reading bytes)
+text_without context known System name bytes = crontab_without known (codes "system") whose.System (text_reading bytes)
+text_without context known CronD name bytes = crontab_without known name whose.System (text_reading bytes)
+text_without context known Spool name bytes = crontab_without known name whose.User (text_reading bytes)
+text_without context known Timer name bytes = timer_without context known name (timer_lines bytes)
 
 name_errors :
     (cause : Option LineCause) →
@@ -254,14 +254,14 @@ name_errors None = refl
 name_errors (Some cause) = refl
 
 pub file_errors :
-    (zones : Zones) (known : KnownJobs) (file : File) → file_findings zones (without_warnings known) file
-    ≡ errors_of (file_findings zones known file)
-file_errors zones known file =
+    (context : TimerContext) (known : KnownJobs) (file : File) → file_findings context (without_warnings known) file
+    ≡ errors_of (file_findings context known file)
+file_errors context known file =
     let inside = in_file known file.kind file.name in
-    (λ i. name_errors (name_cause file.kind file.name) i ++ text_errors zones inside file.kind file.name file.bytes i)
-    ∙ sym (errors_append (name_findings file.kind file.name) (text_findings zones inside file.kind file.name file.bytes))
+    (λ i. name_errors (name_cause file.kind file.name) i ++ text_errors context inside file.kind file.name file.bytes i)
+    ∙ sym (errors_append (name_findings file.kind file.name) (text_findings context inside file.kind file.name file.bytes))
 
 pub file_without :
-    (zones : Zones) (known : KnownJobs) (file : File) → after_file zones (without_warnings known) file
-    ≡ without_warnings (after_file zones known file)
-file_without zones known file = text_without zones (in_file known file.kind file.name) file.kind file.name file.bytes
+    (context : TimerContext) (known : KnownJobs) (file : File) → after_file context (without_warnings known) file
+    ≡ without_warnings (after_file context known file)
+file_without context known file = text_without context (in_file known file.kind file.name) file.kind file.name file.bytes

@@ -2,7 +2,6 @@
 use Rattle.std.specs.Prelude.{ℕ, zero, false, true, nat_lt, if◌then◌else◌, List, [], ◌∷◌, ◌++◌, length, is_some, Option, Some, None, option_map, unwrap_or, Result, Ok, Err}
 use Rattle.std.specs.List.{filter_map}
 use Rattle.std.specs.Option.{option_or}
-use Rattle.plan_grammar.specs.EventZones.{Zones}
 use Rattle.plan_texts.specs.Steps.{◌>>=◌}
 use Rattle.plan_rules.specs.declared.line_fault.LineCause.{LineCause}
 use Rattle.plan_rules.specs.declared.line_fault.LineCause.TheVariants.{NoTimerSection}
@@ -11,6 +10,7 @@ use Rattle.plan_rules.specs.Job.{JobParts}
 use Rattle.plan_rules.specs.Jobs.{number_of}
 use Rattle.plan_rules.specs.Limits.{most_jobs}
 use Rattle.plan_rules.specs.LineFaults.{TextReading, fault_on_line}
+use Rattle.plan_check.specs.declared.context.TimerContext.{TimerContext}
 use Rattle.plan_check.specs.declared.deciding.FileFault.{FileFault}
 use Rattle.plan_check.specs.declared.deciding.FileFault.TheVariants as fault
 use Rattle.plan_check.specs.declared.finding.Finding.{Finding}
@@ -57,9 +57,9 @@ unless_fault None x = Ok x
 unless_fault (Some fault) x = Err fault
 
 -- what is known after a file, or the error that decides
-abbrev pub strictly : Zones → KnownJobs → File → Result KnownJobs FileFault
-strictly zones known file =
-    unless_fault (deciding (file_findings zones known file)) (after_file zones known file)
+abbrev pub strictly : TimerContext → KnownJobs → File → Result KnownJobs FileFault
+strictly context known file =
+    unless_fault (deciding (file_findings context known file)) (after_file context known file)
 
 -- what is known after files that made these jobs, without warnings
 abbrev pub known_jobs : List JobParts → KnownJobs

@@ -1,11 +1,10 @@
 -- How a file is read, by the kind of its source: its name, the jobs of its bytes, its findings, and what is known after it (agenda).
-use Rattle.std.specs.Prelude.{ℕ, if◌then◌else◌, List, [], ◌∷◌, ◌++◌, codes, Option, Some, None, is_none, option_map, Ok, Err}
+use Rattle.std.specs.Prelude.{ℕ, false, if◌then◌else◌, List, [], ◌∷◌, ◌++◌, codes, Option, Some, None, is_none, option_map, Ok, Err}
 use Rattle.std.specs.List.{cons_option}
 use Rattle.std.specs.Option.{option_or}
 use Rattle.std.specs.Str.{is_utf8}
 use Rattle.plan_texts.specs.Lines.{is_too_large}
 use Rattle.plan_texts.specs.Steps.{◌>>=◌}
-use Rattle.plan_grammar.specs.EventZones.{Zones}
 use Rattle.plan_rules.specs.declared.crontabs.Kind.TheVariants as whose
 use Rattle.plan_rules.specs.declared.line_fault.LineCause.{LineCause}
 use Rattle.plan_rules.specs.declared.line_fault.LineCause.TheVariants.{NotUtf8, TooLarge}
@@ -16,8 +15,11 @@ use Rattle.plan_rules.specs.FileText.{text_reading}
 use Rattle.plan_rules.specs.Job.{JobParts}
 use Rattle.plan_rules.specs.LineFaults.{TextReading, on_line}
 use Rattle.plan_rules.specs.SourceKind.{name_cause}
+use Rattle.plan_rules.specs.Timer.{settings_from}
 use Rattle.plan_rules.specs.TimerEntries.{timer_lines, timer_reading}
+use Rattle.plan_check.specs.declared.context.TimerContext.{TimerContext}
 use Rattle.plan_check.specs.declared.finding.Finding.{Finding}
+use Rattle.plan_check.specs.Context.{delay_in}
 use Rattle.plan_check.specs.Crontabs.{crontab_findings, after_crontab}
 use Rattle.plan_check.specs.Finding.{rejected_at}
 use Rattle.plan_check.specs.Known.{KnownJobs, with_jobs}
@@ -40,14 +42,21 @@ alone reading = do
   job ← reading
   Ok (job ∷ [])
 
+-- the job of a timer: as it is by its text alone, but with the delay that it has in this context
+abbrev pub timer_in : TimerContext → (name bytes : List ℕ) → TextReading JobParts
+timer_in context name bytes = do
+  job ← timer_reading context.zones name bytes
+  lines ← timer_lines bytes
+  Ok (record job { delay = delay_in context (settings_from false lines) })
+
 -- the jobs of a file by its text, or its first error. A crontab's jobs are named after the label `cron` or `system`, or after the
 -- file's name; a user precedes each command in the system's crontab and in /etc/cron.d (crontab(5), cron(8) of Debian)
-abbrev pub jobs_of_text : Zones → SourceKind → (name bytes : List ℕ) → TextReading (List JobParts)
-jobs_of_text zones Crontab name bytes = crontab_reading (codes "cron") whose.User bytes
-jobs_of_text zones System name bytes = crontab_reading (codes "system") whose.System bytes
-jobs_of_text zones CronD name bytes = crontab_reading name whose.System bytes
-jobs_of_text zones Spool name bytes = crontab_reading name whose.User bytes
-jobs_of_text zones Timer name bytes = alone (timer_reading zones name bytes)
+abbrev pub jobs_of_text : TimerContext → SourceKind → (name bytes : List ℕ) → TextReading (List JobParts)
+jobs_of_text context Crontab name bytes = crontab_reading (codes "cron") whose.User bytes
+jobs_of_text context System name bytes = crontab_reading (codes "system") whose.System bytes
+jobs_of_text context CronD name bytes = crontab_reading name whose.System bytes
+jobs_of_text context Spool name bytes = crontab_reading name whose.User bytes
+jobs_of_text context Timer name bytes = alone (timer_in context name bytes)
 
 -- this reading, unless something is wrong with the file's name
 abbrev pub unless_named : Option LineCause → TextReading (List JobParts) → TextReading (List JobParts)
@@ -55,8 +64,8 @@ unless_named None reading = reading
 unless_named (Some cause) reading = on_line 0 (Err cause)
 
 -- the jobs of a file, or its first error: its name is checked first
-abbrev pub file_reading : Zones → SourceKind → (name bytes : List ℕ) → TextReading (List JobParts)
-file_reading zones kind name bytes = unless_named (name_cause kind name) (jobs_of_text zones kind name bytes)
+abbrev pub file_reading : TimerContext → SourceKind → (name bytes : List ℕ) → TextReading (List JobParts)
+file_reading context kind name bytes = unless_named (name_cause kind name) (jobs_of_text context kind name bytes)
 
 -- ---- findings
 
@@ -69,29 +78,29 @@ abbrev pub in_file : KnownJobs → SourceKind → (name : List ℕ) → KnownJob
 in_file known kind name = with_jobs known (is_none (name_cause kind name))
 
 -- the findings of a file's text
-abbrev pub text_findings : Zones → KnownJobs → SourceKind → (name bytes : List ℕ) → List Finding
-text_findings zones known Crontab name bytes = crontab_findings known (codes "cron") whose.User (text_reading bytes)
-text_findings zones known System name bytes = crontab_findings known (codes "system") whose.System (text_reading bytes)
-text_findings zones known CronD name bytes = crontab_findings known name whose.System (text_reading bytes)
-text_findings zones known Spool name bytes = crontab_findings known name whose.User (text_reading bytes)
-text_findings zones known Timer name bytes = timer_findings zones known name (timer_lines bytes)
+abbrev pub text_findings : TimerContext → KnownJobs → SourceKind → (name bytes : List ℕ) → List Finding
+text_findings context known Crontab name bytes = crontab_findings known (codes "cron") whose.User (text_reading bytes)
+text_findings context known System name bytes = crontab_findings known (codes "system") whose.System (text_reading bytes)
+text_findings context known CronD name bytes = crontab_findings known name whose.System (text_reading bytes)
+text_findings context known Spool name bytes = crontab_findings known name whose.User (text_reading bytes)
+text_findings context known Timer name bytes = timer_findings context known name (timer_lines bytes)
 
 -- what is known after a file's text
-abbrev pub after_text : Zones → KnownJobs → SourceKind → (name bytes : List ℕ) → KnownJobs
-after_text zones known Crontab name bytes = after_crontab known (codes "cron") whose.User (text_reading bytes)
-after_text zones known System name bytes = after_crontab known (codes "system") whose.System (text_reading bytes)
-after_text zones known CronD name bytes = after_crontab known name whose.System (text_reading bytes)
-after_text zones known Spool name bytes = after_crontab known name whose.User (text_reading bytes)
-after_text zones known Timer name bytes = after_timer zones known name (timer_lines bytes)
+abbrev pub after_text : TimerContext → KnownJobs → SourceKind → (name bytes : List ℕ) → KnownJobs
+after_text context known Crontab name bytes = after_crontab known (codes "cron") whose.User (text_reading bytes)
+after_text context known System name bytes = after_crontab known (codes "system") whose.System (text_reading bytes)
+after_text context known CronD name bytes = after_crontab known name whose.System (text_reading bytes)
+after_text context known Spool name bytes = after_crontab known name whose.User (text_reading bytes)
+after_text context known Timer name bytes = after_timer context known name (timer_lines bytes)
 
 -- the findings of a file: its name is checked first, and then its text, even if the name is bad
-abbrev pub file_findings : Zones → KnownJobs → File → List Finding
-file_findings zones known file =
-    name_findings file.kind file.name ++ text_findings zones (in_file known file.kind file.name) file.kind file.name file.bytes
+abbrev pub file_findings : TimerContext → KnownJobs → File → List Finding
+file_findings context known file =
+    name_findings file.kind file.name ++ text_findings context (in_file known file.kind file.name) file.kind file.name file.bytes
 
 -- what is known after a file
-abbrev pub after_file : Zones → KnownJobs → File → KnownJobs
-after_file zones known file = after_text zones (in_file known file.kind file.name) file.kind file.name file.bytes
+abbrev pub after_file : TimerContext → KnownJobs → File → KnownJobs
+after_file context known file = after_text context (in_file known file.kind file.name) file.kind file.name file.bytes
 
 -- ---- errors that are found before any memory is requested
 

@@ -4,6 +4,7 @@ pub mod Skipped
 pub mod Warnings
 pub mod Crontabs
 pub mod Settings
+pub mod Context
 pub mod Timers
 pub mod Files
 pub mod Deciding

@@ -5,17 +5,18 @@ use Rattle.plan_clock.specs.declared.row.Change.{Change}
 use Rattle.plan_match.specs.Zone.{rule_in}
 use Rattle.plan_match.specs.declared.event.Calendar.{Calendar}
 use Rattle.plan_match.specs.declared.rule.Rule.TheVariants.{Events}
-use Rattle.plan_grammar.specs.EventZones.{Zones}
 use Rattle.plan_rules.specs.declared.line_fault.LineCause.{LineCause}
 use Rattle.plan_rules.specs.declared.line_fault.LineCause.TheVariants.{NoTimerSection, Rule}
 use Rattle.plan_rules.specs.Job.{JobParts}
 use Rattle.plan_rules.specs.LineFaults.{LineReading, TextReading}
 use Rattle.plan_rules.specs.Timer.{has_timer, is_timer_name, settings_from, timer_job, timer_setting}
-use Rattle.plan_rules.specs.TimerDelays.{Setting, delay_of}
+use Rattle.plan_rules.specs.TimerDelays.{Setting}
 use Rattle.plan_rules.specs.TimerEntries.{LineStep, Idle, Empties, Has, Names, TimerState, held_after, line_in, lines_draft, no_lines, state_after}
+use Rattle.plan_check.specs.declared.context.TimerContext.{TimerContext}
 use Rattle.plan_check.specs.declared.finding.Finding.{Finding}
 use Rattle.plan_check.specs.declared.finding.Warning.TheVariants.{NeverStarts, NoEvents, SkippedStarts, UnknownKey, BadDelay, Monotonic, Delayed}
 use Rattle.plan_check.specs.declared.finding.FindingKind.TheVariants.{Rejected, Warned}
+use Rattle.plan_check.specs.Context.{delay_in}
 use Rattle.plan_check.specs.Finding.{finding_at, found_if, rejected_at}
 use Rattle.plan_check.specs.Known.{KnownJobs, after_job, after_other, job_findings}
 use Rattle.plan_check.specs.Settings.{is_bad_delay, is_delayed, is_monotonic, is_unknown_key, last_delay, value_of}
@@ -80,21 +81,22 @@ timer_warnings (Some clock) lines =
 -- the findings of the whole lines of a text: first those of the whole file, then those of its lines. Each timer makes a job,
 -- whatever else is rejected, unless the file's name is bad. A text that is too large or not UTF-8 has no lines, and no missing
 -- section is reported
-abbrev pub timer_findings : Zones → KnownJobs → List ℕ → TextReading (List (ℕ × List ℕ)) → List Finding
-timer_findings zones known name (Ok lines) =
+abbrev pub timer_findings : TimerContext → KnownJobs → List ℕ → TextReading (List (ℕ × List ℕ)) → List Finding
+timer_findings context known name (Ok lines) =
     found_if (not (has_timer lines)) 0 (Rejected NoTimerSection) None
-    ++ (job_findings known 0 name ++ (timer_warnings known.clock lines ++ lines_findings known.clock (no_lines zones) lines))
-timer_findings zones known name (Err fault) = rejected_at fault.line fault.cause ∷ job_findings known 0 name
+    ++ (job_findings known 0 name ++ (timer_warnings known.clock lines ++ lines_findings known.clock (no_lines context.zones) lines))
+timer_findings context known name (Err fault) = rejected_at fault.line fault.cause ∷ job_findings known 0 name
 
 -- ---- the job that is kept
 
 -- the job of a timer with the events that are right, whatever else is rejected
-abbrev pub right_job : Zones → List ℕ → List (ℕ × List ℕ) → JobParts
-right_job zones name lines =
-    timer_job name (lines_draft zones lines).unit (lines_draft zones lines).events (delay_of (settings_from false lines))
+abbrev pub right_job : TimerContext → List ℕ → List (ℕ × List ℕ) → JobParts
+right_job context name lines =
+    timer_job name (lines_draft context.zones lines).unit (lines_draft context.zones lines).events
+    (delay_in context (settings_from false lines))
 
 -- what is known after a timer: its job is kept if nothing of the whole file is rejected
-abbrev pub after_timer : Zones → KnownJobs → List ℕ → TextReading (List (ℕ × List ℕ)) → KnownJobs
-after_timer zones known name (Ok lines) =
-    if is_timer_name name && has_timer lines then after_job known (right_job zones name lines) else after_other known name
-after_timer zones known name (Err fault) = after_other known name
+abbrev pub after_timer : TimerContext → KnownJobs → List ℕ → TextReading (List (ℕ × List ℕ)) → KnownJobs
+after_timer context known name (Ok lines) =
+    if is_timer_name name && has_timer lines then after_job known (right_job context name lines) else after_other known name
+after_timer context known name (Err fault) = after_other known name

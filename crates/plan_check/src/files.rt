@@ -4,16 +4,17 @@ ghost use Rattle.std.specs.Prelude.{◌≡◌, ◌++◌, IfOk, OnOk};
 ghost use Rattle.plan_rules.specs.SourceKind.{name_cause};
 ghost use Rattle.plan_check.specs.Files.{after_file, after_text, bytes_cause, cause_at_once, file_findings, file_of, in_file, name_findings, text_findings};
 
+use crate::context::TimerContext;
 use crate::crontabs::add_crontab;
 use crate::finding::Finding;
 use crate::known::Known;
 use crate::report::reject;
 use crate::timers::add_timer;
-use plan_rules::{EventZones, Kind, LineCause, LineFault, SourceKind, text_of};
+use plan_rules::{Kind, LineCause, LineFault, SourceKind, text_of};
 use std::alloc::{AllocError, Global};
 
 /// Returns all findings of the file of a source of this kind, in order. Adds the jobs of which nothing is rejected to
-/// `known`, which has the jobs before them. Calendar events may name these zones.
+/// `known`, which has the jobs before them. Timers are read in this context.
 ///
 /// The first finding is that the name is bad: `BadTabName` or `BadTimerName`, see `SourceKind::name_cause`. A file whose
 /// name is bad makes no jobs, so it has no findings about their names. If the text has more than 1,048,576 bytes, the
@@ -59,14 +60,14 @@ pub fn file_findings(
     kind: SourceKind,
     name: &str,
     bytes: &[u8],
-    zones: &EventZones,
+    context: &TimerContext,
 ) -> Result<Vec<Finding>, AllocError>
-    ensures found { IfOk result (λ found. found.items ≡ file_findings zones.now known.old (file_of kind name.now bytes.now)) }
-    ensures known { OnOk result (known.new ≡ after_file zones.now known.old (file_of kind name.now bytes.now)) }
+    ensures found { IfOk result (λ found. found.items ≡ file_findings context.now known.old (file_of kind name.now bytes.now)) }
+    ensures known { OnOk result (known.new ≡ after_file context.now known.old (file_of kind name.now bytes.now)) }
 {
     let mut found = Vec::with_capacity(alloc, 1)?;
     add_name(known, &mut found, kind, name)?;
-    add_text(alloc, known, &mut found, kind, name, bytes, zones)?;
+    add_text(alloc, known, &mut found, kind, name, bytes, context)?;
     Ok(found)
 }
 
@@ -104,18 +105,18 @@ fn add_text(
     kind: SourceKind,
     name: &str,
     bytes: &[u8],
-    zones: &EventZones,
+    context: &TimerContext,
 ) -> Result<(), AllocError>
     ensures found { OnOk result (found.new.items ≡ found.old.items
-        ++ text_findings zones.now known.old kind name.now bytes.now) }
-    ensures known { OnOk result (known.new ≡ after_text zones.now known.old kind name.now bytes.now) }
+        ++ text_findings context.now known.old kind name.now bytes.now) }
+    ensures known { OnOk result (known.new ≡ after_text context.now known.old kind name.now bytes.now) }
 {
     match kind {
         SourceKind::Crontab => add_crontab(alloc, known, found, "cron", Kind::User, bytes),
         SourceKind::System => add_crontab(alloc, known, found, "system", Kind::System, bytes),
         SourceKind::CronD => add_crontab(alloc, known, found, name, Kind::System, bytes),
         SourceKind::Spool => add_crontab(alloc, known, found, name, Kind::User, bytes),
-        SourceKind::Timer => add_timer(alloc, known, found, name, bytes, zones),
+        SourceKind::Timer => add_timer(alloc, known, found, name, bytes, context),
     }
 }
 

@@ -4,9 +4,10 @@
 //! then `files`, which finds what is wrong with a file, and `crontabs` and `timers` for the lines. `deciding` finds the
 //! one error that decides if a file with an error makes no jobs.
 //! `warnings`, `settings` and `skipped` are what they warn about. `known` is what is passed from file to file, with
-//! the jobs that are kept. `laws` connects findings with jobs.
+//! the jobs that are kept, and `context` what a machine says of all its timers. `laws` connects findings with jobs.
 #![tactic(auto)]
 
+mod context;
 mod crontabs;
 mod deciding;
 mod files;
@@ -19,6 +20,7 @@ mod skipped;
 mod timers;
 mod warnings;
 
+pub use context::TimerContext;
 pub use deciding::{FileFault, deciding_fault};
 pub use files::{cause_at_once, file_findings};
 pub use finding::{Finding, FindingKind, Warning};

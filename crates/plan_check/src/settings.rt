@@ -2,7 +2,7 @@
 
 ghost use Rattle.std.specs.Prelude.{◌≡◌, false, option_map};
 ghost use Rattle.plan_rules.specs.Timer.{is_reset};
-ghost use Rattle.plan_rules.specs.TimerDelays.{default_delays};
+ghost use Rattle.plan_check.specs.Context.{delays_by};
 ghost use Rattle.plan_check.specs.Settings.{delay_after, is_bad_delay, is_delay, is_span, is_unknown_key, standing_after, stands_after, value_of};
 
 use plan_rules::{TimerDelays, is_monotonic_key, is_reset};
@@ -18,13 +18,16 @@ pub(crate) struct Standing {
 }
 
 impl Standing {
-    // Returns what stands before the first setting.
-    pub(crate) fn new() -> Standing
-        ensures { result ≡ record { monotonic = false; delays = default_delays } }
+    // Returns what stands before the first setting, with the accuracy of timers that set none.
+    pub(crate) fn new(accuracy: u64) -> Standing
+        ensures { result ≡ record { monotonic = false; delays = delays_by accuracy } }
     {
         Standing {
             monotonic: false,
-            delays: TimerDelays::new(),
+            delays: TimerDelays {
+                accuracy,
+                ..TimerDelays::new()
+            },
         }
     }
 

@@ -4,13 +4,15 @@ ghost use Rattle.std.specs.Prelude.{◌≡◌, ◌++◌, ◌∷◌, ◌&&◌, []
 ghost use Rattle.plan_match.specs.Zone.{rule_in};
 ghost use Rattle.plan_match.specs.declared.rule.Rule.TheVariants as rule;
 ghost use Rattle.plan_rules.specs.Timer.{has_timer, is_timer_name, settings_from, timer_job, timer_setting};
-ghost use Rattle.plan_rules.specs.TimerDelays.{default_delays, delays_with, last_span, random_key};
+ghost use Rattle.plan_rules.specs.TimerDelays.{delays_with, last_span, random_key};
 ghost use Rattle.plan_rules.specs.TimerEntries.{draft_after, draft_of, held_after, line_in, line_shown, lines_draft, no_lines, shown_line, state_after, timer_lines};
+ghost use Rattle.plan_check.specs.Context.{delays_by};
 ghost use Rattle.plan_check.specs.Known.{after_job, after_other, job_findings};
 ghost use Rattle.plan_check.specs.Settings.{is_monotonic, last_delay};
 ghost use Rattle.plan_check.specs.Timers.{after_timer, event_quote, event_warnings, line_findings, lines_findings, read_findings, setting_findings, step_findings, timer_findings, timer_warnings};
 ghost use Rattle.plan_check.specs.Warnings.{never_starts};
 
+use crate::context::TimerContext;
 use crate::finding::{Finding, FindingKind, Warning};
 use crate::known::Known;
 use crate::report::{add_all, add_if, add_job, add_name_fault, add_quoting_if, kept, reject};
@@ -19,30 +21,30 @@ use crate::skipped::may_skip_starts;
 use plan_clock::Clock;
 use plan_next::next_from;
 use plan_rules::{
-    Calendar, EventZones, Events, LineCause, LineFault, Rule, TimerDraft, TimerLine, TimerReader,
+    Calendar, Events, LineCause, LineFault, Rule, TimerDraft, TimerLine, TimerReader,
     is_timer_name, text_of, timer_job,
 };
 use plan_texts::Text;
 use plan_texts::whole_lines::{WholeLine, whole_lines};
 use std::alloc::{AllocError, Global};
 
-// Adds the findings of a timer's text, and its job. Its events may name these zones.
+// Adds the findings of a timer's text, and its job, in this context.
 pub(crate) fn add_timer(
     alloc: Global,
     known: &mut Known,
     found: &mut Vec<Finding>,
     name: &str,
     bytes: &[u8],
-    zones: &EventZones,
+    context: &TimerContext,
 ) -> Result<(), AllocError>
     ensures found { OnOk result (found.new.items ≡ found.old.items
-        ++ timer_findings zones.now known.old name.now (timer_lines bytes.now)) }
-    ensures known { OnOk result (known.new ≡ after_timer zones.now known.old name.now (timer_lines bytes.now)) }
+        ++ timer_findings context.now known.old name.now (timer_lines bytes.now)) }
+    ensures known { OnOk result (known.new ≡ after_timer context.now known.old name.now (timer_lines bytes.now)) }
 {
     match text_of(bytes) {
         Ok(text) => {
             let lines = whole_lines(alloc, text)?;
-            add_lines(alloc, known, found, name, lines.as_slice(), zones)
+            add_lines(alloc, known, found, name, lines.as_slice(), context)
         }
         Err(LineFault { line, cause }) => {
             reject(found, line, cause, None)?;
@@ -59,11 +61,11 @@ fn add_lines(
     found: &mut Vec<Finding>,
     name: &str,
     lines: &[WholeLine],
-    zones: &EventZones,
+    context: &TimerContext,
 ) -> Result<(), AllocError>
     ensures found { OnOk result (found.new.items ≡ found.old.items
-        ++ timer_findings zones.now known.old name.now (Ok (map shown_line lines.now))) }
-    ensures known { OnOk result (known.new ≡ after_timer zones.now known.old name.now (Ok (map shown_line lines.now))) }
+        ++ timer_findings context.now known.old name.now (Ok (map shown_line lines.now))) }
+    ensures known { OnOk result (known.new ≡ after_timer context.now known.old name.now (Ok (map shown_line lines.now))) }
 {
     let mut later = Vec::new(alloc);
     let (reader, standing, delay, draft) = read_lines(
@@ -71,7 +73,7 @@ fn add_lines(
         &mut later,
         known.clock(),
         lines,
-        zones,
+        context,
     )?;
     let missing = FindingKind::Rejected(LineCause::NoTimerSection);
     add_if(found, !reader.has_section(), 0, missing)?;
@@ -156,18 +158,18 @@ fn read_lines<'z, 'l>(
     found: &mut Vec<Finding>,
     clock: &Option<Clock>,
     lines: &'l [WholeLine],
-    zones: &'z EventZones,
+    context: &'z TimerContext,
 ) -> Result<(TimerReader<'z>, Standing, &'l str, TimerDraft), AllocError>
     ensures section { IfOk result (λ read. read.0.found ≡ has_timer (map shown_line lines.now)) }
     ensures held { IfOk result (λ read. read.0.count.held ≡ held_after (map shown_line lines.now)) }
     ensures monotonic { IfOk result (λ read. read.1.monotonic ≡ is_monotonic (settings_from false (map shown_line lines.now))) }
-    ensures delays { IfOk result (λ read. read.1.delays ≡ delays_with default_delays (settings_from false (map shown_line lines.now))) }
+    ensures delays { IfOk result (λ read. read.1.delays ≡ delays_with (delays_by context.now.accuracy) (settings_from false (map shown_line lines.now))) }
     ensures delay { IfOk result (λ read. read.2.now ≡ last_delay (settings_from false (map shown_line lines.now))) }
-    ensures draft { IfOk result (λ read. draft_of read.3 ≡ lines_draft zones.now (map shown_line lines.now)) }
-    ensures found { OnOk result (found.new.items ≡ found.old.items ++ lines_findings clock.now (no_lines zones.now) (map shown_line lines.now)) }
+    ensures draft { IfOk result (λ read. draft_of read.3 ≡ lines_draft context.now.zones (map shown_line lines.now)) }
+    ensures found { OnOk result (found.new.items ≡ found.old.items ++ lines_findings clock.now (no_lines context.now.zones) (map shown_line lines.now)) }
 {
-    let mut reader = TimerReader::new(zones);
-    let mut standing = Standing::new();
+    let mut reader = TimerReader::new(&context.zones);
+    let mut standing = Standing::new(context.accuracy);
     let mut delay = "";
     let mut draft = TimerDraft::new(alloc);
     for line in lines {

@@ -1,11 +1,8 @@
-use Rattle.std.proofs.Common.{refl, true}
+use Rattle.std.proofs.Common.{refl}
 use Rattle.agenda_faults.specs.declared.faults.Failure.TheVariants.{Run}
 use Rattle.agenda_faults.specs.declared.faults.RunFault.TheVariants as run
-use Rattle.agenda_machine.specs.Places.{sources_of}
-use Rattle.agenda_sources.specs.ZoneNames.{zone_names}
 use Rattle.agenda_answers.specs.Steps.{goes}
-use Rattle.agenda_answers.proofs.EventZonesLemmas.{no_memory_for_names}
-use Rattle.agenda_answers.proofs.MachineLemmas.{not_computed}
+use Rattle.agenda_answers.proofs.MachineLemmas.{no_accuracy, not_computed}
 use Rattle.agenda_answers.proofs.StepLemmas.{failed}
 use Rattle.agenda_answers.proofs.machine.check_answer.Goals as goal
 
@@ -15,24 +12,22 @@ returns-in_err-clock g c = failed _ _ (rw c.root_of.ensures at c.in_err-clock.en
 pub returns-in_err-sources : goal.returns-in_err-sources
 returns-in_err-sources g c =
     goes _ (rw c.root_of.ensures at c.in_ok-clock.ensures.read)
-    (failed _ (Run run.NoMemory) (no_memory_for_names (g.F.Files.held c.args.files.now)
-    (record { zone = c.in_ok-clock.clock.name; event_zones = true }) c.in_ok-clock.clock.clock
-    (zone_names (sources_of c.args.machine.sources.items))) c.from_residual-in_err-sources.ensures.1)
+    (failed _ (Run run.NoMemory) (no_accuracy _ _ _ _) c.from_residual-in_err-sources.ensures.1)
 
 pub returns-in_err-zones : goal.returns-in_err-zones
 returns-in_err-zones g c =
     goes _ (rw c.root_of.ensures at c.in_ok-clock.ensures.read)
-    (failed _ _ (rw (c.in_ok-clock.ensures.same, c.in_ok-sources.ensures, c.as_slice.ensures.value) at c.in_err-zones.ensures.read)
+    (failed _ _ (rw (c.in_ok-clock.ensures.same, c.in_ok-sources.ensures, c.as_slice.ensures.value) at c.in_err-zones.ensures)
     c.from_residual-in_err-zones.ensures.1)
 
 pub returns-in_err-printout : goal.returns-in_err-printout
 returns-in_err-printout g c =
     goes _ (rw c.root_of.ensures at c.in_ok-clock.ensures.read)
-    (goes _ (rw (c.in_ok-clock.ensures.same, c.in_ok-sources.ensures, c.as_slice.ensures.value) at c.in_ok-zones.ensures.read)
+    (goes _ (rw (c.in_ok-clock.ensures.same, c.in_ok-sources.ensures, c.as_slice.ensures.value) at c.in_ok-zones.ensures)
     (not_computed _ _ c.from_residual-in_err-printout.ensures.1))
 
 pub returns : goal.returns
 returns g c =
     goes _ (rw c.root_of.ensures at c.in_ok-clock.ensures.read)
-    (goes _ (rw (c.in_ok-clock.ensures.same, c.in_ok-sources.ensures, c.as_slice.ensures.value) at c.in_ok-zones.ensures.read)
+    (goes _ (rw (c.in_ok-clock.ensures.same, c.in_ok-sources.ensures, c.as_slice.ensures.value) at c.in_ok-zones.ensures)
     (rw (c.in_ok-printout.ensures, c.in_ok-sources.ensures, c.as_slice.ensures.value) refl))

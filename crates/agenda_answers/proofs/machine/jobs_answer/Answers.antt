@@ -1,11 +1,10 @@
-use Rattle.std.proofs.Common.{Ok, refl, true}
+use Rattle.std.proofs.Common.{Ok, refl}
 use Rattle.agenda_faults.specs.declared.faults.Failure.TheVariants.{Run}
 use Rattle.agenda_faults.specs.declared.faults.RunFault.TheVariants as run
 use Rattle.agenda_machine.specs.Places.{sources_of}
 use Rattle.agenda_sources.specs.Findings.{kept_jobs}
-use Rattle.agenda_sources.specs.ZoneNames.{zone_names}
 use Rattle.agenda_answers.specs.Steps.{goes}
-use Rattle.agenda_answers.proofs.EventZonesLemmas.{no_memory_for_names}
+use Rattle.agenda_answers.proofs.MachineLemmas.{no_accuracy}
 use Rattle.agenda_answers.proofs.OutcomeLemmas.{settled_answer, settled_failure}
 use Rattle.agenda_answers.proofs.StepLemmas.{failed}
 use Rattle.agenda_answers.proofs.machine.jobs_answer.Goals as goal
@@ -21,33 +20,31 @@ returns-in_err-goal g c =
 pub returns-in_err-sources : goal.returns-in_err-sources
 returns-in_err-sources g c =
     goes _ (rw c.root_of.ensures at c.in_ok-clock.ensures.read) (goes _ c.in_ok-goal.ensures
-    (failed _ (Run run.NoMemory) (no_memory_for_names (g.F.Files.held c.args.files.now)
-    (record { zone = c.in_ok-clock.clock.name; event_zones = true }) c.in_ok-clock.clock.clock
-    (zone_names (sources_of c.args.machine.sources.items))) c.from_residual-in_err-sources.ensures.1))
+    (failed _ (Run run.NoMemory) (no_accuracy _ _ _ _) c.from_residual-in_err-sources.ensures.1))
 
 pub returns-in_err-zones : goal.returns-in_err-zones
 returns-in_err-zones g c =
     goes _ (rw c.root_of.ensures at c.in_ok-clock.ensures.read) (goes _ c.in_ok-goal.ensures
-    (failed _ _ (rw (c.in_ok-clock.ensures.same, c.in_ok-sources.ensures, c.as_slice.ensures.value) at c.in_err-zones.ensures.read)
+    (failed _ _ (rw (c.in_ok-clock.ensures.same, c.in_ok-sources.ensures, c.as_slice.ensures.value) at c.in_err-zones.ensures)
     c.from_residual-in_err-zones.ensures.1))
 
 pub returns-in_err-format : goal.returns-in_err-format
 returns-in_err-format g c =
     goes _ (rw c.root_of.ensures at c.in_ok-clock.ensures.read) (goes _ c.in_ok-goal.ensures
-    (goes _ (rw (c.in_ok-clock.ensures.same, c.in_ok-sources.ensures, c.as_slice.ensures.value) at c.in_ok-zones.ensures.read)
+    (goes _ (rw (c.in_ok-clock.ensures.same, c.in_ok-sources.ensures, c.as_slice.ensures.value) at c.in_ok-zones.ensures)
     (failed _ _ c.in_err-format.ensures c.from_residual-in_err-format.ensures.1)))
 
 pub returns-in_err-skipped : goal.returns-in_err-skipped
 returns-in_err-skipped g c =
     goes _ (rw c.root_of.ensures at c.in_ok-clock.ensures.read) (goes _ c.in_ok-goal.ensures
-    (goes _ (rw (c.in_ok-clock.ensures.same, c.in_ok-sources.ensures, c.as_slice.ensures.value) at c.in_ok-zones.ensures.read)
+    (goes _ (rw (c.in_ok-clock.ensures.same, c.in_ok-sources.ensures, c.as_slice.ensures.value) at c.in_ok-zones.ensures)
     (goes _ (rw c.unnamed_zone-unnamed.ensures at c.in_ok-format.ensures)
     (failed _ (Run run.NoMemory) refl c.from_residual-in_err-skipped.ensures.1))))
 
 pub returns-in_err-answer : goal.returns-in_err-answer
 returns-in_err-answer g c =
     goes _ (rw c.root_of.ensures at c.in_ok-clock.ensures.read) (goes _ c.in_ok-goal.ensures
-    (goes _ (rw (c.in_ok-clock.ensures.same, c.in_ok-sources.ensures, c.as_slice.ensures.value) at c.in_ok-zones.ensures.read)
+    (goes _ (rw (c.in_ok-clock.ensures.same, c.in_ok-sources.ensures, c.as_slice.ensures.value) at c.in_ok-zones.ensures)
     (goes _ (rw c.unnamed_zone-unnamed.ensures at c.in_ok-format.ensures)
     (goes _ (rw (c.in_ok-sources.ensures, c.as_slice.ensures.value) at c.in_ok-skipped.ensures.errors)
     (failed _ _ (settled_failure c.in_ok-format.format c.in_ok-goal.goal
@@ -58,7 +55,7 @@ returns-in_err-answer g c =
 pub returns : goal.returns
 returns g c =
     goes _ (rw c.root_of.ensures at c.in_ok-clock.ensures.read) (goes _ c.in_ok-goal.ensures
-    (goes _ (rw (c.in_ok-clock.ensures.same, c.in_ok-sources.ensures, c.as_slice.ensures.value) at c.in_ok-zones.ensures.read)
+    (goes _ (rw (c.in_ok-clock.ensures.same, c.in_ok-sources.ensures, c.as_slice.ensures.value) at c.in_ok-zones.ensures)
     (goes _ (rw c.unnamed_zone-unnamed.ensures at c.in_ok-format.ensures)
     (goes _ (rw (c.in_ok-sources.ensures, c.as_slice.ensures.value) at c.in_ok-skipped.ensures.errors)
     (goes _ (settled_answer c.in_ok-format.format c.in_ok-goal.goal

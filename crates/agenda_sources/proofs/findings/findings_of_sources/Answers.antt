@@ -9,4 +9,4 @@ returns-clause-clean c =
     clean_sources c.a_file_means_its_reading.ensures c.errors_need_no_clock.ensures.found c.errors_need_no_clock.ensures.known
     c.args.zones.now c.args.sources.now c.in_ok-found.found.items
     (c.in_ok-found.ensures.found
-    ∙ ap (λ clock. found_from c.args.zones.now.named 0 (no_jobs (Some clock)) c.args.sources.now) c.in_ok-clock.ensures)
+    ∙ ap (λ clock. found_from c.args.zones.now.timers 0 (no_jobs (Some clock)) c.args.sources.now) c.in_ok-clock.ensures)

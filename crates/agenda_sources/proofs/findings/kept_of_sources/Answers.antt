@@ -10,15 +10,15 @@ pub returns-clause-errors : goal.returns-clause-errors
 returns-clause-errors c =
     let zones = c.args.zones.now in
     c.in_ok-errors.ensures.found
-    ∙ errors_from zones.named c.errors_need_no_clock.ensures.found c.errors_need_no_clock.ensures.known 0 (no_jobs (Some zones.clock))
+    ∙ errors_from zones.timers c.errors_need_no_clock.ensures.found c.errors_need_no_clock.ensures.known 0 (no_jobs (Some zones.clock))
     c.args.sources.now
 
 pub returns-clause-jobs : goal.returns-clause-jobs
 returns-clause-jobs c =
     let zones = c.args.zones.now in
-    let after : c.in_ok-errors.known ≡ without_warnings (after_sources zones.named (no_jobs (Some zones.clock)) c.args.sources.now) =
+    let after : c.in_ok-errors.known ≡ without_warnings (after_sources zones.timers (no_jobs (Some zones.clock)) c.args.sources.now) =
     c.in_ok-errors.ensures.known
-    ∙ known_from zones.named c.errors_need_no_clock.ensures.known (no_jobs (Some zones.clock)) c.args.sources.now in
+    ∙ known_from zones.timers c.errors_need_no_clock.ensures.known (no_jobs (Some zones.clock)) c.args.sources.now in
     c.in_ok-jobs.ensures.zone
     ∙ ap (zoned zones.clock) (c.into_jobs.ensures ∙ ap (λ (known : KnownJobs). known.jobs) after)
 

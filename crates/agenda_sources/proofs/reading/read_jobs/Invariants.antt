@@ -6,4 +6,4 @@ use Rattle.agenda_sources.proofs.reading.read_jobs.Given as goal
 -- what is known so far, and the rest, mean what all sources mean
 abbrev pub invariant-loop-place : goal.invariant-loop-place
 invariant-loop-place l =
-    strictly_from l.zones l.place l.known (drop l.place l.sources) ≡ strictly_from l.zones 0 (known_jobs []) l.sources
+    strictly_from l.context l.place l.known (drop l.place l.sources) ≡ strictly_from l.context 0 (known_jobs []) l.sources

@@ -15,9 +15,9 @@ returns-in_ok-lines-in-Ok c =
     ∙ ap (map (λ line. (line.0, trimmed line.1))) c.in_ok-lines-in-Ok.ensures in
     let of_file = lines_of_file c.args.bytes.now c.in-Ok.text.now (map shown_line c.as_slice.result.now) c.in-Ok.ensures.value lines in
     let Found : TextReading (List (ℕ × List ℕ)) → Type 0 = λ reading. OnOk c.add_lines.result
-    (c.add_lines.new.found.items ≡ c.args.found.now.items ++ timer_findings c.args.zones.now c.args.known.now c.args.name.now reading) in
+    (c.add_lines.new.found.items ≡ c.args.found.now.items ++ timer_findings c.args.context.now c.args.known.now c.args.name.now reading) in
     let Kept : TextReading (List (ℕ × List ℕ)) → Type 0 = λ reading. OnOk c.add_lines.result
-    (c.add_lines.new.known ≡ after_timer c.args.zones.now c.args.known.now c.args.name.now reading) in
+    (c.add_lines.new.known ≡ after_timer c.args.context.now c.args.known.now c.args.name.now reading) in
     record {
       found = subst Found (sym of_file) c.add_lines.ensures.found;
       known = subst Kept (sym of_file) c.add_lines.ensures.known;
