@@ -114,6 +114,27 @@ jobs_rows <<'ROWS'
 S/u=@daily\x20a\n etc/systemd/system.conf=[Manager]\nDefaultTimerAccuracySec=1h\n|upcoming --utc --delays --after 2024-03-31T00:00:00Z|2024-04-01T00:00:00Z>2024-04-01T00:00:00Z>u:1>a||
 ROWS
 
+# ---- timers without events
+
+# A timer that has a monotonic setting and no event is reported by its file, once, after anacron and timers without a unit, and
+# before the jobs of at and the timers of users.
+jobs_rows <<'ROWS'
+*a.timer U/a.timer=[Timer]\nOnBootSec=5\n|upcoming --utc --after 2024-03-31T00:00:00Z|none>a.timer>a.service||monotonic U/a.timer
+*a.timer U/a.timer=[Timer]\nOnBootSec=5\n|plan --utc --since 2024-04-01T00:00:00Z --until 2024-04-02T00:00:00Z|agenda 2>2024-04-01T00:00:00Z>2024-04-02T00:00:00Z>0||monotonic U/a.timer
+*a.timer U/a.timer=[Timer]\nOnBootSec=5\n|quiet --utc --since 2024-04-01T00:00:00Z --until 2024-04-01T01:00:00Z|2024-04-01T00:00:00Z>2024-04-01T01:00:00Z>3600||monotonic U/a.timer
+*a.timer U/a.timer=[Timer]\nOnBootSec=5\n|check|root/usr/lib/systemd/system/a.timer: warning: no OnCalendar= event, so no start is planned [NoEvents];root/usr/lib/systemd/system/a.timer: warning: also starts by OnBootSec= or the like, which is not planned [Monotonic]||
+*a.timer U/a.timer=[Timer]\nOnBootSec=5\n|sources|timer>a.timer>root/usr/lib/systemd/system/a.timer||
+U/a.timer=[Timer]\nOnBootSec=5\n|upcoming|||
+U/a.timer=[Timer]\nOnBootSec=5\n|upcoming --all|none>a.timer>a.service||monotonic U/a.timer
+*a.timer U/a.timer=[Timer]\nOnBootSec=5\nOnCalendar=daily\n|upcoming --utc --after 2024-03-31T00:00:00Z|2024-04-01T00:00:00Z>a.timer>a.service||
+*a.timer U/a.timer=[Timer]\nOnBootSec=5\n E/a.timer.d/x.conf=[Timer]\nAccuracySec=1h\n|upcoming|none>a.timer>a.service||monotonic U/a.timer
+*a@b.timer *a@c.timer U/a@.timer=[Timer]\nOnBootSec=5\n N/a@.service|upcoming|none>a-b.timer>a-b.service;none>a-c.timer>a-c.service||monotonic U/a@.timer
+*a@OnBootSec.timer *a@b.timer U/a@.timer=[Timer]\n%i=5\n N/a@.service|upcoming|none>a-OnBootSec.timer>a-OnBootSec.service;none>a-b.timer>a-b.service||monotonic U/a@.timer
+etc/anacrontab F/atjobs/a root/.config/systemd/user/c.timer *b.timer U/b.timer=[Timer]\nUnit=x.service\n *a.timer U/a.timer=[Timer]\nOnBootSec=5\n|upcoming|none>a.timer>a.service||anacron,missing U/b.timer x.service,monotonic U/a.timer,at F/atjobs,user root/.config/systemd/user
+*b.timer *a.timer U/a.timer=[Timer]\nOnBootSec=5\n E/b.timer=[Timer]\nOnActiveSec=5|upcoming|none>a.timer>a.service;none>b.timer>b.service||monotonic U/a.timer,monotonic E/b.timer
+*a.timer U/a.timer=[Timer]\nOnBootSec=5\n#\xff\n|upcoming||root/usr/lib/systemd/system/a.timer: error: not UTF-8 [NotUtf8]|
+ROWS
+
 # ---- what is skipped
 
 # An error has the path and the line of the file that it is in, and the other jobs are planned.

@@ -1,9 +1,10 @@
 # shellcheck shell=bash disable=SC2154,SC2034
 # Rows about what agenda-machine reports beside the sources: what starts jobs but isn't planned, crontabs that no
-# program reads, and the exit status. Then whole roots in the layouts of distributions.
+# program reads, and the exit status. Then whole roots in the layouts of distributions. The rows of the texts of timers are
+# also those of `agenda machine`.
 
 # shellcheck source=/dev/null
-. "$top/rows/lib/machine.sh"
+. "$top/rows/lib/program.sh"
 
 # Prints the lines of standard error that $1 means: entries with commas between them, in their order. `timer`, `at` and
 # `user` have a path after them, and `left` has a path and the reason. The lines of timers are printed only if $2 is `timers`.
@@ -55,7 +56,8 @@ others_told() {
   done
 }
 
-# Rows of the texts of files: the timer a.timer and its drop-ins, with `|` between them, after `yes` if it is reported.
+# Rows of the texts of files: the timer a.timer and its drop-ins, with `|` between them, after `yes` if it is reported. The
+# program reports errors in these texts too, so of its lines only those of what isn't planned are compared.
 others_texts() {
   local wanted texts root number
   local -a list
@@ -65,11 +67,15 @@ others_texts() {
     for ((number = 1; number < ${#list[@]}; number++)); do
       root+=" E/a.timer.d/$number.conf=${list[number]}"
     done
-    machine_make "$root"
+    program_make "$root"
     : >"$work/err.wanted"
     [ "$wanted" = no ] || others_lines "timer U/a.timer" timers >"$work/err.wanted"
     others_run --root "$machine_root" plan
     machine_compare "a timer that isn't planned: '$texts'" /dev/null "$work/err.wanted" 0
+    sed -i 's/^agenda-machine:/agenda:/' "$work/err.wanted"
+    program_run quiet --since 2024-01-01T00:00:00Z --until 2024-01-01T00:00:01Z --root "$machine_root"
+    sed -i '/^agenda: not planned:/!d' "$work/err"
+    program_compare "a timer that isn't planned: '$texts'" /dev/null "$work/err.wanted" "$status"
   done
 }
 
@@ -261,16 +267,16 @@ ROWS
 others_texts <<'ROWS'
 no|[Timer]\nOnCalendar=daily\\\nOnBootSec=5
 yes|[Timer]\nOnCalendar=\\\n\nOnBootSec=5
-yes|[Timer]\nUnit=x\\\\\nOnBootSec=5
-no|[Timer]\nUnit=x\\\\\\\nOnBootSec=5
+yes|[Timer]\nPersistent=x\\\\\nOnBootSec=5
+no|[Timer]\nPersistent=x\\\\\\\nOnBootSec=5
 yes|[Timer]\n\\\nOnBootSec\\\n=5
 yes|[Timer]\n\\\nOnBootSec=\\\n5
 no|[Timer]\nOnBootSec=\\\n\n5
-yes|[Timer]\nUnit=x\\\n\nOnBootSec=5
-yes|[Timer]\nUnit=x\\\n\x20\nOnBootSec=5
-no|[Timer]\nUnit=x\\\n#\ny\\\n;\nOnBootSec=5
-yes|[Timer]\nUnit=x\\\x20\nOnBootSec=5
-no|[Timer]\nUnit=x\\\r\nOnBootSec=5
+yes|[Timer]\nPersistent=x\\\n\nOnBootSec=5
+yes|[Timer]\nPersistent=x\\\n\x20\nOnBootSec=5
+no|[Timer]\nPersistent=x\\\n#\ny\\\n;\nOnBootSec=5
+yes|[Timer]\nPersistent=x\\\x20\nOnBootSec=5
+no|[Timer]\nPersistent=x\\\r\nOnBootSec=5
 yes|[Timer]\n#\x20x\\\nOnBootSec=5
 no|[Timer]\n\\\\\\\nOnBootSec=5
 yes|[Timer]\n\\\\\nOnBootSec=5
@@ -294,7 +300,7 @@ no|[Timer]|OnBootSec=5
 yes|[Timer]\nOnBootSec=5|OnCalendar=daily
 yes|[Timer]\nOnBootSec=5|OnBootSec=
 yes|[Timer]\nOnCalendar=\\|daily\n[Timer]\nOnBootSec=5
-yes|[Timer]\nUnit=x\\|[Timer]\nOnBootSec=5
+yes|[Timer]\nPersistent=x\\|[Timer]\nOnBootSec=5
 ROWS
 
 # Bytes that agenda rejects: it skips the whole timer, and reports that. A byte 0 is a character like others.

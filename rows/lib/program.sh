@@ -122,7 +122,7 @@ program_compare() {
 #   wanted PATH UNIT    only UNIT wants the timer, and isn't reached
 #   missing PATH UNIT   the timer isn't planned, because its unit is missing
 #   mask PATH UNIT      the same, because its unit is masked
-#   anacron, at PATH, user PATH    jobs that aren't planned
+#   anacron, monotonic PATH, at PATH, user PATH    jobs that aren't planned
 #   cron                no cron daemon
 #   zone                the zone is unknown
 #
@@ -140,6 +140,7 @@ program_lines() {
       missing) why="its unit $why is missing" line='not planned:' ;;
       mask) why="its unit $why is masked" line='not planned:' ;;
       anacron) path=etc/anacrontab why='anacron starts jobs by days since they ran' line='not planned:' ;;
+      monotonic) why='starts by OnBootSec= or the like' line='not planned:' ;;
       at) why='jobs of at' line='not planned:' ;;
       user) why='user timers' line='not planned:' ;;
       cron)

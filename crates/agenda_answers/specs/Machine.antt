@@ -7,6 +7,7 @@ use Rattle.plan_timers.specs.Accuracy.{default_accuracy}
 use Rattle.plan_tree.specs.Tree.{Held as TreeHeld, below, is_directory, path_below}
 use Rattle.plan_machine.specs.Machine.{AreTooManyUnits, IsMachine}
 use Rattle.plan_machine.specs.declared.machine.Machine.{Machine}
+use Rattle.plan_machine.specs.declared.NotPlanned.{NotPlanned}
 use Rattle.agenda_arguments.specs.declared.MachineRequest.{MachineRequest}
 use Rattle.agenda_arguments.specs.declared.FormatRequest.{FormatRequest}
 use Rattle.agenda_arguments.specs.declared.MachineJobs.{MachineJobs}
@@ -19,6 +20,7 @@ use Rattle.agenda_commands.specs.declared.Goal.{Goal}
 use Rattle.agenda_faults.specs.Status.{done_status, failed_status, rejected_status}
 use Rattle.agenda_findings.specs.Findings.{check_text}
 use Rattle.agenda_machine.specs.Listing.{sources_text}
+use Rattle.agenda_machine.specs.Monotonic.{with_monotonic}
 use Rattle.agenda_machine.specs.Places.{located, paths_of, sources_of}
 use Rattle.agenda_machine.specs.Reports.{is_incomplete, is_reported, lines_of}
 use Rattle.agenda_sources.specs.Findings.{is_all_clean, kept_jobs, sources_errors, sources_findings}
@@ -95,15 +97,15 @@ pub record Shown : Type 0 where
   pub has_reports : Bool
   pub rest : Rest
 
--- the lines of what is reported of a machine
-abbrev pub machine_reports : (dir : List ℕ) → Machine → (is_zone_unknown : Bool) → List ℕ
-machine_reports dir machine is_zone_unknown =
-    lines_of (root_of dir) dir machine.skipped.items machine.unplanned.items machine.lacks_cron_daemon is_zone_unknown
+-- the lines of what is reported of a machine, by what isn't planned there
+abbrev pub machine_reports : (dir : List ℕ) → Machine → (unplanned : List NotPlanned) → (is_zone_unknown : Bool) → List ℕ
+machine_reports dir machine unplanned is_zone_unknown =
+    lines_of (root_of dir) dir machine.skipped.items unplanned machine.lacks_cron_daemon is_zone_unknown
 
 -- whether there are any
-abbrev pub has_reports : Machine → (is_zone_unknown : Bool) → Bool
-has_reports machine is_zone_unknown =
-    is_reported machine.skipped.items machine.unplanned.items machine.lacks_cron_daemon is_zone_unknown
+abbrev pub has_reports : Machine → (unplanned : List NotPlanned) → (is_zone_unknown : Bool) → Bool
+has_reports machine unplanned is_zone_unknown =
+    is_reported machine.skipped.items unplanned machine.lacks_cron_daemon is_zone_unknown
 
 -- the exit status: that of an error if one is found, or if something can't be read
 abbrev pub machine_status : Machine → (is_clean : Bool) → ℕ
@@ -129,13 +131,17 @@ rest_of dir machine (printout.Sources json) = sources_rest dir json machine
 rest_of dir machine (printout.Findings paths found json) = checked_rest json machine paths found.items
 rest_of dir machine (printout.Jobs outcome) = plans outcome
 
--- what is shown of a machine
-abbrev pub shown_of : (dir : List ℕ) → Machine → (is_zone_unknown : Bool) → Rest → Shown
-shown_of dir machine is_zone_unknown rest = record {
-  reports = machine_reports dir machine is_zone_unknown;
-  has_reports = has_reports machine is_zone_unknown;
+-- what is shown of a machine, by what isn't planned there
+abbrev pub shown_with : (dir : List ℕ) → Machine → (unplanned : List NotPlanned) → (is_zone_unknown : Bool) → Rest → Shown
+shown_with dir machine unplanned is_zone_unknown rest = record {
+  reports = machine_reports dir machine unplanned is_zone_unknown;
+  has_reports = has_reports machine unplanned is_zone_unknown;
   rest = rest;
 }
+
+-- the same, if no text of a timer matters for that
+abbrev pub shown_of : (dir : List ℕ) → Machine → (is_zone_unknown : Bool) → Rest → Shown
+shown_of dir machine is_zone_unknown rest = shown_with dir machine machine.unplanned.items is_zone_unknown rest
 
 -- `sources`: the zone isn't read
 abbrev pub shows_sources : (dir : List ℕ) → (json : Bool) → Machine → Step Shown
@@ -181,28 +187,31 @@ jobs_rest dir machine errors answer = plans (record {
 })
 
 -- the answer for the jobs of a machine, in these time zones
-abbrev pub shows_jobs_in : (dir : List ℕ) → FormatRequest → Goal → Machine → ZoneClock → TimeZones → Step Shown
-shows_jobs_in dir request goal machine clock zones = do
+abbrev pub shows_jobs_in :
+    (dir : List ℕ) → FormatRequest → Goal → Machine → (unplanned : List NotPlanned) → ZoneClock → TimeZones → Step Shown
+shows_jobs_in dir request goal machine unplanned clock zones = do
   format ← format_made request clock.name (unnamed_zone clock.is_of_file) zones.clock
   errors ← computes (errors_in machine zones (sources_of machine.sources.items))
   answer ← answer_of format goal (Ok (kept_jobs zones (sources_of machine.sources.items)))
-  gives (shown_of dir machine clock.is_unknown (jobs_rest dir machine errors answer))
+  gives (shown_with dir machine unplanned clock.is_unknown (jobs_rest dir machine errors answer))
 
 -- `upcoming`, `plan` and `quiet`: the zone is read first, then the times, and then the zones of events
-abbrev pub shows_jobs : Held → KnownHost → (dir : List ℕ) → MachineJobs → Machine → Step Shown
-shows_jobs held host dir jobs machine = do
+abbrev pub shows_jobs : Held → KnownHost → (dir : List ℕ) → MachineJobs → Machine → (unplanned : List NotPlanned) → Step Shown
+shows_jobs held host dir jobs machine unplanned = do
   clock ← machine_clock held host.tree (root_of dir) jobs.zone
   goal ← goal_at host.time jobs
   zones ← machine_zones held host.tree clock.clock (sources_of machine.sources.items)
-  shows_jobs_in dir jobs.format goal machine clock zones
+  shows_jobs_in dir jobs.format goal machine unplanned clock zones
 
 -- the machine that the program runs on, below a root
 abbrev pub host_below : KnownHost → (root : List ℕ) → KnownHost
 host_below host root = record { tree = tree_below host.tree root; time = host.time }
 
--- the answer to a question
+-- the answer to a question. For jobs, timers that start by monotonic settings alone are among what isn't planned
 abbrev pub shows : Held → KnownHost → (dir : List ℕ) → MachineQuestion → Machine → Step Shown
-shows held host dir (question.Jobs jobs) machine = shows_jobs held (host_below host (root_of dir)) dir jobs machine
+shows held host dir (question.Jobs jobs) machine = do
+  unplanned ← computes (with_monotonic machine.sources.items machine.unplanned.items)
+  shows_jobs held (host_below host (root_of dir)) dir jobs machine unplanned
 shows held host dir (question.Sources json) machine = shows_sources dir json machine
 shows held host dir (question.Check zone json) machine = shows_findings held (tree_below host.tree (root_of dir)) dir zone json machine
 

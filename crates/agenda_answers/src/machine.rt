@@ -31,7 +31,8 @@ use agenda_faults::status::{DONE, FAILED, REFUSED};
 use agenda_faults::{Failure, RunFault};
 use agenda_findings::write_findings;
 use agenda_machine::{
-    Reports, is_incomplete, located, paths_of, sources_of, write_reports, write_sources,
+    Reports, is_incomplete, located, paths_of, sources_of, with_monotonic, write_reports,
+    write_sources,
 };
 use agenda_sources::{
     Found, SourcePath, SourcePaths, Sources, TimeZones, findings_of_sources, zone_names,
@@ -90,8 +91,8 @@ impl<'a> Model for MachineAnswer<'a> {
     ghost Value = { Shown };
 
     ghost view = { λ answer. record {
-      reports = machine_reports answer.site.dir.now answer.site.machine answer.site.is_zone_unknown;
-      has_reports = has_reports answer.site.machine answer.site.is_zone_unknown;
+      reports = machine_reports answer.site.dir.now answer.site.machine answer.site.machine.unplanned.items answer.site.is_zone_unknown;
+      has_reports = has_reports answer.site.machine answer.site.machine.unplanned.items answer.site.is_zone_unknown;
       rest = rest_of answer.site.dir.now answer.site.machine answer.printout;
     } };
 }
@@ -140,6 +141,7 @@ fn make_answer<'a, R: Threads + Wait + Sync, F: Files, T: Complete>(
                 tree: &below,
                 time: host.time,
             };
+            let machine = with_monotonic(alloc, machine)?;
             jobs_answer(rt, alloc, files, &host, dir, jobs, machine)
         }
         MachineQuestion::Sources { json } => Ok(sources_answer(dir, *json, machine)),
@@ -295,7 +297,8 @@ fn jobs_answer<'a, R: Threads + Wait + Sync, F: Files, T: Tree>(
     jobs: &MachineJobs,
     machine: Machine,
 ) -> Result<MachineAnswer<'a>, Failure>
-    ensures { shows_jobs (F.held files.old) (host_of T.is_known (T.held host.now.tree.now) host.now.time) dir.now jobs.now machine result }
+    ensures { shows_jobs (F.held files.old) (host_of T.is_known (T.held host.now.tree.now) host.now.time) dir.now jobs.now
+        machine machine.unplanned.items result }
 {
     let clock = machine_clock(alloc, files, host.tree, root_of(dir), &jobs.zone)?;
     let goal = goal_at(host.time, jobs)?;
@@ -366,8 +369,8 @@ fn show<O: Stream, E: Stream>(answer: MachineAnswer<'_>, out: &mut O, err: &mut 
 // Writes what is reported.
 fn report_site<S: Stream>(site: &Site<'_>, err: &mut S) -> Result<(), WriteFault>
     ensures text { Puts S.takes_all result (S.holds err.old) (S.holds err.new)
-        (machine_reports site.now.dir.now site.now.machine site.now.is_zone_unknown) }
-    ensures spared { has_reports site.now.machine site.now.is_zone_unknown ≡ false → result ≡ Ok tt }
+        (machine_reports site.now.dir.now site.now.machine site.now.machine.unplanned.items site.now.is_zone_unknown) }
+    ensures spared { has_reports site.now.machine site.now.machine.unplanned.items site.now.is_zone_unknown ≡ false → result ≡ Ok tt }
     ensures flushed { OnOk result (IsTrue (S.is_flushed err.old) → IsTrue (S.is_flushed err.new)) }
 {
     let machine = &site.machine;

@@ -1,4 +1,5 @@
 pub mod Shown
 pub mod Listing
 pub mod Reports
+pub mod Monotonic
 pub mod Places

@@ -2,14 +2,17 @@
 //! of `check` are.
 //!
 //! The machine comes from plan_machine. `shown` says how people are shown paths and names. Read `listing` first, then
-//! `reports`. `places` passes the sources on to `check`, and finds the file of each finding.
+//! `reports`. `monotonic` finds the timers that start by monotonic settings alone. `places` passes the sources on to `check`,
+//! and finds the file of each finding.
 #![tactic(auto)]
 
 mod listing;
+mod monotonic;
 mod places;
 mod reports;
 mod shown;
 
 pub use listing::write_sources;
+pub use monotonic::with_monotonic;
 pub use places::{located, paths_of, places_have_paths, sources_of};
 pub use reports::{Reports, is_incomplete, write_reports};

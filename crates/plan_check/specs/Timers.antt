@@ -1,5 +1,5 @@
 -- The findings of a timer file (systemd.timer(5)). Which findings there are, and their order, is our choice (agenda).
-use Rattle.std.specs.Prelude.{ℕ, false, not, ◌&&◌, ◌==◌, if◌then◌else◌, List, [], ◌∷◌, ◌++◌, Option, Some, None, option_map, is_some, Ok, Err}
+use Rattle.std.specs.Prelude.{ℕ, Bool, false, not, ◌&&◌, ◌==◌, if◌then◌else◌, List, [], ◌∷◌, ◌++◌, Option, Some, None, option_map, is_some, Ok, Err}
 use Rattle.std.specs.List.{cons_option}
 use Rattle.plan_clock.specs.declared.row.Change.{Change}
 use Rattle.plan_match.specs.Zone.{rule_in}
@@ -77,6 +77,11 @@ timer_warnings (Some clock) lines =
     found_if (has_timer lines && (held_after lines == 0)) 0 (Warned NoEvents) None
     ++ (found_if (is_monotonic (settings_from false lines)) 0 (Warned Monotonic) None
     ++ found_if (is_delayed (settings_from false lines)) 0 (Warned Delayed) (Some (last_delay (settings_from false lines))))
+
+-- the timer has a monotonic setting and no event, so it never elapses at a time that can be told before (systemd.timer(5))
+abbrev pub is_only_monotonic : TextReading (List (ℕ × List ℕ)) → Bool
+is_only_monotonic (Ok lines) = (held_after lines == 0) && is_monotonic (settings_from false lines)
+is_only_monotonic (Err fault) = false
 
 -- the findings of the whole lines of a text: first those of the whole file, then those of its lines. Each timer makes a job,
 -- whatever else is rejected, unless the file's name is bad. A text that is too large or not UTF-8 has no lines, and no missing

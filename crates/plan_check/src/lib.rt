@@ -26,3 +26,4 @@ pub use files::{cause_at_once, file_findings};
 pub use finding::{Finding, FindingKind, Warning};
 pub use known::Known;
 pub use laws::{a_file_means_its_reading, errors_need_no_clock};
+pub use timers::is_only_monotonic;

@@ -9,7 +9,7 @@ ghost use Rattle.plan_rules.specs.TimerEntries.{draft_after, draft_of, held_afte
 ghost use Rattle.plan_check.specs.Context.{delays_by};
 ghost use Rattle.plan_check.specs.Known.{after_job, after_other, job_findings};
 ghost use Rattle.plan_check.specs.Settings.{is_monotonic, last_delay};
-ghost use Rattle.plan_check.specs.Timers.{after_timer, event_quote, event_warnings, line_findings, lines_findings, read_findings, setting_findings, step_findings, timer_findings, timer_warnings};
+ghost use Rattle.plan_check.specs.Timers.{after_timer, event_quote, event_warnings, is_only_monotonic, line_findings, lines_findings, read_findings, setting_findings, step_findings, timer_findings, timer_warnings};
 ghost use Rattle.plan_check.specs.Warnings.{never_starts};
 
 use crate::context::TimerContext;
@@ -21,7 +21,7 @@ use crate::skipped::may_skip_starts;
 use plan_clock::Clock;
 use plan_next::next_from;
 use plan_rules::{
-    Calendar, Events, LineCause, LineFault, Rule, TimerDraft, TimerLine, TimerReader,
+    Calendar, EventZones, Events, LineCause, LineFault, Rule, TimerDraft, TimerLine, TimerReader,
     is_timer_name, text_of, timer_job,
 };
 use plan_texts::Text;
@@ -52,6 +52,35 @@ pub(crate) fn add_timer(
             known.add_other(alloc, name)
         }
     }
+}
+
+/// Returns whether the text of a timer has a monotonic setting, such as `OnBootSec=`, and no event (systemd.timer(5)).
+///
+/// Such a timer has the warnings `NoEvents` and `Monotonic`, and no start.
+///
+/// # Errors
+///
+/// `AllocError` if an allocation fails.
+pub fn is_only_monotonic(alloc: Global, bytes: &[u8]) -> Result<bool, AllocError>
+    ensures { IfOk result (λ is. is ≡ is_only_monotonic (timer_lines bytes.now)) }
+{
+    match text_of(bytes) {
+        Ok(text) => {
+            let lines = whole_lines(alloc, text)?;
+            are_only_monotonic(alloc, lines.as_slice())
+        }
+        Err(_) => Ok(false),
+    }
+}
+
+// Returns the same of the whole lines of a timer's text.
+fn are_only_monotonic(alloc: Global, lines: &[WholeLine]) -> Result<bool, AllocError>
+    ensures { IfOk result (λ is. is ≡ is_only_monotonic (Ok (map shown_line lines.now))) }
+{
+    let context = TimerContext::new(EventZones::utc_alone());
+    let mut found = Vec::new(alloc);
+    let (reader, standing, _, _) = read_lines(alloc, &mut found, &None, lines, &context)?;
+    Ok(reader.held() == 0 && standing.monotonic)
 }
 
 // Adds the findings of the whole file, whose lines are given, then those of its lines, and then its job.
