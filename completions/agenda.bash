@@ -102,18 +102,18 @@ _agenda() {
             [[ ${COMPREPLY-} == *= ]] && compopt -o nospace
             ;;
         machine:-* | machine\ upcoming:*)
-            mapfile -t COMPREPLY < <(compgen -W "--after= --delays $machine" -- "$cur")
+            mapfile -t COMPREPLY < <(compgen -W "--after= --delays --strict $machine" -- "$cur")
             [[ ${COMPREPLY-} == *= ]] && compopt -o nospace
             ;;
         machine:*)
-            mapfile -t COMPREPLY < <(compgen -W 'upcoming plan quiet check sources' -- "$cur")
+            mapfile -t COMPREPLY < <(compgen -W 'upcoming plan quiet check sources next' -- "$cur")
             ;;
         machine\ plan:*)
-            mapfile -t COMPREPLY < <(compgen -W "$span --delays $machine" -- "$cur")
+            mapfile -t COMPREPLY < <(compgen -W "$span --delays --strict $machine" -- "$cur")
             [[ ${COMPREPLY-} == *= ]] && compopt -o nospace
             ;;
         machine\ quiet:*)
-            mapfile -t COMPREPLY < <(compgen -W "$span --least= --nominal $machine" -- "$cur")
+            mapfile -t COMPREPLY < <(compgen -W "$span --least= --nominal --strict $machine" -- "$cur")
             [[ ${COMPREPLY-} == *= ]] && compopt -o nospace
             ;;
         machine\ sources:*)
@@ -122,6 +122,10 @@ _agenda() {
             ;;
         machine\ check:*)
             mapfile -t COMPREPLY < <(compgen -W "$machine" -- "$cur")
+            [[ ${COMPREPLY-} == *= ]] && compopt -o nospace
+            ;;
+        machine\ next:*)
+            mapfile -t COMPREPLY < <(compgen -W '--after= --count= --zone= --utc --json --help' -- "$cur")
             [[ ${COMPREPLY-} == *= ]] && compopt -o nospace
             ;;
         plan:* | upcoming:* | quiet:* | check:*)

@@ -37,7 +37,7 @@ complete -c agenda -n $zone -l json -d 'Print each line as a JSON object'
 set -l times '__fish_seen_subcommand_from next plan upcoming quiet'
 complete -c agenda -n $times -l local -d 'Print times in the time zone of the rules'
 
-set -l next '__fish_seen_subcommand_from next'
+set -l next 'not __fish_seen_subcommand_from machine; and __fish_seen_subcommand_from next'
 complete -c agenda -n $next -l count -x -d 'How many starts, from 1 to 1000 [1]'
 complete -c agenda -n $next -l cron -x -d 'A cron rule' \
     -a '@yearly @annually @monthly @weekly @daily @midnight @hourly @reboot'
@@ -69,22 +69,27 @@ complete -c agenda -n $sources -l cron-d -r -F -d 'A crontab of a package'
 complete -c agenda -n $sources -l spool -r -F -d 'A user\'s crontab, named by the user'
 complete -c agenda -n $sources -k -a '(__fish_complete_suffix .timer)'
 
-set -l machine '__fish_seen_subcommand_from machine; and not __fish_seen_subcommand_from upcoming plan quiet check sources'
+set -l machine '__fish_seen_subcommand_from machine; and not __fish_seen_subcommand_from upcoming plan quiet check sources next'
 complete -c agenda -n $machine -a upcoming -d 'Print when each job of a machine starts next'
 complete -c agenda -n $machine -a plan -d 'Print every start of a machine\'s jobs in a span of time'
 complete -c agenda -n $machine -a quiet -d 'Print the gaps in which no job of a machine starts'
 complete -c agenda -n $machine -a check -d 'Print errors and likely mistakes in a machine\'s crontabs and timers'
 complete -c agenda -n $machine -a sources -d 'List a machine\'s crontabs and timers'
+complete -c agenda -n $machine -a next -d 'Print the next starts of a rule by the machine\'s clock'
 
-set -l question '__fish_seen_subcommand_from machine'
+set -l question '__fish_seen_subcommand_from machine; and not __fish_seen_subcommand_from next'
 complete -c agenda -n $question -l root -x -d 'The root directory of the machine [/]' -a '(__fish_complete_directories)'
 complete -c agenda -n $question -l all -d 'Include timers that aren\'t enabled'
-complete -c agenda -n $question -l json -d 'Print each line as a JSON object'
+complete -c agenda -n '__fish_seen_subcommand_from machine' -l json -d 'Print each line as a JSON object'
+complete -c agenda -n '__fish_seen_subcommand_from machine; and __fish_seen_subcommand_from next' -l count -x \
+    -d 'How many starts, from 1 to 1000 [5]'
 
 set -l zoned '__fish_seen_subcommand_from machine; and not __fish_seen_subcommand_from sources'
 complete -c agenda -n $zoned -l zone -r -F -d 'The time zone of the rules, if not that of the machine' \
     -a '(__fish_agenda_zones)'
 complete -c agenda -n $zoned -l utc -d 'Read the rules in UTC'
+complete -c agenda -n '__fish_seen_subcommand_from machine; and not __fish_seen_subcommand_from check sources next' -l strict \
+    -d 'Let an error in a file stop the answer'
 complete -c agenda -n '__fish_seen_subcommand_from machine; and __fish_seen_subcommand_from quiet' -l nominal \
     -d 'Don\'t count the delays of timers'
 

@@ -1,6 +1,6 @@
 # shellcheck shell=bash disable=SC2154,SC2034
 # Rows of `agenda machine upcoming`, `plan` and `quiet`: the starts of a machine's jobs, the times and the zone in which they are
-# shown, the errors that are skipped, and the question that is answered if none is given. Expected lines are worked out by
+# shown, the errors that are skipped, and the question that is answered if none is given. And rows of `agenda machine next`. Expected lines are worked out by
 # hand: CET is the zone of Berlin, where clocks are put forward on 31 March 2024 at 01:00 UTC; cron's @daily starts at midnight.
 
 # shellcheck source=/dev/null
@@ -144,6 +144,19 @@ S/u=x\n@daily\x20a\n|upcoming --utc --after 2024-03-31T00:00:00Z|2024-04-01T00:0
 C/a/ S/u=@daily\x20a\n|upcoming --utc --after 2024-03-31T00:00:00Z|2024-04-01T00:00:00Z>u:1>a||C/a not readable
 *a.timer E/a.timer= U/a.timer|upcoming --after 2024-03-31T00:00:00Z|||E/a.timer masked
 ROWS
+
+# With --strict the first error stops the answer. What is reported of the machine stays.
+jobs_rows <<'ROWS'
+S/u=x\n@daily\x20a\ny\n|upcoming --strict --utc --after 2024-03-31T00:00:00Z||root/var/spool/cron/crontabs/u:1: error: expected NAME=VALUE, or five fields and a command [BadSetting]|
+S/u=x\n@daily\x20a\ny\n|--strict --after 2024-03-31T00:00:00Z||root/var/spool/cron/crontabs/u:1: error: expected NAME=VALUE, or five fields and a command [BadSetting]|
+S/u=x\n@daily\x20a\ny\n|plan --strict --limit 0 --since 2024-03-31T00:00:00Z --until 2024-04-01T00:00:00Z||root/var/spool/cron/crontabs/u:1: error: expected NAME=VALUE, or five fields and a command [BadSetting]|
+S/u=x\n@daily\x20a\ny\n|quiet --strict --least 0 --since 2024-03-31T00:00:00Z --until 2024-04-01T00:00:00Z||root/var/spool/cron/crontabs/u:1: error: expected NAME=VALUE, or five fields and a command [BadSetting]|
+*a.timer U/a.timer=DAILY E/a.timer.d/x.conf=\n[Timer]\nOnCalendar=24:00\n S/u=@daily\x20a\n|upcoming --strict --after 2024-03-31T00:00:00Z||root/etc/systemd/system/a.timer.d/x.conf:3: error: hour in '24:00': out of range 0-23 [OutOfRange]|
+C/a/ S/u=x\n|upcoming --strict --after 2024-03-31T00:00:00Z||root/var/spool/cron/crontabs/u:1: error: expected NAME=VALUE, or five fields and a command [BadSetting]|C/a not readable
+C/a/ S/u=@daily\x20a\n|upcoming --strict --utc --after 2024-03-31T00:00:00Z|2024-04-01T00:00:00Z>u:1>a||C/a not readable
+S/u=@daily\x20a\n|upcoming --strict --utc --after 2024-03-31T00:00:00Z|2024-04-01T00:00:00Z>u:1>a||
+ROWS
+
 machine_has_cron=no
 jobs_rows <<'ROWS'
 S/u=@daily\x20a\n|upcoming --utc --after 2024-03-31T00:00:00Z|2024-04-01T00:00:00Z>u:1>a||cron
@@ -175,4 +188,76 @@ plan --planners 9 --since 2024-01-01T00:00:00Z --until 2024-01-01T01:00:00Z|agen
 quiet --least 0 --since 2024-01-01T00:00:00Z --until 2024-01-01T01:00:00Z|agenda: quiet: BadLeast
 upcoming --zone Nowhere/At_all|agenda: zone: NoSuchZone
 upcoming --zone Nowhere/At_all --after x|agenda: zone: NoSuchZone
+ROWS
+
+# ---- the next starts of a rule
+
+# Rows from standard input: a rule, the other arguments, and the lines on standard output, with `;` between them.
+next_starts() {
+  local rule words lines
+  while IFS='|' read -r rule words lines; do
+    read -r -a words <<<"$words"
+    program_run next "$rule" "${words[@]}"
+    printf '%s\n' "${lines//;/$'\n'}" >"$work/out.wanted"
+    program_compare "next '$rule' ${words[*]}" "$work/out.wanted" /dev/null 0
+  done
+}
+
+# Rows from standard input: a rule, the other arguments, and the line on standard error. Nothing is printed.
+next_errors() {
+  local rule words line
+  while IFS='|' read -r rule words line; do
+    read -r -a words <<<"$words"
+    program_run next "$rule" "${words[@]}"
+    echo "$line" >"$work/err.wanted"
+    program_compare "next '$rule' ${words[*]}" /dev/null "$work/err.wanted" 1
+  done
+}
+
+# The zone of these rows is a file: CET.
+program_make etc/zone=CET
+next_zone=$machine_folder/$machine_root/etc/zone
+
+# Five words, or an @ in front, are a cron rule; all else is a calendar event. Blanks around words don't count.
+next_starts <<'ROWS'
+30 2 * * *|--utc --count 2 --after 2024-03-30T12:00:00Z|2024-03-31T02:30:00Z;2024-04-01T02:30:00Z
+  30 2	* * *  |--utc --count 1 --after 2024-03-30T12:00:00Z|2024-03-31T02:30:00Z
+@daily|--utc --count 1 --after 2024-03-30T12:00:00Z|2024-03-31T00:00:00Z
+ @weekly |--utc --count 1 --after 2024-03-30T12:00:00Z|2024-03-31T00:00:00Z
+weekly|--utc --count 1 --after 2024-03-30T12:00:00Z|2024-04-01T00:00:00Z
+Mon *-*-* 09:00|--utc --count 1 --after 2024-03-30T12:00:00Z|2024-04-01T09:00:00Z
+09:00|--utc --after 2024-03-30T12:00:00Z|2024-03-31T09:00:00Z;2024-04-01T09:00:00Z;2024-04-02T09:00:00Z;2024-04-03T09:00:00Z;2024-04-04T09:00:00Z
+0 0 31 2 *|--utc --after 2024-03-30T12:00:00Z|none
+2999-12-31|--utc --after 2024-03-30T12:00:00Z|2999-12-31T00:00:00Z;none
+@daily|--utc --count 1 --json --after 2024-03-30T12:00:00Z|{"start":"2024-03-31T00:00:00Z"}
+@daily|--zone UTC --count 1 --after 2024-03-30T12:00:00Z|2024-03-31T00:00:00+00:00
+@daily|--zone UTC --count 1 --json --after 2024-03-30T12:00:00Z|{"start":"2024-03-31T00:00:00Z","local":"2024-03-31T00:00:00+00:00"}
+ROWS
+next_starts <<ROWS
+30 2 * * *|--zone $next_zone --count 2 --after 2024-03-30T12:00:00Z|2024-03-31T03:00:00+02:00;2024-04-01T02:30:00+02:00
+09:00 UTC|--zone $next_zone --count 1 --after 2024-03-31T12:00:00Z|2024-04-01T11:00:00+02:00
+ROWS
+
+# The time is now if it isn't given: 1970 is over.
+next_starts <<'ROWS'
+1970-01-01 12:00|--utc|none
+ROWS
+
+# An invalid rule is reported as `check` reports it.
+next_errors <<'ROWS'
+99 * * * *|--utc|agenda: rule: minute '99': out of range 0-59 [OutOfRange]
+0 0 * * mon-x|--utc|agenda: rule: day of week 'mon-x': unknown name [BadName]
+@dayly|--utc|agenda: rule: unknown word '@dayly' [UnknownWord]
+* * * *|--utc|agenda: rule: '* * * *' is not a calendar event [WrongParts]
+Mon 25:00|--utc|agenda: rule: hour in 'Mon 25:00': out of range 0-23 [OutOfRange]
+09:00 Nowhere/At_all|--utc|agenda: rule: time zone in '09:00 Nowhere/At_all': unknown [Zone]
+|--utc|agenda: rule: '' is not a calendar event [WrongParts]
+ROWS
+
+# The zone comes first, then the time, the number of starts, and the rule.
+next_errors <<'ROWS'
+x|--zone Nowhere/At_all --after x --count 0|agenda: zone: NoSuchZone
+x|--utc --after x --count 0|agenda: after: BadForm
+x|--utc --count 0|agenda: count: BadCount
+x|--utc --count 1001|agenda: count: BadCount
 ROWS

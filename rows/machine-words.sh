@@ -79,6 +79,8 @@ Options:
                      times in UTC
       --delays       Show each start with the latest time at which it may
                      happen (RandomizedDelaySec= and AccuracySec=)
+      --strict       Let an error in a file stop the answer, instead of
+                     skipping what is invalid
       --json         Print each line as a JSON object; agenda(1)
                      describes the keys
   -h, --help         Print help
@@ -90,6 +92,37 @@ status is 1 if there is such an error or if a file can't be read, otherwise 0.
 
 Example:
   agenda machine upcoming --root /mnt --delays
+END
+  cat >"$machine_words_folder/next.text" <<'END'
+Prints the next starts of a rule by the machine's clock
+
+Usage: agenda machine next [OPTIONS] <RULE>
+
+Arguments:
+  <RULE>  A cron rule of five words, or one that begins with @,
+          or a calendar event of systemd; put it in quotes
+
+Options:
+      --after <T>    Only starts later than this time, in UTC, such as
+                     2026-12-01T22:00:00Z; now if it isn't given
+      --count <N>    How many starts, from 1 to 1000 [default: 5]
+      --zone <ZONE>  The time zone of the rules, such as Europe/Berlin,
+                     or the path of a TZif file; that of the machine
+                     if it isn't given
+      --utc          Read the rules in UTC, like --zone UTC, and print
+                     times in UTC
+      --json         Print each line as a JSON object; agenda(1)
+                     describes the keys
+  -h, --help         Print help
+
+Prints what 'agenda next' prints of the rule, in the time zone of the machine that agenda
+runs on. Times are those of its clocks, with their offset from UTC. A RULE of five words,
+or that begins with @, is a cron rule; any other is a calendar event, which may end with a
+time zone.
+
+Examples:
+  agenda machine next '30 2 * * *'
+  agenda machine next 'Mon..Fri 09:00 Europe/Berlin' --count 1
 END
 }
 
@@ -109,6 +142,8 @@ upcoming --all|--help
 check check|--help
 check check|-h
 check check|--root|none|--utc|--zone|UTC|-h
+next next|--help
+next next|daily|--utc|-h
 END
 }
 
@@ -138,7 +173,7 @@ Usage: agenda machine check [OPTIONS]
 For more information, try '--help'.
 END
   for words in 'check|--zone|Europe/Berlin|--utc' 'check|--utc|--root=none|--zone=UTC' 'check|--utc|--zone=' '--utc|--zone=UTC' \
-    'upcoming|--utc|--zone=UTC' 'plan|--utc|--zone=UTC' 'quiet|--utc|--zone=UTC'; do
+    'upcoming|--utc|--zone=UTC' 'plan|--utc|--zone=UTC' 'quiet|--utc|--zone=UTC' 'next|daily|--utc|--zone=UTC'; do
     machine_words_tell_usage "$words" <<'END'
 error: the argument '--zone <ZONE>' cannot be used with '--utc'
 
@@ -158,7 +193,6 @@ machine_words_begin_usage() {
     mv -- "$machine_words_folder/begin" "$work/err"
     compare "words: machine|$words" /dev/null "$machine_words_folder/usage" 2
   done <<'END'
-next => error: unrecognized subcommand 'next'
 machine => error: unrecognized subcommand 'machine'
 help => error: unrecognized subcommand 'help'
 Check => error: unrecognized subcommand 'Check'
@@ -206,6 +240,22 @@ plan|--least=1 => error: unexpected argument '--least' found
 plan|--local => error: unexpected argument '--local' found
 plan|--limit=x => error: invalid value 'x' for '--limit <N>': invalid digit found in string
 quiet|--delays => error: unexpected argument '--delays' found
+check|--strict => error: unexpected argument '--strict' found
+sources|--strict => error: unexpected argument '--strict' found
+plan|--strict|--strict => error: the argument '--strict' cannot be used multiple times
+quiet|--strict=yes => error: unexpected value 'yes' for '--strict' found; no more were expected
+next => error: the following required arguments were not provided:
+next|daily|weekly => error: unexpected argument 'weekly' found
+next|daily|--root=. => error: unexpected argument '--root' found
+next|daily|--all => error: unexpected argument '--all' found
+next|daily|--strict => error: unexpected argument '--strict' found
+next|daily|--delays => error: unexpected argument '--delays' found
+next|daily|--since=x => error: unexpected argument '--since' found
+next|daily|--local => error: unexpected argument '--local' found
+next|--cron=@daily => error: unexpected argument '--cron' found
+next|daily|--count=x => error: invalid value 'x' for '--count <N>': invalid digit found in string
+next|daily|--after=x|--after=x => error: the argument '--after <T>' cannot be used multiple times
+next|-1 => error: unexpected argument '-1' found
 END
 }
 

@@ -295,6 +295,7 @@ Commands:
   quiet     Prints the gaps in which no job of a machine starts
   check     Prints errors and likely mistakes in a machine's crontabs and timers
   sources   Lists a machine's crontabs and timers
+  next      Prints the next starts of a rule by the machine's clock
 
 Options:
   -h, --help  Print help

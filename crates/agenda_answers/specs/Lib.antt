@@ -6,12 +6,12 @@ pub mod Host
 pub mod Machine
 pub mod MachineFiles
 pub mod MachineGoal
+pub mod MachineNext
 pub mod MachineZone
 pub mod Opened
 pub mod Outcome
 pub mod Program
 pub mod Requests
-pub mod Root
 pub mod Sources
 pub mod Steps
 pub mod Zone

@@ -1,5 +1,5 @@
 -- The answer to a question about a machine. All of it is our choice (agenda).
-use Rattle.std.specs.Prelude.{◌≡◌, ◌⊎◌, ℕ, Bool, true, false, not, ◌&&◌, ◌==◌, if◌then◌else◌, List, [], length, ◌∷◌, Option, None, Some, Result, Ok, Err}
+use Rattle.std.specs.Prelude.{◌≡◌, ◌⊎◌, ℕ, Bool, true, false, not, ◌&&◌, ◌==◌, if◌then◌else◌, List, [], length, take, ◌∷◌, Option, None, Some, Result, Ok, Err}
 use Rattle.std.specs.Io.KnownBytes.{Appends, Keeps}
 use Rattle.plan_clock.specs.declared.row.Change.{Change}
 use Rattle.plan_streams.specs.Stream.{BreaksOff}
@@ -9,7 +9,6 @@ use Rattle.plan_machine.specs.Machine.{AreTooManyUnits, IsMachine}
 use Rattle.plan_machine.specs.declared.machine.Machine.{Machine}
 use Rattle.plan_machine.specs.declared.NotPlanned.{NotPlanned}
 use Rattle.agenda_arguments.specs.declared.MachineRequest.{MachineRequest}
-use Rattle.agenda_arguments.specs.declared.FormatRequest.{FormatRequest}
 use Rattle.agenda_arguments.specs.declared.MachineJobs.{MachineJobs}
 use Rattle.agenda_arguments.specs.declared.MachineQuestion.{MachineQuestion}
 use Rattle.agenda_arguments.specs.declared.MachineQuestion.TheVariants as question
@@ -19,6 +18,7 @@ use Rattle.agenda_faults.specs.declared.faults.RunFault.{RunFault}
 use Rattle.agenda_commands.specs.declared.Goal.{Goal}
 use Rattle.agenda_faults.specs.Status.{done_status, failed_status, rejected_status}
 use Rattle.agenda_findings.specs.Findings.{check_text}
+use Rattle.agenda_findings.specs.Skipped.{skipped_text}
 use Rattle.agenda_machine.specs.Listing.{sources_text}
 use Rattle.agenda_machine.specs.Monotonic.{with_monotonic}
 use Rattle.agenda_machine.specs.Places.{located, paths_of, sources_of}
@@ -41,7 +41,7 @@ use Rattle.agenda_answers.specs.MachineFiles.{machine_files}
 use Rattle.agenda_answers.specs.MachineGoal.{goal_at}
 use Rattle.agenda_answers.specs.MachineZone.{KnownTree, fails_with, looks, machine_clock}
 use Rattle.agenda_answers.specs.Outcome.{ExitsWith, Outcome, Reports, answer_of}
-use Rattle.agenda_answers.specs.Root.{dir_of, root_of}
+use Rattle.agenda_machine.specs.Root.{dir_of, root_of}
 use Rattle.agenda_answers.specs.Steps.{Step, computes, gives, ◌>>=◌}
 
 -- ---- the root
@@ -86,10 +86,11 @@ machine_of tree all dir = do
 
 -- ---- the questions
 
--- what follows what is reported: a text with its exit status, or the answer for jobs
+-- what follows what is reported: a text with its exit status, or the answer for jobs, or errors of which the first stops it
 pub data Rest : Type 0 where
   prints : Printed → Rest
   plans : Outcome → Rest
+  stops_at_first : (paths : List SourcePath) → (errors : List Found) → Rest
 
 -- what is reported of a machine, and whether that is anything; and what follows
 pub record Shown : Type 0 where
@@ -130,6 +131,7 @@ abbrev pub rest_of : (dir : List ℕ) → Machine → Printout → Rest
 rest_of dir machine (printout.Sources json) = sources_rest dir json machine
 rest_of dir machine (printout.Findings paths found json) = checked_rest json machine paths found.items
 rest_of dir machine (printout.Jobs outcome) = plans outcome
+rest_of dir machine (printout.Stopped skipped) = stops_at_first skipped.paths skipped.errors.items
 
 -- what is shown of a machine, by what isn't planned there
 abbrev pub shown_with : (dir : List ℕ) → Machine → (unplanned : List NotPlanned) → (is_zone_unknown : Bool) → Rest → Shown
@@ -177,23 +179,36 @@ shows_findings held tree dir zone json machine = do
       (findings_rest dir json machine (found_in machine zones (sources_of machine.sources.items))))
 
 -- the answer for jobs, without the errors that are skipped
-abbrev pub jobs_rest : (dir : List ℕ) → Machine → List Found → Result (List ℕ) RunFault → Rest
-jobs_rest dir machine errors answer = plans (record {
+abbrev pub outcome_of : Machine → (paths : List SourcePath) → List Found → Result (List ℕ) RunFault → Outcome
+outcome_of machine paths errors answer = record {
   unread = [];
-  paths = paths_of false (root_of dir) machine.sources.items;
+  paths = paths;
   errors = errors;
   answer = answer;
   status = machine_status machine (is_all_clean errors);
-})
+}
+
+-- an error stops a strict answer
+abbrev pub is_stopped : (strict : Bool) → List Found → Bool
+is_stopped strict errors = strict && not (length errors == 0)
+
+-- what follows if the answer is stopped, or else the answer
+abbrev pub jobs_rest :
+    (stopped : Bool) → (paths : List SourcePath) → Machine → List Found → Step (Result (List ℕ) RunFault) → Step Rest
+jobs_rest true paths machine errors answers = gives (stops_at_first paths errors)
+jobs_rest false paths machine errors answers = do
+  answer ← answers
+  gives (plans (outcome_of machine paths errors answer))
 
 -- the answer for the jobs of a machine, in these time zones
 abbrev pub shows_jobs_in :
-    (dir : List ℕ) → FormatRequest → Goal → Machine → (unplanned : List NotPlanned) → ZoneClock → TimeZones → Step Shown
-shows_jobs_in dir request goal machine unplanned clock zones = do
-  format ← format_made request clock.name (unnamed_zone clock.is_of_file) zones.clock
+    (dir : List ℕ) → MachineJobs → Goal → Machine → (unplanned : List NotPlanned) → ZoneClock → TimeZones → Step Shown
+shows_jobs_in dir jobs goal machine unplanned clock zones = do
+  format ← format_made jobs.format clock.name (unnamed_zone clock.is_of_file) zones.clock
   errors ← computes (errors_in machine zones (sources_of machine.sources.items))
-  answer ← answer_of format goal (Ok (kept_jobs zones (sources_of machine.sources.items)))
-  gives (shown_with dir machine unplanned clock.is_unknown (jobs_rest dir machine errors answer))
+  rest ← jobs_rest (is_stopped jobs.strict errors) (paths_of false (root_of dir) machine.sources.items) machine errors
+      (answer_of format goal (Ok (kept_jobs zones (sources_of machine.sources.items))))
+  gives (shown_with dir machine unplanned clock.is_unknown rest)
 
 -- `upcoming`, `plan` and `quiet`: the zone is read first, then the times, and then the zones of events
 abbrev pub shows_jobs : Held → KnownHost → (dir : List ℕ) → MachineJobs → Machine → (unplanned : List NotPlanned) → Step Shown
@@ -201,7 +216,7 @@ shows_jobs held host dir jobs machine unplanned = do
   clock ← machine_clock held host.tree (root_of dir) jobs.zone
   goal ← goal_at host.time jobs
   zones ← machine_zones held host.tree clock.clock (sources_of machine.sources.items)
-  shows_jobs_in dir jobs.format goal machine unplanned clock zones
+  shows_jobs_in dir jobs goal machine unplanned clock zones
 
 -- the machine that the program runs on, below a root
 abbrev pub host_below : KnownHost → (root : List ℕ) → KnownHost
@@ -223,10 +238,17 @@ machine_ends held host request = do
 
 -- ---- the streams
 
+-- the line of the first error, after which nothing is printed; or standard error breaks off in it
+abbrev pub ReportsFirst : (paths : List SourcePath) → (errors : List Found) → ℕ → StreamChange → Type 0
+ReportsFirst paths errors status err =
+    (BreaksOff err.takes_all err.old err.new (skipped_text [] paths (take 1 errors)) × (status ≡ failed_status))
+    ⊎ (Appends err.old err.new (skipped_text [] paths (take 1 errors)) × (status ≡ rejected_status))
+
 -- what follows what is reported
 abbrev pub ShowsRest : Rest → ℕ → (out err : StreamChange) → Type 0
 ShowsRest (prints printed) status out err = ExitsWith [] (Ok printed) status out err
 ShowsRest (plans outcome) status out err = Reports [] outcome status out err
+ShowsRest (stops_at_first paths errors) status out err = ReportsFirst paths errors status err × Keeps out.old out.new
 
 -- standard error breaks off in what is reported, and nothing is printed; or it takes that, and the answer follows
 abbrev pub Shows : Result Shown Failure → ℕ → (out err : StreamChange) → Type 0

@@ -10,11 +10,12 @@ use Rattle.agenda_faults.specs.declared.faults.RunFault.TheVariants.{NoMemory}
 use Rattle.agenda_sources.specs.declared.SourcePath.{SourcePath}
 use Rattle.agenda_commands.specs.declared.Goal.{Goal}
 use Rattle.agenda_answers.specs.declared.requests.Request.{Request}
-use Rattle.agenda_answers.specs.declared.requests.Request.TheVariants.{Starts, Jobs, Check, Steps, Explain, Machine}
+use Rattle.agenda_answers.specs.declared.requests.Request.TheVariants.{Starts, Jobs, Check, Steps, Explain, Machine, MachineNext}
 use Rattle.agenda_answers.specs.Answer.{Exits, Leaves, Printed, StreamChange, check_ends, explain_ends, next_ends, steps_ends, usage_ends}
 use Rattle.agenda_answers.specs.Files.{Held}
 use Rattle.agenda_answers.specs.Host.{KnownHost}
 use Rattle.agenda_answers.specs.Machine.{AnswersMachine}
+use Rattle.agenda_answers.specs.MachineNext.{AnswersNext}
 use Rattle.agenda_answers.specs.Outcome.{AnswersJobs, Outcome, ReportsOrFails, outcome_by}
 use Rattle.agenda_answers.specs.Requests.{request_of, stopping_jobs}
 use Rattle.agenda_answers.specs.Steps.{Step, fails}
@@ -36,6 +37,7 @@ AnswersRequest held host (Check zones sources json) = AnswersBy (check_ends held
 AnswersRequest held host (Steps file) = AnswersBy (steps_ends held file) []
 AnswersRequest held host (Explain code) = AnswersBy (explain_ends code) []
 AnswersRequest held host (Machine machine) = AnswersMachine held host machine
+AnswersRequest held host (MachineNext next) = AnswersNext held host next
 
 -- the same, unless the request is rejected
 abbrev pub AnswersOrFails : Held → KnownHost → Result Request Failure → Answering

@@ -6,7 +6,7 @@ use Rattle.plan_sets.specs.declared.MomentFault.{MomentFault}
 use Rattle.plan_collect.specs.Span.{Bounds}
 use Rattle.plan_collect.specs.declared.SpanFault.TheVariants.{Backwards}
 use Rattle.agenda_arguments.specs.declared.Ask.{Ask}
-use Rattle.agenda_arguments.specs.declared.Ask.TheVariants.{Next, Plan, Upcoming, Quiet, Check, Steps, Explain, Machine}
+use Rattle.agenda_arguments.specs.declared.Ask.TheVariants.{Next, Plan, Upcoming, Quiet, Check, Steps, Explain, Machine, MachineNext}
 use Rattle.agenda_arguments.specs.declared.JobsRequest.{JobsRequest}
 use Rattle.agenda_arguments.specs.declared.PlanRequest.{PlanRequest}
 use Rattle.agenda_faults.specs.declared.faults.Failure.{Failure}
@@ -64,6 +64,7 @@ request_of (Check zones sources json) = gives (request.Check zones sources json)
 request_of (Steps file) = gives (request.Steps file)
 request_of (Explain code) = gives (request.Explain code)
 request_of (Machine machine) = gives (request.Machine machine)
+request_of (MachineNext next) = gives (request.MachineNext next)
 
 -- the same jobs for a request that doesn't keep going
 abbrev pub stopping_jobs : JobsRequest → JobsRequest

@@ -1,7 +1,7 @@
 //! Does what the arguments request, over any files and streams.
 
 ghost use Rattle.std.specs.Prelude.{◌≡◌, ◌≢◌, IsOk, IsTrue, Ok, OnOk, map, string_bytes, true};
-ghost use Rattle.agenda_answers.specs.Answer.{Exits, Leaves, SaysNotUtf8, check_ends, explain_ends, next_ends, status_after, status_on, steps_ends, usage_ends};
+ghost use Rattle.agenda_answers.specs.Answer.{Exits, Leaves, SaysNotUtf8, check_ends, next_ends, status_after, status_on, steps_ends, usage_ends};
 ghost use Rattle.agenda_answers.specs.Host.{host_of};
 ghost use Rattle.agenda_answers.specs.Program.{Answers, AnswersArguments, AnswersAsk, AnswersRequest};
 
@@ -10,10 +10,10 @@ use crate::formats::{UTC, make_format};
 use crate::host::Host;
 use crate::jobs::answer_jobs;
 use crate::machine::answer_machine;
+use crate::machine_next::answer_machine_next;
 use crate::requests::{Request, StartsRequest, request_of};
 use crate::sources::{read_input, read_rule_zones};
 use agenda_arguments::{Ask, UsageFault, ZonesRequest, read_words};
-use agenda_codes::Code;
 use agenda_commands::{Checked, run_check, run_explain, run_next, run_script};
 use agenda_faults::status::{DONE, REFUSED};
 use agenda_faults::{Failure, RunFault, fault_line};
@@ -127,8 +127,9 @@ fn answer_request<R: Threads + Wait + Sync, F: Files, T: Complete, O: Stream, E:
             end(done, sources.as_slice(), err)
         }
         Request::Steps { file } => end(steps(alloc, file, files, out), &[], err),
-        Request::Explain(code) => end(explain(*code, out), &[], err),
+        Request::Explain(code) => end(status_after(run_explain(*code, out)), &[], err),
         Request::Machine(machine) => answer_machine(rt, alloc, machine, files, host, out, err),
+        Request::MachineNext(next) => answer_machine_next(alloc, next, files, host, out, err),
     }
 }
 
@@ -247,12 +248,4 @@ fn steps<F: Files, S: Stream>(
 {
     let script = read_path(alloc, files, file.as_str())?;
     status_after(run_script(alloc, script.as_slice(), out))
-}
-
-// Runs the command `explain`.
-fn explain<S: Stream>(code: Option<Code>, out: &mut S) -> Result<u8, Failure>
-    ensures ends { Leaves S.takes_all (explain_ends code) result (S.holds out.old) (S.holds out.new) }
-    ensures flushed { OnOk result (IsTrue (S.is_flushed out.new)) }
-{
-    status_after(run_explain(code, out))
 }

@@ -13,9 +13,9 @@ mod jobs;
 mod machine;
 mod machine_files;
 mod machine_goal;
+mod machine_next;
 mod machine_zone;
 mod requests;
-mod root;
 mod sources;
 mod zone;
 

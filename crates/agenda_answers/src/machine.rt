@@ -2,17 +2,17 @@
 //!
 //! The answer is made before a byte is written. What is reported goes to standard error, then the answer to standard output.
 
-ghost use Rattle.std.specs.Prelude.{◌≡◌, false, IfOk, IsTrue, Ok, OnOk, Some, true};
+ghost use Rattle.std.specs.Prelude.{◌≡◌, ◌≢◌, false, IfOk, IsTrue, Ok, OnOk, Some, true};
 ghost use Rattle.agenda_answers.specs.Answer.{HoldsAfter};
 ghost use Rattle.agenda_answers.specs.Host.{host_of};
-ghost use Rattle.agenda_answers.specs.Machine.{AnswersMachine, Shows, ShowsRest, directory_if, found_in, has_reports};
+ghost use Rattle.agenda_answers.specs.Machine.{AnswersMachine, ReportsFirst, Shows, ShowsRest, directory_if, found_in, has_reports, is_stopped};
 ghost use Rattle.agenda_answers.specs.Machine.{errors_in, findings_rest, is_root, machine_below, machine_ends, machine_if, machine_of};
-ghost use Rattle.agenda_answers.specs.Machine.{machine_reports, machine_status, machine_zones, rest_of, shows_findings, shows_jobs, shows_sources};
+ghost use Rattle.agenda_answers.specs.Machine.{machine_reports, machine_status, machine_zones, outcome_of, rest_of, shows_findings, shows_jobs};
 ghost use Rattle.agenda_findings.specs.Findings.{check_text};
 ghost use Rattle.agenda_machine.specs.Listing.{sources_text};
 ghost use Rattle.agenda_machine.specs.Places.{paths_of};
 ghost use Rattle.agenda_sources.specs.Findings.{is_all_clean, kept_jobs};
-ghost use Rattle.agenda_answers.specs.Root.{root_of};
+ghost use Rattle.agenda_machine.specs.Root.{root_of};
 ghost use Rattle.plan_streams.specs.Stream.{Puts};
 
 use crate::answers::end;
@@ -23,15 +23,14 @@ use crate::host::Host;
 use crate::jobs::{Outcome, report, settled};
 use crate::machine_files::MachineFiles;
 use crate::machine_goal::goal_at;
-use crate::machine_zone::{copy_of, machine_clock};
-use crate::root::{dir_of, root_of};
+use crate::machine_zone::machine_clock;
 use agenda_arguments::{MachineJobs, MachineQuestion, MachineRequest};
-use agenda_commands::{are_warnings, kept_if, prepare_answer};
+use agenda_commands::{PreparedAnswer, are_warnings, kept_if, prepare_answer};
 use agenda_faults::status::{DONE, FAILED, REFUSED};
 use agenda_faults::{Failure, RunFault};
-use agenda_findings::write_findings;
+use agenda_findings::{write_findings, write_skipped};
 use agenda_machine::{
-    Reports, is_incomplete, located, paths_of, sources_of, with_monotonic, write_reports,
+    Reports, dir_of, is_incomplete, located, paths_of, root_of, sources_of, with_monotonic, write_reports,
     write_sources,
 };
 use agenda_sources::{
@@ -45,6 +44,7 @@ use plan_timers::default_accuracy;
 use plan_tree::{Complete, Rooted, Tree, is_directory};
 use std::alloc::{AllocError, Global};
 use std::marker::Model;
+use std::slice;
 use std::sync::Wait;
 use std::thread::Threads;
 
@@ -67,6 +67,15 @@ enum Printout {
     },
     // What is made of their jobs.
     Jobs(Outcome),
+    // The errors of their files, of which the first stops the answer.
+    Stopped(Skipped),
+}
+
+// The errors of a machine's sources, with their places in these paths.
+#[derive(Drop)]
+struct Skipped {
+    paths: SourcePaths,
+    errors: Vec<Found>,
 }
 
 // What is found on a machine.
@@ -144,7 +153,14 @@ fn make_answer<'a, R: Threads + Wait + Sync, F: Files, T: Complete>(
             let machine = with_monotonic(alloc, machine)?;
             jobs_answer(rt, alloc, files, &host, dir, jobs, machine)
         }
-        MachineQuestion::Sources { json } => Ok(sources_answer(dir, *json, machine)),
+        MachineQuestion::Sources { json } => Ok(MachineAnswer {
+            site: Site {
+                dir,
+                machine,
+                is_zone_unknown: false,
+            },
+            printout: Printout::Sources { json: *json },
+        }),
         MachineQuestion::Check { zone, json } => {
             check_answer(alloc, files, &below, dir, zone, *json, machine)
         }
@@ -194,7 +210,7 @@ fn directory_if(alloc: Global, is: bool, dir: &str) -> Result<(), Failure>
     if is {
         Ok(())
     } else {
-        Err(Failure::NotDirectory(copy_of(alloc, dir)?))
+        Err(Failure::NotDirectory(Text::new(String::from_str(alloc, dir)?)))
     }
 }
 
@@ -204,21 +220,7 @@ fn machine_if(alloc: Global, found: Option<Machine>, dir: &str) -> Result<Machin
 {
     match found {
         Some(machine) => Ok(machine),
-        None => Err(Failure::TooManyUnits(copy_of(alloc, dir)?)),
-    }
-}
-
-// Makes the answer to `sources`.
-fn sources_answer(dir: &str, json: bool, machine: Machine) -> MachineAnswer<'_>
-    ensures { shows_sources dir.now json machine (Ok result) }
-{
-    MachineAnswer {
-        site: Site {
-            dir,
-            machine,
-            is_zone_unknown: false,
-        },
-        printout: Printout::Sources { json },
+        None => Err(Failure::TooManyUnits(Text::new(String::from_str(alloc, dir)?))),
     }
 }
 
@@ -307,30 +309,45 @@ fn jobs_answer<'a, R: Threads + Wait + Sync, F: Files, T: Tree>(
     let unnamed = unnamed_zone(clock.is_of_file);
     let format = make_format(alloc, jobs.format, &clock.name, unnamed, &zones.clock)?;
     let (skipped, kept) = kept_of(alloc, dir, &machine, &sources, &zones)?;
+    let site = Site {
+        dir,
+        machine,
+        is_zone_unknown: clock.is_unknown,
+    };
+    if is_stopped(jobs.strict, skipped.errors.as_slice()) {
+        let printout = Printout::Stopped(skipped);
+        return Ok(MachineAnswer { site, printout });
+    }
     let made = prepare_answer(rt, alloc, kept, &sources, &zones, &goal, format);
     let answer = settled(made)?;
-    let status = status_of(&machine, are_warnings(skipped.errors.as_slice()));
-    Ok(MachineAnswer {
-        site: Site {
-            dir,
-            machine,
-            is_zone_unknown: clock.is_unknown,
-        },
-        printout: Printout::Jobs(Outcome {
-            unread: SourcePaths::new(alloc),
-            paths: skipped.paths,
-            errors: skipped.errors,
-            answer,
-            status,
-        }),
-    })
+    let printout = Printout::Jobs(outcome_of(alloc, &site.machine, skipped, answer));
+    Ok(MachineAnswer { site, printout })
 }
 
-// The errors of a machine's sources, with their places in these paths.
-#[derive(Drop)]
-struct Skipped {
-    paths: SourcePaths,
-    errors: Vec<Found>,
+// Returns whether an error stops an answer.
+fn is_stopped(strict: bool, errors: &[Found]) -> bool
+    ensures { result ≡ is_stopped strict errors.now }
+{
+    strict && !errors.is_empty()
+}
+
+// Returns the answer for jobs, and what is skipped.
+fn outcome_of(
+    alloc: Global,
+    machine: &Machine,
+    skipped: Skipped,
+    answer: Result<PreparedAnswer, RunFault>,
+) -> Outcome
+    ensures { result ≡ outcome_of machine.now skipped.paths skipped.errors.items answer }
+{
+    let status = status_of(machine, are_warnings(skipped.errors.as_slice()));
+    Outcome {
+        unread: SourcePaths::new(alloc),
+        paths: skipped.paths,
+        errors: skipped.errors,
+        answer,
+        status,
+    }
 }
 
 // Finds the errors of a machine's sources, and the jobs that are left without them.
@@ -405,6 +422,24 @@ fn show_rest<O: Stream, E: Stream>(
             end(done, &[], err)
         }
         Printout::Jobs(outcome) => report(outcome, &[], out, err),
+        Printout::Stopped(skipped) => report_first(&skipped, err),
+    }
+}
+
+// Reports the first error, which stops the answer, and returns the exit status.
+fn report_first<S: Stream>(skipped: &Skipped, err: &mut S) -> u8
+    ensures answers { ReportsFirst skipped.now.paths skipped.now.errors.items result
+        (record { takes_all = S.takes_all; old = S.holds err.old; new = S.holds err.new }) }
+    ensures failed { result ≢ 0 }
+    ensures flushed { S.takes_all ≡ true → IsTrue (S.is_flushed err.old) → IsTrue (S.is_flushed err.new) }
+{
+    let first = match skipped.errors.first() {
+        Some(error) => slice::from_ref(error),
+        None => &[],
+    };
+    match write_skipped(&[], skipped.paths.as_slice(), first, err) {
+        Ok(()) => REFUSED,
+        Err(_) => FAILED,
     }
 }
 

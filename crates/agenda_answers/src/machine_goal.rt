@@ -57,8 +57,12 @@ fn planning_at(
     })
 }
 
-// Returns the time after which starts are listed.
-fn after_at(time: u64, after: &Option<Text>) -> Result<u64, Failure>
+/// Returns the time after which starts are listed.
+///
+/// # Errors
+///
+/// `After` if the text isn't a timestamp.
+pub(crate) fn after_at(time: u64, after: &Option<Text>) -> Result<u64, Failure>
     ensures { after_at time after.now result }
 {
     match after {

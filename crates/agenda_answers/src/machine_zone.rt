@@ -57,9 +57,9 @@ fn given_clock<F: Files>(alloc: Global, files: &mut F, text: &str) -> Result<Zon
     ensures same { F.held files.new ≡ F.held files.old }
 {
     let clock = clock_of_text(alloc, files, text)?;
-    let name = copy_of(alloc, text)?;
+    let name = String::from_str(alloc, text)?;
     Ok(ZoneClock {
-        name: Some(name),
+        name: Some(Text::new(name)),
         is_of_file: false,
         clock,
         is_unknown: false,
@@ -166,15 +166,4 @@ fn clock_of_file(alloc: Global, name: Option<Text>, bytes: &[u8]) -> Result<Zone
         clock,
         is_unknown: false,
     })
-}
-
-/// Returns a copy of a text.
-///
-/// # Errors
-///
-/// `AllocError` if an allocation failed.
-pub(crate) fn copy_of(alloc: Global, text: &str) -> Result<Text, AllocError>
-    ensures { IfOk result (λ copy. copy ≡ text.now) }
-{
-    Ok(Text::new(String::from_str(alloc, text)?))
 }

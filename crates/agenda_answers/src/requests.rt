@@ -6,7 +6,8 @@ ghost use Rattle.agenda_faults.specs.declared.faults.Failure.TheVariants.{After,
 ghost use Rattle.agenda_arguments.specs.declared.Ask.TheVariants.{Next, Plan, Quiet, Upcoming};
 
 use agenda_arguments::{
-    Ask, FormatRequest, JobsRequest, MachineRequest, NextRequest, PlanRequest, ZonesRequest,
+    Ask, FormatRequest, JobsRequest, MachineNext, MachineRequest, NextRequest, PlanRequest,
+    ZonesRequest,
 };
 use agenda_codes::Code;
 use agenda_commands::{Goal, Planning};
@@ -61,6 +62,8 @@ pub(crate) enum Request {
     Explain(Option<Code>),
     /// Answer a question about a machine.
     Machine(MachineRequest),
+    /// Print the next starts of one rule by the clock of the machine.
+    MachineNext(MachineNext),
 }
 
 /// Reads the timestamps of what is requested.
@@ -88,6 +91,7 @@ pub(crate) fn request_of(ask: Ask) -> Result<Request, Failure>
         Ask::Steps { file } => Ok(Request::Steps { file }),
         Ask::Explain(code) => Ok(Request::Explain(code)),
         Ask::Machine(request) => Ok(Request::Machine(request)),
+        Ask::MachineNext(request) => Ok(Request::MachineNext(request)),
     }
 }
 

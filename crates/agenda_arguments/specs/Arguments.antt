@@ -13,9 +13,10 @@ use Rattle.clap.specs.declared.error.kind.ErrorKind.TheVariants.{DisplayHelp, Di
 use Rattle.plan_texts.specs.Steps.{◌>>=◌}
 use Rattle.plan_collect.specs.declared.Sizes.{Sizes}
 use Rattle.agenda_arguments.specs.declared.ask.Ask.{Ask}
-use Rattle.agenda_arguments.specs.declared.ask.Ask.TheVariants.{Next, Plan, Upcoming, Quiet, Check, Steps, Explain, Machine}
+use Rattle.agenda_arguments.specs.declared.ask.Ask.TheVariants.{Next, Plan, Upcoming, Quiet, Check, Steps, Explain, Machine, MachineNext}
 use Rattle.agenda_codes.specs.declared.Code.{Code}
 use Rattle.agenda_codes.specs.Codes.{code_named}
+use Rattle.agenda_sources.specs.Asked.{asked_in}
 use Rattle.agenda_sources.specs.declared.Asked.{Asked}
 use Rattle.agenda_sources.specs.declared.Asked.TheVariants.{Cron, Event}
 use Rattle.agenda_arguments.specs.declared.ask.FormatRequest.{FormatRequest}
@@ -217,6 +218,7 @@ asked_of_jobs rows delays goal = do
     goal = goal;
     zone = zone;
     delays = delays;
+    strict = is_given (codes "strict") rows;
     format = machine_format_in rows;
   }))
 
@@ -242,6 +244,20 @@ asked_by_machine_quiet rows = do
   least ← wanted (number_in (one_of (codes "least") rows))
   asked_of_jobs rows (not (is_given (codes "nominal") rows)) (machine_goal.Quiet (span_in rows) sizes least)
 
+-- what `machine next` requests, by its values (agenda)
+abbrev pub asked_by_machine_next : List Row → Result Ask ArgumentsFault
+asked_by_machine_next rows = do
+  text ← wanted (first_of (codes "rule") rows)
+  count ← wanted (number_in (one_of (codes "count") rows))
+  zone ← machine_zone (zone_in rows) (is_given (codes "utc") rows)
+  Ok (MachineNext (record {
+    rule = asked_in text;
+    after = first_of (codes "after") rows;
+    count = count;
+    zone = zone;
+    format = machine_format_in rows;
+  }))
+
 -- what the given question about a machine requests, by its name and its values (agenda)
 abbrev pub asked_by_question : Option (List ℕ × List Row) → Result Ask ArgumentsFault
 asked_by_question None = Err is_usage
@@ -250,7 +266,8 @@ asked_by_question (Some met) =
     else (if bytes_eq met.0 (codes "plan") then asked_by_machine_plan met.1
     else (if bytes_eq met.0 (codes "quiet") then asked_by_machine_quiet met.1
     else (if bytes_eq met.0 (codes "check") then asked_by_machine_check met.1
-    else (if bytes_eq met.0 (codes "sources") then asked_by_machine_sources met.1 else Err is_usage))))
+    else (if bytes_eq met.0 (codes "sources") then asked_by_machine_sources met.1
+    else (if bytes_eq met.0 (codes "next") then asked_by_machine_next met.1 else Err is_usage)))))
 
 -- how an error of clap is answered: help and the version are printed, and all other errors are usage errors (agenda)
 abbrev pub fault_of_kind : ErrorKind → ArgumentsFault

@@ -7,7 +7,7 @@ use Rattle.clap.specs.declared.builder.value_parser.ValueParser.TheVariants as p
 use Rattle.plan_rules.specs.declared.SourceKind.{SourceKind}
 use Rattle.plan_rules.specs.declared.SourceKind.TheVariants.{Timer}
 use Rattle.agenda_arguments.specs.declared.command.CommandOption.{CommandOption}
-use Rattle.agenda_arguments.specs.declared.command.CommandOption.TheVariants.{Flag, Text, Preset, Moment, Number, Tuning}
+use Rattle.agenda_arguments.specs.declared.command.CommandOption.TheVariants.{Flag, Text, Preset, Moment, Number, Tuning, Argument}
 use Rattle.agenda_arguments.specs.declared.command.subcommands.Subcommand.{Subcommand}
 use Rattle.agenda_arguments.specs.declared.command.subcommands.Subcommand.TheVariants as each
 use Rattle.plan_rules.specs.SourceKind.{is_many, kinds, option_of}
@@ -43,7 +43,11 @@ number_option name default = record (option_named name) {
   defaults = default ∷ [];
 }
 
--- the rule of an option that a subcommand lists (agenda)
+-- an argument `VALUE`, which is required (agenda)
+abbrev pub required_argument : List ℕ → Rule
+required_argument name = record (argument_named name) { required = true }
+
+-- the rule of an option or argument that a subcommand lists (agenda)
 abbrev pub rule_for : CommandOption → Rule
 rule_for (Flag name help) = flag_option name.now
 rule_for (Text name value help) = option_named name.now
@@ -51,10 +55,7 @@ rule_for (Preset name value default help) = preset_option name.now default.now
 rule_for (Moment name help) = moment_option name.now
 rule_for (Number name default help) = number_option name.now default.now
 rule_for (Tuning name default help) = number_option name.now default.now
-
--- the required argument `FILE` (agenda)
-abbrev pub file_argument : Rule
-file_argument = record (argument_named (codes "file")) { required = true }
+rule_for (Argument name value help) = required_argument name.now
 
 -- the optional argument `CODE` (agenda)
 abbrev pub code_argument : Rule
@@ -138,7 +139,7 @@ check = with_sources (with_each (with_zones (new_app (codes "check"))) (flag_opt
 
 -- `steps FILE` (agenda)
 unfoldable pub steps : App
-steps = subcommand_with (codes "steps") (file_argument ∷ [])
+steps = subcommand_with (codes "steps") (required_argument (codes "file") ∷ [])
 
 -- `explain [CODE]` (agenda)
 unfoldable pub explain : App
@@ -170,10 +171,11 @@ machine_size_rules = number_option (codes "limit") (codes "1000000") ∷ number_
 unfoldable pub machine_check : App
 machine_check = with_each (with_machine (new_app (codes "check"))) (machine_zone_rules ++ flag_option (codes "json") ∷ [])
 
--- `machine upcoming` with the machine, `[--after T]`, the zone, `[--delays]` and `[--json]` (agenda)
+-- `machine upcoming` with the machine, `[--after T]`, the zone, `[--delays]`, `[--strict]` and `[--json]` (agenda)
 unfoldable pub machine_upcoming : App
 machine_upcoming = with_each (with_machine (new_app (codes "upcoming")))
-    (option_named (codes "after") ∷ machine_zone_rules ++ flag_option (codes "delays") ∷ flag_option (codes "json") ∷ [])
+    (option_named (codes "after") ∷ machine_zone_rules ++ flag_option (codes "delays") ∷ flag_option (codes "strict")
+    ∷ flag_option (codes "json") ∷ [])
 
 -- a command with what names a machine and with the span of a plan added: `[--since T] [--until T]`; `--upto` is another name of
 -- `--until` (agenda)
@@ -181,16 +183,22 @@ unfoldable pub with_machine_span : App → App
 with_machine_span app = with_each (with_machine app)
     (option_named (codes "since") ∷ with_alias (option_named (codes "until")) (codes "upto") ∷ [])
 
--- `machine plan` with the machine, the span, the zone, `[--delays]`, `[--json]` and the sizes (agenda)
+-- `machine plan` with the machine, the span, the zone, `[--delays]`, `[--strict]`, `[--json]` and the sizes (agenda)
 unfoldable pub machine_plan : App
 machine_plan = with_each (with_machine_span (new_app (codes "plan")))
-    (machine_zone_rules ++ flag_option (codes "delays") ∷ flag_option (codes "json") ∷ machine_size_rules)
+    (machine_zone_rules ++ flag_option (codes "delays") ∷ flag_option (codes "strict") ∷ flag_option (codes "json")
+    ∷ machine_size_rules)
 
--- `machine quiet` with the machine, the span, `[--least N]`, the zone, `[--nominal]`, `[--json]` and the sizes (agenda)
+-- `machine quiet` with the machine, the span, `[--least N]`, the zone, `[--nominal]`, `[--strict]`, `[--json]` and the sizes (agenda)
 unfoldable pub machine_quiet : App
 machine_quiet = with_each (with_machine_span (new_app (codes "quiet")))
-    (number_option (codes "least") (codes "1800") ∷ machine_zone_rules ++ flag_option (codes "nominal") ∷ flag_option (codes "json")
-    ∷ machine_size_rules)
+    (number_option (codes "least") (codes "1800") ∷ machine_zone_rules ++ flag_option (codes "nominal") ∷ flag_option (codes "strict")
+    ∷ flag_option (codes "json") ∷ machine_size_rules)
+
+-- `machine next RULE` with `[--after T] [--count N]`, the zone and `[--json]` (agenda)
+unfoldable pub machine_next : App
+machine_next = subcommand_with (codes "next") (required_argument (codes "rule") ∷ option_named (codes "after")
+    ∷ number_option (codes "count") (codes "5") ∷ machine_zone_rules ++ flag_option (codes "json") ∷ [])
 
 -- the command line of a subcommand (agenda)
 abbrev pub app_for : Subcommand → App
@@ -207,6 +215,7 @@ app_for each.MachinePlan = machine_plan
 app_for each.MachineQuiet = machine_quiet
 app_for each.MachineCheck = machine_check
 app_for each.MachineSources = machine_sources
+app_for each.MachineNext = machine_next
 
 -- the subcommands of `agenda`, in the order in which help lists them (agenda)
 abbrev pub subcommands : List Subcommand
@@ -215,7 +224,8 @@ subcommands =
 
 -- the questions about a machine, in the order in which help lists them (agenda)
 abbrev pub questions : List Subcommand
-questions = each.MachineUpcoming ∷ each.MachinePlan ∷ each.MachineQuiet ∷ each.MachineCheck ∷ each.MachineSources ∷ []
+questions = each.MachineUpcoming ∷ each.MachinePlan ∷ each.MachineQuiet ∷ each.MachineCheck ∷ each.MachineSources ∷ each.MachineNext
+    ∷ []
 
 -- a command with these subcommands added, one after the other (agenda)
 abbrev pub with_subcommands : App → List Subcommand → App
@@ -240,6 +250,6 @@ agenda = with_subcommands agenda_alone subcommands
 abbrev pub machine_alone : App
 machine_alone = requiring_subcommand (new_app (codes "machine"))
 
--- `machine upcoming ..`, `machine plan ..`, `machine quiet ..`, `machine check ..` or `machine sources ..` (agenda)
+-- `machine upcoming ..`, `machine plan ..`, `machine quiet ..`, `machine check ..`, `machine sources ..` or `machine next ..` (agenda)
 unfoldable pub machine : App
 machine = with_subcommands machine_alone questions

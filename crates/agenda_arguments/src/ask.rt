@@ -112,6 +112,8 @@ pub struct MachineJobs {
     pub zone: Option<Text>,
     /// Whether the delays of timers count, so that a start may happen later than planned.
     pub delays: bool,
+    /// Whether an error in a file stops the answer. If it doesn't, errors are skipped and reported.
+    pub strict: bool,
     /// How the answer is written.
     pub format: FormatRequest,
 }
@@ -133,6 +135,21 @@ pub enum MachineQuestion {
         /// Whether each line is a JSON object.
         json: bool,
     },
+}
+
+/// What next starts are listed of by the clock of the machine that the program runs on.
+#[derive(Debug, Drop)]
+pub struct MachineNext {
+    /// The rule.
+    pub rule: Asked,
+    /// The text of a time. The starts are later. It is the present if this is missing.
+    pub after: Option<Text>,
+    /// The number of starts.
+    pub count: u32,
+    /// The text of the time zone of the rule. It is that of the machine if this is missing.
+    pub zone: Option<Text>,
+    /// How the answer is written.
+    pub format: FormatRequest,
 }
 
 /// What is asked about a machine.
@@ -185,6 +202,8 @@ pub enum Ask {
     Explain(Option<Code>),
     /// Answer a question about the crontabs and timers of a machine.
     Machine(MachineRequest),
+    /// Print the next starts of one rule by the clock of the machine.
+    MachineNext(MachineNext),
 }
 
 /// Why the arguments request no command.

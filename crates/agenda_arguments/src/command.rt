@@ -2,7 +2,7 @@
 ghost use Rattle.std.specs.Prelude.{◌≡◌, [], ◌∷◌, IfOk, false, map};
 ghost use Rattle.clap.specs.Words.{app_of, items_of, new_app, rule_of, with_rule, with_subcommand};
 ghost use Rattle.clap.specs.declared.builder.command.Command.TheViews.{out-Command};
-ghost use Rattle.agenda_arguments.specs.Command.{agenda, agenda_alone, app_for, argument_named, check, code_argument, explain, file_argument};
+ghost use Rattle.agenda_arguments.specs.Command.{agenda, agenda_alone, app_for, argument_named, check, code_argument, explain};
 ghost use Rattle.agenda_arguments.specs.Command.{flag_option, machine_listed, moment_option, next, number_option, option_named, path_rule};
 ghost use Rattle.agenda_arguments.specs.Command.{plan, preset_option, quiet, rule_for, source_rule, steps, upcoming, with_alias, with_each};
 ghost use Rattle.agenda_arguments.specs.Command.{with_jobs, with_sources, with_span, with_subcommands};
@@ -20,8 +20,8 @@ use subcommands::Subcommand;
 // The version of the program, which is written only here, and the prover's version.
 const VERSION: &str = "0.1.0\nproved with rattle-kit-13b logic dac8208d650f15bf";
 
-// An option of a subcommand. Its first text is its name, and its last one its help. A table of options takes
-// no memory, so there is nothing to free if an allocation fails.
+// An option or argument of a subcommand. Its first text is its name, and its last one its help. A table of options
+// takes no memory, so there is nothing to free if an allocation fails.
 #[derive(Clone, Copy)]
 enum CommandOption<'a> {
     // An option without a value.
@@ -36,6 +36,8 @@ enum CommandOption<'a> {
     Number(&'a str, &'a str, &'a str),
     // The same, in help's section for tuning.
     Tuning(&'a str, &'a str, &'a str),
+    // An argument without an option, which is required. The second text stands for it in help.
+    Argument(&'a str, &'a str, &'a str),
 }
 
 // The start of what `next` and `upcoming` list.
@@ -72,6 +74,9 @@ impl<'a> CommandOption<'a> {
             CommandOption::Number(name, default, help) => number_option(alloc, name, default, help),
             CommandOption::Tuning(name, default, help) => {
                 number_option(alloc, name, default, help).help_heading(help::TUNING)
+            }
+            CommandOption::Argument(name, value, help) => {
+                argument(alloc, name, value, help).required(true)
             }
         }
     }
@@ -198,7 +203,11 @@ fn steps_command<'a>(alloc: Global) -> Result<Command<'a>, AllocError>
     ensures local { IfOk result (λ command. (out-Command command).has_globals ≡ false) }
 {
     let command = new_subcommand(alloc, "steps", help::STEPS, help::AFTER_STEPS);
-    with_argument(command, file_argument(alloc))
+    with_arguments(
+        alloc,
+        command,
+        &[CommandOption::Argument("file", "FILE", help::FILE)],
+    )
 }
 
 #[tactic(auto, unfolding(crate::specs::Command::explain))]
@@ -332,14 +341,6 @@ fn with_argument<'a>(command: Command<'a>, argument: Arg<'a>) -> Result<Command<
     ensures local { IfOk result (λ new. (out-Command new).has_globals ≡ false) }
 {
     command.arg(argument)
-}
-
-// Returns the argument `FILE`, which is required.
-fn file_argument<'a>(alloc: Global) -> Arg<'a>
-    ensures rule { rule_of result ≡ file_argument }
-    ensures local { result.global ≡ false }
-{
-    argument(alloc, "file", "FILE", help::FILE).required(true)
 }
 
 // Returns the argument `CODE`, which is optional.

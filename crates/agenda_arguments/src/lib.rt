@@ -16,6 +16,6 @@ mod values;
 
 pub use arguments::read_words;
 pub use ask::{
-    Ask, FormatRequest, JobsRequest, MachineGoal, MachineJobs, MachineQuestion, MachineRequest,
-    NextRequest, PlanRequest, SpanRequest, UsageFault, ZonesRequest,
+    Ask, FormatRequest, JobsRequest, MachineGoal, MachineJobs, MachineNext, MachineQuestion,
+    MachineRequest, NextRequest, PlanRequest, SpanRequest, UsageFault, ZonesRequest,
 };

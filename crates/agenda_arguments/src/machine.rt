@@ -1,18 +1,19 @@
 //! What the arguments of `agenda machine` request.
 ghost use Rattle.std.specs.Prelude.{◌≡◌, ◌++◌, ◌∷◌, IfOk, OnOk, Some, codes, drop, map, string_bytes};
 ghost use Rattle.clap.specs.Words.{first_of, found_of, rows_of, subcommand_rows_of};
-ghost use Rattle.agenda_arguments.specs.Arguments.{Gives, asked_by_machine, asked_by_machine_check, asked_by_machine_plan};
+ghost use Rattle.agenda_arguments.specs.Arguments.{Gives, asked_by_machine, asked_by_machine_check, asked_by_machine_next, asked_by_machine_plan};
 ghost use Rattle.agenda_arguments.specs.Arguments.{asked_by_machine_quiet, asked_by_machine_sources, asked_by_machine_upcoming};
 ghost use Rattle.agenda_arguments.specs.Arguments.{asked_by_question, asked_of_jobs, asked_of_machine, is_given, is_option};
 ghost use Rattle.agenda_arguments.specs.Arguments.{lacks_question, machine_format_in, machine_zone, span_in, with_question, zone_in};
 
 use crate::arguments::{no_subcommand, sizes_of, usage_fault};
 use crate::ask::{
-    Ask, FormatRequest, MachineGoal, MachineJobs, MachineQuestion, MachineRequest, SpanRequest,
-    UsageFault,
+    Ask, FormatRequest, MachineGoal, MachineJobs, MachineNext, MachineQuestion, MachineRequest,
+    SpanRequest, UsageFault,
 };
 use crate::command::machine_command;
 use crate::values::{is_given, number_argument, text, text_if_given, text_of, value_of};
+use agenda_sources::Asked;
 use clap::ArgMatches;
 use plan_texts::Text;
 use std::alloc::{AllocError, Global};
@@ -113,6 +114,7 @@ fn asked_by_name(alloc: Global, name: &str, given: &ArgMatches<'_>) -> Result<As
         "quiet" => asked_by_machine_quiet(alloc, given),
         "check" => asked_by_machine_check(alloc, given),
         "sources" => asked_by_machine_sources(alloc, given),
+        "next" => asked_by_machine_next(alloc, given),
         _ => no_subcommand(alloc),
     }
 }
@@ -164,6 +166,24 @@ fn asked_by_machine_quiet(alloc: Global, given: &ArgMatches<'_>) -> Result<Ask, 
     )
 }
 
+fn asked_by_machine_next(alloc: Global, given: &ArgMatches<'_>) -> Result<Ask, UsageFault>
+    ensures { Gives result (asked_by_machine_next (rows_of (found_of given.now))) }
+{
+    let text = text_of(alloc, given, "rule")?;
+    let count = number_argument(alloc, given, "count")?;
+    let zone = machine_zone(alloc, given)?;
+    let after = text_if_given(alloc, given, "after")?;
+    let rule = Asked::of_text(alloc, text)?;
+    let format = format_of(given);
+    Ok(Ask::MachineNext(MachineNext {
+        rule,
+        after,
+        count,
+        zone,
+        format,
+    }))
+}
+
 // Returns the span of a plan.
 fn span_of(alloc: Global, given: &ArgMatches<'_>) -> Result<SpanRequest, AllocError>
     ensures { IfOk result (λ span. span ≡ span_in (rows_of (found_of given.now))) }
@@ -183,11 +203,13 @@ fn asked_of_jobs(
     ensures { Gives result (asked_of_jobs (rows_of (found_of given.now)) delays goal) }
 {
     let zone = machine_zone(alloc, given)?;
+    let strict = is_given(given, "strict");
     let format = format_of(given);
     let jobs = MachineJobs {
         goal,
         zone,
         delays,
+        strict,
         format,
     };
     asked_of_machine(alloc, given, MachineQuestion::Jobs(jobs))

@@ -1,3 +1,4 @@
 pub mod Messages
 pub mod Findings
 pub mod Skipped
+pub mod Rules

@@ -155,7 +155,7 @@ fn put_before_message<S: Stream>(path: &str, finding: &Finding, lines: &mut Text
 }
 
 // Puts what comes after a message: the code.
-fn put_after_message<S: Stream>(kind: FindingKind, lines: &mut TextWriter<'_, S>)
+pub(crate) fn put_after_message<S: Stream>(kind: FindingKind, lines: &mut TextWriter<'_, S>)
     ensures { Takes S.holds S.takes_all lines.old lines.new (after_message kind) }
 {
     lines.put_both(b" [", code_of(kind).as_bytes());

@@ -1,5 +1,6 @@
 pub mod LineLemmas
 pub mod PlaceLaws
 pub mod PlaceLemmas
+pub mod RootLemmas
 pub mod ShownLemmas
 pub mod CountLemmas

@@ -3,3 +3,4 @@ pub mod Listing
 pub mod Reports
 pub mod Monotonic
 pub mod Places
+pub mod Root

@@ -3,16 +3,18 @@
 //!
 //! The machine comes from plan_machine. `shown` says how people are shown paths and names. Read `listing` first, then
 //! `reports`. `monotonic` finds the timers that start by monotonic settings alone. `places` passes the sources on to `check`,
-//! and finds the file of each finding.
+//! and finds the file of each finding. `root` has the path of the machine's root.
 #![tactic(auto)]
 
 mod listing;
 mod monotonic;
 mod places;
 mod reports;
+mod root;
 mod shown;
 
 pub use listing::write_sources;
 pub use monotonic::with_monotonic;
 pub use places::{located, paths_of, places_have_paths, sources_of};
 pub use reports::{Reports, is_incomplete, write_reports};
+pub use root::{dir_of, root_of};

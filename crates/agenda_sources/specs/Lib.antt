@@ -1,3 +1,4 @@
+pub mod Asked
 pub mod AtOnce
 pub mod Faults
 pub mod Findings

@@ -135,8 +135,8 @@ fn field_quote(alloc: Global, text: &str, cause: LineCause) -> Result<Option<Tex
     }
 }
 
-// Returns the word at a place of a text, from 1.
-fn word_at(text: &str, place: u8) -> &str
+/// Returns the word at a place of a text, from 1. At place 0 it is the first word too.
+pub fn word_at(text: &str, place: u8) -> &str
     ensures { result.now ≡ word_at text.now place }
 {
     let mut rest = text;

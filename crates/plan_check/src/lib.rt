@@ -21,6 +21,7 @@ mod timers;
 mod warnings;
 
 pub use context::TimerContext;
+pub use crontabs::word_at;
 pub use deciding::{FileFault, deciding_fault};
 pub use files::{cause_at_once, file_findings};
 pub use finding::{Finding, FindingKind, Warning};

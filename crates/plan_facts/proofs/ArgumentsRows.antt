@@ -9,7 +9,7 @@ use Rattle.clap.proofs.OnLiterals.{clap_on_literals}
 use Rattle.plan_texts.specs.Text.{words}
 use Rattle.plan_collect.specs.declared.Sizes.{Sizes}
 use Rattle.agenda_arguments.specs.declared.ask.Ask.{Ask}
-use Rattle.agenda_arguments.specs.declared.ask.Ask.TheVariants.{Next, Plan, Upcoming, Quiet, Check, Steps, Machine}
+use Rattle.agenda_arguments.specs.declared.ask.Ask.TheVariants.{Next, Plan, Upcoming, Quiet, Check, Steps, Machine, MachineNext}
 use Rattle.agenda_arguments.specs.declared.ask.FormatRequest.{FormatRequest}
 use Rattle.agenda_arguments.specs.declared.ask.JobsRequest.{JobsRequest}
 use Rattle.agenda_arguments.specs.declared.ask.MachineGoal.{MachineGoal}
@@ -216,7 +216,7 @@ machine_rows = refl
 
 -- what is made of a machine's jobs, in the zone of the machine, and as text in local times
 abbrev asks_jobs : MachineGoal → (delays : Bool) → MachineJobs
-asks_jobs goal delays = record { goal = goal; zone = None; delays = delays; format = format_from false true }
+asks_jobs goal delays = record { goal = goal; zone = None; delays = delays; strict = false; format = format_from false true }
 
 -- of the machine whose root directory is `/`
 abbrev asks_here : MachineJobs → Result Ask ArgumentsFault
@@ -238,6 +238,10 @@ machine_jobs_rows : RowsHold asked_in
       codes "agenda machine upcoming --utc --json",
       asks_here (record (asks_jobs (machine_goal.Upcoming None) false) { zone = Some (codes "UTC"); format = format_from true false }),
     )
+    ∷ (
+      codes "agenda machine --strict",
+      asks_here (record (asks_jobs (machine_goal.Upcoming None) false) { strict = true }),
+    )
     ∷ (codes "agenda machine plan", asks_here (asks_jobs (machine_goal.Plan (span_from None None) machine_sizes) false))
     ∷ (
       codes "agenda machine plan --since s --upto u --limit 5 --zone z",
@@ -255,6 +259,27 @@ machine_jobs_rows : RowsHold asked_in
     ∷ [])
 unfolding words asked_by clap_on_literals agenda_on_literals
 machine_jobs_rows = refl
+
+-- the next five starts of a rule, in the zone of the machine, and as text in local times
+abbrev asks_starts : Asked → Result Ask ArgumentsFault
+asks_starts rule = Ok (MachineNext (record { rule = rule; after = None; count = 5; zone = None; format = format_from false true }))
+
+machine_next_rows : RowsHold asked_in
+    ((codes "agenda machine next @daily", asks_starts (Cron (codes "@daily")))
+    ∷ (codes "agenda machine next daily", asks_starts (Event (codes "daily")))
+    ∷ (
+      codes "agenda machine next --utc --count 2 --json --after=t 09:00",
+      Ok (MachineNext (record {
+        rule = Event (codes "09:00");
+        after = Some (codes "t");
+        count = 2;
+        zone = Some (codes "UTC");
+        format = format_from true false;
+      })),
+    )
+    ∷ [])
+unfolding words asked_by clap_on_literals agenda_on_literals
+machine_next_rows = refl
 
 -- ---- usage errors
 
@@ -312,6 +337,10 @@ usage_errors : list_all (λ line. is_usage_error (asked_in line))
     ∷ codes "agenda machine check --zone z --utc"
     ∷ codes "agenda machine sources --utc"
     ∷ codes "agenda machine sources --event-zones"
+    ∷ codes "agenda machine next"
+    ∷ codes "agenda machine next daily weekly"
+    ∷ codes "agenda machine next daily --root r"
+    ∷ codes "agenda machine next daily --zone z --utc"
     -- `machine` isn't the first argument
     ∷ codes "agenda -- machine sources"
     ∷ codes "agenda sources"

@@ -200,6 +200,10 @@ isn't in it; 24 hours after the start if it isn't given";
 
 pub(super) const NOMINAL: &str = "Don't count the delays of timers";
 
+pub(super) const STRICT: &str = "\
+Let an error in a file stop the answer, instead of
+skipping what is invalid";
+
 pub(super) const MACHINE_UPCOMING: &str = "Prints when each job of a machine starts next";
 
 pub(super) const AFTER_MACHINE_UPCOMING: &str = "\
@@ -257,6 +261,22 @@ read, otherwise 0.
 
 Example:
   agenda machine check --root /mnt --zone Europe/Berlin";
+
+pub(super) const MACHINE_NEXT: &str = "Prints the next starts of a rule by the machine's clock";
+
+pub(super) const RULE: &str = "\
+A cron rule of five words, or one that begins with @,
+or a calendar event of systemd; put it in quotes";
+
+pub(super) const AFTER_MACHINE_NEXT: &str = "\
+Prints what 'agenda next' prints of the rule, in the time zone of the machine that agenda
+runs on. Times are those of its clocks, with their offset from UTC. A RULE of five words,
+or that begins with @, is a cron rule; any other is a calendar event, which may end with a
+time zone.
+
+Examples:
+  agenda machine next '30 2 * * *'
+  agenda machine next 'Mon..Fri 09:00 Europe/Berlin' --count 1";
 
 pub(super) const STEPS: &str = "Runs a script of steps on a mailbox, for testing";
 

@@ -2,7 +2,7 @@
 ghost use Rattle.std.specs.Prelude.{◌≡◌, IfOk, false};
 ghost use Rattle.clap.specs.Words.{app_of};
 ghost use Rattle.clap.specs.declared.builder.command.Command.TheViews.{out-Command};
-ghost use Rattle.agenda_arguments.specs.Command.{machine, machine_alone, machine_check, machine_plan, machine_quiet, machine_sources};
+ghost use Rattle.agenda_arguments.specs.Command.{machine, machine_alone, machine_check, machine_next, machine_plan, machine_quiet, machine_sources};
 ghost use Rattle.agenda_arguments.specs.Command.{machine_upcoming, with_machine_span};
 
 use super::subcommands::Subcommand;
@@ -22,6 +22,12 @@ const ALL: CommandOption<'static> = CommandOption::Flag("all", help::ALL);
 const ZONE: CommandOption<'static> = CommandOption::Text("zone", "ZONE", help::MACHINE_ZONE);
 
 const UTC: CommandOption<'static> = CommandOption::Flag("utc", help::UTC);
+
+// The time after which starts are listed.
+const AFTER: CommandOption<'static> = CommandOption::Text("after", "T", help::MACHINE_AFTER);
+
+// Whether an error in a file stops the answer.
+const STRICT: CommandOption<'static> = CommandOption::Flag("strict", help::STRICT);
 
 // The maximum number of starts.
 const LIMIT: CommandOption<'static> = CommandOption::Number("limit", "1000000", help::LIMIT);
@@ -111,10 +117,11 @@ pub(super) fn machine_upcoming_command<'a>(alloc: Global) -> Result<Command<'a>,
         &[
             ROOT,
             ALL,
-            CommandOption::Text("after", "T", help::MACHINE_AFTER),
+            AFTER,
             ZONE,
             UTC,
             CommandOption::Flag("delays", help::DELAYS),
+            STRICT,
             JSON,
         ],
     )
@@ -139,6 +146,7 @@ pub(super) fn machine_plan_command<'a>(alloc: Global) -> Result<Command<'a>, All
             ZONE,
             UTC,
             CommandOption::Flag("delays", help::DELAYS),
+            STRICT,
             JSON,
             LIMIT,
             PLANNERS,
@@ -172,10 +180,36 @@ pub(super) fn machine_quiet_command<'a>(alloc: Global) -> Result<Command<'a>, Al
             ZONE,
             UTC,
             CommandOption::Flag("nominal", help::NOMINAL),
+            STRICT,
             JSON,
             LIMIT,
             PLANNERS,
             ROOM,
+        ],
+    )
+}
+
+/// Returns the command line of `agenda machine next`.
+///
+/// # Errors
+///
+/// An allocation failed.
+#[tactic(auto, unfolding(crate::specs::Command::machine_next))]
+pub(super) fn machine_next_command<'a>(alloc: Global) -> Result<Command<'a>, AllocError>
+    ensures app { IfOk result (λ command. app_of command ≡ machine_next) }
+    ensures local { IfOk result (λ command. (out-Command command).has_globals ≡ false) }
+{
+    let command = new_subcommand(alloc, "next", help::MACHINE_NEXT, help::AFTER_MACHINE_NEXT);
+    with_arguments(
+        alloc,
+        command,
+        &[
+            CommandOption::Argument("rule", "RULE", help::RULE),
+            AFTER,
+            CommandOption::Number("count", "5", help::COUNT),
+            ZONE,
+            UTC,
+            JSON,
         ],
     )
 }

@@ -5,8 +5,8 @@ ghost use Rattle.clap.specs.declared.builder.command.Command.TheViews.{out-Comma
 ghost use Rattle.agenda_arguments.specs.Command.{app_for, questions, subcommands};
 
 use super::machine::{
-    machine_check_command, machine_plan_command, machine_quiet_command, machine_sources_command,
-    machine_upcoming_command,
+    machine_check_command, machine_next_command, machine_plan_command, machine_quiet_command,
+    machine_sources_command, machine_upcoming_command,
 };
 use super::{
     check_command, explain_command, machine_listed, next_command, plan_command, quiet_command,
@@ -31,6 +31,7 @@ pub(super) enum Subcommand {
     MachineQuiet,
     MachineCheck,
     MachineSources,
+    MachineNext,
 }
 
 impl Subcommand {
@@ -51,7 +52,7 @@ impl Subcommand {
     }
 
     /// Returns all questions of `agenda machine`, in the order in which help lists them.
-    pub(super) fn of_machine() -> [Subcommand; 5]
+    pub(super) fn of_machine() -> [Subcommand; 6]
         ensures { result ≡ questions }
     {
         [
@@ -60,6 +61,7 @@ impl Subcommand {
             Subcommand::MachineQuiet,
             Subcommand::MachineCheck,
             Subcommand::MachineSources,
+            Subcommand::MachineNext,
         ]
     }
 
@@ -86,6 +88,7 @@ impl Subcommand {
             Subcommand::MachineQuiet => machine_quiet_command(alloc),
             Subcommand::MachineCheck => machine_check_command(alloc),
             Subcommand::MachineSources => machine_sources_command(alloc),
+            Subcommand::MachineNext => machine_next_command(alloc),
         }
     }
 }

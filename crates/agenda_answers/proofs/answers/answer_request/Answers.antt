@@ -1,3 +1,4 @@
+use Rattle.agenda_answers.proofs.StepLemmas.{ran}
 use Rattle.agenda_answers.proofs.answers.answer_request.Goals as goal
 
 pub returns-in-Starts-clause-answers : goal.returns-in-Starts-clause-answers
@@ -14,4 +15,5 @@ pub returns-in-Steps-clause-answers : goal.returns-in-Steps-clause-answers
 returns-in-Steps-clause-answers g c = rw c.in-Steps.is (_, c.steps.ensures.ends, c.end-in-Steps.ensures.exits)
 
 pub returns-in-Explain-clause-answers : goal.returns-in-Explain-clause-answers
-returns-in-Explain-clause-answers g c = rw c.in-Explain.is (_, c.explain.ensures.ends, c.end-in-Explain.ensures.exits)
+returns-in-Explain-clause-answers g c =
+    rw c.in-Explain.is (c.status_after.result, rw c.status_after.ensures (ran _ _ _ _ _ c.run_explain.ensures.output), c.end-in-Explain.ensures.exits)

@@ -4,7 +4,7 @@ use Rattle.agenda_faults.specs.declared.faults.RunFault.TheVariants as run
 use Rattle.agenda_machine.specs.Places.{sources_of}
 use Rattle.agenda_sources.specs.Findings.{kept_jobs}
 use Rattle.agenda_answers.specs.Steps.{goes}
-use Rattle.agenda_answers.proofs.MachineLemmas.{no_accuracy}
+use Rattle.agenda_answers.proofs.MachineLemmas.{no_accuracy, rest_failed, rest_planned, rest_stopped}
 use Rattle.agenda_answers.proofs.OutcomeLemmas.{settled_answer, settled_failure}
 use Rattle.agenda_answers.proofs.StepLemmas.{failed}
 use Rattle.agenda_answers.proofs.machine.jobs_answer.Goals as goal
@@ -41,15 +41,23 @@ returns-in_err-skipped g c =
     (goes _ (rw c.unnamed_zone-unnamed.ensures at c.in_ok-format.ensures)
     (failed _ (Run run.NoMemory) refl c.from_residual-in_err-skipped.ensures.1))))
 
+pub returns-then-is_stopped : goal.returns-then-is_stopped
+returns-then-is_stopped g c =
+    goes _ (rw c.root_of.ensures at c.in_ok-clock.ensures.read) (goes _ c.in_ok-goal.ensures
+    (goes _ (rw (c.in_ok-clock.ensures.same, c.in_ok-sources.ensures, c.as_slice.ensures.value) at c.in_ok-zones.ensures.read)
+    (goes _ (rw c.unnamed_zone-unnamed.ensures at c.in_ok-format.ensures)
+    (goes _ (rw (c.in_ok-sources.ensures, c.as_slice.ensures.value) at c.in_ok-skipped.ensures.errors)
+    (goes _ (rest_stopped _ _ _ _ _ (rw (c.is_stopped.ensures, c.as_slice-2.ensures.value) at c.if-is_stopped.true)) (rw c.in_ok-skipped.ensures.paths refl))))))
+
 pub returns-in_err-answer : goal.returns-in_err-answer
 returns-in_err-answer g c =
     goes _ (rw c.root_of.ensures at c.in_ok-clock.ensures.read) (goes _ c.in_ok-goal.ensures
     (goes _ (rw (c.in_ok-clock.ensures.same, c.in_ok-sources.ensures, c.as_slice.ensures.value) at c.in_ok-zones.ensures)
     (goes _ (rw c.unnamed_zone-unnamed.ensures at c.in_ok-format.ensures)
     (goes _ (rw (c.in_ok-sources.ensures, c.as_slice.ensures.value) at c.in_ok-skipped.ensures.errors)
-    (failed _ _ (settled_failure c.in_ok-format.format c.in_ok-goal.goal
+    (failed _ _ (rest_failed _ _ _ _ _ _ (rw (c.is_stopped.ensures, c.as_slice-2.ensures.value) at c.if-is_stopped.false) (settled_failure c.in_ok-format.format c.in_ok-goal.goal
     (Ok (kept_jobs c.in_ok-zones.zones (sources_of c.args.machine.sources.items))) c.prepare_answer-made.result _
-    c.prepare_answer-made.ensures.bad_least c.in_err-answer.ensures)
+    c.prepare_answer-made.ensures.bad_least c.in_err-answer.ensures))
     c.from_residual-in_err-answer.ensures.1)))))
 
 pub returns : goal.returns
@@ -58,10 +66,9 @@ returns g c =
     (goes _ (rw (c.in_ok-clock.ensures.same, c.in_ok-sources.ensures, c.as_slice.ensures.value) at c.in_ok-zones.ensures)
     (goes _ (rw c.unnamed_zone-unnamed.ensures at c.in_ok-format.ensures)
     (goes _ (rw (c.in_ok-sources.ensures, c.as_slice.ensures.value) at c.in_ok-skipped.ensures.errors)
-    (goes _ (settled_answer c.in_ok-format.format c.in_ok-goal.goal
+    (goes _ (rest_planned _ _ _ _ _ _ (rw (c.is_stopped.ensures, c.as_slice-2.ensures.value) at c.if-is_stopped.false) (settled_answer c.in_ok-format.format c.in_ok-goal.goal
     (Ok (kept_jobs c.in_ok-zones.zones (sources_of c.args.machine.sources.items))) c.prepare_answer-made.result
     (Ok c.in_ok-answer.answer)
     (rw (c.in_ok-skipped.ensures.jobs, c.in_ok-sources.ensures, c.as_slice.ensures.value) at c.prepare_answer-made.ensures.answer)
-    c.prepare_answer-made.ensures.bad_least c.in_ok-answer.ensures)
-    (rw (c.in_ok-skipped.ensures.paths, c.new.ensures, c.status_of-status.ensures, c.are_warnings.ensures, c.as_slice-2.ensures.value)
-    refl))))))
+    c.prepare_answer-made.ensures.bad_least c.in_ok-answer.ensures))
+    (rw (c.outcome_of.ensures, c.in_ok-skipped.ensures.paths) refl))))))

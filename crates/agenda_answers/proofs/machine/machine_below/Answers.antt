@@ -5,7 +5,7 @@ use Rattle.plan_machine.specs.Machine.{AreTooManyUnits, IsMachine}
 use Rattle.plan_tree.specs.Tree.{below}
 use Rattle.agenda_answers.specs.Files.{most_read}
 use Rattle.agenda_answers.specs.Machine.{tree_below}
-use Rattle.agenda_answers.specs.Root.{root_of}
+use Rattle.agenda_machine.specs.Root.{root_of}
 use Rattle.agenda_answers.specs.Steps.{goes}
 use Rattle.agenda_answers.proofs.MachineLemmas.{found_either}
 use Rattle.agenda_answers.proofs.StepLemmas.{failed}

@@ -25,7 +25,7 @@ returns-in_ok-machine-in-Jobs g c =
 pub returns-in-Sources : goal.returns-in-Sources
 returns-in-Sources g c =
     goes _ (rw (c.dir_of-dir.ensures, c.as_str.ensures) at c.in_ok-machine.ensures)
-    (rw c.in-Sources.is (rw (c.dir_of-dir.ensures, c.as_str.ensures) at c.sources_answer.ensures))
+    (rw (c.in-Sources.is, c.dir_of-dir.ensures, c.as_str.ensures) refl)
 
 pub returns-in-Check : goal.returns-in-Check
 returns-in-Check g c =

@@ -12,4 +12,4 @@ returns-in_err-name-clause-read g c =
     goes _ c.in_ok-clock.ensures.read (not_computed _ _ c.from_residual-in_err-name.ensures.1)
 
 pub returns-clause-read : goal.returns-clause-read
-returns-clause-read g c = goes _ c.in_ok-clock.ensures.read (rw c.in_ok-name.ensures refl)
+returns-clause-read g c = goes _ c.in_ok-clock.ensures.read (rw (c.new.ensures, c.in_ok-name.ensures.ok) refl)

@@ -1,10 +1,10 @@
 //! The root of a machine.
 
 ghost use Rattle.std.specs.Prelude.{◌≡◌};
-ghost use Rattle.agenda_answers.specs.Root.{dir_of, root_of};
+ghost use Rattle.agenda_machine.specs.Root.{dir_of, root_of};
 
 /// Returns the path of a directory without the slashes at its end. That of the root of the file system is empty.
-pub(crate) fn root_of(dir: &str) -> &str
+pub fn root_of(dir: &str) -> &str
     ensures { result.now ≡ root_of dir.now }
 {
     match dir.strip_suffix('/') {
@@ -14,7 +14,7 @@ pub(crate) fn root_of(dir: &str) -> &str
 }
 
 /// Returns the path of a directory as people are shown it: without the slashes at its end, but that of `/`.
-pub(crate) fn dir_of(dir: &str) -> &str
+pub fn dir_of(dir: &str) -> &str
     ensures { result.now ≡ dir_of dir.now }
 {
     let root = root_of(dir);

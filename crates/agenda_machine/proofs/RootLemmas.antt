@@ -3,7 +3,7 @@ use Rattle.std.proofs.Common.{◌≡◌, ◌≢◌, ℕ, ◌==◌, ◌&&◌, Boo
 use Rattle.std.proofs.Math.Facts.{eqb_yes}
 use Rattle.std.specs.List.{list_all}
 use Rattle.std.specs.Path.{slash}
-use Rattle.agenda_answers.specs.Root.{root_of}
+use Rattle.agenda_machine.specs.Root.{root_of}
 
 -- a slash more at the end changes nothing
 all_snoc : (front : List ℕ) → list_all (λ b. b == slash) (front ++ slash ∷ []) ≡ list_all (λ b. b == slash) front

@@ -1,7 +1,7 @@
 use Rattle.std.proofs.Common.{◌∙◌, arith}
 use Rattle.std.proofs.lemmas.Str.Pattern.{strip_suffix_char}
-use Rattle.agenda_answers.proofs.RootLemmas.{root_after, root_alone}
-use Rattle.agenda_answers.proofs.root.+root_of.Goals as goal
+use Rattle.agenda_machine.proofs.RootLemmas.{root_after, root_alone}
+use Rattle.agenda_machine.proofs.root.+root_of.Goals as goal
 
 pub returns-in-Some : goal.returns-in-Some
 returns-in-Some t c =
