@@ -132,6 +132,7 @@ explain_try() {
     timer-name) printf '[Timer]\nOnCalendar=daily\n' >"$name" && agenda check "$name" ;;
     zone) eval "agenda next --after 2024-01-01T00:00:00Z --cron @daily $words" >/dev/null ;;
     moment) printf '@daily a\n' >"jobs" && eval "$words" >/dev/null ;;
+    machine) mkdir -p root && eval "$words --root root" >/dev/null ;;
     span) eval "agenda plan --since 2024-01-01T00:00:00Z $words" >/dev/null ;;
   esac
   cd "$top" || return
@@ -170,6 +171,7 @@ BadCount
 BadDelay
 BadForm
 BadLeast
+BadLength
 BadLimit
 BadLine
 BadName
@@ -177,6 +179,7 @@ BadNumber
 BadSetting
 BadSize
 BadTabName
+BadTime
 BadTimerName
 BadZone
 BadZoneName
@@ -237,11 +240,13 @@ Backwards crontab|0 22-4 * * * backup|0 22-23,0-4 * * * backup
 BadDelay setting|AccuracySec=5mins|AccuracySec=5min
 BadForm moment|agenda upcoming --after '2024-01-01 6:00' --crontab jobs|agenda upcoming --after 2024-01-01T06:00:00Z --crontab jobs
 BadLine step|take 0|take
+BadLength machine|agenda machine quiet --least 1:30|agenda machine quiet --least '1h 30min'
 BadName crontab|0 6 * * monday report|0 6 * * mon report
 BadNumber crontab|0 6 ? * 1-5 report|0 6 * * 1-5 report
 BadSetting crontab|backup --all|@daily backup --all
 BadSize script|mailbox 9 16|mailbox 8 16
 BadTabName cron-d|/etc/cron.d/backup.sh|/etc/cron.d/backup
+BadTime machine|agenda machine plan --since 8h|agenda machine plan --since +8h
 BadTimerName timer-name|backup@home.timer|backup-home.timer
 BadZoneName zone|--zone 'America/New York'|--zone America/New_York
 Delayed setting|RandomizedDelaySec=1h|RandomizedDelaySec=0

@@ -178,16 +178,10 @@ jobs_errors() {
   done
 }
 jobs_errors <<'ROWS'
-upcoming --after yesterday|agenda: after: BadForm
-plan --since 2024-01-01|agenda: since: BadForm
-plan --since 2024-01-01T00:00:00Z --until 2024-02-30T00:00:00Z|agenda: upto: NoSuchDate
-plan --since 2024-01-02T00:00:00Z --until 2024-01-01T00:00:00Z|agenda: span: Backwards
-plan --limit 59 --since 2024-01-01T00:00:00Z --until 2024-01-01T01:00:00Z|agenda: plan: TooMany
+plan --limit 59 --since 2024-01-01T00:00:00Z --until 2024-01-01T01:00:00Z|agenda: more than 59 starts: give a shorter span, or --limit N [TooMany]
+quiet --limit 1 --since 2024-01-01T00:00:00Z --until 2024-01-01T01:00:00Z|agenda: more than 1 starts: give a shorter span, or --limit N [TooMany]
 plan --limit 0 --since 2024-01-01T00:00:00Z --until 2024-01-01T01:00:00Z|agenda: plan: BadLimit
 plan --planners 9 --since 2024-01-01T00:00:00Z --until 2024-01-01T01:00:00Z|agenda: plan: BadSize
-quiet --least 0 --since 2024-01-01T00:00:00Z --until 2024-01-01T01:00:00Z|agenda: quiet: BadLeast
-upcoming --zone Nowhere/At_all|agenda: zone: NoSuchZone
-upcoming --zone Nowhere/At_all --after x|agenda: zone: NoSuchZone
 ROWS
 
 # ---- the next starts of a rule

@@ -68,22 +68,22 @@ Prints when each job of a machine starts next
 Usage: agenda machine upcoming [OPTIONS]
 
 Options:
-      --root <DIR>   Read the machine whose root directory is DIR [default: /]
-      --all          Include timers that aren't enabled
-      --after <T>    Only starts later than this time, in UTC, such as
-                     2026-12-01T22:00:00Z; now if it isn't given
-      --zone <ZONE>  The time zone of the rules, such as Europe/Berlin,
-                     or the path of a TZif file; that of the machine
-                     if it isn't given
-      --utc          Read the rules in UTC, like --zone UTC, and print
-                     times in UTC
-      --delays       Show each start with the latest time at which it may
-                     happen (RandomizedDelaySec= and AccuracySec=)
-      --strict       Let an error in a file stop the answer, instead of
-                     skipping what is invalid
-      --json         Print each line as a JSON object; agenda(1)
-                     describes the keys
-  -h, --help         Print help
+      --root <DIR>    Read the machine whose root directory is DIR [default: /]
+      --all           Include timers that aren't enabled
+      --after <TIME>  Only starts later than this time, such as
+                      'tomorrow 02:00', '2026-12-01 22:00' or +8h [default: now]
+      --zone <ZONE>   The time zone of the rules, such as Europe/Berlin,
+                      or the path of a TZif file; that of the machine
+                      if it isn't given
+      --utc           Read the rules in UTC, like --zone UTC, and print
+                      times in UTC
+      --delays        Show each start with the latest time at which it may
+                      happen (RandomizedDelaySec= and AccuracySec=)
+      --strict        Let an error in a file stop the answer, instead of
+                      skipping what is invalid
+      --json          Print each line as a JSON object; agenda(1)
+                      describes the keys
+  -h, --help          Print help
 
 Prints what 'agenda upcoming' prints, about the files that 'agenda machine sources' lists.
 Times are those of the machine's clocks, with their offset from UTC. Standard error has a
@@ -103,17 +103,17 @@ Arguments:
           or a calendar event of systemd; put it in quotes
 
 Options:
-      --after <T>    Only starts later than this time, in UTC, such as
-                     2026-12-01T22:00:00Z; now if it isn't given
-      --count <N>    How many starts, from 1 to 1000 [default: 5]
-      --zone <ZONE>  The time zone of the rules, such as Europe/Berlin,
-                     or the path of a TZif file; that of the machine
-                     if it isn't given
-      --utc          Read the rules in UTC, like --zone UTC, and print
-                     times in UTC
-      --json         Print each line as a JSON object; agenda(1)
-                     describes the keys
-  -h, --help         Print help
+      --after <TIME>  Only starts later than this time, such as
+                      'tomorrow 02:00', '2026-12-01 22:00' or +8h [default: now]
+      --count <N>     How many starts, from 1 to 1000 [default: 5]
+      --zone <ZONE>   The time zone of the rules, such as Europe/Berlin,
+                      or the path of a TZif file; that of the machine
+                      if it isn't given
+      --utc           Read the rules in UTC, like --zone UTC, and print
+                      times in UTC
+      --json          Print each line as a JSON object; agenda(1)
+                      describes the keys
+  -h, --help          Print help
 
 Prints what 'agenda next' prints of the rule, in the time zone of the machine that agenda
 runs on. Times are those of its clocks, with their offset from UTC. A RULE of five words,
@@ -230,12 +230,12 @@ check|--since=x => error: unexpected argument '--since' found
 check|--version => error: unexpected argument '--version' found
 upcoming|tomorrow => error: unexpected argument 'tomorrow' found
 upcoming|--since=x => error: unexpected argument '--since' found
-upcoming|--after=x|--after=x => error: the argument '--after <T>' cannot be used multiple times
+upcoming|--after=x|--after=x => error: the argument '--after <TIME>' cannot be used multiple times
 upcoming|--nominal => error: unexpected argument '--nominal' found
 upcoming|--limit=1 => error: unexpected argument '--limit' found
 plan|--after=x => error: unexpected argument '--after' found
-plan|--since => error: a value is required for '--since <T>' but none was supplied
-plan|--until=x|--upto=x => error: the argument '--until <T>' cannot be used multiple times
+plan|--since => error: a value is required for '--since <TIME>' but none was supplied
+plan|--until=x|--upto=x => error: the argument '--until <TIME>' cannot be used multiple times
 plan|--least=1 => error: unexpected argument '--least' found
 plan|--local => error: unexpected argument '--local' found
 plan|--limit=x => error: invalid value 'x' for '--limit <N>': invalid digit found in string
@@ -254,7 +254,7 @@ next|daily|--since=x => error: unexpected argument '--since' found
 next|daily|--local => error: unexpected argument '--local' found
 next|--cron=@daily => error: unexpected argument '--cron' found
 next|daily|--count=x => error: invalid value 'x' for '--count <N>': invalid digit found in string
-next|daily|--after=x|--after=x => error: the argument '--after <T>' cannot be used multiple times
+next|daily|--after=x|--after=x => error: the argument '--after <TIME>' cannot be used multiple times
 next|-1 => error: unexpected argument '-1' found
 END
 }

@@ -307,7 +307,7 @@ Without a command, the options are those of upcoming.
 
 Examples:
   agenda machine
-  agenda machine plan --since 2026-12-01T22:00:00Z --until 2026-12-02T05:00:00Z
+  agenda machine plan --since 'sat 22:00' --until 'sun 04:00'
   agenda machine check --root /mnt
 END
 }

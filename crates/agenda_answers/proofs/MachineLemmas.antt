@@ -15,13 +15,14 @@ use Rattle.agenda_faults.specs.declared.faults.Failure.TheVariants.{Run}
 use Rattle.agenda_faults.specs.declared.faults.RunFault.{RunFault}
 use Rattle.agenda_faults.specs.declared.faults.RunFault.TheVariants as run
 use Rattle.agenda_faults.specs.Status.{failed_status}
+use Rattle.agenda_commands.specs.declared.Goal.{Goal}
 use Rattle.agenda_sources.specs.declared.Found.{Found}
 use Rattle.agenda_sources.specs.declared.Source.{Source}
 use Rattle.agenda_sources.specs.declared.SourcePath.{SourcePath}
 use Rattle.agenda_answers.specs.Files.{Held, most_read}
 use Rattle.agenda_answers.specs.Host.{KnownHost}
-use Rattle.agenda_answers.specs.Machine.{Shown, found_below, jobs_rest, machine_zones, outcome_of, plans, shows_jobs, stops_at_first}
-use Rattle.agenda_answers.specs.MachineZone.{KnownTree}
+use Rattle.agenda_answers.specs.Machine.{Shown, found_below, in_words, jobs_rest, machine_zones, outcome_of, plans, shows_jobs, stops_at_first}
+use Rattle.agenda_answers.specs.MachineZone.{KnownTree, names_zone, naming_zone}
 use Rattle.agenda_answers.specs.Steps.{Step, computes, goes, stops}
 
 pub found_either :
@@ -71,20 +72,26 @@ told reports (Err fault) flag takes_all old new is unset off = absurd cc
 -- ---- a strict answer
 
 pub rest_stopped :
-    (stopped : Bool) (paths : List SourcePath) (machine : Machine) (errors : List Found) (answers : Step (Result (List ℕ) RunFault)) →
-    stopped ≡ true → jobs_rest stopped paths machine errors answers (Ok (stops_at_first paths errors))
-rest_stopped true paths machine errors answers is = refl
-rest_stopped false paths machine errors answers is = absurd cc
+    (stopped : Bool) (paths : List SourcePath) (machine : Machine) (errors : List Found) (goal : Goal)
+    (answers : Step (Result (List ℕ) RunFault)) → stopped ≡ true → jobs_rest stopped paths machine errors goal answers (Ok (stops_at_first paths errors))
+rest_stopped true paths machine errors goal answers is = refl
+rest_stopped false paths machine errors goal answers is = absurd cc
 
 pub rest_failed :
-    (stopped : Bool) (paths : List SourcePath) (machine : Machine) (errors : List Found) (answers : Step (Result (List ℕ) RunFault))
-    (failure : Failure) → stopped ≡ false → answers (Err failure) → jobs_rest stopped paths machine errors answers (Err failure)
-rest_failed true paths machine errors answers failure is fails = absurd cc
-rest_failed false paths machine errors answers failure is fails = stops failure fails refl
+    (stopped : Bool) (paths : List SourcePath) (machine : Machine) (errors : List Found) (goal : Goal)
+    (answers : Step (Result (List ℕ) RunFault)) (failure : Failure) → stopped ≡ false → answers (Err failure) → jobs_rest stopped paths machine errors goal answers (Err failure)
+rest_failed true paths machine errors goal answers failure is fails = absurd cc
+rest_failed false paths machine errors goal answers failure is fails = stops failure fails refl
 
 pub rest_planned :
-    (stopped : Bool) (paths : List SourcePath) (machine : Machine) (errors : List Found) (answers : Step (Result (List ℕ) RunFault))
-    (answer : Result (List ℕ) RunFault) → stopped ≡ false → answers (Ok answer) →
-    jobs_rest stopped paths machine errors answers (Ok (plans (outcome_of machine paths errors answer)))
-rest_planned true paths machine errors answers answer is made = absurd cc
-rest_planned false paths machine errors answers answer is made = goes answer made refl
+    (stopped : Bool) (paths : List SourcePath) (machine : Machine) (errors : List Found) (goal : Goal)
+    (answers : Step (Result (List ℕ) RunFault)) (answer : Result (List ℕ) RunFault) → stopped ≡ false → answers (Ok answer) →
+    jobs_rest stopped paths machine errors goal answers (Ok (plans (outcome_of machine paths errors (in_words goal answer))))
+rest_planned true paths machine errors goal answers answer is made = absurd cc
+rest_planned false paths machine errors goal answers answer is made = goes answer made refl
+
+-- a step, after which the failure of a zone has its text
+pub named :
+    {X : Type 0} (text : List ℕ) (step : Step X) (found end : Result X Failure) → step found → names_zone text found end →
+    naming_zone text step end
+named text step found end is names = (found, is, names)

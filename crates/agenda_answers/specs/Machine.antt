@@ -15,7 +15,11 @@ use Rattle.agenda_arguments.specs.declared.MachineQuestion.TheVariants as questi
 use Rattle.agenda_faults.specs.declared.faults.Failure.{Failure}
 use Rattle.agenda_faults.specs.declared.faults.Failure.TheVariants.{NotDirectory, TooManyUnits}
 use Rattle.agenda_faults.specs.declared.faults.RunFault.{RunFault}
+use Rattle.agenda_faults.specs.declared.faults.RunFault.TheVariants as run
+use Rattle.plan_collect.specs.declared.CollectFault.TheVariants as collect
+use Rattle.plan_collect.specs.declared.PlanFault.TheVariants as plan
 use Rattle.agenda_commands.specs.declared.Goal.{Goal}
+use Rattle.agenda_commands.specs.declared.Goal.TheVariants as goal
 use Rattle.agenda_faults.specs.Status.{done_status, failed_status, rejected_status}
 use Rattle.agenda_findings.specs.Findings.{check_text}
 use Rattle.agenda_findings.specs.Skipped.{skipped_text}
@@ -178,6 +182,17 @@ shows_findings held tree dir zone json machine = do
   computes (shown_of dir machine clock.is_unknown
       (findings_rest dir json machine (found_in machine zones (sources_of machine.sources.items))))
 
+-- an answer; if it has too many starts, the error names the limit
+abbrev pub naming_limit : (limit : ℕ) → Result (List ℕ) RunFault → Result (List ℕ) RunFault
+naming_limit limit (Err (run.Plan (plan.Collect collect.TooMany))) = Err (run.TooManyStarts limit)
+naming_limit limit answer = answer
+
+-- the same for a plan; without a plan there is no limit
+abbrev pub in_words : Goal → Result (List ℕ) RunFault → Result (List ℕ) RunFault
+in_words (goal.Plan planning) answer = naming_limit planning.sizes.limit answer
+in_words (goal.Quiet planning least) answer = naming_limit planning.sizes.limit answer
+in_words (goal.Upcoming after delays) answer = answer
+
 -- the answer for jobs, without the errors that are skipped
 abbrev pub outcome_of : Machine → (paths : List SourcePath) → List Found → Result (List ℕ) RunFault → Outcome
 outcome_of machine paths errors answer = record {
@@ -194,11 +209,11 @@ is_stopped strict errors = strict && not (length errors == 0)
 
 -- what follows if the answer is stopped, or else the answer
 abbrev pub jobs_rest :
-    (stopped : Bool) → (paths : List SourcePath) → Machine → List Found → Step (Result (List ℕ) RunFault) → Step Rest
-jobs_rest true paths machine errors answers = gives (stops_at_first paths errors)
-jobs_rest false paths machine errors answers = do
+    (stopped : Bool) → (paths : List SourcePath) → Machine → List Found → Goal → Step (Result (List ℕ) RunFault) → Step Rest
+jobs_rest true paths machine errors goal answers = gives (stops_at_first paths errors)
+jobs_rest false paths machine errors goal answers = do
   answer ← answers
-  gives (plans (outcome_of machine paths errors answer))
+  gives (plans (outcome_of machine paths errors (in_words goal answer)))
 
 -- the answer for the jobs of a machine, in these time zones
 abbrev pub shows_jobs_in :
@@ -206,7 +221,7 @@ abbrev pub shows_jobs_in :
 shows_jobs_in dir jobs goal machine unplanned clock zones = do
   format ← format_made jobs.format clock.name (unnamed_zone clock.is_of_file) zones.clock
   errors ← computes (errors_in machine zones (sources_of machine.sources.items))
-  rest ← jobs_rest (is_stopped jobs.strict errors) (paths_of false (root_of dir) machine.sources.items) machine errors
+  rest ← jobs_rest (is_stopped jobs.strict errors) (paths_of false (root_of dir) machine.sources.items) machine errors goal
       (answer_of format goal (Ok (kept_jobs zones (sources_of machine.sources.items))))
   gives (shown_with dir machine unplanned clock.is_unknown rest)
 
@@ -214,7 +229,7 @@ shows_jobs_in dir jobs goal machine unplanned clock zones = do
 abbrev pub shows_jobs : Held → KnownHost → (dir : List ℕ) → MachineJobs → Machine → (unplanned : List NotPlanned) → Step Shown
 shows_jobs held host dir jobs machine unplanned = do
   clock ← machine_clock held host.tree (root_of dir) jobs.zone
-  goal ← goal_at host.time jobs
+  goal ← goal_at host.time clock.clock jobs
   zones ← machine_zones held host.tree clock.clock (sources_of machine.sources.items)
   shows_jobs_in dir jobs goal machine unplanned clock zones
 

@@ -1,74 +1,86 @@
--- What is asked about the jobs of a machine, once the times were read. All of it is our choice (agenda).
-use Rattle.std.specs.Prelude.{◌≡◌, ◌⊎◌, ℕ, ◌+◌, ◌<◌, ◌≤◌, Bool, List, Option, None, Some, Ok, Err, min}
+-- What is asked about the jobs of a machine, once the times and the length were read. All of it is our choice (agenda).
+use Rattle.std.specs.Prelude.{◌≡◌, ℕ, ◌<◌, nat_le, Bool, true, false, List, Option, None, Some, Result, Ok, Err}
+use Rattle.plan_clock.specs.declared.row.Change.{Change}
 use Rattle.plan_collect.specs.Span.{Bounds}
-use Rattle.plan_collect.specs.declared.Sizes.{Sizes}
-use Rattle.plan_collect.specs.declared.SpanFault.TheVariants.{Backwards, OutOfYears}
 use Rattle.plan_sets.specs.Limits.{end_second}
-use Rattle.plan_sets.specs.declared.MomentFault.{MomentFault}
+use Rattle.plan_times.specs.Forms.{form_of, length_of}
+use Rattle.plan_times.specs.Times.{IsSince, IsUntil}
+use Rattle.plan_times.specs.declared.fault.TimeFault.{TimeFault}
+use Rattle.plan_write.specs.LocalTimes.{local_text}
 use Rattle.agenda_arguments.specs.declared.MachineGoal.{MachineGoal}
 use Rattle.agenda_arguments.specs.declared.MachineGoal.TheVariants.{Upcoming, Plan, Quiet}
 use Rattle.agenda_arguments.specs.declared.MachineJobs.{MachineJobs}
 use Rattle.agenda_arguments.specs.declared.SpanRequest.{SpanRequest}
 use Rattle.agenda_commands.specs.declared.Goal.{Goal}
 use Rattle.agenda_commands.specs.declared.Goal.TheVariants as goal
-use Rattle.agenda_commands.specs.declared.Planning.{Planning}
-use Rattle.agenda_faults.specs.declared.faults.Failure.{Failure}
-use Rattle.agenda_faults.specs.declared.faults.Failure.TheVariants.{After, Since, Upto, Span}
-use Rattle.agenda_answers.specs.Requests.{moment_of}
-use Rattle.agenda_answers.specs.Steps.{Step, gives, ◌>>=◌}
+use Rattle.agenda_faults.specs.declared.faults.Failure.TheVariants.{Machine}
+use Rattle.agenda_faults.specs.declared.machine_faults.MachineFault.TheVariants.{Time, Length, Backwards, Clock}
+use Rattle.agenda_faults.specs.declared.machine_faults.TimeOption.{TimeOption}
+use Rattle.agenda_faults.specs.declared.machine_faults.TimeOption.TheVariants as option
+use Rattle.agenda_answers.specs.MachineZone.{fails_with}
+use Rattle.agenda_answers.specs.Steps.{Step, fails, gives, ◌>>=◌}
 
--- the timestamp of an option, or this time without the option
-abbrev pub time_or : (MomentFault → Failure) → (time : ℕ) → Option (List ℕ) → Step ℕ
-time_or of_option time (Some text) = moment_of of_option text
-time_or of_option time None = gives time
+-- a time of the system clock, if it is in the planner's years
+abbrev pub present_if : (is_in_years : Bool) → (time : ℕ) → Step ℕ
+present_if true time = gives time
+present_if false time = fails (Machine Clock)
 
--- the start of a span
-abbrev pub time_or_since : (time : ℕ) → Option (List ℕ) → Step ℕ
-time_or_since time since = time_or Since time since
+-- the time that the system clock shows
+abbrev pub present : (time : ℕ) → Step ℕ
+present time = present_if (nat_le time end_second) time
 
--- the end of a span
-abbrev pub time_or_until : (time : ℕ) → Option (List ℕ) → Step ℕ
-time_or_until time until = time_or Upto time until
+-- the time of an option's text, or what is wrong with the text, for which an allocation may fail
+abbrev pub time_read : TimeOption → (text : List ℕ) → (Result ℕ TimeFault → Type 0) → Step ℕ
+time_read option text Means (Ok time) = Means (Ok time)
+time_read option text Means (Err failure) =
+    (fault : TimeFault) × Means (Err fault) × fails_with {X = ℕ} (Machine (Time option fault text)) (Err failure)
 
--- the time after which starts are listed: this one, if none is given
-abbrev pub after_at : (time : ℕ) → Option (List ℕ) → Step ℕ
-after_at time after = time_or After time after
+-- the time of an option, at which a span starts or after which starts are listed
+abbrev pub since_at : TimeOption → (now : ℕ) → (clock : List Change) → (text : List ℕ) → Step ℕ
+since_at option now clock text = time_read option text (IsSince clock now (form_of text))
 
--- a day after a time, in seconds; a clock shows at most 18446744073709551615 seconds
-abbrev pub day_after : ℕ → ℕ
-day_after time = min (time + 86400) 18446744073709551615
+-- the time after which starts are listed
+abbrev pub after_at : (time : ℕ) → (clock : List Change) → (text : List ℕ) → Step ℕ
+after_at time clock text = do
+  now ← present time
+  since_at option.After now clock text
 
--- two times bound a span, unless the second is earlier or later than the planner's years
-abbrev pub bounded_in_years : (since until : ℕ) → Step Bounds
-bounded_in_years since until (Ok span) = span ≡ record { since = since; upto = until }
-bounded_in_years since until (Err failure) = ((failure ≡ Span Backwards) × (until < since))
-    ⊎ ((failure ≡ Span OutOfYears) × (since ≤ until) × (end_second < until))
+-- the end of a span that starts at a time
+abbrev pub until_at : (since now : ℕ) → (clock : List Change) → (text : List ℕ) → Step ℕ
+until_at since now clock text = time_read option.Until text (IsUntil clock since now (form_of text))
 
--- the span of a plan: from this time on for a day, if neither is given
-abbrev pub span_at : (time : ℕ) → SpanRequest → Step Bounds
-span_at time span = do
-  since ← time_or_since time span.since
-  until ← time_or_until (day_after since) span.until
-  bounded_in_years since until
+-- two times bound a span unless the second is earlier
+abbrev pub bounded_by : (clock : List Change) → (since until : ℕ) → Step Bounds
+bounded_by clock since until (Ok span) = span ≡ record { since = since; upto = until }
+bounded_by clock since until (Err failure) = (failure ≡ Machine (Backwards (local_text clock since))) × (until < since)
 
--- how jobs are planned
-abbrev pub planning_at : (time : ℕ) → SpanRequest → Sizes → (delays : Bool) → Step Planning
-planning_at time span sizes delays = do
-  bounds ← span_at time span
-  gives (record { span = bounds; sizes = sizes; delays = delays })
+-- the span of a plan: its start is read first, and its end may count from it
+abbrev pub span_at : (now : ℕ) → (clock : List Change) → SpanRequest → Step Bounds
+span_at now clock span = do
+  since ← since_at option.Since now clock span.since
+  until ← until_at since now clock span.until
+  bounded_by clock since until
+
+-- the minimum length of a gap, by the length that its text is
+abbrev pub least_of : (text : List ℕ) → (length : Option ℕ) → Step ℕ
+least_of text (Some least) = gives least
+least_of text None = fails_with (Machine (Length text))
 
 -- what is made of jobs
-abbrev pub goal_by : (time : ℕ) → (delays : Bool) → MachineGoal → Step Goal
-goal_by time delays (Upcoming after) = do
-  moment ← after_at time after
+abbrev pub goal_by : (now : ℕ) → (clock : List Change) → (delays : Bool) → MachineGoal → Step Goal
+goal_by now clock delays (Upcoming after) = do
+  moment ← since_at option.After now clock after
   gives (goal.Upcoming moment delays)
-goal_by time delays (Plan span sizes) = do
-  planning ← planning_at time span sizes delays
-  gives (goal.Plan planning)
-goal_by time delays (Quiet span sizes least) = do
-  planning ← planning_at time span sizes delays
-  gives (goal.Quiet planning least)
+goal_by now clock delays (Plan span sizes) = do
+  bounds ← span_at now clock span
+  gives (goal.Plan (record { span = bounds; sizes = sizes; delays = delays }))
+goal_by now clock delays (Quiet span sizes least) = do
+  bounds ← span_at now clock span
+  seconds ← least_of least (length_of least)
+  gives (goal.Quiet (record { span = bounds; sizes = sizes; delays = delays }) seconds)
 
--- the same, as it is asked
-abbrev pub goal_at : (time : ℕ) → MachineJobs → Step Goal
-goal_at time jobs = goal_by time jobs.delays jobs.goal
+-- the same, as it is asked, at the time that the system clock shows
+abbrev pub goal_at : (time : ℕ) → (clock : List Change) → MachineJobs → Step Goal
+goal_at time clock jobs = do
+  now ← present time
+  goal_by now clock jobs.delays jobs.goal

@@ -28,7 +28,7 @@ use Rattle.agenda_answers.specs.Steps.{Step, gives, ◌>>=◌}
 abbrev pub starts_at : Held → KnownHost → MachineNext → Step NextStarts
 starts_at held host next = do
   clock ← machine_clock held host.tree [] next.zone
-  after ← after_at host.time next.after
+  after ← after_at host.time clock.clock next.after
   zones ← time_zones held (record { zone = clock.name; event_zones = true }) clock.clock (asked_zones next.rule)
   format ← format_made next.format clock.name (unnamed_zone clock.is_of_file) zones.clock
   gives (record { zones = zones; after = after; format = format; is_zone_unknown = clock.is_unknown })

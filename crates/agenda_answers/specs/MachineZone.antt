@@ -1,5 +1,5 @@
 -- The clock of a machine's time zone (localtime(5)).
-use Rattle.std.specs.Prelude.{◌≡◌, ◌⊎◌, ℕ, Bool, true, false, List, [], codes, ◌++◌, Option, None, Some, Result, Ok, Err}
+use Rattle.std.specs.Prelude.{◌≡◌, ◌≢◌, ◌⊎◌, ℕ, Bool, true, false, List, [], codes, ◌++◌, Option, None, Some, Result, Ok, Err}
 use Rattle.plan_clock.specs.declared.row.Change.{Change}
 use Rattle.plan_machine.specs.Zone.{Zone, machine_zone}
 use Rattle.plan_machine.specs.Zone as zone
@@ -9,6 +9,8 @@ use Rattle.plan_zones.specs.ZoneTexts.{Source, Utc, Path, Name, source_of}
 use Rattle.plan_zones.specs.declared.zone_fault.ZoneFault.{ZoneFault}
 use Rattle.agenda_faults.specs.declared.faults.Failure.{Failure}
 use Rattle.agenda_faults.specs.declared.faults.Failure.TheVariants.{File, Run}
+use Rattle.agenda_faults.specs.declared.faults.Failure.TheVariants as failure
+use Rattle.agenda_faults.specs.declared.machine_faults.MachineFault.TheVariants as machine
 use Rattle.agenda_faults.specs.declared.faults.RunFault.TheVariants as run
 use Rattle.agenda_answers.specs.declared.machine_zone.ZoneClock.{ZoneClock}
 use Rattle.agenda_answers.specs.EventZones.{looked_up}
@@ -31,10 +33,25 @@ abbrev pub fails_with : {X : Type 0} → Failure → Step X
 fails_with failure (Ok x) = ⊥
 fails_with failure (Err found) = (found ≡ failure) ⊎ (found ≡ Run run.NoMemory)
 
+-- the failure of a zone that can't be used has the text of the zone, for which an allocation may fail; any other failure stays
+abbrev pub names_failure : {X : Type 0} → (text : List ℕ) → Failure → Step X
+names_failure {X = X} text found end =
+    ((fault : ZoneFault) × (found ≡ failure.Zone fault) × fails_with {X = X} (failure.Machine (machine.Zone text fault)) end)
+    ⊎ (((fault : ZoneFault) → found ≢ failure.Zone fault) × (end ≡ Err found))
+
+-- what is given, or its failure in that way
+abbrev pub names_zone : {X : Type 0} → (text : List ℕ) → Result X Failure → Step X
+names_zone text (Ok x) = gives x
+names_zone text (Err found) = names_failure text found
+
+-- the same, after a step
+abbrev pub naming_zone : {X : Type 0} → (text : List ℕ) → Step X → Step X
+naming_zone {X = X} text step end = (found : Result X Failure) × step found × names_zone text found end
+
 -- the zone that `--zone` gives
 abbrev pub given_clock : Held → List ℕ → Step ZoneClock
 given_clock held text = do
-  clock ← clock_of held (Some text)
+  clock ← naming_zone text (clock_of held (Some text))
   computes (record { name = Some text; is_of_file = false; clock = clock; is_unknown = false })
 
 -- UTC, which is also the zone if it isn't known

@@ -9,8 +9,9 @@ use Rattle.agenda_arguments.specs.declared.Ask.{Ask}
 use Rattle.agenda_arguments.specs.declared.Ask.TheVariants.{Next, Plan, Upcoming, Quiet, Check, Steps, Explain, Machine, MachineNext}
 use Rattle.agenda_arguments.specs.declared.JobsRequest.{JobsRequest}
 use Rattle.agenda_arguments.specs.declared.PlanRequest.{PlanRequest}
-use Rattle.agenda_faults.specs.declared.faults.Failure.{Failure}
-use Rattle.agenda_faults.specs.declared.faults.Failure.TheVariants.{After, Since, Upto, Span}
+use Rattle.agenda_faults.specs.declared.faults.Failure.TheVariants.{Moment, Span}
+use Rattle.agenda_faults.specs.declared.machine_faults.TimeOption.{TimeOption}
+use Rattle.agenda_faults.specs.declared.machine_faults.TimeOption.TheVariants as option
 use Rattle.agenda_commands.specs.declared.Goal.TheVariants as goal
 use Rattle.agenda_commands.specs.declared.Planning.{Planning}
 use Rattle.agenda_answers.specs.declared.requests.Request.{Request}
@@ -18,9 +19,9 @@ use Rattle.agenda_answers.specs.declared.requests.Request.TheVariants as request
 use Rattle.agenda_answers.specs.Steps.{Step, gives, ◌>>=◌}
 
 -- the timestamp of an option, with the failure if the text isn't one
-abbrev pub moment_of : (MomentFault → Failure) → List ℕ → Step ℕ
-moment_of of_option text (Ok moment) = (moment ≤ end_second) × (text ≡ moment_text_of moment)
-moment_of of_option text (Err failure) = (fault : MomentFault) × (failure ≡ of_option fault) × HasFault text fault
+abbrev pub moment_of : TimeOption → List ℕ → Step ℕ
+moment_of option text (Ok moment) = (moment ≤ end_second) × (text ≡ moment_text_of moment)
+moment_of option text (Err failure) = (fault : MomentFault) × (failure ≡ Moment option fault) × HasFault text fault
 
 -- two timestamps bound a span unless the second is earlier
 abbrev pub bounded : (since upto : ℕ) → Step Bounds
@@ -30,8 +31,8 @@ bounded since upto (Err failure) = (failure ≡ Span Backwards) × (upto < since
 -- the span of a plan: the first timestamp is read first, then the second, then their order is checked
 abbrev pub span_of : (since upto : List ℕ) → Step Bounds
 span_of since upto = do
-  begin ← moment_of Since since
-  end ← moment_of Upto upto
+  begin ← moment_of option.Since since
+  end ← moment_of option.Until upto
   bounded begin end
 
 -- how the jobs of a request are planned: over its span
@@ -43,7 +44,7 @@ planning_of request = do
 -- the request, unless a timestamp is rejected
 abbrev pub request_of : Ask → Step Request
 request_of (Next starts) = do
-  moment ← moment_of After starts.after
+  moment ← moment_of option.After starts.after
   gives (request.Starts (record {
     after = moment;
     zones = starts.zones;
@@ -55,7 +56,7 @@ request_of (Plan plan) = do
   planning ← planning_of plan
   gives (request.Jobs (goal.Plan planning) plan.jobs)
 request_of (Upcoming after jobs) = do
-  moment ← moment_of After after
+  moment ← moment_of option.After after
   gives (request.Jobs (goal.Upcoming moment jobs.delays) jobs)
 request_of (Quiet plan least) = do
   planning ← planning_of plan

@@ -5,9 +5,9 @@
 ghost use Rattle.std.specs.Prelude.{◌≡◌, ◌≢◌, false, IfOk, IsTrue, Ok, OnOk, Some, true};
 ghost use Rattle.agenda_answers.specs.Answer.{HoldsAfter};
 ghost use Rattle.agenda_answers.specs.Host.{host_of};
-ghost use Rattle.agenda_answers.specs.Machine.{AnswersMachine, ReportsFirst, Shows, ShowsRest, directory_if, found_in, has_reports, is_stopped};
+ghost use Rattle.agenda_answers.specs.Machine.{AnswersMachine, ReportsFirst, Shows, ShowsRest, directory_if, found_in, has_reports, in_words};
 ghost use Rattle.agenda_answers.specs.Machine.{errors_in, findings_rest, is_root, machine_below, machine_ends, machine_if, machine_of};
-ghost use Rattle.agenda_answers.specs.Machine.{machine_reports, machine_status, machine_zones, outcome_of, rest_of, shows_findings, shows_jobs};
+ghost use Rattle.agenda_answers.specs.Machine.{is_stopped, machine_reports, machine_status, machine_zones, naming_limit, outcome_of, rest_of, shows_findings, shows_jobs};
 ghost use Rattle.agenda_findings.specs.Findings.{check_text};
 ghost use Rattle.agenda_machine.specs.Listing.{sources_text};
 ghost use Rattle.agenda_machine.specs.Places.{paths_of};
@@ -25,7 +25,7 @@ use crate::machine_files::MachineFiles;
 use crate::machine_goal::goal_at;
 use crate::machine_zone::machine_clock;
 use agenda_arguments::{MachineJobs, MachineQuestion, MachineRequest};
-use agenda_commands::{PreparedAnswer, are_warnings, kept_if, prepare_answer};
+use agenda_commands::{Goal, PreparedAnswer, are_warnings, kept_if, prepare_answer};
 use agenda_faults::status::{DONE, FAILED, REFUSED};
 use agenda_faults::{Failure, RunFault};
 use agenda_findings::{write_findings, write_skipped};
@@ -37,6 +37,7 @@ use agenda_sources::{
     Found, SourcePath, SourcePaths, Sources, TimeZones, findings_of_sources, zone_names,
 };
 use plan_clock::Clock;
+use plan_collect::{CollectFault, PlanFault};
 use plan_machine::{Machine, find_machine};
 use plan_rules::{Jobs, Text};
 use plan_streams::{Stream, WriteFault};
@@ -303,7 +304,7 @@ fn jobs_answer<'a, R: Threads + Wait + Sync, F: Files, T: Tree>(
         machine machine.unplanned.items result }
 {
     let clock = machine_clock(alloc, files, host.tree, root_of(dir), &jobs.zone)?;
-    let goal = goal_at(host.time, jobs)?;
+    let goal = goal_at(alloc, host.time, &clock.clock, jobs)?;
     let sources = sources_of(alloc, machine.sources.as_slice())?;
     let zones = machine_zones(alloc, files, host.tree, clock.clock, &sources)?;
     let unnamed = unnamed_zone(clock.is_of_file);
@@ -320,8 +321,38 @@ fn jobs_answer<'a, R: Threads + Wait + Sync, F: Files, T: Tree>(
     }
     let made = prepare_answer(rt, alloc, kept, &sources, &zones, &goal, format);
     let answer = settled(made)?;
+    let answer = in_words(answer, &goal);
     let printout = Printout::Jobs(outcome_of(alloc, &site.machine, skipped, answer));
     Ok(MachineAnswer { site, printout })
+}
+
+// Returns an answer. If it has too many starts for a plan, the error names the limit.
+fn in_words(
+    answer: Result<PreparedAnswer, RunFault>,
+    goal: &Goal,
+) -> Result<PreparedAnswer, RunFault>
+    ensures { result ≡ in_words goal.now answer }
+{
+    match goal {
+        Goal::Plan(planning) => naming_limit(answer, planning.sizes.limit),
+        Goal::Quiet { planning, .. } => naming_limit(answer, planning.sizes.limit),
+        Goal::Upcoming { .. } => answer,
+    }
+}
+
+// Returns an answer. If it has too many starts, the error names this limit.
+fn naming_limit(
+    answer: Result<PreparedAnswer, RunFault>,
+    limit: u64,
+) -> Result<PreparedAnswer, RunFault>
+    ensures { result ≡ naming_limit limit answer }
+{
+    match answer {
+        Err(RunFault::Plan(PlanFault::Collect(CollectFault::TooMany))) => {
+            Err(RunFault::TooManyStarts(limit))
+        }
+        answer => answer,
+    }
 }
 
 // Returns whether an error stops an answer.

@@ -1,104 +1,159 @@
-//! Reads the times of what is asked about the jobs of a machine.
+//! Reads the times and the length of what is asked about the jobs of a machine.
 
-ghost use Rattle.std.specs.Prelude.{◌≡◌};
-ghost use Rattle.agenda_answers.specs.MachineGoal.{after_at, goal_at, planning_at, span_at, time_or_since, time_or_until};
+ghost use Rattle.std.specs.Prelude.{◌≡◌, ◌≤◌, IfOk};
+ghost use Rattle.plan_sets.specs.Limits.{end_second};
+ghost use Rattle.plan_times.specs.Forms.{length_of};
+ghost use Rattle.agenda_answers.specs.MachineGoal.{after_at, goal_at, least_of, present, since_at, span_at, until_at};
 
-use crate::requests::{moment_after, moment_since, moment_until};
+use crate::machine_zone::copy_of;
 use agenda_arguments::{MachineGoal, MachineJobs, SpanRequest};
 use agenda_commands::{Goal, Planning};
-use agenda_faults::Failure;
-use plan_collect::{Sizes, Span};
+use agenda_faults::{Failure, MachineFault, TimeOption};
+use plan_clock::Clock;
+use plan_collect::Span;
 use plan_rules::Text;
+use plan_sets::END_SECOND;
+use plan_times::{length, since_time, until_time};
+use plan_write::LocalStamp;
+use std::alloc::Global;
 
-// The length of a span whose end isn't given, in seconds: a day.
-const DAY: u64 = 86_400;
-
-/// Returns what is made of the jobs of a machine whose clock shows this time. Where a time isn't given, it counts from
-/// this one.
+/// Returns what is made of the jobs of a machine. The system clock shows this time, and the machine's clock shows local
+/// times.
 ///
 /// # Errors
 ///
-/// `After`, `Since` or `Upto` if a text isn't a timestamp, and then `Span` if two of them bound no span.
-pub(crate) fn goal_at(time: u64, jobs: &MachineJobs) -> Result<Goal, Failure>
-    ensures { goal_at time jobs.now result }
+/// `Machine(Clock)` if the time is after the planner's years. Else `Machine(Time)` if a text isn't a time, then
+/// `Machine(Backwards)` if a span ends before its start, and then `Machine(Length)` if a text isn't a length.
+pub(crate) fn goal_at(
+    alloc: Global,
+    time: u64,
+    clock: &Clock,
+    jobs: &MachineJobs,
+) -> Result<Goal, Failure>
+    ensures { goal_at time clock.now jobs.now result }
 {
+    let now = present(time)?;
+    let delays = jobs.delays;
     match &jobs.goal {
         MachineGoal::Upcoming { after } => {
-            let after = after_at(time, after)?;
-            let delays = jobs.delays;
+            let after = since_at(alloc, TimeOption::After, after, now, clock)?;
             Ok(Goal::Upcoming { after, delays })
         }
         MachineGoal::Plan { span, sizes } => {
-            let planning = planning_at(time, span, *sizes, jobs.delays)?;
-            Ok(Goal::Plan(planning))
+            let span = span_at(alloc, span, now, clock)?;
+            let sizes = *sizes;
+            Ok(Goal::Plan(Planning {
+                span,
+                sizes,
+                delays,
+            }))
         }
         MachineGoal::Quiet { span, sizes, least } => {
-            let planning = planning_at(time, span, *sizes, jobs.delays)?;
-            let least = *least;
+            let span = span_at(alloc, span, now, clock)?;
+            let sizes = *sizes;
+            let least = least_of(alloc, least)?;
+            let planning = Planning {
+                span,
+                sizes,
+                delays,
+            };
             Ok(Goal::Quiet { planning, least })
         }
     }
 }
 
-// Returns how the jobs are planned.
-fn planning_at(
-    time: u64,
-    span: &SpanRequest,
-    sizes: Sizes,
-    delays: bool,
-) -> Result<Planning, Failure>
-    ensures { planning_at time span.now sizes delays result }
+// Returns the time that the system clock shows, if it isn't after the planner's years.
+fn present(time: u64) -> Result<u64, Failure>
+    ensures value { present time result }
+    ensures years { IfOk result (λ now. now ≤ end_second) }
 {
-    let span = span_at(time, span)?;
-    Ok(Planning {
-        span,
-        sizes,
-        delays,
-    })
+    if time <= END_SECOND {
+        Ok(time)
+    } else {
+        Err(Failure::Machine(MachineFault::Clock))
+    }
 }
 
 /// Returns the time after which starts are listed.
 ///
 /// # Errors
 ///
-/// `After` if the text isn't a timestamp.
-pub(crate) fn after_at(time: u64, after: &Option<Text>) -> Result<u64, Failure>
-    ensures { after_at time after.now result }
+/// `Machine(Clock)` if the time of the system clock is after the planner's years, and `Machine(Time)` if the text isn't a
+/// time.
+pub(crate) fn after_at(
+    alloc: Global,
+    time: u64,
+    clock: &Clock,
+    after: &Text,
+) -> Result<u64, Failure>
+    ensures { after_at time clock.now after.now result }
 {
-    match after {
-        Some(text) => moment_after(text),
-        None => Ok(time),
-    }
+    let now = present(time)?;
+    since_at(alloc, TimeOption::After, after, now, clock)
 }
 
 // Returns the span of a plan.
-fn span_at(time: u64, span: &SpanRequest) -> Result<Span, Failure>
-    ensures { span_at time span.now result }
+fn span_at(alloc: Global, span: &SpanRequest, now: u64, clock: &Clock) -> Result<Span, Failure>
+    requires { now ≤ end_second }
+    ensures { span_at now clock.now span.now result }
 {
-    let since = time_or_since(time, &span.since)?;
-    let until = time_or_until(since.saturating_add(DAY), &span.until)?;
+    let since = since_at(alloc, TimeOption::Since, &span.since, now, clock)?;
+    let until = until_at(alloc, &span.until, since, now, clock)?;
     match Span::new(since, until) {
         Ok(span) => Ok(span),
-        Err(fault) => Err(Failure::Span(fault)),
+        Err(_) => {
+            let mut start = LocalStamp::new();
+            start.show(clock, since);
+            Err(Failure::Machine(MachineFault::Backwards(start)))
+        }
     }
 }
 
-// Returns the start of a span.
-fn time_or_since(time: u64, since: &Option<Text>) -> Result<u64, Failure>
-    ensures { time_or_since time since.now result }
+// Returns the time of an option, at which a span starts or after which starts are listed.
+fn since_at(
+    alloc: Global,
+    option: TimeOption,
+    text: &Text,
+    now: u64,
+    clock: &Clock,
+) -> Result<u64, Failure>
+    requires { now ≤ end_second }
+    ensures read { since_at option now clock.now text.now result }
+    ensures years { IfOk result (λ since. since ≤ end_second) }
 {
-    match since {
-        Some(text) => moment_since(text),
-        None => Ok(time),
+    match since_time(text.as_str(), now, clock) {
+        Ok(time) => Ok(time),
+        Err(fault) => Err(Failure::Machine(MachineFault::Time(
+            option,
+            fault,
+            copy_of(alloc, text.as_str())?,
+        ))),
     }
 }
 
-// Returns the end of a span.
-fn time_or_until(time: u64, until: &Option<Text>) -> Result<u64, Failure>
-    ensures { time_or_until time until.now result }
+// Returns the end of a span that starts at a time.
+fn until_at(alloc: Global, text: &Text, since: u64, now: u64, clock: &Clock) -> Result<u64, Failure>
+    requires since { since ≤ end_second }
+    requires now { now ≤ end_second }
+    ensures read { until_at since now clock.now text.now result }
+    ensures years { IfOk result (λ until. until ≤ end_second) }
 {
-    match until {
-        Some(text) => moment_until(text),
-        None => Ok(time),
+    match until_time(text.as_str(), since, now, clock) {
+        Ok(time) => Ok(time),
+        Err(fault) => Err(Failure::Machine(MachineFault::Time(
+            TimeOption::Until,
+            fault,
+            copy_of(alloc, text.as_str())?,
+        ))),
+    }
+}
+
+// Returns the minimum length of a gap, in seconds.
+fn least_of(alloc: Global, text: &Text) -> Result<u32, Failure>
+    ensures { least_of text.now (length_of text.now) result }
+{
+    match length(text.as_str()) {
+        Some(least) => Ok(least),
+        None => Err(Failure::Machine(MachineFault::Length(copy_of(alloc, text.as_str())?))),
     }
 }

@@ -75,7 +75,7 @@ fn starts_at<F: Files, T: Tree>(
     ensures { starts_at (F.held files.old) (host_of T.is_known (T.held host.now.tree.now) host.now.time) request.now result }
 {
     let clock = machine_clock(alloc, files, host.tree, "", &request.zone)?;
-    let after = after_at(host.time, &request.after)?;
+    let after = after_at(alloc, host.time, &clock.clock, &request.after)?;
     let unnamed = unnamed_zone(clock.is_of_file);
     let zone = ZonesRequest {
         zone: clock.name,

@@ -1,14 +1,14 @@
 //! Reads the clock of a machine's time zone (localtime(5)).
 
 ghost use Rattle.std.specs.Prelude.{◌≡◌, IfOk, Ok, option_map};
-ghost use Rattle.agenda_answers.specs.MachineZone.{clock_by_name, clock_by_zone, clock_if_found, clock_of_file, given_clock, local_path, machine_clock, named_clock, utc_clock};
+ghost use Rattle.agenda_answers.specs.MachineZone.{clock_by_name, clock_by_zone, clock_if_found, clock_of_file, given_clock, local_path, machine_clock, named_clock, names_zone, utc_clock};
 ghost use Rattle.plan_machine.specs.Zone.{zone_shown};
 ghost use Rattle.plan_zones.specs.ZoneTexts.{source_of};
 
 use crate::event_zones::look_up;
 use crate::files::{Files, MOST_READ};
 use crate::zone::{clock_of_bytes, clock_of_text};
-use agenda_faults::Failure;
+use agenda_faults::{Failure, MachineFault};
 use plan_clock::Clock;
 use plan_machine::{MachineZone, machine_zone};
 use plan_rules::{NamedZone, Text};
@@ -33,7 +33,8 @@ pub(crate) struct ZoneClock {
 ///
 /// # Errors
 ///
-/// The errors of `read_clock`; or `File` if the file of the machine's zone can't be read.
+/// `Machine(Zone)` if the zone that is given can't be used; `Zone` if that of the machine can't; or `File` if the file
+/// of one of them can't be read.
 pub(crate) fn machine_clock<F: Files, T: Tree>(
     alloc: Global,
     files: &mut F,
@@ -56,14 +57,29 @@ fn given_clock<F: Files>(alloc: Global, files: &mut F, text: &str) -> Result<Zon
     ensures read { given_clock (F.held files.old) text.now result }
     ensures same { F.held files.new ≡ F.held files.old }
 {
-    let clock = clock_of_text(alloc, files, text)?;
-    let name = String::from_str(alloc, text)?;
+    let found = clock_of_text(alloc, files, text);
+    let clock = named_zone(alloc, found, text)?;
+    let name = copy_of(alloc, text)?;
     Ok(ZoneClock {
-        name: Some(Text::new(name)),
+        name: Some(name),
         is_of_file: false,
         clock,
         is_unknown: false,
     })
+}
+
+// Returns the clock of a zone. If the zone can't be used, the error has its text.
+fn named_zone(alloc: Global, clock: Result<Clock, Failure>, text: &str) -> Result<Clock, Failure>
+    ensures { names_zone text.now clock result }
+{
+    match clock {
+        Ok(clock) => Ok(clock),
+        Err(Failure::Zone(fault)) => Err(Failure::Machine(MachineFault::Zone(
+            copy_of(alloc, text)?,
+            fault,
+        ))),
+        Err(failure) => Err(failure),
+    }
 }
 
 // Reads the clock of a machine's own zone.
@@ -166,4 +182,15 @@ fn clock_of_file(alloc: Global, name: Option<Text>, bytes: &[u8]) -> Result<Zone
         clock,
         is_unknown: false,
     })
+}
+
+/// Returns a copy of a text.
+///
+/// # Errors
+///
+/// An allocation failed.
+pub(crate) fn copy_of(alloc: Global, text: &str) -> Result<Text, AllocError>
+    ensures { IfOk result (λ copy. copy ≡ text.now) }
+{
+    Ok(Text::new(String::from_str(alloc, text)?))
 }

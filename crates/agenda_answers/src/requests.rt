@@ -2,7 +2,6 @@
 
 ghost use Rattle.std.specs.Prelude.{◌≡◌};
 ghost use Rattle.agenda_answers.specs.Requests.{moment_of, planning_of, request_of, span_of};
-ghost use Rattle.agenda_faults.specs.declared.faults.Failure.TheVariants.{After, Since, Upto};
 ghost use Rattle.agenda_arguments.specs.declared.Ask.TheVariants.{Next, Plan, Quiet, Upcoming};
 
 use agenda_arguments::{
@@ -11,7 +10,7 @@ use agenda_arguments::{
 };
 use agenda_codes::Code;
 use agenda_commands::{Goal, Planning};
-use agenda_faults::Failure;
+use agenda_faults::{Failure, TimeOption};
 use agenda_sources::{Asked, SourcePaths};
 use plan_collect::Span;
 use plan_rules::Text;
@@ -70,7 +69,7 @@ pub(crate) enum Request {
 ///
 /// # Errors
 ///
-/// `After`, `Since` or `Upto` if a text isn't a timestamp, and then `Span` if two of them bound no span.
+/// `Moment` if a text isn't a timestamp, and then `Span` if two of them bound no span.
 pub(crate) fn request_of(ask: Ask) -> Result<Request, Failure>
     ensures { request_of ask result }
 {
@@ -99,7 +98,7 @@ pub(crate) fn request_of(ask: Ask) -> Result<Request, Failure>
 fn starts_request(request: NextRequest) -> Result<Request, Failure>
     ensures { request_of (Next request) result }
 {
-    let after = moment_after(&request.after)?;
+    let after = moment_of(TimeOption::After, &request.after)?;
     Ok(Request::Starts(StartsRequest {
         after,
         zones: request.zones,
@@ -124,7 +123,7 @@ fn plan_request(request: PlanRequest) -> Result<Request, Failure>
 fn upcoming_request(after: &Text, jobs: JobsRequest) -> Result<Request, Failure>
     ensures { request_of (Upcoming after.now jobs) result }
 {
-    let after = moment_after(after)?;
+    let after = moment_of(TimeOption::After, after)?;
     let delays = jobs.delays;
     Ok(Request::Jobs {
         goal: Goal::Upcoming { after, delays },
@@ -155,45 +154,13 @@ fn planning_of(request: &PlanRequest) -> Result<Planning, Failure>
     })
 }
 
-/// Reads the timestamp after which starts are requested.
-///
-/// # Errors
-///
-/// `After` if the text isn't a timestamp.
-pub(crate) fn moment_after(after: &Text) -> Result<u64, Failure>
-    ensures { moment_of After after.now result }
+// Reads the timestamp of an option.
+fn moment_of(option: TimeOption, text: &Text) -> Result<u64, Failure>
+    ensures { moment_of option text.now result }
 {
-    match read_moment(after.as_str()) {
+    match read_moment(text.as_str()) {
         Ok(moment) => Ok(moment),
-        Err(fault) => Err(Failure::After(fault)),
-    }
-}
-
-/// Reads the timestamp of the start of a span.
-///
-/// # Errors
-///
-/// `Since` if the text isn't a timestamp.
-pub(crate) fn moment_since(since: &Text) -> Result<u64, Failure>
-    ensures { moment_of Since since.now result }
-{
-    match read_moment(since.as_str()) {
-        Ok(moment) => Ok(moment),
-        Err(fault) => Err(Failure::Since(fault)),
-    }
-}
-
-/// Reads the timestamp of the end of a span.
-///
-/// # Errors
-///
-/// `Upto` if the text isn't a timestamp.
-pub(crate) fn moment_until(until: &Text) -> Result<u64, Failure>
-    ensures { moment_of Upto until.now result }
-{
-    match read_moment(until.as_str()) {
-        Ok(moment) => Ok(moment),
-        Err(fault) => Err(Failure::Upto(fault)),
+        Err(fault) => Err(Failure::Moment(option, fault)),
     }
 }
 
@@ -201,8 +168,8 @@ pub(crate) fn moment_until(until: &Text) -> Result<u64, Failure>
 fn span_between(since: &Text, upto: &Text) -> Result<Span, Failure>
     ensures { span_of since.now upto.now result }
 {
-    let begin = moment_since(since)?;
-    let end = moment_until(upto)?;
+    let begin = moment_of(TimeOption::Since, since)?;
+    let end = moment_of(TimeOption::Until, upto)?;
     match Span::new(begin, end) {
         Ok(span) => Ok(span),
         Err(fault) => Err(Failure::Span(fault)),

@@ -222,37 +222,44 @@ asked_of_jobs rows delays goal = do
     format = machine_format_in rows;
   }))
 
--- the span of a question about a machine, by the values; both ends are optional (agenda)
-abbrev pub span_in : List Row → SpanRequest
-span_in rows = record { since = first_of (codes "since") rows; until = first_of (codes "until") rows }
+-- the span of a question about a machine, by the values (agenda)
+abbrev pub span_in : List Row → Result SpanRequest ArgumentsFault
+span_in rows = do
+  since ← wanted (first_of (codes "since") rows)
+  until ← wanted (first_of (codes "until") rows)
+  Ok (record { since = since; until = until })
 
 -- what `machine upcoming` requests, by its values (agenda)
 abbrev pub asked_by_machine_upcoming : List Row → Result Ask ArgumentsFault
-asked_by_machine_upcoming rows =
-    asked_of_jobs rows (is_given (codes "delays") rows) (machine_goal.Upcoming (first_of (codes "after") rows))
+asked_by_machine_upcoming rows = do
+  after ← wanted (first_of (codes "after") rows)
+  asked_of_jobs rows (is_given (codes "delays") rows) (machine_goal.Upcoming after)
 
 -- what `machine plan` requests, by its values (agenda)
 abbrev pub asked_by_machine_plan : List Row → Result Ask ArgumentsFault
 asked_by_machine_plan rows = do
+  span ← span_in rows
   sizes ← sizes_in rows
-  asked_of_jobs rows (is_given (codes "delays") rows) (machine_goal.Plan (span_in rows) sizes)
+  asked_of_jobs rows (is_given (codes "delays") rows) (machine_goal.Plan span sizes)
 
 -- what `machine quiet` requests, by its values: delays count unless `--nominal` is given (agenda)
 abbrev pub asked_by_machine_quiet : List Row → Result Ask ArgumentsFault
 asked_by_machine_quiet rows = do
+  span ← span_in rows
   sizes ← sizes_in rows
-  least ← wanted (number_in (one_of (codes "least") rows))
-  asked_of_jobs rows (not (is_given (codes "nominal") rows)) (machine_goal.Quiet (span_in rows) sizes least)
+  least ← wanted (first_of (codes "least") rows)
+  asked_of_jobs rows (not (is_given (codes "nominal") rows)) (machine_goal.Quiet span sizes least)
 
 -- what `machine next` requests, by its values (agenda)
 abbrev pub asked_by_machine_next : List Row → Result Ask ArgumentsFault
 asked_by_machine_next rows = do
   text ← wanted (first_of (codes "rule") rows)
   count ← wanted (number_in (one_of (codes "count") rows))
+  after ← wanted (first_of (codes "after") rows)
   zone ← machine_zone (zone_in rows) (is_given (codes "utc") rows)
   Ok (MachineNext (record {
     rule = asked_in text;
-    after = first_of (codes "after") rows;
+    after = after;
     count = count;
     zone = zone;
     format = machine_format_in rows;

@@ -171,17 +171,17 @@ machine_size_rules = number_option (codes "limit") (codes "1000000") ∷ number_
 unfoldable pub machine_check : App
 machine_check = with_each (with_machine (new_app (codes "check"))) (machine_zone_rules ++ flag_option (codes "json") ∷ [])
 
--- `machine upcoming` with the machine, `[--after T]`, the zone, `[--delays]`, `[--strict]` and `[--json]` (agenda)
+-- `machine upcoming` with the machine, `[--after TIME]`, the zone, `[--delays]`, `[--strict]` and `[--json]` (agenda)
 unfoldable pub machine_upcoming : App
 machine_upcoming = with_each (with_machine (new_app (codes "upcoming")))
-    (option_named (codes "after") ∷ machine_zone_rules ++ flag_option (codes "delays") ∷ flag_option (codes "strict")
+    (preset_option (codes "after") (codes "now") ∷ machine_zone_rules ++ flag_option (codes "delays") ∷ flag_option (codes "strict")
     ∷ flag_option (codes "json") ∷ [])
 
--- a command with what names a machine and with the span of a plan added: `[--since T] [--until T]`; `--upto` is another name of
--- `--until` (agenda)
+-- a command with what names a machine and with the span of a plan added: `[--since TIME] [--until TIME]`, from now on for a day if
+-- they aren't given; `--upto` is another name of `--until` (agenda)
 unfoldable pub with_machine_span : App → App
 with_machine_span app = with_each (with_machine app)
-    (option_named (codes "since") ∷ with_alias (option_named (codes "until")) (codes "upto") ∷ [])
+    (preset_option (codes "since") (codes "now") ∷ with_alias (preset_option (codes "until") (codes "+24h")) (codes "upto") ∷ [])
 
 -- `machine plan` with the machine, the span, the zone, `[--delays]`, `[--strict]`, `[--json]` and the sizes (agenda)
 unfoldable pub machine_plan : App
@@ -189,15 +189,15 @@ machine_plan = with_each (with_machine_span (new_app (codes "plan")))
     (machine_zone_rules ++ flag_option (codes "delays") ∷ flag_option (codes "strict") ∷ flag_option (codes "json")
     ∷ machine_size_rules)
 
--- `machine quiet` with the machine, the span, `[--least N]`, the zone, `[--nominal]`, `[--strict]`, `[--json]` and the sizes (agenda)
+-- `machine quiet` with the machine, the span, `[--least LENGTH]`, the zone, `[--nominal]`, `[--strict]`, `[--json]` and the sizes (agenda)
 unfoldable pub machine_quiet : App
 machine_quiet = with_each (with_machine_span (new_app (codes "quiet")))
-    (number_option (codes "least") (codes "1800") ∷ machine_zone_rules ++ flag_option (codes "nominal") ∷ flag_option (codes "strict")
+    (preset_option (codes "least") (codes "30min") ∷ machine_zone_rules ++ flag_option (codes "nominal") ∷ flag_option (codes "strict")
     ∷ flag_option (codes "json") ∷ machine_size_rules)
 
--- `machine next RULE` with `[--after T] [--count N]`, the zone and `[--json]` (agenda)
+-- `machine next RULE` with `[--after TIME] [--count N]`, the zone and `[--json]` (agenda)
 unfoldable pub machine_next : App
-machine_next = subcommand_with (codes "next") (required_argument (codes "rule") ∷ option_named (codes "after")
+machine_next = subcommand_with (codes "next") (required_argument (codes "rule") ∷ preset_option (codes "after") (codes "now")
     ∷ number_option (codes "count") (codes "5") ∷ machine_zone_rules ++ flag_option (codes "json") ∷ [])
 
 -- the command line of a subcommand (agenda)

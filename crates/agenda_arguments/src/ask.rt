@@ -68,13 +68,13 @@ pub struct NextRequest {
     pub format: FormatRequest,
 }
 
-/// A span of time whose ends may be missing.
+/// A span of time.
 #[derive(Debug, Drop)]
 pub struct SpanRequest {
-    /// The text of the start of the span. It is the present if this is missing.
-    pub since: Option<Text>,
-    /// The text of the end of the span, which is outside of it. It is a day after the start if this is missing.
-    pub until: Option<Text>,
+    /// The text of a time, the start of the span.
+    pub since: Text,
+    /// The text of a time, the end of the span. It is outside the span.
+    pub until: Text,
 }
 
 /// What is made of the jobs of a machine.
@@ -82,8 +82,8 @@ pub struct SpanRequest {
 pub enum MachineGoal {
     /// The next start of each job.
     Upcoming {
-        /// The text of a time. The starts are later. It is the present if this is missing.
-        after: Option<Text>,
+        /// The text of a time. The starts are later.
+        after: Text,
     },
     /// All starts in a span.
     Plan {
@@ -98,8 +98,8 @@ pub enum MachineGoal {
         span: SpanRequest,
         /// The sizes of the plan that is searched for gaps.
         sizes: Sizes,
-        /// The minimum length of a gap, in seconds.
-        least: u32,
+        /// The text of the minimum length of a gap.
+        least: Text,
     },
 }
 
@@ -142,8 +142,8 @@ pub enum MachineQuestion {
 pub struct MachineNext {
     /// The rule.
     pub rule: Asked,
-    /// The text of a time. The starts are later. It is the present if this is missing.
-    pub after: Option<Text>,
+    /// The text of a time. The starts are later.
+    pub after: Text,
     /// The number of starts.
     pub count: u32,
     /// The text of the time zone of the rule. It is that of the machine if this is missing.

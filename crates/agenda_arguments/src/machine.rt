@@ -12,7 +12,7 @@ use crate::ask::{
     SpanRequest, UsageFault,
 };
 use crate::command::machine_command;
-use crate::values::{is_given, number_argument, text, text_if_given, text_of, value_of};
+use crate::values::{is_given, number_argument, text, text_of, value_of};
 use agenda_sources::Asked;
 use clap::ArgMatches;
 use plan_texts::Text;
@@ -137,7 +137,7 @@ fn asked_by_machine_check(alloc: Global, given: &ArgMatches<'_>) -> Result<Ask, 
 fn asked_by_machine_upcoming(alloc: Global, given: &ArgMatches<'_>) -> Result<Ask, UsageFault>
     ensures { Gives result (asked_by_machine_upcoming (rows_of (found_of given.now))) }
 {
-    let after = text_if_given(alloc, given, "after")?;
+    let after = text_of(alloc, given, "after")?;
     let delays = is_given(given, "delays");
     asked_of_jobs(alloc, given, delays, MachineGoal::Upcoming { after })
 }
@@ -156,7 +156,7 @@ fn asked_by_machine_quiet(alloc: Global, given: &ArgMatches<'_>) -> Result<Ask, 
 {
     let span = span_of(alloc, given)?;
     let sizes = sizes_of(alloc, given)?;
-    let least = number_argument(alloc, given, "least")?;
+    let least = text_of(alloc, given, "least")?;
     let delays = !is_given(given, "nominal");
     asked_of_jobs(
         alloc,
@@ -171,8 +171,8 @@ fn asked_by_machine_next(alloc: Global, given: &ArgMatches<'_>) -> Result<Ask, U
 {
     let text = text_of(alloc, given, "rule")?;
     let count = number_argument(alloc, given, "count")?;
+    let after = text_of(alloc, given, "after")?;
     let zone = machine_zone(alloc, given)?;
-    let after = text_if_given(alloc, given, "after")?;
     let rule = Asked::of_text(alloc, text)?;
     let format = format_of(given);
     Ok(Ask::MachineNext(MachineNext {
@@ -185,11 +185,11 @@ fn asked_by_machine_next(alloc: Global, given: &ArgMatches<'_>) -> Result<Ask, U
 }
 
 // Returns the span of a plan.
-fn span_of(alloc: Global, given: &ArgMatches<'_>) -> Result<SpanRequest, AllocError>
-    ensures { IfOk result (λ span. span ≡ span_in (rows_of (found_of given.now))) }
+fn span_of(alloc: Global, given: &ArgMatches<'_>) -> Result<SpanRequest, UsageFault>
+    ensures { Gives result (span_in (rows_of (found_of given.now))) }
 {
-    let since = text_if_given(alloc, given, "since")?;
-    let until = text_if_given(alloc, given, "until")?;
+    let since = text_of(alloc, given, "since")?;
+    let until = text_of(alloc, given, "until")?;
     Ok(SpanRequest { since, until })
 }
 

@@ -2,8 +2,8 @@
 use Rattle.std.specs.Prelude.{ℕ, List, [], ◌∷◌, find, Option, codes}
 use Rattle.std.specs.Str.{str_eq_ignore_ascii_case}
 use Rattle.agenda_codes.specs.declared.code.Code.{Code}
-use Rattle.agenda_codes.specs.declared.code.Code.TheVariants.{Backwards, BadCount, BadDelay, BadForm, BadLeast, BadLimit, BadLine, BadName}
-use Rattle.agenda_codes.specs.declared.code.Code.TheVariants.{BadNumber, BadSetting, BadSize, BadTabName, BadTimerName, BadZone}
+use Rattle.agenda_codes.specs.declared.code.Code.TheVariants.{Backwards, BadCount, BadDelay, BadForm, BadLeast, BadLength, BadLimit, BadLine}
+use Rattle.agenda_codes.specs.declared.code.Code.TheVariants.{BadName, BadNumber, BadSetting, BadSize, BadTabName, BadTime, BadTimerName, BadZone}
 use Rattle.agenda_codes.specs.declared.code.Code.TheVariants.{BadZoneName, CarriageReturn, Delayed, Device, EitherDay, Fraction}
 use Rattle.agenda_codes.specs.declared.code.Code.TheVariants.{Full, Monotonic, NeverStarts, NoCommand, NoEvents, NoMemory}
 use Rattle.agenda_codes.specs.declared.code.Code.TheVariants.{NoSuchDate, NoSuchZone, NoTimerSection, NotSettled, NotUtf8}
@@ -11,7 +11,7 @@ use Rattle.agenda_codes.specs.declared.code.Code.TheVariants.{OutOfRange, OutOfY
 use Rattle.agenda_codes.specs.declared.code.Code.TheVariants.{TooLarge, TooMany, TooManyLines, TooManySteps, UnknownKey}
 use Rattle.agenda_codes.specs.declared.code.Code.TheVariants.{UnknownWord, WrongParts, ZeroStep, Zone, ZoneSetting}
 use Rattle.agenda_codes.specs.declared.texts.sentences.TheConstants as sentence
-use Rattle.agenda_codes.specs.declared.texts.requests.TheConstants.{BAD_COUNT, BAD_FORM, BAD_LEAST, BAD_LIMIT, BAD_SIZE, BAD_ZONE}
+use Rattle.agenda_codes.specs.declared.texts.requests.TheConstants.{BAD_COUNT, BAD_FORM, BAD_LEAST, BAD_LENGTH, BAD_LIMIT, BAD_SIZE, BAD_TIME, BAD_ZONE}
 use Rattle.agenda_codes.specs.declared.texts.requests.TheConstants.{BAD_ZONE_NAME, DEVICE, NO_MEMORY, NO_SUCH_DATE, NO_SUCH_ZONE}
 use Rattle.agenda_codes.specs.declared.texts.requests.TheConstants.{NOT_SETTLED, OUT_OF_YEARS, TOO_MANY}
 use Rattle.agenda_codes.specs.declared.texts.rules.TheConstants.{BACKWARDS, BAD_NAME, BAD_NUMBER, FRACTION, OUT_OF_RANGE, SPECIFIER}
@@ -24,8 +24,8 @@ use Rattle.agenda_codes.specs.declared.texts.warnings.TheConstants.{NO_EVENTS, P
 
 -- all codes, in the order of their names
 unfoldable pub all_codes : List Code
-all_codes = Backwards ∷ BadCount ∷ BadDelay ∷ BadForm ∷ BadLeast ∷ BadLimit ∷ BadLine ∷ BadName ∷ BadNumber ∷ BadSetting ∷ BadSize
-    ∷ BadTabName ∷ BadTimerName ∷ BadZone ∷ BadZoneName ∷ CarriageReturn ∷ Delayed ∷ Device ∷ EitherDay ∷ Fraction ∷ Full ∷ Monotonic
+all_codes = Backwards ∷ BadCount ∷ BadDelay ∷ BadForm ∷ BadLeast ∷ BadLength ∷ BadLimit ∷ BadLine ∷ BadName ∷ BadNumber ∷ BadSetting
+    ∷ BadSize ∷ BadTabName ∷ BadTime ∷ BadTimerName ∷ BadZone ∷ BadZoneName ∷ CarriageReturn ∷ Delayed ∷ Device ∷ EitherDay ∷ Fraction ∷ Full ∷ Monotonic
     ∷ NeverStarts ∷ NoCommand ∷ NoEvents ∷ NoMemory ∷ NoSuchDate ∷ NoSuchZone ∷ NoTimerSection ∷ NotSettled ∷ NotUtf8
     ∷ OutOfRange ∷ OutOfYears ∷ Percent ∷ SameName ∷ SkippedStarts ∷ Specifier ∷ TooLarge ∷ TooMany ∷ TooManyLines
     ∷ TooManySteps ∷ UnknownKey ∷ UnknownWord ∷ WrongParts ∷ ZeroStep ∷ Zone ∷ ZoneSetting ∷ []
@@ -37,6 +37,7 @@ name_of BadCount = codes "BadCount"
 name_of BadDelay = codes "BadDelay"
 name_of BadForm = codes "BadForm"
 name_of BadLeast = codes "BadLeast"
+name_of BadLength = codes "BadLength"
 name_of BadLimit = codes "BadLimit"
 name_of BadLine = codes "BadLine"
 name_of BadName = codes "BadName"
@@ -44,6 +45,7 @@ name_of BadNumber = codes "BadNumber"
 name_of BadSetting = codes "BadSetting"
 name_of BadSize = codes "BadSize"
 name_of BadTabName = codes "BadTabName"
+name_of BadTime = codes "BadTime"
 name_of BadTimerName = codes "BadTimerName"
 name_of BadZone = codes "BadZone"
 name_of BadZoneName = codes "BadZoneName"
@@ -95,6 +97,7 @@ sentence_of BadCount = sentence.BAD_COUNT.now
 sentence_of BadDelay = sentence.BAD_DELAY.now
 sentence_of BadForm = sentence.BAD_FORM.now
 sentence_of BadLeast = sentence.BAD_LEAST.now
+sentence_of BadLength = sentence.BAD_LENGTH.now
 sentence_of BadLimit = sentence.BAD_LIMIT.now
 sentence_of BadLine = sentence.BAD_LINE.now
 sentence_of BadName = sentence.BAD_NAME.now
@@ -102,6 +105,7 @@ sentence_of BadNumber = sentence.BAD_NUMBER.now
 sentence_of BadSetting = sentence.BAD_SETTING.now
 sentence_of BadSize = sentence.BAD_SIZE.now
 sentence_of BadTabName = sentence.BAD_TAB_NAME.now
+sentence_of BadTime = sentence.BAD_TIME.now
 sentence_of BadTimerName = sentence.BAD_TIMER_NAME.now
 sentence_of BadZone = sentence.BAD_ZONE.now
 sentence_of BadZoneName = sentence.BAD_ZONE_NAME.now
@@ -145,6 +149,7 @@ text_of BadCount = BAD_COUNT.now
 text_of BadDelay = BAD_DELAY.now
 text_of BadForm = BAD_FORM.now
 text_of BadLeast = BAD_LEAST.now
+text_of BadLength = BAD_LENGTH.now
 text_of BadLimit = BAD_LIMIT.now
 text_of BadLine = BAD_LINE.now
 text_of BadName = BAD_NAME.now
@@ -152,6 +157,7 @@ text_of BadNumber = BAD_NUMBER.now
 text_of BadSetting = BAD_SETTING.now
 text_of BadSize = BAD_SIZE.now
 text_of BadTabName = BAD_TAB_NAME.now
+text_of BadTime = BAD_TIME.now
 text_of BadTimerName = BAD_TIMER_NAME.now
 text_of BadZone = BAD_ZONE.now
 text_of BadZoneName = BAD_ZONE_NAME.now

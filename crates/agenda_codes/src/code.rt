@@ -20,6 +20,8 @@ pub enum Code {
     BadForm,
     /// The number of --least is 0.
     BadLeast,
+    /// The value of --least isn't a length.
+    BadLength,
     /// The number of --limit isn't 1 to 1,000,000.
     BadLimit,
     /// A line of a script has none of the forms that are allowed.
@@ -34,6 +36,8 @@ pub enum Code {
     BadSize,
     /// The name of a file of --cron-d or --spool isn't allowed there.
     BadTabName,
+    /// A text isn't a time.
+    BadTime,
     /// The file's name isn't one of a timer.
     BadTimerName,
     /// The file of the zone isn't a valid TZif file.
@@ -110,7 +114,7 @@ pub enum Code {
 impl Code {
     /// Returns all codes, in the order of their names.
     #[tactic(auto, unfolding(crate::specs::Codes::all_codes))]
-    pub fn all() -> [Code; 47]
+    pub fn all() -> [Code; 49]
         ensures { result ≡ all_codes }
     {
         [
@@ -119,6 +123,7 @@ impl Code {
             Code::BadDelay,
             Code::BadForm,
             Code::BadLeast,
+            Code::BadLength,
             Code::BadLimit,
             Code::BadLine,
             Code::BadName,
@@ -126,6 +131,7 @@ impl Code {
             Code::BadSetting,
             Code::BadSize,
             Code::BadTabName,
+            Code::BadTime,
             Code::BadTimerName,
             Code::BadZone,
             Code::BadZoneName,
@@ -176,6 +182,7 @@ impl Code {
             Code::BadDelay => "BadDelay",
             Code::BadForm => "BadForm",
             Code::BadLeast => "BadLeast",
+            Code::BadLength => "BadLength",
             Code::BadLimit => "BadLimit",
             Code::BadLine => "BadLine",
             Code::BadName => "BadName",
@@ -183,6 +190,7 @@ impl Code {
             Code::BadSetting => "BadSetting",
             Code::BadSize => "BadSize",
             Code::BadTabName => "BadTabName",
+            Code::BadTime => "BadTime",
             Code::BadTimerName => "BadTimerName",
             Code::BadZone => "BadZone",
             Code::BadZoneName => "BadZoneName",
@@ -246,6 +254,7 @@ impl Code {
             Code::BadDelay => sentences::BAD_DELAY,
             Code::BadForm => sentences::BAD_FORM,
             Code::BadLeast => sentences::BAD_LEAST,
+            Code::BadLength => sentences::BAD_LENGTH,
             Code::BadLimit => sentences::BAD_LIMIT,
             Code::BadLine => sentences::BAD_LINE,
             Code::BadName => sentences::BAD_NAME,
@@ -253,6 +262,7 @@ impl Code {
             Code::BadSetting => sentences::BAD_SETTING,
             Code::BadSize => sentences::BAD_SIZE,
             Code::BadTabName => sentences::BAD_TAB_NAME,
+            Code::BadTime => sentences::BAD_TIME,
             Code::BadTimerName => sentences::BAD_TIMER_NAME,
             Code::BadZone => sentences::BAD_ZONE,
             Code::BadZoneName => sentences::BAD_ZONE_NAME,
@@ -301,6 +311,7 @@ impl Code {
             Code::BadDelay => warnings::BAD_DELAY,
             Code::BadForm => requests::BAD_FORM,
             Code::BadLeast => requests::BAD_LEAST,
+            Code::BadLength => requests::BAD_LENGTH,
             Code::BadLimit => requests::BAD_LIMIT,
             Code::BadLine => files::BAD_LINE,
             Code::BadName => rules::BAD_NAME,
@@ -308,6 +319,7 @@ impl Code {
             Code::BadSetting => files::BAD_SETTING,
             Code::BadSize => requests::BAD_SIZE,
             Code::BadTabName => files::BAD_TAB_NAME,
+            Code::BadTime => requests::BAD_TIME,
             Code::BadTimerName => files::BAD_TIMER_NAME,
             Code::BadZone => requests::BAD_ZONE,
             Code::BadZoneName => requests::BAD_ZONE_NAME,

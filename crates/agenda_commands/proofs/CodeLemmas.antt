@@ -1,6 +1,6 @@
 -- Which code the line of each error ends with. There is a lemma for each kind of line, by the cases of its error.
 -- A line is put together from the front, and its end is a name and a newline: a text before that changes nothing (`longer`).
-use Rattle.std.proofs.Common.{◌∙◌, ℕ, List, ◌++◌, ap, refl, sym, append_assoc, codes}
+use Rattle.std.proofs.Common.{◌∙◌, ℕ, List, ◌++◌, ap, refl, sym, append_assoc, codes, true, false}
 use Rattle.std.specs.Prelude.{decimal}
 use Rattle.plan_sets.specs.Causes.{moment_cause}
 use Rattle.plan_sets.specs.declared.MomentFault.{MomentFault}
@@ -32,12 +32,18 @@ use Rattle.plan_streams.specs.declared.WriteFault.TheVariants as stream
 use Rattle.agenda_codes.specs.declared.Code.{Code}
 use Rattle.agenda_codes.specs.declared.Code.TheVariants as code
 use Rattle.agenda_codes.specs.Codes.{name_of}
-use Rattle.agenda_faults.specs.FaultLines.{caused_line, fault_text, memory_line, numbered_line, plan_line, rule_line, run_line, script_line, source_line, source_name, source_rule_line, text_of_line, text_of_part, zone_line}
+use Rattle.agenda_faults.specs.FaultLines.{about_option, caused_line, fault_text, numbered_line, plan_line, rule_line, run_line, script_line, source_line, source_name, source_rule_line, text_of_line, text_of_part, zone_line}
 use Rattle.agenda_faults.specs.declared.faults.RunFault.{RunFault}
 use Rattle.agenda_faults.specs.declared.faults.RunFault.TheVariants as run
 use Rattle.agenda_faults.specs.declared.faults.Failure.{Failure}
 use Rattle.agenda_faults.specs.declared.faults.Failure.TheVariants as failure
-use Rattle.agenda_commands.specs.CodeLaws.{ComesInPlan, ComesInRule, ComesInRun, ComesOnLine, EndsWithCode, HasCode, HasLine}
+use Rattle.agenda_faults.specs.MachineLines.{machine_line, memory_line, named_zone_line, option_name, time_line}
+use Rattle.agenda_faults.specs.declared.machine_faults.MachineFault.{MachineFault}
+use Rattle.agenda_faults.specs.declared.machine_faults.MachineFault.TheVariants as machine
+use Rattle.agenda_faults.specs.declared.machine_faults.TimeOption.{TimeOption}
+use Rattle.plan_times.specs.declared.fault.TimeFault.{TimeFault}
+use Rattle.plan_times.specs.declared.fault.TimeFault.TheVariants as time
+use Rattle.agenda_commands.specs.CodeLaws.{ComesInPlan, ComesInRule, ComesInRun, ComesOnLine, EndsWithCode, HasCode, HasLine, ending}
 
 -- ---- the names of causes
 
@@ -111,17 +117,23 @@ script_has script.TooManySteps = has code.TooManySteps
 -- ---- the forms of lines
 
 ends : (front : List ℕ) (code : Code) → EndsWithCode (front ++ (name_of code ++ codes "\n"))
-ends front code = record { front = front; code = code; is = refl }
+ends front code = record { front = front; is_in_words = false; code = code; is = refl }
+
+-- a line in words
+in_words : (front : List ℕ) (code : Code) → EndsWithCode (front ++ (codes "[" ++ (name_of code ++ codes "]\n")))
+in_words front code = record { front = front; is_in_words = true; code = code; is = refl }
 
 longer : (front text : List ℕ) → EndsWithCode text → EndsWithCode (front ++ text)
 longer front text end = record {
   front = front ++ end.front;
+  is_in_words = end.is_in_words;
   code = end.code;
-  is = ap (λ t. front ++ t) end.is ∙ sym (append_assoc front end.front (name_of end.code ++ codes "\n"));
+  is = ap (λ t. front ++ t) end.is ∙ sym (append_assoc front end.front (ending end.is_in_words end.code));
 }
 
 caused : (about name : List ℕ) → HasCode name → EndsWithCode (caused_line about name)
-caused about name has = record { front = about; code = has.code; is = ap (λ n. about ++ (n ++ codes "\n")) has.is }
+caused about name has =
+    record { front = about; is_in_words = false; code = has.code; is = ap (λ n. about ++ (n ++ codes "\n")) has.is }
 
 numbered : (about : List ℕ) (number : ℕ) (name : List ℕ) → HasCode name → EndsWithCode (numbered_line about number name)
 numbered about number name has = longer about _ (longer (decimal number) _ (caused (codes ": ") name has))
@@ -180,19 +192,49 @@ ends_run sources (run.Script fault) comes = ends_script fault.line fault.cause
 ends_run sources (run.Device stream.Device) comes = ends (codes "agenda: ") code.Device
 ends_run sources (run.Device stream.Closed) comes = absurd comes
 ends_run sources run.BadLeast comes = ends (codes "agenda: quiet: ") code.BadLeast
+ends_run sources (run.TooManyStarts limit) comes =
+    longer (codes "agenda: more than ") _ (longer (decimal limit) _
+    (in_words (codes " starts: give a shorter span, or --limit N ") code.TooMany))
 
 ends_zone : (fault : ZoneFault) → EndsWithCode (zone_line fault)
 ends_zone zone.NoMemory = memory
 ends_zone other = caused (codes "agenda: zone: ") (zone_fault_name other) (zone_has other)
 
+ends_time : (option : TimeOption) (fault : TimeFault) (text : List ℕ) → EndsWithCode (time_line option fault text)
+ends_time option time.BadTime text =
+    longer (codes "agenda: ") _ (longer (option_name option) _ (longer (codes ": not a time: '") _ (longer text _
+    (in_words (codes "' (such as 'tomorrow 02:00', '+8h', '2026-12-01 22:00') ") code.BadTime))))
+ends_time option time.OutOfYears text =
+    longer (codes "agenda: ") _ (longer (option_name option) _ (longer (codes ": before 1970 or after 2999: '") _ (longer text _
+    (in_words (codes "' ") code.OutOfYears))))
+
+ends_named_zone : (text : List ℕ) (fault : ZoneFault) → EndsWithCode (named_zone_line text fault)
+ends_named_zone text zone.NoMemory = memory
+ends_named_zone text zone.BadZoneName =
+    longer (codes "agenda: zone '") _ (longer text _ (in_words (codes "': not the name of a zone ") code.BadZoneName))
+ends_named_zone text zone.NoSuchZone =
+    longer (codes "agenda: zone '") _ (longer text _ (in_words (codes "': no such zone ") code.NoSuchZone))
+ends_named_zone text zone.TooLarge =
+    longer (codes "agenda: zone '") _ (longer text _ (in_words (codes "': larger than 1048576 bytes ") code.TooLarge))
+ends_named_zone text zone.BadZone =
+    longer (codes "agenda: zone '") _ (longer text _ (in_words (codes "': not a TZif file ") code.BadZone))
+
+ends_machine : (fault : MachineFault) → EndsWithCode (machine_line fault)
+ends_machine (machine.Time option fault text) = ends_time option fault text
+ends_machine (machine.Length text) =
+    longer (codes "agenda: --least: not a length: '") _ (longer text _ (in_words (codes "' (such as '90min' or '2h') ") code.BadLength))
+ends_machine (machine.Backwards since) =
+    longer (codes "agenda: --until is before --since (") _ (longer since _ (in_words (codes ") ") code.Backwards))
+ends_machine (machine.Zone text fault) = ends_named_zone text fault
+ends_machine machine.Clock = in_words (codes "agenda: the system clock is after 2999: set it ") code.OutOfYears
+
 pub ends_failure : (sources : List SourcePath) (fault : Failure) → HasLine fault → EndsWithCode (fault_text sources fault)
 ends_failure sources (failure.Usage text) has = absurd has
-ends_failure sources (failure.After fault) has = caused (codes "agenda: after: ") (moment_cause fault) (moment_has fault)
-ends_failure sources (failure.Since fault) has = caused (codes "agenda: since: ") (moment_cause fault) (moment_has fault)
-ends_failure sources (failure.Upto fault) has = caused (codes "agenda: upto: ") (moment_cause fault) (moment_has fault)
+ends_failure sources (failure.Moment option fault) has = caused (about_option option) (moment_cause fault) (moment_has fault)
 ends_failure sources (failure.Span fault) has = caused (codes "agenda: span: ") (span_cause fault) (span_has fault)
 ends_failure sources (failure.Zone fault) has = ends_zone fault
 ends_failure sources (failure.Run fault) has = ends_run sources fault has
 ends_failure sources (failure.File path) has = longer (codes "agenda: ") _ (longer path _ (ends (codes ": ") code.Device))
 ends_failure sources (failure.NotDirectory root) has = absurd has
 ends_failure sources (failure.TooManyUnits root) has = absurd has
+ends_failure sources (failure.Machine fault) has = ends_machine fault

@@ -1,5 +1,5 @@
 -- The codes that error lines and warnings show (agenda).
-use Rattle.std.specs.Prelude.{◌≡◌, ⊤, ℕ, List, ◌++◌, codes}
+use Rattle.std.specs.Prelude.{◌≡◌, ⊤, ℕ, Bool, true, false, List, ◌++◌, codes}
 use Rattle.plan_sets.specs.declared.SetFault.TheVariants as set
 use Rattle.plan_grammar.specs.declared.RuleCause.{RuleCause}
 use Rattle.plan_grammar.specs.declared.RuleCause.TheVariants as rule
@@ -21,11 +21,17 @@ pub record HasCode (name : List ℕ) : Type 0 where
   pub code : Code
   pub is : name ≡ name_of code
 
+-- how a line ends: with the name of a code, which is in brackets if the line is in words
+abbrev pub ending : (is_in_words : Bool) → Code → List ℕ
+ending false code = name_of code ++ codes "\n"
+ending true code = codes "[" ++ (name_of code ++ codes "]\n")
+
 -- the line ends with the name of a code
 pub record EndsWithCode (line : List ℕ) : Type 0 where
   pub front : List ℕ
+  pub is_in_words : Bool
   pub code : Code
-  pub is : line ≡ front ++ (name_of code ++ codes "\n")
+  pub is : line ≡ front ++ ending is_in_words code
 
 -- the cause of a rule's error, apart from NoItem, which never comes: each list of a rule has an element
 abbrev pub ComesInRule : RuleCause → Type 0
@@ -52,7 +58,7 @@ ComesInRun (run.InSource place fault) = ComesOnLine fault.cause
 ComesInRun (run.Plan fault) = ComesInPlan fault
 ComesInRun other = ⊤
 
--- a failure that can come, and whose line has a code: usage errors, and what is wrong with the root of a machine, are in words
+-- a failure that can come, and whose line has a code: usage errors, and what is wrong with the root of a machine, have none
 abbrev pub HasLine : Failure → Type 0
 HasLine (failure.Usage text) = ⊥
 HasLine (failure.NotDirectory root) = ⊥

@@ -12,7 +12,7 @@ ghost use Rattle.plan_rules.specs.declared.LineCause.{LineCause};
 
 /// States the laws of codes: the line of an error ends with the name of a code, and errors and warnings in files
 /// have the names of codes. So `run_explain` explains what is reported. Two errors about the root of a machine
-/// have no code: they are in words.
+/// have no code.
 ///
 /// The function does nothing: its contract is the laws.
 pub fn codes_are_explained()

@@ -5,9 +5,11 @@ use Rattle.plan_rules.specs.declared.RuleCause.TheVariants as cause
 use Rattle.agenda_script.specs.declared.fault.ScriptCause.{ScriptCause}
 use Rattle.agenda_script.specs.declared.fault.ScriptCause.TheVariants as script
 use Rattle.agenda_faults.specs.declared.faults.RunFault.{RunFault}
-use Rattle.agenda_faults.specs.declared.faults.RunFault.TheVariants.{NoMemory, BadCount, Rule, InSource, SameName, Full, Plan, Script, Device, BadLeast}
+use Rattle.agenda_faults.specs.declared.faults.RunFault.TheVariants.{NoMemory, BadCount, Rule, InSource, SameName, Full, Plan, Script, Device, BadLeast, TooManyStarts}
 use Rattle.agenda_faults.specs.declared.faults.Failure.{Failure}
-use Rattle.agenda_faults.specs.declared.faults.Failure.TheVariants.{Usage, After, Since, Upto, Span, Zone, Run, File, NotDirectory, TooManyUnits}
+use Rattle.agenda_faults.specs.declared.faults.Failure.TheVariants.{Usage, Moment, Span, Zone, Run, File, NotDirectory, TooManyUnits, Machine}
+use Rattle.agenda_faults.specs.declared.machine_faults.TimeOption.{TimeOption}
+use Rattle.agenda_faults.specs.declared.machine_faults.TimeOption.TheVariants as option
 use Rattle.plan_rules.specs.declared.LineCause.{LineCause}
 use Rattle.plan_rules.specs.declared.LineCause.TheVariants as on_line
 use Rattle.plan_collect.specs.declared.CollectFault.{CollectFault}
@@ -28,6 +30,7 @@ use Rattle.plan_zones.specs.Zones.{zone_fault_name}
 use Rattle.agenda_sources.specs.Name.{file_name}
 use Rattle.plan_rules.specs.SourceKind.{label_of}
 use Rattle.agenda_sources.specs.declared.SourcePath.{SourcePath}
+use Rattle.agenda_faults.specs.MachineLines.{machine_line, memory_line, too_many_line}
 
 -- a cause, after the text that says what it is about
 abbrev pub caused_line : List ℕ → List ℕ → List ℕ
@@ -36,10 +39,6 @@ caused_line about cause = about ++ (cause ++ codes "\n")
 -- a number in decimal and a cause, after the text that says what they are about
 abbrev pub numbered_line : List ℕ → ℕ → List ℕ → List ℕ
 numbered_line about number cause = about ++ (decimal number ++ caused_line (codes ": ") cause)
-
--- an allocation failed
-abbrev pub memory_line : List ℕ
-memory_line = codes "agenda: NoMemory\n"
 
 -- the rule of `next`: its part and cause. If an allocation failed, the line has no part
 abbrev pub rule_line : ℕ → RuleCause → List ℕ
@@ -114,21 +113,27 @@ run_line sources (Plan fault) = plan_line fault
 run_line sources (Script fault) = script_line fault.line fault.cause
 run_line sources (Device fault) = device_line fault
 run_line sources BadLeast = codes "agenda: quiet: BadLeast\n"
+run_line sources (TooManyStarts limit) = too_many_line limit
 
 -- a zone that can't be used. If an allocation failed, the zone is not named
 abbrev pub zone_line : ZoneFault → List ℕ
 zone_line zone.NoMemory = memory_line
 zone_line fault = caused_line (codes "agenda: zone: ") (zone_fault_name fault)
 
+-- what a timestamp is about: the option that gives it
+abbrev pub about_option : TimeOption → List ℕ
+about_option option.After = codes "agenda: after: "
+about_option option.Since = codes "agenda: since: "
+about_option option.Until = codes "agenda: upto: "
+
 -- what standard error gets: the text of usage unchanged, or one line
 abbrev pub fault_text : List SourcePath → Failure → List ℕ
 fault_text sources (Usage text) = text
-fault_text sources (After fault) = caused_line (codes "agenda: after: ") (moment_cause fault)
-fault_text sources (Since fault) = caused_line (codes "agenda: since: ") (moment_cause fault)
-fault_text sources (Upto fault) = caused_line (codes "agenda: upto: ") (moment_cause fault)
+fault_text sources (Moment option fault) = caused_line (about_option option) (moment_cause fault)
 fault_text sources (Span fault) = caused_line (codes "agenda: span: ") (span_cause fault)
 fault_text sources (Zone fault) = zone_line fault
 fault_text sources (Run fault) = run_line sources fault
 fault_text sources (File path) = codes "agenda: " ++ (path ++ codes ": Device\n")
 fault_text sources (NotDirectory root) = codes "agenda: " ++ (root ++ codes ": not a directory\n")
 fault_text sources (TooManyUnits root) = codes "agenda: " ++ (root ++ codes ": more than 10000 units\n")
+fault_text sources (Machine fault) = machine_line fault

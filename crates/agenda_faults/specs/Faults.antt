@@ -4,9 +4,11 @@ use Rattle.plan_rules.specs.declared.RuleCause.{RuleCause}
 use Rattle.plan_rules.specs.declared.RuleFault.{RuleFault}
 use Rattle.plan_rules.specs.declared.RuleCause.TheVariants as cause
 use Rattle.agenda_faults.specs.declared.faults.RunFault.{RunFault}
-use Rattle.agenda_faults.specs.declared.faults.RunFault.TheVariants.{NoMemory, BadCount, Rule, InSource, SameName, Full, Plan, Script, Device, BadLeast}
+use Rattle.agenda_faults.specs.declared.faults.RunFault.TheVariants.{NoMemory, BadCount, Rule, InSource, SameName, Full, Plan, Script, Device, BadLeast, TooManyStarts}
 use Rattle.agenda_faults.specs.declared.faults.Failure.{Failure}
-use Rattle.agenda_faults.specs.declared.faults.Failure.TheVariants.{Usage, After, Since, Upto, Span, Zone, Run, File, NotDirectory, TooManyUnits}
+use Rattle.agenda_faults.specs.declared.faults.Failure.TheVariants.{Usage, Moment, Span, Zone, Run, File, NotDirectory, TooManyUnits, Machine}
+use Rattle.agenda_faults.specs.declared.machine_faults.MachineFault.{MachineFault}
+use Rattle.agenda_faults.specs.declared.machine_faults.MachineFault.TheVariants as machine
 use Rattle.plan_rules.specs.declared.LineCause.{LineCause}
 use Rattle.plan_rules.specs.declared.LineCause.TheVariants as line
 use Rattle.plan_collect.specs.declared.CollectFault.{CollectFault}
@@ -90,6 +92,11 @@ abbrev pub zone_status : ZoneFault → ℕ
 zone_status zone.NoMemory = failed_status
 zone_status other = rejected_status
 
+-- the status for a question about a machine that can't be answered (agenda)
+abbrev pub machine_status : MachineFault → ℕ
+machine_status (machine.Zone text fault) = zone_status fault
+machine_status other = rejected_status
+
 -- the status for a command that was not done (agenda)
 abbrev pub run_status : RunFault → ℕ
 run_status NoMemory = failed_status
@@ -102,16 +109,16 @@ run_status (Plan fault) = plan_status fault
 run_status (Script fault) = script_status fault.cause
 run_status (Device fault) = failed_status
 run_status BadLeast = rejected_status
+run_status (TooManyStarts limit) = rejected_status
 
 -- the exit status for a failure (agenda)
 abbrev pub status_of : Failure → ℕ
 status_of (Usage text) = usage_status
-status_of (After fault) = rejected_status
-status_of (Since fault) = rejected_status
-status_of (Upto fault) = rejected_status
+status_of (Moment option fault) = rejected_status
 status_of (Span fault) = rejected_status
 status_of (Zone fault) = zone_status fault
 status_of (Run fault) = run_status fault
 status_of (File path) = failed_status
 status_of (NotDirectory root) = rejected_status
 status_of (TooManyUnits root) = rejected_status
+status_of (Machine fault) = machine_status fault

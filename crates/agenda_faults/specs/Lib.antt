@@ -1,3 +1,4 @@
 pub mod FaultLines
 pub mod Faults
+pub mod MachineLines
 pub mod Status

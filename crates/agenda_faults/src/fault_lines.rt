@@ -2,12 +2,14 @@
 
 ghost use Rattle.std.specs.Prelude.{◌≡◌, ◌++◌, IsTrue, OnOk, codes, true};
 ghost use Rattle.agenda_faults.specs.Faults.{status_of};
-ghost use Rattle.agenda_faults.specs.FaultLines.{caused_line, collect_line, device_line, fault_text, name_of, numbered_line, plan_line, rule_line, run_line};
+ghost use Rattle.agenda_faults.specs.FaultLines.{about_option, caused_line, collect_line, device_line, fault_text, name_of, numbered_line, plan_line, rule_line, run_line};
 ghost use Rattle.agenda_faults.specs.FaultLines.{script_line, source_line, source_name, source_rule_line, text_of_line, text_of_part, zone_line};
 ghost use Rattle.plan_streams.specs.Stream.{Puts, PutsOrBreaksOff};
 ghost use Rattle.plan_streams.specs.Writer.{Takes};
 
 use crate::faults::{Failure, RunFault};
+use crate::machine_faults::TimeOption;
+use crate::machine_lines::{put_machine_fault, put_too_many};
 use agenda_script::{ScriptCause, ScriptFault};
 use agenda_sources::{SourcePath, file_name};
 use itoa::Buffer as Digits;
@@ -16,8 +18,8 @@ use plan_rules::{LineCause, LineFault, RuleCause, RuleFault};
 use plan_streams::{Stream, TextWriter, WriteFault};
 use plan_zones::ZoneFault;
 
-// The line if an allocation failed.
-const MEMORY_LINE: &[u8] = b"agenda: NoMemory\n";
+/// The line if an allocation failed.
+pub(crate) const MEMORY_LINE: &[u8] = b"agenda: NoMemory\n";
 
 /// Writes the line of a failure, or the text of usage, and returns the exit status.
 ///
@@ -58,9 +60,7 @@ fn put_failure<S: Stream>(failure: &Failure, sources: &[SourcePath], line: &mut 
 {
     match failure {
         Failure::Usage(text) => line.put(text.as_str().as_bytes()),
-        Failure::After(cause) => put_caused(b"agenda: after: ", cause.name(), line),
-        Failure::Since(cause) => put_caused(b"agenda: since: ", cause.name(), line),
-        Failure::Upto(cause) => put_caused(b"agenda: upto: ", cause.name(), line),
+        Failure::Moment(option, cause) => put_caused(about_option(*option), cause.name(), line),
         Failure::Span(cause) => put_caused(b"agenda: span: ", cause.name(), line),
         Failure::Zone(fault) => put_zone_fault(*fault, line),
         Failure::Run(fault) => put_run_fault(fault, sources, line),
@@ -76,6 +76,18 @@ fn put_failure<S: Stream>(failure: &Failure, sources: &[SourcePath], line: &mut 
                 line,
             );
         }
+        Failure::Machine(fault) => put_machine_fault(fault, line),
+    }
+}
+
+// Returns the text that says which option a timestamp is about.
+fn about_option(option: TimeOption) -> &'static [u8]
+    ensures { result.now ≡ about_option option }
+{
+    match option {
+        TimeOption::After => b"agenda: after: ",
+        TimeOption::Since => b"agenda: since: ",
+        TimeOption::Until => b"agenda: upto: ",
     }
 }
 
@@ -86,8 +98,13 @@ fn put_caused<S: Stream>(about: &[u8], cause: &str, line: &mut TextWriter<'_, S>
     put_between(about, cause, b"\n", line);
 }
 
-// Puts a text between two others.
-fn put_between<S: Stream>(before: &[u8], text: &str, after: &[u8], line: &mut TextWriter<'_, S>)
+/// Puts a text between two others.
+pub(crate) fn put_between<S: Stream>(
+    before: &[u8],
+    text: &str,
+    after: &[u8],
+    line: &mut TextWriter<'_, S>,
+)
     ensures { Takes S.holds S.takes_all line.old line.new (before.now ++ (text.now ++ after.now)) }
 {
     line.put_both(before, text.as_bytes());
@@ -126,6 +143,7 @@ fn put_run_fault<S: Stream>(fault: &RunFault, sources: &[SourcePath], line: &mut
         RunFault::Script(fault) => put_script_fault(*fault, line),
         RunFault::Device(fault) => line.put(device_line(*fault)),
         RunFault::BadLeast => line.put(b"agenda: quiet: BadLeast\n"),
+        RunFault::TooManyStarts(limit) => put_too_many(*limit, line),
     }
 }
 

@@ -1,8 +1,9 @@
 //! Why the program fails, and its exit status in each case.
 
 ghost use Rattle.std.specs.Prelude.{◌≡◌};
-ghost use Rattle.agenda_faults.specs.Faults.{line_status, plan_status, rule_status, script_status, zone_status};
+ghost use Rattle.agenda_faults.specs.Faults.{line_status, machine_status, plan_status, rule_status, script_status, zone_status};
 
+use crate::machine_faults::{MachineFault, TimeOption};
 use crate::status::{FAILED, REFUSED, USAGE};
 use agenda_script::{ScriptCause, ScriptFault};
 use agenda_sources::SourceFault;
@@ -47,6 +48,9 @@ pub enum RunFault {
     /// The minimum gap of `quiet` is 0 seconds.
     #[error("BadLeast")]
     BadLeast,
+    /// The answer about a machine has more starts than this limit. The line is in words.
+    #[error("TooMany")]
+    TooManyStarts(u64),
 }
 
 impl From<AllocError> for RunFault {
@@ -148,12 +152,8 @@ impl From<ScriptFault> for RunFault {
 pub enum Failure {
     /// The arguments are invalid. The text shows the usage.
     Usage(Text),
-    /// The text of `--after` is not a timestamp.
-    After(MomentFault),
-    /// The text of `--since` is not a timestamp.
-    Since(MomentFault),
-    /// The text of `--upto` is not a timestamp.
-    Upto(MomentFault),
+    /// The text of this option is not a timestamp.
+    Moment(TimeOption, MomentFault),
     /// The timestamps of `--since` and `--upto` don't bound a span.
     Span(SpanFault),
     /// The zone of `--zone` can't be used.
@@ -166,6 +166,8 @@ pub enum Failure {
     NotDirectory(Text),
     /// The boot of the machine whose root has this path reaches more than 10,000 units.
     TooManyUnits(Text),
+    /// A question about a machine can't be answered.
+    Machine(MachineFault),
 }
 
 impl From<AllocError> for Failure {
@@ -228,11 +230,12 @@ impl Failure {
     {
         match self {
             Failure::Usage(_) => USAGE,
-            Failure::After(_) | Failure::Since(_) | Failure::Upto(_) | Failure::Span(_) => REFUSED,
+            Failure::Moment(_, _) | Failure::Span(_) => REFUSED,
             Failure::Zone(fault) => zone_status(*fault),
             Failure::Run(fault) => fault.status(),
             Failure::File(_) => FAILED,
             Failure::NotDirectory(_) | Failure::TooManyUnits(_) => REFUSED,
+            Failure::Machine(fault) => machine_status(fault),
         }
     }
 }
@@ -252,6 +255,7 @@ impl RunFault {
             RunFault::BadCount | RunFault::BadLeast | RunFault::SameName(_) | RunFault::Full => {
                 REFUSED
             }
+            RunFault::TooManyStarts(_) => REFUSED,
             RunFault::NoMemory | RunFault::Device(_) => FAILED,
         }
     }
@@ -296,6 +300,16 @@ fn zone_status(fault: ZoneFault) -> u8
 {
     match fault {
         ZoneFault::NoMemory => FAILED,
+        _ => REFUSED,
+    }
+}
+
+// Returns the status for a question about a machine.
+fn machine_status(fault: &MachineFault) -> u8
+    ensures { result ≡ machine_status fault.now }
+{
+    match fault {
+        MachineFault::Zone(_, fault) => zone_status(*fault),
         _ => REFUSED,
     }
 }

@@ -222,8 +222,12 @@ asks_jobs goal delays = record { goal = goal; zone = None; delays = delays; stri
 abbrev asks_here : MachineJobs → Result Ask ArgumentsFault
 asks_here jobs = asks_machine (codes "/") false (question.Jobs jobs)
 
-abbrev span_from : (since until : Option (List ℕ)) → SpanRequest
+abbrev span_from : (since until : List ℕ) → SpanRequest
 span_from since until = record { since = since; until = until }
+
+-- the span without options: a day from now on
+abbrev from_now : SpanRequest
+from_now = span_from (codes "now") (codes "+24h")
 
 -- the sizes of a plan of a machine without options
 abbrev machine_sizes : Sizes
@@ -231,30 +235,30 @@ machine_sizes = record { planners = 2; room = 16; limit = 1000000 }
 
 machine_jobs_rows : RowsHold asked_in
     -- the question is `upcoming` if there is none
-    ((codes "agenda machine", asks_here (asks_jobs (machine_goal.Upcoming None) false))
-    ∷ (codes "agenda machine --delays --after t", asks_here (asks_jobs (machine_goal.Upcoming (Some (codes "t"))) true))
-    ∷ (codes "agenda machine upcoming", asks_here (asks_jobs (machine_goal.Upcoming None) false))
+    ((codes "agenda machine", asks_here (asks_jobs (machine_goal.Upcoming (codes "now")) false))
+    ∷ (codes "agenda machine --delays --after t", asks_here (asks_jobs (machine_goal.Upcoming (codes "t")) true))
+    ∷ (codes "agenda machine upcoming", asks_here (asks_jobs (machine_goal.Upcoming (codes "now")) false))
     ∷ (
       codes "agenda machine upcoming --utc --json",
-      asks_here (record (asks_jobs (machine_goal.Upcoming None) false) { zone = Some (codes "UTC"); format = format_from true false }),
+      asks_here (record (asks_jobs (machine_goal.Upcoming (codes "now")) false) { zone = Some (codes "UTC"); format = format_from true false }),
     )
     ∷ (
       codes "agenda machine --strict",
-      asks_here (record (asks_jobs (machine_goal.Upcoming None) false) { strict = true }),
+      asks_here (record (asks_jobs (machine_goal.Upcoming (codes "now")) false) { strict = true }),
     )
-    ∷ (codes "agenda machine plan", asks_here (asks_jobs (machine_goal.Plan (span_from None None) machine_sizes) false))
+    ∷ (codes "agenda machine plan", asks_here (asks_jobs (machine_goal.Plan from_now machine_sizes) false))
     ∷ (
       codes "agenda machine plan --since s --upto u --limit 5 --zone z",
       asks_here (record (asks_jobs
-          (machine_goal.Plan (span_from (Some (codes "s")) (Some (codes "u"))) (record machine_sizes { limit = 5 })) false) {
+          (machine_goal.Plan (span_from (codes "s") (codes "u")) (record machine_sizes { limit = 5 })) false) {
             zone = Some (codes "z");
           }),
     )
     -- delays count in `quiet`, unless `--nominal` is given
-    ∷ (codes "agenda machine quiet", asks_here (asks_jobs (machine_goal.Quiet (span_from None None) machine_sizes 1800) true))
+    ∷ (codes "agenda machine quiet", asks_here (asks_jobs (machine_goal.Quiet from_now machine_sizes (codes "30min")) true))
     ∷ (
-      codes "agenda machine quiet --nominal --least 60 --until u",
-      asks_here (asks_jobs (machine_goal.Quiet (span_from None (Some (codes "u"))) machine_sizes 60) false),
+      codes "agenda machine quiet --nominal --least 2h --upto u",
+      asks_here (asks_jobs (machine_goal.Quiet (span_from (codes "now") (codes "u")) machine_sizes (codes "2h")) false),
     )
     ∷ [])
 unfolding words asked_by clap_on_literals agenda_on_literals
@@ -262,7 +266,7 @@ machine_jobs_rows = refl
 
 -- the next five starts of a rule, in the zone of the machine, and as text in local times
 abbrev asks_starts : Asked → Result Ask ArgumentsFault
-asks_starts rule = Ok (MachineNext (record { rule = rule; after = None; count = 5; zone = None; format = format_from false true }))
+asks_starts rule = Ok (MachineNext (record { rule = rule; after = codes "now"; count = 5; zone = None; format = format_from false true }))
 
 machine_next_rows : RowsHold asked_in
     ((codes "agenda machine next @daily", asks_starts (Cron (codes "@daily")))
@@ -271,7 +275,7 @@ machine_next_rows : RowsHold asked_in
       codes "agenda machine next --utc --count 2 --json --after=t 09:00",
       Ok (MachineNext (record {
         rule = Event (codes "09:00");
-        after = Some (codes "t");
+        after = codes "t";
         count = 2;
         zone = Some (codes "UTC");
         format = format_from true false;

@@ -26,6 +26,7 @@ pub use agenda::write_agenda;
 pub use formats::Format;
 pub use json_strings::{hex_digit, put_string, put_text, strings_read_back};
 pub use line_ends::LineEnds;
+pub use local_times::LocalStamp;
 pub use next::write_next;
 pub use plan_collect::Upcoming;
 pub use quiet::{nominal_gaps_are_of_marks, nothing_starts_in_gaps, write_quiet};

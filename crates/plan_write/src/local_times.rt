@@ -14,7 +14,7 @@ use plan_streams::{Stream, TextWriter};
 use std::marker::Model;
 
 /// What follows the date and the time of day in the text of a time.
-#[derive(Clone, Copy, Drop)]
+#[derive(Clone, Copy, Debug, Drop)]
 pub(crate) enum Suffix {
     /// The letter of UTC.
     Utc,
@@ -55,8 +55,8 @@ impl Suffix {
 }
 
 /// The text of a time by the clock of a zone. Contracts see this value as the text.
-#[derive(Drop)]
-pub(crate) struct LocalStamp {
+#[derive(Debug, Drop)]
+pub struct LocalStamp {
     // What the clock shows, as a second of UTC.
     shown: Stamp,
     suffix: Suffix,
@@ -76,7 +76,7 @@ impl Model for LocalStamp {
 
 impl LocalStamp {
     /// Returns a stamp of any time.
-    pub(crate) fn new() -> LocalStamp {
+    pub fn new() -> LocalStamp {
         LocalStamp {
             shown: Stamp::new(0),
             suffix: Suffix::Utc,
@@ -86,7 +86,7 @@ impl LocalStamp {
 
     /// Changes the stamp to that of a second by a clock.
     #[tactic(auto, unfolding(crate::specs::LocalTimes::local_text))]
-    pub(crate) fn show(&mut self, clock: &Clock, second: u64)
+    pub fn show(&mut self, clock: &Clock, second: u64)
         requires { second ≤ end_second }
         ensures { self.new ≡ local_text clock.now second }
     {
@@ -110,7 +110,7 @@ impl LocalStamp {
 
     /// Puts the text.
     #[inline(always)]
-    pub(crate) fn put<S: Stream>(&self, lines: &mut TextWriter<'_, S>)
+    pub fn put<S: Stream>(&self, lines: &mut TextWriter<'_, S>)
         ensures { Takes S.holds S.takes_all lines.old lines.new self.now }
     {
         lines.put_both(self.shown.date_time(), self.suffix.as_bytes());

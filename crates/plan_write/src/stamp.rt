@@ -11,7 +11,7 @@ use std::marker::Model;
 
 /// A second, at most `END_SECOND`, with its text and a tab. The text is made once for all entries of the
 /// second, its hour and minute once for all entries of the minute, and its date once for all of the day.
-#[derive(Drop)]
+#[derive(Debug, Drop)]
 pub(crate) struct Stamp {
     second: u64,
     // The first second of its minute.

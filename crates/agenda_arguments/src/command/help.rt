@@ -170,7 +170,7 @@ Without a command, the options are those of upcoming.
 
 Examples:
   agenda machine
-  agenda machine plan --since 2026-12-01T22:00:00Z --until 2026-12-02T05:00:00Z
+  agenda machine plan --since 'sat 22:00' --until 'sun 04:00'
   agenda machine check --root /mnt";
 
 pub(super) const ROOT: &str = "Read the machine whose root directory is DIR";
@@ -187,16 +187,20 @@ Read the rules in UTC, like --zone UTC, and print
 times in UTC";
 
 pub(super) const MACHINE_AFTER: &str = "\
-Only starts later than this time, in UTC, such as
-2026-12-01T22:00:00Z; now if it isn't given";
+Only starts later than this time, such as
+'tomorrow 02:00', '2026-12-01 22:00' or +8h";
 
 pub(super) const MACHINE_SINCE: &str = "\
-The start of the span, in UTC, such as
-2026-12-01T22:00:00Z; now if it isn't given";
+The start of the span, such as 'tomorrow 02:00',
+'2026-12-01 22:00' or +8h";
 
 pub(super) const MACHINE_UNTIL: &str = "\
 The end of the span, written in the same way, which
-isn't in it; 24 hours after the start if it isn't given";
+isn't in it; 06:00 and +8h are counted from its
+start";
+
+pub(super) const MACHINE_LEAST: &str = "\
+The minimum length of a gap, such as 90min or 2h";
 
 pub(super) const NOMINAL: &str = "Don't count the delays of timers";
 
@@ -224,7 +228,7 @@ line for each file that is skipped or isn't planned, and the errors of the files
 status is 1 if there is such an error or if a file can't be read, otherwise 0.
 
 Example:
-  agenda machine plan --since 2026-12-01T22:00:00Z --until 2026-12-02T05:00:00Z";
+  agenda machine plan --since 'sat 22:00' --until 'sun 04:00'";
 
 pub(super) const MACHINE_QUIET: &str = "Prints the gaps in which no job of a machine starts";
 
@@ -235,7 +239,7 @@ has a line for each file that is skipped or isn't planned, and the errors of the
 The exit status is 1 if there is such an error or if a file can't be read, otherwise 0.
 
 Example:
-  agenda machine quiet --least 3600";
+  agenda machine quiet --since tomorrow --least 2h";
 
 pub(super) const MACHINE_SOURCES: &str = "Lists a machine's crontabs and timers";
 

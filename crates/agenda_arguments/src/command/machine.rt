@@ -7,7 +7,7 @@ ghost use Rattle.agenda_arguments.specs.Command.{machine_upcoming, with_machine_
 
 use super::subcommands::Subcommand;
 use super::{
-    CommandOption, JSON, PLANNERS, ROOM, help, new_subcommand, text_option, with_alias,
+    CommandOption, JSON, PLANNERS, ROOM, help, new_subcommand, preset_option, with_alias,
     with_argument, with_arguments, with_subcommands,
 };
 use clap::Command;
@@ -24,7 +24,8 @@ const ZONE: CommandOption<'static> = CommandOption::Text("zone", "ZONE", help::M
 const UTC: CommandOption<'static> = CommandOption::Flag("utc", help::UTC);
 
 // The time after which starts are listed.
-const AFTER: CommandOption<'static> = CommandOption::Text("after", "T", help::MACHINE_AFTER);
+const AFTER: CommandOption<'static> =
+    CommandOption::Preset("after", "TIME", "now", help::MACHINE_AFTER);
 
 // Whether an error in a file stops the answer.
 const STRICT: CommandOption<'static> = CommandOption::Flag("strict", help::STRICT);
@@ -176,7 +177,7 @@ pub(super) fn machine_quiet_command<'a>(alloc: Global) -> Result<Command<'a>, Al
         alloc,
         command,
         &[
-            CommandOption::Number("least", "1800", help::LEAST),
+            CommandOption::Preset("least", "LENGTH", "30min", help::MACHINE_LEAST),
             ZONE,
             UTC,
             CommandOption::Flag("nominal", help::NOMINAL),
@@ -227,11 +228,11 @@ fn with_machine_span<'a>(alloc: Global, command: Command<'a>) -> Result<Command<
         &[
             ROOT,
             ALL,
-            CommandOption::Text("since", "T", help::MACHINE_SINCE),
+            CommandOption::Preset("since", "TIME", "now", help::MACHINE_SINCE),
         ],
     )?;
     let until = with_alias(
-        text_option(alloc, "until", "T", help::MACHINE_UNTIL),
+        preset_option(alloc, "until", "TIME", "+24h", help::MACHINE_UNTIL),
         "upto",
     )?;
     with_argument(command, until)

@@ -19,6 +19,16 @@ pub(crate) const BAD_LEAST: &str = "\
 The number of --least is 0. Give at least 1.
 ";
 
+pub(crate) const BAD_LENGTH: &str = "\
+The value of --least isn't a length. Give a time span of whole seconds, such as
+'90min' or '2h 30min'. It is at least one second.
+
+Before:
+    agenda machine quiet --least 1:30
+After:
+    agenda machine quiet --least '1h 30min'
+";
+
 pub(crate) const BAD_LIMIT: &str = "\
 The number of --limit isn't 1 to 1,000,000. Give a number in this range.
 ";
@@ -32,6 +42,17 @@ Before:
     mailbox 9 16
 After:
     mailbox 8 16
+";
+
+pub(crate) const BAD_TIME: &str = "\
+A text isn't a time. Give a date and a time of day, such as '2026-12-01 22:00'
+or 'tomorrow 02:00', only one of them, or the distance from now, such as '+8h'
+or '2h ago'. agenda(1) lists all forms.
+
+Before:
+    agenda machine plan --since 8h
+After:
+    agenda machine plan --since +8h
 ";
 
 pub(crate) const BAD_ZONE: &str = "\
@@ -92,7 +113,8 @@ is proved that this never happens. If it does, report it as a bug.
 ";
 
 pub(crate) const OUT_OF_YEARS: &str = "\
-A time is before 1970, or after 3000-01-01T00:00:00Z. Choose another span.
+A time is before 1970, or after 3000-01-01T00:00:00Z. Choose another span. If
+the line is about the system clock, set it.
 ";
 
 pub(crate) const TOO_MANY: &str = "\

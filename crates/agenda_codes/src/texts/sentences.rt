@@ -12,6 +12,8 @@ pub(crate) const BAD_FORM: &str = "A time doesn't have the form '2024-01-01T00:0
 
 pub(crate) const BAD_LEAST: &str = "The number of --least is 0.";
 
+pub(crate) const BAD_LENGTH: &str = "The value of --least isn't a length.";
+
 pub(crate) const BAD_LIMIT: &str = "The number of --limit isn't 1 to 1,000,000.";
 
 pub(crate) const BAD_LINE: &str = "A line of a script has none of the forms that are allowed.";
@@ -28,6 +30,8 @@ pub(crate) const BAD_SIZE: &str =
 
 pub(crate) const BAD_TAB_NAME: &str =
     "The name of a file of --cron-d or --spool isn't allowed there.";
+
+pub(crate) const BAD_TIME: &str = "A text isn't a time.";
 
 pub(crate) const BAD_TIMER_NAME: &str = "The file's name isn't one of a timer.";
 

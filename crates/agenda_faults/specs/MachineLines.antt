@@ -1,0 +1,60 @@
+-- The lines of errors of questions about a machine, which are in words. All of it is our choice (agenda).
+use Rattle.std.specs.Prelude.{ℕ, List, ◌++◌, codes, decimal}
+use Rattle.plan_times.specs.declared.fault.TimeFault.{TimeFault}
+use Rattle.plan_times.specs.declared.fault.TimeFault.TheVariants.{BadTime, OutOfYears}
+use Rattle.plan_zones.specs.declared.zone_fault.ZoneFault.{ZoneFault}
+use Rattle.plan_zones.specs.declared.zone_fault.ZoneFault.TheVariants as zone
+use Rattle.agenda_faults.specs.declared.machine_faults.MachineFault.{MachineFault}
+use Rattle.agenda_faults.specs.declared.machine_faults.MachineFault.TheVariants.{Time, Length, Backwards, Zone, Clock}
+use Rattle.agenda_faults.specs.declared.machine_faults.TimeOption.{TimeOption}
+use Rattle.agenda_faults.specs.declared.machine_faults.TimeOption.TheVariants as option
+
+-- an allocation failed
+abbrev pub memory_line : List ℕ
+memory_line = codes "agenda: NoMemory\n"
+
+-- the name of an option that gives a time
+abbrev pub option_name : TimeOption → List ℕ
+option_name option.After = codes "--after"
+option_name option.Since = codes "--since"
+option_name option.Until = codes "--until"
+
+-- what is wrong with the text of an option, and the text
+abbrev pub time_words : TimeFault → (text : List ℕ) → List ℕ
+time_words BadTime text =
+    codes ": not a time: '" ++ (text ++ codes "' (such as 'tomorrow 02:00', '+8h', '2026-12-01 22:00') [BadTime]\n")
+time_words OutOfYears text = codes ": before 1970 or after 2999: '" ++ (text ++ codes "' [OutOfYears]\n")
+
+-- an option whose text is not a time
+abbrev pub time_line : TimeOption → TimeFault → (text : List ℕ) → List ℕ
+time_line option fault text = codes "agenda: " ++ (option_name option ++ time_words fault text)
+
+-- a span whose end is before its start, of which this is the text
+abbrev pub backwards_line : (since : List ℕ) → List ℕ
+backwards_line since = codes "agenda: --until is before --since (" ++ (since ++ codes ") [Backwards]\n")
+
+-- a zone that can't be used, with what is wrong with it
+abbrev pub zone_line_with : (text words : List ℕ) → List ℕ
+zone_line_with text words = codes "agenda: zone '" ++ (text ++ words)
+
+-- a zone that can't be used. If an allocation failed, the zone is not named
+abbrev pub named_zone_line : (text : List ℕ) → ZoneFault → List ℕ
+named_zone_line text zone.NoMemory = memory_line
+named_zone_line text zone.BadZoneName = zone_line_with text (codes "': not the name of a zone [BadZoneName]\n")
+named_zone_line text zone.NoSuchZone = zone_line_with text (codes "': no such zone [NoSuchZone]\n")
+named_zone_line text zone.TooLarge = zone_line_with text (codes "': larger than 1048576 bytes [TooLarge]\n")
+named_zone_line text zone.BadZone = zone_line_with text (codes "': not a TZif file [BadZone]\n")
+
+-- an answer with more starts than a limit
+abbrev pub too_many_line : (limit : ℕ) → List ℕ
+too_many_line limit =
+    codes "agenda: more than " ++ (decimal limit ++ codes " starts: give a shorter span, or --limit N [TooMany]\n")
+
+-- a question about a machine that can't be answered
+abbrev pub machine_line : MachineFault → List ℕ
+machine_line (Time option fault text) = time_line option fault text
+machine_line (Length text) =
+    codes "agenda: --least: not a length: '" ++ (text ++ codes "' (such as '90min' or '2h') [BadLength]\n")
+machine_line (Backwards since) = backwards_line since
+machine_line (Zone text fault) = named_zone_line text fault
+machine_line Clock = codes "agenda: the system clock is after 2999: set it [OutOfYears]\n"
