@@ -4,10 +4,9 @@ use Rattle.std.proofs.lemmas.Bool.{or_cases}
 use Rattle.std.proofs.lemmas.List.{drop_more}
 use Rattle.std.proofs.lemmas.List.Folds.{list_any-append}
 use Rattle.std.proofs.lemmas.Slice.Eq.{bytes_eq-Decides}
-use Rattle.std.specs.HashMap.{IsEmpty, get_by_text}
+use Rattle.std.specs.HashMap.{IsEmpty}
 use Rattle.std.proofs.lemmas.Str.{len_utf8_ascii}
 use Rattle.std.proofs.lemmas.Str.Pattern.{NoCharPasses-char}
-use Rattle.std.specs.List.{list_any}
 use Rattle.std.specs.Str.Pattern.{RFindsChar, SplitsAroundMatch}
 use Rattle.std.specs.Map.{lookup, update}
 use Rattle.std.specs.Str.{bytes_eq}
@@ -19,7 +18,9 @@ use Rattle.plan_tree.specs.declared.tree.Node.TheVariants.{Missing}
 use Rattle.plan_tree.specs.Complete.{IsComplete, IsName, LacksSlash, is_searchable}
 use Rattle.plan_tree.specs.Kept.{HasNames, IsKept, IsListing, Keeps, dir_at, has_node, node_at}
 use Rattle.plan_tree.specs.Links.{is_here, is_up}
-use Rattle.plan_tree.specs.Tree.{Held, listed, path_below}
+use Rattle.plan_tree.specs.Tree.{Held, path_below}
+use Rattle.std.proofs.lemmas.Bool.Decides.{nat_tests}
+use Rattle.std.proofs.lemmas.Grind.{common_steps}
 
 -- a path that is split before and after its last slash
 pub split_last :
@@ -45,9 +46,7 @@ pub left_out :
     (held : Held) (kept : Kept) (path dir name : List ℕ) (found : KeptDir) → IsKept held kept →
     (path ≡ path_below dir name) × LacksSlash name → dir_at kept dir ≡ Some found → found.is_complete ≡ true →
     is_here name ≡ false → is_up name ≡ false → node_at kept path ≡ None → held.node path ≡ Missing
-left_out held kept path dir name found is split has complete here up none =
-    subst (λ p. held.node p ≡ Missing) (sym split.0)
-    (is.2 dir found name has complete (split.1, here, up) (ap (node_at kept) (sym split.0) ∙ none))
+left_out held kept path dir name found is split has complete here up none = grind (arith, nat_tests, common_steps)
 
 -- ---- one more node
 
@@ -68,20 +67,7 @@ some_by w old false some = some
 pub keeps_with_node :
     (held : Held) (old new : Kept) (path : List ℕ) (node : Node) → new.dirs ≡ old.dirs →
     ((q : List ℕ) → node_at new q ≡ update bytes_eq (node_at old) path (Some node) q) → node ≡ held.node path → Keeps held old new
-keeps_with_node held old new path node dirs nodes is = (
-  λ kept. (
-    λ q other found.
-        elim (same_by path q node other (node_at old q) (bytes_eq path q) refl (sym (nodes q) ∙ found)) as (λ _. held.node q ≡ other) [
-          | inl both ↦ ap held.node (sym both.0) ∙ sym is ∙ both.1
-          | inr before ↦ kept.0 q other before
-        ],
-    λ q dir found. kept.1 q dir (ap (λ d. get_by_text d q) (sym dirs) ∙ found),
-    λ q dir name found complete ordinary none.
-        kept.2 q dir name (ap (λ d. get_by_text d q) (sym dirs) ∙ found) complete ordinary
-        (none_by node (node_at old (path_below q name)) (bytes_eq path (path_below q name)) (sym (nodes (path_below q name)) ∙ none)),
-  ),
-  λ q some. ap is_some (nodes q) ∙ some_by node (node_at old q) (bytes_eq path q) some,
-)
+keeps_with_node held old new path node dirs nodes is = grind (arith, nat_tests, same_by, none_by, some_by)
 
 -- ---- one after the other
 
@@ -107,16 +93,7 @@ pub has_one_more :
     (old new : Kept) (dir : List ℕ) (names : List (List ℕ)) (name : List ℕ) → HasNames old dir names →
     ((path : List ℕ) → has_node old path ≡ true → has_node new path ≡ true) → has_node new (path_below dir name) ≡ true →
     HasNames new dir (names ++ name ∷ [])
-has_one_more old new dir names name has stays more = λ q is.
-    let parts = sym (list_any-append (bytes_eq q) names (name ∷ [])) ∙ is in
-    elim (or_cases (list_any (bytes_eq q) names) (list_any (bytes_eq q) (name ∷ [])) parts) as (λ _. has_node new (path_below dir q) ≡ true) [
-      | inl before ↦ stays (path_below dir q) (has q before)
-      | inr here ↦
-          elim (or_cases (bytes_eq q name) false here) as (λ _. has_node new (path_below dir q) ≡ true) [
-            | inl same ↦ ap (λ n. has_node new (path_below dir n)) ((bytes_eq-Decides q name).0 same) ∙ more
-            | inr other ↦ absurd (cc)
-          ]
-    ]
+has_one_more old new dir names name has stays more = grind (arith, nat_tests, list_any-append, or_cases, bytes_eq-Decides)
 
 -- ---- one more listing
 
@@ -129,9 +106,7 @@ complete_in :
     (held : Held) (kept : Kept) (dir : List ℕ) (listing : Listing) (name : List ℕ) → IsComplete held → IsListing held kept dir listing →
     listing.is_whole ≡ true → is_searchable held dir ≡ true → IsName name → node_at kept (path_below dir name) ≡ None →
     held.node (path_below dir name) ≡ Missing
-complete_in held kept dir listing name complete is whole searchable ordinary none =
-    complete dir listing.names.items name (is.0 ∙ ap (λ b. Some (listing.names.items, b)) whole) searchable ordinary
-    (absent_by (list_any (bytes_eq name) listing.names.items) (node_at kept (path_below dir name)) (is.1 name) none)
+complete_in held kept dir listing name complete is whole searchable ordinary none = grind (arith, nat_tests, absent_by)
 
 pub keeps_with_listing :
     (held : Held) (old new : Kept) (path : List ℕ) (found : KeptDir) → new.nodes ≡ old.nodes →
@@ -139,26 +114,4 @@ pub keeps_with_listing :
     IsListing held old path found.listing →
     (found.is_complete ≡ true → (found.listing.is_whole ≡ true) × (is_searchable held path ≡ true)) →
     Keeps held old new
-keeps_with_listing held old new path found nodes dirs complete is whole = (
-  λ kept. (
-    λ q node has. kept.0 q node (ap (λ n. get_by_text n q) (sym nodes) ∙ has),
-    λ q dir has.
-        elim (same_by path q found dir (dir_at old q) (bytes_eq path q) refl (sym (dirs q) ∙ has))
-        as (λ _. held.names q ≡ Some (listed dir.listing)) [
-          | inl both ↦ ap held.names (sym both.0) ∙ is.0 ∙ ap (λ d. Some (listed d.listing)) both.1
-          | inr before ↦ kept.1 q dir before
-        ],
-    λ q dir name has ends ordinary none.
-        let none_old : node_at old (path_below q name) ≡ None = ap (λ n. get_by_text n (path_below q name)) (sym nodes) ∙ none in
-        elim (same_by path q found dir (dir_at old q) (bytes_eq path q) refl (sym (dirs q) ∙ has))
-        as (λ _. held.node (path_below q name) ≡ Missing) [
-          | inl both ↦
-              let both_hold = whole (ap (λ d. d.is_complete) both.1 ∙ ends) in
-              ap (λ p. held.node (path_below p name)) (sym both.0)
-              ∙ complete_in held old path found.listing name complete is both_hold.0 both_hold.1 ordinary
-              (ap (λ p. node_at old (path_below p name)) both.0 ∙ none_old)
-          | inr before ↦ kept.2 q dir name before ends ordinary none_old
-        ],
-  ),
-  λ q some. ap (λ n. is_some (get_by_text n q)) nodes ∙ some,
-)
+keeps_with_listing held old new path found nodes dirs complete is whole = grind (arith, nat_tests, same_by, complete_in)

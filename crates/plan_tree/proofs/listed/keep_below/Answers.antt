@@ -1,11 +1,6 @@
 use Rattle.plan_tree.proofs.KeptLemmas.{keeps_both}
 use Rattle.plan_tree.proofs.listed.keep_below.Goals as goal
 
-pub loop-dir-init : goal.loop-dir-init
-loop-dir-init g c = λ known.
-    keeps_both (g.T.Tree.held c.args.tree.now) c.args.kept.now c.keep_way.new.kept c.keep_dir.new.kept (c.in_ok-keep_way.ensures known)
-    (c.in_ok-inside.ensures known)
-
 pub loop-dir-preserved : goal.loop-dir-preserved
 loop-dir-preserved g c = λ known.
     keeps_both (g.T.Tree.held c.args.tree.now) c.args.kept.now c.loop-dir.kept c.keep_dir-in-loop-dir.new.kept (c.loop-dir.invariant known)
