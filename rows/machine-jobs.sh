@@ -150,7 +150,7 @@ jobs_rows <<'ROWS'
 S/u=x\n@daily\x20a\ny\n|upcoming --strict --utc --after 2024-03-31T00:00:00Z||root/var/spool/cron/crontabs/u:1: error: expected NAME=VALUE, or five fields and a command [BadSetting]|
 S/u=x\n@daily\x20a\ny\n|--strict --after 2024-03-31T00:00:00Z||root/var/spool/cron/crontabs/u:1: error: expected NAME=VALUE, or five fields and a command [BadSetting]|
 S/u=x\n@daily\x20a\ny\n|plan --strict --limit 0 --since 2024-03-31T00:00:00Z --until 2024-04-01T00:00:00Z||root/var/spool/cron/crontabs/u:1: error: expected NAME=VALUE, or five fields and a command [BadSetting]|
-S/u=x\n@daily\x20a\ny\n|quiet --strict --least 0 --since 2024-03-31T00:00:00Z --until 2024-04-01T00:00:00Z||root/var/spool/cron/crontabs/u:1: error: expected NAME=VALUE, or five fields and a command [BadSetting]|
+S/u=x\n@daily\x20a\ny\n|quiet --strict --limit 0 --since 2024-03-31T00:00:00Z --until 2024-04-01T00:00:00Z||root/var/spool/cron/crontabs/u:1: error: expected NAME=VALUE, or five fields and a command [BadSetting]|
 *a.timer U/a.timer=DAILY E/a.timer.d/x.conf=\n[Timer]\nOnCalendar=24:00\n S/u=@daily\x20a\n|upcoming --strict --after 2024-03-31T00:00:00Z||root/etc/systemd/system/a.timer.d/x.conf:3: error: hour in '24:00': out of range 0-23 [OutOfRange]|
 C/a/ S/u=x\n|upcoming --strict --after 2024-03-31T00:00:00Z||root/var/spool/cron/crontabs/u:1: error: expected NAME=VALUE, or five fields and a command [BadSetting]|C/a not readable
 C/a/ S/u=@daily\x20a\n|upcoming --strict --utc --after 2024-03-31T00:00:00Z|2024-04-01T00:00:00Z>u:1>a||C/a not readable
@@ -250,8 +250,8 @@ ROWS
 
 # The zone comes first, then the time, the number of starts, and the rule.
 next_errors <<'ROWS'
-x|--zone Nowhere/At_all --after x --count 0|agenda: zone: NoSuchZone
-x|--utc --after x --count 0|agenda: after: BadForm
+x|--zone Nowhere/At_all --after x --count 0|agenda: zone 'Nowhere/At_all': no such zone [NoSuchZone]
+x|--utc --after x --count 0|agenda: --after: not a time: 'x' (such as 'tomorrow 02:00', '+8h', '2026-12-01 22:00') [BadTime]
 x|--utc --count 0|agenda: count: BadCount
 x|--utc --count 1001|agenda: count: BadCount
 ROWS
