@@ -186,7 +186,7 @@ C/\xff C/a|| etc/cron.d a name that isn't UTF-8
 *a.timer E/a.timer>/nowhere||E/a.timer not readable
 *a.timer||D/a.timer no such timer
 *a@b\\c.timer U/a@.timer||D/a@b\\c.timer escape
-*a\nb.timer U/a\nb.timer||
+*a\nb.timer U/a\nb.timer||D/a\nb.timer bad name
 etc/anacrontab F/atjobs/a root/.config/systemd/user/a.timer||anacron,at F/atjobs,user root/.config/systemd/user
 *a.timer U/a.timer=DAILY U/timer.d/a\nb\\.conf=[Timer]\nOnCalendar=24:00\n|U/timer.d/a\nb\\.conf,2,OutOfRange,hour in '24:00': out of range 0-23|
 *a.timer U/a.timer=DAILY U/timer.d/"\x01\x08\t\x0c\x0d\x1f\x7f\xc3\xa0.conf=[Timer]\nOnCalendar=24:00\n|U/timer.d/"\x01\x08\t\x0c\x0d\x1f\x7f\xc3\xa0.conf,2,OutOfRange,hour in '24:00': out of range 0-23|
@@ -523,7 +523,7 @@ C/a=x\n C/b=x\n|C/a|C/b,1,BadSetting,expected NAME=VALUE, or five fields and a c
 C/a=x\n S/b=x\n|etc/cron.d|S/b,1,BadSetting,expected NAME=VALUE, or five fields and a command|etc/cron.d not readable
 *a.timer U/a.timer=[Timer]\nOnCalendar=24:00\n|U/a.timer||U/a.timer not readable
 *a.timer U/a.timer=DAILY U/a.timer.d/x.conf=[Timer]\nOnCalendar=24:00\n|U/a.timer.d/x.conf||U/a.timer.d/x.conf not readable
-*a.timer U/a.timer=DAILY U/a.timer.d/x.conf=[Timer]\nOnCalendar=24:00\n|U/a.timer.d||
+*a.timer U/a.timer=DAILY U/a.timer.d/x.conf=[Timer]\nOnCalendar=24:00\n|U/a.timer.d||U/a.timer.d not readable
 etc/localtime>/usr/share/zoneinfo/No/Where usr/share/zoneinfo/No/Where=EAST|usr/share/zoneinfo/No/Where||zone
 etc/localtime>/usr/share/zoneinfo/No/Where usr/share/zoneinfo/No/Where=EAST|usr/share/zoneinfo||zone
 etc/localtime=CET|etc||etc/crontab not readable,etc/cron.d not readable,zone

@@ -53,6 +53,7 @@ const FOUND: &str = "\
 a.timer: lib/systemd/system/a.timer etc/systemd/system/a.timer.d/b.conf etc/systemd/system/a.timer.d/z.conf
 s.timer: lib/systemd/system/s.timer
 b-x.timer: lib/systemd/system/b@.timer
+skipped etc/systemd/system/timers.target.wants/c+.timer: bad name
 skipped etc/systemd/system/a.timer.d/m.conf: masked
 skipped etc/systemd/system/timers.target.wants/gone.timer: no such timer
 skipped etc/systemd/system/masked.timer: masked
