@@ -72,23 +72,23 @@ told reports (Err fault) flag takes_all old new is unset off = absurd cc
 -- ---- a strict answer
 
 pub rest_stopped :
-    (stopped : Bool) (paths : List SourcePath) (machine : Machine) (errors : List Found) (goal : Goal)
-    (answers : Step (Result (List ℕ) RunFault)) → stopped ≡ true → jobs_rest stopped paths machine errors goal answers (Ok (stops_at_first paths errors))
-rest_stopped true paths machine errors goal answers is = refl
-rest_stopped false paths machine errors goal answers is = absurd cc
+    (stopped : Bool) (paths : List SourcePath) (errors : List Found) (status : ℕ) (goal : Goal)
+    (answers : Step (Result (List ℕ) RunFault)) → stopped ≡ true → jobs_rest stopped paths errors status goal answers (Ok (stops_at_first paths errors))
+rest_stopped true paths errors status goal answers is = refl
+rest_stopped false paths errors status goal answers is = absurd cc
 
 pub rest_failed :
-    (stopped : Bool) (paths : List SourcePath) (machine : Machine) (errors : List Found) (goal : Goal)
-    (answers : Step (Result (List ℕ) RunFault)) (failure : Failure) → stopped ≡ false → answers (Err failure) → jobs_rest stopped paths machine errors goal answers (Err failure)
-rest_failed true paths machine errors goal answers failure is fails = absurd cc
-rest_failed false paths machine errors goal answers failure is fails = stops failure fails refl
+    (stopped : Bool) (paths : List SourcePath) (errors : List Found) (status : ℕ) (goal : Goal)
+    (answers : Step (Result (List ℕ) RunFault)) (failure : Failure) → stopped ≡ false → answers (Err failure) → jobs_rest stopped paths errors status goal answers (Err failure)
+rest_failed true paths errors status goal answers failure is fails = absurd cc
+rest_failed false paths errors status goal answers failure is fails = stops failure fails refl
 
 pub rest_planned :
-    (stopped : Bool) (paths : List SourcePath) (machine : Machine) (errors : List Found) (goal : Goal)
+    (stopped : Bool) (paths : List SourcePath) (errors : List Found) (status : ℕ) (goal : Goal)
     (answers : Step (Result (List ℕ) RunFault)) (answer : Result (List ℕ) RunFault) → stopped ≡ false → answers (Ok answer) →
-    jobs_rest stopped paths machine errors goal answers (Ok (plans (outcome_of machine paths errors (in_words goal answer))))
-rest_planned true paths machine errors goal answers answer is made = absurd cc
-rest_planned false paths machine errors goal answers answer is made = goes answer made refl
+    jobs_rest stopped paths errors status goal answers (Ok (plans (outcome_of paths errors status (in_words goal answer))))
+rest_planned true paths errors status goal answers answer is made = absurd cc
+rest_planned false paths errors status goal answers answer is made = goes answer made refl
 
 -- a step, after which the failure of a zone has its text
 pub named :

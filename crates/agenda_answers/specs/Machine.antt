@@ -194,14 +194,8 @@ in_words (goal.Quiet planning least) answer = naming_limit planning.sizes.limit 
 in_words (goal.Upcoming after delays) answer = answer
 
 -- the answer for jobs, without the errors that are skipped
-abbrev pub outcome_of : Machine → (paths : List SourcePath) → List Found → Result (List ℕ) RunFault → Outcome
-outcome_of machine paths errors answer = record {
-  unread = [];
-  paths = paths;
-  errors = errors;
-  answer = answer;
-  status = machine_status machine (is_all_clean errors);
-}
+abbrev pub outcome_of : (paths : List SourcePath) → List Found → (status : ℕ) → Result (List ℕ) RunFault → Outcome
+outcome_of paths errors status answer = record { unread = []; paths = paths; errors = errors; answer = answer; status = status }
 
 -- an error stops a strict answer
 abbrev pub is_stopped : (strict : Bool) → List Found → Bool
@@ -209,11 +203,11 @@ is_stopped strict errors = strict && not (length errors == 0)
 
 -- what follows if the answer is stopped, or else the answer
 abbrev pub jobs_rest :
-    (stopped : Bool) → (paths : List SourcePath) → Machine → List Found → Goal → Step (Result (List ℕ) RunFault) → Step Rest
-jobs_rest true paths machine errors goal answers = gives (stops_at_first paths errors)
-jobs_rest false paths machine errors goal answers = do
+    (stopped : Bool) → (paths : List SourcePath) → List Found → (status : ℕ) → Goal → Step (Result (List ℕ) RunFault) → Step Rest
+jobs_rest true paths errors status goal answers = gives (stops_at_first paths errors)
+jobs_rest false paths errors status goal answers = do
   answer ← answers
-  gives (plans (outcome_of machine paths errors (in_words goal answer)))
+  gives (plans (outcome_of paths errors status (in_words goal answer)))
 
 -- the answer for the jobs of a machine, in these time zones
 abbrev pub shows_jobs_in :
@@ -221,7 +215,8 @@ abbrev pub shows_jobs_in :
 shows_jobs_in dir jobs goal machine unplanned clock zones = do
   format ← format_made jobs.format clock.name (unnamed_zone clock.is_of_file) zones.clock
   errors ← computes (errors_in machine zones (sources_of machine.sources.items))
-  rest ← jobs_rest (is_stopped jobs.strict errors) (paths_of false (root_of dir) machine.sources.items) machine errors goal
+  rest ← jobs_rest (is_stopped jobs.strict errors) (paths_of false (root_of dir) machine.sources.items) errors
+      (machine_status machine (is_all_clean errors)) goal
       (answer_of format goal (Ok (kept_jobs zones (sources_of machine.sources.items))))
   gives (shown_with dir machine unplanned clock.is_unknown rest)
 

@@ -30,8 +30,8 @@ use agenda_faults::status::{DONE, FAILED, REFUSED};
 use agenda_faults::{Failure, RunFault};
 use agenda_findings::{write_findings, write_skipped};
 use agenda_machine::{
-    Reports, dir_of, is_incomplete, located, paths_of, root_of, sources_of, with_monotonic, write_reports,
-    write_sources,
+    Reports, dir_of, is_incomplete, located, paths_of, root_of, sources_of, with_monotonic,
+    write_reports, write_sources,
 };
 use agenda_sources::{
     Found, SourcePath, SourcePaths, Sources, TimeZones, findings_of_sources, zone_names,
@@ -369,7 +369,8 @@ fn outcome_of(
     skipped: Skipped,
     answer: Result<PreparedAnswer, RunFault>,
 ) -> Outcome
-    ensures { result ≡ outcome_of machine.now skipped.paths skipped.errors.items answer }
+    ensures { result ≡ outcome_of skipped.paths skipped.errors.items
+        (machine_status machine.now (is_all_clean skipped.errors.items)) answer }
 {
     let status = status_of(machine, are_warnings(skipped.errors.as_slice()));
     Outcome {

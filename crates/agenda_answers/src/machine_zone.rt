@@ -58,7 +58,7 @@ fn given_clock<F: Files>(alloc: Global, files: &mut F, text: &str) -> Result<Zon
     ensures same { F.held files.new ≡ F.held files.old }
 {
     let found = clock_of_text(alloc, files, text);
-    let clock = named_zone(alloc, found, text)?;
+    let clock = naming_zone(alloc, found, text)?;
     let name = copy_of(alloc, text)?;
     Ok(ZoneClock {
         name: Some(name),
@@ -69,7 +69,7 @@ fn given_clock<F: Files>(alloc: Global, files: &mut F, text: &str) -> Result<Zon
 }
 
 // Returns the clock of a zone. If the zone can't be used, the error has its text.
-fn named_zone(alloc: Global, clock: Result<Clock, Failure>, text: &str) -> Result<Clock, Failure>
+fn naming_zone(alloc: Global, clock: Result<Clock, Failure>, text: &str) -> Result<Clock, Failure>
     ensures { names_zone text.now clock result }
 {
     match clock {

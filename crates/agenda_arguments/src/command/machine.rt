@@ -24,8 +24,12 @@ const ZONE: CommandOption<'static> = CommandOption::Text("zone", "ZONE", help::M
 const UTC: CommandOption<'static> = CommandOption::Flag("utc", help::UTC);
 
 // The time after which starts are listed.
-const AFTER: CommandOption<'static> =
-    CommandOption::Preset("after", "TIME", "now", help::MACHINE_AFTER);
+const AFTER: CommandOption<'static> = CommandOption::Preset(
+    "after",
+    "TIME",
+    "now",
+    help::MACHINE_AFTER,
+);
 
 // Whether an error in a file stops the answer.
 const STRICT: CommandOption<'static> = CommandOption::Flag("strict", help::STRICT);

@@ -44,7 +44,7 @@ returns-in_err-skipped g c =
 pub returns-then-is_stopped : goal.returns-then-is_stopped
 returns-then-is_stopped g c =
     goes _ (rw c.root_of.ensures at c.in_ok-clock.ensures.read) (goes _ c.in_ok-goal.ensures
-    (goes _ (rw (c.in_ok-clock.ensures.same, c.in_ok-sources.ensures, c.as_slice.ensures.value) at c.in_ok-zones.ensures.read)
+    (goes _ (rw (c.in_ok-clock.ensures.same, c.in_ok-sources.ensures, c.as_slice.ensures.value) at c.in_ok-zones.ensures)
     (goes _ (rw c.unnamed_zone-unnamed.ensures at c.in_ok-format.ensures)
     (goes _ (rw (c.in_ok-sources.ensures, c.as_slice.ensures.value) at c.in_ok-skipped.ensures.errors)
     (goes _ (rest_stopped _ _ _ _ _ _ (rw (c.is_stopped.ensures, c.as_slice-2.ensures.value) at c.if-is_stopped.true)) (rw c.in_ok-skipped.ensures.paths refl))))))
