@@ -360,7 +360,7 @@ END
 words_make_version() {
   cat >"$work/words/version.text" <<'END'
 agenda 0.1.0
-proved with rattle-kit-13b logic dac8208d650f15bf
+proved with rattle-kit-13f logic dac8208d650f15bf
 END
 }
 

@@ -73,13 +73,15 @@ told reports (Err fault) flag takes_all old new is unset off = absurd cc
 
 pub rest_stopped :
     (stopped : Bool) (paths : List SourcePath) (errors : List Found) (status : ℕ) (goal : Goal)
-    (answers : Step (Result (List ℕ) RunFault)) → stopped ≡ true → jobs_rest stopped paths errors status goal answers (Ok (stops_at_first paths errors))
+    (answers : Step (Result (List ℕ) RunFault)) → stopped ≡ true →
+    jobs_rest stopped paths errors status goal answers (Ok (stops_at_first paths errors))
 rest_stopped true paths errors status goal answers is = refl
 rest_stopped false paths errors status goal answers is = absurd cc
 
 pub rest_failed :
     (stopped : Bool) (paths : List SourcePath) (errors : List Found) (status : ℕ) (goal : Goal)
-    (answers : Step (Result (List ℕ) RunFault)) (failure : Failure) → stopped ≡ false → answers (Err failure) → jobs_rest stopped paths errors status goal answers (Err failure)
+    (answers : Step (Result (List ℕ) RunFault)) (failure : Failure) → stopped ≡ false → answers (Err failure) →
+    jobs_rest stopped paths errors status goal answers (Err failure)
 rest_failed true paths errors status goal answers failure is fails = absurd cc
 rest_failed false paths errors status goal answers failure is fails = stops failure fails refl
 

@@ -18,7 +18,7 @@ use std::alloc::{AllocError, Global};
 use subcommands::Subcommand;
 
 // The version of the program, which is written only here, and the prover's version.
-const VERSION: &str = "0.1.0\nproved with rattle-kit-13b logic dac8208d650f15bf";
+const VERSION: &str = "0.1.0\nproved with rattle-kit-13f logic dac8208d650f15bf";
 
 // An option or argument of a subcommand. Its first text is its name, and its last one its help. A table of options
 // takes no memory, so there is nothing to free if an allocation fails.

@@ -240,7 +240,10 @@ machine_jobs_rows : RowsHold asked_in
     ∷ (codes "agenda machine upcoming", asks_here (asks_jobs (machine_goal.Upcoming (codes "now")) false))
     ∷ (
       codes "agenda machine upcoming --utc --json",
-      asks_here (record (asks_jobs (machine_goal.Upcoming (codes "now")) false) { zone = Some (codes "UTC"); format = format_from true false }),
+      asks_here (record (asks_jobs (machine_goal.Upcoming (codes "now")) false) {
+        zone = Some (codes "UTC");
+        format = format_from true false;
+      }),
     )
     ∷ (
       codes "agenda machine --strict",

@@ -16,4 +16,8 @@ returns-in-Steps-clause-answers g c = rw c.in-Steps.is (_, c.steps.ensures.ends,
 
 pub returns-in-Explain-clause-answers : goal.returns-in-Explain-clause-answers
 returns-in-Explain-clause-answers g c =
-    rw c.in-Explain.is (c.status_after.result, rw c.status_after.ensures (ran _ _ _ _ _ c.run_explain.ensures.output), c.end-in-Explain.ensures.exits)
+    rw c.in-Explain.is (
+      c.status_after.result,
+      rw c.status_after.ensures (ran _ _ _ _ _ c.run_explain.ensures.output),
+      c.end-in-Explain.ensures.exits,
+    )

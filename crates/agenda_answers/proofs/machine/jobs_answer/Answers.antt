@@ -47,7 +47,8 @@ returns-then-is_stopped g c =
     (goes _ (rw (c.in_ok-clock.ensures.same, c.in_ok-sources.ensures, c.as_slice.ensures.value) at c.in_ok-zones.ensures)
     (goes _ (rw c.unnamed_zone-unnamed.ensures at c.in_ok-format.ensures)
     (goes _ (rw (c.in_ok-sources.ensures, c.as_slice.ensures.value) at c.in_ok-skipped.ensures.errors)
-    (goes _ (rest_stopped _ _ _ _ _ _ (rw (c.is_stopped.ensures, c.as_slice-2.ensures.value) at c.if-is_stopped.true)) (rw c.in_ok-skipped.ensures.paths refl))))))
+    (goes _ (rest_stopped _ _ _ _ _ _ (rw (c.is_stopped.ensures, c.as_slice-2.ensures.value) at c.if-is_stopped.true))
+    (rw c.in_ok-skipped.ensures.paths refl))))))
 
 pub returns-in_err-answer : goal.returns-in_err-answer
 returns-in_err-answer g c =
@@ -55,7 +56,8 @@ returns-in_err-answer g c =
     (goes _ (rw (c.in_ok-clock.ensures.same, c.in_ok-sources.ensures, c.as_slice.ensures.value) at c.in_ok-zones.ensures)
     (goes _ (rw c.unnamed_zone-unnamed.ensures at c.in_ok-format.ensures)
     (goes _ (rw (c.in_ok-sources.ensures, c.as_slice.ensures.value) at c.in_ok-skipped.ensures.errors)
-    (failed _ _ (rest_failed _ _ _ _ _ _ _ (rw (c.is_stopped.ensures, c.as_slice-2.ensures.value) at c.if-is_stopped.false) (settled_failure c.in_ok-format.format c.in_ok-goal.goal
+    (failed _ _ (rest_failed _ _ _ _ _ _ _ (rw (c.is_stopped.ensures, c.as_slice-2.ensures.value) at c.if-is_stopped.false)
+    (settled_failure c.in_ok-format.format c.in_ok-goal.goal
     (Ok (kept_jobs c.in_ok-zones.zones (sources_of c.args.machine.sources.items))) c.prepare_answer-made.result _
     c.prepare_answer-made.ensures.bad_least c.in_err-answer.ensures))
     c.from_residual-in_err-answer.ensures.1)))))
@@ -66,7 +68,8 @@ returns g c =
     (goes _ (rw (c.in_ok-clock.ensures.same, c.in_ok-sources.ensures, c.as_slice.ensures.value) at c.in_ok-zones.ensures)
     (goes _ (rw c.unnamed_zone-unnamed.ensures at c.in_ok-format.ensures)
     (goes _ (rw (c.in_ok-sources.ensures, c.as_slice.ensures.value) at c.in_ok-skipped.ensures.errors)
-    (goes _ (rest_planned _ _ _ _ _ _ _ (rw (c.is_stopped.ensures, c.as_slice-2.ensures.value) at c.if-is_stopped.false) (settled_answer c.in_ok-format.format c.in_ok-goal.goal
+    (goes _ (rest_planned _ _ _ _ _ _ _ (rw (c.is_stopped.ensures, c.as_slice-2.ensures.value) at c.if-is_stopped.false)
+    (settled_answer c.in_ok-format.format c.in_ok-goal.goal
     (Ok (kept_jobs c.in_ok-zones.zones (sources_of c.args.machine.sources.items))) c.prepare_answer-made.result
     (Ok c.in_ok-answer.answer)
     (rw (c.in_ok-skipped.ensures.jobs, c.in_ok-sources.ensures, c.as_slice.ensures.value) at c.prepare_answer-made.ensures.answer)

@@ -13,7 +13,8 @@ returns-in_err-after-in-Upcoming c =
 
 pub returns-in_ok-after-in-Upcoming : goal.returns-in_ok-after-in-Upcoming
 returns-in_ok-after-in-Upcoming c =
-    goes c.in_ok-now.now c.in_ok-now.ensures.value (rw c.in-Upcoming.is (goes c.in_ok-after-in-Upcoming.after c.in_ok-after-in-Upcoming.ensures.read refl))
+    goes c.in_ok-now.now c.in_ok-now.ensures.value (rw c.in-Upcoming.is
+    (goes c.in_ok-after-in-Upcoming.after c.in_ok-after-in-Upcoming.ensures.read refl))
 
 pub returns-in_err-span-in-Plan : goal.returns-in_err-span-in-Plan
 returns-in_err-span-in-Plan c =
@@ -21,7 +22,8 @@ returns-in_err-span-in-Plan c =
     (failed _ _ c.in_err-span-in-Plan.ensures c.from_residual-in_err-span-in-Plan.ensures.1))
 
 pub returns-in_ok-span-in-Plan : goal.returns-in_ok-span-in-Plan
-returns-in_ok-span-in-Plan c = goes c.in_ok-now.now c.in_ok-now.ensures.value (rw c.in-Plan.is (goes c.in_ok-span-in-Plan.span c.in_ok-span-in-Plan.ensures refl))
+returns-in_ok-span-in-Plan c = goes c.in_ok-now.now c.in_ok-now.ensures.value (rw c.in-Plan.is
+    (goes c.in_ok-span-in-Plan.span c.in_ok-span-in-Plan.ensures refl))
 
 pub returns-in_err-span-in-Quiet : goal.returns-in_err-span-in-Quiet
 returns-in_err-span-in-Quiet c =

@@ -30,7 +30,8 @@ returns-in_err-until c =
     (failed _ _ c.in_err-until.ensures.read c.from_residual-in_err-until.ensures.1)
 
 pub returns-in-Ok : goal.returns-in-Ok
-returns-in-Ok c = goes c.in_ok-since.since c.in_ok-since.ensures.read (goes c.in_ok-until.until c.in_ok-until.ensures.read c.in-Ok.ensures.span)
+returns-in-Ok c = goes c.in_ok-since.since c.in_ok-since.ensures.read
+    (goes c.in_ok-until.until c.in_ok-until.ensures.read c.in-Ok.ensures.span)
 
 pub returns-in-Err : goal.returns-in-Err
 returns-in-Err c =

@@ -9,5 +9,6 @@ unfolding machine_plan
 returns-clause-app c =
     let with_the_span = c.in_ok-command.ensures.app ∙ ap with_machine_span c.new_subcommand-command.ensures.app in
     IfOk-weaker c.with_arguments.result _ _ (λ new is. is ∙ ap (λ (app : App). with_each app
-    (machine_zone_rules ++ flag_option (codes "delays") ∷ flag_option (codes "strict") ∷ flag_option (codes "json") ∷ machine_size_rules)) with_the_span)
+    (machine_zone_rules ++ flag_option (codes "delays") ∷ flag_option (codes "strict")
+    ∷ flag_option (codes "json") ∷ machine_size_rules)) with_the_span)
     c.with_arguments.ensures.app
