@@ -43,9 +43,9 @@ pub record Printed : Type 0 where
 
 -- the last step of a request: a command prints a text, which has this status, or is rejected
 abbrev pub prints : (status : ℕ) → (List ℕ → Type 0) → (RunFault → Type 0) → Step Printed
-prints status IsText IsRefused (Ok printed) = IsText printed.text × (printed.status ≡ status)
-prints status IsText IsRefused (Err (Run fault)) = IsRefused fault
-prints status IsText IsRefused (Err other) = ⊥
+prints status IsText IsError (Ok printed) = IsText printed.text × (printed.status ≡ status)
+prints status IsText IsError (Err (Run fault)) = IsError fault
+prints status IsText IsError (Err other) = ⊥
 
 -- the same by the output of the command, which is its text or its first error
 abbrev pub outputs : (status : ℕ) → Result (List ℕ) RunFault → Step Printed

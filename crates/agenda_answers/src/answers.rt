@@ -15,7 +15,7 @@ use crate::requests::{Request, StartsRequest, request_of};
 use crate::sources::{read_input, read_rule_zones};
 use agenda_arguments::{Ask, UsageFault, ZonesRequest, read_words};
 use agenda_commands::{Checked, run_check, run_explain, run_next, run_script};
-use agenda_faults::status::{DONE, REFUSED};
+use agenda_faults::status::{DONE, REJECTED};
 use agenda_faults::{Failure, RunFault, fault_line};
 use agenda_sources::{SourcePath, SourcePaths};
 use plan_rules::Text;
@@ -232,7 +232,7 @@ fn status_on(checked: Checked) -> u8
 {
     match checked {
         Checked::WithoutErrors => DONE,
-        Checked::WithErrors => REFUSED,
+        Checked::WithErrors => REJECTED,
     }
 }
 

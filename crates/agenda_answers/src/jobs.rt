@@ -23,7 +23,7 @@ use crate::formats::{UTC, make_format};
 use crate::sources::read_input;
 use agenda_arguments::JobsRequest;
 use agenda_commands::{Goal, PreparedAnswer, kept_if, prepare_answer};
-use agenda_faults::status::{DONE, FAILED, REFUSED};
+use agenda_faults::status::{DONE, FAILED, REJECTED};
 use agenda_faults::{Failure, RunFault};
 use agenda_findings::write_skipped;
 use agenda_sources::{Found, SourcePath, SourcePaths, without_errors_all_is_kept};
@@ -166,7 +166,7 @@ fn skipped_status(unread: &[SourcePath], errors: &[Found]) -> u8
     if !unread.is_empty() {
         FAILED
     } else if !errors.is_empty() {
-        REFUSED
+        REJECTED
     } else {
         DONE
     }

@@ -26,7 +26,7 @@ use crate::machine_goal::goal_at;
 use crate::machine_zone::machine_clock;
 use agenda_arguments::{MachineJobs, MachineQuestion, MachineRequest};
 use agenda_commands::{Goal, PreparedAnswer, are_warnings, kept_if, prepare_answer};
-use agenda_faults::status::{DONE, FAILED, REFUSED};
+use agenda_faults::status::{DONE, FAILED, REJECTED};
 use agenda_faults::{Failure, RunFault};
 use agenda_findings::{write_findings, write_skipped};
 use agenda_machine::{
@@ -470,7 +470,7 @@ fn report_first<S: Stream>(skipped: &Skipped, err: &mut S) -> u8
         None => &[],
     };
     match write_skipped(&[], skipped.paths.as_slice(), first, err) {
-        Ok(()) => REFUSED,
+        Ok(()) => REJECTED,
         Err(_) => FAILED,
     }
 }
@@ -515,6 +515,6 @@ fn status_of(machine: &Machine, is_clean: bool) -> u8
     if is_clean && !is_incomplete(machine.skipped.as_slice()) {
         DONE
     } else {
-        REFUSED
+        REJECTED
     }
 }

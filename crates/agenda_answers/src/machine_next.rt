@@ -13,7 +13,7 @@ use crate::machine_goal::after_at;
 use crate::machine_zone::machine_clock;
 use agenda_arguments::{MachineNext, ZonesRequest};
 use agenda_commands::run_next;
-use agenda_faults::status::{DONE, FAILED, REFUSED};
+use agenda_faults::status::{DONE, FAILED, REJECTED};
 use agenda_faults::{Failure, RunFault};
 use agenda_findings::rule_fault_line;
 use agenda_machine::{Reports, write_reports};
@@ -141,7 +141,7 @@ fn report_fault<S: Stream>(fault: RunFault, rule: &Asked, err: &mut S) -> u8
     match fault {
         RunFault::Rule(fault) => {
             rule_fault_line(rule, fault, err);
-            REFUSED
+            REJECTED
         }
         fault => end(Err(Failure::Run(fault)), &[], err),
     }

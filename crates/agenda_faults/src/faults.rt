@@ -4,7 +4,7 @@ ghost use Rattle.std.specs.Prelude.{◌≡◌};
 ghost use Rattle.agenda_faults.specs.Faults.{line_status, machine_status, plan_status, rule_status, script_status, zone_status};
 
 use crate::machine_faults::{MachineFault, TimeOption};
-use crate::status::{FAILED, REFUSED, USAGE};
+use crate::status::{FAILED, REJECTED, USAGE};
 use agenda_script::{ScriptCause, ScriptFault};
 use agenda_sources::SourceFault;
 use plan_collect::{CollectFault, PlanFault, SpanFault};
@@ -230,11 +230,11 @@ impl Failure {
     {
         match self {
             Failure::Usage(_) => USAGE,
-            Failure::Moment(_, _) | Failure::Span(_) => REFUSED,
+            Failure::Moment(_, _) | Failure::Span(_) => REJECTED,
             Failure::Zone(fault) => zone_status(*fault),
             Failure::Run(fault) => fault.status(),
             Failure::File(_) => FAILED,
-            Failure::NotDirectory(_) | Failure::TooManyUnits(_) => REFUSED,
+            Failure::NotDirectory(_) | Failure::TooManyUnits(_) => REJECTED,
             Failure::Machine(fault) => machine_status(fault),
         }
     }
@@ -253,9 +253,9 @@ impl RunFault {
             RunFault::Plan(fault) => plan_status(*fault),
             RunFault::Script(fault) => script_status(fault.cause),
             RunFault::BadCount | RunFault::BadLeast | RunFault::SameName(_) | RunFault::Full => {
-                REFUSED
+                REJECTED
             }
-            RunFault::TooManyStarts(_) => REFUSED,
+            RunFault::TooManyStarts(_) => REJECTED,
             RunFault::NoMemory | RunFault::Device(_) => FAILED,
         }
     }
@@ -267,7 +267,7 @@ fn rule_status(cause: RuleCause) -> u8
 {
     match cause {
         RuleCause::NoMemory => FAILED,
-        _ => REFUSED,
+        _ => REJECTED,
     }
 }
 
@@ -278,7 +278,7 @@ fn line_status(cause: LineCause) -> u8
     match cause {
         LineCause::NoMemory => FAILED,
         LineCause::Rule(fault) => rule_status(fault.cause),
-        _ => REFUSED,
+        _ => REJECTED,
     }
 }
 
@@ -290,7 +290,7 @@ fn plan_status(fault: PlanFault) -> u8
         PlanFault::NoMemory
         | PlanFault::NotSettled(_)
         | PlanFault::Collect(CollectFault::NoMemory) => FAILED,
-        _ => REFUSED,
+        _ => REJECTED,
     }
 }
 
@@ -300,7 +300,7 @@ fn zone_status(fault: ZoneFault) -> u8
 {
     match fault {
         ZoneFault::NoMemory => FAILED,
-        _ => REFUSED,
+        _ => REJECTED,
     }
 }
 
@@ -310,7 +310,7 @@ fn machine_status(fault: &MachineFault) -> u8
 {
     match fault {
         MachineFault::Zone(_, fault) => zone_status(*fault),
-        _ => REFUSED,
+        _ => REJECTED,
     }
 }
 
@@ -320,6 +320,6 @@ fn script_status(cause: ScriptCause) -> u8
 {
     match cause {
         ScriptCause::NoMemory => FAILED,
-        _ => REFUSED,
+        _ => REJECTED,
     }
 }

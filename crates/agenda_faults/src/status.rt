@@ -4,7 +4,7 @@
 pub const DONE: u8 = 0;
 
 /// The exit status if input, a size, a count or a limit is rejected, or if an error in a file is reported.
-pub const REFUSED: u8 = 1;
+pub const REJECTED: u8 = 1;
 
 /// The exit status if the arguments are invalid.
 pub const USAGE: u8 = 2;

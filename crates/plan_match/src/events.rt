@@ -69,7 +69,7 @@ impl Events {
     /// If an allocation fails, the error returns the event.
     pub fn one(alloc: Global, event: Calendar) -> Result<Events, AllocFailed<Calendar>>
         ensures list { IfOk result (λ events. events ≡ event ∷ []) }
-        ensures returned { IfErr result (λ refused. refused.value ≡ event) }
+        ensures returned { IfErr result (λ rejected. rejected.value ≡ event) }
     {
         let mut events = Events::new(alloc);
         events.push(event)?;
@@ -83,7 +83,7 @@ impl Events {
     /// If an allocation fails, the error returns the event, and the list is unchanged.
     pub fn push(&mut self, event: Calendar) -> Result<(), AllocFailed<Calendar>>
         ensures list { self.new ≡ (if is_ok result then self.old ++ event ∷ [] else self.old) }
-        ensures returned { IfErr result (λ refused. refused.value ≡ event) }
+        ensures returned { IfErr result (λ rejected. rejected.value ≡ event) }
     {
         self.calendars.push(event)
     }

@@ -90,12 +90,12 @@ step_first (Names unit) more draft next = refl
 -- the line at a position
 pub rest_reading-more :
     {A : Type 0} (v : A → ℕ × List ℕ) (name : List ℕ) (state : TimerState) (draft : Draft) (delays : TimerDelays) (lines : List A)
-    (place : ℕ) (line : A) (refusal : Option LineFault) → place < length lines → line ≡ get_or lines place line →
-    refusal ≡ fault_in_line (line_in state (v line)) →
+    (place : ℕ) (line : A) (fault : Option LineFault) → place < length lines → line ≡ get_or lines place line →
+    fault ≡ fault_in_line (line_in state (v line)) →
     rest_reading name state draft delays (map v (drop place lines))
-    ≡ unless_fault refusal (rest_reading name (state_after state (v line).1) (draft_after draft (line_in state (v line)))
+    ≡ unless_fault fault (rest_reading name (state_after state (v line).1) (draft_after draft (line_in state (v line)))
     (delays_after delays (timer_setting state.inside (v line).1)) (map v (drop (place + 1) lines)))
-rest_reading-more v name state draft delays lines place line refusal inside is refused =
+rest_reading-more v name state draft delays lines place line fault inside is same =
     let text = (v line).1 in
     let step = line_in state (v line) in
     let after = state_after state text in
@@ -108,4 +108,4 @@ rest_reading-more v name state draft delays lines place line refusal inside is r
     (delay_seconds (delays_front delays (timer_setting state.inside text) (settings_from after.inside more) i)))
     ∙ step_first step (entries_from after.zones after.count effects) _ _
     ∙ ap (λ found. unless_fault found (rest_reading name after (draft_after draft step)
-    (delays_after delays (timer_setting state.inside text)) more)) (sym refused)
+    (delays_after delays (timer_setting state.inside text)) more)) (sym same)

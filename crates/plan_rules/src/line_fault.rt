@@ -108,7 +108,7 @@ impl From<AllocError> for LineCause {
 
     ghost from_gives = { λ _ cause. cause ≡ NoMemory };
 
-    fn from(_refused: AllocError) -> LineCause {
+    fn from(_error: AllocError) -> LineCause {
         LineCause::NoMemory
     }
 }
@@ -119,7 +119,7 @@ impl<T: Drop> From<AllocFailed<T>> for LineCause {
 
     ghost from_gives = { λ _ cause. cause ≡ NoMemory };
 
-    fn from(_refused: AllocFailed<T>) -> LineCause {
+    fn from(_error: AllocFailed<T>) -> LineCause {
         LineCause::NoMemory
     }
 }
@@ -145,7 +145,7 @@ impl From<AllocError> for LineFault {
 
     ghost from_gives = { λ _ fault. fault ≡ want_of_memory };
 
-    fn from(_refused: AllocError) -> LineFault {
+    fn from(_error: AllocError) -> LineFault {
         LineFault {
             line: 0,
             cause: LineCause::NoMemory,
@@ -159,7 +159,7 @@ impl<T: Drop> From<AllocFailed<T>> for LineFault {
 
     ghost from_gives = { λ _ fault. fault ≡ want_of_memory };
 
-    fn from(_refused: AllocFailed<T>) -> LineFault {
+    fn from(_error: AllocFailed<T>) -> LineFault {
         LineFault {
             line: 0,
             cause: LineCause::NoMemory,

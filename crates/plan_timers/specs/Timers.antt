@@ -6,8 +6,8 @@ use Rattle.plan_parts.specs.Files.{FileBytes}
 use Rattle.plan_timers.specs.declared.reports.Skipped.{Skipped}
 use Rattle.plan_timers.specs.declared.reports.Why.{Why}
 use Rattle.plan_timers.specs.declared.reports.Why.TheVariants.{NameTaken, NoSuchTimer}
-use Rattle.plan_timers.specs.declared.timer.Refusal.{Refusal}
-use Rattle.plan_timers.specs.declared.timer.Refusal.TheVariants as refusal
+use Rattle.plan_timers.specs.declared.timer.NoFile.{NoFile}
+use Rattle.plan_timers.specs.declared.timer.NoFile.TheVariants as no_file
 use Rattle.plan_timers.specs.declared.timers.TimersFound.{TimersFound}
 use Rattle.plan_timers.specs.Dirs.{skipped_dirs, skipped_drop_in_dirs}
 use Rattle.plan_timers.specs.Files.{files_among, found_file, skipped_among}
@@ -66,21 +66,21 @@ abbrev pub is_alias : List ℕ → Option Unit → Bool
 is_alias name None = false
 is_alias name (Some unit) = not (bytes_eq unit.name name)
 
-abbrev pub file_or_refusal : Result FileBytes Skipped → Result FileBytes Refusal
-file_or_refusal (Ok file) = Ok file
-file_or_refusal (Err skipped) = Err (refusal.File skipped)
+abbrev pub file_or_skipped : Result FileBytes Skipped → Result FileBytes NoFile
+file_or_skipped (Ok file) = Ok file
+file_or_skipped (Err skipped) = Err (no_file.File skipped)
 
 -- the file of a unit
-abbrev pub file_by_unit : Held → (most : ℕ) → Option Unit → Result FileBytes Refusal
-file_by_unit held most None = Err (refusal.Wish NoSuchTimer)
-file_by_unit held most (Some unit) = file_or_refusal (found_file held most unit.file.path unit.file.real)
+abbrev pub file_by_unit : Held → (most : ℕ) → Option Unit → Result FileBytes NoFile
+file_by_unit held most None = Err (no_file.Wish NoSuchTimer)
+file_by_unit held most (Some unit) = file_or_skipped (found_file held most unit.file.path unit.file.real)
 
 -- the file of a timer, unless its name says that it is no source
-abbrev pub file_by_fault : Held → (most : ℕ) → Option Why → Option Unit → Result FileBytes Refusal
-file_by_fault held most (Some why) unit = Err (refusal.Wish why)
+abbrev pub file_by_fault : Held → (most : ℕ) → Option Why → Option Unit → Result FileBytes NoFile
+file_by_fault held most (Some why) unit = Err (no_file.Wish why)
 file_by_fault held most None unit = file_by_unit held most unit
 
-abbrev pub timer_file : Held → (most : ℕ) → List ℕ → Option Unit → Result FileBytes Refusal
+abbrev pub timer_file : Held → (most : ℕ) → List ℕ → Option Unit → Result FileBytes NoFile
 timer_file held most name unit = file_by_fault held most (name_fault name) unit
 
 -- a source has this name
@@ -88,9 +88,9 @@ abbrev pub is_taken : List TimerParts → List ℕ → Bool
 is_taken sources job = list_any (λ source. bytes_eq source.name job) sources
 
 -- a timer by the name of its job; of two timers whose jobs have one name the first is a source (agenda)
-abbrev pub with_job : Held → KnownUnits → FoundTimers → List ℕ → List ℕ → Result FileBytes Refusal → FoundTimers
-with_job held units found name job (Err (refusal.Wish why)) = with_wish held units found name why
-with_job held units found name job (Err (refusal.File skipped)) = with_skipped found skipped
+abbrev pub with_job : Held → KnownUnits → FoundTimers → List ℕ → List ℕ → Result FileBytes NoFile → FoundTimers
+with_job held units found name job (Err (no_file.Wish why)) = with_wish held units found name why
+with_job held units found name job (Err (no_file.File skipped)) = with_skipped found skipped
 with_job held units found name job (Ok file) =
     if is_taken found.sources job then with_wish held units found name NameTaken else with_file held units found name job file
 

@@ -19,7 +19,7 @@ use std::alloc::{AllocError, Global};
 
 // Why a timer has no file that can be read.
 #[derive(Debug, Drop)]
-pub(crate) enum Refusal {
+pub(crate) enum NoFile {
     // What enables it is skipped.
     Wish(Why),
     // Its file is skipped.
@@ -67,15 +67,15 @@ fn timer_file<T: Tree>(
     most: u64,
     name: &str,
     unit: &Option<Unit>,
-) -> Result<Result<Part, Refusal>, AllocError>
+) -> Result<Result<Part, NoFile>, AllocError>
     ensures { T.is_known ≡ true → IfOk result (λ file.
         file ≡ timer_file (T.held tree.now) most name.now unit.now) }
 {
     if let Some(why) = name_fault(name) {
-        return Ok(Err(Refusal::Wish(why)));
+        return Ok(Err(NoFile::Wish(why)));
     }
     let Some(unit) = unit else {
-        return Ok(Err(Refusal::Wish(Why::NoSuchTimer)));
+        return Ok(Err(NoFile::Wish(Why::NoSuchTimer)));
     };
     match found_file(
         alloc,
@@ -85,7 +85,7 @@ fn timer_file<T: Tree>(
         unit.file.real.as_str(),
     )? {
         Ok(file) => Ok(Ok(file)),
-        Err(skipped) => Ok(Err(Refusal::File(skipped))),
+        Err(skipped) => Ok(Err(NoFile::File(skipped))),
     }
 }
 
@@ -97,14 +97,14 @@ fn with_job<T: Tree>(
     found: TimersFound,
     name: Name,
     job: Text,
-    file: Result<Part, Refusal>,
+    file: Result<Part, NoFile>,
 ) -> Result<TimersFound, AllocError>
     ensures { T.is_known ≡ true → IfOk result (λ after. found_view after
         ≡ with_job (T.held tree.now) (units_view units.now) (found_view found) name job file) }
 {
     match file {
-        Err(Refusal::Wish(why)) => with_wish(alloc, tree, units, found, name.as_str(), why),
-        Err(Refusal::File(skipped)) => with_skipped(found, skipped),
+        Err(NoFile::Wish(why)) => with_wish(alloc, tree, units, found, name.as_str(), why),
+        Err(NoFile::File(skipped)) => with_skipped(found, skipped),
         Ok(file) => {
             if is_taken(found.sources.as_slice(), job.as_str()) {
                 return with_wish(alloc, tree, units, found, name.as_str(), Why::NameTaken);

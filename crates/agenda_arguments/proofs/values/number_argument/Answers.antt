@@ -1,6 +1,6 @@
 -- Answers the one clause of `number_argument`, with and without a given number.
 -- `get_one` reads the text by `parse` at 32 bits, the definition by clap's test of an unsigned number. Both
--- accept the same texts and read the same number (`number_parsed`, `number_refused`).
+-- accept the same texts and read the same number (`number_parsed`, `number_rejected`).
 use Rattle.std.proofs.Common.{◌≡◌, ◌∙◌, ap, sym, arith, refl, Bool, true, false, Option, Ok, Err, Result, Some, None, List, ℕ}
 use Rattle.std.specs.Str.Parse.{ExplainsUnsignedError, HasUnsignedDigitsIfOk, ParsesUnsigned}
 use Rattle.clap.proofs.ValueTestLemmas.{accepts-Accepts, Accepts-accepts}
@@ -21,14 +21,14 @@ number_parsed E text n read =
     rw fits (ap Some (sym read.1))
 
 -- a text that `parse` rejects has no number
-number_refused : (E : Type 0) (text : List ℕ) (e : E) → ParsesUnsigned 32 10 text (Err e) → number_in_text text ≡ None
-number_refused E text e refused = go (accepts false (parser.Unsigned 0 4294967295) text) refl
+number_rejected : (E : Type 0) (text : List ℕ) (e : E) → ParsesUnsigned 32 10 text (Err e) → number_in_text text ≡ None
+number_rejected E text e rejected = go (accepts false (parser.Unsigned 0 4294967295) text) refl
   where
     go : (b : Bool) → accepts false (parser.Unsigned 0 4294967295) text ≡ b → number_in_text text ≡ None
     go false fits = rw fits refl
     go true fits =
         let number = accepts-Accepts false (parser.Unsigned 0 4294967295) text fits in
-        absurd (refused (number.0, omega (arith, number.3)))
+        absurd (rejected (number.0, omega (arith, number.3)))
 
 -- what `get_one` reads is the number in the text
 number_read : (E : Type 0) (G : List ℕ → Result ℕ E → Type 0) (found : Option (List ℕ)) (r : Option ℕ)
@@ -37,8 +37,8 @@ number_read : (E : Type 0) (G : List ℕ → Result ℕ E → Type 0) (found : O
 number_read E G None r parses none value = sym (none refl)
 number_read E G (Some text) (Some n) parses none value = number_parsed E text n (parses text (Ok n) (value text refl))
 number_read E G (Some text) None parses none value =
-    let refused = value text refl in
-    number_refused E text refused.0 (parses text (Err refused.0) refused.1)
+    let rejected = value text refl in
+    number_rejected E text rejected.0 (parses text (Err rejected.0) rejected.1)
 
 abbrev Reads : List ℕ → Result ℕ ParseIntError → Type 0
 Reads text r = ParsesUnsigned 32 10 text r × ExplainsUnsignedError 10 text r × HasUnsignedDigitsIfOk text r
