@@ -1,7 +1,8 @@
 //! The program `agenda`: shows when jobs start, and what a mailbox replies, as its arguments request.
 #![tactic(auto)]
 
-use agenda_answers::{Files, Host, answer, answer_arguments, read_front, unread_arguments};
+use agenda_answers::{Host, answer, answer_arguments, unread_arguments};
+use agenda_inputs::{Files, read_front};
 use plan_tree::DiskTree;
 use std::alloc::Global;
 use std::fs::File;
@@ -18,7 +19,7 @@ struct HostFiles<'a>(&'a HostRuntime);
 
 impl Files for HostFiles<'_> {
     ghost use Rattle.std.specs.Prelude.{None};
-    ghost use Rattle.agenda_answers.specs.Files.{unknown};
+    ghost use Rattle.agenda_inputs.specs.Files.{unknown};
 
     ghost held = { λ _ _. unknown };
 

@@ -19,14 +19,14 @@ use Rattle.agenda_faults.specs.Faults.{fault_of_sources}
 use Rattle.agenda_commands.specs.declared.Goal.{Goal}
 use Rattle.agenda_commands.specs.Command.{step}
 use Rattle.agenda_commands.specs.Prepare.{jobs_or}
-use Rattle.agenda_answers.specs.declared.sources.Tried.{Tried}
-use Rattle.agenda_answers.specs.EventZones.{found_by, found_zones, is_given, zones_by}
-use Rattle.agenda_answers.specs.Files.{Held}
+use Rattle.agenda_inputs.specs.declared.Tried.{Tried}
+use Rattle.agenda_inputs.specs.EventZones.{found_by, found_zones, is_given, zones_by}
+use Rattle.agenda_inputs.specs.Files.{Held}
 use Rattle.agenda_answers.specs.Outcome.{Outcome, answer_of, outcome_by, skipped_status}
 use Rattle.agenda_answers.specs.Program.{ChangesNothing, SkipsNothing}
 use Rattle.agenda_answers.specs.Requests.{request_of, stopping}
-use Rattle.agenda_answers.specs.Sources.{input_of, tries_of, with_first}
-use Rattle.agenda_answers.specs.Steps.{Step, gives, stops, goes, ◌>>=◌}
+use Rattle.agenda_inputs.specs.Sources.{input_of, tries_of, with_first}
+use Rattle.agenda_inputs.specs.Steps.{Step, gives, stops, goes, ◌>>=◌}
 
 -- ---- steps that only fail if an allocation does
 

@@ -1,10 +1,6 @@
-pub mod EventZonesLemmas
-pub mod FileLemmas
 pub mod KeepingLaws
 pub mod MachineLemmas
 pub mod NextLemmas
-pub mod OpenedLemmas
 pub mod OutcomeLemmas
 pub mod ScriptLemmas
 pub mod StepLemmas
-pub mod TriedLemmas

@@ -19,22 +19,17 @@ use Rattle.agenda_commands.specs.declared.Goal.{Goal}
 use Rattle.agenda_sources.specs.declared.Found.{Found}
 use Rattle.agenda_sources.specs.declared.Source.{Source}
 use Rattle.agenda_sources.specs.declared.SourcePath.{SourcePath}
-use Rattle.agenda_answers.specs.Files.{Held, most_read}
+use Rattle.agenda_inputs.specs.Files.{Held, most_read}
 use Rattle.agenda_answers.specs.Host.{KnownHost}
 use Rattle.agenda_answers.specs.Machine.{Shown, found_below, in_words, jobs_rest, machine_zones, outcome_of, plans, shows_jobs, stops_at_first}
-use Rattle.agenda_answers.specs.MachineZone.{KnownTree, names_zone, naming_zone}
-use Rattle.agenda_answers.specs.Steps.{Step, computes, goes, stops}
+use Rattle.agenda_inputs.specs.MachineZone.{KnownTree, names_zone, naming_zone}
+use Rattle.agenda_inputs.specs.Steps.{Step, computes, goes, stops}
 
 pub found_either :
     (tree : KnownTree) (all : Bool) (found : Option Machine) → IfSome found (λ machine. IsMachine tree.held all most_read machine) →
     IfNone found (AreTooManyUnits tree.held) → found_below tree all found
 found_either tree all None some none = none
 found_either tree all (Some machine) some none = some
-
-pub not_computed :
-    {X : Type 0} (x : X) (result : Result X Failure) → IsErrAnd result (λ found. found ≡ Run run.NoMemory) → computes x result
-not_computed x (Ok y) passed = absurd passed
-not_computed x (Err found) passed = passed
 
 -- an allocation failed before the zones of a machine were read
 pub no_accuracy :
@@ -91,9 +86,3 @@ pub rest_planned :
     jobs_rest stopped paths errors status goal answers (Ok (plans (outcome_of paths errors status (in_words goal answer))))
 rest_planned true paths errors status goal answers answer is made = absurd cc
 rest_planned false paths errors status goal answers answer is made = goes answer made refl
-
--- a step, after which the failure of a zone has its text
-pub named :
-    {X : Type 0} (text : List ℕ) (step : Step X) (found end : Result X Failure) → step found → names_zone text found end →
-    naming_zone text step end
-named text step found end is names = (found, is, names)

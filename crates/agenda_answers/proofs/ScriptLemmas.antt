@@ -9,8 +9,8 @@ use Rattle.agenda_faults.specs.declared.faults.RunFault.TheVariants as run
 use Rattle.agenda_faults.specs.declared.faults.Failure.{Failure}
 use Rattle.agenda_faults.specs.declared.faults.Failure.TheVariants.{Run}
 use Rattle.agenda_answers.specs.Answer.{Leaves, Printed, prints, steps_ends}
-use Rattle.agenda_answers.specs.Files.{Held, most_read, IsFrontOf, IsHeld}
-use Rattle.agenda_answers.specs.Steps.{goes}
+use Rattle.agenda_inputs.specs.Files.{Held, most_read, IsFrontOf, IsHeld}
+use Rattle.agenda_inputs.specs.Steps.{goes}
 use Rattle.agenda_commands.specs.Script.{IsTextOfRun, RejectsRun}
 
 -- a script with more bytes than the limit is too large, whatever its bytes are

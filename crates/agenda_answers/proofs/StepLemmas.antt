@@ -8,22 +8,9 @@ use Rattle.agenda_faults.specs.declared.faults.Failure.TheVariants.{Run}
 use Rattle.agenda_faults.specs.declared.faults.RunFault.{RunFault}
 use Rattle.agenda_faults.specs.declared.faults.RunFault.TheVariants as run
 use Rattle.agenda_answers.specs.Answer.{Leaves, Printed, outputs, outputs_if, prints, status_after}
-use Rattle.agenda_answers.specs.Steps.{Step, ◌>>=◌, stops, goes}
-
--- a failure was passed on
-pub passed_on :
-    {X : Type 0} (step : Step X) (result : Result X Failure) (failure : Failure) → step (Err failure) →
-    IsErrAnd result (λ found. found ≡ failure) → step result
-passed_on step (Ok x) failure is passed = absurd passed
-passed_on step (Err found) failure is passed = subst (λ f. step (Err f)) (sym passed) is
+use Rattle.agenda_inputs.specs.Steps.{Step, ◌>>=◌, stops, goes}
 
 -- the first step failed, and its failure was passed on
-pub failed :
-    {X Y : Type 0} {step : Step X} {next : X → Step Y} (result : Result Y Failure) (failure : Failure) → step (Err failure) →
-    IsErrAnd result (λ found. found ≡ failure) → (step >>= next) result
-failed {step = step} {next = next} result failure is passed = passed_on (step >>= next) result failure (stops failure is refl) passed
-
--- the same of steps that print
 pub failed_first :
     {X : Type 0} {step : Step X} {next : X → Step Printed} {takes_all : Bool} (result : Result ℕ Failure) (failure : Failure)
     (kept : Option (List ℕ)) → step (Err failure) → IsErrAnd result (λ found. found ≡ failure) →

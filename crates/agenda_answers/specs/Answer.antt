@@ -14,10 +14,10 @@ use Rattle.agenda_faults.specs.FaultLines.{fault_text}
 use Rattle.agenda_faults.specs.Faults.{status_of}
 use Rattle.agenda_faults.specs.Status.{done_status, rejected_status}
 use Rattle.agenda_answers.specs.declared.requests.StartsRequest.{StartsRequest}
-use Rattle.agenda_answers.specs.Files.{Held, whole_of}
+use Rattle.agenda_inputs.specs.Files.{Held, whole_of}
 use Rattle.agenda_answers.specs.Formats.{format_made, utc_name}
-use Rattle.agenda_answers.specs.Sources.{input_of, rule_zones}
-use Rattle.agenda_answers.specs.Steps.{Step, fails, gives, ◌>>=◌}
+use Rattle.agenda_inputs.specs.Sources.{input_of, rule_zones}
+use Rattle.agenda_inputs.specs.Steps.{Step, fails, gives, ◌>>=◌}
 use Rattle.agenda_commands.specs.declared.Checked.{Checked}
 use Rattle.agenda_commands.specs.declared.Checked.TheVariants.{WithoutErrors, WithErrors}
 use Rattle.agenda_commands.specs.Check.{check_output, sources_checked}

@@ -6,7 +6,7 @@ use Rattle.plan_write.specs.declared.Format.{Format}
 use Rattle.agenda_arguments.specs.declared.FormatRequest.{FormatRequest}
 use Rattle.agenda_faults.specs.declared.faults.Failure.TheVariants.{Run}
 use Rattle.agenda_faults.specs.declared.faults.RunFault.TheVariants.{NoMemory}
-use Rattle.agenda_answers.specs.Steps.{Step}
+use Rattle.agenda_inputs.specs.Steps.{Step}
 
 -- the given zone, with its text as its name; without a text it is called `unnamed`
 abbrev pub zone_of : (given : Option (List ℕ)) → (unnamed : List ℕ) → (clock : List Change) → NamedZone

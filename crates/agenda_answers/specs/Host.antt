@@ -1,7 +1,7 @@
 -- The machine that the program runs on. All of it is our choice (agenda).
 use Rattle.std.specs.Prelude.{ℕ, Bool}
 use Rattle.plan_tree.specs.Tree.{Held}
-use Rattle.agenda_answers.specs.MachineZone.{KnownTree}
+use Rattle.agenda_inputs.specs.MachineZone.{KnownTree}
 
 -- what contracts know of it: its files and directories, and the time of its clock, in seconds since 1970
 pub record KnownHost : Type 0 where

@@ -1,17 +1,9 @@
 pub mod Answer
-pub mod EventZones
-pub mod Files
 pub mod Formats
 pub mod Host
 pub mod Machine
-pub mod MachineFiles
 pub mod MachineGoal
 pub mod MachineNext
-pub mod MachineZone
-pub mod Opened
 pub mod Outcome
 pub mod Program
 pub mod Requests
-pub mod Sources
-pub mod Steps
-pub mod Zone

@@ -33,20 +33,20 @@ use Rattle.agenda_sources.specs.declared.Found.{Found}
 use Rattle.agenda_sources.specs.declared.Source.{Source}
 use Rattle.agenda_sources.specs.declared.SourcePath.{SourcePath}
 use Rattle.agenda_sources.specs.declared.TimeZones.{TimeZones}
-use Rattle.agenda_answers.specs.declared.machine_zone.ZoneClock.{ZoneClock}
+use Rattle.agenda_inputs.specs.declared.ZoneClock.{ZoneClock}
 use Rattle.agenda_answers.specs.declared.machine.Printout.{Printout}
 use Rattle.agenda_answers.specs.declared.machine.Printout.TheVariants as printout
 use Rattle.agenda_answers.specs.Answer.{Printed, StreamChange}
-use Rattle.agenda_answers.specs.EventZones.{zones_by}
-use Rattle.agenda_answers.specs.Files.{Held, most_read}
+use Rattle.agenda_inputs.specs.EventZones.{zones_by}
+use Rattle.agenda_inputs.specs.Files.{Held, most_read}
 use Rattle.agenda_answers.specs.Formats.{format_made, unnamed_zone}
 use Rattle.agenda_answers.specs.Host.{KnownHost}
-use Rattle.agenda_answers.specs.MachineFiles.{machine_files}
+use Rattle.agenda_inputs.specs.MachineFiles.{machine_files}
 use Rattle.agenda_answers.specs.MachineGoal.{goal_at}
-use Rattle.agenda_answers.specs.MachineZone.{KnownTree, fails_with, looks, machine_clock}
+use Rattle.agenda_inputs.specs.MachineZone.{KnownTree, fails_with, looks, machine_clock}
 use Rattle.agenda_answers.specs.Outcome.{ExitsWith, Outcome, Reports, answer_of}
 use Rattle.agenda_machine.specs.Root.{dir_of, root_of}
-use Rattle.agenda_answers.specs.Steps.{Step, computes, gives, ◌>>=◌}
+use Rattle.agenda_inputs.specs.Steps.{Step, computes, gives, ◌>>=◌}
 
 -- ---- the root
 

@@ -17,8 +17,8 @@ use Rattle.agenda_faults.specs.declared.faults.Failure.TheVariants.{Machine}
 use Rattle.agenda_faults.specs.declared.machine_faults.MachineFault.TheVariants.{Time, Length, Backwards, Clock}
 use Rattle.agenda_faults.specs.declared.machine_faults.TimeOption.{TimeOption}
 use Rattle.agenda_faults.specs.declared.machine_faults.TimeOption.TheVariants as option
-use Rattle.agenda_answers.specs.MachineZone.{fails_with}
-use Rattle.agenda_answers.specs.Steps.{Step, fails, gives, ◌>>=◌}
+use Rattle.agenda_inputs.specs.MachineZone.{fails_with}
+use Rattle.agenda_inputs.specs.Steps.{Step, fails, gives, ◌>>=◌}
 
 -- a time of the system clock, if it is in the planner's years
 abbrev pub present_if : (is_in_years : Bool) → (time : ℕ) → Step ℕ

@@ -14,15 +14,15 @@ use Rattle.agenda_sources.specs.ZoneNames.{asked_zones}
 use Rattle.agenda_sources.specs.declared.Asked.{Asked}
 use Rattle.agenda_answers.specs.declared.machine_next.NextStarts.{NextStarts}
 use Rattle.agenda_answers.specs.Answer.{Exits, Leaves, StreamChange, outputs_if, status_after}
-use Rattle.agenda_answers.specs.EventZones.{time_zones}
-use Rattle.agenda_answers.specs.Files.{Held}
+use Rattle.agenda_inputs.specs.EventZones.{time_zones}
+use Rattle.agenda_inputs.specs.Files.{Held}
 use Rattle.agenda_answers.specs.Formats.{format_made, unnamed_zone}
 use Rattle.agenda_answers.specs.Host.{KnownHost}
 use Rattle.agenda_answers.specs.Machine.{host_below}
 use Rattle.agenda_answers.specs.MachineGoal.{after_at}
-use Rattle.agenda_answers.specs.MachineZone.{machine_clock}
+use Rattle.agenda_inputs.specs.MachineZone.{machine_clock}
 use Rattle.agenda_answers.specs.Outcome.{ExitsWith}
-use Rattle.agenda_answers.specs.Steps.{Step, gives, ◌>>=◌}
+use Rattle.agenda_inputs.specs.Steps.{Step, gives, ◌>>=◌}
 
 -- what the starts are listed by: the zone of the machine is read first, then the time, and then the zone that an event ends with
 abbrev pub starts_at : Held → KnownHost → MachineNext → Step NextStarts

@@ -20,12 +20,12 @@ use Rattle.agenda_findings.specs.Skipped.{skipped_text}
 use Rattle.agenda_commands.specs.declared.Goal.{Goal}
 use Rattle.agenda_commands.specs.Goal.{AnswersGoal, checked_jobs, valid_goal}
 use Rattle.agenda_commands.specs.Prepare.{jobs_or}
-use Rattle.agenda_answers.specs.declared.sources.Tried.{Tried}
+use Rattle.agenda_inputs.specs.declared.Tried.{Tried}
 use Rattle.agenda_answers.specs.Answer.{Exits, HoldsAfter, Printed, StreamChange}
-use Rattle.agenda_answers.specs.Files.{Held}
+use Rattle.agenda_inputs.specs.Files.{Held}
 use Rattle.agenda_answers.specs.Formats.{format_made, utc_name}
-use Rattle.agenda_answers.specs.Sources.{input_of}
-use Rattle.agenda_answers.specs.Steps.{Step, computes, gives, ◌>>=◌}
+use Rattle.agenda_inputs.specs.Sources.{input_of}
+use Rattle.agenda_inputs.specs.Steps.{Step, computes, gives, ◌>>=◌}
 
 -- the paths of files that can't be read and those of the others, the errors in these, the answer for the jobs that are left, and its
 -- exit status

@@ -12,13 +12,13 @@ use Rattle.agenda_commands.specs.declared.Goal.{Goal}
 use Rattle.agenda_answers.specs.declared.requests.Request.{Request}
 use Rattle.agenda_answers.specs.declared.requests.Request.TheVariants.{Starts, Jobs, Check, Steps, Explain, Machine, MachineNext}
 use Rattle.agenda_answers.specs.Answer.{Exits, Leaves, Printed, StreamChange, check_ends, explain_ends, next_ends, steps_ends, usage_ends}
-use Rattle.agenda_answers.specs.Files.{Held}
+use Rattle.agenda_inputs.specs.Files.{Held}
 use Rattle.agenda_answers.specs.Host.{KnownHost}
 use Rattle.agenda_answers.specs.Machine.{AnswersMachine}
 use Rattle.agenda_answers.specs.MachineNext.{AnswersNext}
 use Rattle.agenda_answers.specs.Outcome.{AnswersJobs, Outcome, ReportsOrFails, outcome_by}
 use Rattle.agenda_answers.specs.Requests.{request_of, stopping_jobs}
-use Rattle.agenda_answers.specs.Steps.{Step, fails}
+use Rattle.agenda_inputs.specs.Steps.{Step, fails}
 
 -- an answer: its exit status, and both streams
 abbrev pub Answering : Type 1

@@ -16,7 +16,7 @@ use Rattle.agenda_commands.specs.declared.Goal.TheVariants as goal
 use Rattle.agenda_commands.specs.declared.Planning.{Planning}
 use Rattle.agenda_answers.specs.declared.requests.Request.{Request}
 use Rattle.agenda_answers.specs.declared.requests.Request.TheVariants as request
-use Rattle.agenda_answers.specs.Steps.{Step, gives, ◌>>=◌}
+use Rattle.agenda_inputs.specs.Steps.{Step, gives, ◌>>=◌}
 
 -- the timestamp of an option, with the failure if the text isn't one
 abbrev pub moment_of : TimeOption → List ℕ → Step ℕ

@@ -5,18 +5,17 @@ ghost use Rattle.agenda_answers.specs.Answer.{Exits, Leaves, SaysNotUtf8, check_
 ghost use Rattle.agenda_answers.specs.Host.{host_of};
 ghost use Rattle.agenda_answers.specs.Program.{Answers, AnswersArguments, AnswersAsk, AnswersRequest};
 
-use crate::files::{Files, read_path};
 use crate::formats::{UTC, make_format};
 use crate::host::Host;
 use crate::jobs::answer_jobs;
 use crate::machine::answer_machine;
 use crate::machine_next::answer_machine_next;
 use crate::requests::{Request, StartsRequest, request_of};
-use crate::sources::{read_input, read_rule_zones};
 use agenda_arguments::{Ask, UsageFault, ZonesRequest, read_words};
 use agenda_commands::{Checked, run_check, run_explain, run_next, run_script};
 use agenda_faults::status::{DONE, REJECTED};
 use agenda_faults::{Failure, RunFault, fault_line};
+use agenda_inputs::{Files, read_input, read_path, read_rule_zones};
 use agenda_sources::{SourcePath, SourcePaths};
 use plan_rules::Text;
 use plan_streams::Stream;

@@ -3,9 +3,9 @@
 ghost use Rattle.std.specs.Prelude.{◌≡◌, IfOk};
 ghost use Rattle.agenda_answers.specs.Formats.{format_made, unnamed_zone, zone_of};
 
-use crate::zone::named_zone;
 use agenda_arguments::FormatRequest;
 use agenda_faults::Failure;
+use agenda_inputs::named_zone;
 use plan_clock::Clock;
 use plan_rules::{NamedZone, Text};
 use plan_write::Format;

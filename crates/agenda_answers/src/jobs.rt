@@ -6,8 +6,8 @@
 
 ghost use Rattle.std.specs.Prelude.{◌≡◌, Err, IsTrue, List, OnOk, true};
 ghost use Rattle.agenda_answers.specs.Answer.{HoldsAfter};
-ghost use Rattle.agenda_answers.specs.Files.{Held};
-ghost use Rattle.agenda_answers.specs.Opened.{OpensFirst, input_files};
+ghost use Rattle.agenda_inputs.specs.Files.{Held};
+ghost use Rattle.agenda_inputs.specs.Opened.{OpensFirst, input_files};
 ghost use Rattle.agenda_answers.specs.Outcome.{AnswersJobs, Reports, outcome_by, printed, settles, skipped_status};
 ghost use Rattle.agenda_answers.specs.Program.{ChangesNothing};
 ghost use Rattle.agenda_answers.specs.Requests.{request_of, stopping};
@@ -18,14 +18,13 @@ ghost use Rattle.agenda_arguments.specs.declared.Ask.{Ask};
 ghost use Rattle.agenda_arguments.specs.declared.JobsRequest.{JobsRequest};
 
 use crate::answers::end;
-use crate::files::Files;
 use crate::formats::{UTC, make_format};
-use crate::sources::read_input;
 use agenda_arguments::JobsRequest;
 use agenda_commands::{Goal, PreparedAnswer, kept_if, prepare_answer};
 use agenda_faults::status::{DONE, FAILED, REJECTED};
 use agenda_faults::{Failure, RunFault};
 use agenda_findings::write_skipped;
+use agenda_inputs::{Files, read_input};
 use agenda_sources::{Found, SourcePath, SourcePaths, without_errors_all_is_kept};
 use plan_streams::Stream;
 use std::alloc::Global;

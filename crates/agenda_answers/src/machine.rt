@@ -16,19 +16,16 @@ ghost use Rattle.agenda_machine.specs.Root.{root_of};
 ghost use Rattle.plan_streams.specs.Stream.{Puts};
 
 use crate::answers::end;
-use crate::event_zones::read_zones;
-use crate::files::{Files, MOST_READ};
 use crate::formats::{make_format, unnamed_zone};
 use crate::host::Host;
 use crate::jobs::{Outcome, report, settled};
-use crate::machine_files::MachineFiles;
 use crate::machine_goal::goal_at;
-use crate::machine_zone::machine_clock;
 use agenda_arguments::{MachineJobs, MachineQuestion, MachineRequest};
 use agenda_commands::{Goal, PreparedAnswer, are_warnings, kept_if, prepare_answer};
 use agenda_faults::status::{DONE, FAILED, REJECTED};
 use agenda_faults::{Failure, RunFault};
 use agenda_findings::{write_findings, write_skipped};
+use agenda_inputs::{Files, MOST_READ, MachineFiles, machine_clock, read_zones};
 use agenda_machine::{
     Reports, dir_of, is_incomplete, located, paths_of, root_of, sources_of, with_monotonic,
     write_reports, write_sources,

@@ -5,10 +5,10 @@ ghost use Rattle.plan_sets.specs.Limits.{end_second};
 ghost use Rattle.plan_times.specs.Forms.{length_of};
 ghost use Rattle.agenda_answers.specs.MachineGoal.{after_at, goal_at, least_of, present, since_at, span_at, until_at};
 
-use crate::machine_zone::copy_of;
 use agenda_arguments::{MachineGoal, MachineJobs, SpanRequest};
 use agenda_commands::{Goal, Planning};
 use agenda_faults::{Failure, MachineFault, TimeOption};
+use agenda_inputs::copy_of;
 use plan_clock::Clock;
 use plan_collect::Span;
 use plan_rules::Text;

@@ -5,17 +5,15 @@ ghost use Rattle.agenda_answers.specs.Host.{host_of};
 ghost use Rattle.agenda_answers.specs.MachineNext.{AnswersNext, ExitsInWords, ShowsStarts, starts_at};
 
 use crate::answers::end;
-use crate::event_zones::zones_of_rule;
-use crate::files::Files;
 use crate::formats::{make_format, unnamed_zone};
 use crate::host::Host;
 use crate::machine_goal::after_at;
-use crate::machine_zone::machine_clock;
 use agenda_arguments::{MachineNext, ZonesRequest};
 use agenda_commands::run_next;
 use agenda_faults::status::{DONE, FAILED, REJECTED};
 use agenda_faults::{Failure, RunFault};
 use agenda_findings::rule_fault_line;
+use agenda_inputs::{Files, machine_clock, zones_of_rule};
 use agenda_machine::{Reports, write_reports};
 use agenda_sources::{Asked, TimeZones};
 use plan_streams::Stream;

@@ -1,5 +1,5 @@
 //! Files that give some bytes per call, and fail if a test requires it.
-use agenda_answers::{Files, read_front};
+use agenda_inputs::{Files, read_front};
 use std::alloc::Global;
 use std::io::{self, ErrorKind, Read};
 use std::test::Fail;
@@ -54,7 +54,7 @@ impl<'a> FewFiles<'a> {
 
 impl Files for FewFiles<'_> {
     ghost use Rattle.std.specs.Prelude.{None};
-    ghost use Rattle.agenda_answers.specs.Files.{unknown};
+    ghost use Rattle.agenda_inputs.specs.Files.{unknown};
 
     ghost held = { λ _ _. unknown };
 

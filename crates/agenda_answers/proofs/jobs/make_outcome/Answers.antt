@@ -2,9 +2,9 @@ use Rattle.std.proofs.Common.{Ok, refl}
 use Rattle.agenda_commands.specs.Prepare.{jobs_or}
 use Rattle.agenda_faults.specs.declared.faults.Failure.TheVariants.{Run}
 use Rattle.agenda_faults.specs.declared.faults.RunFault.TheVariants.{NoMemory}
-use Rattle.agenda_answers.specs.Steps.{goes}
+use Rattle.agenda_inputs.specs.Steps.{goes}
 use Rattle.agenda_answers.proofs.OutcomeLemmas.{kept_fails, kept_made, settled_answer, settled_failure}
-use Rattle.agenda_answers.proofs.StepLemmas.{failed}
+use Rattle.agenda_inputs.proofs.StepLemmas.{failed}
 use Rattle.agenda_answers.proofs.jobs.make_outcome.Goals as goal
 
 pub returns-in_err-tried-clause-made : goal.returns-in_err-tried-clause-made

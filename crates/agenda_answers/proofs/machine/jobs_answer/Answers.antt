@@ -3,10 +3,10 @@ use Rattle.agenda_faults.specs.declared.faults.Failure.TheVariants.{Run}
 use Rattle.agenda_faults.specs.declared.faults.RunFault.TheVariants as run
 use Rattle.agenda_machine.specs.Places.{sources_of}
 use Rattle.agenda_sources.specs.Findings.{kept_jobs}
-use Rattle.agenda_answers.specs.Steps.{goes}
+use Rattle.agenda_inputs.specs.Steps.{goes}
 use Rattle.agenda_answers.proofs.MachineLemmas.{no_accuracy, rest_failed, rest_planned, rest_stopped}
 use Rattle.agenda_answers.proofs.OutcomeLemmas.{settled_answer, settled_failure}
-use Rattle.agenda_answers.proofs.StepLemmas.{failed}
+use Rattle.agenda_inputs.proofs.StepLemmas.{failed}
 use Rattle.agenda_answers.proofs.machine.jobs_answer.Goals as goal
 
 pub returns-in_err-clock : goal.returns-in_err-clock

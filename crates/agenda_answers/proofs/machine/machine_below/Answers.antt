@@ -3,12 +3,12 @@ use Rattle.agenda_faults.specs.declared.faults.Failure.TheVariants.{Run}
 use Rattle.agenda_faults.specs.declared.faults.RunFault.TheVariants as run
 use Rattle.plan_machine.specs.Machine.{AreTooManyUnits, IsMachine}
 use Rattle.plan_tree.specs.Tree.{below}
-use Rattle.agenda_answers.specs.Files.{most_read}
+use Rattle.agenda_inputs.specs.Files.{most_read}
 use Rattle.agenda_answers.specs.Machine.{tree_below}
 use Rattle.agenda_machine.specs.Root.{root_of}
-use Rattle.agenda_answers.specs.Steps.{goes}
+use Rattle.agenda_inputs.specs.Steps.{goes}
 use Rattle.agenda_answers.proofs.MachineLemmas.{found_either}
-use Rattle.agenda_answers.proofs.StepLemmas.{failed}
+use Rattle.agenda_inputs.proofs.StepLemmas.{failed}
 use Rattle.agenda_answers.proofs.machine.machine_below.Goals as goal
 
 pub returns-in_err-found : goal.returns-in_err-found

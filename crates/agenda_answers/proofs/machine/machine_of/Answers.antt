@@ -1,8 +1,8 @@
 use Rattle.std.proofs.Common.{refl}
 use Rattle.agenda_faults.specs.declared.faults.Failure.TheVariants.{Run}
 use Rattle.agenda_faults.specs.declared.faults.RunFault.TheVariants as run
-use Rattle.agenda_answers.specs.Steps.{goes}
-use Rattle.agenda_answers.proofs.StepLemmas.{failed}
+use Rattle.agenda_inputs.specs.Steps.{goes}
+use Rattle.agenda_inputs.proofs.StepLemmas.{failed}
 use Rattle.agenda_answers.proofs.machine.machine_of.Goals as goal
 
 pub returns-in_err-is : goal.returns-in_err-is

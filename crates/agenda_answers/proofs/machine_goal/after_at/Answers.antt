@@ -1,5 +1,5 @@
-use Rattle.agenda_answers.specs.Steps.{goes}
-use Rattle.agenda_answers.proofs.StepLemmas.{failed}
+use Rattle.agenda_inputs.specs.Steps.{goes}
+use Rattle.agenda_inputs.proofs.StepLemmas.{failed}
 use Rattle.agenda_answers.proofs.machine_goal.after_at.Goals as goal
 
 pub returns-in_err-now : goal.returns-in_err-now

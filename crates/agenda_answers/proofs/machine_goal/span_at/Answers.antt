@@ -10,8 +10,8 @@ use Rattle.agenda_faults.specs.declared.faults.Failure.{Failure}
 use Rattle.agenda_faults.specs.declared.faults.Failure.TheVariants.{Machine}
 use Rattle.agenda_faults.specs.declared.machine_faults.MachineFault.TheVariants as machine
 use Rattle.agenda_answers.specs.MachineGoal.{bounded_by}
-use Rattle.agenda_answers.specs.Steps.{goes}
-use Rattle.agenda_answers.proofs.StepLemmas.{failed}
+use Rattle.agenda_inputs.specs.Steps.{goes}
+use Rattle.agenda_inputs.proofs.StepLemmas.{failed}
 use Rattle.agenda_answers.proofs.machine_goal.span_at.Goals as goal
 
 no_span :

@@ -1,6 +1,6 @@
 use Rattle.std.proofs.Common.{refl}
-use Rattle.agenda_answers.specs.Steps.{goes}
-use Rattle.agenda_answers.proofs.StepLemmas.{failed}
+use Rattle.agenda_inputs.specs.Steps.{goes}
+use Rattle.agenda_inputs.proofs.StepLemmas.{failed}
 use Rattle.agenda_answers.proofs.requests.planning_of.Goals as goal
 
 pub returns-in_err-span : goal.returns-in_err-span

@@ -6,8 +6,8 @@ use Rattle.plan_collect.specs.declared.SpanFault.{SpanFault}
 use Rattle.plan_collect.specs.declared.SpanFault.TheVariants.{Backwards, OutOfYears}
 use Rattle.agenda_faults.specs.declared.faults.Failure.TheVariants.{Span}
 use Rattle.agenda_answers.specs.Requests.{bounded}
-use Rattle.agenda_answers.specs.Steps.{goes}
-use Rattle.agenda_answers.proofs.StepLemmas.{failed}
+use Rattle.agenda_inputs.specs.Steps.{goes}
+use Rattle.agenda_inputs.proofs.StepLemmas.{failed}
 use Rattle.agenda_answers.proofs.requests.span_between.Goals as goal
 
 no_span :

@@ -1,0 +1,5 @@
+pub mod EventZonesLemmas
+pub mod FileLemmas
+pub mod OpenedLemmas
+pub mod StepLemmas
+pub mod TriedLemmas

@@ -1,0 +1,103 @@
+-- The clock of a machine's time zone (localtime(5)).
+use Rattle.std.specs.Prelude.{◌≡◌, ◌≢◌, ◌⊎◌, ℕ, Bool, true, false, List, [], codes, ◌++◌, Option, None, Some, Result, Ok, Err}
+use Rattle.plan_clock.specs.declared.row.Change.{Change}
+use Rattle.plan_machine.specs.Zone.{Zone, machine_zone}
+use Rattle.plan_machine.specs.Zone as zone
+use Rattle.plan_rules.specs.declared.NamedZone.{NamedZone}
+use Rattle.plan_tree.specs.Tree.{Held as TreeHeld}
+use Rattle.plan_zones.specs.ZoneTexts.{Source, Utc, Path, Name, source_of}
+use Rattle.plan_zones.specs.declared.zone_fault.ZoneFault.{ZoneFault}
+use Rattle.agenda_faults.specs.declared.faults.Failure.{Failure}
+use Rattle.agenda_faults.specs.declared.faults.Failure.TheVariants.{File, Run}
+use Rattle.agenda_faults.specs.declared.faults.Failure.TheVariants as failure
+use Rattle.agenda_faults.specs.declared.machine_faults.MachineFault.TheVariants as machine
+use Rattle.agenda_faults.specs.declared.faults.RunFault.TheVariants as run
+use Rattle.agenda_inputs.specs.declared.machine_zone.ZoneClock.{ZoneClock}
+use Rattle.agenda_inputs.specs.EventZones.{looked_up}
+use Rattle.agenda_inputs.specs.Files.{Held, most_read}
+use Rattle.agenda_inputs.specs.Steps.{Step, computes, gives, ◌>>=◌}
+use Rattle.agenda_inputs.specs.Zone.{clock_of, clock_of_bytes}
+
+-- what contracts know of a tree
+pub record KnownTree : Type 0 where
+  pub is_known : Bool
+  pub held : TreeHeld
+
+-- what is found in a tree. It may be anything if contracts don't know the tree, and an allocation may fail
+abbrev pub looks : {X : Type 0} → KnownTree → (X → Type 0) → Step X
+looks tree Is (Ok x) = tree.is_known ≡ true → Is x
+looks tree Is (Err failure) = failure ≡ Run run.NoMemory
+
+-- a failure with a text, for which an allocation may fail
+abbrev pub fails_with : {X : Type 0} → Failure → Step X
+fails_with failure (Ok x) = ⊥
+fails_with failure (Err found) = (found ≡ failure) ⊎ (found ≡ Run run.NoMemory)
+
+-- the failure of a zone that can't be used has the text of the zone, for which an allocation may fail; any other failure stays
+abbrev pub names_failure : {X : Type 0} → (text : List ℕ) → Failure → Step X
+names_failure {X = X} text found end =
+    ((fault : ZoneFault) × (found ≡ failure.Zone fault) × fails_with {X = X} (failure.Machine (machine.Zone text fault)) end)
+    ⊎ (((fault : ZoneFault) → found ≢ failure.Zone fault) × (end ≡ Err found))
+
+-- what is given, or its failure in that way
+abbrev pub names_zone : {X : Type 0} → (text : List ℕ) → Result X Failure → Step X
+names_zone text (Ok x) = gives x
+names_zone text (Err found) = names_failure text found
+
+-- the same, after a step
+abbrev pub naming_zone : {X : Type 0} → (text : List ℕ) → Step X → Step X
+naming_zone {X = X} text step end = (found : Result X Failure) × step found × names_zone text found end
+
+-- the zone that `--zone` gives
+abbrev pub given_clock : Held → List ℕ → Step ZoneClock
+given_clock held text = do
+  clock ← naming_zone text (clock_of held (Some text))
+  computes (record { name = Some text; is_of_file = false; clock = clock; is_unknown = false })
+
+-- UTC, which is also the zone if it isn't known
+abbrev pub utc_clock : (is_unknown : Bool) → ZoneClock
+utc_clock is_unknown = record { name = None; is_of_file = false; clock = []; is_unknown = is_unknown }
+
+-- a zone that the running machine has, if it has it
+abbrev pub clock_if_found : Option NamedZone → Step ZoneClock
+clock_if_found None = gives (utc_clock true)
+clock_if_found (Some zone) = gives (record { name = Some zone.name; is_of_file = false; clock = zone.clock; is_unknown = false })
+
+-- a zone's file below the root, with the name of the zone if it has one
+abbrev pub clock_of_file : Option (List ℕ) → List ℕ → Step ZoneClock
+clock_of_file name bytes = do
+  clock ← clock_of_bytes bytes
+  gives (record { name = name; is_of_file = true; clock = clock; is_unknown = false })
+
+-- the file of a named zone is that below the root, or else that of the running machine
+abbrev pub named_clock : Held → List ℕ → Option (List ℕ) → Step ZoneClock
+named_clock held name (Some bytes) = clock_of_file (Some name) bytes
+named_clock held name None = do
+  zone ← looked_up held name
+  clock_if_found zone
+
+-- only a name names a zone, or UTC: a path doesn't
+abbrev pub clock_by_name : Held → List ℕ → Option (List ℕ) → Result Source ZoneFault → Step ZoneClock
+clock_by_name held name bytes (Ok Utc) = gives (utc_clock false)
+clock_by_name held name bytes (Ok (Path path)) = gives (utc_clock true)
+clock_by_name held name bytes (Ok (Name same)) = named_clock held name bytes
+clock_by_name held name bytes (Err fault) = gives (utc_clock true)
+
+-- the path of the file of the machine's zone, below a root
+abbrev pub local_path : (root : List ℕ) → List ℕ
+local_path root = root ++ codes "/etc/localtime"
+
+-- the clock of a machine's own zone
+abbrev pub clock_by_zone : Held → (root : List ℕ) → Zone → Step ZoneClock
+clock_by_zone held root zone.Utc = gives (utc_clock false)
+clock_by_zone held root (zone.Named name bytes) = clock_by_name held name bytes (source_of name)
+clock_by_zone held root (zone.Local (Some bytes)) = clock_of_file None bytes
+clock_by_zone held root (zone.Local None) = fails_with (File (local_path root))
+clock_by_zone held root zone.Unknown = gives (utc_clock true)
+
+-- the clock of the zone that is given, or else that of the machine below a root
+abbrev pub machine_clock : Held → KnownTree → (root : List ℕ) → (given : Option (List ℕ)) → Step ZoneClock
+machine_clock held tree root (Some text) = given_clock held text
+machine_clock held tree root None = do
+  zone ← looks tree (λ zone. zone ≡ machine_zone tree.held most_read)
+  clock_by_zone held root zone
