@@ -74,6 +74,7 @@ _agenda() {
     local jobs="--keep-going --delays --json --local $sources"
     local span='--since= --upto= --until= --planners= --room= --limit='
     local machine='--root= --all --zone= --utc --json --help'
+    local form='--table --text'
     case $command:$cur in
         :-*)
             mapfile -t COMPREPLY < <(compgen -W '--help --version' -- "$cur")
@@ -102,18 +103,18 @@ _agenda() {
             [[ ${COMPREPLY-} == *= ]] && compopt -o nospace
             ;;
         machine:-* | machine\ upcoming:*)
-            mapfile -t COMPREPLY < <(compgen -W "--after= --delays --strict $machine" -- "$cur")
+            mapfile -t COMPREPLY < <(compgen -W "--after= --delays --strict $form $machine" -- "$cur")
             [[ ${COMPREPLY-} == *= ]] && compopt -o nospace
             ;;
         machine:*)
             mapfile -t COMPREPLY < <(compgen -W 'upcoming plan quiet check sources next' -- "$cur")
             ;;
         machine\ plan:*)
-            mapfile -t COMPREPLY < <(compgen -W "$span --delays --strict $machine" -- "$cur")
+            mapfile -t COMPREPLY < <(compgen -W "$span --delays --strict $form $machine" -- "$cur")
             [[ ${COMPREPLY-} == *= ]] && compopt -o nospace
             ;;
         machine\ quiet:*)
-            mapfile -t COMPREPLY < <(compgen -W "$span --least= --nominal --strict $machine" -- "$cur")
+            mapfile -t COMPREPLY < <(compgen -W "$span --least= --nominal --strict $form $machine" -- "$cur")
             [[ ${COMPREPLY-} == *= ]] && compopt -o nospace
             ;;
         machine\ sources:*)

@@ -90,6 +90,9 @@ complete -c agenda -n $zoned -l zone -r -F -d 'The time zone of the rules, if no
 complete -c agenda -n $zoned -l utc -d 'Read the rules in UTC'
 complete -c agenda -n '__fish_seen_subcommand_from machine; and not __fish_seen_subcommand_from check sources next' -l strict \
     -d 'Let an error in a file stop the answer'
+set -l formed '__fish_seen_subcommand_from machine; and not __fish_seen_subcommand_from check sources next'
+complete -c agenda -n $formed -l table -d 'Print a table, also if this isn\'t a terminal'
+complete -c agenda -n $formed -l text -d 'Print text, also on a terminal'
 complete -c agenda -n '__fish_seen_subcommand_from machine; and __fish_seen_subcommand_from quiet' -l nominal \
     -d 'Don\'t count the delays of timers'
 

@@ -81,6 +81,8 @@ Options:
                       happen (RandomizedDelaySec= and AccuracySec=)
       --strict        Let an error in a file stop the answer, instead of
                       skipping what is invalid
+      --table         Print a table, also if standard output isn't a terminal
+      --text          Print text, also on a terminal
       --json          Print each line as a JSON object; agenda(1)
                       describes the keys
   -h, --help          Print help
@@ -180,6 +182,23 @@ error: the argument '--zone <ZONE>' cannot be used with '--utc'
 For more information, try '--help'.
 END
   done
+  for words in '--table|--text' 'plan|--text|--json|--table' 'quiet|--text|--table'; do
+    machine_words_tell_usage "$words" <<'END'
+error: the argument '--table' cannot be used with '--text'
+
+For more information, try '--help'.
+END
+  done
+  machine_words_tell_usage 'upcoming|--json|--table' <<'END'
+error: the argument '--table' cannot be used with '--json'
+
+For more information, try '--help'.
+END
+  machine_words_tell_usage 'plan|--text|--json' <<'END'
+error: the argument '--text' cannot be used with '--json'
+
+For more information, try '--help'.
+END
 }
 
 # Each row has words that are no use of the program, ` => ` and the first line of the text that says so.
@@ -244,12 +263,17 @@ check|--strict => error: unexpected argument '--strict' found
 sources|--strict => error: unexpected argument '--strict' found
 plan|--strict|--strict => error: the argument '--strict' cannot be used multiple times
 quiet|--strict=yes => error: unexpected value 'yes' for '--strict' found; no more were expected
+check|--table => error: unexpected argument '--table' found
+sources|--text => error: unexpected argument '--text' found
+plan|--table|--table => error: the argument '--table' cannot be used multiple times
+quiet|--text=yes => error: unexpected value 'yes' for '--text' found; no more were expected
 next => error: the following required arguments were not provided:
 next|daily|weekly => error: unexpected argument 'weekly' found
 next|daily|--root=. => error: unexpected argument '--root' found
 next|daily|--all => error: unexpected argument '--all' found
 next|daily|--strict => error: unexpected argument '--strict' found
 next|daily|--delays => error: unexpected argument '--delays' found
+next|daily|--table => error: unexpected argument '--table' found
 next|daily|--since=x => error: unexpected argument '--since' found
 next|daily|--local => error: unexpected argument '--local' found
 next|--cron=@daily => error: unexpected argument '--cron' found

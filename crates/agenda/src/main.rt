@@ -1,11 +1,12 @@
 //! The program `agenda`: shows when jobs start, and what a mailbox replies, as its arguments request.
 #![tactic(auto)]
 
-use agenda_answers::{Host, answer, answer_arguments, unread_arguments};
+use agenda_answers::{Frame, Host, answer, answer_arguments, unread_arguments};
 use agenda_inputs::{Files, read_front};
 use plan_tree::DiskTree;
 use std::alloc::Global;
 use std::fs::File;
+use std::io::IsTerminal;
 use std::process::ExitCode;
 use std::time::{SystemTime, UNIX_EPOCH};
 use std::{env, io};
@@ -37,6 +38,10 @@ fn main(rt: HostRuntime) -> ExitCode {
     let host = Host {
         tree: &tree,
         time: time_of(&rt),
+        frame: Frame {
+            columns: columns_of(&rt),
+            terminal: rt.stdout().is_terminal(),
+        },
     };
     let (mut out, mut err) = (rt.stdout(), rt.stderr());
     let status = match given_arguments(&rt) {
@@ -73,6 +78,17 @@ fn time_of(rt: &HostRuntime) -> u64 {
             Err(_) => 0,
         },
         Err(_) => 0,
+    }
+}
+
+// Returns the number of columns of the terminal that the environment gives, if that is from 20 to 999,999.
+fn columns_of(rt: &HostRuntime) -> Option<u32> {
+    let Ok(text) = env::var(rt, "COLUMNS") else {
+        return None;
+    };
+    match text.as_str().parse::<u32>() {
+        Ok(columns) if (20..=999_999).contains(&columns) => Some(columns),
+        _ => None,
     }
 }
 

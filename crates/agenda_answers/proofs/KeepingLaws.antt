@@ -18,6 +18,7 @@ use Rattle.agenda_faults.specs.declared.faults.RunFault.TheVariants.{NoMemory}
 use Rattle.agenda_faults.specs.Faults.{fault_of_sources}
 use Rattle.agenda_commands.specs.declared.Goal.{Goal}
 use Rattle.agenda_commands.specs.Command.{step}
+use Rattle.agenda_commands.specs.Goal.{AnswersGoal}
 use Rattle.agenda_commands.specs.Prepare.{jobs_or}
 use Rattle.agenda_inputs.specs.declared.Tried.{Tried}
 use Rattle.agenda_inputs.specs.EventZones.{found_by, found_zones, is_given, zones_by}
@@ -131,7 +132,7 @@ same_outcome law held goal jobs (Ok kept)
     let same_jobs : jobs_or left zones tried.sources ≡ jobs_or None zones tried.sources =
     ap (λ pair. jobs_or pair.1 zones tried.sources) found ∙ sym (ap (step fault_of_sources) all_kept) in
     goes (tried, zones) (input_read held jobs.zones jobs.sources tried zones read (sym (ap (λ k. k.unread) all) ∙ none.0))
-    (goes format made (goes ([], None) refl (goes answer (subst (λ js. answer_of format goal js (Ok answer)) same_jobs is)
+    (goes format made (goes ([], None) refl (goes answer (subst (λ js. answer_of (AnswersGoal format) goal js (Ok answer)) same_jobs is)
     (ap Ok (all ∙ ap (outcome_with tried answer) no_errors)))))
 same_outcome law held goal jobs (Ok kept) (goes input read (goes format made (goes left found (stops failure _ same)))) none = absurd cc
 same_outcome law held goal jobs (Ok kept) (goes input read (goes format made (stops failure _ same))) none = absurd cc

@@ -3,7 +3,6 @@
 use Rattle.std.proofs.Common.{◌≡◌, ℕ, Bool, true, false, List, Option, None, Some, IfNone, IfSome, Result, Ok, Err, is_err, refl, subst}
 use Rattle.std.proofs.KnownBytes.{Keeps-refl}
 use Rattle.std.specs.Io.KnownBytes.{Appends, Keeps}
-use Rattle.std.specs.Result.{IsErrAnd}
 use Rattle.plan_clock.specs.declared.row.Change.{Change}
 use Rattle.plan_streams.specs.Stream.{BreaksOff, Puts}
 use Rattle.plan_streams.specs.declared.WriteFault.{WriteFault}
@@ -22,8 +21,8 @@ use Rattle.agenda_sources.specs.declared.SourcePath.{SourcePath}
 use Rattle.agenda_inputs.specs.Files.{Held, most_read}
 use Rattle.agenda_answers.specs.Host.{KnownHost}
 use Rattle.agenda_answers.specs.Machine.{Shown, found_below, in_words, jobs_rest, machine_zones, outcome_of, plans, shows_jobs, stops_at_first}
-use Rattle.agenda_inputs.specs.MachineZone.{KnownTree, names_zone, naming_zone}
-use Rattle.agenda_inputs.specs.Steps.{Step, computes, goes, stops}
+use Rattle.agenda_inputs.specs.MachineZone.{KnownTree}
+use Rattle.agenda_inputs.specs.Steps.{Step, goes, stops}
 
 pub found_either :
     (tree : KnownTree) (all : Bool) (found : Option Machine) → IfSome found (λ machine. IsMachine tree.held all most_read machine) →

@@ -4,7 +4,6 @@ use Rattle.std.proofs.KnownBytes.{Keeps-refl}
 use Rattle.plan_rules.specs.Job.{JobParts}
 use Rattle.plan_streams.specs.Stream.{Puts}
 use Rattle.plan_streams.specs.declared.WriteFault.{WriteFault}
-use Rattle.plan_write.specs.declared.Format.{Format}
 use Rattle.agenda_sources.specs.declared.SourcePath.{SourcePath}
 use Rattle.agenda_sources.specs.declared.Found.{Found}
 use Rattle.agenda_sources.specs.declared.Source.{Source}
@@ -14,7 +13,7 @@ use Rattle.agenda_faults.specs.declared.faults.Failure.TheVariants.{Run}
 use Rattle.agenda_faults.specs.declared.faults.RunFault.{RunFault}
 use Rattle.agenda_faults.specs.declared.faults.RunFault.TheVariants.{NoMemory}
 use Rattle.agenda_commands.specs.declared.Goal.{Goal}
-use Rattle.agenda_commands.specs.Goal.{AnswersGoal, Makes, checked_jobs, valid_goal}
+use Rattle.agenda_commands.specs.Goal.{Makes, checked_jobs, valid_goal}
 use Rattle.agenda_commands.specs.Prepare.{errors_if, jobs_if}
 use Rattle.agenda_answers.specs.Outcome.{Outcome, Reports, answer_of, kept_of, lines_of_skipped, settles}
 
@@ -40,24 +39,26 @@ fails_at_once (Ok done) made failure bad is memory = tt
 fails_at_once (Err fault) made failure bad is memory = cc
 
 pub settled_answer :
-    (format : Format) (goal : Goal) (jobs : Result (List JobParts) RunFault) (made : Result (List ℕ) RunFault)
+    (Answers : Goal → Result (List JobParts) RunFault → Result (List ℕ) RunFault → Type 0) (goal : Goal)
+    (jobs : Result (List JobParts) RunFault) (made : Result (List ℕ) RunFault)
     (answer : Result (Result (List ℕ) RunFault) Failure) →
-    Makes (AnswersGoal format goal (checked_jobs goal jobs)) (λ text. text) made → IfErr (valid_goal goal) (λ fault. made ≡ Err fault) →
-    settles made answer → answer_of format goal jobs answer
-settled_answer format goal jobs made (Ok (Ok text)) is bad same =
-    ((λ none. cc), subst (Makes (AnswersGoal format goal (checked_jobs goal jobs)) (λ text. text)) same is)
-settled_answer format goal jobs made (Ok (Err fault)) is bad (other, same) = (
+    Makes (Answers goal (checked_jobs goal jobs)) (λ text. text) made → IfErr (valid_goal goal) (λ fault. made ≡ Err fault) →
+    settles made answer → answer_of Answers goal jobs answer
+settled_answer Answers goal jobs made (Ok (Ok text)) is bad same =
+    ((λ none. cc), subst (Makes (Answers goal (checked_jobs goal jobs)) (λ text. text)) same is)
+settled_answer Answers goal jobs made (Ok (Err fault)) is bad (other, same) = (
   (λ none. other (let one : fault ≡ NoMemory = cc in one)),
-  (subst (Makes (AnswersGoal format goal (checked_jobs goal jobs)) (λ text. text)) same is) other,
+  (subst (Makes (Answers goal (checked_jobs goal jobs)) (λ text. text)) same is) other,
 )
-settled_answer format goal jobs made (Err failure) is bad (memory, none) =
+settled_answer Answers goal jobs made (Err failure) is bad (memory, none) =
     (memory, fails_at_once (valid_goal goal) made failure bad memory none)
 
 pub settled_failure :
-    (format : Format) (goal : Goal) (jobs : Result (List JobParts) RunFault) (made : Result (List ℕ) RunFault) (failure : Failure) →
+    (Answers : Goal → Result (List JobParts) RunFault → Result (List ℕ) RunFault → Type 0) (goal : Goal)
+    (jobs : Result (List JobParts) RunFault) (made : Result (List ℕ) RunFault) (failure : Failure) →
     IfErr (valid_goal goal) (λ fault. made ≡ Err fault) → (failure ≡ Run NoMemory) × (made ≡ Err NoMemory) →
-    answer_of format goal jobs (Err failure)
-settled_failure format goal jobs made failure bad (memory, none) =
+    answer_of Answers goal jobs (Err failure)
+settled_failure Answers goal jobs made failure bad (memory, none) =
     (memory, fails_at_once (valid_goal goal) made failure bad memory none)
 
 -- ---- the streams

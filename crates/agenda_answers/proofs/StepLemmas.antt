@@ -1,5 +1,5 @@
 -- Steps one after another, and what they leave on a stream: for the functions that pass on the failures of others by `?`.
-use Rattle.std.proofs.Common.{◌≡◌, ℕ, Bool, List, Option, Result, Ok, Err, IfErr, OnOk, refl, subst, sym}
+use Rattle.std.proofs.Common.{◌≡◌, ℕ, Bool, List, Option, Result, Ok, Err, IfErr, OnOk, refl}
 use Rattle.std.specs.Result.{IsErrAnd}
 use Rattle.std.proofs.KnownBytes.{Keeps-refl}
 use Rattle.agenda_commands.specs.Command.{Fails, IsFaultOf, IsTextOf, Outputs, Writes}

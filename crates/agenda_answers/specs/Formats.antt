@@ -3,7 +3,12 @@ use Rattle.std.specs.Prelude.{◌≡◌, Bool, true, false, if◌then◌else◌,
 use Rattle.plan_clock.specs.declared.row.Change.{Change}
 use Rattle.plan_rules.specs.declared.NamedZone.{NamedZone}
 use Rattle.plan_write.specs.declared.Format.{Format}
+use Rattle.agenda_arguments.specs.Tables.{is_table}
 use Rattle.agenda_arguments.specs.declared.FormatRequest.{FormatRequest}
+use Rattle.agenda_arguments.specs.declared.MachineJobs.{MachineJobs}
+use Rattle.agenda_commands.specs.declared.Form.{Form}
+use Rattle.agenda_commands.specs.declared.Form.TheVariants.{Lines, Table}
+use Rattle.agenda_table.specs.declared.Frame.{Frame}
 use Rattle.agenda_faults.specs.declared.faults.Failure.TheVariants.{Run}
 use Rattle.agenda_faults.specs.declared.faults.RunFault.TheVariants.{NoMemory}
 use Rattle.agenda_inputs.specs.Steps.{Step}
@@ -33,3 +38,17 @@ utc_name = codes "UTC"
 -- what a zone without a name is called
 abbrev pub unnamed_zone : (is_of_file : Bool) → List ℕ
 unnamed_zone is_of_file = if is_of_file then codes "local" else utc_name
+
+-- the form of the answer about the jobs of a machine: a table or lines
+abbrev pub form_of :
+    MachineJobs → (origin : Option ℕ) → Frame → (given : Option (List ℕ)) → (unnamed : List ℕ) → (clock : List Change) → Form
+form_of jobs origin frame given unnamed clock =
+    if is_table jobs.table frame.terminal
+    then Table (record { zone = zone_of given unnamed clock; origin = origin; frame = frame })
+    else Lines (format_of jobs.format given unnamed clock)
+
+-- the form is made, unless an allocation fails
+abbrev pub form_made :
+    MachineJobs → (origin : Option ℕ) → Frame → (given : Option (List ℕ)) → (unnamed : List ℕ) → (clock : List Change) → Step Form
+form_made jobs origin frame given unnamed clock (Ok form) = form ≡ form_of jobs origin frame given unnamed clock
+form_made jobs origin frame given unnamed clock (Err failure) = failure ≡ Run NoMemory

@@ -1,5 +1,5 @@
 -- The answer to a question about a machine. All of it is our choice (agenda).
-use Rattle.std.specs.Prelude.{◌≡◌, ◌⊎◌, ℕ, Bool, true, false, not, ◌&&◌, ◌==◌, if◌then◌else◌, List, [], length, take, ◌∷◌, Option, None, Some, Result, Ok, Err}
+use Rattle.std.specs.Prelude.{◌≡◌, ◌⊎◌, ℕ, Bool, true, false, not, ◌&&◌, ◌==◌, if◌then◌else◌, List, [], length, take, Option, None, Some, Result, Ok, Err}
 use Rattle.std.specs.Io.KnownBytes.{Appends, Keeps}
 use Rattle.plan_clock.specs.declared.row.Change.{Change}
 use Rattle.plan_streams.specs.Stream.{BreaksOff}
@@ -18,6 +18,7 @@ use Rattle.agenda_faults.specs.declared.faults.RunFault.{RunFault}
 use Rattle.agenda_faults.specs.declared.faults.RunFault.TheVariants as run
 use Rattle.plan_collect.specs.declared.CollectFault.TheVariants as collect
 use Rattle.plan_collect.specs.declared.PlanFault.TheVariants as plan
+use Rattle.agenda_commands.specs.Form.{AnswersForm, origin_of}
 use Rattle.agenda_commands.specs.declared.Goal.{Goal}
 use Rattle.agenda_commands.specs.declared.Goal.TheVariants as goal
 use Rattle.agenda_faults.specs.Status.{done_status, failed_status, rejected_status}
@@ -34,12 +35,12 @@ use Rattle.agenda_sources.specs.declared.Source.{Source}
 use Rattle.agenda_sources.specs.declared.SourcePath.{SourcePath}
 use Rattle.agenda_sources.specs.declared.TimeZones.{TimeZones}
 use Rattle.agenda_inputs.specs.declared.ZoneClock.{ZoneClock}
-use Rattle.agenda_answers.specs.declared.machine.Printout.{Printout}
-use Rattle.agenda_answers.specs.declared.machine.Printout.TheVariants as printout
+use Rattle.agenda_answers.specs.declared.machine_answer.Printout.{Printout}
+use Rattle.agenda_answers.specs.declared.machine_answer.Printout.TheVariants as printout
 use Rattle.agenda_answers.specs.Answer.{Printed, StreamChange}
 use Rattle.agenda_inputs.specs.EventZones.{zones_by}
 use Rattle.agenda_inputs.specs.Files.{Held, most_read}
-use Rattle.agenda_answers.specs.Formats.{format_made, unnamed_zone}
+use Rattle.agenda_answers.specs.Formats.{form_made, unnamed_zone}
 use Rattle.agenda_answers.specs.Host.{KnownHost}
 use Rattle.agenda_inputs.specs.MachineFiles.{machine_files}
 use Rattle.agenda_answers.specs.MachineGoal.{goal_at}
@@ -211,13 +212,13 @@ jobs_rest false paths errors status goal answers = do
 
 -- the answer for the jobs of a machine, in these time zones
 abbrev pub shows_jobs_in :
-    (dir : List ℕ) → MachineJobs → Goal → Machine → (unplanned : List NotPlanned) → ZoneClock → TimeZones → Step Shown
-shows_jobs_in dir jobs goal machine unplanned clock zones = do
-  format ← format_made jobs.format clock.name (unnamed_zone clock.is_of_file) zones.clock
+    (dir : List ℕ) → MachineJobs → KnownHost → Goal → Machine → (unplanned : List NotPlanned) → ZoneClock → TimeZones → Step Shown
+shows_jobs_in dir jobs host goal machine unplanned clock zones = do
+  form ← form_made jobs (origin_of goal host.time) host.frame clock.name (unnamed_zone clock.is_of_file) zones.clock
   errors ← computes (errors_in machine zones (sources_of machine.sources.items))
   rest ← jobs_rest (is_stopped jobs.strict errors) (paths_of false (root_of dir) machine.sources.items) errors
       (machine_status machine (is_all_clean errors)) goal
-      (answer_of format goal (Ok (kept_jobs zones (sources_of machine.sources.items))))
+      (answer_of (AnswersForm form) goal (Ok (kept_jobs zones (sources_of machine.sources.items))))
   gives (shown_with dir machine unplanned clock.is_unknown rest)
 
 -- `upcoming`, `plan` and `quiet`: the zone is read first, then the times, and then the zones of events
@@ -226,11 +227,11 @@ shows_jobs held host dir jobs machine unplanned = do
   clock ← machine_clock held host.tree (root_of dir) jobs.zone
   goal ← goal_at host.time clock.clock jobs
   zones ← machine_zones held host.tree clock.clock (sources_of machine.sources.items)
-  shows_jobs_in dir jobs goal machine unplanned clock zones
+  shows_jobs_in dir jobs host goal machine unplanned clock zones
 
 -- the machine that the program runs on, below a root
 abbrev pub host_below : KnownHost → (root : List ℕ) → KnownHost
-host_below host root = record { tree = tree_below host.tree root; time = host.time }
+host_below host root = record { tree = tree_below host.tree root; time = host.time; frame = host.frame }
 
 -- the answer to a question. For jobs, timers that start by monotonic settings alone are among what isn't planned
 abbrev pub shows : Held → KnownHost → (dir : List ℕ) → MachineQuestion → Machine → Step Shown

@@ -4,7 +4,6 @@ use Rattle.std.specs.Prelude.{◌≡◌, ◌≢◌, ◌⊎◌, ℕ, Bool, true, 
 use Rattle.std.specs.Io.KnownBytes.{Appends, Keeps}
 use Rattle.plan_rules.specs.Job.{JobParts}
 use Rattle.plan_streams.specs.Stream.{BreaksOff}
-use Rattle.plan_write.specs.declared.Format.{Format}
 use Rattle.agenda_arguments.specs.declared.JobsRequest.{JobsRequest}
 use Rattle.agenda_faults.specs.declared.faults.RunFault.{RunFault}
 use Rattle.agenda_faults.specs.declared.faults.RunFault.TheVariants.{NoMemory}
@@ -53,17 +52,19 @@ settles made (Ok (Ok text)) = made ≡ Ok text
 settles made (Ok (Err fault)) = (fault ≢ NoMemory) × (made ≡ Err fault)
 settles made (Err failure) = (failure ≡ Run NoMemory) × (made ≡ Err NoMemory)
 
--- the answer for jobs, in a format. An invalid goal is never reported as anything else
-abbrev pub answer_of : Format → Goal → Result (List JobParts) RunFault → Step (Result (List ℕ) RunFault)
-answer_of format goal jobs (Ok answer) = (answer ≢ Err NoMemory) × AnswersGoal format goal (checked_jobs goal jobs) answer
-answer_of format goal jobs (Err failure) = (failure ≡ Run NoMemory) × IfErr (valid_goal goal) (λ fault. failure ≡ Run fault)
+-- the answer for jobs, in a form that says what answers a goal. An invalid goal is never reported as anything else
+abbrev pub answer_of :
+    (Goal → Result (List JobParts) RunFault → Result (List ℕ) RunFault → Type 0) → Goal → Result (List JobParts) RunFault →
+    Step (Result (List ℕ) RunFault)
+answer_of Answers goal jobs (Ok answer) = (answer ≢ Err NoMemory) × Answers goal (checked_jobs goal jobs) answer
+answer_of Answers goal jobs (Err failure) = (failure ≡ Run NoMemory) × IfErr (valid_goal goal) (λ fault. failure ≡ Run fault)
 
 -- the format is made, then the errors of the sources are found, and then the answer is made
 abbrev pub outcome_of : (keeps_going : Bool) → Goal → JobsRequest → Tried × TimeZones → Step Outcome
 outcome_of keeps_going goal jobs (tried, zones) = do
   format ← format_made jobs.format jobs.zones.zone utc_name zones.clock
   kept ← kept_of keeps_going zones tried.sources
-  answer ← answer_of format goal (jobs_or kept.1 zones tried.sources)
+  answer ← answer_of (AnswersGoal format) goal (jobs_or kept.1 zones tried.sources)
   gives (record {
     unread = tried.unread;
     paths = tried.paths;

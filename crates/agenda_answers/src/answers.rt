@@ -45,7 +45,8 @@ pub fn answer_arguments<R: Threads + Wait + Sync, F: Files, T: Complete, O: Stre
     out: &mut O,
     err: &mut E,
 ) -> u8
-    ensures answers { AnswersArguments (F.held files.old) (host_of T.is_known (T.held host.now.tree.now) host.now.time) (map string_bytes words.now) result
+    ensures answers { AnswersArguments (F.held files.old) (host_of T.is_known (T.held host.now.tree.now) host.now.time host.now.frame)
+        (map string_bytes words.now) result
         (record { takes_all = O.takes_all; old = O.holds out.old; new = O.holds out.new })
         (record { takes_all = E.takes_all; old = E.holds err.old; new = E.holds err.new }) }
     ensures out_flushed { result ≡ 0 → IsTrue (O.is_flushed out.new) }
@@ -64,7 +65,7 @@ pub fn answer<R: Threads + Wait + Sync, F: Files, T: Complete, O: Stream, E: Str
     out: &mut O,
     err: &mut E,
 ) -> u8
-    ensures answers { Answers (F.held files.old) (host_of T.is_known (T.held host.now.tree.now) host.now.time) asked result
+    ensures answers { Answers (F.held files.old) (host_of T.is_known (T.held host.now.tree.now) host.now.time host.now.frame) asked result
         (record { takes_all = O.takes_all; old = O.holds out.old; new = O.holds out.new })
         (record { takes_all = E.takes_all; old = E.holds err.old; new = E.holds err.new }) }
     ensures out_flushed { result ≡ 0 → IsTrue (O.is_flushed out.new) }
@@ -86,7 +87,7 @@ fn answer_ask<R: Threads + Wait + Sync, F: Files, T: Complete, O: Stream, E: Str
     out: &mut O,
     err: &mut E,
 ) -> u8
-    ensures answers { AnswersAsk (F.held files.old) (host_of T.is_known (T.held host.now.tree.now) host.now.time) ask result
+    ensures answers { AnswersAsk (F.held files.old) (host_of T.is_known (T.held host.now.tree.now) host.now.time host.now.frame) ask result
         (record { takes_all = O.takes_all; old = O.holds out.old; new = O.holds out.new })
         (record { takes_all = E.takes_all; old = E.holds err.old; new = E.holds err.new }) }
     ensures out_flushed { result ≡ 0 → IsTrue (O.is_flushed out.new) }
@@ -108,7 +109,7 @@ fn answer_request<R: Threads + Wait + Sync, F: Files, T: Complete, O: Stream, E:
     out: &mut O,
     err: &mut E,
 ) -> u8
-    ensures answers { AnswersRequest (F.held files.old) (host_of T.is_known (T.held host.now.tree.now) host.now.time) request.now result
+    ensures answers { AnswersRequest (F.held files.old) (host_of T.is_known (T.held host.now.tree.now) host.now.time host.now.frame) request.now result
         (record { takes_all = O.takes_all; old = O.holds out.old; new = O.holds out.new })
         (record { takes_all = E.takes_all; old = E.holds err.old; new = E.holds err.new }) }
     ensures out_flushed { result ≡ 0 → IsTrue (O.is_flushed out.new) }

@@ -1,11 +1,13 @@
 //! Makes the format of an answer.
 
 ghost use Rattle.std.specs.Prelude.{◌≡◌, IfOk};
-ghost use Rattle.agenda_answers.specs.Formats.{format_made, unnamed_zone, zone_of};
+ghost use Rattle.agenda_answers.specs.Formats.{form_made, format_made, unnamed_zone, zone_of};
 
-use agenda_arguments::FormatRequest;
+use agenda_arguments::{FormatRequest, MachineJobs};
+use agenda_commands::{Form, TableForm};
 use agenda_faults::Failure;
 use agenda_inputs::named_zone;
+use agenda_table::Frame;
 use plan_clock::Clock;
 use plan_rules::{NamedZone, Text};
 use plan_write::Format;
@@ -42,6 +44,34 @@ pub(crate) fn make_format(
         json: request.json,
         local: Some(zone),
     })
+}
+
+/// Makes the form of an answer about the jobs of a machine. A table counts from `origin`, and is shown in this frame.
+///
+/// # Errors
+///
+/// `Run(NoMemory)` if an allocation failed.
+pub(crate) fn make_form(
+    alloc: Global,
+    jobs: &MachineJobs,
+    origin: Option<u64>,
+    frame: Frame,
+    given: &Option<Text>,
+    unnamed: &str,
+    clock: &Clock,
+) -> Result<Form, Failure>
+    ensures { form_made jobs.now origin frame given.now unnamed.now clock.now result }
+{
+    if jobs.table.is_table(frame.terminal) {
+        let zone = given_zone(alloc, given, unnamed, clock)?;
+        return Ok(Form::Table(TableForm {
+            zone,
+            origin,
+            frame,
+        }));
+    }
+    let format = make_format(alloc, jobs.format, given, unnamed, clock)?;
+    Ok(Form::Lines(format))
 }
 
 /// Returns what a zone without a name is called.

@@ -9,10 +9,12 @@ mod formats;
 mod host;
 mod jobs;
 mod machine;
+mod machine_answer;
 mod machine_goal;
 mod machine_next;
 mod requests;
 
+pub use agenda_table::Frame;
 pub use answers::{answer, answer_arguments, unread_arguments};
 pub use host::Host;
 pub use jobs::keeping_going_changes_nothing;

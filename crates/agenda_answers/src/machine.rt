@@ -1,108 +1,38 @@
 //! Answers a question about a machine.
 //!
-//! The answer is made before a byte is written. What is reported goes to standard error, then the answer to standard output.
+//! The answer is made before a byte is written.
 
-ghost use Rattle.std.specs.Prelude.{◌≡◌, ◌≢◌, false, IfOk, IsTrue, Ok, OnOk, Some, true};
-ghost use Rattle.agenda_answers.specs.Answer.{HoldsAfter};
+ghost use Rattle.std.specs.Prelude.{◌≡◌, false, IfOk, IsTrue, Some, true};
 ghost use Rattle.agenda_answers.specs.Host.{host_of};
-ghost use Rattle.agenda_answers.specs.Machine.{AnswersMachine, ReportsFirst, Shows, ShowsRest, directory_if, found_in, has_reports, in_words};
+ghost use Rattle.agenda_answers.specs.Machine.{AnswersMachine, directory_if, found_in, in_words};
 ghost use Rattle.agenda_answers.specs.Machine.{errors_in, findings_rest, is_root, machine_below, machine_ends, machine_if, machine_of};
-ghost use Rattle.agenda_answers.specs.Machine.{is_stopped, machine_reports, machine_status, machine_zones, naming_limit, outcome_of, rest_of, shows_findings, shows_jobs};
-ghost use Rattle.agenda_findings.specs.Findings.{check_text};
-ghost use Rattle.agenda_machine.specs.Listing.{sources_text};
+ghost use Rattle.agenda_answers.specs.Machine.{is_stopped, machine_status, machine_zones, naming_limit, outcome_of, rest_of, shows_findings, shows_jobs};
 ghost use Rattle.agenda_machine.specs.Places.{paths_of};
 ghost use Rattle.agenda_sources.specs.Findings.{is_all_clean, kept_jobs};
 ghost use Rattle.agenda_machine.specs.Root.{root_of};
-ghost use Rattle.plan_streams.specs.Stream.{Puts};
 
 use crate::answers::end;
-use crate::formats::{make_format, unnamed_zone};
+use crate::formats::{make_form, unnamed_zone};
 use crate::host::Host;
-use crate::jobs::{Outcome, report, settled};
+use crate::jobs::{Outcome, settled};
+use crate::machine_answer::{MachineAnswer, Printout, Site, Skipped, show, status_of};
 use crate::machine_goal::goal_at;
 use agenda_arguments::{MachineJobs, MachineQuestion, MachineRequest};
-use agenda_commands::{Goal, PreparedAnswer, are_warnings, kept_if, prepare_answer};
-use agenda_faults::status::{DONE, FAILED, REJECTED};
+use agenda_commands::{Goal, PreparedAnswer, are_warnings, kept_if, prepare_form};
 use agenda_faults::{Failure, RunFault};
-use agenda_findings::{write_findings, write_skipped};
 use agenda_inputs::{Files, MOST_READ, MachineFiles, machine_clock, read_zones};
-use agenda_machine::{
-    Reports, dir_of, is_incomplete, located, paths_of, root_of, sources_of, with_monotonic,
-    write_reports, write_sources,
-};
-use agenda_sources::{
-    Found, SourcePath, SourcePaths, Sources, TimeZones, findings_of_sources, zone_names,
-};
+use agenda_machine::{dir_of, located, paths_of, root_of, sources_of, with_monotonic};
+use agenda_sources::{Found, SourcePaths, Sources, TimeZones, findings_of_sources, zone_names};
 use plan_clock::Clock;
 use plan_collect::{CollectFault, PlanFault};
 use plan_machine::{Machine, find_machine};
 use plan_rules::{Jobs, Text};
-use plan_streams::{Stream, WriteFault};
+use plan_streams::Stream;
 use plan_timers::default_accuracy;
 use plan_tree::{Complete, Rooted, Tree, is_directory};
 use std::alloc::{AllocError, Global};
-use std::marker::Model;
-use std::slice;
 use std::sync::Wait;
 use std::thread::Threads;
-
-// What is printed about a machine.
-#[derive(Drop)]
-enum Printout {
-    // Its sources.
-    Sources {
-        // Whether each line is a JSON object.
-        json: bool,
-    },
-    // What is wrong with them.
-    Findings {
-        // The paths of their files.
-        paths: SourcePaths,
-        // The findings, with their places in these paths.
-        found: Vec<Found>,
-        // Whether each line is a JSON object.
-        json: bool,
-    },
-    // What is made of their jobs.
-    Jobs(Outcome),
-    // The errors of their files, of which the first stops the answer.
-    Stopped(Skipped),
-}
-
-// The errors of a machine's sources, with their places in these paths.
-#[derive(Drop)]
-struct Skipped {
-    paths: SourcePaths,
-    errors: Vec<Found>,
-}
-
-// What is found on a machine.
-#[derive(Drop)]
-struct Site<'a> {
-    // The path of its root, as it is shown: without the slashes at its end.
-    dir: &'a str,
-    machine: Machine,
-    is_zone_unknown: bool,
-}
-
-// What is found on a machine, and what is printed about it.
-#[derive(Drop)]
-struct MachineAnswer<'a> {
-    site: Site<'a>,
-    printout: Printout,
-}
-
-impl<'a> Model for MachineAnswer<'a> {
-    ghost use Rattle.agenda_answers.specs.Machine.{Shown, has_reports, machine_reports, rest_of};
-
-    ghost Value = { Shown };
-
-    ghost view = { λ answer. record {
-      reports = machine_reports answer.site.dir.now answer.site.machine answer.site.machine.unplanned.items answer.site.is_zone_unknown;
-      has_reports = has_reports answer.site.machine answer.site.machine.unplanned.items answer.site.is_zone_unknown;
-      rest = rest_of answer.site.dir.now answer.site.machine answer.printout;
-    } };
-}
 
 /// Answers a question about a machine, and returns the exit status.
 ///
@@ -117,7 +47,7 @@ pub(crate) fn answer_machine<R: Threads + Wait + Sync, F: Files, T: Complete, O:
     out: &mut O,
     err: &mut E,
 ) -> u8
-    ensures answers { AnswersMachine (F.held files.old) (host_of T.is_known (T.held host.now.tree.now) host.now.time) request.now result
+    ensures answers { AnswersMachine (F.held files.old) (host_of T.is_known (T.held host.now.tree.now) host.now.time host.now.frame) request.now result
         (record { takes_all = O.takes_all; old = O.holds out.old; new = O.holds out.new })
         (record { takes_all = E.takes_all; old = E.holds err.old; new = E.holds err.new }) }
     ensures out_flushed { result ≡ 0 → IsTrue (O.is_flushed out.new) }
@@ -137,7 +67,7 @@ fn make_answer<'a, R: Threads + Wait + Sync, F: Files, T: Complete>(
     files: &mut F,
     host: &Host<'_, T>,
 ) -> Result<MachineAnswer<'a>, Failure>
-    ensures { machine_ends (F.held files.old) (host_of T.is_known (T.held host.now.tree.now) host.now.time) request.now result }
+    ensures { machine_ends (F.held files.old) (host_of T.is_known (T.held host.now.tree.now) host.now.time host.now.frame) request.now result }
 {
     let dir = dir_of(request.root.as_str());
     let machine = machine_of(alloc, host.tree, request.all, dir)?;
@@ -147,6 +77,7 @@ fn make_answer<'a, R: Threads + Wait + Sync, F: Files, T: Complete>(
             let host = Host {
                 tree: &below,
                 time: host.time,
+                frame: host.frame,
             };
             let machine = with_monotonic(alloc, machine)?;
             jobs_answer(rt, alloc, files, &host, dir, jobs, machine)
@@ -297,7 +228,7 @@ fn jobs_answer<'a, R: Threads + Wait + Sync, F: Files, T: Tree>(
     jobs: &MachineJobs,
     machine: Machine,
 ) -> Result<MachineAnswer<'a>, Failure>
-    ensures { shows_jobs (F.held files.old) (host_of T.is_known (T.held host.now.tree.now) host.now.time) dir.now jobs.now
+    ensures { shows_jobs (F.held files.old) (host_of T.is_known (T.held host.now.tree.now) host.now.time host.now.frame) dir.now jobs.now
         machine machine.unplanned.items result }
 {
     let clock = machine_clock(alloc, files, host.tree, root_of(dir), &jobs.zone)?;
@@ -305,7 +236,16 @@ fn jobs_answer<'a, R: Threads + Wait + Sync, F: Files, T: Tree>(
     let sources = sources_of(alloc, machine.sources.as_slice())?;
     let zones = machine_zones(alloc, files, host.tree, clock.clock, &sources)?;
     let unnamed = unnamed_zone(clock.is_of_file);
-    let format = make_format(alloc, jobs.format, &clock.name, unnamed, &zones.clock)?;
+    let origin = goal.origin(host.time);
+    let form = make_form(
+        alloc,
+        jobs,
+        origin,
+        host.frame,
+        &clock.name,
+        unnamed,
+        &zones.clock,
+    )?;
     let (skipped, kept) = kept_of(alloc, dir, &machine, &sources, &zones)?;
     let site = Site {
         dir,
@@ -316,7 +256,7 @@ fn jobs_answer<'a, R: Threads + Wait + Sync, F: Files, T: Tree>(
         let printout = Printout::Stopped(skipped);
         return Ok(MachineAnswer { site, printout });
     }
-    let made = prepare_answer(rt, alloc, kept, &sources, &zones, &goal, format);
+    let made = prepare_form(rt, alloc, kept, &sources, &zones, &goal, form);
     let answer = settled(made)?;
     let answer = in_words(answer, &goal);
     let printout = Printout::Jobs(outcome_of(alloc, &site.machine, skipped, answer));
@@ -395,123 +335,4 @@ fn kept_of(
     let errors = located(machine.sources.as_slice(), errors)?;
     let paths = paths_of(alloc, root_of(dir), machine.sources.as_slice(), false)?;
     Ok((Skipped { paths, errors }, kept))
-}
-
-// Reports what is skipped and the like, then prints the answer, and returns the exit status.
-fn show<O: Stream, E: Stream>(answer: MachineAnswer<'_>, out: &mut O, err: &mut E) -> u8
-    ensures answers { Shows (Ok answer.entry) result
-        (record { takes_all = O.takes_all; old = O.holds out.old; new = O.holds out.new })
-        (record { takes_all = E.takes_all; old = E.holds err.old; new = E.holds err.new }) }
-    ensures out_flushed { result ≡ 0 → IsTrue (O.is_flushed out.new) }
-    ensures err_flushed { E.takes_all ≡ true → IsTrue (E.is_flushed err.old) → IsTrue (E.is_flushed err.new) }
-{
-    if report_site(&answer.site, err).is_err() {
-        return FAILED;
-    }
-    let MachineAnswer { site, printout } = answer;
-    show_rest(&site, printout, out, err)
-}
-
-// Writes what is reported.
-fn report_site<S: Stream>(site: &Site<'_>, err: &mut S) -> Result<(), WriteFault>
-    ensures text { Puts S.takes_all result (S.holds err.old) (S.holds err.new)
-        (machine_reports site.now.dir.now site.now.machine site.now.machine.unplanned.items site.now.is_zone_unknown) }
-    ensures spared { has_reports site.now.machine site.now.machine.unplanned.items site.now.is_zone_unknown ≡ false → result ≡ Ok tt }
-    ensures flushed { OnOk result (IsTrue (S.is_flushed err.old) → IsTrue (S.is_flushed err.new)) }
-{
-    let machine = &site.machine;
-    let reports = Reports {
-        root: root_of(site.dir),
-        dir: site.dir,
-        skipped: machine.skipped.as_slice(),
-        unplanned: machine.unplanned.as_slice(),
-        lacks_cron_daemon: machine.lacks_cron_daemon,
-        is_zone_unknown: site.is_zone_unknown,
-    };
-    write_reports(&reports, err)
-}
-
-// Prints the answer after what is reported, and returns the exit status.
-fn show_rest<O: Stream, E: Stream>(
-    site: &Site<'_>,
-    printout: Printout,
-    out: &mut O,
-    err: &mut E,
-) -> u8
-    ensures answers { ShowsRest (rest_of site.now.dir.now site.now.machine printout) result
-        (record { takes_all = O.takes_all; old = O.holds out.old; new = O.holds out.new })
-        (record { takes_all = E.takes_all; old = E.holds err.old; new = E.holds err.new }) }
-    ensures out_flushed { result ≡ 0 → IsTrue (O.is_flushed out.new) }
-    ensures err_flushed { E.takes_all ≡ true → IsTrue (E.is_flushed err.old) → IsTrue (E.is_flushed err.new) }
-{
-    match printout {
-        Printout::Sources { json } => end(print_sources(site, json, out), &[], err),
-        Printout::Findings { paths, found, json } => {
-            let done = print_findings(site, paths.as_slice(), found.as_slice(), json, out);
-            end(done, &[], err)
-        }
-        Printout::Jobs(outcome) => report(outcome, &[], out, err),
-        Printout::Stopped(skipped) => report_first(&skipped, err),
-    }
-}
-
-// Reports the first error, which stops the answer, and returns the exit status.
-fn report_first<S: Stream>(skipped: &Skipped, err: &mut S) -> u8
-    ensures answers { ReportsFirst skipped.now.paths skipped.now.errors.items result
-        (record { takes_all = S.takes_all; old = S.holds err.old; new = S.holds err.new }) }
-    ensures failed { result ≢ 0 }
-    ensures flushed { S.takes_all ≡ true → IsTrue (S.is_flushed err.old) → IsTrue (S.is_flushed err.new) }
-{
-    let first = match skipped.errors.first() {
-        Some(error) => slice::from_ref(error),
-        None => &[],
-    };
-    match write_skipped(&[], skipped.paths.as_slice(), first, err) {
-        Ok(()) => REJECTED,
-        Err(_) => FAILED,
-    }
-}
-
-// Prints the sources of a machine, and returns the exit status.
-fn print_sources<S: Stream>(site: &Site<'_>, json: bool, out: &mut S) -> Result<u8, Failure>
-    ensures ends { HoldsAfter S.takes_all
-        (Ok (record { text = sources_text json (root_of site.now.dir.now) site.now.machine.sources.items; status = machine_status site.now.machine true }))
-        result (S.holds out.old) (S.holds out.new) }
-    ensures flushed { OnOk result (IsTrue (S.is_flushed out.new)) }
-{
-    let sources = site.machine.sources.as_slice();
-    match write_sources(root_of(site.dir), sources, json, out) {
-        Ok(()) => Ok(status_of(&site.machine, true)),
-        Err(fault) => Err(Failure::Run(RunFault::Device(fault))),
-    }
-}
-
-// Prints what is wrong with the sources of a machine, and returns the exit status.
-fn print_findings<S: Stream>(
-    site: &Site<'_>,
-    paths: &[SourcePath],
-    found: &[Found],
-    json: bool,
-    out: &mut S,
-) -> Result<u8, Failure>
-    ensures ends { HoldsAfter S.takes_all
-        (Ok (record { text = check_text json paths.now found.now; status = machine_status site.now.machine (is_all_clean found.now) }))
-        result (S.holds out.old) (S.holds out.new) }
-    ensures flushed { OnOk result (IsTrue (S.is_flushed out.new)) }
-{
-    match write_findings(paths, found, json, out) {
-        Ok(()) => Ok(status_of(&site.machine, are_warnings(found))),
-        Err(fault) => Err(Failure::Run(RunFault::Device(fault))),
-    }
-}
-
-// Returns the exit status of an answer.
-fn status_of(machine: &Machine, is_clean: bool) -> u8
-    ensures { result ≡ machine_status machine.now is_clean }
-{
-    if is_clean && !is_incomplete(machine.skipped.as_slice()) {
-        DONE
-    } else {
-        REJECTED
-    }
 }

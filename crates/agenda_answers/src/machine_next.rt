@@ -46,7 +46,7 @@ pub(crate) fn answer_machine_next<F: Files, T: Tree, O: Stream, E: Stream>(
     out: &mut O,
     err: &mut E,
 ) -> u8
-    ensures answers { AnswersNext (F.held files.old) (host_of T.is_known (T.held host.now.tree.now) host.now.time) request.now result
+    ensures answers { AnswersNext (F.held files.old) (host_of T.is_known (T.held host.now.tree.now) host.now.time host.now.frame) request.now result
         (record { takes_all = O.takes_all; old = O.holds out.old; new = O.holds out.new })
         (record { takes_all = E.takes_all; old = E.holds err.old; new = E.holds err.new }) }
     ensures out_flushed { result ≡ 0 → IsTrue (O.is_flushed out.new) }
@@ -56,6 +56,7 @@ pub(crate) fn answer_machine_next<F: Files, T: Tree, O: Stream, E: Stream>(
     let host = Host {
         tree: &below,
         time: host.time,
+        frame: host.frame,
     };
     match starts_at(alloc, request, files, &host) {
         Ok(starts) => show_starts(alloc, request, &starts, out, err),
@@ -70,7 +71,7 @@ fn starts_at<F: Files, T: Tree>(
     files: &mut F,
     host: &Host<'_, T>,
 ) -> Result<NextStarts, Failure>
-    ensures { starts_at (F.held files.old) (host_of T.is_known (T.held host.now.tree.now) host.now.time) request.now result }
+    ensures { starts_at (F.held files.old) (host_of T.is_known (T.held host.now.tree.now) host.now.time host.now.frame) request.now result }
 {
     let clock = machine_clock(alloc, files, host.tree, "", &request.zone)?;
     let after = after_at(alloc, host.time, &clock.clock, &request.after)?;

@@ -20,6 +20,8 @@ use Rattle.agenda_sources.specs.Asked.{asked_in}
 use Rattle.agenda_sources.specs.declared.Asked.{Asked}
 use Rattle.agenda_sources.specs.declared.Asked.TheVariants.{Cron, Event}
 use Rattle.agenda_arguments.specs.declared.ask.FormatRequest.{FormatRequest}
+use Rattle.agenda_arguments.specs.declared.ask.TableRequest.{TableRequest}
+use Rattle.agenda_arguments.specs.declared.ask.TableRequest.TheVariants as table_request
 use Rattle.agenda_arguments.specs.declared.ask.JobsRequest.{JobsRequest}
 use Rattle.agenda_arguments.specs.declared.ask.MachineGoal.{MachineGoal}
 use Rattle.agenda_arguments.specs.declared.ask.MachineGoal.TheVariants as machine_goal
@@ -210,16 +212,26 @@ asked_by_machine_check rows = do
 abbrev pub machine_format_in : List Row → FormatRequest
 machine_format_in rows = record { json = is_given (codes "json") rows; local = not (is_given (codes "utc") rows) }
 
+-- whether the answer is a table, by whether `--table`, `--text` and `--json` are given: at most one of them may be (agenda)
+abbrev pub table_in : (table text json : Bool) → Result TableRequest ArgumentsFault
+table_in false false false = Ok table_request.OnTerminal
+table_in true false false = Ok table_request.Always
+table_in false true false = Ok table_request.Never
+table_in false false true = Ok table_request.Never
+table_in table text json = Err is_usage
+
 -- what is made of the jobs of a machine, by the values (agenda)
 abbrev pub asked_of_jobs : List Row → (delays : Bool) → MachineGoal → Result Ask ArgumentsFault
 asked_of_jobs rows delays goal = do
   zone ← machine_zone (zone_in rows) (is_given (codes "utc") rows)
+  table ← table_in (is_given (codes "table") rows) (is_given (codes "text") rows) (is_given (codes "json") rows)
   asked_of_machine rows (question.Jobs (record {
     goal = goal;
     zone = zone;
     delays = delays;
     strict = is_given (codes "strict") rows;
     format = machine_format_in rows;
+    table = table;
   }))
 
 -- the span of a question about a machine, by the values (agenda)

@@ -167,15 +167,20 @@ abbrev pub machine_size_rules : List Rule
 machine_size_rules = number_option (codes "limit") (codes "1000000") ∷ number_option (codes "planners") (codes "2")
     ∷ number_option (codes "room") (codes "16") ∷ []
 
+-- the form of the answer to a question about the jobs of a machine: `[--table or --text or --json]`; that at most one is present
+-- is checked after clap's parse (agenda)
+abbrev pub machine_form_rules : List Rule
+machine_form_rules = flag_option (codes "table") ∷ flag_option (codes "text") ∷ flag_option (codes "json") ∷ []
+
 -- `machine check` with the machine, the zone and `[--json]` (agenda)
 unfoldable pub machine_check : App
 machine_check = with_each (with_machine (new_app (codes "check"))) (machine_zone_rules ++ flag_option (codes "json") ∷ [])
 
--- `machine upcoming` with the machine, `[--after TIME]`, the zone, `[--delays]`, `[--strict]` and `[--json]` (agenda)
+-- `machine upcoming` with the machine, `[--after TIME]`, the zone, `[--delays]`, `[--strict]` and the form (agenda)
 unfoldable pub machine_upcoming : App
 machine_upcoming = with_each (with_machine (new_app (codes "upcoming")))
     (preset_option (codes "after") (codes "now") ∷ machine_zone_rules ++ flag_option (codes "delays") ∷ flag_option (codes "strict")
-    ∷ flag_option (codes "json") ∷ [])
+    ∷ machine_form_rules)
 
 -- a command with what names a machine and with the span of a plan added: `[--since TIME] [--until TIME]`, from now on for a day if
 -- they aren't given; `--upto` is another name of `--until` (agenda)
@@ -183,17 +188,17 @@ unfoldable pub with_machine_span : App → App
 with_machine_span app = with_each (with_machine app)
     (preset_option (codes "since") (codes "now") ∷ with_alias (preset_option (codes "until") (codes "+24h")) (codes "upto") ∷ [])
 
--- `machine plan` with the machine, the span, the zone, `[--delays]`, `[--strict]`, `[--json]` and the sizes (agenda)
+-- `machine plan` with the machine, the span, the zone, `[--delays]`, `[--strict]`, the form and the sizes (agenda)
 unfoldable pub machine_plan : App
 machine_plan = with_each (with_machine_span (new_app (codes "plan")))
-    (machine_zone_rules ++ flag_option (codes "delays") ∷ flag_option (codes "strict") ∷ flag_option (codes "json")
-    ∷ machine_size_rules)
+    (machine_zone_rules ++ flag_option (codes "delays") ∷ flag_option (codes "strict")
+    ∷ machine_form_rules ++ machine_size_rules)
 
--- `machine quiet` with the machine, the span, `[--least LENGTH]`, the zone, `[--nominal]`, `[--strict]`, `[--json]` and the sizes (agenda)
+-- `machine quiet` with the machine, the span, `[--least LENGTH]`, the zone, `[--nominal]`, `[--strict]`, the form and the sizes (agenda)
 unfoldable pub machine_quiet : App
 machine_quiet = with_each (with_machine_span (new_app (codes "quiet")))
     (preset_option (codes "least") (codes "30min") ∷ machine_zone_rules ++ flag_option (codes "nominal") ∷ flag_option (codes "strict")
-    ∷ flag_option (codes "json") ∷ machine_size_rules)
+    ∷ machine_form_rules ++ machine_size_rules)
 
 -- `machine next RULE` with `[--after TIME] [--count N]`, the zone and `[--json]` (agenda)
 unfoldable pub machine_next : App

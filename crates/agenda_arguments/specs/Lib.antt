@@ -1,3 +1,4 @@
 pub mod Command
 pub mod Arguments
 pub mod Codes
+pub mod Tables

@@ -1,5 +1,8 @@
 //! What the arguments of the command line request.
 
+ghost use Rattle.std.specs.Prelude.{◌≡◌};
+ghost use Rattle.agenda_arguments.specs.Tables.{is_table};
+
 use agenda_codes::Code;
 use agenda_sources::{Asked, SourcePaths};
 use plan_collect::Sizes;
@@ -103,6 +106,30 @@ pub enum MachineGoal {
     },
 }
 
+/// Whether an answer is a table.
+#[derive(Clone, Copy, Debug, PartialEq, Eq)]
+pub enum TableRequest {
+    /// It is a table.
+    Always,
+    /// It isn't a table.
+    Never,
+    /// It is a table if standard output is a terminal.
+    OnTerminal,
+}
+
+impl TableRequest {
+    /// Returns whether the answer is a table, on a terminal or elsewhere.
+    pub fn is_table(self, terminal: bool) -> bool
+        ensures { result ≡ is_table self terminal }
+    {
+        match self {
+            TableRequest::Always => true,
+            TableRequest::Never => false,
+            TableRequest::OnTerminal => terminal,
+        }
+    }
+}
+
 /// What is asked about the jobs of a machine.
 #[derive(Debug, Drop)]
 pub struct MachineJobs {
@@ -114,8 +141,10 @@ pub struct MachineJobs {
     pub delays: bool,
     /// Whether an error in a file stops the answer. If it doesn't, errors are skipped and reported.
     pub strict: bool,
-    /// How the answer is written.
+    /// How the answer is written, unless it is a table.
     pub format: FormatRequest,
+    /// Whether it is a table.
+    pub table: TableRequest,
 }
 
 /// A question about a machine.

@@ -17,5 +17,5 @@ mod values;
 pub use arguments::read_words;
 pub use ask::{
     Ask, FormatRequest, JobsRequest, MachineGoal, MachineJobs, MachineNext, MachineQuestion,
-    MachineRequest, NextRequest, PlanRequest, SpanRequest, UsageFault, ZonesRequest,
+    MachineRequest, NextRequest, PlanRequest, SpanRequest, TableRequest, UsageFault, ZonesRequest,
 };

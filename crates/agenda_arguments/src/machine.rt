@@ -4,12 +4,12 @@ ghost use Rattle.clap.specs.Words.{first_of, found_of, rows_of, subcommand_rows_
 ghost use Rattle.agenda_arguments.specs.Arguments.{Gives, asked_by_machine, asked_by_machine_check, asked_by_machine_next, asked_by_machine_plan};
 ghost use Rattle.agenda_arguments.specs.Arguments.{asked_by_machine_quiet, asked_by_machine_sources, asked_by_machine_upcoming};
 ghost use Rattle.agenda_arguments.specs.Arguments.{asked_by_question, asked_of_jobs, asked_of_machine, is_given, is_option};
-ghost use Rattle.agenda_arguments.specs.Arguments.{lacks_question, machine_format_in, machine_zone, span_in, with_question, zone_in};
+ghost use Rattle.agenda_arguments.specs.Arguments.{lacks_question, machine_format_in, machine_zone, span_in, table_in, with_question, zone_in};
 
 use crate::arguments::{no_subcommand, sizes_of, usage_fault};
 use crate::ask::{
     Ask, FormatRequest, MachineGoal, MachineJobs, MachineNext, MachineQuestion, MachineRequest,
-    SpanRequest, UsageFault,
+    SpanRequest, TableRequest, UsageFault,
 };
 use crate::command::machine_command;
 use crate::values::{is_given, number_argument, text, text_of, value_of};
@@ -20,6 +20,18 @@ use std::alloc::{AllocError, Global};
 
 const ONE_ZONE: &str =
     "error: the argument '--zone <ZONE>' cannot be used with '--utc'\n\nFor more information, try '--help'.\n";
+
+// The error of two forms.
+const TABLE_AND_TEXT: &str =
+    "error: the argument '--table' cannot be used with '--text'\n\nFor more information, try '--help'.\n";
+
+// The error of two forms.
+const TABLE_AND_JSON: &str =
+    "error: the argument '--table' cannot be used with '--json'\n\nFor more information, try '--help'.\n";
+
+// The error of two forms.
+const TEXT_AND_JSON: &str =
+    "error: the argument '--text' cannot be used with '--json'\n\nFor more information, try '--help'.\n";
 
 /// Returns what the arguments of `agenda machine` request. The first of `words` is `machine`. If no question follows, they
 /// request `upcoming`.
@@ -203,6 +215,7 @@ fn asked_of_jobs(
     ensures { Gives result (asked_of_jobs (rows_of (found_of given.now)) delays goal) }
 {
     let zone = machine_zone(alloc, given)?;
+    let table = table_of(alloc, given)?;
     let strict = is_given(given, "strict");
     let format = format_of(given);
     let jobs = MachineJobs {
@@ -211,8 +224,30 @@ fn asked_of_jobs(
         delays,
         strict,
         format,
+        table,
     };
     asked_of_machine(alloc, given, MachineQuestion::Jobs(jobs))
+}
+
+// Returns whether the answer is a table. At most one of its forms may be given.
+fn table_of(alloc: Global, given: &ArgMatches<'_>) -> Result<TableRequest, UsageFault>
+    ensures { Gives result (table_in (is_given (codes "table") (rows_of (found_of given.now)))
+        (is_given (codes "text") (rows_of (found_of given.now))) (is_given (codes "json") (rows_of (found_of given.now)))) }
+{
+    let forms = (
+        is_given(given, "table"),
+        is_given(given, "text"),
+        is_given(given, "json"),
+    );
+    match forms {
+        (false, false, false) => Ok(TableRequest::OnTerminal),
+        (true, false, false) => Ok(TableRequest::Always),
+        (false, true, false) => Ok(TableRequest::Never),
+        (false, false, true) => Ok(TableRequest::Never),
+        (true, true, _) => Err(UsageFault::Usage(text(alloc, TABLE_AND_TEXT)?)),
+        (true, false, true) => Err(UsageFault::Usage(text(alloc, TABLE_AND_JSON)?)),
+        (false, true, true) => Err(UsageFault::Usage(text(alloc, TEXT_AND_JSON)?)),
+    }
 }
 
 // Returns how the answer is written.

@@ -2,32 +2,32 @@
 use Rattle.std.proofs.Common.{◌≡◌, ◌≢◌, List, ℕ, Option, None, Some, IfSome, IfErr, Result, Ok, Err, ap, refl, subst, sym, ◌∙◌}
 use Rattle.std.specs.Result.{IsErrAnd}
 use Rattle.plan_rules.specs.Job.{JobParts}
-use Rattle.plan_write.specs.declared.Format.{Format}
 use Rattle.agenda_sources.specs.declared.SourceFault.{SourceFault}
 use Rattle.agenda_faults.specs.Faults.{fault_of_sources}
 use Rattle.agenda_faults.specs.declared.faults.RunFault.{RunFault}
 use Rattle.agenda_faults.specs.declared.faults.RunFault.TheVariants.{NoMemory}
-use Rattle.agenda_commands.specs.declared.goal.Goal.{Goal}
-use Rattle.agenda_commands.specs.Goal.{AnswersGoal, Makes}
+use Rattle.agenda_commands.specs.Goal.{Makes}
 
 -- there are no jobs, and their error was passed on
 pub rejected :
-    (format : Format) (goal : Goal) (jobs : Result (List JobParts) RunFault) (fault : RunFault) (result : Result (List ℕ) RunFault) →
+    (Answers : Result (List JobParts) RunFault → Result (List ℕ) RunFault → Type 0) (jobs : Result (List JobParts) RunFault)
+    (fault : RunFault) (result : Result (List ℕ) RunFault) →
+    ((found : RunFault) → Answers (Err found) (Err found)) →
     (fault ≢ NoMemory → jobs ≡ Err fault) → IsErrAnd result (λ found. found ≡ fault) →
-    Makes (AnswersGoal format goal jobs) (λ text. text) result
-rejected format goal jobs fault (Ok text) is passed = absurd passed
-rejected format goal jobs fault (Err found) is passed =
+    Makes (Answers jobs) (λ text. text) result
+rejected Answers jobs fault (Ok text) own is passed = absurd passed
+rejected Answers jobs fault (Err found) own is passed =
     λ other. let same : jobs ≡ Err found = is (λ memory. other (passed ∙ memory)) ∙ ap Err (sym passed) in
-    subst (λ js. AnswersGoal format goal js (Err found)) (sym same) refl
+    subst (λ js. Answers js (Err found)) (sym same) (own found)
 
 -- the goal's own error was passed on
 pub failed :
-    (format : Format) (goal : Goal) (jobs : Result (List JobParts) RunFault) (fault : RunFault) (result : Result (List ℕ) RunFault) →
-    (fault ≢ NoMemory → AnswersGoal format goal jobs (Err fault)) → IsErrAnd result (λ found. found ≡ fault) →
-    Makes (AnswersGoal format goal jobs) (λ text. text) result
-failed format goal jobs fault (Ok text) is passed = absurd passed
-failed format goal jobs fault (Err found) is passed =
-    λ other. subst (λ f. AnswersGoal format goal jobs (Err f)) (sym passed) (is (λ memory. other (passed ∙ memory)))
+    (Answers : Result (List ℕ) RunFault → Type 0) (fault : RunFault) (result : Result (List ℕ) RunFault) →
+    (fault ≢ NoMemory → Answers (Err fault)) → IsErrAnd result (λ found. found ≡ fault) →
+    Makes Answers (λ text. text) result
+failed Answers fault (Ok text) is passed = absurd passed
+failed Answers fault (Err found) is passed =
+    λ other. subst (λ f. Answers (Err f)) (sym passed) (is (λ memory. other (passed ∙ memory)))
 
 -- an error of the first source, which was found at once, was passed on
 pub first_at_once :

@@ -6,3 +6,5 @@ pub mod Goal
 pub mod Next
 pub mod Prepare
 pub mod Script
+pub mod Table
+pub mod Form

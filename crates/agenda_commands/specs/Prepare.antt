@@ -1,5 +1,5 @@
 -- The jobs that a request is answered for. All of it is our choice (agenda).
-use Rattle.std.specs.Prelude.{◌≡◌, ⊤, Bool, true, false, List, [], Option, None, Some, Result, Ok}
+use Rattle.std.specs.Prelude.{◌≡◌, ⊤, ℕ, Bool, true, false, List, [], Option, None, Some, Result, Ok}
 use Rattle.plan_rules.specs.Job.{JobParts}
 use Rattle.agenda_sources.specs.Findings.{kept_jobs, sources_errors}
 use Rattle.agenda_sources.specs.Sources.{jobs_reading}
@@ -9,6 +9,10 @@ use Rattle.agenda_sources.specs.declared.TimeZones.{TimeZones}
 use Rattle.agenda_faults.specs.declared.faults.RunFault.{RunFault}
 use Rattle.agenda_faults.specs.Faults.{fault_of_sources}
 use Rattle.agenda_commands.specs.Command.{step}
+use Rattle.agenda_commands.specs.Goal.{CanBeWritten, text_of}
+use Rattle.agenda_commands.specs.Table.{text_of_table}
+use Rattle.agenda_commands.specs.declared.prepare.Prepared.{Prepared}
+use Rattle.agenda_commands.specs.declared.prepare.Prepared.TheVariants as prepared
 
 -- the errors that are skipped, if the request keeps going
 abbrev pub errors_if : (keeps_going : Bool) → TimeZones → List Source → List Found
@@ -29,3 +33,15 @@ jobs_or None zones sources = step fault_of_sources (jobs_reading zones sources)
 abbrev pub HasJobs : (kept : Option (List JobParts)) → List Source → Type 0
 HasJobs (Some jobs) sources = ⊤
 HasJobs None sources = sources ≡ []
+
+-- ---- the answer before it is written
+
+-- its text
+abbrev pub prepared_text : Prepared → List ℕ
+prepared_text (prepared.Lines made format) = text_of format made
+prepared_text (prepared.Table made form) = text_of_table form made
+
+-- what holds of it, so that it can be written
+abbrev pub IsReady : Prepared → Type 0
+IsReady (prepared.Lines made format) = CanBeWritten made
+IsReady (prepared.Table made form) = ⊤

@@ -2,6 +2,7 @@
 
 ghost use Rattle.std.specs.Prelude.{◌≡◌, Err, IfErr, IfOk, IsTrue, Ok, OnOk};
 ghost use Rattle.plan_rules.specs.Delays.{counted};
+ghost use Rattle.agenda_commands.specs.Form.{origin_of};
 ghost use Rattle.agenda_commands.specs.Goal.{AnswersGoal, CanBeWritten, Makes, checked_sizes, sized_goal, text_of, valid_goal};
 ghost use Rattle.agenda_commands.specs.declared.goal.Goal.TheVariants.{Plan, Quiet, Upcoming as Nexts};
 ghost use Rattle.plan_streams.specs.Stream.{Puts};
@@ -61,6 +62,18 @@ pub(crate) enum Made {
 }
 
 impl Goal {
+    /// Returns the time from which a table counts: `now`, if the answer starts there.
+    pub fn origin(&self, now: u64) -> Option<u64>
+        ensures { result ≡ origin_of self.now now }
+    {
+        let start = match self {
+            Goal::Plan(planning) => planning.span.since(),
+            Goal::Upcoming { after, .. } => *after,
+            Goal::Quiet { planning, .. } => planning.span.since(),
+        };
+        if start == now { Some(now) } else { None }
+    }
+
     // Checks the minimum length of a gap, which is at least 1 second.
     pub(crate) fn check(&self) -> Result<(), RunFault>
         ensures { result ≡ valid_goal self.now }
@@ -165,7 +178,7 @@ impl Made {
 }
 
 // Returns the jobs that are planned: without their delays, unless these count.
-fn counted(jobs: Jobs, delays: bool) -> Jobs
+pub(crate) fn counted(jobs: Jobs, delays: bool) -> Jobs
     ensures { result ≡ counted delays jobs }
 {
     if delays { jobs } else { jobs.without_delays() }

@@ -5,10 +5,10 @@
 //!
 //! `plan`, `upcoming` and `quiet` answer for the jobs of sources: with their agenda, with when each of them starts next,
 //! and with the gaps without a start. They are values of `Goal`. Read `prepare` first: it makes the answer before a byte
-//! of it is written. `goal` has what is made of jobs, and `agenda_of` makes their agenda.
+//! of it is written. `goal` has what is made of jobs, `table` makes it as a table, and `agenda_of` makes their agenda.
 //!
-//! The crate uses agenda_sources, plan_threads and agenda_script, which do the work, plan_write, agenda_findings and
-//! agenda_codes, which write the texts, and agenda_faults for the errors. `laws` says that each error has a code.
+//! The crate uses agenda_sources, plan_threads and agenda_script, which do the work, plan_write, agenda_table, agenda_findings
+//! and agenda_codes, which write the texts, and agenda_faults for the errors. `laws` says that each error has a code.
 #![tactic(auto)]
 
 mod agenda_of;
@@ -19,11 +19,13 @@ mod laws;
 mod next;
 mod prepare;
 mod script;
+mod table;
 
 pub use check::{Checked, are_warnings, run_check};
 pub use explain::run_explain;
 pub use goal::{Goal, Planning};
 pub use laws::codes_are_explained;
 pub use next::run_next;
-pub use prepare::{PreparedAnswer, kept_if, prepare_answer};
+pub use prepare::{Form, PreparedAnswer, kept_if, prepare_answer, prepare_form, prepare_table};
 pub use script::run_script;
+pub use table::TableForm;

@@ -4,12 +4,15 @@ ghost use Rattle.std.specs.Prelude.{◌≡◌, [], None, Err, IfErr, IfOk, IfSom
 ghost use Rattle.agenda_sources.specs.AtOnce.{fault_at_once};
 ghost use Rattle.agenda_faults.specs.Faults.{fault_of_sources};
 ghost use Rattle.agenda_faults.specs.declared.faults.RunFault.TheVariants.{NoMemory};
+ghost use Rattle.agenda_commands.specs.Form.{AnswersForm};
 ghost use Rattle.agenda_commands.specs.Goal.{AnswersGoal, Makes, checked_goal, checked_jobs, valid_goal};
+ghost use Rattle.agenda_commands.specs.Table.{AnswersTable};
 ghost use Rattle.agenda_commands.specs.Prepare.{HasJobs, errors_if, jobs_if, jobs_or};
 ghost use Rattle.plan_texts.specs.Steps.{GivesUnless};
 ghost use Rattle.plan_streams.specs.Stream.{Puts};
 
 use crate::goal::{Goal, Made, make};
+use crate::table::{MadeTable, TableForm, make_table};
 use agenda_faults::RunFault;
 use agenda_sources::{Found, Sources, TimeZones, jobs_of_sources, kept_of_sources};
 use plan_rules::Jobs;
@@ -23,19 +26,27 @@ use std::thread::Threads;
 /// An answer before it is written. Contracts see this value as its text.
 #[derive(Drop)]
 pub struct PreparedAnswer {
-    made: Made,
-    format: Format,
+    answer: Prepared,
+}
+
+// An answer, and how it is written.
+#[derive(Drop)]
+pub(crate) enum Prepared {
+    // Lines of text, or an object for each line.
+    Lines(Made, Format),
+    // A table.
+    Table(MadeTable, TableForm),
 }
 
 impl Model for PreparedAnswer {
     ghost use Rattle.std.specs.Prelude.{ℕ, List};
-    ghost use Rattle.agenda_commands.specs.Goal.{CanBeWritten, text_of};
+    ghost use Rattle.agenda_commands.specs.Prepare.{IsReady, prepared_text};
 
     ghost Value = { List ℕ };
 
-    ghost view = { λ answer. text_of answer.format answer.made };
+    ghost view = { λ answer. prepared_text answer.answer };
 
-    ghost invariant = { λ answer. CanBeWritten answer.made };
+    ghost invariant = { λ answer. IsReady answer.answer };
 }
 
 /// Returns the errors of sources and the jobs that are left without them, if a request keeps going. If it doesn't,
@@ -95,7 +106,9 @@ pub fn prepare_answer<R: Threads + Wait + Sync>(
     goal.check()?;
     let jobs = jobs_or(alloc, kept, sources, zones)?;
     let made = make(rt, alloc, jobs, goal, &format)?;
-    Ok(PreparedAnswer { made, format })
+    Ok(PreparedAnswer {
+        answer: Prepared::Lines(made, format),
+    })
 }
 
 // Returns the jobs that were kept, or else all jobs of the sources.
@@ -125,6 +138,74 @@ impl PreparedAnswer {
         ensures text { Puts S.takes_all result (S.holds out.old) (S.holds out.new) self.now }
         ensures flushed { OnOk result (IsTrue (S.is_flushed out.new)) }
     {
-        self.made.write(&self.format, out)
+        match &self.answer {
+            Prepared::Lines(made, format) => made.write(format, out),
+            Prepared::Table(made, form) => made.write(form, out),
+        }
+    }
+}
+
+/// Prepares the answer that `goal` requests as a table. Otherwise the same as `prepare_answer`.
+///
+/// # Errors
+///
+/// Those of `prepare_answer`.
+pub fn prepare_table<R: Threads + Wait + Sync>(
+    rt: &R,
+    alloc: Global,
+    kept: Option<Jobs>,
+    sources: &Sources,
+    zones: &TimeZones,
+    goal: &Goal,
+    form: TableForm,
+) -> Result<PreparedAnswer, RunFault>
+    ensures answer { Makes (AnswersTable form goal.now (checked_jobs goal.now (jobs_or kept zones.now sources.now))) (λ text. text) result }
+
+    // These errors are found before any memory is requested.
+    ensures bad_least { IfErr (valid_goal goal.now) (λ fault. result ≡ Err fault) }
+    ensures at_once { IsOk (valid_goal goal.now) → kept ≡ None → IfSome (fault_at_once sources.now) (λ fault. result ≡ Err (fault_of_sources fault)) }
+    ensures no_source { HasJobs kept sources.now → IfErr (checked_goal goal.now) (λ fault. result ≡ Err fault) }
+{
+    goal.check()?;
+    let jobs = jobs_or(alloc, kept, sources, zones)?;
+    let made = make_table(rt, alloc, jobs, goal, &form)?;
+    Ok(PreparedAnswer {
+        answer: Prepared::Table(made, form),
+    })
+}
+
+/// How an answer is written.
+#[derive(Drop)]
+pub enum Form {
+    /// As lines of text, or as an object for each line.
+    Lines(Format),
+    /// As a table.
+    Table(TableForm),
+}
+
+/// Prepares the answer that `goal` requests in a form, as `prepare_answer` or `prepare_table`.
+///
+/// # Errors
+///
+/// Those of `prepare_answer`.
+pub fn prepare_form<R: Threads + Wait + Sync>(
+    rt: &R,
+    alloc: Global,
+    kept: Option<Jobs>,
+    sources: &Sources,
+    zones: &TimeZones,
+    goal: &Goal,
+    form: Form,
+) -> Result<PreparedAnswer, RunFault>
+    ensures answer { Makes (AnswersForm form goal.now (checked_jobs goal.now (jobs_or kept zones.now sources.now))) (λ text. text) result }
+
+    // These errors are found before any memory is requested.
+    ensures bad_least { IfErr (valid_goal goal.now) (λ fault. result ≡ Err fault) }
+    ensures at_once { IsOk (valid_goal goal.now) → kept ≡ None → IfSome (fault_at_once sources.now) (λ fault. result ≡ Err (fault_of_sources fault)) }
+    ensures no_source { HasJobs kept sources.now → IfErr (checked_goal goal.now) (λ fault. result ≡ Err fault) }
+{
+    match form {
+        Form::Lines(format) => prepare_answer(rt, alloc, kept, sources, zones, goal, format),
+        Form::Table(form) => prepare_table(rt, alloc, kept, sources, zones, goal, form),
     }
 }

@@ -15,6 +15,7 @@ use Rattle.agenda_arguments.specs.declared.ask.JobsRequest.{JobsRequest}
 use Rattle.agenda_arguments.specs.declared.ask.MachineGoal.{MachineGoal}
 use Rattle.agenda_arguments.specs.declared.ask.MachineGoal.TheVariants as machine_goal
 use Rattle.agenda_arguments.specs.declared.ask.MachineJobs.{MachineJobs}
+use Rattle.agenda_arguments.specs.declared.ask.TableRequest.TheVariants as table_request
 use Rattle.agenda_arguments.specs.declared.ask.MachineQuestion.{MachineQuestion}
 use Rattle.agenda_arguments.specs.declared.ask.MachineQuestion.TheVariants as question
 use Rattle.agenda_arguments.specs.declared.ask.PlanRequest.{PlanRequest}
@@ -214,9 +215,16 @@ machine_rows : RowsHold asked_in
 unfolding words asked_by clap_on_literals agenda_on_literals
 machine_rows = refl
 
--- what is made of a machine's jobs, in the zone of the machine, and as text in local times
+-- what is made of a machine's jobs, in the zone of the machine, in local times, and as a table on a terminal
 abbrev asks_jobs : MachineGoal → (delays : Bool) → MachineJobs
-asks_jobs goal delays = record { goal = goal; zone = None; delays = delays; strict = false; format = format_from false true }
+asks_jobs goal delays = record {
+  goal = goal;
+  zone = None;
+  delays = delays;
+  strict = false;
+  format = format_from false true;
+  table = table_request.OnTerminal;
+}
 
 -- of the machine whose root directory is `/`
 abbrev asks_here : MachineJobs → Result Ask ArgumentsFault
@@ -243,7 +251,16 @@ machine_jobs_rows : RowsHold asked_in
       asks_here (record (asks_jobs (machine_goal.Upcoming (codes "now")) false) {
         zone = Some (codes "UTC");
         format = format_from true false;
+        table = table_request.Never;
       }),
+    )
+    ∷ (
+      codes "agenda machine --table",
+      asks_here (record (asks_jobs (machine_goal.Upcoming (codes "now")) false) { table = table_request.Always }),
+    )
+    ∷ (
+      codes "agenda machine upcoming --text",
+      asks_here (record (asks_jobs (machine_goal.Upcoming (codes "now")) false) { table = table_request.Never }),
     )
     ∷ (
       codes "agenda machine --strict",

@@ -2,7 +2,7 @@
 use crate::tests::files::FewFiles;
 use crate::tests::rows::{ANSWERS, ERRORS, FILES, KEPT, OPENED, Row};
 use crate::tests::writers::Limited;
-use agenda_answers::{Host, answer_arguments};
+use agenda_answers::{Frame, Host, answer_arguments};
 use plan_tree::FewNodes;
 use std::alloc::{AllocError, Global};
 use std::process::Abort;
@@ -32,6 +32,10 @@ pub fn run(
     let host = Host {
         tree: &FewNodes(&[]),
         time: 0,
+        frame: Frame {
+            columns: None,
+            terminal: false,
+        },
     };
     answer_arguments(rt, alloc, line.as_slice(), files, &host, out, err)
 }

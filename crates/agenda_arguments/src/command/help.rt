@@ -41,6 +41,10 @@ pub(super) const DELAYS: &str = "\
 Show each start with the latest time at which it may
 happen (RandomizedDelaySec= and AccuracySec=)";
 
+pub(super) const TABLE: &str = "Print a table, also if standard output isn't a terminal";
+
+pub(super) const TEXT: &str = "Print text, also on a terminal";
+
 pub(super) const JSON: &str = "\
 Print each line as a JSON object; agenda(1)
 describes the keys";

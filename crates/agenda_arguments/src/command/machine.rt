@@ -34,6 +34,11 @@ const AFTER: CommandOption<'static> = CommandOption::Preset(
 // Whether an error in a file stops the answer.
 const STRICT: CommandOption<'static> = CommandOption::Flag("strict", help::STRICT);
 
+// The other forms of an answer.
+const TABLE: CommandOption<'static> = CommandOption::Flag("table", help::TABLE);
+
+const TEXT: CommandOption<'static> = CommandOption::Flag("text", help::TEXT);
+
 // The maximum number of starts.
 const LIMIT: CommandOption<'static> = CommandOption::Number("limit", "1000000", help::LIMIT);
 
@@ -127,6 +132,8 @@ pub(super) fn machine_upcoming_command<'a>(alloc: Global) -> Result<Command<'a>,
             UTC,
             CommandOption::Flag("delays", help::DELAYS),
             STRICT,
+            TABLE,
+            TEXT,
             JSON,
         ],
     )
@@ -152,6 +159,8 @@ pub(super) fn machine_plan_command<'a>(alloc: Global) -> Result<Command<'a>, All
             UTC,
             CommandOption::Flag("delays", help::DELAYS),
             STRICT,
+            TABLE,
+            TEXT,
             JSON,
             LIMIT,
             PLANNERS,
@@ -186,6 +195,8 @@ pub(super) fn machine_quiet_command<'a>(alloc: Global) -> Result<Command<'a>, Al
             UTC,
             CommandOption::Flag("nominal", help::NOMINAL),
             STRICT,
+            TABLE,
+            TEXT,
             JSON,
             LIMIT,
             PLANNERS,

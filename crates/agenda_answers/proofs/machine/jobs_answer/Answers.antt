@@ -3,6 +3,7 @@ use Rattle.agenda_faults.specs.declared.faults.Failure.TheVariants.{Run}
 use Rattle.agenda_faults.specs.declared.faults.RunFault.TheVariants as run
 use Rattle.agenda_machine.specs.Places.{sources_of}
 use Rattle.agenda_sources.specs.Findings.{kept_jobs}
+use Rattle.agenda_commands.specs.Form.{AnswersForm}
 use Rattle.agenda_inputs.specs.Steps.{goes}
 use Rattle.agenda_answers.proofs.MachineLemmas.{no_accuracy, rest_failed, rest_planned, rest_stopped}
 use Rattle.agenda_answers.proofs.OutcomeLemmas.{settled_answer, settled_failure}
@@ -28,24 +29,24 @@ returns-in_err-zones g c =
     (failed _ _ (rw (c.in_ok-clock.ensures.same, c.in_ok-sources.ensures, c.as_slice.ensures.value) at c.in_err-zones.ensures)
     c.from_residual-in_err-zones.ensures.1))
 
-pub returns-in_err-format : goal.returns-in_err-format
-returns-in_err-format g c =
+pub returns-in_err-form : goal.returns-in_err-form
+returns-in_err-form g c =
     goes _ (rw c.root_of.ensures at c.in_ok-clock.ensures.read) (goes _ c.in_ok-goal.ensures
     (goes _ (rw (c.in_ok-clock.ensures.same, c.in_ok-sources.ensures, c.as_slice.ensures.value) at c.in_ok-zones.ensures)
-    (failed _ _ c.in_err-format.ensures c.from_residual-in_err-format.ensures.1)))
+    (failed _ _ c.in_err-form.ensures c.from_residual-in_err-form.ensures.1)))
 
 pub returns-in_err-skipped : goal.returns-in_err-skipped
 returns-in_err-skipped g c =
     goes _ (rw c.root_of.ensures at c.in_ok-clock.ensures.read) (goes _ c.in_ok-goal.ensures
     (goes _ (rw (c.in_ok-clock.ensures.same, c.in_ok-sources.ensures, c.as_slice.ensures.value) at c.in_ok-zones.ensures)
-    (goes _ (rw c.unnamed_zone-unnamed.ensures at c.in_ok-format.ensures)
+    (goes _ (rw (c.unnamed_zone-unnamed.ensures, c.origin-origin.ensures) at c.in_ok-form.ensures)
     (failed _ (Run run.NoMemory) refl c.from_residual-in_err-skipped.ensures.1))))
 
 pub returns-then-is_stopped : goal.returns-then-is_stopped
 returns-then-is_stopped g c =
     goes _ (rw c.root_of.ensures at c.in_ok-clock.ensures.read) (goes _ c.in_ok-goal.ensures
     (goes _ (rw (c.in_ok-clock.ensures.same, c.in_ok-sources.ensures, c.as_slice.ensures.value) at c.in_ok-zones.ensures)
-    (goes _ (rw c.unnamed_zone-unnamed.ensures at c.in_ok-format.ensures)
+    (goes _ (rw (c.unnamed_zone-unnamed.ensures, c.origin-origin.ensures) at c.in_ok-form.ensures)
     (goes _ (rw (c.in_ok-sources.ensures, c.as_slice.ensures.value) at c.in_ok-skipped.ensures.errors)
     (goes _ (rest_stopped _ _ _ _ _ _ (rw (c.is_stopped.ensures, c.as_slice-2.ensures.value) at c.if-is_stopped.true))
     (rw c.in_ok-skipped.ensures.paths refl))))))
@@ -54,24 +55,24 @@ pub returns-in_err-answer : goal.returns-in_err-answer
 returns-in_err-answer g c =
     goes _ (rw c.root_of.ensures at c.in_ok-clock.ensures.read) (goes _ c.in_ok-goal.ensures
     (goes _ (rw (c.in_ok-clock.ensures.same, c.in_ok-sources.ensures, c.as_slice.ensures.value) at c.in_ok-zones.ensures)
-    (goes _ (rw c.unnamed_zone-unnamed.ensures at c.in_ok-format.ensures)
+    (goes _ (rw (c.unnamed_zone-unnamed.ensures, c.origin-origin.ensures) at c.in_ok-form.ensures)
     (goes _ (rw (c.in_ok-sources.ensures, c.as_slice.ensures.value) at c.in_ok-skipped.ensures.errors)
     (failed _ _ (rest_failed _ _ _ _ _ _ _ (rw (c.is_stopped.ensures, c.as_slice-2.ensures.value) at c.if-is_stopped.false)
-    (settled_failure c.in_ok-format.format c.in_ok-goal.goal
-    (Ok (kept_jobs c.in_ok-zones.zones (sources_of c.args.machine.sources.items))) c.prepare_answer-made.result _
-    c.prepare_answer-made.ensures.bad_least c.in_err-answer.ensures))
+    (settled_failure (AnswersForm c.in_ok-form.form) c.in_ok-goal.goal
+    (Ok (kept_jobs c.in_ok-zones.zones (sources_of c.args.machine.sources.items))) c.prepare_form-made.result _
+    c.prepare_form-made.ensures.bad_least c.in_err-answer.ensures))
     c.from_residual-in_err-answer.ensures.1)))))
 
 pub returns : goal.returns
 returns g c =
     goes _ (rw c.root_of.ensures at c.in_ok-clock.ensures.read) (goes _ c.in_ok-goal.ensures
     (goes _ (rw (c.in_ok-clock.ensures.same, c.in_ok-sources.ensures, c.as_slice.ensures.value) at c.in_ok-zones.ensures)
-    (goes _ (rw c.unnamed_zone-unnamed.ensures at c.in_ok-format.ensures)
+    (goes _ (rw (c.unnamed_zone-unnamed.ensures, c.origin-origin.ensures) at c.in_ok-form.ensures)
     (goes _ (rw (c.in_ok-sources.ensures, c.as_slice.ensures.value) at c.in_ok-skipped.ensures.errors)
     (goes _ (rest_planned _ _ _ _ _ _ _ (rw (c.is_stopped.ensures, c.as_slice-2.ensures.value) at c.if-is_stopped.false)
-    (settled_answer c.in_ok-format.format c.in_ok-goal.goal
-    (Ok (kept_jobs c.in_ok-zones.zones (sources_of c.args.machine.sources.items))) c.prepare_answer-made.result
+    (settled_answer (AnswersForm c.in_ok-form.form) c.in_ok-goal.goal
+    (Ok (kept_jobs c.in_ok-zones.zones (sources_of c.args.machine.sources.items))) c.prepare_form-made.result
     (Ok c.in_ok-answer.answer)
-    (rw (c.in_ok-skipped.ensures.jobs, c.in_ok-sources.ensures, c.as_slice.ensures.value) at c.prepare_answer-made.ensures.answer)
-    c.prepare_answer-made.ensures.bad_least c.in_ok-answer.ensures))
+    (rw (c.in_ok-skipped.ensures.jobs, c.in_ok-sources.ensures, c.as_slice.ensures.value) at c.prepare_form-made.ensures.answer)
+    c.prepare_form-made.ensures.bad_least c.in_ok-answer.ensures))
     (rw (c.outcome_of.ensures, c.in_words-answer.ensures, c.in_ok-skipped.ensures.paths) refl))))))

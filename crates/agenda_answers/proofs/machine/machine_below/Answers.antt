@@ -1,4 +1,4 @@
-use Rattle.std.proofs.Common.{◌≡◌, IfNone, IfSome, ap, refl, subst, ◌∙◌}
+use Rattle.std.proofs.Common.{IfNone, IfSome, ap, refl, subst, ◌∙◌}
 use Rattle.agenda_faults.specs.declared.faults.Failure.TheVariants.{Run}
 use Rattle.agenda_faults.specs.declared.faults.RunFault.TheVariants as run
 use Rattle.plan_machine.specs.Machine.{AreTooManyUnits, IsMachine}

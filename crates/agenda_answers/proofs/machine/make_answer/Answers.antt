@@ -19,7 +19,7 @@ pub returns-in_ok-machine-in-Jobs : goal.returns-in_ok-machine-in-Jobs
 returns-in_ok-machine-in-Jobs g c =
     goes _ (rw (c.dir_of-dir.ensures, c.as_str.ensures) at c.in_ok-machine.ensures)
     (rw c.in-Jobs.is (goes _ c.in_ok-machine-in-Jobs.ensures.unplanned
-    (shown_as_planned _ _ _ _ c.in_ok-machine.machine c.in_ok-machine-in-Jobs.machine _ c.in_ok-machine-in-Jobs.ensures.others
+    (shown_as_planned _ _ _ c.in-Jobs.jobs c.in_ok-machine.machine c.in_ok-machine-in-Jobs.machine _ c.in_ok-machine-in-Jobs.ensures.others
     (rw (c.new-below.ensures, c.root_of.ensures, c.dir_of-dir.ensures, c.as_str.ensures) at c.jobs_answer.ensures))))
 
 pub returns-in-Sources : goal.returns-in-Sources

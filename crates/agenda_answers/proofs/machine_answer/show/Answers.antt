@@ -1,6 +1,6 @@
 use Rattle.std.proofs.Common.{inl, inr}
 use Rattle.agenda_answers.proofs.MachineLemmas.{told, told_off}
-use Rattle.agenda_answers.proofs.machine.show.Goals as goal
+use Rattle.agenda_answers.proofs.machine_answer.show.Goals as goal
 
 pub returns-then-is_err-clause-answers : goal.returns-then-is_err-clause-answers
 returns-then-is_err-clause-answers g c =

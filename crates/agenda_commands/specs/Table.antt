@@ -1,0 +1,84 @@
+-- What is made of jobs, by a goal, as a table. All of it is our choice (agenda).
+use Rattle.std.specs.Prelude.{◌≡◌, ℕ, min, Bool, List, [], ◌∷◌, chars, codes, length, map, Result, Ok, Err}
+use Rattle.plan_collect.specs.Agenda.{Planned}
+use Rattle.plan_rules.specs.Delays.{counted}
+use Rattle.plan_rules.specs.Job.{JobParts}
+use Rattle.plan_sets.specs.Limits.{end_second}
+use Rattle.plan_write.specs.Quiet.{gaps}
+use Rattle.plan_write.specs.Upcoming.{AreUpcoming}
+use Rattle.agenda_faults.specs.declared.faults.RunFault.{RunFault}
+use Rattle.agenda_table.specs.Dates.{AreDatesOf, gap_times, job_times}
+use Rattle.agenda_table.specs.Last.{after_text, span_text}
+use Rattle.agenda_table.specs.Layout.{table_text}
+use Rattle.agenda_table.specs.Rows.{LookParts, gap_rows, job_rows, job_texts}
+use Rattle.agenda_commands.specs.Goal.{agenda_of_jobs}
+use Rattle.agenda_commands.specs.declared.goal.Goal.{Goal}
+use Rattle.agenda_commands.specs.declared.goal.Goal.TheVariants as goal
+use Rattle.agenda_commands.specs.declared.table.MadeTable.{MadeTable}
+use Rattle.agenda_commands.specs.declared.table.TableForm.{TableForm}
+use Rattle.agenda_commands.specs.declared.table.TableRows.{TableRows}
+use Rattle.agenda_commands.specs.declared.table.TableRows.TheVariants as rows
+
+-- how the times of a table are shown, with their offset on these dates
+abbrev pub look_of : TableForm → (dates : List ℕ) → LookParts
+look_of form dates = record { clock = form.zone.clock; dates = dates; origin = form.origin }
+
+-- the text of a table with these rows, and this last line
+abbrev pub text_of_rows : TableForm → List (List (List ℕ)) → (last : List ℕ) → List ℕ
+text_of_rows form rows last = table_text form.frame.columns form.frame.terminal rows (chars last)
+
+-- ---- the answer
+
+-- this is the table of an agenda of jobs
+abbrev pub IsPlanTable : TableForm → (delays : Bool) → Planned → List JobParts → List ℕ → Type 0
+IsPlanTable form delays made jobs text =
+    (dates : List ℕ)
+    × AreDatesOf form.zone.clock (made.span.since ∷ made.span.upto ∷ job_times delays made.entries (map job_texts jobs)) dates
+    × (text ≡ text_of_rows form (job_rows (look_of form dates) delays made.entries (map job_texts jobs))
+    (span_text (look_of form dates) (length made.entries) (codes "start") made.span.since made.span.upto form.zone.name))
+
+-- this is the table of the next starts of jobs after a time; a time after the planner's years is shown as their end
+abbrev pub IsNextsTable : TableForm → List JobParts → (after : ℕ) → (delays : Bool) → List ℕ → Type 0
+IsNextsTable form jobs after delays text =
+    (nexts : List (ℕ × ℕ)) × AreUpcoming jobs after nexts × (dates : List ℕ)
+    × AreDatesOf form.zone.clock (min after end_second ∷ job_times delays nexts (map job_texts jobs)) dates
+    × (text ≡ text_of_rows form (job_rows (look_of form dates) delays nexts (map job_texts jobs))
+    (after_text (look_of form dates) (length nexts) (codes "job") (min after end_second) form.zone.name))
+
+-- this is the table of the gaps of an agenda of jobs that last at least `least` seconds
+abbrev pub IsQuietTable : TableForm → (least : ℕ) → Planned → List JobParts → List ℕ → Type 0
+IsQuietTable form least made jobs text =
+    (dates : List ℕ)
+    × AreDatesOf form.zone.clock (made.span.since ∷ made.span.upto ∷ gap_times (gaps least made jobs)) dates
+    × (text ≡ text_of_rows form (gap_rows (look_of form dates) (gaps least made jobs))
+    (span_text (look_of form dates) (length (gaps least made jobs)) (codes "gap") made.span.since made.span.upto form.zone.name))
+
+-- this is a table of what is planned, or the first error of the plan
+abbrev pub AnswersPlan : (Planned → List ℕ → Type 0) → Result Planned RunFault → Result (List ℕ) RunFault → Type 0
+AnswersPlan IsTable (Ok made) (Ok text) = IsTable made text
+AnswersPlan IsTable (Err fault) (Err found) = fault ≡ found
+AnswersPlan IsTable made answer = ⊥
+
+-- the answer for jobs, or the first error: that of the jobs, or else that of the goal. The next starts of jobs have none
+abbrev pub AnswersTable : TableForm → Goal → Result (List JobParts) RunFault → Result (List ℕ) RunFault → Type 0
+AnswersTable form goal (Err fault) answer = Err fault ≡ answer
+AnswersTable form (goal.Plan planning) (Ok jobs) answer =
+    AnswersPlan (λ made text. IsPlanTable form planning.delays made (counted planning.delays jobs) text)
+    (agenda_of_jobs (counted planning.delays jobs) planning) answer
+AnswersTable form (goal.Upcoming after delays) (Ok jobs) (Ok text) = IsNextsTable form jobs after delays text
+AnswersTable form (goal.Upcoming after delays) (Ok jobs) (Err fault) = ⊥
+AnswersTable form (goal.Quiet planning least) (Ok jobs) answer =
+    AnswersPlan (λ made text. IsQuietTable form least made (counted planning.delays jobs) text)
+    (agenda_of_jobs (counted planning.delays jobs) planning) answer
+
+-- ---- the table before it is written
+
+-- its rows
+abbrev pub rows_of_table : LookParts → TableRows → List (List (List ℕ))
+rows_of_table look (rows.Plan agenda cells delays) = job_rows look delays agenda.entries cells
+rows_of_table look (rows.Upcoming nexts cells delays) = job_rows look delays nexts cells
+rows_of_table look (rows.Quiet gaps) = gap_rows look gaps
+
+-- its text
+abbrev pub text_of_table : TableForm → MadeTable → List ℕ
+text_of_table form made = text_of_rows form (rows_of_table (look_of form made.dates.items) made.rows) made.last

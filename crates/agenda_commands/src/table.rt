@@ -1,0 +1,232 @@
+//! What a request makes of jobs as a table, before a byte of it is written.
+
+ghost use Rattle.std.specs.Prelude.{◌≡◌, Err, IfErr, IfOk, IsTrue, Ok, OnOk};
+ghost use Rattle.agenda_commands.specs.Goal.{Makes, checked_sizes, sized_goal};
+ghost use Rattle.agenda_commands.specs.Table.{AnswersTable, IsNextsTable, IsPlanTable, IsQuietTable, look_of, text_of_table};
+ghost use Rattle.agenda_commands.specs.declared.goal.Goal.TheVariants.{Plan, Quiet, Upcoming as Nexts};
+ghost use Rattle.plan_streams.specs.Stream.{Puts};
+
+use crate::agenda_of::make_agenda;
+use crate::goal::{Goal, Planning, counted};
+use agenda_faults::RunFault;
+use agenda_table::{
+    Frame, GapRows, Gaps, JobCells, JobRows, Look, after_text, dates_of_gaps, dates_of_jobs,
+    span_text, write_gap_table, write_job_table,
+};
+use plan_collect::Agenda;
+use plan_rules::{Jobs, NamedZone, Text};
+use plan_sets::END_SECOND;
+use plan_streams::{Stream, WriteFault};
+use plan_write::Upcoming;
+use std::alloc::{AllocError, Global};
+use std::sync::Wait;
+use std::thread::Threads;
+
+/// How a table is shown.
+#[derive(Drop)]
+pub struct TableForm {
+    /// The zone by whose clock times are shown.
+    pub zone: NamedZone,
+    /// The time from which times are counted in the column `FROM NOW`, if the table has it.
+    pub origin: Option<u64>,
+    /// Where the table is shown.
+    pub frame: Frame,
+}
+
+// The rows of a table.
+#[derive(Drop)]
+pub(crate) enum TableRows {
+    // Those of an agenda, and whether they have the latest starts.
+    Plan(Agenda, JobCells, bool),
+    // Those of the next starts of jobs, and whether they have the latest starts.
+    Upcoming(Upcoming, JobCells, bool),
+    // Those of gaps.
+    Quiet(Gaps),
+}
+
+// A table.
+#[derive(Drop)]
+pub(crate) struct MadeTable {
+    rows: TableRows,
+    // The dates on which times have their offset.
+    dates: Vec<u64>,
+    last: Text,
+}
+
+// Makes what `goal` requests of jobs, as a table.
+pub(crate) fn make_table<R: Threads + Wait + Sync>(
+    rt: &R,
+    alloc: Global,
+    jobs: Jobs,
+    goal: &Goal,
+    form: &TableForm,
+) -> Result<MadeTable, RunFault>
+    ensures made { Makes (AnswersTable form.now goal.now (Ok jobs)) (text_of_table form.now) result }
+
+    // These errors are found before any memory is requested.
+    ensures at_once { IfErr (sized_goal goal.now) (λ fault. result ≡ Err fault) }
+{
+    match goal {
+        Goal::Plan(planning) => make_plan(rt, alloc, jobs, planning, form),
+        Goal::Upcoming { after, delays } => {
+            let table = upcoming_table(alloc, &jobs, *after, *delays, form)?;
+            Ok(table)
+        }
+        Goal::Quiet { planning, least } => make_quiet(rt, alloc, jobs, planning, *least, form),
+    }
+}
+
+// Makes the table of the agenda of jobs.
+fn make_plan<R: Threads + Wait + Sync>(
+    rt: &R,
+    alloc: Global,
+    jobs: Jobs,
+    planning: &Planning,
+    form: &TableForm,
+) -> Result<MadeTable, RunFault>
+    ensures made { Makes (AnswersTable form.now (Plan planning.now) (Ok jobs)) (text_of_table form.now) result }
+    ensures at_once { IfErr (checked_sizes planning.now) (λ fault. result ≡ Err fault) }
+{
+    let jobs = counted(jobs, planning.delays);
+    let agenda = make_agenda(rt, alloc, &jobs, planning)?;
+    let table = plan_table(alloc, agenda, &jobs, planning.delays, form)?;
+    Ok(table)
+}
+
+// Makes the table of the gaps of the agenda of jobs.
+fn make_quiet<R: Threads + Wait + Sync>(
+    rt: &R,
+    alloc: Global,
+    jobs: Jobs,
+    planning: &Planning,
+    least: u32,
+    form: &TableForm,
+) -> Result<MadeTable, RunFault>
+    ensures made { Makes (AnswersTable form.now (Quiet planning.now least) (Ok jobs)) (text_of_table form.now) result }
+    ensures at_once { IfErr (checked_sizes planning.now) (λ fault. result ≡ Err fault) }
+{
+    let jobs = counted(jobs, planning.delays);
+    let agenda = make_agenda(rt, alloc, &jobs, planning)?;
+    let table = quiet_table(alloc, &agenda, &jobs, u64::from(least), form)?;
+    Ok(table)
+}
+
+// Returns the table of an agenda of jobs.
+fn plan_table(
+    alloc: Global,
+    agenda: Agenda,
+    jobs: &Jobs,
+    delays: bool,
+    form: &TableForm,
+) -> Result<MadeTable, AllocError>
+    ensures { IfOk result (λ made. IsPlanTable form.now delays agenda jobs.now (text_of_table form.now made)) }
+{
+    let (clock, zone) = (&form.zone.clock, form.zone.name.as_str());
+    let (since, upto) = (agenda.since(), agenda.upto());
+    let cells = JobCells::new(alloc, jobs)?;
+    let dates = dates_of_jobs(
+        alloc,
+        clock,
+        &[since, upto],
+        agenda.entries(),
+        &cells,
+        delays,
+    )?;
+    let look = Look::new(clock, &dates, form.origin);
+    let last = span_text(alloc, &look, agenda.len(), "start", since, upto, zone)?;
+    Ok(MadeTable {
+        rows: TableRows::Plan(agenda, cells, delays),
+        dates,
+        last: Text::new(last),
+    })
+}
+
+// Returns the table of the next starts of jobs.
+fn upcoming_table(
+    alloc: Global,
+    jobs: &Jobs,
+    after: u64,
+    delays: bool,
+    form: &TableForm,
+) -> Result<MadeTable, AllocError>
+    ensures { IfOk result (λ made. IsNextsTable form.now jobs.now after delays (text_of_table form.now made)) }
+{
+    let (clock, zone) = (&form.zone.clock, form.zone.name.as_str());
+    let upcoming = Upcoming::new(alloc, jobs, after)?;
+    let cells = JobCells::new(alloc, jobs)?;
+    let shown = after.min(END_SECOND);
+    let dates = dates_of_jobs(alloc, clock, &[shown], upcoming.nexts(), &cells, delays)?;
+    let look = Look::new(clock, &dates, form.origin);
+    let last = after_text(alloc, &look, upcoming.nexts().len(), "job", shown, zone)?;
+    Ok(MadeTable {
+        rows: TableRows::Upcoming(upcoming, cells, delays),
+        dates,
+        last: Text::new(last),
+    })
+}
+
+// Returns the table of the gaps of an agenda of jobs.
+fn quiet_table(
+    alloc: Global,
+    agenda: &Agenda,
+    jobs: &Jobs,
+    least: u64,
+    form: &TableForm,
+) -> Result<MadeTable, AllocError>
+    ensures { IfOk result (λ made. IsQuietTable form.now least agenda.now jobs.now (text_of_table form.now made)) }
+{
+    let (clock, zone) = (&form.zone.clock, form.zone.name.as_str());
+    let (since, upto) = (agenda.since(), agenda.upto());
+    let gaps = Gaps::new(alloc, agenda, jobs, least)?;
+    let dates = dates_of_gaps(alloc, clock, &[since, upto], &gaps)?;
+    let look = Look::new(clock, &dates, form.origin);
+    let last = span_text(
+        alloc,
+        &look,
+        gaps.as_slice().len(),
+        "gap",
+        since,
+        upto,
+        zone,
+    )?;
+    Ok(MadeTable {
+        rows: TableRows::Quiet(gaps),
+        dates,
+        last: Text::new(last),
+    })
+}
+
+impl MadeTable {
+    // Writes the table.
+    pub(crate) fn write<S: Stream>(&self, form: &TableForm, out: &mut S) -> Result<(), WriteFault>
+        ensures text { Puts S.takes_all result (S.holds out.old) (S.holds out.new) (text_of_table form.now self.now) }
+        ensures flushed { OnOk result (IsTrue (S.is_flushed out.new)) }
+    {
+        let look = Look::new(&form.zone.clock, &self.dates, form.origin);
+        let last = self.last.as_str();
+        match &self.rows {
+            TableRows::Plan(agenda, jobs, delays) => {
+                let table = JobRows {
+                    look: &look,
+                    starts: agenda.entries(),
+                    jobs,
+                    delays: *delays,
+                };
+                write_job_table(&table, last, form.frame, out)
+            }
+            TableRows::Upcoming(upcoming, jobs, delays) => {
+                let table = JobRows {
+                    look: &look,
+                    starts: upcoming.nexts(),
+                    jobs,
+                    delays: *delays,
+                };
+                write_job_table(&table, last, form.frame, out)
+            }
+            TableRows::Quiet(gaps) => {
+                let table = GapRows { look: &look, gaps };
+                write_gap_table(&table, last, form.frame, out)
+            }
+        }
+    }
+}
