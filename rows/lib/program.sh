@@ -106,6 +106,13 @@ program_run() {
   run_in "$machine_folder" "${machine_by[@]}" "$machine_folder/whole/agenda" machine "$@"
 }
 
+# Lets the clock of the program stand still, $1 seconds after 1970. Fails if that can't be done here.
+program_still() {
+  local library=$machine_folder/still-clock.so
+  [ -e "$library" ] || cc -shared -fPIC -o "$library" "$top/rows/lib/still-clock.c" 2>/dev/null || return
+  machine_by=(env "LD_PRELOAD=$library" "STILL_CLOCK=$1")
+}
+
 # Counts the last run, with the name $1, in the same way as compare, by the wanted files $2 and $3 and the status $4.
 program_compare() {
   {
